@@ -46,6 +46,7 @@ from concurrent.futures import ThreadPoolExecutor
 sys.dont_write_bytecode = True
 ROOT = os.path.dirname(os.path.dirname(os.path.realpath(__file__)))
 sys.path.append(f"{ROOT}/tools")
+import imports  # noqa: E402
 import kit  # noqa: E402
 KEPT = f"{os.environ.get('XDG_CACHE_HOME') or os.path.expanduser('~/.cache')}/mctower-wrong-bodies"
 KEPT_DAYS = 60
@@ -62,9 +63,8 @@ OPEN_GOAL = re.compile(r"(?:note: )?(?:\./)?\S+:\d+:\d+: .*(is not proved|may be
 # An error of the compiler: its file, its line and its words.
 COMPILE_ERROR = re.compile(r"(?:\./)?(src/\S+?):(\d+):\d+: error(\[\S+\]: .*)")
 UNREAD = re.compile(r"(?:\./)?(?:src|specs)/\S+?:\d+:\d+: error: (.*)")
-# An import of definitions, and one that names them in braces.
-IMPORT = re.compile(r"\s*((unfoldable )?(pub )?use [^{}:]+(\{[^{}]+\})?|(pub )?ghost use [^{}]+(\{[^{}]+\})?;)$")
-NAMES = re.compile(r"(.* )([^{} ]+)\.\{([^{}]+)\};?$")
+# An import of definitions.
+IMPORT = re.compile(r"\s*((unfoldable )?(pub )?use [^:;]+|(pub )?ghost use [^;]+;)$")
 # The head of a function, and a line that tells the compiler or the prover something that no caller reads.
 FUNCTION = re.compile(r"( *)(?:pub(?:\([a-z]+\))? )?(?:unsafe )?fn ")
 HINT = re.compile(r"\s*#\[(inline|cold|tactic)\b.*\]$")
@@ -324,8 +324,8 @@ def read_as_proved(path):
     kept, imported = [], set()
     for line in [*(it for it in text.split("\n") if it.strip() and not it.lstrip().startswith(comment)), ""]:
         if IMPORT.match(line):
-            found = NAMES.match(line)
-            imported.update([f"{found[1]}{found[2]}.{name} {{}}" for name in re.split(r", *", found[3])] if found else [line])
+            found = imports.NAMES.match(line)
+            imported.update([f"{found[1]}{found[2]} {'.'.join(steps)}" for steps in imports.names_of(found[3])] if found else [line])
         else:
             kept += [*sorted(imported), line]
             imported = set()

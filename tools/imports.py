@@ -1,11 +1,12 @@
 #!/usr/bin/env python3
-"""Lays out the imports of definitions: those of one crate stand together, in lines of at most 160 columns.
+"""Lays out the imports of definitions: each path is written once, in lines of at most 160 columns.
 
     tools/imports.py [--apply] [CRATE..]
 
-`use Rattle.event_log.specs.declared.ids.Tid.{Tid}` and `use Rattle.event_log.specs.History.{same_cpu}` become one line,
-`use Rattle.event_log.specs.{declared.ids.Tid.Tid, History.same_cpu}`. It goes through each .antt file, and the `ghost use` lines of each .rt file. A group is
-parted where that takes fewer lines. It prints how many lines of imports there are and would be; with --apply it writes them.
+`use Rattle.event_log.specs.declared.ids.Tid.{Tid}` and `use Rattle.event_log.specs.History.{same_cpu, same_lock}` become one line,
+`use Rattle.event_log.specs.{declared.ids.Tid.Tid, History.{same_cpu, same_lock}}`. A line that names an operator names its library alone, as `rt ci` wants it:
+`use Rattle.std.specs.Prelude.{◌≡◌}`. It goes through each .antt file, and the `ghost use` lines of each .rt file. It prints how many lines of imports there
+are and would be; with --apply it writes them.
 """
 import argparse
 import os
@@ -15,89 +16,108 @@ import subprocess
 ROOT = os.path.dirname(os.path.dirname(os.path.realpath(__file__)))
 WIDTH = 160
 LINE = re.compile(r"\s*(unfoldable )?(pub )?(ghost )?use ")
-# The indent, the word, the module and the names of an import of definitions, and how its line ends.
-NAMES = re.compile(r"(\s*)((?:unfoldable )?(?:pub )?(?:ghost )?use) (Rattle\.[^{}]*?)\.\{([^{}*]+)\}(;?)$")
+# The indent, the word, and what an import of definitions names, and how its line ends.
+NAMES = re.compile(r"(\s*)((?:unfoldable )?(?:pub )?(?:ghost )?use) (Rattle\.(?:[^{}]*\.)?\{.+\})(;?)$")
 # A name with a path before it.
 NESTED = re.compile(r"[A-Za-z_][\w\-'?]*(\.[A-Za-z_◌\[][^.]*)+$")
-# Modules of std whose names have to be written behind no path.
-PRELUDES = (("Rattle", "std", "proofs", "Common"), ("Rattle", "std", "specs", "Prelude"))
+# A name that has to stand in braces, even alone.
+OPERATOR = re.compile(r"[^A-Za-z_]")
 
 
-def lines_of(kind, module, names):
-    """Returns the lines that import these names, as (module, name), from this module."""
-    indent, word, end = kind
-    leaves = list(dict.fromkeys(".".join((*path[len(module) :], name)) for path, name in names))
-    found, held = [], []
-
-    def text(these):
-        return f"{indent}{word} {'.'.join(module)}.{{{', '.join(these)}}}{end}"
-
-    for leaf in leaves:
-        if held and len(text([*held, leaf])) > WIDTH:
-            found.append(text(held))
-            held = []
-        held.append(leaf)
-    return [*found, text(held)]
+def parts_of(text):
+    """Returns the parts of a list between commas that stand in no braces."""
+    found, depth = [""], 0
+    for it in text:
+        depth += (it == "{") - (it == "}")
+        if it == "," and depth == 0:
+            found.append("")
+        else:
+            found[-1] += it
+    return [it.strip() for it in found if it.strip()]
 
 
-def base_of(path):
-    """Returns the group in which a name of this module stands at first: its crate, and there the definitions or the proofs."""
-    if path in PRELUDES:
-        return path
-    return path[: 3 if len(path) > 2 and path[2] in ("specs", "proofs") else 2]
+def names_of(text):
+    """Yields what an import names, each as the tuple of the steps to it; the last may have ` as NAME`."""
+    head, brace, inside = text.partition(".{")
+    if brace:
+        for part in parts_of(inside[:-1]):
+            for steps in names_of(part):
+                yield (*head.split("."), *steps)
+    else:
+        word, _, renamed = text.partition(" as ")
+        steps = word.split(".") if NESTED.match(word) else [word]
+        yield (*steps[:-1], steps[-1] + (f" as {renamed}" if renamed else ""))
 
 
-def parted(kind, groups):
-    """Parts one group in two, where that saves the most lines, and returns whether it did."""
-    best = None
-    for group, names in groups.items():
-        now = lines_of(kind, group, names)
-        modules = {path[:size] for path, _ in names for size in range(len(group) + 1, len(path) + 1)} - groups.keys()
-        for module in modules:
-            inside = [it for it in names if it[0][: len(module)] == module]
-            outside = [it for it in names if it not in inside]
-            lines = lines_of(kind, module, inside) + (lines_of(kind, group, outside) if outside else [])
-            gain = (len(now) - len(lines), sum(map(len, now)) - sum(map(len, lines)))
-            if gain[0] > 0 and (best is None or (gain, module) > best[:2]):
-                best = gain, module, group, inside, outside
-    if best:
-        _, module, group, inside, outside = best
-        del groups[group]
-        groups.update({module: inside, **({group: outside} if outside else {})})
-    return best is not None
-
-
-def laid_out(kind, names):
-    """Returns the lines of these imports of one kind, in the order in which their crates came."""
+def shown(names, at=0):
+    """Returns the parts of a list that names these, each behind the same first `at` steps."""
     groups = {}
-    for path, name in names:
-        groups.setdefault(base_of(path), []).append((path, name))
-    while parted(kind, groups):
-        pass
+    for it in names:
+        groups.setdefault(it[at], []).append(it)
     found = []
-    for module, inside in sorted(groups.items(), key=lambda it: min(names.index(name) for name in it[1])):
-        shared = os.path.commonprefix([path for path, _ in inside])
-        found += lines_of(kind, tuple(shared) if len(shared) > len(module) else module, inside)
+    for step, inside in groups.items():
+        if len(inside[0]) == at + 1:
+            found.append(step)
+            continue
+        parts = shown(inside, at + 1)
+        is_path = len(parts) == 1 and not OPERATOR.match(parts[0])
+        found.append(f"{step}.{parts[0]}" if is_path else f"{step}.{{{', '.join(parts)}}}")
     return found
 
 
-def names_of(module, names):
-    """Yields each name of an import with the module that it is of."""
-    for name in re.split(r",\s*", names.strip().rstrip(",")):
-        word, _, renamed = name.partition(" as ")
-        steps = word.split(".") if NESTED.match(word) else [word]
-        yield (*module.split("."), *steps[:-1]), steps[-1] + (f" as {renamed}" if renamed else "")
+def line_of(kind, names):
+    """Returns one line that imports these."""
+    indent, word, end = kind
+    shared = os.path.commonprefix([it[:-1] for it in names])
+    return f"{indent}{word} {'.'.join(shared)}.{{{', '.join(shown(names, len(shared)))}}}{end}"
+
+
+def has_operator(names):
+    """Tells whether one of these is an operator."""
+    return any("◌" in it[-1] for it in names)
+
+
+def parted(names):
+    """Returns the libraries that have to stand on lines of their own, since an operator comes of them, and then all others together."""
+    alone = [[it for it in names if it[1] == library] for library in dict.fromkeys(it[1] for it in names)]
+    alone = [it for it in alone if has_operator(it)]
+    return [*alone, [it for it in names if all(it not in others for others in alone)]]
+
+
+def lines_of(kind, names):
+    """Returns the lines that import these, each as long as it may be."""
+    return [line for part in parted(names) for line in lines_of_part(kind, part)]
+
+
+def lines_of_part(kind, names):
+    """Returns the lines that import these together, each as long as it may be."""
+    found, held = [], []
+    for it in names:
+        if held and len(line_of(kind, [*held, it])) > WIDTH:
+            found.append(line_of(kind, held))
+            held = []
+        held.append(it)
+    return [*found, line_of(kind, held)] if held else found
+
+
+def together(names, at=0):
+    """Returns these names, those of one module together, in the order in which the modules came."""
+    groups = {}
+    for it in dict.fromkeys(names):
+        groups.setdefault(it[at] if len(it) > at + 1 else None, []).append(it)
+    return [it for step, inside in groups.items() for it in (together(inside, at + 1) if step else inside)]
 
 
 def written(run):
-    """Returns the lines of imports that stand together, laid out where that takes fewer; those of whole modules stay as they are."""
+    """Returns the lines of imports that stand together, laid out; those of whole modules stay as they are."""
     kinds = {}
     for line in run:
         found = NAMES.match(line)
-        kind = (found[1], found[2], found[5]) if found else line
-        kinds.setdefault(kind, []).extend(names_of(found[3], found[4]) if found else [])
-    new = [it for kind, names in kinds.items() for it in (laid_out(kind, names) if names else [kind])]
-    return new if len(new) < len(run) else run
+        kind = (found[1], found[2], found[4]) if found else line
+        kinds.setdefault(kind, []).extend(names_of(found[3]) if found else [])
+    new = [it for kind, names in kinds.items() for it in (lines_of(kind, together(names)) if names else [kind])]
+    mixed = any(it.lstrip().startswith(("use Rattle.{", "ghost use Rattle.{", "pub use Rattle.{")) and "◌" in it for it in run)
+    return new if mixed or len(new) < len(run) else run
 
 
 def text_of(text, is_code):
@@ -119,7 +139,7 @@ def main():
     given = read.parse_args()
     before = after = 0
     for file in subprocess.run(["git", "ls-files", "crates/*.antt", "crates/*.rt"], cwd=ROOT, stdout=subprocess.PIPE, text=True, check=True).stdout.split():
-        if given.crates and file.split("/")[1] not in given.crates:
+        if given.crates and file.split("/")[1] not in given.crates or not os.path.exists(f"{ROOT}/{file}"):
             continue
         text = open(f"{ROOT}/{file}", encoding="utf-8").read()
         new = text_of(text, file.endswith(".rt"))

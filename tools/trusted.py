@@ -17,12 +17,14 @@ import re
 import sys
 from pathlib import Path
 
+sys.dont_write_bytecode = True
+import imports  # noqa: E402, of this folder
+
 ROOT = Path(__file__).resolve().parent.parent
 PAGE = ROOT / "docs/PROOF.md"
 COMMENT = re.compile(r"(?:^|(?<=\s))-- .*$|^--$")
 HEAD = re.compile(r"(?:unfoldable |abbrev )?(?:pub )?(?:record |data |mod )?([^\s(:]+)")
 KEYWORD = re.compile(r"^(?:unfoldable|abbrev|pub|record|data)\b")
-IMPORT = re.compile(r"^\s*(?:ghost )?use ([^{}\s]+)\.\{([^{}]*)\}")
 # A name, unless it stands behind a point, where it is a field's.
 WORD = re.compile(r"(?<![.\w'?◌])[A-Za-z_][\w'?]*")
 ROW = re.compile(r"^\| (?P<number>\d+|all) \|.*\|(?P<roots>[^|]*)\| (?P<lines>[\d,]+) \|$")
@@ -39,11 +41,10 @@ def texts_of(path):
 def imports_of(lines):
     """Returns by name the module and the name there that an import brings."""
     found = {}
-    for prefix, names in filter(None, (IMPORT.match(line) and IMPORT.match(line).groups() for line in lines)):
-        for path, _, renamed in (name.strip().partition(" as ") for name in names.split(",")):
-            whole = f"{prefix}.{path}".removeprefix("Rattle.")
-            module, _, name = whole.rpartition(".")
-            found[renamed or name] = module, name
+    for it in filter(None, map(imports.NAMES.match, lines)):
+        for *module, last in imports.names_of(it[3]):
+            name, _, renamed = last.partition(" as ")
+            found[renamed or name] = ".".join(module).removeprefix("Rattle."), name
     return found
 
 

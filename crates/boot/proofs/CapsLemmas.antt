@@ -1,9 +1,7 @@
 -- Capacities: what stands after some integers.
 use Rattle.std.proofs.Common.{◌≡◌, ℕ, ℤ, ◌+◌, ◌<◌, ◌≤◌, List, [], ◌∷◌, ◌++◌, length, get_or, map, map-id, All, Some, None, refl, sym, ◌∙◌, ap, length-append}
-use Rattle.std.proofs.lemmas.List.Elements.{All-push, All-nil}
-use Rattle.event_log.specs.{declared.ids.TheConstants.CAPACITY, Buffers.IsCapacity, Reading.all_as}
-use Rattle.event_log.proofs.ReadingLemmas.{with_front, left_as, seen_none, seen_one, seen_other, seen_all}
-use Rattle.boot.specs.Plan.{number_within}
+use Rattle.{std.proofs.lemmas.List.Elements.{All-push, All-nil}, event_log.specs.{declared.ids.TheConstants.CAPACITY, Buffers.IsCapacity, Reading.all_as}}
+use Rattle.{event_log.proofs.ReadingLemmas.{with_front, left_as, seen_none, seen_one, seen_other, seen_all}, boot.specs.Plan.number_within}
 
 -- the first `i` integers are capacities, in front
 pub record CapsSoFar (integers : List ℤ) (i : ℕ) (front : List ℕ) : Type 0 where

@@ -1,8 +1,6 @@
 -- A thread of a plan by its number.
-use Rattle.std.proofs.Common.{◌≡◌, ℕ, ◌<◌, List, [], length, get_or, map, sym, ◌∙◌, ap, subst}
-use Rattle.std.proofs.lemmas.List.{length-map, get_or-map, Elements.All-get_or}
-use Rattle.boot.specs.{declared.tasks.Task.Task as TaskInside, Plan.BootPlan, Plan.Task, Plan.IsTask, Plan.IsPlan, Plan.home_of, Plan.program_of, Seen.task_of}
-use Rattle.boot.specs.{Seen.tasks_of}
+use Rattle.std.proofs.{Common.{◌≡◌, ℕ, ◌<◌, List, [], length, get_or, map, sym, ◌∙◌, ap, subst}, lemmas.List.{length-map, get_or-map, Elements.All-get_or}}
+use Rattle.boot.specs.{declared.tasks.Task.Task as TaskInside, Plan.{BootPlan, Task, IsTask, IsPlan, home_of, program_of}, Seen.{task_of, tasks_of}}
 
 -- `t` is the thread at `i` of the threads that the plan has
 pub record IsThreadAt (plan : BootPlan) (tasks : List TaskInside) (i : ℕ) (t : TaskInside) : Type 0 where

@@ -1,9 +1,7 @@
 -- Arrays whose items are all of one kind: what is seen after some items.
 use Rattle.std.proofs.Common.{◌≡◌, ℕ, ◌+◌, ◌<◌, ◌≤◌, List, [], ◌∷◌, ◌++◌, length, get_or, map, Option, Some, None, refl, sym, ◌∙◌, ap}
-use Rattle.toml.specs.{Data.Data, View.view, View.items_of, declared.value.Value.Value}
-use Rattle.event_log.specs.Reading.{all_as}
-use Rattle.event_log.proofs.ReadingLemmas.{with_front, left_as, seen_none, seen_one, seen_other, seen_all}
-use Rattle.boot.specs.Plan.{data_in}
+use Rattle.{toml.specs.{Data.Data, View.{view, items_of}, declared.value.Value.Value}, event_log.{specs.Reading.all_as, proofs.ReadingLemmas.with_front}}
+use Rattle.{event_log.proofs.ReadingLemmas.{left_as, seen_none, seen_one, seen_other, seen_all}, boot.specs.Plan.data_in}
 
 -- the items of an array are its list
 pub data_in-items_of : (ds : List Data) → data_in (items_of ds) ≡ ds
@@ -15,11 +13,8 @@ pub record SeenSoFar {B : Type 0} (kind : Data → Option B) (values : List Valu
   pub seen : with_front front (left_as view kind values i) ≡ all_as kind (data_in (items_of (map view values)))
 
 module _ {B : Type 0} (kind : Data → Option B) (values : List Value) where
-  whole : all_as kind (map view values) ≡ all_as kind (data_in (items_of (map view values)))
-  whole = ap (all_as kind) (sym (data_in-items_of (map view values)))
-
   pub so_far_none : SeenSoFar kind values 0 []
-  so_far_none = record { seen = seen_none view kind values ∙ whole }
+  so_far_none = record { seen = seen_none view kind values ∙ ap (all_as kind) (sym (data_in-items_of (map view values))) }
 
   pub so_far_one : (i : ℕ) (d : Value) (front : List B) (y : B) → SeenSoFar kind values i front → i < length values → d ≡ get_or values i d
       → kind (view d) ≡ Some y → SeenSoFar kind values (i + 1) (front ++ y ∷ [])

@@ -1,11 +1,8 @@
 -- Threads: what stands after some tables.
-use Rattle.std.proofs.Common.{◌≡◌, ℕ, ◌+◌, ◌<◌, ◌≤◌, List, [], ◌∷◌, ◌++◌, length, get_or, map, All, Ok, Err, sym, ◌∙◌}
-use Rattle.std.proofs.lemmas.List.Elements.{All-push, All-nil}
-use Rattle.toml.specs.Data.{Members}
-use Rattle.event_log.specs.Reading.{read_from}
-use Rattle.event_log.proofs.ReadingLemmas.{after, left_from, read_none, read_one, read_fault, read_all}
-use Rattle.boot.specs.{declared.refusals.BootError.BootError, Plan.Task, Plan.IsTask, Plan.task_at, Plan.Fails}
-use Rattle.boot.specs.declared.refusals.BootError.TheVariants.{NoMemory, BadToml, MissingKey, OutOfRange, Guest}
+use Rattle.std.proofs.{Common.{◌≡◌, ℕ, ◌+◌, ◌<◌, ◌≤◌, List, [], ◌∷◌, ◌++◌, length, get_or, map, All, Ok, Err, sym, ◌∙◌, arith}, lemmas.List.Elements.All-push}
+use Rattle.{std.proofs.lemmas.List.Elements.All-nil, toml.specs.Data.Members, event_log.{specs.Reading.read_from, proofs.ReadingLemmas.{after, left_from}}}
+use Rattle.{event_log.proofs.ReadingLemmas.{read_none, read_one, read_fault, read_all}, boot.specs.declared.refusals.BootError.BootError}
+use Rattle.boot.specs.Plan.{Task, IsTask, task_at, Fails}
 
 -- the first `i` tables are threads, in front
 pub record TasksSoFar {X : Type 0} (table : X → Members) (cpus buffers : ℕ) (tables : List X) (i : ℕ) (front : List Task) : Type 0 where
@@ -31,11 +28,7 @@ module _ {X : Type 0} (table : X → Members) (cpus buffers : ℕ) (tables : Lis
 
   pub tasks_fault : (i : ℕ) (d : X) (front : List Task) (e : BootError) → TasksSoFar table cpus buffers tables i front → i < length tables
       → Fails e (task_at cpus buffers i (table (get_or tables i d))) → Fails e (read_from (task_at cpus buffers) 0 (map table tables))
-  tasks_fault i d front (NoMemory _) so_far h fails = tt
-  tasks_fault i d front BadToml so_far h fails = one_fails i d front BadToml so_far h fails
-  tasks_fault i d front (MissingKey key) so_far h fails = one_fails i d front (MissingKey key) so_far h fails
-  tasks_fault i d front (OutOfRange key) so_far h fails = one_fails i d front (OutOfRange key) so_far h fails
-  tasks_fault i d front (Guest t line fault) so_far h fails = one_fails i d front (Guest t line fault) so_far h fails
+  tasks_fault i d front e so_far h fails = grind (arith, one_fails)
 
   pub tasks_all : (i : ℕ) (front : List Task) → TasksSoFar table cpus buffers tables i front → length tables ≤ i
       → read_from (task_at cpus buffers) 0 (map table tables) ≡ Ok front

@@ -1,7 +1,6 @@
 -- How a key of a plan is printed.
 use Rattle.std.specs.Prelude.{ℕ, List, ◌++◌, codes, decimal}
-use Rattle.boot.specs.declared.refusals.PlanKey.{PlanKey}
-use Rattle.boot.specs.declared.refusals.PlanKey.TheVariants.{Cpus, Trace, Buffers, Lock, Threads, Cpu, Program}
+use Rattle.boot.specs.declared.refusals.PlanKey.{PlanKey, TheVariants.{Cpus, Trace, Buffers, Lock, Threads, Cpu, Program}}
 
 -- a key's name; that of a key in a thread's table stands behind the thread
 abbrev pub key_name : PlanKey → List ℕ

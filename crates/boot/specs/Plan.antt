@@ -1,17 +1,12 @@
 -- What a plan says, and the first fault of one.
 use Rattle.std.specs.Prelude.{◌≡◌, ℕ, ◌-◌, ◌<◌, ◌≤◌, Bool, ◌&&◌, ℤ, pos, negsuc, List, [], ◌∷◌, length, codes, nat_le, map, slice_index, slice_index_or, All}
-use Rattle.std.specs.Prelude.{IsTrue, Option, Some, None, Result, Ok, Err, if◌then◌else◌, option_and_then}
-use Rattle.std.specs.List.{list_all}
-use Rattle.toml.specs.{Data.Data, Data.Items, Data.no_items, Data.item, Data.Members, Data.as_integer, Data.as_array, Data.as_str, Data.as_table}
-use Rattle.toml.specs.{Data.get_member, Parse.parse_document}
-use Rattle.event_log.specs.declared.ids.TheConstants.{CPUS, THREADS, BUFFERS, CAPACITY, TRACE}
-use Rattle.event_log.specs.{Buffers.IsCapacity, Reading.◌>>=◌, Reading.read_from, Reading.all_as}
-use Rattle.guest.specs.{declared.instructions.Instruction.Instruction, Instructions.IsProgram, Instructions.names_below, Language.program_in}
-use Rattle.guest.specs.declared.refusals.GuestError.{GuestError, TheVariants.NoMemory as GuestNoMemory, TheVariants.At}
-use Rattle.boot.specs.{Locks.lock_named, declared.locks.LockKind.LockKind, declared.locks.LockKind.TheVariants.Grant, declared.refusals.PlanKey.PlanKey}
-use Rattle.boot.specs.{declared.refusals.BootError.BootError}
-use Rattle.boot.specs.declared.refusals.PlanKey.TheVariants.{Cpus, Trace, Buffers, Lock, Threads, Cpu, Program}
-use Rattle.boot.specs.declared.refusals.BootError.TheVariants.{NoMemory, BadToml, MissingKey, OutOfRange, Guest}
+use Rattle.std.specs.{Prelude.{IsTrue, Option, Some, None, Result, Ok, Err, if◌then◌else◌, option_and_then}, List.list_all}
+use Rattle.event_log.specs.{declared.ids.TheConstants.{CPUS, THREADS, BUFFERS, CAPACITY, TRACE}, Buffers.IsCapacity, Reading.{◌>>=◌, read_from, all_as}}
+use Rattle.toml.specs.{Data.{Data, Items, no_items, item, Members, as_integer, as_array, as_str, as_table, get_member}, Parse.parse_document}
+use Rattle.guest.specs.declared.{instructions.Instruction.Instruction, refusals.GuestError.{GuestError, TheVariants.{NoMemory as GuestNoMemory, At}}}
+use Rattle.{guest.specs.{Instructions.{IsProgram, names_below}, Language.program_in}, boot.specs.{Locks.lock_named, declared.locks.LockKind.LockKind}}
+use Rattle.boot.specs.declared.{locks.LockKind.TheVariants.Grant, refusals.PlanKey.{PlanKey, TheVariants.{Cpus, Trace, Buffers, Lock, Threads, Cpu, Program}}}
+use Rattle.boot.specs.declared.refusals.BootError.{BootError, TheVariants.{NoMemory, BadToml, MissingKey, OutOfRange, Guest}}
 
 -- a thread: its home CPU and its program
 pub record Task : Type 0 where

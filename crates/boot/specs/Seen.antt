@@ -1,6 +1,5 @@
 -- A boot's threads as its plan has them.
-use Rattle.std.specs.Prelude.{List, map}
-use Rattle.boot.specs.{declared.tasks.Task.Task as TaskInside, Plan.Task}
+use Rattle.{std.specs.Prelude.{List, map}, boot.specs.{declared.tasks.Task.Task as TaskInside, Plan.Task}}
 
 -- a thread
 abbrev pub task_of : TaskInside → Task

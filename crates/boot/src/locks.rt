@@ -1,8 +1,7 @@
 //! Which lock a plan asks for. No call takes memory or waits.
 
 ghost use Rattle.std.specs.Prelude.{◌≡◌, codes};
-ghost use Rattle.toml.specs.{Data.get_member, View.table_view};
-ghost use Rattle.boot.specs.{Locks.lock_named, Plan.lock_at};
+ghost use Rattle.{toml.specs.{Data.get_member, View.table_view}, boot.specs.{Locks.lock_named, Plan.lock_at}};
 
 use crate::refusals::{BootError, PlanKey};
 use crate::tables::value_at;

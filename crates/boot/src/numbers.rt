@@ -1,9 +1,8 @@
 //! Reads the numbers of a plan. Only `caps_at` takes memory. No call waits.
 
 ghost use Rattle.std.specs.Prelude.{◌≡◌, ◌<◌, ◌≤◌, length, codes, option_map, All, IfOk, IfSome};
-ghost use Rattle.event_log.specs.{declared.ids.TheConstants.BUFFERS, declared.ids.TheConstants.CAPACITY, Buffers.IsCapacity, Reading.all_as};
-ghost use Rattle.toml.specs.{Data.get_member, View.table_view};
-ghost use Rattle.boot.specs.Plan.{number_within, number_at, caps_at, AreCaps, Gives};
+ghost use Rattle.{event_log.specs.{declared.ids.TheConstants.{BUFFERS, CAPACITY}, Buffers.IsCapacity, Reading.all_as}, toml.specs.Data.get_member};
+ghost use Rattle.{toml.specs.View.table_view, boot.specs.Plan.{number_within, number_at, caps_at, AreCaps, Gives}};
 
 use crate::refusals::{BootError, PlanKey};
 use crate::tables::{array_at, integers, value_at};

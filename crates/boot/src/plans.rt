@@ -1,8 +1,7 @@
 //! What a plan says, once it is read. Only `Boot::read` takes memory. No call waits.
 
 ghost use Rattle.std.specs.Prelude.{◌≡◌};
-ghost use Rattle.toml.specs.Errors.{IsMemory};
-ghost use Rattle.event_log.specs.Refusals.{no_memory};
+ghost use Rattle.{toml.specs.Errors.IsMemory, event_log.specs.Refusals.no_memory};
 ghost use Rattle.boot.specs.declared.refusals.BootError.TheVariants as refused;
 
 use crate::locks::{LockKind, lock_at};
@@ -51,8 +50,7 @@ impl Model for Boot {
 
 impl Boot {
     ghost use Rattle.std.specs.Prelude.{◌≡◌, ◌<◌, length, IfOk};
-    ghost use Rattle.toml.specs.View.{table_view};
-    ghost use Rattle.boot.specs.Plan.{plan_of, plan_in, home_of, program_of, IsPlan, Gives};
+    ghost use Rattle.{toml.specs.View.table_view, boot.specs.Plan.{plan_of, plan_in, home_of, program_of, IsPlan, Gives}};
 
     /// Reads a plan from its text.
     ///

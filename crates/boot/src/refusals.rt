@@ -30,8 +30,7 @@ pub enum PlanKey {
 }
 
 impl fmt::Display for PlanKey {
-    ghost use Rattle.std.specs.Prelude.{Some};
-    ghost use Rattle.boot.specs.Names.{key_name};
+    ghost use Rattle.{std.specs.Prelude.Some, boot.specs.Names.key_name};
 
     ghost output = { λ key. Some (key_name key) };
 

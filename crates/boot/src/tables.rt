@@ -2,8 +2,7 @@
 //! `integers`, `texts` and `tables` take memory. No call waits.
 
 ghost use Rattle.std.specs.Prelude.{◌≡◌, map, option_map, option_and_then, IfOk};
-ghost use Rattle.event_log.specs.Reading.{all_as};
-ghost use Rattle.toml.specs.{Data.as_array, Data.as_integer, Data.as_str, Data.as_table, Data.get_member, View.view, View.array_view, View.table_view};
+ghost use Rattle.{event_log.specs.Reading.all_as, toml.specs.{Data.{as_array, as_integer, as_str, as_table, get_member}, View.{view, array_view, table_view}}};
 ghost use Rattle.boot.specs.Plan.{data_in};
 
 use std::alloc::{AllocError, Global};

@@ -1,10 +1,9 @@
 //! Reads the threads of a plan. Each call takes memory. None waits.
 
 ghost use Rattle.std.specs.Prelude.{◌≡◌, ◌<◌, ◌≤◌, map, length, codes, All, IfOk, IsTrue};
-ghost use Rattle.event_log.specs.{declared.ids.TheConstants.THREADS, Reading.read_from};
-ghost use Rattle.toml.specs.{Data.get_member, View.table_view};
-ghost use Rattle.guest.specs.Instructions.{IsProgram, names_below};
-ghost use Rattle.boot.specs.{Plan.program_at, Plan.task_at, Plan.tables_at, Plan.IsTask, Plan.Gives, Seen.task_of, Seen.tasks_of};
+ghost use Rattle.{event_log.specs.{declared.ids.TheConstants.THREADS, Reading.read_from}, toml.specs.{Data.get_member, View.table_view}};
+ghost use Rattle.{guest.specs.Instructions.{IsProgram, names_below}, boot.specs.{Plan.{program_at, task_at, tables_at, IsTask, Gives}, Seen.task_of}};
+ghost use Rattle.boot.specs.Seen.{tasks_of};
 
 use crate::numbers::number_at;
 use crate::refusals::{BootError, PlanKey};

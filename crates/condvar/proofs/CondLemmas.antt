@@ -1,34 +1,24 @@
 -- What a poll of a lock with conditions leaves, and why whoever was woken out of a wait stands on no waiting list.
 use Rattle.std.proofs.Common.{◌≡◌, ◌<◌, ◌≤◌, Bool, true, false, ◌&&◌, List, length, slice_set, Option, Some, None, is_some, if◌then◌else◌, refl, ap, ◌∙◌, sym}
-use Rattle.std.proofs.Common.{arith}
-use Rattle.std.proofs.lemmas.Option.{slice_get_within}
-use Rattle.event_log.specs.{declared.ids.BufId.BufId, declared.ids.CpuId.CpuId, declared.ids.LockId.LockId, declared.ids.LockId.TheVariants.Buffer}
-use Rattle.event_log.specs.{declared.ids.Tid.Tid, declared.ids.TheConstants.THREADS, Actions.Action}
-use Rattle.layer_traits.specs.declared.{conditions.CvLeave.TheVariants.Leave, conditions.CvLeave.TheVariants.Wait, conditions.CvOut.CvOut}
-use Rattle.layer_traits.specs.declared.{moves.WaitList.WaitList, payloads.Parcel.Parcel, queue_edits.QueueBlock.QueueBlock, queue_edits.QueueEdit.QueueEdit}
-use Rattle.layer_traits.specs.declared.{queues.QueueAnswer.QueueAnswer, queues.QueueEvent.QueueEvent, scheds.SchedCall.SchedCall, sleeps.Outcome.Outcome}
-use Rattle.layer_traits.specs.declared.locked.{QEdit.TheVariants.Acquire, QEdit.TheVariants.Inside, QEdit.TheVariants.Release, QOut.QOut}
-use Rattle.layer_traits.specs.declared.locked.{QOut.TheVariants.Acquired, QOut.TheVariants.Queued, QOut.TheVariants.Did, QOut.TheVariants.Released, Side.Side}
-use Rattle.layer_traits.specs.{Conditions.MonitorRules, Conditions.CvCall, Conditions.cv_rules, CvLaw.CvPolled, CvLaw.MayCallCond, CvLaw.MayWait, CvLaw.Waiting}
-use Rattle.layer_traits.specs.{CvLaw.cv_plan_for, CvLaw.left_reported, CvLaw.left_waiting, CvLaw.waited, CvLaw.waiting_with, ListsAgree.is_at}
-use Rattle.layer_traits.specs.{QLocking.LockState, QLocking.lock_after, QLocking.lock_caller, QLocking.wait_list_in, QLockLaw.Locking, QLockLaw.LockPolled}
-use Rattle.layer_traits.specs.{QLockLaw.LocksAgree, QLockLaw.MayGo, QLockLaw.MayLock, QLockLaw.lock_kernel, QLockLaw.lock_plan, QLockLaw.slept_for}
-use Rattle.layer_traits.specs.{MoveRules.MoveRules, Payloads.cv_meant, Payloads.cv_told, Payloads.lock_meant, Payloads.lock_told, Payloads.outcome_told}
-use Rattle.layer_traits.specs.{Payloads.told_by, Places.AreMoves, Places.Stands, Places.Threads, Places.home_of, Places.one_if, Places.wait_channel_of}
-use Rattle.layer_traits.specs.{Plans.Follows, Plans.Table, QueueBlocks.homes_in, QueueBlocks.inner, Queues.Kernel, Queues.buffer_sections, Queues.moves_in}
-use Rattle.layer_traits.proofs.{CallLemmas.follows_raised, CountLemmas.not_counted, PlaceLemmas.current_at}
-use Rattle.thread_blocks.specs.Queues.{is_in}
-use Rattle.condvar.specs.Waiting.{calls_wait, is_wait, is_waited, is_waiting, side_in}
+use Rattle.{std.proofs.{Common.arith, lemmas.Option.slice_get_within}, event_log.specs.declared.ids.{BufId.BufId, CpuId.CpuId, LockId.LockId}}
+use Rattle.event_log.specs.{declared.ids.{LockId.TheVariants.Buffer, Tid.Tid, TheConstants.THREADS}, Actions.Action}
+use Rattle.layer_traits.specs.declared.{conditions.{CvLeave.TheVariants.Wait, CvOut.CvOut}, moves.WaitList.WaitList, payloads.Parcel.Parcel}
+use Rattle.layer_traits.specs.declared.{queue_edits.{QueueBlock.QueueBlock, QueueEdit.QueueEdit}, queues.{QueueAnswer.QueueAnswer, QueueEvent.QueueEvent}}
+use Rattle.layer_traits.specs.declared.{scheds.SchedCall.SchedCall, sleeps.Outcome.Outcome, locked.{QEdit.TheVariants.Release, QOut.QOut}}
+use Rattle.layer_traits.specs.{declared.locked.{QOut.TheVariants.Released, Side.Side}, Conditions.{MonitorRules, CvCall, cv_rules}, CvLaw.CvPolled}
+use Rattle.layer_traits.specs.{CvLaw.{MayCallCond, MayWait, Waiting, cv_plan_for, left_reported, left_waiting, waited, waiting_with}, ListsAgree.is_at}
+use Rattle.layer_traits.specs.{QLocking.{LockState, lock_after, lock_caller, wait_list_in}, QLockLaw.{Locking, LockPolled, LocksAgree, lock_kernel, lock_plan}}
+use Rattle.layer_traits.specs.{QLockLaw.slept_for, MoveRules.MoveRules, Payloads.{cv_meant, cv_told, lock_meant, lock_told, outcome_told, told_by}}
+use Rattle.layer_traits.specs.{Places.{AreMoves, Stands, Threads, one_if, wait_channel_of}, Plans.{Follows, Table}, QueueBlocks.{homes_in, inner}}
+use Rattle.layer_traits.{specs.Queues.{Kernel, buffer_sections, moves_in}, proofs.{CallLemmas.follows_raised, CountLemmas.not_counted, PlaceLemmas.current_at}}
+use Rattle.{thread_blocks.specs.Queues.is_in, condvar.specs.Waiting.{calls_wait, is_wait, is_waited, is_waiting, side_in}}
 use Rattle.layer_traits.specs.declared.conditions.CvOut.TheVariants as answer
 
 -- a thread that runs is one that a machine may have
 pub current_small : (homes : List CpuId) (c : CpuId) (moves : _) (own : Threads) (t : Tid) → AreMoves homes moves → Stands homes c moves own
-    → length homes ≤ THREADS
-    → own.current ≡ Some t → t.0 < THREADS
+    → length homes ≤ THREADS → own.current ≡ Some t → t.0 < THREADS
 current_small homes c moves own t legal stands room runs =
-    let home : home_of homes t ≡ Some c = (current_at homes c moves own legal stands t runs).0 in
-    let within = slice_get_within homes t.0 c home in
-    omega (arith, within, room)
+    omega (arith, slice_get_within homes t.0 c (current_at homes c moves own legal stands t runs).0, room)
 
 -- a thread that runs stands on no waiting list of any lock
 pub current_awake : {G B O : Type 0} (monitor_rules : MonitorRules G B O) (opening : LockId
@@ -38,36 +28,15 @@ pub current_awake : {G B O : Type 0} (monitor_rules : MonitorRules G B O) (openi
     → LocksAgree (cv_rules monitor_rules) opening seen → own.current ≡ Some t
     → (lock : LockId) (line : WaitList) → is_in t (wait_list_in line (lock_after (cv_rules monitor_rules) (inner opening) lock (buffer_sections seen))) ≡ false
 current_awake monitor_rules opening seen c own t legal stands agree runs lock line =
-    let at = (current_at (homes_in opening) c (moves_in (lock_kernel (cv_rules monitor_rules) opening) seen) own legal stands t runs).1 in
     not_counted t (wait_list_in line (lock_after (cv_rules monitor_rules) (inner opening) lock (buffer_sections seen)))
-    (agree lock line t ∙ ap (λ w. one_if (is_at lock line (wait_channel_of w))) at)
+    (agree lock line t ∙ ap (λ w. one_if (is_at lock line (wait_channel_of w))) (current_at _ c _ own legal stands t runs).1)
 
 -- who waits calls its wait alone
 wait_alone : {H G E : Type 0} (meant : H → Parcel → G) (parcel : Parcel) (call : CvCall H) (at : Option BufId) (under_way : Option (SchedCall E)) (b : BufId)
     (t : Tid) (may : Type 0) → MayWait at under_way b (lock_meant (cv_meant meant) call parcel) t may → (calls_wait call && is_some at) ≡ is_some at
 wait_alone meant parcel (Release (Wait u side)) at under_way b t may duty = refl
-wait_alone meant parcel (Acquire u) None under_way b t may duty = refl
-wait_alone meant parcel (Inside e) None under_way b t may duty = refl
-wait_alone meant parcel (Release (Leave u)) None under_way b t may duty = refl
-wait_alone meant parcel (Acquire u) (Some at) under_way b t may duty = let is = duty.2.1 in absurd cc
-wait_alone meant parcel (Inside e) (Some at) under_way b t may duty = let is = duty.2.1 in absurd cc
-wait_alone meant parcel (Release (Leave u)) (Some at) under_way b t may duty = let is = duty.2.1 in absurd cc
-
--- whether the caller waited, as the wake tells
-pub wake_told : {H G B O : Type 0} (monitor_rules : MonitorRules G B O) (k : Kernel (CvCall G) (LockState B) (Outcome (QOut (CvOut O))))
-    (meant : H → Parcel → G) (parcel : Parcel) (c : CpuId) (b : BufId) (call : CvCall H) (past : List (QueueEvent (CvCall G))) (own : Waiting O)
-    (under_way : Option (SchedCall (CvCall G))) (woke is : Bool) (u : Tid)
-    → MayCallCond monitor_rules k c past own under_way b (lock_meant (cv_meant meant) call parcel)
-    → woke ≡ (calls_wait call && is_some (slept_for own.waits u)) → woke ≡ is
-    → u ≡ lock_caller (cv_rules monitor_rules) (lock_meant (cv_meant meant) call parcel)
-    → is_some (slept_for own.waits (lock_caller (cv_rules monitor_rules) (lock_meant (cv_meant meant) call parcel))) ≡ is
-wake_told monitor_rules k meant parcel c b call past own under_way woke is u duty was told caller =
-    let t = lock_caller (cv_rules monitor_rules) (lock_meant (cv_meant meant) call parcel) in
-    let wakes : (calls_wait call && is_some (slept_for own.waits t)) ≡ is = rw (← caller) (sym was ∙ told) in
-    sym (wait_alone meant parcel call (slept_for own.waits t) under_way b t
-    (MayGo (slept_for own.lock.slept t) under_way b (lock_meant (cv_meant meant) call parcel) t
-    (MayLock (cv_rules monitor_rules) k c past own.lock.sleep.threads.hand b (lock_meant (cv_meant meant) call parcel))) duty.may)
-    ∙ wakes
+wait_alone meant parcel other None under_way b t may duty = refl
+wait_alone meant parcel other (Some at) under_way b t may duty = let is = duty.2.1 in absurd cc
 
 -- a wake of a thread that waited ends its wait
 pub wake_ended : (waits now : List (Option BufId)) (woke : Bool) (t u : Tid) → now ≡ (if woke then slice_set waits u.0 None else waits) → woke ≡ true
@@ -79,43 +48,6 @@ pub wake_kept : (waits now : List (Option BufId)) (woke : Bool) (u : Tid) → no
     → now ≡ waits
 wake_kept waits now woke u same told = same ∙ ap (λ b. if b then slice_set waits u.0 None else waits) told
 
--- the poll of a thread that was woken out of its wait, by the buffer at which it waited
-over_at : {G B O : Type 0} (monitor_rules : MonitorRules G B O) (k : Kernel (CvCall G) (LockState B) (Outcome (QOut (CvOut O)))) (ActsFor : CpuId
-    → Type 0) (c : CpuId) (b : BufId) (call : CvCall G)
-    (old : List (QueueEvent (CvCall G))) (own : Waiting O) (under_way : Option (SchedCall (CvCall G))) (may : Type 0) (side : Side)
-    (waits : List (Option BufId)) (at : Option BufId)
-    → is_some at ≡ true → MayWait at under_way b call (lock_caller (cv_rules monitor_rules) call) may
-    → ((line : WaitList) → is_in (lock_caller (cv_rules monitor_rules) call) (wait_list_in line (lock_after (cv_rules monitor_rules) k.opening (Buffer b)
-    (buffer_sections old))) ≡ false)
-    → side ≡ side_in call → waits ≡ slice_set own.waits (lock_caller (cv_rules monitor_rules) call).0 None
-    → CvPolled monitor_rules k ActsFor c b call at old old own under_way (waiting_with own.lock waits (Some (waited side)))
-over_at monitor_rules k ActsFor c b call old own under_way may side waits None some duty left same now = absurd cc
-over_at {O = O} monitor_rules k ActsFor c b call old own under_way may side waits (Some at) some duty left same now =
-    let of : side ≡ duty.2.0 = same ∙ ap side_in duty.2.1 in
-    record {
-      side = duty.2.0;
-      is = duty.2.1;
-      left = left;
-      ends = duty.0;
-      leaves = ap (λ w. waiting_with own.lock w (Some (waited {O = O} side))) now
-          ∙ ap (λ s. waiting_with own.lock (slice_set own.waits (lock_caller (cv_rules monitor_rules) call).0 None) (Some (waited {O = O} s))) of;
-    }
-
--- the poll of a thread that was woken out of its wait
-pub over_polled : {G B O : Type 0} (monitor_rules : MonitorRules G B O) (k : Kernel (CvCall G) (LockState B) (Outcome (QOut (CvOut O)))) (ActsFor : CpuId
-    → Type 0) (c : CpuId) (b : BufId) (call : CvCall G)
-    (old : List (QueueEvent (CvCall G))) (own : Waiting O) (under_way : Option (SchedCall (CvCall G))) (side : Side) (waits : List (Option BufId))
-    → is_some (slept_for own.waits (lock_caller (cv_rules monitor_rules) call)) ≡ true
-    → MayCallCond monitor_rules k c old own under_way b call
-    → ((line : WaitList) → is_in (lock_caller (cv_rules monitor_rules) call) (wait_list_in line (lock_after (cv_rules monitor_rules) k.opening (Buffer b)
-    (buffer_sections old))) ≡ false)
-    → side ≡ side_in call → waits ≡ slice_set own.waits (lock_caller (cv_rules monitor_rules) call).0 None
-    → CvPolled monitor_rules k ActsFor c b call (slept_for own.waits (lock_caller (cv_rules monitor_rules) call)) old old own under_way
-    (waiting_with own.lock waits (Some (waited side)))
-over_polled monitor_rules k ActsFor c b call old own under_way side waits some duty left same now =
-    over_at monitor_rules k ActsFor c b call old own under_way _ side waits (slept_for own.waits (lock_caller (cv_rules monitor_rules) call)) some duty.may left
-    same now
-
 -- whether an answer is that of a wait does not depend on the parcel beside it
 waited_told : {B O : Type 0} (told : B → Parcel → O) (parcel : Parcel) (out : CvOut B) → is_waited (cv_told told out parcel) ≡ is_waited out
 waited_told told parcel (answer.Did out) = refl
@@ -123,10 +55,8 @@ waited_told told parcel other = refl
 
 waiting_told : {B O : Type 0} (told : B → Parcel → O) (parcel : Parcel) (out : QOut (CvOut B))
     → is_waiting (lock_told (cv_told told) out parcel) ≡ is_waiting out
-waiting_told told parcel Acquired = refl
-waiting_told told parcel Queued = refl
-waiting_told told parcel (Did out) = refl
 waiting_told told parcel (Released out) = waited_told told parcel out
+waiting_told told parcel other = refl
 
 -- what the lock told, with the parcel beside its answer
 abbrev pub lock_tells : {B O : Type 0} → (B → Parcel → O) → Parcel → Option (Outcome (QOut (CvOut B))) → Option (Outcome (QOut (CvOut O)))
@@ -162,13 +92,8 @@ left_by_out : {O : Type 0} (t : Tid) (b : BufId) (waits now : List (Option BufId
     (outcome : Outcome (QOut (CvOut O))) (result : Option (Outcome (QOut (CvOut O))))
     → now ≡ (if is_waiting out then slice_set waits t.0 (Some b) else waits) → result ≡ (if is_waiting out then None else Some outcome)
     → waiting_with lock now result ≡ left_reported t b waits lock out outcome
-left_by_out t b waits now lock Acquired outcome result same told = rw (same, told) refl
-left_by_out t b waits now lock Queued outcome result same told = rw (same, told) refl
-left_by_out t b waits now lock (Did out) outcome result same told = rw (same, told) refl
-left_by_out t b waits now lock (Released (answer.Did out)) outcome result same told = rw (same, told) refl
-left_by_out t b waits now lock (Released (answer.Signalled side front)) outcome result same told = rw (same, told) refl
-left_by_out t b waits now lock (Released answer.Left) outcome result same told = rw (same, told) refl
 left_by_out t b waits now lock (Released (answer.Waited side)) outcome result same told = rw (same, told) refl
+left_by_out t b waits now lock other outcome result same told = rw (same, told) refl
 
 -- what the lock's answer leaves
 pub reported_left : {O : Type 0} (t : Tid) (b : BufId) (waits now : List (Option BufId)) (lock : Locking (CvOut O))
@@ -178,23 +103,49 @@ pub reported_left : {O : Type 0} (t : Tid) (b : BufId) (waits now : List (Option
 reported_left t b waits now lock None result same told = rw (same, told) refl
 reported_left t b waits now lock (Some outcome) result same told = left_by_out t b waits now lock outcome.out outcome result same told
 
--- the poll of a thread that does not wait
-pub waits_polled : {G B O : Type 0} (monitor_rules : MonitorRules G B O) (k : Kernel (CvCall G) (LockState B) (Outcome (QOut (CvOut O)))) (ActsFor : CpuId
-    → Type 0) (c : CpuId) (b : BufId) (call : CvCall G)
-    (old new : List (QueueEvent (CvCall G))) (own : Waiting O) (under_way : Option (SchedCall (CvCall G))) (lock : Locking (CvOut O))
-    (waits : List (Option BufId)) (answer result : Option (Outcome (QOut (CvOut O)))) (at : Option BufId)
-    → is_some at ≡ false
-    → LockPolled (cv_rules monitor_rules) k ActsFor c b call (slept_for own.lock.slept (lock_caller (cv_rules monitor_rules) call)) old new own.lock under_way
-    (record { own = lock; answer = answer })
-    → waits ≡ (if is_wait answer then slice_set own.waits (lock_caller (cv_rules monitor_rules) call).0 (Some b) else own.waits)
-    → result ≡ (if is_wait answer then None else answer)
-    → CvPolled monitor_rules k ActsFor c b call at old new own under_way (waiting_with lock waits result)
-waits_polled monitor_rules k ActsFor c b call old new own under_way lock waits answer result (Some at) none polled same told = absurd cc
-waits_polled monitor_rules k ActsFor c b call old new own under_way lock waits answer result None none polled same told = record {
-  left = record { own = lock; answer = answer };
-  polled = polled;
-  leaves = reported_left (lock_caller (cv_rules monitor_rules) call) b own.waits waits lock answer result same told;
-}
+module _ {G B O : Type 0} (monitor_rules : MonitorRules G B O) (k : Kernel (CvCall G) (LockState B) (Outcome (QOut (CvOut O)))) (c : CpuId) (b : BufId)
+    (own : Waiting O) (under_way : Option (SchedCall (CvCall G))) where
+  abbrev caller : CvCall G → Tid
+  caller call = lock_caller (cv_rules monitor_rules) call
+
+  -- whether the caller waited, as the wake tells
+  pub wake_told : {H : Type 0} (meant : H → Parcel → G) (parcel : Parcel) (call : CvCall H) (past : List (QueueEvent (CvCall G))) (woke is : Bool) (u : Tid)
+      → MayCallCond monitor_rules k c past own under_way b (lock_meant (cv_meant meant) call parcel)
+      → woke ≡ (calls_wait call && is_some (slept_for own.waits u)) → woke ≡ is → u ≡ caller (lock_meant (cv_meant meant) call parcel)
+      → is_some (slept_for own.waits (caller (lock_meant (cv_meant meant) call parcel))) ≡ is
+  wake_told meant parcel call past woke is u duty was told calls =
+      let t = caller (lock_meant (cv_meant meant) call parcel) in
+      let wakes : (calls_wait call && is_some (slept_for own.waits t)) ≡ is = rw (← calls) (sym was ∙ told) in
+      sym (wait_alone meant parcel call (slept_for own.waits t) under_way b t _ duty.may) ∙ wakes
+
+  module _ (ActsFor : CpuId → Type 0) (call : CvCall G) (old : List (QueueEvent (CvCall G))) (waits : List (Option BufId)) where
+    -- the poll of a thread that was woken out of its wait, by the buffer at which it waited
+    pub over_polled : (may : Type 0) (side : Side) (at : Option BufId) → is_some at ≡ true → MayWait at under_way b call (caller call) may
+        → ((line : WaitList) → is_in (caller call) (wait_list_in line (lock_after (cv_rules monitor_rules) k.opening (Buffer b) (buffer_sections old))) ≡ false)
+        → side ≡ side_in call → waits ≡ slice_set own.waits (caller call).0 None
+        → CvPolled monitor_rules k ActsFor c b call at old old own under_way (waiting_with own.lock waits (Some (waited side)))
+    over_polled may side None some duty left same now = absurd cc
+    over_polled may side (Some at) some duty left same now = record {
+      side = duty.2.0;
+      is = duty.2.1;
+      left = left;
+      ends = duty.0;
+      leaves = λ i. waiting_with own.lock (now i) (Some (waited {O = O} ((same ∙ ap side_in duty.2.1) i)));
+    }
+
+    -- the poll of a thread that does not wait
+    pub waits_polled : (new : List (QueueEvent (CvCall G))) (lock : Locking (CvOut O)) (answer result : Option (Outcome (QOut (CvOut O)))) (at : Option BufId)
+        → is_some at ≡ false
+        → LockPolled (cv_rules monitor_rules) k ActsFor c b call (slept_for own.lock.slept (caller call)) old new own.lock under_way
+        (record { own = lock; answer = answer })
+        → waits ≡ (if is_wait answer then slice_set own.waits (caller call).0 (Some b) else own.waits) → result ≡ (if is_wait answer then None else answer)
+        → CvPolled monitor_rules k ActsFor c b call at old new own under_way (waiting_with lock waits result)
+    waits_polled new lock answer result (Some at) none polled same told = absurd cc
+    waits_polled new lock answer result None none polled same told = record {
+      left = record { own = lock; answer = answer };
+      polled = polled;
+      leaves = reported_left (caller call) b own.waits waits lock answer result same told;
+    }
 
 -- it follows its plan where the lock's poll follows its own
 pub waits_follow : {G B O : Type 0} (ActsFor : CpuId → Type 0) (table : Table (QueueEdit (CvCall G)) B (QueueAnswer (Outcome (QOut (CvOut O)))))
@@ -206,6 +157,5 @@ pub waits_follow : {G B O : Type 0} (ActsFor : CpuId → Type 0) (table : Table 
     → Follows ActsFor table opening c (cv_plan_for mv homes c b call own at) old new (waiting_with lock waits result)
 waits_follow ActsFor table opening mv homes c b call own old new lock waits answer result (Some at) none follows same told = absurd cc
 waits_follow ActsFor table opening mv homes c b call own old new lock waits answer result None none follows same told =
-    rw (reported_left (mv.caller call) b own.waits waits lock answer result same told)
-    (follows_raised ActsFor table opening c (λ l. left_waiting (mv.caller call) b own.waits l.own l.answer) (lock_plan mv homes c b call own.lock) old new
-    (record { own = lock; answer = answer }) follows)
+    rw (reported_left (mv.caller call) b own.waits waits lock answer result same told) (follows_raised _ _ _ _
+    (λ l. left_waiting (mv.caller call) b own.waits l.own l.answer) (lock_plan mv homes c b call own.lock) _ _ (record { own = lock; answer = answer }) follows)

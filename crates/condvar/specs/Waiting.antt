@@ -1,11 +1,8 @@
 -- Which call waits, on which side, and which answer says that its caller waits now.
-use Rattle.std.specs.Prelude.{Bool, true, false, List, Option, Some, None}
-use Rattle.layer_traits.specs.{declared.conditions.CvLeave.TheVariants.Leave, declared.conditions.CvLeave.TheVariants.Wait, declared.conditions.CvOut.CvOut}
-use Rattle.layer_traits.specs.{declared.locked.QEdit.TheVariants.Acquire, declared.locked.QEdit.TheVariants.Inside, declared.locked.QEdit.TheVariants.Release}
-use Rattle.layer_traits.specs.{declared.locked.QOut.QOut, declared.locked.QOut.TheVariants.Acquired, declared.locked.QOut.TheVariants.Queued}
-use Rattle.layer_traits.specs.{declared.locked.QOut.TheVariants.Did, declared.locked.QOut.TheVariants.Released, declared.locked.Side.Side}
-use Rattle.layer_traits.specs.{declared.locked.Side.TheVariants.Receivers, declared.sleeps.Outcome.Outcome, Conditions.CvCall, CvLaw.Waiting, QLockLaw.Locking}
-use Rattle.event_log.specs.declared.ids.BufId.{BufId}
+use Rattle.{std.specs.Prelude.{Bool, true, false, List, Option, Some, None}, layer_traits.specs.declared.conditions.CvLeave.TheVariants.{Leave, Wait}}
+use Rattle.layer_traits.specs.declared.{conditions.CvOut.CvOut, locked.{QEdit.TheVariants.{Acquire, Inside, Release}, QOut.{QOut, TheVariants.Acquired}}}
+use Rattle.layer_traits.specs.declared.{locked.{QOut.TheVariants.{Queued, Did, Released}, Side.{Side, TheVariants.Receivers}}, sleeps.Outcome.Outcome}
+use Rattle.{layer_traits.specs.{Conditions.CvCall, CvLaw.Waiting, QLockLaw.Locking}, event_log.specs.declared.ids.BufId.BufId}
 use Rattle.layer_traits.specs.declared.conditions.CvOut.TheVariants as answer
 
 -- the side of a wait; Receivers of a call that is no wait

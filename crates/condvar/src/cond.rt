@@ -134,10 +134,8 @@ impl<G: Guarded, Q: ThreadLayer<QLockLaw<CvEdit<G>>>> ThreadLayer<CvLaw<G>> for 
 }
 
 impl<G: Guarded, Q: OwnedThreadLayer<QLockLaw<CvEdit<G>>>> OwnedThreadLayer<CvLaw<G>> for Cond<Q> {
-    ghost use Rattle.std.specs.Prelude.{Some, refl};
-    ghost use Rattle.event_log.specs.declared.ids.LockId.TheVariants.{Buffer};
-    ghost use Rattle.layer_traits.specs.{Conditions.cv_rules, QLockLaw.lock_kernel, QLocking.lock_after, Places.pending_by, QueueBlocks.inner};
-    ghost use Rattle.layer_traits.specs.{Queues.buffer_sections, Queues.moves_in};
+    ghost use Rattle.{std.specs.Prelude.{Some, refl}, event_log.specs.declared.ids.LockId.TheVariants.Buffer, layer_traits.specs.Conditions.cv_rules};
+    ghost use Rattle.layer_traits.specs.{QLockLaw.lock_kernel, QLocking.lock_after, Places.pending_by, QueueBlocks.inner, Queues.{buffer_sections, moves_in}};
     ghost use Rattle.layer_traits.proofs.OwnedLemmas.{shown_under};
 
     ghost block_at = { λ m b. Q.block_at m b };

@@ -1,50 +1,19 @@
 -- A message call that goes on for several steps: each poll and each look of it is a step of its CPU.
-use Rattle.std.proofs.Common.{◌≡◌, ◌++◌, ◌<◌, ◌≤◌, ◌+◌, ◌==◌, ◌&&◌, ℕ, Bool, true, false, not, List, length, Option, Some, None, option_map, is_some}
-use Rattle.std.proofs.Common.{refl, ap, sym, ◌∙◌, subst, arith, if◌then◌else◌, slice_set, vec_capacity}
-use Rattle.std.specs.List.{list_all}
-use Rattle.std.proofs.lemmas.List.{append-nil, length-set, Folds.list_all_at}
-use Rattle.event_log.specs.declared.{entries.Entry.Entry, ids.CpuId.CpuId, ids.Tid.Tid}
-use Rattle.guest.specs.{declared.instructions.Instruction.Instruction, State.State}
-use Rattle.layer_traits.specs.{declared.call_layers.CallLayer.Ghosts, declared.calls.Call.Call, declared.calls.Effect.Effect, declared.calls.ReplyKind.ReplyKind}
-use Rattle.layer_traits.specs.{declared.calls.Reply.Reply, declared.call_states.CallState.CallState, declared.steps.Reason.Reason, Places.one_if}
-use Rattle.layer_traits.specs.declared.steps.Reason.TheVariants.{AllEnded, TraceFull}
-use Rattle.layer_traits.specs.{BufferLaw.UnderWay, BufferLaw.answer_in, BufferLaw.begun_of, BufferLaw.buffer_of, BufferLaw.call_state_of, IpcLaw.ipc_plan}
-use Rattle.layer_traits.specs.{LayerPolls.IsQuietAt, LayerPolls.LookedAt, LayerPolls.PolledAt, LayerPolls.PolledOnAt, Looks.Tries, Places.Threads}
-use Rattle.layer_traits.specs.{PollRuns.PolledOn, QueueBlocks.homes_in}
-use Rattle.cpu.specs.{declared.cpus.Choice.Choice, declared.cpus.Choice.TheVariants.Polls, declared.cpus.Cpu.Cpu, declared.guests.Guest.Guest}
-use Rattle.cpu.specs.{declared.guests.GuestStage.GuestStage, declared.guests.Todo.Todo, Cpus.ActsGrow, Cpus.IsCpu, Cpus.begins, Cpus.begins_at, Cpus.begun_count}
-use Rattle.cpu.specs.{Cpus.chosen, Cpus.chosen_at, Cpus.chosen_by, Cpus.chosen_for, Cpus.chosen_todo, Cpus.fresh_at, Cpus.guest_at, Cpus.halted_at}
-use Rattle.cpu.specs.{Cpus.is_begun_guest, Cpus.is_over, Cpus.of_cpu, Cpus.of_thread, Cpus.programs_of, Cpus.reason_in, Cpus.with_guest}
-use Rattle.cpu.specs.{CpuSteps.RunsAt, CpuSteps.SteppedAt, CpuSteps.stops_at, Guests.HasComeIn, Guests.entries_of, Guests.fresh_effect, Guests.had}
-use Rattle.cpu.specs.{Guests.is_begun, Guests.is_calling, Guests.is_ended, Guests.polled, Guests.stage_after, Guests.todo_of}
-use Rattle.cpu.specs.declared.guests.GuestStage.TheVariants.{Idle, Begun, Done, Ended}
-use Rattle.cpu.proofs.{CallSteps.PolledCpu, CallSteps.PollsAt, CallSteps.noted_call, CallSteps.poll_buffer, CallSteps.poll_call_states, CallSteps.poll_within}
-use Rattle.cpu.proofs.{CallSteps.polls_at, CpuOverLayer.IsLayered, CpuOverLayer.PartLaws, CpuOverLayer.layered, GuestsFollow.had_going}
-use Rattle.cpu.proofs.{CpuOverLayer.acts_for, CpuOverLayer.left_framed, CpuOverLayer.observed_cpu, CpuOverLayer.observed_outset, CpuOverLayer.runs_home}
-use Rattle.cpu.proofs.{CpuRuns.one_run, CpuStates.valid_cpu, GuestLists.at_same, GuestLists.count_with, GuestLists.guest_within, GuestLists.programs_with, PassSteps.seen_stays}
-use Rattle.cpu.proofs.{StepsBesideGuests.called_grows, StepsBesideGuests.follows_grow, ListReads.set_twice}
-use Rattle.cpu.proofs.{StepsBesideGuests.look_grows, StepsBesideGuests.others_grow, StepsBesideGuests.others_same, TableCalls.ObservedPoll, TableCalls.call_steps}
-use Rattle.cpu.proofs.{TableCalls.call_tabled, TableCalls.hand_preserved, TableCalls.looked_steps}
-
--- what always holds of a CPU holds where its trace has more room of its own
-roomier : {homes : List CpuId} {buffers : ℕ} {seen : List Entry} {own : Threads} {call_states : List CallState} {under_way : Option UnderWay}
-    {number : CpuId} {guests : List (Option Guest)} {trace : List Entry} {limit capacity more : ℕ}
-    → IsCpu homes buffers seen own call_states under_way number guests trace limit capacity → capacity ≤ more
-    → IsCpu homes buffers seen own call_states under_way number guests trace limit more
-roomier is larger = record {
-  kept = is.kept;
-  stays = is.stays;
-  follow = is.follow;
-  over = is.over;
-  homed = is.homed;
-  named = is.named;
-  few = is.few;
-  agrees = is.agrees;
-  calls = is.calls;
-  handed = is.handed;
-  room = is.room;
-  reserved = let reserved = is.reserved in omega (arith, reserved, larger);
-}
+use Rattle.std.proofs.Common.{◌≡◌, ◌++◌, ◌<◌, ◌≤◌, ◌+◌, ◌&&◌, ℕ, Bool, true, false, not, List, length, Option, Some, None, option_map, refl, ap, sym, ◌∙◌}
+use Rattle.std.proofs.{Common.{subst, arith, if◌then◌else◌, vec_capacity}, lemmas.List.{append-nil, length-set, Folds.list_all_at}}
+use Rattle.{event_log.specs.declared.{entries.Entry.Entry, ids.{CpuId.CpuId, Tid.Tid}}, guest.specs.declared.instructions.Instruction.Instruction}
+use Rattle.{guest.specs.State.State, layer_traits.specs.declared.{call_layers.CallLayer.Ghosts, calls.{Call.Call, Effect.Effect, ReplyKind.ReplyKind}}}
+use Rattle.layer_traits.specs.{declared.{calls.Reply.Reply, call_states.CallState.CallState}, Places.one_if, BufferLaw.{answer_in, begun_of, buffer_of}}
+use Rattle.layer_traits.specs.{BufferLaw.call_state_of, IpcLaw.ipc_plan, LayerPolls.{IsQuietAt, LookedAt, PolledAt, PolledOnAt}, Looks.Tries, PollRuns.PolledOn}
+use Rattle.{layer_traits.specs.QueueBlocks.homes_in, cpu.specs.declared.{cpus.{Choice.TheVariants.Polls, Cpu.Cpu}, guests.{Guest.Guest, GuestStage.GuestStage}}}
+use Rattle.cpu.specs.{declared.guests.{GuestStage.TheVariants.Begun, Todo.Todo}, Cpus.{IsCpu, begins_at, begun_count, chosen, chosen_at, chosen_by, chosen_for}}
+use Rattle.cpu.specs.{Cpus.{chosen_todo, fresh_at, guest_at, is_begun_guest, of_cpu, of_thread, programs_of, with_guest}, CpuSteps.{RunsAt, SteppedAt}}
+use Rattle.cpu.specs.{CpuSteps.stops_at, Guests.{HasComeIn, entries_of, fresh_effect, had, is_begun, is_calling, polled, stage_after, todo_of}}
+use Rattle.cpu.proofs.{CallSteps.{PolledCpu, PollsAt, noted_call, poll_buffer, poll_call_states, poll_within, polls_at}, CpuOverLayer.{IsLayered, PartLaws}}
+use Rattle.cpu.proofs.{CpuOverLayer.{layered, acts_for, left_framed, observed_cpu, observed_outset, runs_home}, GuestsFollow.had_going, CpuRuns.one_run}
+use Rattle.cpu.proofs.{CpuStates.valid_cpu, GuestLists.{at_same, count_with, guest_within, programs_with}, PassSteps.seen_stays, StepsBesideGuests.called_grows}
+use Rattle.cpu.proofs.{StepsBesideGuests.{follows_grow, look_grows, others_grow, others_same}, ListReads.set_twice, TableCalls.{ObservedPoll, call_steps}}
+use Rattle.cpu.proofs.TableCalls.{call_tabled, hand_preserved, looked_steps}
 
 module _ {P L M : Type 0} {I : Ghosts P L M} (laws : PartLaws I) (m : M) (p : Cpu P M) (cpu : IsLayered I m p) (live : stops_at I p ≡ None) where
   -- a look that took the CPU to r, with all else of the CPU as it was
@@ -55,8 +24,7 @@ module _ {P L M : Type 0} {I : Ghosts P L M} (laws : PartLaws I) (m : M) (p : Cp
     fits = looked.framed.fits;
     is = rw (looked.homes, looked.caps, looked.threads, looked.call_states, looked.under_way, number, limit, guests)
         (subst (λ (l : List Entry). IsCpu (I.homes_of m) (length (I.caps m)) (I.seen n) (I.threads p.part) (I.call_states p.part) (I.under_way p.part)
-        p.number p.guests.items l p.limit (vec_capacity r.trace)) (sym trace) (roomier (seen_stays (valid_cpu cpu.is) (I.seen n)
-        (others_same (λ d. I.ActsFor m d) p.number (I.seen m) (I.seen n) looked.seen (acts_for cpu))) capacity));
+        p.number p.guests.items l p.limit (vec_capacity r.trace)) (sym trace) (grind (arith, seen_stays (valid_cpu cpu.is) (I.seen n) (others_same (λ d. I.ActsFor m d) p.number (I.seen m) (I.seen n) looked.seen (acts_for cpu)), capacity)));
     leaves = left_framed I m n p r cpu.number number limit looked.framed looked.caps looked.homes (ap programs_of guests) (others_grow _ _ _ _ looked.seen)
         (rw cpu.number at looked.moves)
         (λ step. look_grows (λ d. I.ActsFor m d) p.number (I.acts m) (I.acts n) true
@@ -131,8 +99,7 @@ module _ {P L M : Type 0} {I : Ghosts P L M} (laws : PartLaws I) (m : M) (p : Cp
           (ap programs_of guests_is ∙ programs_with p.guests.items t.0 _ (λ x. refl))
           (called_grows _ _ _ _ _ _ _ _ _ (rw cpu.number at (polled_so.called there)))
           (rw cpu.number at polled_so.moves)
-          (λ step. subst (λ (d : CpuId). ActsGrow (λ e. I.ActsFor m e) d (I.acts m) (I.acts n)) cpu.number
-          (follows_grow _ _ _ _ _ _ _ _ (polled_so.follows step)));
+          (λ step. rw (← cpu.number) (follows_grow _ _ _ _ _ _ _ _ (polled_so.follows step)));
       table = λ step.
           rw (polled_so.homes, polled_so.caps, polled_so.framed.stays.opening, number)
           (call_tabled (observed_cpu cpu step) _ _ (observed_outset cpu step) t call chose live (observed_poll step));
@@ -143,53 +110,15 @@ module _ {P L M : Type 0} {I : Ghosts P L M} (laws : PartLaws I) (m : M) (p : Cp
 
 fresh_after : (stage : GuestStage) (program : List Instruction) (s : State) (es : List Entry) (begun : Option Call) (effect left e : Option Effect)
     → HasComeIn stage program s es begun effect → left ≡ had begun effect → fresh_effect stage e ≡ fresh_effect (stage_after left None) e
-fresh_after Idle program s es begun effect left e f is =
-    let none : left ≡ None = is ∙ ap (λ (b : Option Call). had b effect) f.0 in
-    sym (ap (λ (l : Option Effect). fresh_effect (stage_after l None) e) none)
-fresh_after Begun program s es begun effect left e f is =
-    let none : left ≡ None = is ∙ (ap (λ (b : Option Call). had b effect) f.2 ∙ f.3) in
-    sym (ap (λ (l : Option Effect). fresh_effect (stage_after l None) e) none)
-fresh_after Done program s es begun effect left e f is =
-    let some : left ≡ Some f.1 = is ∙ (ap (λ (b : Option Call). had b effect) f.3 ∙ f.4) in
-    sym (ap (λ (l : Option Effect). fresh_effect (stage_after l None) e) some)
-fresh_after Ended program s es begun effect left e f is =
-    let none : left ≡ None = is ∙ ap (λ (b : Option Call). had b effect) f.0 in
-    sym (ap (λ (l : Option Effect). fresh_effect (stage_after l None) e) none)
-
-stale : (e : Option Effect) → fresh_effect (stage_after e None) e ≡ None
-stale None = refl
-stale (Some f) = refl
+fresh_after stage program s es begun effect left e f is = grind arith
 
 calling : (e : Option Effect) → is_calling (stage_after e None) ≡ true
-calling None = refl
-calling (Some f) = refl
-
-living : (e : Option Effect) → is_ended (stage_after e None) ≡ false
-living None = refl
-living (Some f) = refl
-
--- who is not over, and begins no call, has no reason to take no step
-never : (empty over begin full : Bool) → over ≡ false → begin ≡ false
-    → (if empty && over then Some AllEnded else (if begin && full then Some TraceFull else None)) ≡ None
-never true true begin full lives goes = absurd (cc lives)
-never false true begin full lives goes = absurd (cc lives)
-never true false true full lives goes = absurd (cc goes)
-never false false true full lives goes = absurd (cc goes)
-never true false false full lives goes = refl
-never false false false full lives goes = refl
-
-never_in : (inside : Bool) (reason : Option Reason) → reason ≡ None → reason_in inside reason ≡ None
-never_in true reason none = refl
-never_in false reason none = none
+calling e = grind arith
 
 -- what was changed twice is as the second change leaves it
 with_twice : (guests : List (Option Guest)) (t : ℕ) (f h : Guest → Guest) (g : Guest) → guest_at guests t ≡ Some g → h (f g) ≡ h g
     → with_guest guests t h ≡ with_guest (with_guest guests t f) t h
-with_twice guests t f h g at same =
-    ap (λ (o : Option Guest). slice_set guests t (option_map h o)) at
-    ∙ (ap (λ (x : Guest). slice_set guests t (Some x)) (sym same)
-    ∙ (sym (set_twice guests t (option_map f (guest_at guests t)) (Some (h (f g))))
-    ∙ ap (λ (o : Option Guest). slice_set (with_guest guests t f) t (option_map h o)) (sym (at_same guests t f g at))))
+with_twice guests t f h g at same = grind (arith, set_twice, at_same)
 
 -- after a step the CPU and its machine agree again
 stepped_layered : {P L M : Type 0} {I : Ghosts P L M} {m n : M} {p q : Cpu P M} → PartLaws I → SteppedAt I m p n q → IsLayered I n q
@@ -237,18 +166,8 @@ module _ {P L M : Type 0} {I : Ghosts P L M} (laws : PartLaws I) (m : M) (p : Cp
     begins_between : begins_at (guest_at (between q).guests.items t.0) ≡ false
     begins_between = ap begins_at guest_between ∙ ap not (calling (had_in q))
 
-    lives_between : list_all is_over (between q).guests.items ≡ false
-    lives_between =
-        list_all_at is_over (between q).guests.items t.0 None (guest_within (between q).guests.items t.0 (polled polls.guest (had_in q) None) guest_between)
-        (ap is_over guest_between ∙ living (had_in q))
-
     live_between : stops_at I (between q) ≡ None
-    live_between =
-        never_in (I.is_inside q) (halted_at (I.threads q) (between q).guests.items p.trace.items p.limit)
-        (never (not (is_some (I.threads q).hand)) (list_all is_over (between q).guests.items)
-        (begins (chosen (I.threads q) (between q).guests.items) (between q).guests.items)
-        (length p.trace.items + begun_count (between q).guests.items == p.limit) lives_between
-        (ap (λ (c : Choice). begins c (between q).guests.items) chose_between ∙ begins_between))
+    live_between = grind (arith, chose_between, begins_between, list_all_at, guest_within, guest_between)
 
     free_between : begins_at (guest_at (between q).guests.items t.0) ≡ true
         → length p.trace.items + begun_count (between q).guests.items < p.limit
@@ -257,19 +176,14 @@ module _ {P L M : Type 0} {I : Ghosts P L M} (laws : PartLaws I) (m : M) (p : Cp
     fresh_same : (e : Option Effect) → fresh_at (guest_at p.guests.items t.0) e ≡ fresh_at (guest_at (between q).guests.items t.0) e
     fresh_same e =
         let state = call_state_of (I.call_states p.part) t in
-        let follows = cpu.is.follow t polls.guest polls.at in
-        let left : had_in q ≡ had (begun_of state) state.effect = quiet.effect
-        ∙ had_going state call (poll_call_states (valid_cpu cpu.is) t call chose) in
+        let left = quiet.effect ∙ had_going state call (poll_call_states (valid_cpu cpu.is) t call chose) in
         ap (λ (o : Option Guest). fresh_at o e) polls.at
         ∙ (fresh_after polls.guest.stage polls.guest.program polls.guest.thread (of_thread t.0 (of_cpu p.number (I.seen m))) (begun_of state) state.effect
-        (had_in q) e follows.1 left
+        (had_in q) e (cpu.is.follow t polls.guest polls.at).1 left
         ∙ sym (ap (λ (o : Option Guest). fresh_at o e) guest_between))
 
     trace_between : p.trace.items ≡ p.trace.items ++ entries_of p.number t (buffer_of call) (fresh_at (guest_at p.guests.items t.0) (had_in q))
-    trace_between =
-        let none : fresh_at (guest_at p.guests.items t.0) (had_in q) ≡ None = fresh_same (had_in q)
-        ∙ (ap (λ (o : Option Guest). fresh_at o (had_in q)) guest_between ∙ stale (had_in q)) in
-        sym (append-nil p.trace.items) ∙ ap (λ (f : Option Effect). p.trace.items ++ entries_of p.number t (buffer_of call) f) (sym none)
+    trace_between = grind (arith, fresh_same, guest_between, append-nil)
 
     guests_between : (e : Option Effect) (a : Option Reply)
         → with_guest p.guests.items t.0 (λ g. polled g e a) ≡ with_guest (between q).guests.items t.0 (λ g. polled g e a)
@@ -303,28 +217,9 @@ module _ {P L M : Type 0} {I : Ghosts P L M} (laws : PartLaws I) (m : M) (p : Cp
   pub fresh_room : (e : Option Effect) (f : Effect) → fresh_at (guest_at p.guests.items t.0) e ≡ Some f → length p.trace.items < vec_capacity p.trace
   fresh_room e f some = go polls.guest.stage refl (sym (ap (λ (o : Option Guest). fresh_at o e) polls.at) ∙ some)
     where
-      unbegun : (s : GuestStage) → polls.guest.stage ≡ s → not (is_calling s) ≡ true → length p.trace.items < vec_capacity p.trace
-      unbegun s is none =
-          let space = free (ap begins_at polls.at ∙ (ap (λ (x : GuestStage). not (is_calling x)) is ∙ none)) in
-          let reserved = cpu.is.reserved in
-          omega (arith, space, reserved)
-
       go : (s : GuestStage) → polls.guest.stage ≡ s → fresh_effect s e ≡ Some f → length p.trace.items < vec_capacity p.trace
-      go Idle is had = unbegun Idle is refl
       go Begun is had =
-          let counted : begun_count (slice_set p.guests.items t.0 None) + one_if (is_begun_guest (guest_at p.guests.items t.0))
-          ≡ begun_count p.guests.items + 0 = count_with p.guests.items t.0 None (poll_within (valid_cpu cpu.is) t call chose) in
-          let one : one_if (is_begun_guest (guest_at p.guests.items t.0)) ≡ 1 = ap (λ (o : Option Guest). one_if (is_begun_guest o)) polls.at
-          ∙ ap (λ (x : GuestStage). one_if (is_begun x)) is in
-          let room = cpu.is.room in
-          let reserved = cpu.is.reserved in
-          omega (arith, counted, one, room, reserved)
-      go Done is had = absurd (cc had)
-      go Ended is had = unbegun Ended is refl
-
--- a run of a call has a step
-pub polled_some : {P L M : Type 0} (I : Ghosts P L M) (t : Tid) (call : Call) {p : P} {m : M} {k : ℕ} {q : P} {n : M} {told : Option ReplyKind}
-    → PolledOnAt I ipc_plan t call p m k q n told → 0 < k
-polled_some I t call (PolledOn.once one) = omega arith
-polled_some I t call (PolledOn.again on quiet last) = omega arith
-polled_some I t call (PolledOn.looks on quiet last) = omega arith
+          let counted = count_with p.guests.items t.0 None (poll_within (valid_cpu cpu.is) t call chose) in
+          let one = ap (λ (o : Option Guest). one_if (is_begun_guest o)) polls.at ∙ ap (λ (x : GuestStage). one_if (is_begun x)) is in
+          omega (arith, counted, one, cpu.is.room, cpu.is.reserved)
+      go s is had = grind (arith, is)

@@ -1,23 +1,15 @@
 -- One poll of a call: what it needs, and that the CPU's invariant holds after it.
-use Rattle.std.proofs.Common.{◌≡◌, ◌≢◌, ◌⊎◌, inl, inr, ℕ, ◌+◌, ◌<◌, ◌≤◌, Bool, true, false, not, List, [], ◌∷◌, ◌++◌, length, Option, Some, None, option_map}
-use Rattle.std.proofs.Common.{nat_lt, refl, ap, sym, ◌∙◌, subst, arith, reverse, slice_set}
-use Rattle.std.proofs.lemmas.{Bool.cases_eq, Bool.ltb-true, List.length-append, List.length-set}
-use Rattle.std.specs.List.{AllByRecursion}
-use Rattle.event_log.specs.declared.{entries.Entry.Entry, ids.BufId.BufId, ids.CpuId.CpuId, ids.Tid.Tid, ids.TheConstants.THREADS}
-use Rattle.thread_blocks.specs.Queues.{is_in}
-use Rattle.guest.specs.{declared.instructions.Instruction.Instruction, Instructions.names_below, State.State, State.next_of}
-use Rattle.layer_traits.specs.declared.calls.{Call.Call, Call.TheVariants.Send, Call.TheVariants.Recv, Call.TheVariants.Close, Effect.Effect, Reply.Reply}
-use Rattle.layer_traits.specs.{declared.call_states.CallState.CallState, Places.Threads, Places.home_of, Places.one_if}
-use Rattle.layer_traits.specs.BufferLaw.{Called, Calling, UnderWay, MayPollCall, RunsOn, begun_of, buffer_of, still_calling, call_state_of}
-use Rattle.cpu.specs.{declared.cpus.Choice.TheVariants.Polls, declared.guests.Guest.Guest, declared.guests.GuestStage.GuestStage, declared.guests.Todo.Todo}
-use Rattle.cpu.specs.{declared.guests.Todo.TheVariants.Finish, declared.guests.Todo.TheVariants.Calls, Cpus.AllFollow, Cpus.AreOver, Cpus.IsCpu, Cpus.IsOfHome}
-use Rattle.cpu.specs.{Cpus.NamesBelow, Cpus.begins_at, Cpus.begun_count, Cpus.is_begun_guest, Cpus.chosen, Cpus.chosen_at, Cpus.chosen_by, Cpus.chosen_for}
-use Rattle.cpu.specs.{Cpus.chosen_idle, Cpus.chosen_todo, Cpus.under_way_of, Cpus.fresh_at, Cpus.guest_at, Cpus.of_cpu, Cpus.of_thread, Cpus.with_guest}
-use Rattle.cpu.specs.declared.guests.GuestStage.TheVariants.{Idle, Begun, Done, Ended}
-use Rattle.cpu.specs.Guests.{HasCome, HasComeIn, entries_of, fresh_effect, had, is_begun, is_calling, is_ended, polled, stage_after, todo_at, todo_of}
-use Rattle.cpu.proofs.{CpuStates.ValidCpu, GuestsFollow.answered_by, GuestsFollow.followed, GuestsFollow.had_going, GuestsFollow.may_poll_call, GuestsFollow.stays_settled}
-use Rattle.cpu.proofs.GuestLists.{at_other, at_same, count_with, cpu_grown, guest_within, reversed, room_kept, thread_other, thread_same}
-use Rattle.guest.specs.declared.instructions.Instruction.TheVariants as ins
+use Rattle.std.proofs.{lemmas.{Bool.{eq-eqb, ne_eqb, cases_eq, ltb-true}, List.{length-append, length-set}}, Common.{◌≡◌, ◌≢◌, ◌⊎◌, inl, inr, ℕ, ◌+◌, ◌<◌, ◌≤◌}}
+use Rattle.std.proofs.Common.{Bool, true, false, not, List, ◌++◌, length, Option, Some, None, option_map, refl, ap, sym, ◌∙◌, subst, arith, reverse, slice_set}
+use Rattle.{std.specs.List.AllByRecursion, event_log.specs.declared.{entries.Entry.Entry, ids.{CpuId.CpuId, Tid.Tid, TheConstants.THREADS}}}
+use Rattle.{thread_blocks.specs.Queues.is_in, guest.specs.State.next_of, layer_traits.specs.declared.calls.{Call.Call, Effect.Effect, Reply.Reply}}
+use Rattle.layer_traits.specs.{declared.call_states.CallState.CallState, Places.{Threads, home_of, one_if}, BufferLaw.{Called, Calling, UnderWay, MayPollCall}}
+use Rattle.{layer_traits.specs.BufferLaw.{RunsOn, begun_of, buffer_of, still_calling, call_state_of}, cpu.specs.declared.cpus.Choice.TheVariants.Polls}
+use Rattle.cpu.specs.{declared.guests.{Guest.Guest, Todo.{Todo, TheVariants.Calls}, GuestStage.TheVariants.Done}, Cpus.{AllFollow, AreOver, IsCpu, IsOfHome}}
+use Rattle.cpu.specs.Cpus.{begins_at, begun_count, is_begun_guest, chosen, chosen_at, chosen_by, chosen_for, chosen_todo, under_way_of, fresh_at, guest_at}
+use Rattle.cpu.specs.{Cpus.{of_cpu, of_thread, with_guest}, Guests.{HasCome, HasComeIn, entries_of, fresh_effect, is_begun, is_calling, is_ended, polled}}
+use Rattle.cpu.{specs.Guests.{stage_after, todo_of}, proofs.GuestLists.{with_each, at_other, at_same, count_with, cpu_grown, guest_within, reversed, room_kept}}
+use Rattle.cpu.proofs.{CpuStates.ValidCpu, GuestsFollow.{answered_by, followed, had_going, may_poll_call, stays_settled}}
 
 -- what a chosen poll tells: its thread runs, and its guest asks for the call
 pub record PollsAt (own : Threads) (guests : List (Option Guest)) (t : Tid) (c : Call) : Type 0 where
@@ -35,9 +27,8 @@ todo_polls u t (Calls d) c is = record { same = cc is; asks = cc is }
 todo_polls u t other c is = absurd (cc is)
 
 by_polls : (u t : Tid) (calling : Bool) (hand : Option Tid) (todo : Todo) (c : Call) → chosen_by u calling hand todo ≡ Polls t c → TodoIs u t todo c
-by_polls u t true hand todo c is = todo_polls u t todo c is
-by_polls u t false None todo c is = todo_polls u t todo c is
 by_polls u t false (Some s) todo c is = absurd (cc is)
+by_polls u t calling hand todo c is = todo_polls u t todo c is
 
 for_polls : (own : Threads) (guests : List (Option Guest)) (u t : Tid) (hand : Option Tid) (o : Option Guest) (c : Call) → own.current ≡ Some u
     → guest_at guests u.0 ≡ o → chosen_for u hand o ≡ Polls t c → PollsAt own guests t c
@@ -51,47 +42,16 @@ for_polls own guests u t hand (Some g) c runs at is =
       asks = asks.asks;
     }
 
-idle_polls : (hand : Option Tid) (ready : List Tid) (t : Tid) (c : Call) → chosen_idle hand ready ≡ Polls t c → ⊥
-idle_polls (Some s) ready t c is = absurd (cc is)
-idle_polls None [] t c is = absurd (cc is)
-idle_polls None (x ∷ ready) t c is = absurd (cc is)
-
 pub polls_is : (own : Threads) (guests : List (Option Guest)) (t : Tid) (c : Call) → chosen own guests ≡ Polls t c → PollsAt own guests t c
 polls_is own guests t c is = go own.current refl is
   where
     go : (current : Option Tid) → own.current ≡ current → chosen_at current own.hand own.ready guests ≡ Polls t c → PollsAt own guests t c
-    go None runs chose = absurd (idle_polls own.hand own.ready t c chose)
+    go None runs chose = absurd (grind (arith, chose))
     go (Some u) runs chose = for_polls own guests u t own.hand (guest_at guests u.0) c runs refl chose
 
 -- a guest that asks for a call has not ended
 asks_lives : (g : Guest) (es : List Entry) (call_state : CallState) (c : Call) → HasCome g es call_state → todo_of g ≡ Calls c → is_ended g.stage ≡ false
-asks_lives g es call_state c follows asks = go g.stage follows.1
-  where
-    go : (stage : GuestStage) → HasComeIn stage g.program g.thread es (begun_of call_state) call_state.effect → is_ended stage ≡ false
-    go Idle f = refl
-    go Begun f = refl
-    go Done f = refl
-    go Ended f =
-        let none : Finish ≡ Calls c = sym (ap (λ (i : Instruction). todo_at g.thread i) f.2) ∙ asks in
-        absurd (cc none)
-
-begun_for : (g : Guest) (es : List Entry) (call_state : CallState) (c : Call) → HasCome g es call_state → todo_of g ≡ Calls c
-    → (begun_of call_state ≡ None) ⊎ (begun_of call_state ≡ Some c)
-begun_for g es call_state c follows asks = go g.stage follows.1
-  where
-    go : (stage : GuestStage) → HasComeIn stage g.program g.thread es (begun_of call_state) call_state.effect
-        → (begun_of call_state ≡ None) ⊎ (begun_of call_state ≡ Some c)
-    go Begun f = let same : f.0 ≡ c = cc (f.1, asks) in inr (f.2 ∙ ap (λ (x : Call). Some x) same)
-    go Done f = let same : f.0 ≡ c = cc (f.2, asks) in inr (f.3 ∙ ap (λ (x : Call). Some x) same)
-    go stage f = inl f.0
-
--- the buffer of a call that an instruction asks for
-named_buffer : (i : Instruction) (s : State) (c : Call) (buffers : ℕ) → todo_at s i ≡ Calls c → names_below buffers i ≡ true
-    → nat_lt (buffer_of c).0 buffers ≡ true
-named_buffer (ins.Send b r k) s (Send q m) buffers asks named = let same : b ≡ q = cc asks in subst (λ (x : BufId). nat_lt x.0 buffers ≡ true) same named
-named_buffer (ins.Recv b r k) s (Recv q) buffers asks named = let same : b ≡ q = cc asks in subst (λ (x : BufId). nat_lt x.0 buffers ≡ true) same named
-named_buffer (ins.Close b) s (Close q) buffers asks named = let same : b ≡ q = cc asks in subst (λ (x : BufId). nat_lt x.0 buffers ≡ true) same named
-named_buffer other s rest buffers asks named = absurd cc
+asks_lives g es call_state c follows asks = grind arith
 
 -- what one poll of a call leaves of a CPU, for whom the machine's holder acts
 pub record PolledCpu (ActsFor : CpuId → Type 0) (cpu : ValidCpu) (t : Tid) (c : Call) : Type 0 where
@@ -126,12 +86,11 @@ module _ (cpu : ValidCpu) (t : Tid) (c : Call) (chose : chosen cpu.own cpu.guest
   -- what the poll asks for
   pub poll_call_states : MayPollCall (call_state_of call_states t) c
   poll_call_states = may_poll_call (call_state_of call_states t) c follows_at.0
-      (begun_for polls_at.guest (of_thread t.0 (of_cpu number seen)) (call_state_of call_states t) c follows_at polls_at.asks)
+      (grind (arith, follows_at, polls_at.asks))
 
   pub poll_buffer : (buffer_of c).0 < buffers
   poll_buffer = ltb-true (buffer_of c).0 buffers
-      (named_buffer (next_of polls_at.guest.program polls_at.guest.thread) polls_at.guest.thread c buffers polls_at.asks
-      (is.named t polls_at.guest polls_at.at polls_at.guest.thread.line))
+      (grind (arith, polls_at.asks, is.named t polls_at.guest polls_at.at polls_at.guest.thread.line))
 
   pub poll_within : t.0 < length guests
   poll_within = guest_within guests t.0 polls_at.guest polls_at.at
@@ -177,17 +136,11 @@ module _ (cpu : ValidCpu) (t : Tid) (c : Call) (chose : chosen cpu.own cpu.guest
         (λ f mine. let of_call = called.fresh f mine in (sym goes ∙ of_call.0, of_call.1, of_call.2))
         (λ none. called.stays none ∙ goes) (answered_by c (call_state_of states2 t) answer called.answers)
 
-    seen_is : seen2 ≡ new ++ (called.others ++ seen)
-    seen_is = called.is ∙ ap (λ (x : Option Effect). entries_of number t (buffer_of c) x ++ (called.others ++ seen)) follow_t.0
-
     mine_is : of_cpu number seen2 ≡ new ++ of_cpu number seen
-    mine_is = ap (λ (l : List Entry). of_cpu number l) seen_is ∙ cpu_grown ActsFor number t (buffer_of c) fresh called.others seen called.foreign acts
-
-    fresh_is : fresh_at (guest_at guests t.0) left ≡ fresh
-    fresh_is = ap (λ (o : Option Guest). fresh_at o left) polls_at.at
+    mine_is = ap (λ (l : List Entry). of_cpu number l) (called.is ∙ ap (λ (x : Option Effect). entries_of number t (buffer_of c) x ++ (called.others ++ seen)) follow_t.0) ∙ cpu_grown ActsFor number t (buffer_of c) fresh called.others seen called.foreign acts
 
     trace_new : trace2 ≡ trace ++ new
-    trace_new = trace_is ∙ ap (λ (x : Option Effect). trace ++ entries_of number t (buffer_of c) x) fresh_is
+    trace_new = trace_is ∙ ap (λ (x : Option Effect). trace ++ entries_of number t (buffer_of c) x) (ap (λ (o : Option Guest). fresh_at o left) polls_at.at)
 
     guest_new : guest_at guests2 t.0 ≡ Some next
     guest_new = ap (λ (l : List (Option Guest)). guest_at l t.0) guests_is ∙ at_same guests t.0 (λ x. polled x left answer) g polls_at.at
@@ -195,49 +148,31 @@ module _ (cpu : ValidCpu) (t : Tid) (c : Call) (chose : chosen cpu.own cpu.guest
     guest_other : (u : ℕ) → u ≢ t.0 → guest_at guests2 u ≡ guest_at guests u
     guest_other u other = ap (λ (l : List (Option Guest)). guest_at l u) guests_is ∙ at_other guests t.0 u (λ x. polled x left answer) other
 
-    -- what holds of each guest, from what holds of the changed one and of the others
-    each : (P : ℕ → Guest → Type 0) → P t.0 next → ((u : ℕ) (x : Guest) → u ≢ t.0 → guest_at guests u ≡ Some x → P u x)
-        → (u : ℕ) (x : Guest) → guest_at guests2 u ≡ Some x → P u x
-    each P here there u x at = go (cases_eq u t.0)
-      where
-        go : (u ≡ t.0) ⊎ (u ≡ t.0 → ⊥) → P u x
-        go (inl same) =
-            let there : guest_at guests2 u ≡ Some next = subst (λ (k : ℕ). guest_at guests2 k ≡ Some next) (sym same) guest_new in
-            let equal : next ≡ x = cc (at, there) in
-            subst (λ (k : ℕ). P k x) (sym same) (subst (λ (y : Guest). P t.0 y) equal here)
-        go (inr other) = there u x other (sym (guest_other u other) ∙ at)
-
     kept_new : trace2 ≡ reverse (of_cpu number seen2)
     kept_new = trace_new ∙ reversed number t (buffer_of c) fresh (of_cpu number seen) trace is.kept ∙ ap (λ (l : List Entry). reverse l) (sym mine_is)
 
-    stays_with : (f : Option Effect) → AllByRecursion (IsOfHome homes number) (entries_of number t (buffer_of c) f ++ of_cpu number seen)
-    stays_with None = is.stays
-    stays_with (Some f) = (record { cpu = refl; home = home }, is.stays)
-
     follow_new : AllFollow guests2 (of_cpu number seen2) states2
     follow_new = λ (u : Tid) (x : Guest) at. subst (λ (l : List Entry). HasCome x (of_thread u.0 l) (call_state_of states2 u)) (sym mine_is)
-        (each (λ (k : ℕ) (y : Guest). HasCome y (of_thread k (new ++ of_cpu number seen)) (call_state_of states2 (record { 0 = k }))) (
+        (with_each guests guests2 t.0 next guest_new guest_other (λ (k : ℕ) (y : Guest). HasCome y (of_thread k (new ++ of_cpu number seen)) (call_state_of states2 (record { 0 = k }))) (
           stays_settled c (call_state_of states2 t) answer called.answers,
           subst (λ (l : List Entry). HasComeIn next.stage g.program next.thread l (begun_of (call_state_of states2 t)) left)
-              (sym (thread_same number t (buffer_of c) fresh (of_cpu number seen) t.0 refl)) follow_t.1,
+              (sym (grind (arith, eq-eqb))) follow_t.1,
         )
         (λ k y other there.
         subst (λ (l : List Entry). HasCome y l (call_state_of states2 (record { 0 = k })))
-        (sym (thread_other number t (buffer_of c) fresh (of_cpu number seen) k other))
+        (sym (grind (arith, ne_eqb, other)))
         (subst (λ (call_state : CallState). HasCome y (of_thread k (of_cpu number seen)) call_state) (sym (called.apart (record { 0 = k }) other))
         (is.follow (record { 0 = k }) y there)))
         u.0 x at)
 
     over_new : AreOver guests2 own2.ended
     over_new = λ (u : Tid) ended (x : Guest) at.
-        let before : is_in u own.ended ≡ true = subst (λ (l : List Tid). is_in u l ≡ true) runs_on.ended ended in
-        each (λ (k : ℕ) (y : Guest). is_in (record { 0 = k }) own.ended ≡ true → is_ended y.stage ≡ true)
+        with_each guests guests2 t.0 next guest_new guest_other (λ (k : ℕ) (y : Guest). is_in (record { 0 = k }) own.ended ≡ true → is_ended y.stage ≡ true)
         (λ over.
-        let yes = is.over t over g polls_at.at in
         let no = asks_lives g (of_thread t.0 (of_cpu number seen)) (call_state_of call_states t) c follows_at polls_at.asks in
-        absurd (cc (yes, no)))
+        absurd (cc (is.over t over g polls_at.at, no)))
         (λ k y other there over. is.over (record { 0 = k }) over y there)
-        u.0 x at before
+        u.0 x at (subst (λ (l : List Tid). is_in u l ≡ true) runs_on.ended ended)
 
     homed_new : (u : Tid) → home_of homes u ≡ Some number → (x : Guest) × (guest_at guests2 u.0 ≡ Some x)
     homed_new u at = go (cases_eq u.0 t.0)
@@ -246,17 +181,9 @@ module _ (cpu : ValidCpu) (t : Tid) (c : Call) (chose : chosen cpu.own cpu.guest
         go (inl same) = (next, subst (λ (k : ℕ). guest_at guests2 k ≡ Some next) (sym same) guest_new)
         go (inr other) = let there = is.homed u at in (there.0, guest_other u.0 other ∙ there.1)
 
-    few_new : length guests2 ≤ THREADS
-    few_new =
-        let same : length guests2 ≡ length guests = ap (λ (l : List (Option Guest)). length l) guests_is
-        ∙ length-set guests t.0 (option_map (λ (x : Guest). polled x left answer) (guest_at guests t.0)) in
-        let few = is.few in
-        omega (arith, same, few)
-
     -- the call goes on
     calling_none : (f : Option Effect) → is_calling (stage_after f None) ≡ true
-    calling_none None = refl
-    calling_none (Some f) = refl
+    calling_none f = grind arith
 
     agrees_new : (d : UnderWay) → under_way2 ≡ Some d → under_way_of (chosen own2 guests2) ≡ Some d
     agrees_new d at = go answer own2.current refl refl (sym under_way_is ∙ at)
@@ -266,80 +193,36 @@ module _ (cpu : ValidCpu) (t : Tid) (c : Call) (chose : chosen cpu.own cpu.guest
         go (Some r) None told runs still = absurd (cc still)
         go (Some r) (Some u) told runs still = absurd (cc still)
         go None None told runs still = absurd (cc still)
-        go None (Some u) told runs still =
-            let same : u ≡ t = goes_on u runs runs_on.current in
-            let there : guest_at guests2 u.0 ≡ Some (polled g left None) =
-            subst (λ (x : Tid). guest_at guests2 x.0 ≡ Some (polled g left None)) (sym same)
-            (guest_new ∙ ap (λ (a : Option Reply). Some (polled g left a)) told) in
-            let polls : chosen own2 guests2 ≡ Polls u c =
-            ap (λ (x : Option Tid). chosen_at x own2.hand own2.ready guests2) runs
-            ∙ (ap (λ (o : Option Guest). chosen_for u own2.hand o) there
-            ∙ (ap (λ (b : Bool). chosen_by u b own2.hand (todo_of g)) (calling_none left)
-            ∙ ap (λ (todo : Todo). chosen_todo u todo) polls_at.asks)) in
-            ap under_way_of polls ∙ (ap (λ (x : Tid). Some (Calling x)) same ∙ still_is u still)
-          where
-            goes_on : (u : Tid) → own2.current ≡ Some u → (own2.current ≡ Some t) ⊎ ((own2.current ≡ None) × (answer ≡ None)) → u ≡ t
-            goes_on u runs (inl same) = cc (runs, same)
-            goes_on u runs (inr none) = absurd (cc (runs, none.0))
-
-            still_is : (u : Tid) → still_calling t (Some u) None ≡ Some d → Some (Calling t) ≡ Some d
-            still_is u still = still
+        go None (Some u) told runs still = grind (arith, runs_on, guest_new, calling_none)
 
     calls_new : (u : Tid) (x : Guest) → under_way2 ≡ Some (Calling u) → guest_at guests2 u.0 ≡ Some x → is_calling x.stage ≡ true
-    calls_new u x at there = go answer own2.current refl (sym under_way_is ∙ at)
-      where
-        go : (a : Option Reply) (current : Option Tid) → answer ≡ a → still_calling t current a ≡ Some (Calling u) → is_calling x.stage ≡ true
-        go (Some r) None told still = absurd (cc still)
-        go (Some r) (Some v) told still = absurd (cc still)
-        go None None told still = absurd (cc still)
-        go None (Some v) told still =
-            let same : t ≡ u = cc still in
-            let here : guest_at guests2 t.0 ≡ Some x = subst (λ (k : Tid). guest_at guests2 k.0 ≡ Some x) (sym same) there in
-            let equal : next ≡ x = cc (guest_new, here) in
-            ap (λ (y : Guest). is_calling y.stage) (sym equal) ∙ (ap (λ (a : Option Reply). is_calling (stage_after left a)) told ∙ calling_none left)
+    calls_new u x at there = grind (arith, under_way_is, guest_new, calling_none)
 
     handed_new : (u : Tid) → own2.current ≡ Some u → under_way2 ≡ None → own2.hand ≡ None
-    handed_new u runs none = go answer refl (ap (λ (x : Option Tid). still_calling t x answer) (sym runs) ∙ (sym under_way_is ∙ none))
-      where
-        go : (a : Option Reply) → answer ≡ a → still_calling t (Some u) a ≡ None → own2.hand ≡ None
-        go None told still = absurd (cc still)
-        go (Some r) told still = runs_on.hand r told
+    handed_new u runs none = grind (arith, under_way_is, runs_on)
 
     room_new : length trace2 + begun_count guests2 ≤ limit
     room_new =
-        let counted : begun_count guests2 + one_if (is_begun g.stage) ≡ begun_count guests + one_if (is_begun next.stage) =
-        ap (λ (l : List (Option Guest)). begun_count l + one_if (is_begun g.stage))
+        let counted = ap (λ (l : List (Option Guest)). begun_count l + one_if (is_begun g.stage))
         (guests_is ∙ ap (λ (o : Option Guest). slice_set guests t.0 (option_map (λ (x : Guest). polled x left answer) o)) polls_at.at)
         ∙ (ap (λ (o : Option Guest). begun_count (slice_set guests t.0 (Some next)) + one_if (is_begun_guest o)) (sym polls_at.at)
         ∙ count_with guests t.0 (Some next) poll_within) in
-        let long : length trace2 ≡ length trace + length new = ap (λ (l : List Entry). length l) trace_new ∙ length-append trace new in
         let kept = room_kept g.stage left answer number t (buffer_of c) (length trace) (begun_count guests) (begun_count guests2) limit counted is.room
         (λ (free : not (is_calling g.stage) ≡ true). strict (ap begins_at polls_at.at ∙ free)) (λ done. has_had done) in
-        omega (arith, long, kept)
+        omega (arith, ap (λ (l : List Entry). length l) trace_new ∙ length-append trace new, kept)
       where
         has_had : g.stage ≡ Done → left ≢ None
-        has_had done none =
-            let stale : called.mine ≡ None = follow_t.0 ∙ ap (λ (s : GuestStage). fresh_effect s left) done in
-            let stays : left ≡ had (begun_of (call_state_of call_states t)) (call_state_of call_states t).effect = called.stays stale
-            ∙ had_going (call_state_of call_states t) c poll_call_states in
-            let before : HasComeIn Done g.program g.thread (of_thread t.0 (of_cpu number seen)) (begun_of (call_state_of call_states t))
-            (call_state_of call_states t).effect =
-            subst (λ (s : GuestStage). HasComeIn s g.program g.thread (of_thread t.0 (of_cpu number seen)) (begun_of (call_state_of call_states t))
-            (call_state_of call_states t).effect) done follows_at.1 in
-            let some : had (begun_of (call_state_of call_states t)) (call_state_of call_states t).effect ≡ (call_state_of call_states t).effect = ap
-            (λ (x : Option Call). had x (call_state_of call_states t).effect) before.3 in
-            absurd (cc (none, stays, some, before.4))
+        has_had done none = grind (arith, follow_t, had_going, poll_call_states, follows_at)
 
     pub noted_call : IsCpu homes buffers seen2 own2 states2 under_way2 number guests2 trace2 limit capacity2
     noted_call = record {
       kept = kept_new;
-      stays = subst (λ (l : List Entry). AllByRecursion (IsOfHome homes number) l) (sym mine_is) (stays_with fresh);
+      stays = subst (λ (l : List Entry). AllByRecursion (IsOfHome homes number) l) (sym mine_is) (grind (arith, home));
       follow = follow_new;
       over = over_new;
       homed = homed_new;
-      named = λ (u : Tid) (x : Guest) at. each (λ (k : ℕ) (y : Guest). NamesBelow buffers y.program) (is.named t g polls_at.at)
-          (λ k y other there. is.named (record { 0 = k }) y there) u.0 x at;
-      few = few_new;
+      named = λ (u : Tid) (x : Guest) at. grind (arith, guest_new, guest_other, at);
+      few = grind (arith, guests_is, length-set);
       agrees = agrees_new;
       calls = calls_new;
       handed = handed_new;

@@ -1,13 +1,11 @@
 -- A CPU over a layer of message calls, by what the layer's laws say of its part, as the lemmas about its steps take it.
-use Rattle.std.proofs.Common.{◌≡◌, false, Some, None, ap, ◌∙◌, subst, refl, arith}
-use Rattle.event_log.specs.{declared.ids.CpuId.CpuId, declared.ids.Tid.Tid, Actions.phase}
-use Rattle.layer_traits.specs.{contracts.call_layers.CallLayer.TheBound.Met, declared.call_layers.CallLaw.Ghosts as LawGhosts}
-use Rattle.layer_traits.specs.{declared.call_layers.CallLayer.Ghosts, BufferLaw.MovesGrow, Framed.Framed, Places.AreMoves, Places.Stands, Places.home_of, Plans.is_in_section}
-use Rattle.layer_traits.specs.QueueBlocks.{homes_in}
-use Rattle.layer_traits.proofs.PlaceLemmas.{current_at}
-use Rattle.cpu.specs.{declared.cpus.Cpu.Cpu, Cpus.ActsGrow, Cpus.SeenGrows, Cpus.programs_of, CpuSteps.IsCpuAt, CpuSteps.IsTabledAt, CpuSteps.Leaves, Tower.Privates.threads_in}
-use Rattle.cpu.proofs.{CpuStates.valid_cpu, StepsBesideGuests.none_grow, StepsBesideGuests.none_moved, StepsBesideGuests.none_seen, TableCalls.ObservedCpu, TableCalls.ObservedOutset}
-use Rattle.cpu.proofs.{TableCalls.hand_known}
+use Rattle.std.proofs.Common.{◌≡◌, ◌<◌, length, false, Some, None, ap, ◌∙◌, subst, refl, arith}
+use Rattle.{event_log.specs.{declared.ids.{CpuId.CpuId, Tid.Tid}, Actions.phase}, layer_traits.specs.contracts.call_layers.CallLayer.TheBound.Met}
+use Rattle.layer_traits.specs.{declared.call_layers.{CallLaw.Ghosts as LawGhosts, CallLayer.Ghosts}, BufferLaw.MovesGrow, Framed.Framed, Places.AreMoves}
+use Rattle.layer_traits.{specs.{Places.{Stands, home_of}, Plans.is_in_section, QueueBlocks.homes_in}, proofs.PlaceLemmas.current_at}
+use Rattle.cpu.specs.{declared.cpus.Cpu.Cpu, Cpus.{ActsGrow, SeenGrows, programs_of}, CpuSteps.{IsCpuAt, IsTabledAt, Leaves}, Tower.Privates.threads_in}
+use Rattle.cpu.proofs.{PassSteps.current_within, CpuStates.valid_cpu, StepsBesideGuests.{none_grow, none_moved, none_seen}, TableCalls.ObservedCpu}
+use Rattle.cpu.proofs.TableCalls.{ObservedOutset, hand_known}
 use borrow.Fn.World.{World}
 use denote.RattleType.{RattleType}
 use mir.Syntax.{Dict}
@@ -51,26 +49,16 @@ laws_of law = record {
 -- a CPU whose part fits the machine
 pub layered : {P L M : Type 0} {I : Ghosts P L M} (laws : PartLaws I) (m : M) (p : Cpu P M) → I.Fits p.part m → I.cpu_of p.part ≡ p.number
     → IsCpuAt I m p → (I.IsStepwise → IsTabledAt I m p) → IsLayered I m p
-layered {I} laws m p fits number is table =
-    let acts = laws.own_cpu p.part m fits in
-    record {
-      number = number;
-      acts = acts;
-      stands = laws.stands p.part m fits;
-      moves_legal = laws.moves_legal m (I.cpu_of p.part) acts;
-      is = is;
-      idle = laws.idle p.part m fits;
-      busy = laws.busy p.part m fits;
-      reads_own = λ step. laws.reads_own step p.part;
-      table = table;
-    }
+layered {I} laws m p fits number is table = grind arith
 
 module _ {P L M : Type 0} {I : Ghosts P L M} {m : M} {p : Cpu P M} (at : IsLayered I m p) where
   -- a thread that runs is at home with it
   pub runs_home : (t : Tid) → (I.threads p.part).current ≡ Some t → home_of (I.homes_of m) t ≡ Some p.number
-  runs_home t runs =
-      (current_at (I.homes_of m) (I.cpu_of p.part) (I.moves m) (I.threads p.part) at.moves_legal at.stands t runs).0
-      ∙ ap (λ (d : CpuId). Some d) at.number
+  runs_home t runs = grind (arith, current_at)
+
+  -- and has a place in the table of guests
+  pub runs_within : (t : Tid) → (I.threads p.part).current ≡ Some t → t.0 < length p.guests.items
+  runs_within = current_within (valid_cpu at.is) runs_home
 
   -- the machine's holder acts for it
   pub acts_for : I.ActsFor m p.number

@@ -1,7 +1,7 @@
 -- Runs of steps of one CPU: one behind the other, and what is left of the machine's room.
-use Rattle.std.proofs.Common.{◌≡◌, ℕ, ◌+◌, ◌≤◌, sym, ◌∙◌, subst, arith}
-use Rattle.layer_traits.specs.declared.call_layers.CallLayer.{Ghosts}
-use Rattle.cpu.specs.{declared.cpus.Cpu.Cpu, CpuSteps.IsCpuAt, CpuSteps.IsTabledAt, CpuSteps.RunsAt, CpuSteps.SteppedAt}
+use Rattle.std.proofs.Common.{◌≡◌, ℕ, ◌+◌, ◌≤◌, None, sym, ◌∙◌, subst, arith}
+use Rattle.{layer_traits.specs.declared.{call_layers.CallLayer.Ghosts, steps.Step.TheVariants.Stepped}, cpu.specs.{declared.cpus.Cpu.Cpu, CpuSteps.IsCpuAt}}
+use Rattle.cpu.specs.CpuSteps.{IsTabledAt, Leaves, RunsAt, SteppedAt, WentAt, stops_at}
 
 -- a CPU and its machine agree, as a step asks of them
 pub record AgreesAt {P L M : Type 0} (I : Ghosts P L M) (m : M) (p : Cpu P M) : Type 0 where
@@ -14,6 +14,11 @@ module _ {P L M : Type 0} {I : Ghosts P L M} {m : M} {p : Cpu P M} where
   -- a step is a run of one
   pub one_run : {n : M} {q : Cpu P M} → SteppedAt I m p n q → RunsAt I m p 1 n q
   one_run s = RunsAt.more RunsAt.none s
+
+  -- a step, from what it leaves
+  pub stepped_so : {n : M} {q : Cpu P M} → Leaves I m p n q → stops_at I p ≡ None → I.Fits q.part n → IsCpuAt I n q → (I.IsStepwise → IsTabledAt I n q)
+      → (I.IsStepwise → WentAt I m p n q Stepped) → SteppedAt I m p n q
+  stepped_so leaves live fits is table steps = record { live = live; fits = fits; is = is; leaves = leaves; table = table; steps = steps }
 
   -- a run of one step is that step
   pub one_step : {n : M} {q : Cpu P M} {k : ℕ} → RunsAt I m p k n q → k ≡ 1 → SteppedAt I m p n q

@@ -1,6 +1,5 @@
 -- The greatest number of some CPUs.
-use Rattle.std.proofs.Common.{◌≡◌, ◌⊎◌, inl, inr, ℕ, ◌<◌, ◌≤◌, List, length, slice_index_or, arith}
-use Rattle.std.specs.Prelude.{All}
+use Rattle.std.{proofs.Common.{◌≡◌, ◌⊎◌, inl, inr, ℕ, ◌<◌, ◌≤◌, List, length, slice_index_or, arith}, specs.Prelude.All}
 use Rattle.event_log.specs.declared.ids.CpuId.{CpuId}
 
 -- no number of the first i is greater, and it is 0 or one of them

@@ -1,17 +1,12 @@
 -- A CPU and a system before their first step are as they are always to be.
 use Rattle.std.proofs.Common.{◌≡◌, ◌⊎◌, inl, inr, ℕ, zero, suc, ◌+◌, ◌^◌, ◌<◌, ◌≤◌, false, List, [], ◌∷◌, ◌++◌, length, map, cond, drop, replicate}
-use Rattle.std.proofs.Common.{vec_capacity, Option, Some, None, refl, ap, sym, ◌∙◌, subst, arith}
-use Rattle.std.specs.Prelude.{slice_get, slice_index_or}
-use Rattle.std.specs.List.{AllByRecursion}
-use Rattle.std.proofs.lemmas.{Bool.cases_lt, List.get_or-replicate, List.get_or_past, List.length-replicate, List.Elements.All-get_or, List.Sums.sum_by-cons}
-use Rattle.std.proofs.lemmas.{Option.get_or_from_slice_get, Option.slice_get_within}
-use Rattle.event_log.specs.{declared.entries.Entry.Entry, declared.ids.CpuId.CpuId, declared.ids.Tid.Tid, declared.ids.TheConstants.CPUS}
-use Rattle.event_log.specs.{declared.ids.TheConstants.THREADS, Actions.Action}
-use Rattle.guest.specs.Calls.{starts}
-use Rattle.layer_traits.specs.{declared.call_layers.CallLayer.Ghosts, declared.call_states.CallState.CallState, BufferLaw.no_call, BufferLaw.call_state_of}
-use Rattle.layer_traits.specs.{OnePlace.cpu_at, Openings.AreOpenable, Places.at_boot}
-use Rattle.cpu.specs.{declared.cpus.Cpu.Cpu, declared.guests.Guest.Guest, Guests.HasCome, Guests.is_begun, Boots.AreGuests, Boots.IsBootedAs, Cpus.IsCpu}
-use Rattle.cpu.specs.{Cpus.begun_count, Cpus.guest_at, Cpus.is_begun_guest, Systems.IsAt, Systems.IsSystem}
+use Rattle.std.proofs.{Common.{vec_capacity, Option, Some, None, refl, ap, sym, ◌∙◌, subst, arith}, lemmas.{Bool.cases_lt, List.get_or-replicate}}
+use Rattle.std.proofs.lemmas.{List.{get_or_past, length-replicate, Elements.All-get_or, Sums.sum_by-cons}, Option.{get_or_from_slice_get, slice_get_within}}
+use Rattle.{std.specs.{Prelude.{slice_get, slice_index_or}, List.AllByRecursion}, event_log.specs.declared.{entries.Entry.Entry, ids.{CpuId.CpuId, Tid.Tid}}}
+use Rattle.{event_log.specs.{declared.ids.TheConstants.{CPUS, THREADS}, Actions.Action}, guest.specs.Calls.starts}
+use Rattle.layer_traits.specs.{declared.call_layers.CallLayer.Ghosts, BufferLaw.{no_call, call_state_of}, OnePlace.cpu_at}
+use Rattle.{layer_traits.specs.{Openings.AreOpenable, Places.at_boot}, cpu.specs.{declared.{cpus.Cpu.Cpu, guests.Guest.Guest}, Guests.{HasCome, is_begun}}}
+use Rattle.cpu.specs.{Boots.{AreGuests, IsBootedAs}, Cpus.{IsCpu, begun_count, guest_at, is_begun_guest}, Systems.{IsAt, IsSystem}}
 
 -- a thread that never called
 no_call_at : (t : Tid) → call_state_of (replicate THREADS no_call) t ≡ no_call
@@ -25,11 +20,9 @@ no_call_at t = go (cases_lt t.0 THREADS)
 none_begun : (guests : List (Option Guest)) → ((k : ℕ) (g : Guest) → guest_at guests k ≡ Some g → is_begun g.stage ≡ false) → begun_count guests ≡ 0
 none_begun [] none = refl
 none_begun (x ∷ guests) none =
-    let first : begun_count (x ∷ guests) ≡ cond (is_begun_guest x) 1 0 + begun_count guests =
-    sum_by-cons (λ (g : Option Guest). cond (is_begun_guest g) 1 0) x guests in
+    let first = sum_by-cons (λ (g : Option Guest). cond (is_begun_guest g) 1 0) x guests in
     let others : begun_count guests ≡ 0 = none_begun guests (λ k g at. none (suc k) g at) in
-    let here : is_begun_guest x ≡ false = go x refl in
-    let one : cond {A = ℕ} (is_begun_guest x) 1 0 ≡ 0 = rw here refl in
+    let one : cond {A = ℕ} (is_begun_guest x) 1 0 ≡ 0 = rw (go x refl) refl in
     omega (arith, first, others, one)
   where
     go : (o : Option Guest) → x ≡ o → is_begun_guest o ≡ false
@@ -43,8 +36,7 @@ pub boots : (homes : List CpuId) (buffers : ℕ) (number : CpuId) (guests : List
 boots homes buffers number guests limit capacity are few reserved = record {
   kept = refl;
   stays = tt;
-  follow = λ t g at. subst (λ (call_state : CallState). HasCome g [] call_state) (sym (no_call_at t))
-      (subst (λ (x : Guest). HasCome x [] no_call) (sym (are.fresh t g at)) ((λ none. refl), (refl, starts)));
+  follow = λ t g at. rw (no_call_at t) (subst (λ (x : Guest). HasCome x [] no_call) (sym (are.fresh t g at)) ((λ none. refl), (refl, starts)));
   over = λ t ended g at. absurd (cc ended);
   homed = are.homed;
   named = are.named;
@@ -90,8 +82,7 @@ opens IsOne number ActsFor MayHold IsStepwise acts cpus homes homes2 seen caps r
       within = λ t home at.
           let there : slice_get homes t.0 ≡ Some home = ap (λ (h : List CpuId). slice_get h t.0) (sym same) ∙ at in
           let exists = All-get_or (λ (h : CpuId). h.0 < n) homes t.0 home (slice_get_within homes t.0 home there) openable.homes_exist in
-          let below : home.0 < n = subst (λ (h : CpuId). h.0 < n) (get_or_from_slice_get homes t.0 home home there) exists in
-          omega (arith, below, count);
+          omega (arith, subst (λ (h : CpuId). h.0 < n) (get_or_from_slice_get homes t.0 home home there) exists, count);
       rest = λ step c past exists. rw nothing refl;
       holders = λ c past exists holds. nobody c holds;
       short = rw none (omega arith);
@@ -107,37 +98,20 @@ pub sounds : {X N : Type 0} (IsOne : X → Type 0) (number : X → CpuId) (ActsF
     (homes : List CpuId) (seen : List Entry) (room taken left : ℕ) (Sound Sound2 : Type 0) → (Sound → Sound2)
     → IsSystem IsOne number ActsFor MayHold IsStepwise acts cpus homes seen room taken left Sound
     → IsSystem IsOne number ActsFor MayHold IsStepwise acts cpus homes seen room taken left Sound2
-sounds IsOne number ActsFor MayHold IsStepwise acts cpus homes seen room taken left Sound Sound2 goes is = record {
-  each = is.each;
-  some = is.some;
-  most = is.most;
-  crowd = is.crowd;
-  acts_for = is.acts_for;
-  known = is.known;
-  within = is.within;
-  rest = is.rest;
-  holders = is.holders;
-  short = is.short;
-  used = is.used;
-  small = is.small;
-  enough = is.enough;
-  sound = goes is.sound;
-}
+sounds IsOne number ActsFor MayHold IsStepwise acts cpus homes seen room taken left Sound Sound2 goes is = grind arith
 
 -- the elements behind the first n, and the one in front of them
 drop_next : {X : Type 0} (xs : List X) (n : ℕ) → n < length xs → drop 1 (drop n xs) ≡ drop (suc n) xs
-drop_next [] n within = absurd (omega arith)
-drop_next (x ∷ xs) zero within = refl
 drop_next (x ∷ xs) (suc n) within = drop_next xs n (omega arith)
+drop_next xs n within = grind arith
 
 pub drop_more : {X : Type 0} (xs : List X) (n : ℕ) → n < length xs → drop 1 (drop n xs) ≡ drop (n + 1) xs
 drop_more xs n within = let same : suc n ≡ n + 1 = omega arith in drop_next xs n within ∙ ap (λ (k : ℕ). drop k xs) same
 
 pub drop_first : {X Y : Type 0} (f : X → Y) (xs : List X) (n : ℕ) (d : X) (e : Y) → n < length xs
     → f (slice_index_or (drop n xs) 0 d) ≡ slice_index_or (map f xs) n e
-drop_first f [] n d e within = absurd (omega arith)
-drop_first f (x ∷ xs) zero d e within = refl
 drop_first f (x ∷ xs) (suc n) d e within = drop_first f xs n d e (omega arith)
+drop_first f xs n d e within = grind arith
 
 -- what stands in a list that grew by one stood there before, or is the last
 pub at_end : {X : Type 0} (P : ℕ → X → Type 0) (xs : List X) (y : X) → ((k : ℕ) (x : X) → slice_get xs k ≡ Some x → P k x) → P (length xs) y
@@ -151,16 +125,14 @@ at_end P (z ∷ xs) y before here (suc k) x at = at_end (λ j w. P (suc j) w) xs
 pub shows_all : {X Z : Type 0} (f : X → Z) (xs : List X) (zs : List Z) (d : Z) → length xs ≡ length zs
     → ((k : ℕ) (x : X) → slice_get xs k ≡ Some x → f x ≡ slice_index_or zs k d) → map f xs ≡ zs
 shows_all f [] [] d count each = refl
-shows_all f [] (z ∷ zs) d count each = absurd (omega (arith, count))
-shows_all f (x ∷ xs) [] d count each = absurd (omega (arith, count))
 shows_all f (x ∷ xs) (z ∷ zs) d count each =
     ap (λ y. y ∷ map f xs) (each 0 x refl) ∙ ap (λ ys. z ∷ ys) (shows_all f xs zs d (omega (arith, count)) (λ k y at. each (suc k) y at))
+shows_all f xs zs d count each = absurd (omega (arith, count))
 
 -- a list that shows one value shows it at each number
 pub all_one : {X Z : Type 0} (z : Z) (xs : List X) (k : ℕ) → slice_index_or (map (λ x. z) xs) k z ≡ z
-all_one z [] k = refl
-all_one z (x ∷ xs) zero = refl
 all_one z (x ∷ xs) (suc k) = all_one z xs k
+all_one z xs k = refl
 
 -- the table in front of those that are left
 pub first_left : {X Y : Type 0} (f : X → Y) (left xs : List X) (n : ℕ) (r : X) (e : Y) → left ≡ drop n xs → n < length xs → r ≡ slice_index_or left 0 r

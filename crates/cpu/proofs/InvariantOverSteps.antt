@@ -1,27 +1,19 @@
 -- One step of one CPU of a system keeps what always holds of the system.
-use Rattle.std.proofs.Common.{◌≡◌, ◌≢◌, ◌⊎◌, inl, inr, ℕ, ◌+◌, ◌<◌, ◌≤◌, ◌==◌, true, false, List, [], ◌∷◌, ◌++◌, length, Option, Some, None, refl, ap}
-use Rattle.std.proofs.Common.{sym, ◌∙◌, subst, arith, slice_set}
-use Rattle.std.specs.Prelude.{slice_get}
-use Rattle.std.specs.List.{AllByRecursion}
-use Rattle.std.proofs.lemmas.{Bool.cases_eq, Bool.ne_eqb, List.length-append, List.length-set, Option.slice_get_within}
-use Rattle.event_log.specs.{declared.entries.Entry.Entry, declared.ids.CpuId.CpuId, declared.ids.TheConstants.CPUS, declared.ids.TheConstants.THREADS}
-use Rattle.event_log.specs.{Actions.Action, Actions.cpu_of_action, Actions.phase, History.AreForeign, History.AreOthers, History.same_cpu}
-use Rattle.event_log.proofs.{Foreign.phase_others, Same.same_cpu_self}
-use Rattle.layer_traits.specs.{BufferLaw.UnderWay, BufferLaw.cpu_of_entry, OnePlace.cpu_at, Places.Threads, declared.steps.Reason.Reason}
-use Rattle.layer_traits.specs.{declared.call_states.CallState.CallState}
-use Rattle.cpu.specs.{declared.guests.Guest.Guest, Cpus.ActsGrow, Cpus.IsCpu, Cpus.SeenGrows, Cpus.of_cpu, Claims.CpuShown, Claims.Shown, Systems.IsAt}
-use Rattle.cpu.specs.{Systems.IsSystem, Systems.own_reason, Systems.own_reason_in, Systems.reason_of, Systems.reason_or}
-use Rattle.cpu.proofs.{CpuStates.valid_cpu, GuestLists.cpu_same, ListReads.all_both, ListReads.all_by, ListReads.all_left, ListReads.all_right}
-use Rattle.cpu.proofs.{ListReads.set_again, ListReads.set_else, ListReads.set_there, PassSteps.seen_stays, ReachedSystems.Observed}
+use Rattle.std.proofs.Common.{◌≡◌, ◌≢◌, ◌⊎◌, inl, inr, ℕ, ◌+◌, ◌<◌, ◌≤◌, List, [], ◌∷◌, ◌++◌, length, Option, Some, refl, ap, sym, ◌∙◌, subst}
+use Rattle.std.proofs.{Common.{arith, slice_set}, lemmas.{Bool.{cases_eq, ne_eqb}, List.{length-append, length-set}, Option.slice_get_within}}
+use Rattle.{std.specs.{Prelude.slice_get, List.AllByRecursion}, event_log.specs.declared.{entries.Entry.Entry, ids.{CpuId.CpuId, TheConstants.{CPUS, THREADS}}}}
+use Rattle.event_log.{specs.{Actions.{Action, cpu_of_action, phase}, History.{AreForeign, AreOthers}}, proofs.Foreign.phase_others}
+use Rattle.{event_log.proofs.Same.same_cpu_self, layer_traits.specs.{BufferLaw.{UnderWay, cpu_of_entry}, OnePlace.cpu_at, Places.Threads}}
+use Rattle.{layer_traits.specs.declared.call_states.CallState.CallState, cpu.specs.{declared.guests.Guest.Guest, Cpus.{ActsGrow, IsCpu, SeenGrows, of_cpu}}}
+use Rattle.cpu.{specs.{Claims.CpuShown, Systems.{IsAt, IsSystem}}, proofs.{CpuStates.valid_cpu, GuestLists.cpu_same}}
+use Rattle.cpu.proofs.{ListReads.{all_both, all_by, all_left, all_right, set_again, set_else, set_there}, PassSteps.seen_stays, ReachedSystems.Observed}
 
 -- where the holder acts for each CPU that there may be, no effect is foreign
 no_others : (ActsFor : CpuId → Type 0) (others : List Entry) → ((c : CpuId) → c.0 < CPUS → ActsFor c) → AllByRecursion (λ e. e.cpu.0 < CPUS) others
     → AreForeign ActsFor cpu_of_entry others → others ≡ []
 no_others ActsFor [] all known foreign = refl
 no_others ActsFor (e ∷ others) all known foreign =
-    let theirs = (foreign e.cpu (all e.cpu known.0)).0 in
-    let same : same_cpu e.cpu e.cpu ≡ true = same_cpu_self e.cpu in
-    absurd (cc (theirs, same))
+    absurd (cc ((foreign e.cpu (all e.cpu known.0)).0, same_cpu_self e.cpu))
 
 -- effects of one CPU are none of another's
 others_of : (k c : CpuId) (mine : List Entry) → c.0 ≢ k.0 → AllByRecursion (λ e. e.cpu ≡ k) mine → AreOthers cpu_of_entry c mine
@@ -65,9 +57,7 @@ pub cpu_frame : (homes homes2 : List CpuId) (buffers buffers2 : ℕ) (seen seen2
     → IsCpu homes buffers seen own call_states under_way number guests trace limit capacity
     → IsCpu homes2 buffers2 seen2 own call_states under_way number guests trace limit capacity
 cpu_frame homes homes2 buffers buffers2 seen seen2 own call_states under_way number guests trace limit capacity same_homes same_buffers same is =
-    subst (λ (h : List CpuId). IsCpu h buffers2 seen2 own call_states under_way number guests trace limit capacity) (sym same_homes)
-    (subst (λ (n : ℕ). IsCpu homes n seen2 own call_states under_way number guests trace limit capacity) (sym same_buffers)
-    (seen_stays (valid_cpu is) seen2 same))
+    rw same_homes (rw same_buffers (seen_stays (valid_cpu is) seen2 same))
 
 -- the system after a step of CPU k, which left y in its place
 pub system_step : {X N : Type 0} (One Two : X → Type 0) (number : X → CpuId) (Acts1 Acts2 Holds1 Holds2 : CpuId → Type 0) (IsStepwise : Type 0)
@@ -86,8 +76,7 @@ system_step One Two number Acts1 Acts2 Holds1 Holds2 IsStepwise acts1 acts2 cpus
       most = let most = is.most in omega (arith, count, most);
       crowd = subst (λ (l : List CpuId). length l ≤ THREADS) (sym same) is.crowd;
       acts_for = λ c exists. goes c (is.acts_for c exists);
-      known = subst (λ (n : ℕ). AllByRecursion (λ e. e.cpu.0 < n) seen2) (sym count)
-          (subst (λ (l : List Entry). AllByRecursion (λ e. e.cpu.0 < length cpus) l) (sym seen_is) all_known);
+      known = rw count (subst (λ (l : List Entry). AllByRecursion (λ e. e.cpu.0 < length cpus) l) (sym seen_is) all_known);
       within = λ t home at. let inside = is.within t home (ap (λ (h : List CpuId). slice_get h t.0) (sym same) ∙ at) in omega (arith, count, inside);
       rest = λ step c past exists. let out : length cpus ≤ c.0 = omega (arith, count, past) in
           phase_stays Acts1 (cpu_at k) c acts1 acts2 (λ e. omega (arith, e, out, within)) (is.acts_for c exists) (does step) ∙ is.rest step c out exists;
@@ -118,22 +107,14 @@ system_step One Two number Acts1 Acts2 Holds1 Holds2 IsStepwise acts1 acts2 cpus
     length_is = ap (λ (l : List Entry). length l) seen_is ∙ length-append grows.mine seen
 
     all_known : AllByRecursion (λ e. e.cpu.0 < length cpus) (grows.mine ++ seen)
-    all_known = all_both (λ (e : Entry). e.cpu.0 < length cpus) grows.mine seen
-        (all_by (λ (e : Entry). e.cpu ≡ cpu_at k) (λ (e : Entry). e.cpu.0 < length cpus) grows.mine
-        (λ e at. subst (λ (c : CpuId). c.0 < length cpus) (sym at) within) grows.own)
-        is.known
+    all_known = grind (arith, all_both, all_by)
 
     each_at : (j : ℕ) (x : _) → slice_get (slice_set cpus k y) j ≡ Some x → (j ≡ k) ⊎ (j ≡ k → ⊥) → IsAt Two number j x
-    each_at j x at (inl same_one) =
-        let written : Some y ≡ Some x = sym (set_there cpus k y within) ∙ ap (λ (i : ℕ). slice_get (slice_set cpus k y) i) (sym same_one) ∙ at in
-        let is_y : y ≡ x = cc written in
-        subst (λ (i : ℕ). IsAt Two number i x) (sym same_one)
-        (subst (λ z. IsAt Two number k z) is_y (record { number_is = numbered; holds = here }))
+    each_at j x at (inl same_one) = grind (arith, set_there)
     each_at j x at (inr other) =
         let before = is.each j x (sym (set_else cpus k j y other) ∙ at) in
         let inside : j < length cpus = slice_get_within cpus j x (sym (set_else cpus k j y other) ∙ at) in
-        let most = is.most in
-        record { number_is = before.number_is; holds = there j x other (omega (arith, inside, most)) before }
+        record { number_is = before.number_is; holds = there j x other (omega (arith, inside, is.most)) before }
 
 -- What a machine M and the CPUs X that work in it tell of themselves: whether a CPU's part fits the machine, its number and that of its
 -- part, what it shows, its call states, what it is doing, and for how many entries its trace has memory; of the machine for whom it acts, who may hold
@@ -170,9 +151,7 @@ module _ {M X : Type 0} (of : Works M X) where
   -- nothing has changed
   pub again : (m m2 : M) (cpus : List X) (room taken k : ℕ) (x y : X) → Holds m cpus room taken → slice_get cpus k ≡ Some x → m2 ≡ m → y ≡ x
       → Holds m2 (slice_set cpus k y) room taken
-  again m m2 cpus room taken k x y is at same_machine same =
-      subst (λ (n : M). Holds n (slice_set cpus k y) room taken) (sym same_machine)
-      (subst (λ (l : List X). Holds m l room taken) (sym (set_again cpus k y (at ∙ ap (λ (z : X). Some z) (sym same)))) is)
+  again m m2 cpus room taken k x y is at same_machine same = grind (arith, set_again)
 
   -- a CPU took a step
   pub stepped : (m m2 : M) (cpus : List X) (room taken k : ℕ) (x y : X) → Holds m cpus room taken → of.Sound m2 (slice_set cpus k y) room (taken + 1)
@@ -213,9 +192,3 @@ module _ {M X : Type 0} (of : Works M X) where
           )
 
 -- why a CPU takes a step, or takes none
-
--- a CPU with no reason of its own takes a step where there is room for it
-pub live_of : (s : Shown) (c : CpuId) (p : CpuShown) → slice_get s.cpus c.0 ≡ Some p → own_reason p ≡ None → s.taken ≢ s.room → reason_of c s ≡ None
-live_of s c p at none room =
-    let full : (s.taken == s.room) ≡ false = ne_eqb s.taken s.room room in
-    ap (λ (o : Option CpuShown). reason_or (own_reason_in o) s) at ∙ ap (λ (r : Option Reason). reason_or r s) none ∙ (rw full refl)

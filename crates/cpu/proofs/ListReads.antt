@@ -1,10 +1,7 @@
 -- Reads and writes of lists by their index.
 use Rattle.std.proofs.Common.{◌≡◌, ℕ, zero, suc, ◌+◌, ◌<◌, List, [], ◌∷◌, ◌++◌, length, map, reverse, Some, option_map, refl, ap, sym, ◌∙◌, subst, arith}
-use Rattle.std.proofs.Common.{slice_set}
-use Rattle.std.specs.Prelude.{slice_get, slice_index_or}
-use Rattle.std.specs.List.{AllByRecursion}
-use Rattle.std.proofs.lemmas.{List.reverse-append, List.length-map, List.length-set, Option.slice_get-map, Option.slice_get_read}
-use Rattle.cpu.specs.Claims.{listed}
+use Rattle.std.proofs.{Common.slice_set, lemmas.{List.{reverse-append, length-map}, Option.{slice_get-map, slice_get_read}}}
+use Rattle.{std.specs.{Prelude.{slice_get, slice_index_or}, List.AllByRecursion}, cpu.specs.Claims.listed}
 pub use Rattle.event_log.proofs.ListLemmas.{set_else, set_there, there_is}
 
 -- a write of what stands there changes nothing
@@ -15,9 +12,8 @@ set_again (z ∷ zs) (suc i) x at = ap (λ v. z ∷ v) (set_again zs i x at)
 
 -- of two writes at one place the second stays
 pub set_twice : {X : Type 0} (xs : List X) (i : ℕ) (x y : X) → slice_set (slice_set xs i x) i y ≡ slice_set xs i y
-set_twice [] i x y = refl
-set_twice (z ∷ zs) zero x y = refl
 set_twice (z ∷ zs) (suc i) x y = ap (λ v. z ∷ v) (set_twice zs i x y)
+set_twice xs i x y = refl
 
 -- a write of an element that shows the same leaves what the list shows
 pub shows_same : {X Z : Type 0} (f : X → Z) (xs : List X) (i : ℕ) (x y : X) → slice_get xs i ≡ Some x → f y ≡ f x → map f (slice_set xs i y) ≡ map f xs
@@ -51,8 +47,7 @@ all_right P (x ∷ xs) ys all = all_right P xs ys all.1
 
 pub all_reversed : {X : Type 0} (P : X → Type 0) (xs : List X) → AllByRecursion P xs → AllByRecursion P (reverse xs)
 all_reversed P [] all = tt
-all_reversed P (x ∷ xs) all =
-    subst (λ l. AllByRecursion P l) (sym (reverse-append (x ∷ []) xs)) (all_both P (reverse xs) (x ∷ []) (all_reversed P xs all.1) (all.0, tt))
+all_reversed P (x ∷ xs) all = rw (reverse-append (x ∷ []) xs) (all_both P (reverse xs) (x ∷ []) (all_reversed P xs all.1) (all.0, tt))
 
 pub all_by : {X : Type 0} (P Q : X → Type 0) (xs : List X) → ((x : X) → P x → Q x) → AllByRecursion P xs → AllByRecursion Q xs
 all_by P Q [] goes all = tt
@@ -73,22 +68,11 @@ listed_length f (suc n) k = ap suc (listed_length f n (k + 1))
 -- a CPU of a system that shows so many is read
 pub read_at : {X Y : Type 0} (f : X → Y) (xs : List X) (ys : List Y) (j k : ℕ) (x : X) → map f xs ≡ ys → j ≡ k → k < length ys → x ≡ slice_index_or xs j x
     → slice_get xs j ≡ Some x
-read_at f xs ys j k x shown is within reads =
-    let count = length-map xs f in
-    let same : length (map f xs) ≡ length ys = ap (λ l. length l) shown in
-    slice_get_read xs (length xs) j x refl (omega (arith, count, same, is, within)) reads
+read_at f xs ys j k x shown is within reads = grind (arith, length-map, slice_get_read)
 
 -- and is shown
 pub shows_at : {X Y : Type 0} (f : X → Y) (xs : List X) (k : ℕ) (x : X) → slice_get xs k ≡ Some x → slice_get (map f xs) k ≡ Some (f x)
 shows_at f xs k x at = slice_get-map f xs k ∙ ap (λ o. option_map f o) at
-
--- what the elements show of what they are shown as stays where one is written that shows the same
-pub shown_same : {X Y Z : Type 0} (f : X → Y) (h : Y → Z) (xs : List X) (k : ℕ) (x y : X) → slice_get xs k ≡ Some x → h (f y) ≡ h (f x)
-    → map h (map f (slice_set xs k y)) ≡ map h (map f xs)
-shown_same f h xs k x y at same = map_twice f h (slice_set xs k y) ∙ shows_same (λ z. h (f z)) xs k x y at same ∙ sym (map_twice f h xs)
-
-pub shown_length : {X Y : Type 0} (f : X → Y) (xs : List X) (k : ℕ) (y : X) → length (map f (slice_set xs k y)) ≡ length (map f xs)
-shown_length f xs k y = length-map (slice_set xs k y) f ∙ length-set xs k y ∙ sym (length-map xs f)
 
 -- what the element at an index shows
 pub shown_index : {X Y Z : Type 0} (f : X → Y) (h : Y → Z) (xs : List X) (k : ℕ) (x : X) (d : Z) → slice_get xs k ≡ Some x

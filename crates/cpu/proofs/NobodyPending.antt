@@ -1,16 +1,11 @@
 -- When nobody is pending: by the places of the threads, and by the pending queues.
 use Rattle.std.proofs.Common.{◌≡◌, ◌≢◌, ◌⊎◌, inl, inr, ℕ, ◌+◌, ◌<◌, Bool, true, false, ◌||◌, List, [], ◌∷◌, length, refl, ap, sym, ◌∙◌, subst, arith}
-use Rattle.std.proofs.lemmas.{Bool.and_right, Bool.cases_eq, Option.slice_get_within, Option.same_Some}
-use Rattle.event_log.specs.declared.ids.{CpuId.CpuId, Tid.Tid}
-use Rattle.event_log.proofs.Same.{same_cpu_self}
-use Rattle.thread_blocks.specs.Queues.{is_in}
-use Rattle.thread_blocks.proofs.Members.{same_tid_self}
-use Rattle.layer_traits.specs.{declared.calls.Place.Place, OnePlace.cpu_at, Places.AreMoves, Places.Pend, Places.Stands, Places.Step}
-use Rattle.layer_traits.specs.{Places.Threads, Places.count_in, Places.home_of, Places.is_cpu, Places.is_hand, Places.is_home, Places.is_pend, Places.is_thread}
-use Rattle.layer_traits.specs.{Places.one_if, Places.pending_by, Places.where_is, Observed.IsOwnPlace, Observed.queue_place}
-use Rattle.layer_traits.proofs.{CountLemmas.in_counted, CountLemmas.is_thread_self, PlaceLemmas.hand_at, PlaceLemmas.pend_count, PlaceLemmas.pend_home}
-use Rattle.layer_traits.proofs.{PlaceLemmas.pend_where}
-use Rattle.cpu.specs.{Calm.AllQueuesEmpty, Claims.IsPlaceOf, Claims.MovesAgree, Claims.Shown}
+use Rattle.{std.proofs.lemmas.{Bool.{and_right, cases_eq}, Option.{slice_get_within, same_Some}}, event_log.specs.declared.ids.{CpuId.CpuId, Tid.Tid}}
+use Rattle.{event_log.proofs.Same.same_cpu_self, thread_blocks.{specs.Queues.is_in, proofs.Members.same_tid_self}}
+use Rattle.layer_traits.specs.{declared.calls.Place.Place, OnePlace.cpu_at, Places.{AreMoves, Pend, Stands, Step, Threads, count_in}}
+use Rattle.layer_traits.{specs.{Places.{is_pend, one_if, pending_by, where_is}, Observed.{IsOwnPlace, queue_place}}, proofs.CountLemmas.in_counted}
+use Rattle.{layer_traits.proofs.{CountLemmas.is_thread_self, PlaceLemmas.{hand_at, pend_count, pend_home, pend_where}}, cpu.specs.Calm.AllQueuesEmpty}
+use Rattle.cpu.specs.Claims.{IsPlaceOf, MovesAgree, Shown}
 use Rattle.layer_traits.specs.declared.calls.Place.TheVariants as place
 
 pub clash : {A : Type 0} (b : Bool) → b ≡ true → b ≡ false → A
@@ -19,19 +14,8 @@ clash b on off = absurd (cc (on, off))
 -- A thread that a CPU has of its own is in no pending queue.
 module _ (homes : List CpuId) (c : CpuId) (moves : List Step) (own : Threads) (legal : AreMoves homes moves) (stands : Stands homes c moves own) (t : Tid)
     (d : CpuId) (pends : where_is homes moves t ≡ Pend d) where
-  none : one_if (is_thread t own.current) + count_in t own.ready + count_in t own.ended ≡ 0
-  none = stands.places t ∙ ap one_if (and_right (is_cpu c (home_of homes t)) (is_home (where_is homes moves t)) (ap is_home pends))
-
   pub no_own_place : (p : Place) → IsOwnPlace c own t p → ⊥
-  no_own_place (place.Running e) at = let one = ap one_if (is_thread_self t own.current at.1) in omega (arith, none, one)
-  no_own_place (place.Ready e) at = let some = in_counted t own.ready at.1 in omega (arith, none, some)
-  no_own_place (place.Pending e) at = at
-  no_own_place (place.Hand e) at =
-      let there = hand_at homes c moves own legal stands t at.1 in
-      let differs : is_hand c (Pend d) ≡ true = ap (is_hand c) (sym pends ∙ there) ∙ same_cpu_self c in
-      clash (is_hand c (Pend d)) differs refl
-  no_own_place place.Ended at = let some = in_counted t own.ended at in omega (arith, none, some)
-  no_own_place other at = at
+  no_own_place p at = grind (arith, is_thread_self, in_counted, hand_at, same_cpu_self, and_right)
 
 -- whether a place is a pending queue
 abbrev pub is_pending : Place → Bool
@@ -58,14 +42,11 @@ empty_of s agree nobody c exists = go (pending_by s.moves c) refl
 pub nobody_of : (s : Shown) → MovesAgree s → AllQueuesEmpty s → (t : Tid) (d : CpuId) → where_is s.homes s.moves t ≢ Pend d
 nobody_of s agree empty t d pends =
     let home = pend_home s.homes s.moves t d agree.lawful pends in
-    let counted = pend_count s.homes s.moves agree.lawful d t in
-    let here : one_if (is_pend d (where_is s.homes s.moves t)) ≡ 1 = ap (λ w. one_if (is_pend d w)) pends ∙ ap one_if (same_cpu_self d) in
     let gone : count_in t (pending_by s.moves d) ≡ 0 = ap (count_in t) (empty d (agree.within t d home)) in
-    absurd (omega (arith, counted, here, gone))
+    absurd (omega (arith, pend_count s.homes s.moves agree.lawful d t, ap (λ w. one_if (is_pend d w)) pends ∙ ap one_if (same_cpu_self d), gone))
 
 pub pending_is : (p : Place) → is_pending p ≡ true → (c : CpuId) × (p ≡ place.Pending c)
-pending_is (place.Pending c) is = (c, refl)
-pending_is other is = absurd (cc is)
+pending_is p is = grind arith
 
 -- what holds of each number below n, and of n
 pub up_more : (P : ℕ → Type 0) (n : ℕ) → ((k : ℕ) → k < n → P k) → P n → (k : ℕ) → k < n + 1 → P k

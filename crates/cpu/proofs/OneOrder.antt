@@ -1,22 +1,14 @@
 -- What always holds of a system says that its calls have one order, that each thread follows its program, and that entries stay at home.
-use Rattle.std.proofs.Common.{◌≡◌, ◌≢◌, ◌⊎◌, inl, inr, ℕ, zero, suc, ◌<◌, ◌≤◌, ◌==◌, ◌&&◌, Bool, true, false, nat_lt, List, [], ◌∷◌, ◌++◌, length, map, reverse}
-use Rattle.std.proofs.Common.{Option, Some, refl, ap, sym, ◌∙◌, subst, arith, slice_set}
-use Rattle.std.specs.Prelude.{filter, slice_get, slice_index_or}
-use Rattle.std.specs.List.{AllByRecursion}
-use Rattle.std.proofs.lemmas.{Bool.cases_eq, Bool.cases_lt, Bool.eq-eqb, Bool.ne_eqb, List.append-nil, List.reverse-append, List.reverse-reverse}
-use Rattle.std.proofs.lemmas.{List.length-map, List.length-set, List.get_or_past, List.get_or-set_same, List.get_or-set_other, List.Elements.filter-append}
-use Rattle.std.proofs.lemmas.{Option.slice_get-get_or}
-use Rattle.event_log.specs.{declared.entries.Entry.Entry, declared.entries.Kind.TheVariants.Close, declared.ids.CpuId.CpuId, declared.ids.Tid.Tid}
-use Rattle.event_log.specs.{Runs.is_closed, Runs.kind_eq, Traces.IsInterleaving}
-use Rattle.thread_blocks.specs.Queues.{is_in}
-use Rattle.guest.specs.{Calls.IsProgramsCalls, Calls.HasEnded, State.State}
-use Rattle.layer_traits.specs.{declared.calls.Call.Call, declared.calls.Effect.Effect, declared.call_states.CallState.CallState, BufferLaw.UnderWay}
-use Rattle.layer_traits.specs.{BufferLaw.begun_of, BufferLaw.call_state_of, OnePlace.cpu_at, Places.Stands, Places.Step}
-use Rattle.layer_traits.proofs.EffectRunLemmas.{count_reversed}
-use Rattle.cpu.specs.{declared.guests.Guest.Guest, declared.guests.GuestStage.GuestStage, Guests.HasComeIn, Guests.is_ended, Cpus.IsCpu, Cpus.IsOfHome}
-use Rattle.cpu.specs.{Cpus.guest_at, Cpus.of_cpu, Cpus.of_thread, Claims.CpuShown, Claims.Keeps, Claims.listed}
-use Rattle.cpu.specs.declared.guests.GuestStage.TheVariants.{Idle, Begun, Done, Ended}
-use Rattle.cpu.proofs.ListReads.{all_reversed, listed_there, there_is}
+use Rattle.std.proofs.Common.{◌≡◌, ◌≢◌, ◌⊎◌, ℕ, zero, suc, ◌<◌, ◌==◌, ◌&&◌, Bool, true, false, nat_lt, List, [], ◌∷◌, ◌++◌, length, map, reverse, Option, Some}
+use Rattle.std.proofs.{Common.{refl, ap, sym, ◌∙◌, subst, arith, slice_set}, lemmas.{Bool.{cases_eq, cases_lt, eq-eqb, ne_eqb}, List.append-nil}}
+use Rattle.std.proofs.lemmas.List.{reverse-append, reverse-reverse, length-map, length-set, get_or_past, get_or-set_same, get_or-set_other}
+use Rattle.std.{proofs.lemmas.{List.Elements.filter-append, Option.slice_get-get_or}, specs.{Prelude.{filter, slice_get, slice_index_or}, List.AllByRecursion}}
+use Rattle.event_log.specs.{declared.{entries.{Entry.Entry, Kind.TheVariants.Close}, ids.{CpuId.CpuId, Tid.Tid}}, Runs.{is_closed, kind_eq}}
+use Rattle.{event_log.specs.Traces.IsInterleaving, thread_blocks.specs.Queues.is_in, guest.specs.{Calls.{IsProgramsCalls, HasEnded}, State.State}}
+use Rattle.layer_traits.specs.{declared.{calls.{Call.Call, Effect.Effect}, call_states.CallState.CallState}, BufferLaw.{UnderWay, begun_of, call_state_of}}
+use Rattle.{layer_traits.{specs.{OnePlace.cpu_at, Places.{Stands, Step}}, proofs.EffectRunLemmas.count_reversed}, cpu.specs.declared.guests.Guest.Guest}
+use Rattle.cpu.specs.{declared.guests.GuestStage.{GuestStage, TheVariants.{Idle, Begun, Done, Ended}}, Guests.{HasComeIn, is_ended}, Cpus.{IsCpu, IsOfHome}}
+use Rattle.cpu.{specs.{Cpus.{guest_at, of_cpu, of_thread}, Claims.{CpuShown, Keeps, listed}}, proofs.ListReads.{all_reversed, listed_there, there_is}}
 
 -- what a test picks of a list turned round
 pub filter_reversed : {X : Type 0} (p : X → Bool) (xs : List X) → filter p (reverse xs) ≡ reverse (filter p xs)
@@ -31,13 +23,9 @@ filter_reversed p (x ∷ xs) =
 
 -- What is closed.
 
--- effects close the same buffers in either order
-pub closed_reversed : (es : List Entry) (b : ℕ) → is_closed (reverse es) b ≡ is_closed es b
-closed_reversed es b = ap (nat_lt 0) (count_reversed (λ (e : Entry). (e.buffer.0 == b) && kind_eq e.kind Close) es)
-
 -- a buffer is told to be closed where the effects have closed it, in their order
 pub closed_by_order : (seen : List Entry) (n b : ℕ) → b < n → slice_index_or (listed (is_closed seen) 0 n) b false ≡ is_closed (reverse seen) b
-closed_by_order seen n b within = listed_there (is_closed seen) n b false within ∙ sym (closed_reversed seen b)
+closed_by_order seen n b within = listed_there (is_closed seen) n b false within ∙ sym (ap (nat_lt 0) (count_reversed (λ (e : Entry). (e.buffer.0 == b) && kind_eq e.kind Close) seen))
 
 -- The interleaving.
 
@@ -45,17 +33,10 @@ closed_by_order seen n b within = listed_there (is_closed seen) n b false within
 cpu_first : (e : Entry) (es : List Entry) → of_cpu (cpu_at e.cpu.0) (e ∷ es) ≡ e ∷ of_cpu (cpu_at e.cpu.0) es
 cpu_first e es = let same : (e.cpu.0 == e.cpu.0) ≡ true = eq-eqb e.cpu.0 e.cpu.0 refl in rw same refl
 
-cpu_other : (e : Entry) (es : List Entry) (k : ℕ) → k ≢ e.cpu.0 → of_cpu (cpu_at k) (e ∷ es) ≡ of_cpu (cpu_at k) es
-cpu_other e es k other = let differ : (e.cpu.0 == k) ≡ false = ne_eqb e.cpu.0 k (λ same. other (sym same)) in rw differ refl
-
 -- entries of which each CPU's trace has its own, in their order, are an order of the traces
 pub interleaved : (es : List Entry) (traces : List (List Entry)) → ((k : ℕ) → k < length traces → slice_index_or traces k [] ≡ of_cpu (cpu_at k) es)
     → AllByRecursion (λ e. e.cpu.0 < length traces) es → IsInterleaving traces es
-interleaved [] traces each known = λ k. go k (cases_lt k (length traces))
-  where
-    go : (k : ℕ) → (k < length traces) ⊎ (length traces ≤ k) → slice_index_or traces k [] ≡ []
-    go k (inl within) = each k within
-    go k (inr past) = get_or_past traces k [] past
+interleaved [] traces each known = grind (arith, cases_lt, get_or_past)
 interleaved (e ∷ es) traces each known = (
   e.cpu.0,
   of_cpu (cpu_at e.cpu.0) es,
@@ -69,11 +50,7 @@ interleaved (e ∷ es) traces each known = (
 
     go : (k : ℕ) → k < length traces → (k ≡ e.cpu.0) ⊎ (k ≡ e.cpu.0 → ⊥)
         → slice_index_or (slice_set traces e.cpu.0 (of_cpu (cpu_at e.cpu.0) es)) k [] ≡ of_cpu (cpu_at k) es
-    go k within (inl is) =
-        subst (λ (j : ℕ). slice_index_or (slice_set traces e.cpu.0 (of_cpu (cpu_at e.cpu.0) es)) j [] ≡ of_cpu (cpu_at j) es) (sym is)
-        (get_or-set_same traces e.cpu.0 (of_cpu (cpu_at e.cpu.0) es) [] known.0)
-    go k within (inr other) =
-        get_or-set_other traces e.cpu.0 k (of_cpu (cpu_at e.cpu.0) es) [] other ∙ each k within ∙ cpu_other e es k other
+    go k within either = grind (arith, get_or-set_same, get_or-set_other, ne_eqb)
 
 -- What is shown of each CPU.
 
@@ -109,18 +86,14 @@ module _ (homes : List CpuId) (buffers : ℕ) (seen : List Entry) (moves : List 
   pub follow_programs : (k : ℕ) (p : CpuShown) → Has homes buffers seen moves k p → (t : Tid) (g : Guest) → guest_at p.guests t.0 ≡ Some g
       → Keeps g (is_in t p.own.ended) (of_thread t.0 p.trace)
   follow_programs k p has t g at =
-      let follows = has.is.follow t g at in
-      let same : of_thread t.0 p.trace ≡ reverse (of_thread t.0 (of_cpu (cpu_at k) seen)) =
-      ap (λ (l : List Entry). of_thread t.0 l) has.is.kept ∙ filter_reversed (λ (e : Entry). e.thread.0 == t.0) (of_cpu (cpu_at k) seen) in
+      let same = ap (λ (l : List Entry). of_thread t.0 l) has.is.kept ∙ filter_reversed (λ (e : Entry). e.thread.0 == t.0) (of_cpu (cpu_at k) seen) in
       subst (λ (l : List Entry). Keeps g (is_in t p.own.ended) l) (sym same)
       (keeps_by g (is_in t p.own.ended) (of_thread t.0 (of_cpu (cpu_at k) seen)) (begun_of (call_state_of has.call_states t))
-      (call_state_of has.call_states t).effect follows.1
+      (call_state_of has.call_states t).effect (has.is.follow t g at).1
       (λ ended. has.is.over t ended g at))
 
   pub stay_home : (k : ℕ) (p : CpuShown) → Has homes buffers seen moves k p → AllByRecursion (IsOfHome homes (cpu_at k)) p.trace
-  stay_home k p has =
-      subst (λ (l : List Entry). AllByRecursion (IsOfHome homes (cpu_at k)) l) (sym has.is.kept)
-      (all_reversed (IsOfHome homes (cpu_at k)) (of_cpu (cpu_at k) seen) has.is.stays)
+  stay_home k p has = grind (arith, all_reversed)
 
   -- the effects, oldest first, are an order of the traces
   pub traces_interleaved : (cpus : List CpuShown) → ((k : ℕ) (p : CpuShown) → slice_get cpus k ≡ Some p → Has homes buffers seen moves k p)

@@ -1,76 +1,34 @@
 -- The steps in which no call goes on: an instruction of a thread's own, and the passes from thread to thread.
-use Rattle.std.proofs.Common.{◌≡◌, ◌≢◌, ◌⊎◌, inl, inr, ℕ, ◌+◌, ◌<◌, ◌==◌, Bool, true, false, List, [], ◌∷◌, ◌++◌, length, Option, Some, None, is_some}
-use Rattle.std.proofs.Common.{option_map, refl, ap, sym, ◌∙◌, subst, arith, reverse, slice_set}
-use Rattle.std.proofs.lemmas.{Bool.cases_eq, Bool.ne_eqb, List.length-set}
-use Rattle.std.specs.List.{AllByRecursion}
-use Rattle.event_log.specs.declared.{entries.Entry.Entry, ids.Tid.Tid}
-use Rattle.thread_blocks.specs.Queues.{is_in}
-use Rattle.guest.specs.{declared.instructions.Instruction.Instruction, State.State, State.next_of}
-use Rattle.guest.proofs.CallsLemmas.{calls-local, calls-yield}
-use Rattle.layer_traits.specs.{declared.calls.Call.Call, declared.calls.Effect.Effect, declared.passes.Pass.Pass, declared.passes.Pass.TheVariants.Switch}
-use Rattle.layer_traits.specs.{declared.passes.Pass.TheVariants.YieldNow, declared.passes.Pass.TheVariants.Drain, declared.passes.Pass.TheVariants.MakeReady}
-use Rattle.layer_traits.specs.{declared.passes.Pass.TheVariants.End, Passes.MayPass, Passes.as_list, Passes.pass_after, Places.Threads, Places.home_of}
-use Rattle.layer_traits.specs.{Places.one_if, BufferLaw.Calling, BufferLaw.UnderWay, BufferLaw.Passing, BufferLaw.begun_of, BufferLaw.call_state_of}
-use Rattle.cpu.specs.{declared.cpus.Choice.Choice, declared.cpus.Choice.TheVariants.Passes, declared.cpus.Choice.TheVariants.Computes, Guests.HasCome}
-use Rattle.cpu.specs.{Guests.HasComeIn, Guests.after_pass, Guests.computed, Guests.is_begun, Guests.is_calling, Guests.is_ended, Guests.passed, Guests.todo_at}
-use Rattle.cpu.specs.{Guests.todo_of, Cpus.AllFollow, Cpus.AreOver, Cpus.IsCpu, Cpus.IsOfHome, Cpus.NamesBelow, Cpus.begun_count, Cpus.chosen, Cpus.chosen_at}
-use Rattle.cpu.specs.{Cpus.chosen_by, Cpus.chosen_for, Cpus.chosen_idle, Cpus.chosen_todo, Cpus.under_way_of, Cpus.guest_at, Cpus.is_begun_guest, Cpus.of_cpu}
-use Rattle.cpu.specs.{Cpus.of_thread, Cpus.passed_by, Cpus.with_guest}
-use Rattle.cpu.specs.declared.guests.{Guest.Guest, GuestStage.GuestStage, GuestStage.TheVariants.Idle, GuestStage.TheVariants.Begun}
-use Rattle.cpu.specs.declared.guests.{GuestStage.TheVariants.Done, GuestStage.TheVariants.Ended, Todo.Todo, Todo.TheVariants.Finish, Todo.TheVariants.PassOn}
-use Rattle.cpu.specs.declared.guests.{Todo.TheVariants.Compute, Todo.TheVariants.Calls}
-use Rattle.cpu.proofs.{CpuStates.ValidCpu, GuestLists.at_other, GuestLists.at_same, GuestLists.count_with, GuestLists.guest_within}
+use Rattle.std.proofs.Common.{◌≡◌, ◌≢◌, ◌⊎◌, inl, inr, ℕ, ◌+◌, ◌<◌, ◌==◌, Bool, true, false, List, [], ◌∷◌, ◌++◌, length, Option, Some, None, option_map, refl}
+use Rattle.std.{proofs.{Common.{ap, sym, ◌∙◌, subst, arith, reverse, slice_set}, lemmas.{Bool.{cases_eq, ne_eqb}, List.length-set}}, specs.List.AllByRecursion}
+use Rattle.{event_log.specs.declared.{entries.Entry.Entry, ids.Tid.Tid}, thread_blocks.specs.Queues.is_in}
+use Rattle.guest.{specs.{declared.instructions.Instruction.Instruction, State.State}, proofs.CallsLemmas.{calls-local, calls-yield}}
+use Rattle.layer_traits.specs.declared.{calls.{Call.Call, Effect.Effect}, passes.Pass.{Pass, TheVariants.{Switch, YieldNow, Drain, MakeReady, End}}}
+use Rattle.layer_traits.specs.{Passes.{MayPass, as_list, pass_after}, Places.{Threads, home_of, one_if}, BufferLaw.{Calling, UnderWay, Passing, begun_of}}
+use Rattle.{layer_traits.specs.BufferLaw.call_state_of, cpu.specs.declared.{cpus.Choice.TheVariants.{Passes, Computes}, guests.Guest.Guest}}
+use Rattle.cpu.specs.declared.guests.{GuestStage.{GuestStage, TheVariants.Idle}, Todo.{Todo, TheVariants.{Finish, PassOn, Compute, Calls}}}
+use Rattle.cpu.specs.{Guests.{HasCome, HasComeIn, after_pass, computed, is_begun, is_calling, is_ended, passed, todo_at, todo_of}, Cpus.{AllFollow, AreOver}}
+use Rattle.cpu.specs.Cpus.{IsCpu, IsOfHome, NamesBelow, begun_count, chosen, chosen_at, chosen_by, chosen_for, chosen_idle, chosen_todo, under_way_of, guest_at}
+use Rattle.cpu.{specs.Cpus.{is_begun_guest, of_cpu, of_thread, passed_by, with_guest}, proofs.GuestLists.{with_each, at_other, at_same, count_with}}
+use Rattle.cpu.proofs.{GuestLists.guest_within, CpuStates.ValidCpu}
 use Rattle.guest.specs.declared.instructions.Instruction.TheVariants as ins
 
 -- an instruction that asks for no call: the guest is in none
 pub in_no_call : (g : Guest) (es : List Entry) (begun : Option Call) (effect : Option Effect) (todo : Todo)
     → HasComeIn g.stage g.program g.thread es begun effect
     → todo_of g ≡ todo → ((c : Call) → todo ≡ Calls c → ⊥) → (is_calling g.stage ≡ false) × (is_begun g.stage ≡ false)
-in_no_call g es begun effect todo follows asks none = go g.stage follows
-  where
-    go : (stage : GuestStage) → HasComeIn stage g.program g.thread es begun effect → (is_calling stage ≡ false) × (is_begun stage ≡ false)
-    go Begun f = absurd (none f.0 (sym asks ∙ f.1))
-    go Done f = absurd (none f.0 (sym asks ∙ f.2))
-    go stage f = (refl, refl)
-
--- and it is between instructions unless it is to end
-idle_at : (g : Guest) (es : List Entry) (begun : Option Call) (effect : Option Effect) (todo : Todo)
-    → HasComeIn g.stage g.program g.thread es begun effect
-    → todo_of g ≡ todo → ((c : Call) → todo ≡ Calls c → ⊥) → (todo ≡ Finish → ⊥) → g.stage ≡ Idle
-idle_at g es begun effect todo follows asks none some = go g.stage follows
-  where
-    go : (stage : GuestStage) → HasComeIn stage g.program g.thread es begun effect → stage ≡ Idle
-    go Idle f = refl
-    go Begun f = absurd (none f.0 (sym asks ∙ f.1))
-    go Done f = absurd (none f.0 (sym asks ∙ f.2))
-    go Ended f = absurd (some (sym asks ∙ ap (λ (i : Instruction). todo_at g.thread i) f.2))
+in_no_call g es begun effect todo follows asks none = grind arith
 
 pub finish_exit : (s : State) (i : Instruction) → todo_at s i ≡ Finish → i ≡ ins.Exit
-finish_exit s ins.Exit is = refl
-finish_exit s other is = absurd cc
-
--- a guest that ends follows its entries
-follow_end : (g : Guest) (es : List Entry) (begun : Option Call) (effect : Option Effect) → HasComeIn g.stage g.program g.thread es begun effect
-    → todo_of g ≡ Finish → HasComeIn Ended g.program g.thread es begun effect
-follow_end g es begun effect follows asks = go g.stage follows
-  where
-    go : (stage : GuestStage) → HasComeIn stage g.program g.thread es begun effect → HasComeIn Ended g.program g.thread es begun effect
-    go Idle f = (f.0, f.1, finish_exit g.thread (next_of g.program g.thread) asks)
-    go Begun f = let no : Finish ≡ Calls f.0 = sym asks ∙ f.1 in absurd (cc no)
-    go Done f = let no : Finish ≡ Calls f.0 = sym asks ∙ f.2 in absurd (cc no)
-    go Ended f = f
+finish_exit s i is = grind arith
 
 -- who stands behind a list and the thread that ran, and is not that thread, stands in the list
 in_before : (u : Tid) (t : Tid) (q : List Tid) → u.0 ≢ t.0 → is_in u (q ++ t ∷ []) ≡ true → is_in u q ≡ true
-in_before u t [] other is = let no : (u.0 == t.0) ≡ false = ne_eqb u.0 t.0 other in absurd (false_true (rw no at is))
-  where
-    false_true : false ≡ true → ⊥
-    false_true e = absurd (cc e)
+in_before u t [] other is = grind (arith, ne_eqb)
 in_before u t (x ∷ q) other is = go (u.0 == x.0) refl (in_before u t q other)
   where
     go : (b : Bool) → (u.0 == x.0) ≡ b → (is_in u (q ++ t ∷ []) ≡ true → is_in u q ≡ true) → is_in u (x ∷ q) ≡ true
-    go true same more = rw same refl
-    go false differs more = rw differs (more (rw differs at is))
+    go b same more = grind arith
 
 module _ (cpu : ValidCpu) where
   open cpu use {homes, buffers, seen, own, call_states, under_way, number, guests, trace, limit, capacity, is}
@@ -103,46 +61,32 @@ module _ (cpu : ValidCpu) where
       → (is_in t own2.ended ≡ true → is_ended (f g).stage ≡ true) → ((u : Tid) → u.0 ≢ t.0 → is_in u own2.ended ≡ true → is_in u own.ended ≡ true)
       → ((d : UnderWay) → under_way2 ≡ Some d → ⊥) → ((u : Tid) → own2.current ≡ Some u → own2.hand ≡ None)
       → IsCpu homes buffers seen2 own2 call_states under_way2 number (with_guest guests t.0 f) trace limit capacity
-  guest_goes t g f seen2 own2 under_way2 at same program begun follows over_t over_other none handed = record {
-    kept = is.kept ∙ ap (λ (l : List Entry). reverse l) (sym same);
-    stays = subst (λ (l : List Entry). AllByRecursion (IsOfHome homes number) l) (sym same) is.stays;
-    follow = λ (u : Tid) (x : Guest) there. subst (λ (l : List Entry). HasCome x (of_thread u.0 l) (call_state_of call_states u)) (sym same)
-        (each (λ (k : ℕ) (y : Guest). HasCome y (of_thread k (of_cpu number seen)) (call_state_of call_states (record { 0 = k })))
-        ((is.follow t g at).0, follows) (λ k y other old. is.follow (record { 0 = k }) y old) u.0 x there);
-    over = λ (u : Tid) ended (x : Guest) there.
-        each (λ (k : ℕ) (y : Guest). is_in (record { 0 = k }) own2.ended ≡ true → is_ended y.stage ≡ true) over_t
-        (λ k y other old over. is.over (record { 0 = k }) (over_other (record { 0 = k }) other over) y old) u.0 x there ended;
-    homed = λ (u : Tid) home. homed_new u (is.homed u home);
-    named = λ (u : Tid) (x : Guest) there.
-        each (λ (k : ℕ) (y : Guest). NamesBelow buffers y.program) (subst (λ (p : List Instruction). NamesBelow buffers p) (sym program) (is.named t g at))
-        (λ k y other old. is.named (record { 0 = k }) y old) u.0 x there;
-    few = let long = length-set guests t.0 (option_map f (guest_at guests t.0)) in let few = is.few in omega (arith, long, few);
-    agrees = λ (d : UnderWay) does. absurd (none d does);
-    calls = λ (u : Tid) (x : Guest) does there. absurd (none (Calling u) does);
-    handed = λ (u : Tid) runs quiet. handed u runs;
-    room =
-        let counted : begun_count (with_guest guests t.0 f) + one_if (is_begun g.stage) ≡ begun_count guests + one_if (is_begun (f g).stage) =
-        ap (λ (o : Option Guest). begun_count (slice_set guests t.0 (option_map f o)) + one_if (is_begun g.stage)) at
-        ∙ (ap (λ (o : Option Guest). begun_count (slice_set guests t.0 (Some (f g))) + one_if (is_begun_guest o)) (sym at)
-        ∙ count_with guests t.0 (Some (f g)) (guest_within guests t.0 g at)) in
-        let alike : one_if (is_begun (f g).stage) ≡ one_if (is_begun g.stage) = ap one_if begun in
-        let room = is.room in
-        omega (arith, counted, alike, room);
-    reserved = is.reserved;
-  }
+  guest_goes t g f seen2 own2 under_way2 at same program begun follows over_t over_other none handed =
+      let each = with_each guests (with_guest guests t.0 f) t.0 (f g) (at_same guests t.0 f g at) (λ u other. at_other guests t.0 u f other) in record {
+        kept = is.kept ∙ ap (λ (l : List Entry). reverse l) (sym same);
+        stays = subst (λ (l : List Entry). AllByRecursion (IsOfHome homes number) l) (sym same) is.stays;
+        follow = λ (u : Tid) (x : Guest) there. subst (λ (l : List Entry). HasCome x (of_thread u.0 l) (call_state_of call_states u)) (sym same)
+            (each (λ (k : ℕ) (y : Guest). HasCome y (of_thread k (of_cpu number seen)) (call_state_of call_states (record { 0 = k })))
+            ((is.follow t g at).0, follows) (λ k y other old. is.follow (record { 0 = k }) y old) u.0 x there);
+        over = λ (u : Tid) ended (x : Guest) there.
+            each (λ (k : ℕ) (y : Guest). is_in (record { 0 = k }) own2.ended ≡ true → is_ended y.stage ≡ true) over_t
+            (λ k y other old over. is.over (record { 0 = k }) (over_other (record { 0 = k }) other over) y old) u.0 x there ended;
+        homed = λ (u : Tid) home. homed_new u (is.homed u home);
+        named = λ (u : Tid) (x : Guest) there.
+            each (λ (k : ℕ) (y : Guest). NamesBelow buffers y.program) (subst (λ (p : List Instruction). NamesBelow buffers p) (sym program) (is.named t g at))
+            (λ k y other old. is.named (record { 0 = k }) y old) u.0 x there;
+        few = let long = length-set guests t.0 (option_map f (guest_at guests t.0)) in let few = is.few in omega (arith, long, few);
+        agrees = λ (d : UnderWay) does. absurd (none d does);
+        calls = λ (u : Tid) (x : Guest) does there. absurd (none (Calling u) does);
+        handed = λ (u : Tid) runs quiet. handed u runs;
+        room =
+            let counted = ap (λ (o : Option Guest). begun_count (slice_set guests t.0 (option_map f o)) + one_if (is_begun g.stage)) at
+            ∙ (ap (λ (o : Option Guest). begun_count (slice_set guests t.0 (Some (f g))) + one_if (is_begun_guest o)) (sym at)
+            ∙ count_with guests t.0 (Some (f g)) (guest_within guests t.0 g at)) in
+            omega (arith, counted, ap one_if begun, is.room);
+        reserved = is.reserved;
+      }
     where
-      each : (P : ℕ → Guest → Type 0) → P t.0 (f g) → ((u : ℕ) (x : Guest) → u ≢ t.0 → guest_at guests u ≡ Some x → P u x)
-          → (u : ℕ) (x : Guest) → guest_at (with_guest guests t.0 f) u ≡ Some x → P u x
-      each P here there u x found = go (cases_eq u t.0)
-        where
-          go : (u ≡ t.0) ⊎ (u ≡ t.0 → ⊥) → P u x
-          go (inl equal) =
-              let new : guest_at (with_guest guests t.0 f) u ≡ Some (f g) =
-              subst (λ (k : ℕ). guest_at (with_guest guests t.0 f) k ≡ Some (f g)) (sym equal) (at_same guests t.0 f g at) in
-              let one : f g ≡ x = cc (found, new) in
-              subst (λ (k : ℕ). P k x) (sym equal) (subst (λ (y : Guest). P t.0 y) one here)
-          go (inr other) = there u x other (sym (at_other guests t.0 u f other) ∙ found)
-
       homed_new : (u : Tid) → (x : Guest) × (guest_at guests u.0 ≡ Some x) → (x : Guest) × (guest_at (with_guest guests t.0 f) u.0 ≡ Some x)
       homed_new u there = go (cases_eq u.0 t.0)
         where
@@ -152,37 +96,7 @@ module _ (cpu : ValidCpu) where
 
   -- What is chosen, by who runs.
   pub computes_at : (t : Tid) → chosen own guests ≡ Computes t → (own.current ≡ Some t) × ((g : Guest) × (guest_at guests t.0 ≡ Some g) × (todo_of g ≡ Compute))
-  computes_at t chose = go own.current refl chose
-    where
-      by_todo : (u : Tid) (todo : Todo) → chosen_todo u todo ≡ Computes t → (u ≡ t) × (todo ≡ Compute)
-      by_todo u Compute at = (cc at, refl)
-      by_todo u other at = absurd (cc at)
-
-      by_hand : (u : Tid) (calling : Bool) (hand : Option Tid) (todo : Todo) → chosen_by u calling hand todo ≡ Computes t → (u ≡ t) × (todo ≡ Compute)
-      by_hand u true hand todo at = by_todo u todo at
-      by_hand u false None todo at = by_todo u todo at
-      by_hand u false (Some s) todo at = absurd (cc at)
-
-      by_guest : (u : Tid) (o : Option Guest) → own.current ≡ Some u → guest_at guests u.0 ≡ o → chosen_for u own.hand o ≡ Computes t
-          → (own.current ≡ Some t) × ((g : Guest) × (guest_at guests t.0 ≡ Some g) × (todo_of g ≡ Compute))
-      by_guest u None runs at chose = absurd (cc chose)
-      by_guest u (Some g) runs at chose =
-          let both = by_hand u (is_calling g.stage) own.hand (todo_of g) chose in
-          (runs ∙ ap (λ (x : Tid). Some x) both.0, (g, subst (λ (x : Tid). guest_at guests x.0 ≡ Some g) both.0 at, both.1))
-
-      idle : (hand : Option Tid) (ready : List Tid) → chosen_idle hand ready ≡ Computes t → ⊥
-      idle (Some s) ready at = absurd (cc at)
-      idle None [] at = absurd (cc at)
-      idle None (x ∷ ready) at = absurd (cc at)
-
-      go : (current : Option Tid) → own.current ≡ current → chosen_at current own.hand own.ready guests ≡ Computes t
-          → (own.current ≡ Some t) × ((g : Guest) × (guest_at guests t.0 ≡ Some g) × (todo_of g ≡ Compute))
-      go None runs chose = absurd (idle own.hand own.ready chose)
-      go (Some u) runs chose = by_guest u (guest_at guests u.0) runs refl chose
-
-  -- what is under way is what is chosen
-  pub does_chosen : (choice : Choice) (d : UnderWay) → chosen own guests ≡ choice → under_way ≡ Some d → under_way_of choice ≡ Some d
-  does_chosen choice d chose does = sym (ap under_way_of chose) ∙ is.agrees d does
+  computes_at t chose = grind arith
 
   pub noted_compute : (t : Tid) → chosen own guests ≡ Computes t
       → IsCpu homes buffers seen own call_states under_way number (with_guest guests t.0 computed) trace limit capacity
@@ -190,28 +104,18 @@ module _ (cpu : ValidCpu) where
       let runs = (computes_at t chose).0 in
       let g = (computes_at t chose).1.0 in
       let at : guest_at guests t.0 ≡ Some g = (computes_at t chose).1.1 in
-      let asks : todo_of g ≡ Compute = (computes_at t chose).1.2 in
       let follows = is.follow t g at in
-      let quiet : (d : UnderWay) → under_way ≡ Some d → ⊥ = λ (d : UnderWay) does. let no : None ≡ Some d = does_chosen (Computes t) d chose does in absurd
+      let quiet : (d : UnderWay) → under_way ≡ Some d → ⊥ = λ (d : UnderWay) does. let no : None ≡ Some d = (sym (ap under_way_of chose) ∙ is.agrees d does) in absurd
       (cc no) in
-      let at_idle : g.stage ≡ Idle = idle_at g (of_thread t.0 (of_cpu number seen)) (begun_of (call_state_of call_states t))
-      (call_state_of call_states t).effect Compute follows.1 asks
-      (λ c e. absurd (cc e)) (λ e. absurd (cc e)) in
-      let before : HasComeIn Idle g.program g.thread (of_thread t.0 (of_cpu number seen)) (begun_of (call_state_of call_states t))
-      (call_state_of call_states t).effect =
-      subst (λ (s : GuestStage). HasComeIn s g.program g.thread (of_thread t.0 (of_cpu number seen)) (begun_of (call_state_of call_states t))
+      let at_idle : g.stage ≡ Idle = grind (arith, follows.1, (computes_at t chose).1.2) in
+      let before = subst (λ (s : GuestStage). HasComeIn s g.program g.thread (of_thread t.0 (of_cpu number seen)) (begun_of (call_state_of call_states t))
       (call_state_of call_states t).effect) at_idle follows.1 in
       let after : HasComeIn Idle g.program (computed g).thread (of_thread t.0 (of_cpu number seen)) (begun_of (call_state_of call_states t))
       (call_state_of call_states t).effect =
       (before.0, calls-local g.program (of_thread t.0 (of_cpu number seen)) g.thread before.1) in
       guest_goes t g computed seen own under_way at refl refl refl
-      (subst (λ (s : GuestStage). HasComeIn s g.program (computed g).thread (of_thread t.0 (of_cpu number seen)) (begun_of (call_state_of call_states t))
-      (call_state_of call_states t).effect) (sym at_idle) after)
-      (λ over. is.over t over g at) (λ u other over. over) quiet (λ u runs. is.handed u runs (nothing under_way quiet))
-    where
-      nothing : (o : Option UnderWay) → ((d : UnderWay) → o ≡ Some d → ⊥) → o ≡ None
-      nothing None none = refl
-      nothing (Some d) none = absurd (none d refl)
+      (rw at_idle after)
+      (λ over. is.over t over g at) (λ u other over. over) quiet (λ u runs. is.handed u runs (grind arith))
 
   -- the cases of a chosen pass, where each thread that runs is at home
   pub data PassCase : Pass → Type 0 where
@@ -235,17 +139,14 @@ module _ (cpu : ValidCpu) where
 
       by_todo : (u : Tid) (g : Guest) (todo : Todo) → own.current ≡ Some u → own.hand ≡ None → guest_at guests u.0 ≡ Some g → todo_of g ≡ todo
           → chosen_todo u todo ≡ Passes pass → PassCase pass
-      by_todo u g (Calls d) runs has at asks is_pass = absurd (cc is_pass)
       by_todo u g Finish runs has at asks is_pass = let same : End ≡ pass = cc is_pass in subst
           (λ (p : Pass). PassCase p) same (finishes u g runs has at asks)
       by_todo u g PassOn runs has at asks is_pass = let same : YieldNow ≡ pass = cc is_pass in subst
           (λ (p : Pass). PassCase p) same (passes_on u g runs has at asks)
-      by_todo u g Compute runs has at asks is_pass = absurd (cc is_pass)
+      by_todo u g todo runs has at asks is_pass = absurd (cc is_pass)
 
       calling_calls : (u : Tid) (g : Guest) (todo : Todo) → guest_at guests u.0 ≡ Some g → is_calling g.stage ≡ true → todo_of g ≡ todo
           → chosen_todo u todo ≡ Passes pass → ⊥
-      calling_calls u g (Calls d) at calling asks is_pass = absurd (cc is_pass)
-      calling_calls u g Compute at calling asks is_pass = absurd (cc is_pass)
       calling_calls u g Finish at calling asks is_pass =
           let no = in_no_call g (of_thread u.0 (of_cpu number seen)) (begun_of (call_state_of call_states u)) (call_state_of call_states u).effect Finish
           (is.follow u g at).1 asks (λ c e. absurd (cc e)) in
@@ -254,6 +155,7 @@ module _ (cpu : ValidCpu) where
           let no = in_no_call g (of_thread u.0 (of_cpu number seen)) (begun_of (call_state_of call_states u)) (call_state_of call_states u).effect PassOn
           (is.follow u g at).1 asks (λ c e. absurd (cc e)) in
           absurd (cc (calling, no.0))
+      calling_calls u g todo at calling asks is_pass = absurd (cc is_pass)
 
       by_hand : (u : Tid) (g : Guest) (calling : Bool) (hand : Option Tid) → own.current ≡ Some u → own.hand ≡ hand → guest_at guests u.0 ≡ Some g
           → is_calling g.stage ≡ calling → chosen_by u calling hand (todo_of g) ≡ Passes pass → PassCase pass
@@ -270,16 +172,8 @@ module _ (cpu : ValidCpu) where
       go None runs is_pass = idle own.hand own.ready runs refl refl is_pass
       go (Some u) runs is_pass = by_guest u (guest_at guests u.0) runs refl is_pass
 
-  case_may : (pass : Pass) → PassCase pass → MayPass pass own
-  case_may Switch (switches runs has some) = (runs, has, some)
-  case_may Drain (drains runs has none) = (runs, has, none)
-  case_may (MakeReady s) (sends_idle _ runs has) = has
-  case_may (MakeReady s) (sends_on _ t g runs has at) = has
-  case_may YieldNow (passes_on t g runs has at asks) = (ap is_some runs, has)
-  case_may End (finishes t g runs has at asks) = (ap is_some runs, has)
-
   pub may_pass : (pass : Pass) → ((t : Tid) → own.current ≡ Some t → home_of homes t ≡ Some number) → chosen own guests ≡ Passes pass → MayPass pass own
-  may_pass pass home chose = case_may pass (pass_case pass home chose)
+  may_pass pass home chose = grind (arith, pass_case pass home chose)
 
   pub current_within : ((t : Tid) → own.current ≡ Some t → home_of homes t ≡ Some number) → (t : Tid) → own.current ≡ Some t → t.0 < length guests
   current_within home t runs = let there = is.homed t (home t runs) in guest_within guests t.0 there.0 there.1
@@ -298,9 +192,7 @@ module _ (cpu : ValidCpu) where
   case_done : (pass : Pass) (queue : List Tid) (seen2 : List Entry) → PassCase pass → of_cpu number seen2 ≡ of_cpu number seen
       → IsCpu homes buffers seen2 (pass_after pass queue own) call_states None number (passed_by own.current guests pass) trace limit capacity
   case_done Switch queue seen2 (switches runs has some) same =
-      subst (λ (o : Option Tid). IsCpu homes buffers seen2 (pass_after Switch queue own) call_states None number
-      (passed_by o guests Switch) trace limit capacity) (sym runs)
-      (guests_stay seen2 (pass_after Switch queue own) None same refl (λ d at. absurd (cc at)) (λ u at. absurd (cc at)) (λ u at none. has))
+      rw runs (guests_stay seen2 (pass_after Switch queue own) None same refl (λ d at. absurd (cc at)) (λ u at. absurd (cc at)) (λ u at none. has))
   case_done Drain queue seen2 (drains runs has empty) same =
       subst (λ (o : Option Tid). IsCpu homes buffers seen2 (pass_after Drain queue own) call_states None number
       (passed_by o guests Drain) trace limit capacity) (sym runs)
@@ -316,12 +208,8 @@ module _ (cpu : ValidCpu) where
       (λ over. is.over t over g at) (λ u other over. over) (λ d none. absurd (cc none)) (λ u at. refl))
   case_done YieldNow queue seen2 (passes_on t g runs has at asks) same =
       let follows = is.follow t g at in
-      let at_idle : g.stage ≡ Idle = idle_at g (of_thread t.0 (of_cpu number seen)) (begun_of (call_state_of call_states t))
-      (call_state_of call_states t).effect PassOn follows.1 asks
-      (λ c e. absurd (cc e)) (λ e. absurd (cc e)) in
-      let before : HasComeIn Idle g.program g.thread (of_thread t.0 (of_cpu number seen)) (begun_of (call_state_of call_states t))
-      (call_state_of call_states t).effect =
-      subst (λ (s : GuestStage). HasComeIn s g.program g.thread (of_thread t.0 (of_cpu number seen)) (begun_of (call_state_of call_states t))
+      let at_idle : g.stage ≡ Idle = grind (arith, follows.1, asks) in
+      let before = subst (λ (s : GuestStage). HasComeIn s g.program g.thread (of_thread t.0 (of_cpu number seen)) (begun_of (call_state_of call_states t))
       (call_state_of call_states t).effect) at_idle follows.1 in
       let after : HasComeIn Idle g.program (passed g).thread (of_thread t.0 (of_cpu number seen)) (begun_of (call_state_of call_states t))
       (call_state_of call_states t).effect =
@@ -329,8 +217,7 @@ module _ (cpu : ValidCpu) where
       subst (λ (o : Option Tid). IsCpu homes buffers seen2 (pass_after YieldNow queue own) call_states None number
       (passed_by o guests YieldNow) trace limit capacity) (sym runs)
       (guest_goes t g (after_pass YieldNow) seen2 (pass_after YieldNow queue own) None at same refl refl
-      (subst (λ (s : GuestStage). HasComeIn s g.program (passed g).thread (of_thread t.0 (of_cpu number seen)) (begun_of (call_state_of call_states t))
-      (call_state_of call_states t).effect) (sym at_idle) after)
+      (rw at_idle after)
       (λ over. is.over t over g at) (λ u other over. over) (λ d none. absurd (cc none)) (λ u at. absurd (cc at)))
   case_done End queue seen2 (finishes t g runs has at asks) same =
       let follows = is.follow t g at in
@@ -340,7 +227,7 @@ module _ (cpu : ValidCpu) where
       subst (λ (o : Option Tid). IsCpu homes buffers seen2 (pass_after End queue own) call_states None number
       (passed_by o guests End) trace limit capacity) (sym runs)
       (guest_goes t g (after_pass End) seen2 (pass_after End queue own) None at same refl (sym free.1)
-      (follow_end g (of_thread t.0 (of_cpu number seen)) (begun_of (call_state_of call_states t)) (call_state_of call_states t).effect follows.1 asks)
+      (grind (arith, finish_exit, follows.1, asks))
       (λ over. refl)
       (λ u other over. in_before u t own.ended other (subst (λ (o : Option Tid). is_in u (own.ended ++ as_list o) ≡ true) runs over))
       (λ d none. absurd (cc none)) (λ u at. absurd (cc at)))
@@ -350,10 +237,7 @@ module _ (cpu : ValidCpu) where
       → own2 ≡ pass_after pass queue own → under_way2 ≡ None → guests2 ≡ passed_by own.current guests pass
       → IsCpu homes buffers seen2 own2 call_states under_way2 number guests2 trace limit capacity
   noted_done pass queue seen2 own2 under_way2 guests2 home chose same stays does moved =
-      subst (λ (o : Threads). IsCpu homes buffers seen2 o call_states under_way2 number guests2 trace limit capacity) (sym stays)
-      (subst (λ (d : Option UnderWay). IsCpu homes buffers seen2 (pass_after pass queue own) call_states d number guests2 trace limit capacity) (sym does)
-      (subst (λ (l : List (Option Guest)). IsCpu homes buffers seen2 (pass_after pass queue own) call_states None number l trace limit capacity) (sym moved)
-      (case_done pass queue seen2 (pass_case pass home chose) same)))
+      rw (stays, does, moved) (case_done pass queue seen2 (pass_case pass home chose) same)
 
   -- effects of others alone
   pub seen_stays : (seen2 : List Entry) → of_cpu number seen2 ≡ of_cpu number seen

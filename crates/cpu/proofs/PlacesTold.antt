@@ -1,22 +1,15 @@
 -- The place that a system tells of a thread is where the thread stands in the table's own lists.
-use Rattle.std.proofs.Common.{◌≡◌, ℕ, ◌<◌, Bool, true, false, List, length, Option, Some, refl, ap, sym, ◌∙◌, subst, arith, inl, inr}
-use Rattle.std.specs.Prelude.{slice_get, slice_index_or}
-use Rattle.std.proofs.lemmas.{Bool.and_parts, List.length-map, Option.same_Some}
-use Rattle.event_log.specs.declared.{entries.Entry.Entry, ids.BufId.BufId, ids.CpuId.CpuId, ids.LockId.TheVariants.Buffer as AtBuffer, ids.Tid.Tid}
-use Rattle.event_log.proofs.Same.{same_cpu_self}
-use Rattle.thread_blocks.specs.Queues.{is_in}
-use Rattle.layer_traits.specs.{declared.calls.Place.Place, declared.moves.WaitList.WaitList, declared.moves.WaitList.TheVariants.Sleepers}
-use Rattle.layer_traits.specs.{declared.moves.WaitList.TheVariants.Receivers, declared.moves.WaitList.TheVariants.Senders, BufferLaw.Buffering}
-use Rattle.layer_traits.specs.{IpcLaw.WaitListsAgree, ListsAgree.is_at, OnePlace.cpu_at, Passes.or_else, Observed.IsOwnPlace, Observed.queue_place}
-use Rattle.layer_traits.specs.Places.{Asleep, At, Hand, Home, Pend, Stands, Step, Threads, Where, wait_channel_of, copies, home_of, is_cpu, is_here, is_home}
-use Rattle.layer_traits.specs.Places.{is_pend, one_if, pending_by, where_is}
-use Rattle.layer_traits.proofs.{CountLemmas.in_counted, CountLemmas.is_cpu_true, ListsLemmas.wait_channel_here, ListsLemmas.counted_in, PlaceLemmas.pend_count}
-use Rattle.layer_traits.proofs.{PlaceLemmas.pend_home}
-use Rattle.cpu.specs.{declared.guests.Guest.Guest, Claims.Waiters, Claims.CpuShown, Claims.IsPlaceOf, Claims.MovesAgree, Claims.Shown, Claims.waiters_at}
-use Rattle.cpu.specs.{Claims.waiters_by, Claims.listed, Claims.no_waiters, Systems.whole_of, Table.Setups.Private, Table.Setups.Setup, Table.Setups.Thread}
-use Rattle.cpu.specs.{Table.Setups.thread_at, Table.Setups.home_of as table_home, Tables.private, Tables.state_of, Tables.states, Observed.CpuHas}
-use Rattle.cpu.specs.{Observed.CpuIsObserved, Observed.HasBuffer, Observed.IsPlaceByTable, Tower.Privates.threads_in}
-use Rattle.cpu.proofs.{ListReads.listed_there, ListReads.shows_at, ListReads.there_is, Tower.BegunPolls.thread_here}
+use Rattle.std.proofs.{Common.{◌≡◌, ℕ, ◌<◌, true, List, length, Option, Some, ap, sym, ◌∙◌, subst, arith}, lemmas.{Bool.and_parts, List.length-map}}
+use Rattle.{std.{proofs.lemmas.Option.same_Some, specs.Prelude.{slice_get, slice_index_or}}, event_log.specs.declared.{entries.Entry.Entry, ids.BufId.BufId}}
+use Rattle.event_log.{specs.declared.ids.{CpuId.CpuId, LockId.TheVariants.Buffer as AtBuffer, Tid.Tid}, proofs.Same.same_cpu_self}
+use Rattle.{thread_blocks.specs.Queues.is_in, layer_traits.specs.declared.{calls.Place.Place, moves.WaitList.{WaitList, TheVariants.{Sleepers, Receivers}}}}
+use Rattle.layer_traits.specs.{declared.moves.WaitList.TheVariants.Senders, BufferLaw.Buffering, IpcLaw.WaitListsAgree, OnePlace.cpu_at, Passes.or_else}
+use Rattle.layer_traits.specs.{Observed.{IsOwnPlace, queue_place}, Places.{Asleep, At, Hand, Pend, Stands, Step, Threads, Where, home_of, is_pend, one_if}}
+use Rattle.layer_traits.{specs.Places.{pending_by, where_is}, proofs.{CountLemmas.{in_counted, is_cpu_true}, ListsLemmas.{wait_channel_here, counted_in}}}
+use Rattle.{layer_traits.proofs.PlaceLemmas.{pend_count, pend_home}, cpu.specs.{declared.guests.Guest.Guest, Claims.{Waiters, CpuShown, IsPlaceOf, MovesAgree}}}
+use Rattle.cpu.specs.{Claims.{Shown, waiters_at, waiters_by, listed, no_waiters}, Systems.whole_of, Table.Setups.{Private, Setup, Thread, thread_at}}
+use Rattle.cpu.specs.{Table.Setups.home_of as table_home, Tables.{private, state_of, states}, Observed.{CpuHas, CpuIsObserved, HasBuffer, IsPlaceByTable}}
+use Rattle.cpu.{specs.Tower.Privates.threads_in, proofs.{ListReads.{listed_there, shows_at, there_is}, Tower.BegunPolls.thread_here}}
 use Rattle.event_log.specs.declared.ids.LockId.TheVariants as lock
 use Rattle.layer_traits.specs.declared.calls.Place.TheVariants as place
 
@@ -24,20 +17,12 @@ use Rattle.layer_traits.specs.declared.calls.Place.TheVariants as place
 pub ended_is : (own : Buffering) (guests : List (Option Guest)) (trace : List Entry) (t : Tid) → t.0 < length guests
     → (thread_at (private own guests trace) t).ended ≡ is_in t (threads_in own).ended
 ended_is own guests trace t within =
-    let long = length-map guests state_of in
-    ap (λ (x : Thread). x.ended) (thread_here own (states guests) trace t (omega (arith, within, long)))
+    ap (λ (x : Thread). x.ended) (thread_here own (states guests) trace t (omega (arith, within, length-map guests state_of)))
 
 -- a thread that has ended with a CPU is at home with it
 ended_home : (homes : List CpuId) (c : CpuId) (moves : List Step) (own : Threads) → Stands homes c moves own → (t : Tid) → is_in t own.ended ≡ true
     → home_of homes t ≡ Some c
-ended_home homes c moves own stands t is = go (is_here homes c moves t) refl
-  where
-    go : (here : Bool) → is_here homes c moves t ≡ here → home_of homes t ≡ Some c
-    go true at = is_cpu_true c (home_of homes t) (and_parts (is_cpu c (home_of homes t)) (is_home (where_is homes moves t)) at).0
-    go false at =
-        let count : copies own t ≡ 0 = stands.places t ∙ ap one_if at in
-        let some = in_counted t own.ended is in
-        absurd (omega (arith, count, some))
+ended_home homes c moves own stands t is = grind (arith, is_cpu_true, and_parts, in_counted)
 
 module _ (s : Shown) (agree : MovesAgree s) (lines : BufId → WaitList → List Tid) (waiters : s.waiters ≡ listed (waiters_by lines) 0 (length s.caps))
     (lists : WaitListsAgree (length s.caps) s.homes s.moves lines) (setup : Setup)
@@ -46,14 +31,7 @@ module _ (s : Shown) (agree : MovesAgree s) (lines : BufId → WaitList → List
   -- who sleeps at a line of a buffer stands on the buffer's list of that line
   asleep : (t : Tid) (b : BufId) (line : WaitList) → where_is s.homes s.moves t ≡ Asleep (At (AtBuffer b) line)
       → (b.0 < length s.caps) × (is_in t (lines b line) ≡ true)
-  asleep t b line here =
-      let known = lists.known t (AtBuffer b) line here in
-      let same : b ≡ known.0 = cc known.1 in
-      let within : b.0 < length s.caps = let below = known.2 in let number = ap (λ (d : BufId). d.0) same in omega (arith, below, number) in
-      let one : one_if (is_at (AtBuffer b) line (wait_channel_of (where_is s.homes s.moves t))) ≡ 1
-      = ap (λ w. one_if (is_at (AtBuffer b) line (wait_channel_of w))) here ∙ ap one_if (wait_channel_here (AtBuffer b) line) in
-      let count = lists.once b line t within in
-      (within, counted_in t (lines b line) (omega (arith, one, count)))
+  asleep t b line here = grind (arith, wait_channel_here, counted_in)
 
   waiters_of : (b : ℕ) → b < length s.caps → waiters_at s b ≡ waiters_by lines b
   waiters_of b within = ap (λ (l : List Waiters). slice_index_or l b no_waiters) waiters
@@ -74,21 +52,15 @@ module _ (s : Shown) (agree : MovesAgree s) (lines : BufId → WaitList → List
   own_so k p t (place.Running c) known there is = cpu_has c k p (λ q. q.current ≡ Some t) is.0 there ((cpus k p there).current ∙ is.1)
   own_so k p t (place.Ready c) known there is =
       cpu_has c k p (λ q. is_in t q.ready ≡ true) is.0 there (ap (λ (l : List Tid). is_in t l) (cpus k p there).ready ∙ is.1)
-  own_so k p t (place.Pending c) known there is = absurd is
   own_so k p t (place.Hand c) known there is = cpu_has c k p (λ q. q.hand ≡ Some t) is.0 there ((cpus k p there).hand ∙ is.1)
-  own_so k p t (place.LockSleeper b) known there is = absurd is
-  own_so k p t (place.WaitRecv b) known there is = absurd is
-  own_so k p t (place.WaitSend b) known there is = absurd is
   own_so k p t place.Ended known there is =
-      let home : table_home setup t ≡ cpu_at k =
-      ap (λ (l : List CpuId). or_else (record { 0 = 0 }) (slice_get l t.0)) homes
+      let home = ap (λ (l : List CpuId). or_else (record { 0 = 0 }) (slice_get l t.0)) homes
       ∙ ap (λ (o : Option CpuId). or_else (record { 0 = 0 }) o) (ended_home s.homes (cpu_at k) s.moves p.own (agree.stands k p there) t is) in
       cpu_has (table_home setup t) k p (λ q. (thread_at q t).ended ≡ true) home there ((cpus k p there).ended t known ∙ is)
+  own_so k p t at known there is = absurd is
 
   -- a thread that stands in a queue
   queue_so : (t : Tid) (w : Where) (at : Place) → where_is s.homes s.moves t ≡ w → queue_place w ≡ Some at → IsPlaceByTable setup (whole_of s) t at
-  queue_so t Home at here is = absurd (cc is)
-  queue_so t (Hand c) at here is = absurd (cc is)
   queue_so t (Pend c) at here is =
       let within = agree.within t c (pend_home s.homes s.moves t c agree.lawful here) in
       let there = there_is s.cpus c.0 within in
@@ -96,7 +68,6 @@ module _ (s : Shown) (agree : MovesAgree s) (lines : BufId → WaitList → List
       let count = pend_count s.homes s.moves agree.lawful c t in
       subst (λ (x : Place). IsPlaceByTable setup (whole_of s) t x) (same_Some (place.Pending c) at is)
       (pending_by s.moves c, (cpus c.0 there.0 there.1).pending, counted_in t (pending_by s.moves c) (omega (arith, one, count)))
-  queue_so t (Asleep (At (lock.Pending c) line)) at here is = absurd (cc is)
   queue_so t (Asleep (At (lock.Buffer b) Sleepers)) at here is =
       let lies = asleep t b Sleepers here in
       let has = buffers b.0 lies.0 in
@@ -121,7 +92,7 @@ module _ (s : Shown) (agree : MovesAgree s) (lines : BufId → WaitList → List
         has.there,
         ap (λ (l : List Tid). is_in t l) (sym has.told.senders) ∙ ap (λ (x : Waiters). is_in t x.senders) (waiters_of b.0 lies.0) ∙ lies.1,
       )
+  queue_so t w at here is = absurd (cc is)
 
   pub place_read : (t : Tid) (at : Place) → t.0 < length s.homes → IsPlaceOf s t at → IsPlaceByTable setup (whole_of s) t at
-  place_read t at known (inl (k, p, there, own)) = own_so k p t at known there own
-  place_read t at known (inr told) = queue_so t (where_is s.homes s.moves t) at refl told
+  place_read t at known either = grind (arith, own_so, queue_so)

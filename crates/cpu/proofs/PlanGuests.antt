@@ -1,26 +1,19 @@
 -- The guests, the homes and the capacities of a plan open a system.
-use Rattle.std.proofs.Common.{◌≡◌, ◌≢◌, ◌⊎◌, inl, inr, ℕ, zero, suc, ◌+◌, ◌<◌, ◌≤◌, ◌==◌, Bool, true, false, List, [], ◌∷◌, ◌++◌, length, map, replicate, take}
-use Rattle.std.proofs.Common.{Option, Some, None, refl, ap, sym, ◌∙◌, subst, arith}
-use Rattle.std.specs.Prelude.{All, IsTrue, slice_get, slice_index_or, if◌then◌else◌}
-use Rattle.std.proofs.lemmas.{Bool.cases_lt, Bool.eq-eqb, Bool.eqb-true, Bool.ne_eqb, List.get_or_past, List.length-map, List.map-append, List.take_more}
-use Rattle.std.proofs.lemmas.{List.Elements.All-from_get_or, List.Elements.All-get_or, List.Elements.All-map, Option.get_or_from_slice_get}
-use Rattle.std.proofs.lemmas.{Option.slice_get_within, Option.unwrap_or-slice_get}
-use Rattle.event_log.specs.declared.ids.CpuId.{CpuId}
-use Rattle.guest.specs.{declared.instructions.Instruction.Instruction, declared.instructions.Instruction.TheVariants.Exit, Instructions.names_below}
-use Rattle.boot.specs.Plan.{IsPlan, IsTask, BootPlan, Task, home_of as plan_home, program_of}
-use Rattle.layer_traits.specs.{OnePlace.cpu_at, Openings.AreOpenable}
-use Rattle.cpu.specs.{declared.guests.Guest.Guest, Guests.new_guest, Boots.AreGuests, Boots.AreTables, Boots.guest_for, Boots.guests_for, Boots.homes_for}
-use Rattle.cpu.specs.{Boots.tables_for, Claims.listed, Cpus.NamesBelow, Cpus.guest_at}
-use Rattle.cpu.proofs.{GuestLists.guest_within, ListReads.listed_length, ListReads.listed_there, ListReads.shown_at, ListReads.shows_at, ListReads.there_is}
+use Rattle.std.proofs.Common.{◌≡◌, ◌≢◌, ◌⊎◌, ℕ, zero, suc, ◌+◌, ◌<◌, ◌≤◌, ◌==◌, Bool, true, false, List, [], ◌∷◌, ◌++◌, length, map, replicate, take, Option}
+use Rattle.std.proofs.{Common.{Some, None, refl, ap, sym, ◌∙◌, subst, arith}, lemmas.{Bool.{cases_lt, eq-eqb, eqb-true, ne_eqb}, List.get_or_past}}
+use Rattle.std.proofs.lemmas.{List.{length-map, map-append, take_more, Elements.{All-from_get_or, All-get_or, All-map}}, Option.get_or_from_slice_get}
+use Rattle.std.{proofs.lemmas.Option.{slice_get_within, unwrap_or-slice_get}, specs.Prelude.{All, IsTrue, slice_get, slice_index_or, if◌then◌else◌}}
+use Rattle.{event_log.specs.declared.ids.CpuId.CpuId, guest.specs.{declared.instructions.Instruction.{Instruction, TheVariants.Exit}, Instructions.names_below}}
+use Rattle.{boot.specs.Plan.{IsPlan, IsTask, BootPlan, Task, home_of as plan_home, program_of}, layer_traits.specs.{OnePlace.cpu_at, Openings.AreOpenable}}
+use Rattle.cpu.specs.{declared.guests.Guest.Guest, Guests.new_guest, Boots.{AreGuests, AreTables, guest_for, guests_for, homes_for, tables_for}, Claims.listed}
+use Rattle.cpu.{specs.Cpus.{NamesBelow, guest_at}, proofs.{GuestLists.guest_within, ListReads.{listed_length, listed_there, shown_at, shows_at, there_is}}}
 
 -- a program that names none but the first buffers does so in each line
 names_in_lines : (buffers : ℕ) (program : List Instruction) → All (λ i. IsTrue (names_below buffers i)) program → NamesBelow buffers program
-names_in_lines buffers program all line =
-    subst (λ (i : Instruction). names_below buffers i ≡ true) (sym (unwrap_or-slice_get program line Exit)) (go (cases_lt line (length program)))
+names_in_lines buffers program all line = rw (unwrap_or-slice_get program line Exit) (go (cases_lt line (length program)))
   where
     go : (line < length program) ⊎ (length program ≤ line) → names_below buffers (slice_index_or program line Exit) ≡ true
-    go (inl within) = All-get_or (λ (i : Instruction). IsTrue (names_below buffers i)) program line Exit within all
-    go (inr past) = subst (λ (i : Instruction). names_below buffers i ≡ true) (sym (get_or_past program line Exit past)) refl
+    go either = grind (arith, get_or_past)
 
 module _ (cpus buffers : ℕ) (tasks : List Task) (all : All (IsTask cpus buffers) tasks) (c : ℕ) where
   -- a guest of CPU c is that of a thread at home there
@@ -32,15 +25,12 @@ module _ (cpus buffers : ℕ) (tasks : List Task) (all : All (IsTask cpus buffer
 
   pub by_task : (t : ℕ) (g : Guest) → guest_at (map (guest_for c) tasks) t ≡ Some g → IsGuestOf t g
   by_task t g at =
-      let within = guest_within (map (guest_for c) tasks) t g at in
-      let count = length-map tasks (guest_for c) in
-      let there = there_is tasks t (omega (arith, within, count)) in
+      let there = there_is tasks t (omega (arith, guest_within (map (guest_for c) tasks) t g at, length-map tasks (guest_for c))) in
       let shows = get_or_from_slice_get (map (guest_for c) tasks) t (guest_for c there.0) None (shows_at (guest_for c) tasks t there.0 there.1) in
       go there.0 there.1 (there.0.home == c) refl (sym shows ∙ at)
     where
       go : (task : Task) → slice_get tasks t ≡ Some task → (b : Bool) → (task.home == c) ≡ b → guest_for c task ≡ Some g → IsGuestOf t g
-      go task there true home is = record { task = task; there = there; home = eqb-true task.home c home; is = cc (rw home at is) }
-      go task there false home is = absurd (cc (rw home at is))
+      go task there b home is = grind (arith, eqb-true)
 
   pub are_guests : AreGuests (map (λ task. record { 0 = task.home }) tasks) buffers (cpu_at c) (map (guest_for c) tasks)
   are_guests = record {
@@ -60,9 +50,7 @@ module _ (cpus buffers : ℕ) (tasks : List Task) (all : All (IsTask cpus buffer
           get_or_from_slice_get (map (guest_for c) tasks) k (guest_for c task) None (shows_at (guest_for c) tasks k task there) ∙ (rw same refl)
 
       task_is : (k : ℕ) (task : Task) → slice_get tasks k ≡ Some task → IsTask cpus buffers task
-      task_is k task there =
-          subst (λ (x : Task). IsTask cpus buffers x) (get_or_from_slice_get tasks k task task there)
-          (All-get_or (IsTask cpus buffers) tasks k task (slice_get_within tasks k task there) all)
+      task_is k task there = grind (arith, get_or_from_slice_get, slice_get_within)
 
 -- what a plan opens is one that may be opened
 pub are_openable : (plan : BootPlan) → IsPlan plan → AreOpenable plan.cpus plan.caps (homes_for plan)
@@ -81,8 +69,7 @@ pub are_tables : (plan : BootPlan) → IsPlan plan → AreTables (homes_for plan
 are_tables plan is k guests at =
     let within = slice_get_within (tables_for plan) k guests at in
     let count = listed_length (guests_for plan) plan.cpus 0 in
-    let same : guests_for plan k ≡ guests =
-    sym (listed_there (guests_for plan) plan.cpus k [] (omega (arith, within, count))) ∙ get_or_from_slice_get (tables_for plan) k guests [] at in
+    let same = sym (listed_there (guests_for plan) plan.cpus k [] (omega (arith, within, count))) ∙ get_or_from_slice_get (tables_for plan) k guests [] at in
     subst (λ (l : List (Option Guest)). AreGuests (homes_for plan) (length plan.caps) (cpu_at k) l) same
     (are_guests plan.cpus (length plan.caps) plan.tasks is.tasks.each k)
 
@@ -107,11 +94,9 @@ homes_more plan t h xs within is before =
     let there = there_is plan.tasks t within in
     let home : plan_home plan t ≡ there.0.home =
     get_or_from_slice_get (map (λ (task : Task). task.home) plan.tasks) t there.0.home 0 (shows_at (λ (task : Task). task.home) plan.tasks t there.0 there.1) in
-    let shown : slice_index_or (homes_for plan) t h ≡ cpu_at there.0.home =
-    get_or_from_slice_get (homes_for plan) t (cpu_at there.0.home) h (shows_at (λ (task : Task). cpu_at task.home) plan.tasks t there.0 there.1) in
+    let shown = get_or_from_slice_get (homes_for plan) t (cpu_at there.0.home) h (shows_at (λ (task : Task). cpu_at task.home) plan.tasks t there.0 there.1) in
     let same : h ≡ slice_index_or (homes_for plan) t h = ap (λ (k : ℕ). cpu_at k) (is ∙ home) ∙ sym shown in
-    ap (λ (l : List CpuId). l ++ h ∷ []) before ∙ ap (λ (x : CpuId). take t (homes_for plan) ++ x ∷ []) same
-    ∙ sym (take_more (homes_for plan) t h (omega (arith, count, within)))
+    grind (arith, same, take_more, count)
 
 -- What a CPU has at the number of a thread.
 
@@ -121,8 +106,7 @@ guest_there plan c t within b is =
     let there = there_is plan.tasks t within in
     let home : plan_home plan t ≡ there.0.home =
     get_or_from_slice_get (map (λ (task : Task). task.home) plan.tasks) t there.0.home 0 (shows_at (λ (task : Task). task.home) plan.tasks t there.0 there.1) in
-    let program : program_of plan t ≡ there.0.program =
-    get_or_from_slice_get (map (λ (task : Task). task.program) plan.tasks) t there.0.program []
+    let program = get_or_from_slice_get (map (λ (task : Task). task.program) plan.tasks) t there.0.program []
     (shows_at (λ (task : Task). task.program) plan.tasks t there.0 there.1) in
     let same : (there.0.home == c) ≡ b = ap (λ (k : ℕ). k == c) (sym home) ∙ is in
     get_or_from_slice_get (guests_for plan c) t (guest_for c there.0) None (shows_at (guest_for c) plan.tasks t there.0 there.1)

@@ -1,31 +1,14 @@
 -- A system that is reached by the step table: at boot, after a step, and after a schedule.
-use Rattle.std.proofs.Common.{◌≡◌, ℕ, zero, suc, ◌<◌, ◌≤◌, List, [], ◌∷◌, ◌++◌, length, map, replicate, Option, Some, None, option_map, refl}
-use Rattle.std.proofs.Common.{ap, sym, ◌∙◌, subst, arith}
-use Rattle.std.specs.Prelude.{slice_get, slice_index_or}
-use Rattle.std.proofs.lemmas.{Option.slice_get_within, Option.same_Some}
-use Rattle.event_log.specs.{declared.entries.Entry.Entry, declared.ids.BufId.BufId, declared.ids.CpuId.CpuId}
-use Rattle.event_log.specs.{declared.ids.TheConstants.THREADS, declared.ids.Tid.Tid, Actions.Action}
-use Rattle.layer_traits.specs.{declared.moves.WaitList.WaitList, declared.steps.Step.Step}
-use Rattle.layer_traits.specs.{Places.Step as Moving}
-use Rattle.cpu.specs.{declared.guests.Guest.Guest, Claims.CpuShown, Claims.Shown, Claims.shown_of, Cpus.guest_at, Cpus.programs_of, Sound.IsReachedByTable}
-use Rattle.cpu.specs.{Sound.IsSetupFor, Sound.RanByTable, Sound.ReturnsAlone, Sound.SoundByTable, Sound.after_steps, Systems.GoesBy, Systems.SamePlan}
-use Rattle.cpu.specs.{Systems.SteppedByTable, Systems.whole_of, Table.Setups.Setup, Table.Steps.IsReached, Table.Steps.Whole}
-use Rattle.cpu.specs.{Table.Steps.steps, Table.Steps.steps_by, Table.Steps.system_step, Tower.Views.TowerName}
-use Rattle.cpu.specs.{Wakeups.Alone.HasReturned, Wakeups.Alone.IsInCall, Wakeups.Alone.steps_to_return}
-use Rattle.cpu.proofs.{GuestLists.at_programs, ListReads.shows_at, ListReads.there_is}
-use Rattle.cpu.proofs.{Wakeups.ReachedStates.systems_lose_no_wake_up, Wakeups.ReadyCalls.calls_return_alone}
+use Rattle.std.proofs.Common.{◌≡◌, ℕ, zero, suc, ◌<◌, ◌≤◌, List, [], ◌∷◌, ◌++◌, length, map, replicate, Option, Some, None, option_map, refl, ap, sym, ◌∙◌}
+use Rattle.std.{proofs.{Common.{subst, arith}, lemmas.Option.{slice_get_within, same_Some}}, specs.Prelude.{slice_get, slice_index_or}}
+use Rattle.event_log.specs.{declared.{entries.Entry.Entry, ids.{BufId.BufId, CpuId.CpuId, TheConstants.THREADS, Tid.Tid}}, Actions.Action}
+use Rattle.{layer_traits.specs.{declared.{moves.WaitList.WaitList, steps.Step.Step}, Places.Step as Moving}, cpu.specs.declared.guests.Guest.Guest}
+use Rattle.cpu.specs.{Claims.{CpuShown, Shown, shown_of}, Cpus.{guest_at, programs_of}, Sound.{IsReachedByTable, IsSetupFor, RanByTable, ReturnsAlone}}
+use Rattle.cpu.specs.{Sound.{SoundByTable, after_steps}, Systems.{GoesBy, SamePlan, SteppedByTable, whole_of}, Table.{Setups.Setup, Steps.{IsReached, Whole}}}
+use Rattle.cpu.specs.{Table.Steps.{steps, steps_by, system_step}, Tower.Views.TowerName, Wakeups.Alone.{IsInCall, steps_to_return}}
+use Rattle.cpu.proofs.{GuestLists.at_programs, ListReads.{shows_at, there_is}, Wakeups.{ReachedStates.systems_lose_no_wake_up, ReadyCalls.calls_return_alone}}
 
 -- One setup for all states of a system.
-
-pub plan_back : {s r : Shown} → SamePlan s r → SamePlan r s
-plan_back same = record {
-  caps = sym same.caps;
-  homes = sym same.homes;
-  programs = sym same.programs;
-  count = sym same.count;
-  limits = sym same.limits;
-  room = sym same.room;
-}
 
 -- what the elements at one index show, where the lists show the same
 same_shown : {X Y : Type 0} (f : X → Y) (xs ys : List X) (k : ℕ) (x y : X) → map f xs ≡ map f ys → slice_get xs k ≡ Some x → slice_get ys k ≡ Some y → f x ≡ f y
@@ -35,24 +18,18 @@ same_shown f xs ys k x y same at there =
 -- a guest of a table that has the programs of another one
 guest_as : (guests others : List (Option Guest)) (t : ℕ) (g : Guest) → programs_of guests ≡ programs_of others → guest_at guests t ≡ Some g
     → (x : Guest) × (guest_at others t ≡ Some x) × (x.program ≡ g.program)
-guest_as guests others t g same at = go (guest_at others t) refl
+guest_as guests others t g same at = grind (arith, shown, same_Some)
   where
     shown : option_map (λ x. x.program) (guest_at others t) ≡ Some g.program
     shown =
         sym (at_programs others t) ∙ ap (λ (l : List (Option (List _))). slice_index_or l t None) (sym same) ∙ at_programs guests t
         ∙ ap (λ (o : Option Guest). option_map (λ x. x.program) o) at
 
-    go : (o : Option Guest) → guest_at others t ≡ o → (x : Guest) × (guest_at others t ≡ Some x) × (x.program ≡ g.program)
-    go None is = absurd (cc (shown, is))
-    go (Some x) is = (x, is, same_Some x.program g.program (sym (ap (λ (o : Option Guest). option_map (λ y. y.program) o) is) ∙ shown))
-
 -- a setup of a system is that of each other state of it
 pub goes_on : (setup : Setup) {s r : Shown} → SamePlan s r → GoesBy setup s → GoesBy setup r
 goes_on setup {s = s} {r = r} same goes = record {
   each = λ k q at.
-      let within = slice_get_within r.cpus k q at in
-      let count = same.count in
-      let old = there_is s.cpus k (omega (arith, within, count)) in
+      let old = there_is s.cpus k (omega (arith, slice_get_within r.cpus k q at, same.count)) in
       let of = goes.each k old.0 old.1 in
       record {
         homes_are = of.homes_are ∙ sym same.homes;
@@ -74,11 +51,10 @@ setup_on setup same is = record { goes = goes_on setup same is.goes; count = is.
 pub reached_on : (c : CpuId) (s r : Shown) (answer : Step) → c.0 < length s.cpus → SamePlan s r → SteppedByTable c s r answer → IsReachedByTable s
     → IsReachedByTable r
 reached_on c s r answer within same went reached setup is =
-    let before = setup_on setup (plan_back same) is in
-    let count = before.count in
+    let before = setup_on setup (grind (arith, same)) is in
     let next : (system_step setup c (whole_of s)).next ≡ whole_of r = ap (λ x. x.next) (sym (went setup before.goes)) in
     subst (λ (n : ℕ). IsReached setup n (whole_of r)) (sym same.room)
-    (subst (λ (w : Whole). IsReached setup s.room w) next (steps c (reached setup before) (omega (arith, count, within))))
+    (subst (λ (w : Whole). IsReached setup s.room w) next (steps c (reached setup before) (omega (arith, before.count, within))))
 
 -- what a machine tells
 pub record Observed : Type 0 where
@@ -115,8 +91,7 @@ alone_of s few some reached setup is c p t ready room =
     let first = there_is s.cpus 0 some in
     let homes = ap (λ (l : List CpuId). length l) (is.goes.each 0 first.0 first.1).homes_are in
     let alone = calls_return_alone setup s.room (whole_of s) c p t (omega (arith, homes, few)) (reached setup is) ready (omega (arith, room)) in (
-      λ new ran. subst (λ (w : Whole). HasReturned w c p t ready.effect ready.buffer)
-          (after (steps_to_return setup c ready.effect ready.block) new ran) alone.0,
+      λ new ran. rw (← after (steps_to_return setup c ready.effect ready.block) new ran) alone.0,
       λ n before one_more ran. subst (λ (w : Whole). IsInCall w c t) (after n before ran) (alone.1 n one_more),
       alone.2,
     )

@@ -1,15 +1,11 @@
 -- A system over a layer of message calls, after steps of one of its CPUs, one behind the other.
-use Rattle.std.proofs.Common.{◌≡◌, ℕ, ◌+◌, ◌<◌, ◌≤◌, List, [], ◌∷◌, ◌++◌, map, replicate, Some, None, slice_set, refl, sym, subst, arith}
-use Rattle.std.specs.Prelude.{slice_get}
-use Rattle.std.specs.List.{AllByRecursion}
-use Rattle.std.proofs.lemmas.{List.replicate-append-replicate, Option.slice_get_within}
-use Rattle.event_log.specs.{declared.ids.BufId.BufId, declared.ids.CpuId.CpuId, declared.ids.Tid.Tid, declared.ids.TheConstants.CPUS, Actions.AreLegal}
-use Rattle.layer_traits.specs.{declared.call_layers.CallLayer.Ghosts, declared.steps.Step.TheVariants.Stepped}
-use Rattle.cpu.specs.{declared.cpus.Cpu.Cpu, Claims.Shown, CpuSteps.RunsAt, CpuSteps.SteppedAt, Systems.SteppedByTable, Systems.reason_of}
-use Rattle.cpu.proofs.{InvariantOverSteps.Holds, InvariantOverSteps.live_of, ListReads.set_again, ListReads.set_there, ListReads.set_twice, ListReads.shows_at}
-use Rattle.cpu.proofs.{ReachedSystems.shown_in, Schedules.Leads, Schedules.leads_live, Schedules.leads_nowhere, SystemOverLayer.by_table}
-use Rattle.cpu.proofs.{SystemOverLayer.observed_by, SystemOverLayer.plan_preserved, SystemOverLayer.shown_by, SystemOverLayer.went_on, SystemOverLayer.works_by}
-use Rattle.std.specs.Prelude.{Option}
+use Rattle.std.proofs.{lemmas.{Bool.ne_eqb, List.replicate-append-replicate, Option.slice_get_within}, Common.{◌≡◌, ℕ, ◌+◌, ◌<◌, ◌≤◌, List, [], ◌∷◌, ◌++◌, map}}
+use Rattle.std.{proofs.Common.{replicate, Some, None, slice_set, refl, sym, subst, arith}, specs.{Prelude.{slice_get, Option}, List.AllByRecursion}}
+use Rattle.event_log.specs.{declared.ids.{BufId.BufId, CpuId.CpuId, Tid.Tid, TheConstants.CPUS}, Actions.AreLegal}
+use Rattle.{layer_traits.specs.declared.{call_layers.CallLayer.Ghosts, steps.Step.TheVariants.Stepped}, cpu.specs.{declared.cpus.Cpu.Cpu, Claims.Shown}}
+use Rattle.cpu.{specs.{CpuSteps.{RunsAt, SteppedAt}, Systems.{SteppedByTable, reason_of}}, proofs.{InvariantOverSteps.Holds, ListReads.{set_again, set_there}}}
+use Rattle.cpu.proofs.{ListReads.{set_twice, shows_at}, ReachedSystems.shown_in, Schedules.{Leads, leads_live, leads_nowhere}, SystemOverLayer.by_table}
+use Rattle.cpu.proofs.SystemOverLayer.{observed_by, plan_preserved, shown_by, went_on, works_by}
 
 -- what the laws of a layer say of a machine that a part agrees with
 pub record MachineLaws {P L M : Type 0} (I : Ghosts P L M) : Type 0 where
@@ -36,8 +32,7 @@ module _ {P L M : Type 0} (I : Ghosts P L M) (laws : MachineLaws I) (owner : M �
         → Leads I.IsStepwise s (schedule ++ c ∷ []) (shows n (slice_set cpus k y) (taken + 1))
     leads_one s schedule before =
         let there = subst (λ (j : ℕ). slice_get (map (shown_by I) cpus) j ≡ Some (shown_by I x)) same (shows_at (shown_by I) cpus k x at) in
-        let none : reason_of c (shows m cpus taken) ≡ None = live_of (shows m cpus taken) c (shown_by I x) there step.live
-        (λ full. omega (arith, full, live)) in
+        let none : reason_of c (shows m cpus taken) ≡ None = grind (arith, ne_eqb, there, step.live) in
         leads_live I.IsStepwise s (shows m cpus taken) (shows n (slice_set cpus k y) (taken + 1)) schedule c before
         (plan_preserved I owner threads m n cpus room taken (taken + 1) k x y at step.leaves) none refl by_one
 
@@ -66,11 +61,9 @@ module _ {P L M : Type 0} (I : Ghosts P L M) (laws : MachineLaws I) (owner : M �
       let twice : slice_set amid k r ≡ slice_set cpus k r = set_twice cpus k q r in
       record {
         keeps = subst (λ (l : List (Cpu P M)). Holds (works_by I owner threads) o l room (taken + (steps + 1))) twice
-            (subst (λ (done : ℕ). Holds (works_by I owner threads) o (slice_set amid k r) room done) sum
-            (keeps_one n o amid (taken + steps) q r before.keeps there live step));
+            (rw (← sum) (keeps_one n o amid (taken + steps) q r before.keeps there live step));
         leads = subst (λ (l : List (Cpu P M)). Leads I.IsStepwise (shows m cpus taken) (replicate (steps + 1) c) (shows o l (taken + (steps + 1)))) twice
             (subst (λ (done : ℕ). Leads I.IsStepwise (shows m cpus taken) (replicate (steps + 1) c) (shows o (slice_set amid k r) done)) sum
-            (subst (λ (l : List CpuId). Leads I.IsStepwise (shows m cpus taken) l (shows o (slice_set amid k r) ((taken + steps) + 1)))
-            (replicate-append-replicate steps 1 c)
+            (rw (← replicate-append-replicate steps 1 c)
             (leads_one n o amid (taken + steps) q r before.keeps there live step (shows m cpus taken) (replicate steps c) before.leads)));
       }

@@ -1,17 +1,11 @@
 -- Schedules: what the steps of a list of CPUs lead to, one behind the other.
-use Rattle.std.proofs.Common.{◌≡◌, ℕ, zero, suc, ◌+◌, ◌-◌, ◌<◌, List, [], ◌∷◌, ◌++◌, length, replicate, take, drop, Option, Some, None}
-use Rattle.std.proofs.Common.{true, is_some, refl, ap, sym, ◌∙◌, subst, append_assoc, arith}
-use Rattle.std.specs.Prelude.{slice_index_or}
-use Rattle.std.proofs.{Math.Seq.take-add, lemmas.List.append-nil, lemmas.List.replicate-append-replicate, lemmas.List.take_rest}
-use Rattle.event_log.specs.declared.ids.CpuId.{CpuId}
-use Rattle.layer_traits.specs.{declared.steps.Reason.Reason, declared.steps.Step.Step, declared.steps.Step.TheVariants.Halted}
-use Rattle.layer_traits.specs.{declared.steps.Step.TheVariants.Stepped, Spins.BeginWith}
-use Rattle.cpu.specs.{Claims.Shown, Sound.IsReachedByTable, Sound.RanByTable, Sound.after_steps, Systems.Ran, Systems.SamePlan, Systems.SteppedByTable}
-use Rattle.cpu.specs.{Systems.HaltsByTable, Systems.WentOn, Systems.goes, Systems.halted_in, Systems.reason_of, Systems.starts, Systems.stayed, Systems.took}
-use Rattle.cpu.specs.{Systems.whole_of, Table.Setups.Setup}
-use Rattle.cpu.specs.Table.Steps.{IsReached, Stepping, Whole, steps, system_step}
-use Rattle.cpu.proofs.{ReachedSystems.after_more, ReachedSystems.goes_on, ReachedSystems.plan_back, ReachedSystems.setup_on, TableHalts.reasons_step}
-use Rattle.cpu.proofs.TableSystems.{same_plans}
+use Rattle.std.proofs.Common.{◌≡◌, ℕ, zero, suc, ◌+◌, ◌-◌, ◌<◌, List, [], ◌∷◌, ◌++◌, length, replicate, take, drop, Option, Some, None, true, is_some, refl, ap}
+use Rattle.std.proofs.{Common.{sym, ◌∙◌, subst, append_assoc, arith}, Math.Seq.take-add, lemmas.List.{append-nil, replicate-append-replicate, take_rest}}
+use Rattle.{std.specs.Prelude.slice_index_or, event_log.specs.declared.ids.CpuId.CpuId, layer_traits.specs.declared.steps.{Reason.Reason, Step.Step}}
+use Rattle.{layer_traits.specs.{declared.steps.Step.TheVariants.{Halted, Stepped}, Spins.BeginWith}, cpu.specs.{Claims.Shown, Sound.IsReachedByTable}}
+use Rattle.cpu.specs.{Sound.{RanByTable, after_steps}, Systems.{Ran, SamePlan, SteppedByTable, HaltsByTable, WentOn, goes, halted_in, reason_of, starts}}
+use Rattle.cpu.specs.{Systems.{stayed, took, whole_of}, Table.{Setups.Setup, Steps.{IsReached, Whole, steps, system_step}}}
+use Rattle.cpu.proofs.{ReachedSystems.{after_more, goes_on, setup_on}, TableHalts.reasons_step}
 
 -- the steps of these CPUs lead from s to r
 pub record Leads (IsStepwise : Type 0) (s : Shown) (schedule : List CpuId) (r : Shown) : Type 0 where
@@ -31,11 +25,10 @@ leads_nowhere IsStepwise s = record {
 pub leads_more : (IsStepwise : Type 0) (s r t : Shown) (schedule : List CpuId) (c : CpuId) (answer : Step) → Leads IsStepwise s schedule r → SamePlan r t
     → WentOn IsStepwise c r t → (IsStepwise → SteppedByTable c r t answer) → Leads IsStepwise s (schedule ++ c ∷ []) t
 leads_more IsStepwise s r t schedule c answer leads same went by = record {
-  plan = same_plans leads.plan same;
+  plan = grind (arith, leads.plan, same);
   ran = goes c t leads.ran went;
   table = λ step setup for.
-      ap (λ (x : Stepping). x.next) (by step setup (goes_on setup leads.plan for))
-      ∙ ap (λ (w : Whole). (system_step setup c w).next) (leads.table step setup for) ∙ sym (after_more setup schedule c (whole_of s));
+      grind (arith, goes_on, after_more);
 }
 
 -- a step more that is taken
@@ -60,8 +53,7 @@ ran_on : (IsStepwise : Type 0) (s r t : Shown) (first second : List CpuId) → R
     → Ran IsStepwise s (first ++ second) t
 ran_on IsStepwise s r _ first _ ran starts = subst (λ (l : List CpuId). Ran IsStepwise s l r) (sym (append-nil first)) ran
 ran_on IsStepwise s r _ first _ ran (goes {steps = second} {s = u} c t more went) =
-    subst (λ (l : List CpuId). Ran IsStepwise s l t) (append_assoc first second (c ∷ []))
-    (goes c t (ran_on IsStepwise s r u first second ran more) went)
+    rw (← append_assoc first second (c ∷ [])) (goes c t (ran_on IsStepwise s r u first second ran more) went)
 
 after_both : (setup : Setup) (first second : List CpuId) (s : Whole) → after_steps setup (first ++ second) s
     ≡ after_steps setup second (after_steps setup first s)
@@ -72,11 +64,10 @@ after_both setup (c ∷ first) second s = after_both setup first second (system_
 pub leads_on : (IsStepwise : Type 0) (s r t : Shown) (first second : List CpuId) → Leads IsStepwise s first r → Leads IsStepwise r second t
     → Leads IsStepwise s (first ++ second) t
 leads_on IsStepwise s r t first second one two = record {
-  plan = same_plans one.plan two.plan;
+  plan = grind (arith, one.plan, two.plan);
   ran = ran_on IsStepwise s r t first second one.ran two.ran;
   table = λ step setup for.
-      two.table step setup (goes_on setup one.plan for) ∙ ap (λ (w : Whole). after_steps setup second w) (one.table step setup for)
-      ∙ sym (after_both setup first second (whole_of s));
+      grind (arith, goes_on, after_both);
 }
 
 -- the front of what is left of a schedule stands behind what was taken of it
@@ -86,8 +77,7 @@ taken_on all at more = ap (λ (l : List CpuId). take at all ++ take more l) (tak
 -- more steps of one CPU behind those of it
 pub leads_alone : (IsStepwise : Type 0) (s r t : Shown) (c : CpuId) (m n : ℕ) → Leads IsStepwise s (replicate m c) r → Leads IsStepwise r (replicate n c) t
     → Leads IsStepwise s (replicate (m + n) c) t
-leads_alone IsStepwise s r t c m n one two = subst (λ (l : List CpuId). Leads IsStepwise s l t) (replicate-append-replicate m n c)
-    (leads_on IsStepwise s r t (replicate m c) (replicate n c) one two)
+leads_alone IsStepwise s r t c m n one two = rw (← replicate-append-replicate m n c) (leads_on IsStepwise s r t (replicate m c) (replicate n c) one two)
 
 -- steps that are not taken
 pub leads_resting : (IsStepwise : Type 0) (c : CpuId) (s : Shown) (asked : ℕ) → c.0 < length s.cpus → is_some (reason_of c s) ≡ true
@@ -105,8 +95,7 @@ turn_taken [] d more some begins = absurd (omega (arith, some))
 turn_taken (c ∷ rest) d more some begins =
     let behind : take more rest ≡ replicate more c = ap (λ (l : List CpuId). take more l) (sym (take_rest (c ∷ rest) 1)) ∙ begins.first in
     let count : suc more ≡ more + 1 = omega arith in
-    ap (λ (n : ℕ). replicate n c) (sym count)
-    ∙ (ap (λ (l : List CpuId). c ∷ l) (sym behind) ∙ ap (λ (n : ℕ). take n (c ∷ rest)) count)
+    grind (arith, count, behind)
 
 -- What the table reaches.
 
@@ -119,8 +108,7 @@ reached_far setup room c (suc looks) s reached within = reached_far setup room c
 pub reached_alone : (IsStepwise : Type 0) (c : CpuId) (looks : ℕ) (s r : Shown) → c.0 < length s.cpus → Leads IsStepwise s (replicate looks c) r → IsStepwise
     → IsReachedByTable s → IsReachedByTable r
 reached_alone IsStepwise c looks s r within leads step reached setup is =
-    let before = setup_on setup (plan_back leads.plan) is in
-    let count = before.count in
+    let before = setup_on setup (grind (arith, leads.plan)) is in
     subst (λ (n : ℕ). IsReached setup n (whole_of r)) (sym leads.plan.room)
     (subst (λ (w : Whole). IsReached setup s.room w) (sym (leads.table step setup before.goes))
-    (reached_far setup s.room c looks (whole_of s) (reached setup before) (omega (arith, count, within))))
+    (reached_far setup s.room c looks (whole_of s) (reached setup before) (omega (arith, before.count, within))))

@@ -1,16 +1,12 @@
 -- A system over a layer of message calls, after looks of one of its CPUs that all missed.
-use Rattle.std.proofs.Common.{◌≡◌, ◌≢◌, ℕ, zero, suc, ◌+◌, ◌<◌, ◌≤◌, false, List, [], ◌∷◌, ◌++◌, length, map, replicate, Option}
-use Rattle.std.proofs.Common.{Some, None, refl, ap, sym, ◌∙◌, subst, arith}
-use Rattle.std.specs.Prelude.{slice_get}
-use Rattle.std.proofs.lemmas.{Bool.ne_eqb, Option.slice_get_within}
-use Rattle.event_log.specs.{declared.ids.BufId.BufId, declared.ids.CpuId.CpuId, declared.ids.LockId.LockId, declared.ids.Tid.Tid}
-use Rattle.event_log.specs.{Actions.Action, Actions.Try, Actions.AreLegal, Actions.cpu_of_action, Actions.phase, History.AreOthers}
-use Rattle.event_log.proofs.{Foreign.phase_others, Renaming.legal_renamed}
-use Rattle.layer_traits.specs.{declared.call_layers.CallLayer.Ghosts, OnePlace.cpu_at, Spins.Misses, Spins.Spun}
-use Rattle.cpu.specs.{declared.cpus.Cpu.Cpu, Claims.Shown, Systems.own_reason, Tower.Composed.named}
-use Rattle.cpu.specs.Tower.Views.{TowerName, name_of}
-use Rattle.cpu.proofs.{InvariantOverSteps.Holds, ListReads.shows_at, MissedLooks.misses_lead, ReachedSystems.shown_in, Schedules.Leads}
-use Rattle.cpu.proofs.{Schedules.leads_nowhere, Schedules.reached_alone, SystemOverLayer.observed_by, SystemOverLayer.shown_by, SystemOverLayer.works_by}
+use Rattle.std.proofs.Common.{◌≡◌, ◌≢◌, ℕ, zero, suc, ◌+◌, ◌<◌, ◌≤◌, false, List, [], ◌∷◌, ◌++◌, length, map, replicate, Option, Some, None, refl, ap, sym, ◌∙◌}
+use Rattle.std.{proofs.{Common.{subst, arith}, lemmas.{Bool.ne_eqb, Option.slice_get_within}}, specs.Prelude.slice_get}
+use Rattle.event_log.specs.{declared.ids.{BufId.BufId, CpuId.CpuId, LockId.LockId, Tid.Tid}, Actions.{Action, Try, AreLegal, cpu_of_action, phase}}
+use Rattle.event_log.{specs.History.AreOthers, proofs.{Foreign.phase_others, Renaming.legal_renamed}}
+use Rattle.{layer_traits.specs.{declared.call_layers.CallLayer.Ghosts, OnePlace.cpu_at, Spins.{Misses, Spun}}, cpu.specs.{declared.cpus.Cpu.Cpu, Claims.Shown}}
+use Rattle.cpu.{specs.{Systems.own_reason, Tower.{Composed.named, Views.{TowerName, name_of}}}, proofs.{InvariantOverSteps.Holds, ListReads.shows_at}}
+use Rattle.cpu.proofs.{MissedLooks.misses_lead, ReachedSystems.shown_in, Schedules.{Leads, leads_nowhere, reached_alone}, SystemOverLayer.observed_by}
+use Rattle.cpu.proofs.SystemOverLayer.{shown_by, works_by}
 
 -- tries under the table's names
 named_misses : (looks : ℕ) (c : CpuId) (lock : LockId) (past : List (Action TowerName))
@@ -106,5 +102,4 @@ module _ {P L M : Type 0} (I : Ghosts P L M) (owner : M → BufId → Option Tid
         inside = slice_get_within cpus k x at
 
         inside_shown : c.0 < length (map (shown_by I) cpus)
-        inside_shown = subst (λ (j : ℕ). j < length (map (shown_by I) cpus)) same
-            (slice_get_within (map (shown_by I) cpus) k (shown_by I x) (shows_at (shown_by I) cpus k x at))
+        inside_shown = rw (← same) (slice_get_within (map (shown_by I) cpus) k (shown_by I x) (shows_at (shown_by I) cpus k x at))

@@ -1,22 +1,14 @@
 -- What a step leaves beside the guests: how effects and actions grow, and the steps in which no guest's call goes on.
-use Rattle.std.proofs.Common.{◌≡◌, ◌==◌, Bool, true, false, List, [], ◌∷◌, ◌++◌, Option, Some, None, is_some, refl, ap, ◌∙◌, arith}
-use Rattle.std.specs.List.{AllByRecursion}
-use Rattle.event_log.specs.declared.{entries.Entry.Entry, ids.CpuId.CpuId, ids.LockId.LockId, ids.Tid.Tid}
-use Rattle.event_log.specs.Actions.{Action, Try, Phase, Rests, Waits, Holds, action_in, cpu_of_action, gives, phase, spot_of}
-use Rattle.layer_traits.specs.{declared.calls.Call.Call, declared.calls.Effect.Effect, declared.calls.Reply.Reply, declared.call_states.CallState.CallState}
-use Rattle.layer_traits.specs.{Looks.Tries, Places.Step, Places.Threads, Plans.Plan, Plans.Table, Plans.Left, Plans.Now, Plans.Act, Plans.Follows}
-use Rattle.layer_traits.specs.{BufferLaw.Called, BufferLaw.MovesGrow, BufferLaw.OthersSeen, BufferLaw.Passing, BufferLaw.buffer_of, BufferLaw.entry_of}
-use Rattle.layer_traits.specs.{BufferLaw.still_passing, declared.passes.Pass.Pass, Passes.PassPolled, Passes.pass_steps}
-use Rattle.layer_traits.specs.declared.passes.Pass.TheVariants.{Switch, End}
-use Rattle.cpu.specs.{declared.guests.Guest.Guest, Guests.after_pass, Guests.entries_of, Cpus.ActsGrow, Cpus.SeenGrows, Cpus.of_cpu, Cpus.passed_by}
-use Rattle.cpu.specs.{Cpus.programs_of}
-use Rattle.cpu.proofs.GuestLists.{cpu_same, programs_with}
+use Rattle.std.proofs.Common.{◌≡◌, ◌==◌, Bool, true, false, List, [], ◌∷◌, ◌++◌, Option, Some, None, refl, ap, ◌∙◌, arith}
+use Rattle.event_log.specs.{declared.{entries.Entry.Entry, ids.{CpuId.CpuId, LockId.LockId, Tid.Tid}}, Actions.{Action, Try, Phase, action_in, cpu_of_action}}
+use Rattle.{event_log.specs.Actions.{gives, phase, spot_of}, layer_traits.specs.declared.calls.{Call.Call, Effect.Effect, Reply.Reply}}
+use Rattle.layer_traits.specs.{declared.{call_states.CallState.CallState, passes.Pass.Pass}, Looks.Tries, Places.{Step, Threads}, Plans.{Plan, Table, Left}}
+use Rattle.layer_traits.specs.{Plans.{Now, Act, Follows}, BufferLaw.{Called, MovesGrow, OthersSeen, buffer_of, entry_of}, Passes.{PassPolled, pass_steps}}
+use Rattle.cpu.{specs.{Guests.entries_of, Cpus.{ActsGrow, SeenGrows, of_cpu}}, proofs.GuestLists.cpu_same}
 
 -- an action that is due to a CPU is its own
 own_action : {N : Type 0} (cpu : CpuId) (lock : LockId) (name : N) (past : List (Action N)) (p : Phase) → cpu_of_action (action_in cpu lock name past p) ≡ cpu
-own_action cpu lock name past Rests = refl
-own_action cpu lock name past (Waits at) = refl
-own_action cpu lock name past (Holds at) = refl
+own_action cpu lock name past p = grind arith
 
 -- a poll that followed any plan did at most one action
 pub follows_grow : {N B R S A : Type 0} (ActsFor : CpuId → Type 0) (table : Table N B R) (opening : LockId → Option B) (cpu : CpuId) (plan : Plan N R S A)
@@ -58,12 +50,7 @@ pub passed_grows : (homes : List CpuId) (ActsFor : CpuId → Type 0) (c : CpuId)
 passed_grows homes ActsFor c call None old new own own' polled =
     record { others = polled.others; mine = []; foreign = polled.foreign; own = tt; is = polled.is }
 passed_grows homes ActsFor c call (Some a) old new own own' polled =
-    record { others = polled.others; mine = pass_steps homes c call; foreign = polled.foreign; own = by_pass call; is = polled.is }
-  where
-    by_pass : (p : Pass) → AllByRecursion (λ s. s.cpu ≡ c) (pass_steps homes c p)
-    by_pass Switch = tt
-    by_pass End = tt
-    by_pass other = (refl, tt)
+    record { others = polled.others; mine = pass_steps homes c call; foreign = polled.foreign; own = grind arith; is = polled.is }
 
 -- effects of others alone
 pub others_grow : (ActsFor : CpuId → Type 0) (cpu : CpuId) (old new : List Entry) → OthersSeen ActsFor old new → SeenGrows ActsFor cpu old new
@@ -100,21 +87,3 @@ pub look_grows : {N : Type 0} (ActsFor : CpuId → Type 0) (cpu : CpuId) (old ne
     → (looked ≡ false → new ≡ old) → ActsGrow ActsFor cpu old new
 look_grows ActsFor cpu old new true tries still = tries_grow ActsFor cpu old new (tries refl)
 look_grows ActsFor cpu old new false tries still = none_grow ActsFor cpu old new (still refl)
-
--- what is under way after a pass
-pub under_way_done : {A : Type 0} (pass : Pass) (answer : Option A) → is_some answer ≡ true → still_passing pass answer ≡ None
-under_way_done pass None some = absurd (cc some)
-under_way_done pass (Some a) some = refl
-
-pub under_way_waits : {A : Type 0} (pass : Pass) (answer : Option A) → is_some answer ≡ false → still_passing pass answer ≡ Some (Passing pass)
-under_way_waits pass None none = refl
-under_way_waits pass (Some a) none = absurd (cc none)
-
--- a pass leaves the programs
-pub programs_passed : (runs : Option Tid) (guests : List (Option Guest)) (pass : Pass) → programs_of (passed_by runs guests pass) ≡ programs_of guests
-programs_passed None guests pass = refl
-programs_passed (Some t) guests pass = programs_with guests t.0 (after_pass pass) (keeps pass)
-  where
-    keeps : (p : Pass) (g : Guest) → (after_pass p g).program ≡ g.program
-    keeps Switch g = refl
-    keeps other g = refl

@@ -1,15 +1,11 @@
 -- A system over a layer of message calls, after a step of one of its CPUs.
-use Rattle.std.proofs.Common.{◌≡◌, ℕ, ◌+◌, ◌<◌, List, length, map, Option, Some, slice_set, vec_capacity, ap, arith, sym, subst, ◌∙◌, refl}
-use Rattle.std.specs.Prelude.{slice_get}
-use Rattle.std.proofs.lemmas.Option.{slice_get_within}
-use Rattle.std.specs.List.{AllByRecursion}
-use Rattle.event_log.specs.{declared.ids.BufId.BufId, declared.ids.TheConstants.CPUS, declared.ids.Tid.Tid, declared.ids.CpuId.CpuId, Actions.AreLegal}
-use Rattle.layer_traits.specs.{declared.call_layers.CallLayer.Ghosts, declared.steps.Step.TheVariants.Stepped, Along.IsStep, OnePlace.cpu_at, Places.Stands}
-use Rattle.cpu.specs.{declared.cpus.Cpu.Cpu, Claims.CpuShown, Claims.cpu_shown, CpuSteps.IsCpuAt, CpuSteps.IsTabledAt, CpuSteps.Leaves, Sound.IsReachedByTable}
-use Rattle.cpu.specs.{CpuSteps.WentAt, Systems.SteppedByTable, Table.Steps.cpu_step, Tower.Composed.named, Cpus.IsCpu, Cpus.programs_of, Systems.IsAt}
-use Rattle.cpu.specs.{Systems.SamePlan}
-use Rattle.cpu.proofs.{InvariantOverSteps.Holds, InvariantOverSteps.Works, InvariantOverSteps.stepped, ReachedSystems.Observed, ReachedSystems.shown_in, ListReads.shown_at, ListReads.shown_same}
-use Rattle.cpu.proofs.{ListReads.shown_length, ListReads.shows_at, OneOrder.Has, ReachedSystems.reached_on, TableSystems.shown_step}
+use Rattle.std.proofs.{lemmas.{List.{length-map, length-set}, Option.slice_get_within}, Common.{◌≡◌, ℕ, ◌+◌, ◌<◌, List, length, map, Option, Some, slice_set}}
+use Rattle.std.{proofs.Common.{vec_capacity, ap, arith, sym, subst, ◌∙◌}, specs.{Prelude.slice_get, List.AllByRecursion}}
+use Rattle.cpu.proofs.{ListReads.{map_twice, shows_same, shown_at, shows_at}, InvariantOverSteps.{Holds, Works, stepped}, ReachedSystems.{Observed, shown_in}}
+use Rattle.cpu.{proofs.{ReachedSystems.reached_on, OneOrder.Has, TableSystems.shown_step}, specs.{declared.cpus.Cpu.Cpu, Claims.{CpuShown, cpu_shown}}}
+use Rattle.cpu.specs.{CpuSteps.{IsCpuAt, IsTabledAt, Leaves, WentAt}, Sound.IsReachedByTable, Systems.{SteppedByTable, IsAt, SamePlan}, Table.Steps.cpu_step}
+use Rattle.{cpu.specs.Tower.Composed.named, event_log.specs.{declared.ids.{BufId.BufId, TheConstants.CPUS, Tid.Tid, CpuId.CpuId}, Actions.AreLegal}}
+use Rattle.layer_traits.specs.{declared.{call_layers.CallLayer.Ghosts, steps.Step.TheVariants.Stepped}, Along.IsStep, OnePlace.cpu_at, Places.Stands}
 
 -- what a CPU shows
 abbrev pub shown_by : {P L M : Type 0} → Ghosts P L M → Cpu P M → CpuShown
@@ -55,14 +51,7 @@ module _ {P L M : Type 0} (I : Ghosts P L M) (owner : M → BufId → Option Tid
   pub plan_preserved : (m n : M) (cpus : List (Cpu P M)) (room taken later k : ℕ) (x y : Cpu P M) → slice_get cpus k ≡ Some x → Leaves I m x n y
       → SamePlan (shown_in (observed_by I owner m) (map (shown_by I) cpus) room taken)
       (shown_in (observed_by I owner n) (map (shown_by I) (slice_set cpus k y)) room later)
-  plan_preserved m n cpus room taken later k x y at left = record {
-    caps = left.caps;
-    homes = left.homes;
-    programs = shown_same (shown_by I) (λ (p : CpuShown). programs_of p.guests) cpus k x y at left.programs;
-    count = shown_length (shown_by I) cpus k y;
-    limits = shown_same (shown_by I) (λ (p : CpuShown). p.limit) cpus k x y at left.limit;
-    room = refl;
-  }
+  plan_preserved m n cpus room taken later k x y at left = grind (arith, map_twice, shows_same, length-map, length-set)
 
   -- CPU c, at number k, took a step of the step table, from x to y
   module _ (m n : M) (cpus : List (Cpu P M)) (room taken k : ℕ) (c : CpuId) (x y : Cpu P M) (is : Holds W m cpus room taken) (at : slice_get cpus k ≡ Some x)
@@ -97,15 +86,4 @@ pub cpus_have : {P L M : Type 0} (I : Ghosts P L M) (m : M) (cpus : List (Cpu P 
 cpus_have {P} {M} I m cpus each stand = shown_at (shown_by I) (λ k p. Has (I.homes_of m) (length (I.caps m)) (I.seen m) (I.moves m) k p) cpus has_of
   where
     has_of : (k : ℕ) (x : Cpu P M) → slice_get cpus k ≡ Some x → Has (I.homes_of m) (length (I.caps m)) (I.seen m) (I.moves m) k (shown_by I x)
-    has_of k x there =
-        let at = (each k x there).number_is in
-        let holds = (each k x there).holds in
-        record {
-          call_states = I.call_states x.part;
-          under_way = I.under_way x.part;
-          capacity = vec_capacity x.trace;
-          is = subst (λ (c : CpuId). IsCpu (I.homes_of m) (length (I.caps m)) (I.seen m) (I.threads x.part) (I.call_states x.part)
-              (I.under_way x.part) c x.guests.items
-              x.trace.items x.limit (vec_capacity x.trace)) at holds.2;
-          stands = subst (λ (c : CpuId). Stands (I.homes_of m) c (I.moves m) (I.threads x.part)) (holds.1 ∙ at) (stand x.part holds.0);
-        }
+    has_of k x there = grind arith

@@ -1,19 +1,14 @@
 -- A system before its first step is the step table's at boot, and the setup that its plan says is its own.
 use Rattle.std.proofs.Common.{◌≡◌, ℕ, zero, suc, ◌+◌, false, List, [], ◌∷◌, length, map, replicate, Option, Some, None, refl, ap, sym, ◌∙◌, subst, arith}
-use Rattle.std.specs.Prelude.{IfOk, Result, Ok, Err, slice_get, slice_index_or, if◌then◌else◌}
-use Rattle.std.proofs.lemmas.{List.length-map, Option.get_or_from_slice_get, Option.slice_get_within}
-use Rattle.event_log.specs.declared.ids.{CpuId.CpuId, TheConstants.THREADS}
-use Rattle.event_log.proofs.ListLemmas.{alike_at}
-use Rattle.guest.specs.State.{State, at_start}
-use Rattle.layer_traits.specs.{BufferLaw.buffering_at_start, BufferLaw.no_call, OnePlace.cpu_at, Places.homed}
-use Rattle.layer_traits.proofs.CountLemmas.{same_cpu_sym}
-use Rattle.boot.specs.Plan.{IsPlan, BootPlan, Task}
-use Rattle.cpu.specs.{declared.guests.Guest.Guest, Guests.new_guest, Boots.AreGuests, Boots.guests_for, Boots.homes_for, Boots.tables_for, Claims.CpuShown}
-use Rattle.cpu.specs.{Claims.Shown, Cpus.guest_at, Sound.BootsByTable, Sound.IsReachedByTable, Sound.IsSetupFor, Sound.setup_for, Table.Setups.Private}
-use Rattle.cpu.specs.{Table.Setups.Setup, Table.Setups.home_threads_from, Table.Setups.new_thread, Table.Setups.program_or, Table.Setups.at_boot}
-use Rattle.cpu.specs.{Table.Steps.IsReached, Table.Steps.Whole, Table.Steps.boots, Table.Steps.boots_from, Table.Steps.cpu_numbered, Tables.private}
-use Rattle.cpu.specs.{Tables.state_of, Tables.states, Tower.Privates.numbered, Tower.Privates.thread_from, Tower.Privates.thread_of, Tower.Privates.tid}
-use Rattle.cpu.proofs.{ListReads.listed_length, ListReads.listed_there, ListReads.shown_at, ListReads.shows_at, PlanGuests.by_task, Tower.KeptByPasses.no_buffer}
+use Rattle.std.{proofs.lemmas.{List.length-map, Option.{get_or_from_slice_get, slice_get_within}}, specs.Prelude.{IfOk, Result, Ok, Err, slice_get}}
+use Rattle.std.specs.Prelude.{slice_index_or, if◌then◌else◌}
+use Rattle.{event_log.{specs.declared.ids.{CpuId.CpuId, TheConstants.THREADS}, proofs.ListLemmas.alike_at}, guest.specs.State.{State, at_start}}
+use Rattle.layer_traits.{specs.{BufferLaw.{buffering_at_start, no_call}, OnePlace.cpu_at, Places.homed}, proofs.CountLemmas.same_cpu_sym}
+use Rattle.{boot.specs.Plan.{IsPlan, BootPlan, Task}, cpu.specs.{declared.guests.Guest.Guest, Guests.new_guest, Boots.{AreGuests, guests_for, homes_for}}}
+use Rattle.cpu.specs.{Boots.tables_for, Claims.{CpuShown, Shown}, Cpus.guest_at, Sound.{BootsByTable, IsReachedByTable, IsSetupFor, setup_for}}
+use Rattle.cpu.specs.Table.{Setups.{Private, Setup, home_threads_from, new_thread, program_or, at_boot}, Steps.{IsReached, Whole, boots, boots_from}}
+use Rattle.cpu.specs.{Table.Steps.cpu_numbered, Tables.{private, state_of, states}, Tower.Privates.{numbered, thread_from, thread_of, tid}}
+use Rattle.cpu.proofs.{ListReads.{listed_length, listed_there, shown_at, shows_at}, PlanGuests.by_task, Tower.KeptByPasses.no_buffer}
 
 -- One CPU.
 
@@ -32,19 +27,16 @@ threads_new : (own : List CpuId) (c : CpuId) (n : ℕ) (guests : List State) (ho
     → ((k : ℕ) → slice_index_or guests k at_start ≡ at_start)
     → numbered (λ k. thread_of (buffering_at_start own c) (tid k)) n guests ≡ map (λ home. new_thread) homes
 threads_new own c n [] [] count new = refl
-threads_new own c n [] (home ∷ homes) count new = absurd (omega (arith, count))
-threads_new own c n (guest ∷ guests) [] count new = absurd (omega (arith, count))
 threads_new own c n (guest ∷ guests) (home ∷ homes) count new =
-    let first = thread_new own c n guest (new 0) in
     let more = threads_new own c (n + 1) guests homes (omega (arith, count)) (λ k. new (suc k)) in
-    λ i. first i ∷ more i
+    λ i. (thread_new own c n guest (new 0)) i ∷ more i
+threads_new own c n guests homes count new = absurd (omega (arith, count))
 
 states_new : (guests : List (Option Guest)) → ((k : ℕ) (g : Guest) → guest_at guests k ≡ Some g → g ≡ new_guest g.program) → (k : ℕ)
     → slice_index_or (states guests) k at_start ≡ at_start
-states_new [] new k = refl
-states_new (None ∷ guests) new zero = refl
 states_new (Some g ∷ guests) new zero = ap (λ (x : Guest). x.thread) (new 0 g refl)
 states_new (guest ∷ guests) new (suc k) = states_new guests (λ j g at. new (suc j) g at) k
+states_new guests new k = refl
 
 -- a CPU at boot is the table's
 pub private_boots : (setup : Setup) (homes : List CpuId) (buffers : ℕ) (c : CpuId) (guests : List (Option Guest)) → setup.homes ≡ homes
@@ -52,8 +44,7 @@ pub private_boots : (setup : Setup) (homes : List CpuId) (buffers : ℕ) (c : Cp
     → private (buffering_at_start homes c) guests [] ≡ at_boot setup c
 private_boots setup homes buffers c guests same are =
     let ready = homed_is c 0 homes ∙ ap (λ (h : List CpuId). home_threads_from c h 0) (sym same) in
-    let size = are.size in
-    let count : length (states guests) ≡ length homes = length-map guests state_of ∙ size in
+    let count : length (states guests) ≡ length homes = length-map guests state_of ∙ are.size in
     let threads = threads_new homes c 0 (states guests) homes count (states_new guests (λ k g at. are.fresh (tid k) g at))
     ∙ ap (λ (h : List CpuId). map (λ home. new_thread) h) (sym same) in
     λ i. record { current = None; ready = ready i; hand = None; threads = threads i; trace = [] }

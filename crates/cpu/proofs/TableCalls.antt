@@ -1,39 +1,25 @@
 -- The clauses of a CPU's calls on the table, from those of the layer: its part tells its threads and its call states.
-use Rattle.std.proofs.Common.{◌≡◌, ℕ, Bool, true, false, List, ◌++◌, slice_get, Option, Some, None, IsSome, is_some, option_map, if◌then◌else◌, refl, ap, sym}
-use Rattle.std.proofs.Common.{◌∙◌, subst}
-use Rattle.std.proofs.lemmas.Bool.{lt-ltb}
-use Rattle.event_log.specs.{declared.entries.Entry.Entry, declared.ids.CpuId.CpuId, declared.ids.LockId.LockId, declared.ids.Tid.Tid, Actions.Action}
-use Rattle.event_log.specs.{Actions.phase, declared.ids.LockId.TheVariants.Pending, declared.ids.LockId.TheVariants.Buffer as AtBuffer}
-use Rattle.thread_blocks.proofs.Members.{same_tid_self}
-use Rattle.layer_traits.specs.{declared.calls.Call.Call, declared.calls.Reply.Reply, declared.calls.Reply.TheVariants.NoBuffer, declared.passes.Pass.Pass}
-use Rattle.layer_traits.specs.{declared.steps.Reason.Reason, declared.steps.Step.TheVariants.Stepped, declared.steps.Step.TheVariants.Halted}
-use Rattle.layer_traits.specs.{declared.call_states.CallState.CallState, Along.IsStep, Looks.Tries, Passes.PassPolled, Passes.pass_after, Plans.Follows}
-use Rattle.layer_traits.specs.{Plans.Now, Plans.is_in_section, BufferLaw.Buffering, BufferLaw.UnderWay, BufferLaw.buffer_of, BufferLaw.buffering_at_start}
-use Rattle.layer_traits.specs.{BufferLaw.fifo_pass_plan, BufferLaw.fifo_plan, BufferLaw.still_calling, BufferLaw.still_passing, BufferLaw.call_state_of}
-use Rattle.layer_traits.specs.{declared.queue_edits.QueueBlock.TheVariants.Above, BufferEffects.fresh_lock, IpcLaw.OpensSo, IpcLaw.ipc_plan}
-use Rattle.layer_traits.specs.Places.{AreMoves, Hand, Stands, Step, Threads, Where, home_of, is_hand, is_home, is_thread, pending_by, where_is}
-use Rattle.layer_traits.proofs.PlaceLemmas.{away_known}
-use Rattle.cpu.specs.{declared.cpus.Choice.TheVariants.Polls, declared.cpus.Choice.TheVariants.Passes, declared.cpus.Choice.TheVariants.Computes}
-use Rattle.cpu.specs.{declared.guests.Guest.Guest, Guests.computed, Guests.entries_of, Guests.is_ended, Guests.polled, Cpus.IsCpu, Cpus.chosen, Cpus.fresh_at}
-use Rattle.cpu.specs.{Cpus.guest_at, Cpus.halted_at, Cpus.passed_by, Cpus.reason_in, Cpus.step_answer, Cpus.with_guest, Boots.AreGuests, Table.Setups.Setup}
-use Rattle.cpu.specs.{Table.Setups.opening_buffer, Table.Steps.cpu_step, Table.Steps.halted_at as table_halted, Tower.Views.TowerBlock, Tower.Views.TowerName}
-use Rattle.cpu.specs.{Tower.Views.name_of, Tower.Views.tower, Tower.Views.view, Tower.Privates.threads_in, Tower.Composed.OpensAs, Tower.Composed.named}
-use Rattle.cpu.specs.{Tables.IsSetupOf, Tables.IsTabled, Tables.WentByTable, Tables.bare, Tables.private}
-use Rattle.cpu.proofs.{CpuStates.TabledCpu, CpuStates.Outset, CpuStates.ValidCpu, CpuStates.valid, CallSteps.poll_buffer, TableRows.halted_same}
-use Rattle.cpu.proofs.{TableHalts.answers_so, TablePolls.TabledPoll, TablePolls.poll_steps, TablePolls.poll_tabled, TablePasses.TabledPass}
-use Rattle.cpu.proofs.{TablePasses.compute_steps, TablePasses.compute_tabled, TablePasses.halted_steps, TablePasses.pass_steps, TablePasses.pass_tabled}
-use Rattle.cpu.proofs.{TablePasses.passed_if, TablePasses.threads_if, Tower.KeptByPasses.boots_part, Tower.Polls.look_is_step}
-use Rattle.event_log.proofs.Renaming.{phase_renamed}
-
-hand_away : (c : CpuId) (w : Where) → is_hand c w ≡ true → is_home w ≡ false
-hand_away c (Hand d) is = refl
-hand_away c x is = absurd (cc is)
+use Rattle.std.proofs.Common.{◌≡◌, ℕ, Bool, false, List, ◌++◌, slice_get, Option, Some, None, IsSome, is_some, option_map, if◌then◌else◌, ap, sym, ◌∙◌, subst}
+use Rattle.{std.proofs.{Common.arith, lemmas.Bool.lt-ltb}, event_log.specs.declared.{entries.Entry.Entry, ids.{CpuId.CpuId, LockId.LockId}}}
+use Rattle.event_log.{specs.{declared.ids.{LockId.TheVariants.{Pending, Buffer as AtBuffer}, Tid.Tid}, Actions.{Action, phase}}, proofs.Renaming.phase_renamed}
+use Rattle.{thread_blocks.proofs.Members.same_tid_self, layer_traits.specs.declared.{calls.{Call.Call, Reply.{Reply, TheVariants.NoBuffer}}, passes.Pass.Pass}}
+use Rattle.layer_traits.specs.{declared.{steps.{Reason.Reason, Step.TheVariants.{Stepped, Halted}}, call_states.CallState.CallState}, Looks.Tries}
+use Rattle.layer_traits.specs.{Passes.PassPolled, Plans.{Follows, Now, is_in_section}, BufferLaw.{Buffering, UnderWay, buffer_of, buffering_at_start}}
+use Rattle.layer_traits.specs.{BufferLaw.{fifo_pass_plan, fifo_plan, still_calling, still_passing, call_state_of}, IpcLaw.{OpensSo, ipc_plan}, Places.AreMoves}
+use Rattle.layer_traits.{specs.Places.{Stands, Step, Threads, home_of, is_thread, pending_by}, proofs.PlaceLemmas.away_known}
+use Rattle.cpu.specs.{declared.{cpus.Choice.TheVariants.{Polls, Passes, Computes}, guests.Guest.Guest}, Guests.{computed, entries_of, is_ended, polled}}
+use Rattle.cpu.specs.{Cpus.{IsCpu, chosen, fresh_at, guest_at, halted_at, passed_by, reason_in, step_answer, with_guest}, Boots.AreGuests, Table.Setups.Setup}
+use Rattle.cpu.specs.{Table.Steps.{cpu_step, halted_at as table_halted}, Tower.{Views.{TowerBlock, TowerName, name_of, tower, view}, Privates.threads_in}}
+use Rattle.cpu.{specs.{Tower.Composed.{OpensAs, named}, Tables.{IsSetupOf, IsTabled, WentByTable, bare, private}}, proofs.CpuStates.{TabledCpu, Outset}}
+use Rattle.cpu.proofs.{CpuStates.{ValidCpu, valid}, CallSteps.poll_buffer, TableRows.halted_same, TableHalts.answers_so, TablePolls.{TabledPoll, poll_steps}}
+use Rattle.cpu.proofs.{TablePolls.poll_tabled, TablePasses.{TabledPass, compute_steps, compute_tabled, halted_steps, pass_steps, pass_tabled}}
+use Rattle.cpu.proofs.Tower.{KeptByPasses.boots_part, Polls.look_is_step}
 
 -- a thread in the hand has a home
 pub hand_known : (homes : List CpuId) (c : CpuId) (moves : List Step) (own : Threads) → Stands homes c moves own → AreMoves homes moves
     → (u : Tid) → own.hand ≡ Some u → IsSome (slice_get homes u.0)
 hand_known homes c moves own stands lawful u has =
-    away_known homes moves u lawful (hand_away c (where_is homes moves u) (sym (stands.hand u) ∙ (ap (is_thread u) has ∙ same_tid_self u)))
+    away_known homes moves u lawful (grind (arith, sym (stands.hand u) ∙ (ap (is_thread u) has ∙ same_tid_self u)))
 
 -- also where another machine has the same homes
 pub hand_preserved : (homes now : List CpuId) (c : CpuId) (moves : List Step) (own : Threads) → now ≡ homes → Stands now c moves own → AreMoves now moves
@@ -179,25 +165,6 @@ module _ (told : ObservedCpu) where
       abbrev queue : List Tid
       queue = pending_by (after.passed.others ++ after.before) part_of
 
-      threads_own : threads_in after.part ≡ threads_if (threads_in part) pass queue after.result
-      threads_own =
-          go after.result (after.reads_own ∙ (after.passed.after ∙ sym (ap (λ x. if is_some after.result then pass_after pass queue x else x) reads_own.0)))
-        where
-          go : (r : Option (Unit {0})) → threads_in after.part ≡ (if is_some r then pass_after pass queue (threads_in part) else threads_in part)
-              → threads_in after.part ≡ threads_if (threads_in part) pass queue r
-          go None now = now
-          go (Some u) now = now
-
-      guests_pass : after.guests ≡ passed_if (threads_in part).current guests pass after.result
-      guests_pass =
-          go after.result
-          (after.guests_is ∙ sym (ap (λ (x : Threads). if is_some after.result then passed_by x.current guests pass else guests) reads_own.0))
-        where
-          go : (r : Option (Unit {0})) → after.guests ≡ (if is_some r then passed_by (threads_in part).current guests pass else guests)
-              → after.guests ≡ passed_if (threads_in part).current guests pass r
-          go None now = now
-          go (Some u) now = now
-
       abbrev pass_own : TabledPass ActsFor tabled_cpu pass old
       pass_own = record {
         own = after.part;
@@ -210,10 +177,10 @@ module _ (told : ObservedCpu) where
         follows =
             subst (λ x. x) (λ i. Follows ActsFor tower opening (number_is i) (fifo_pass_plan (after.homes_are i) (number_is i) pass part) old after.new
             (record { own = after.part; answer = after.result })) after.follows;
-        threads_are = threads_own;
+        threads_are = grind (arith, reads_own);
         under_way_is = after.under_way_is;
         at_once = after.passed.at_once;
-        guests_are = guests_pass;
+        guests_are = grind (arith, reads_own);
       }
 
       pub passed_tabled : IsTabled homes caps number after.part after.under_way after.guests opening
@@ -253,19 +220,13 @@ pub looked_steps : (ActsFor : CpuId → Type 0) (homes : List CpuId) (caps : Lis
     (trace : List Entry) (old new : List (Action TowerName)) → cpu ≡ number → own2 ≡ own → Tries ActsFor cpu old new
     → WentByTable ActsFor homes caps number limit own own2 guests guests trace trace old new Stepped
 looked_steps ActsFor homes caps cpu number limit own own2 guests trace old new cpu_is same tries setup of =
-    subst (λ (o : Buffering). IsStep ActsFor (cpu_step setup number) (private own guests trace) (private o guests trace) (named old) (named new) Stepped)
-    (sym same)
-    (look_is_step ActsFor setup number (private own guests trace) old new (subst (λ d. Tries ActsFor d old new) cpu_is tries))
+    rw same (look_is_step ActsFor setup number (private own guests trace) old new (subst (λ d. Tries ActsFor d old new) cpu_is tries))
 
 -- At boot.
 
 pub opens_so : (homes : List CpuId) (caps : List ℕ) (number : CpuId) (opening : LockId → Option TowerBlock) → OpensSo caps homes number opening
     → OpensAs (bare homes caps) number opening
-opens_so homes caps number opening opens (AtBuffer b) asked = ap (option_map view) (opens.buffers b) ∙ go (slice_get caps b.0)
-  where
-    go : (o : Option ℕ) → option_map view (option_map (λ capacity. Above (fresh_lock capacity)) o) ≡ opening_buffer o
-    go None = refl
-    go (Some capacity) = refl
+opens_so homes caps number opening opens (AtBuffer b) asked = ap (option_map view) (opens.buffers b) ∙ (grind arith)
 opens_so homes caps number opening opens (Pending d) asked = ap (option_map view) (opens.queues d asked).1
 
 pub boots_tabled : (homes : List CpuId) (caps : List ℕ) (number : CpuId) (guests : List (Option Guest)) (buffers : ℕ) (opening : LockId → Option TowerBlock)

@@ -1,53 +1,34 @@
 -- A poll of a pass, and an instruction of a thread's own, are steps of the table, and the CPU stays as the table asks.
 use Rattle.std.proofs.Common.{◌≡◌, ℕ, ◌<◌, Bool, true, false, ◌||◌, List, [], ◌∷◌, ◌++◌, length, slice_get, slice_set, Option, Some, None, IsSome, option_map}
-use Rattle.std.proofs.Common.{refl, ap, sym, ◌∙◌, subst, arith}
-use Rattle.std.proofs.{lemmas.List.map-set, Math.Bool.or-true}
-use Rattle.event_log.specs.{declared.ids.CpuId.CpuId, declared.ids.Tid.Tid, Actions.Action, Actions.phase}
-use Rattle.event_log.proofs.{Renaming.phase_renamed, BoolLemmas.none_of}
-use Rattle.guest.specs.{declared.instructions.Instruction.Instruction, State.State, State.after_local, State.after_yield, State.at_start, State.next_of}
-use Rattle.thread_blocks.specs.Queues.{is_in, same_tid}
-use Rattle.layer_traits.specs.{declared.calls.Call.Call, declared.passes.Pass.Pass, declared.steps.Reason.Reason, declared.steps.Step.TheVariants.Stepped}
-use Rattle.layer_traits.specs.{declared.steps.Step.TheVariants.Halted, declared.call_states.CallState.CallState, Along.IsStep, Passes.IsLocalPass}
-use Rattle.layer_traits.specs.{Passes.as_list, Passes.pass_after, Passes.switched, Places.Threads, Plans.Left, Plans.Follows, Plans.is_in_section}
-use Rattle.thread_blocks.proofs.{Distinct.pushed_in, Members.same_tid_self}
-use Rattle.layer_traits.specs.declared.passes.Pass.TheVariants.{Switch, YieldNow, Drain, MakeReady, End}
-use Rattle.layer_traits.specs.BufferLaw.{Buffering, UnderWay, Passing, begun_of, fifo_pass_plan, still_passing, call_state_of}
-use Rattle.cpu.specs.{declared.cpus.Choice.TheVariants.Passes, declared.cpus.Choice.TheVariants.Computes, declared.guests.Guest.Guest, Guests.after_pass}
-use Rattle.cpu.specs.{Guests.computed, Guests.ended, Guests.is_calling, Guests.passed, Guests.todo_at, Guests.todo_of, Cpus.chosen, Cpus.chosen_at}
-use Rattle.cpu.specs.{Cpus.chosen_by, Cpus.chosen_for, Cpus.chosen_todo, Cpus.under_way_of, Cpus.guest_at, Cpus.halted_at as cpu_halted, Cpus.of_cpu}
-use Rattle.cpu.specs.{Cpus.of_thread, Cpus.passed_by, Cpus.reason_in, Cpus.with_guest, Table.Setups.Setup, Table.Setups.Call as TableCall, Table.Setups.Private}
-use Rattle.cpu.specs.{Table.Setups.thread_at, Table.Choice.Alone, Table.Choice.Goes, Table.Choice.at_instruction, Table.Choice.at_ready, Table.Choice.choice}
-use Rattle.cpu.specs.{Table.Choice.ends, Table.Choice.with_guest as with_state, Table.Steps.cpu_step, Table.Steps.halted_at as table_halted}
-use Rattle.cpu.specs.{Tower.Views.TowerName, Tower.Views.name_of, Tower.Views.tower, Tower.Privates.guests_passed, Tower.Privates.private_of}
-use Rattle.cpu.specs.{Tower.Privates.private_passed, Tower.Privates.threads_in, Tower.Composed.HandIsKnown, Tower.Composed.IsLine, Tower.Composed.OpensAs}
-use Rattle.cpu.specs.{Tower.Composed.named, Tower.Positions.IsPart, Tables.IsSetupOf, Tables.IsTabled, Tables.private, Tables.state_of, Tables.states}
-use Rattle.cpu.specs.declared.guests.Todo.{Todo, TheVariants.Finish, TheVariants.PassOn, TheVariants.Compute, TheVariants.Calls}
-use Rattle.cpu.proofs.{CpuStates.TabledCpu, CpuStates.Outset, CpuStates.valid, GuestLists.guest_within, PassSteps.PassCase, PassSteps.computes_at}
-use Rattle.cpu.proofs.{PassSteps.finish_exit, PassSteps.in_no_call, PassSteps.pass_case, PassSteps.switches, PassSteps.drains, PassSteps.sends_idle}
-use Rattle.cpu.proofs.{PassSteps.sends_on, PassSteps.passes_on, PassSteps.finishes, TableRows.call_is, TableRows.call_of, TableRows.guest_there}
-use Rattle.cpu.proofs.{TableRows.halted_same, TableRows.stands_there, TableRows.states_at, TableRows.states_long, TablePolls.not_halted_so, TablePolls.opens_as}
-use Rattle.cpu.proofs.{TablePolls.tabled_same, TablePolls.tabled_with, Tower.Chains.put_same, Tower.ChangedThread.own_at, Tower.KeptByPasses.ComesTo, Tower.KeptByPasses.at_rest}
-use Rattle.cpu.proofs.{Tower.KeptByPasses.deferred_none, Tower.KeptByPasses.pass_rest, Tower.KeptByPasses.passed_part, Tower.KeptByPasses.with_threads, Tower.PassLines.computed_now}
-use Rattle.cpu.proofs.{Tower.PassLines.drain_line, Tower.PassLines.ended_now, Tower.PassLines.make_ready_line, Tower.PassLines.switched_now, Tower.PassLines.yield_line}
-use Rattle.cpu.proofs.Tower.Polls.{alone_is_step, choice_current, choice_hand, choice_idle, halted_is_step, line_is_step, step_goes}
+use Rattle.std.proofs.{Common.{refl, ap, sym, ◌∙◌, subst, arith}, lemmas.List.map-set, Math.Bool.or-true}
+use Rattle.event_log.{specs.{declared.ids.{CpuId.CpuId, Tid.Tid}, Actions.{Action, phase}}, proofs.{Renaming.phase_renamed, BoolLemmas.none_of}}
+use Rattle.guest.specs.{declared.instructions.Instruction.Instruction, State.{State, after_local, after_yield, at_start, next_of}}
+use Rattle.{thread_blocks.{specs.Queues.{is_in, same_tid}, proofs.{Distinct.pushed_in, Members.same_tid_self}}, layer_traits.specs.declared.calls.Call.Call}
+use Rattle.layer_traits.specs.declared.{passes.Pass.{Pass, TheVariants.{Switch, YieldNow, Drain, MakeReady, End}}, steps.Reason.Reason}
+use Rattle.layer_traits.specs.{declared.{steps.Step.TheVariants.{Stepped, Halted}, call_states.CallState.CallState}, Along.IsStep, Passes.IsLocalPass}
+use Rattle.layer_traits.specs.{Passes.{as_list, pass_after, switched}, Places.Threads, Plans.{Left, Follows, is_in_section}, BufferLaw.{Buffering, UnderWay}}
+use Rattle.{layer_traits.specs.BufferLaw.{Passing, begun_of, fifo_pass_plan, still_passing, call_state_of}, cpu.specs.declared.cpus.Choice.TheVariants.Passes}
+use Rattle.cpu.specs.declared.{cpus.Choice.TheVariants.Computes, guests.{Guest.Guest, Todo.{Todo, TheVariants.{Finish, PassOn, Compute, Calls}}}}
+use Rattle.cpu.specs.{Guests.{after_pass, computed, ended, is_calling, passed, todo_at, todo_of}, Cpus.{chosen, chosen_by, guest_at, halted_at as cpu_halted}}
+use Rattle.cpu.specs.{Cpus.{of_cpu, of_thread, passed_by, reason_in, with_guest}, Table.{Setups.{Setup, Call as TableCall, Private, thread_at}, Choice.Alone}}
+use Rattle.cpu.specs.Table.{Choice.{Goes, at_instruction, at_ready, choice, ends, with_guest as with_state}, Steps.{cpu_step, halted_at as table_halted}}
+use Rattle.cpu.specs.Tower.{Views.{TowerName, name_of, tower}, Privates.{guests_passed, private_of, private_passed, threads_in}, Composed.{HandIsKnown, IsLine}}
+use Rattle.cpu.specs.{Tower.{Composed.{OpensAs, named}, Positions.IsPart}, Tables.{IsSetupOf, IsTabled, private, state_of, states}}
+use Rattle.cpu.proofs.{CpuStates.{TabledCpu, Outset, valid}, GuestLists.guest_within, PassSteps.{PassCase, computes_at, finish_exit, in_no_call, pass_case}}
+use Rattle.cpu.proofs.{PassSteps.{switches, drains, sends_idle, sends_on, passes_on, finishes}, TableRows.{call_is, call_of, guest_there, halted_same}}
+use Rattle.cpu.proofs.{TableRows.{stands_there, states_at, states_long}, TablePolls.{not_halted_so, opens_as, tabled_with}, Tower.Chains.put_same}
+use Rattle.cpu.proofs.Tower.{ChangedThread.own_at, KeptByPasses.{ComesTo, at_rest, deferred_none, pass_rest, passed_part, with_threads}, PassLines.computed_now}
+use Rattle.cpu.proofs.Tower.{PassLines.{drain_line, ended_now, make_ready_line, switched_now, yield_line}, Polls.{alone_is_step, choice_current, choice_hand}}
+use Rattle.cpu.proofs.Tower.Polls.{choice_idle, halted_is_step, line_is_step, step_goes}
 use Rattle.guest.specs.declared.instructions.Instruction.TheVariants as ins
 use Rattle.layer_traits.specs.declared.call_states.Stage.TheVariants as at_stage
 
 yield_line_is : (s : State) (i : Instruction) → todo_at s i ≡ PassOn → i ≡ ins.Yield
-yield_line_is s ins.Yield is = refl
-yield_line_is s line is = absurd (cc is)
+yield_line_is s i is = grind arith
 
 local_at : (setup : Setup) (c : CpuId) (p : Private) (t : Tid) (s : State) (i : Instruction) → todo_at s i ≡ Compute
     → at_instruction setup c p t i ≡ Alone (with_state p t (after_local i (thread_at p t).guest))
-local_at setup c p t s (ins.Set r n) is = refl
-local_at setup c p t s (ins.Add r q) is = refl
-local_at setup c p t s (ins.Sub r q) is = refl
-local_at setup c p t s (ins.Jnz r k) is = refl
-local_at setup c p t s line is = absurd (cc is)
-
-never_sends : (t s : Tid) (todo : Todo) → chosen_todo t todo ≡ Passes (MakeReady s) → ⊥
-never_sends t s (Calls c) is = absurd (cc is)
-never_sends t s other is = absurd (cc is)
+local_at setup c p t s i is = grind arith
 
 -- a call state between calls has begun none
 unbegun : (f : Call → TableCall) (call_state : CallState) → call_state.stage ≡ at_stage.Idle → option_map f (begun_of call_state) ≡ None
@@ -58,14 +39,6 @@ states_changed : (guests : List (Option Guest)) (t : ℕ) (f : Guest → Guest) 
     → states (with_guest guests t f) ≡ slice_set (states guests) t ((f g).thread)
 states_changed guests t f g at =
     map-set state_of guests t (option_map f (guest_at guests t)) ∙ ap (λ o. slice_set (states guests) t (state_of (option_map f o))) at
-
-passing_none : (pass p : Pass) (result : Option (Unit {0})) → (IsLocalPass pass → IsSome result) → still_passing pass result ≡ Some (Passing p)
-    → IsLocalPass p → ⊥
-passing_none pass p (Some x) at_once does local = absurd (cc does)
-passing_none pass p None at_once does local =
-    let same : p ≡ pass = cc does in
-    let some : IsSome {T = Unit {0}} None = at_once (subst IsLocalPass same local) in
-    absurd (cc some)
 
 -- the guests and the threads after a poll of a pass
 abbrev pub passed_if : Option Tid → List (Option Guest) → Pass → Option (Unit {0}) → List (Option Guest)
@@ -116,16 +89,13 @@ module _ (cpu : TabledCpu) where
   sends_alone : (s t : Tid) (g : Guest) → (threads_in own).current ≡ Some t → (threads_in own).hand ≡ Some s → guest_at guests t.0 ≡ Some g
       → chosen (threads_in own) guests ≡ Passes (MakeReady s) → ⊥
   sends_alone s t g runs has at chose =
-      by_calling (is_calling g.stage) refl
-      (sym (ap (λ o. chosen_for t (threads_in own).hand o) at)
-      ∙ (sym (ap (λ o. chosen_at o (threads_in own).hand (threads_in own).ready guests) runs) ∙ chose))
+      grind (arith, by_calling)
     where
       by_calling : (b : Bool) → is_calling g.stage ≡ b → chosen_by t (is_calling g.stage) (threads_in own).hand (todo_of g) ≡ Passes (MakeReady s) → ⊥
-      by_calling true calling sends = never_sends t s (todo_of g) (sym (ap (λ x. chosen_by t x (threads_in own).hand (todo_of g)) calling) ∙ sends)
+      by_calling true calling sends = grind (arith, sym (ap (λ x. chosen_by t x (threads_in own).hand (todo_of g)) calling) ∙ sends)
       by_calling false calling sends =
           let rest = at_rest _ _ _ _ _ _ (tabled.part.mine t runs) (free_at_idle t g at calling) in
-          let no : Some s ≡ None = sym has ∙ rest.hand in
-          absurd (cc no)
+          absurd (cc (sym has ∙ rest.hand))
 
   abbrev Case : Pass → Type 0
   Case pass = PassCase (valid cpu) pass
@@ -158,7 +128,7 @@ module _ (cpu : TabledCpu) where
         go (Some x) = passed_part own tabled.part pass queue (comes pass case_is chose)
 
     quick2 : (q : Pass) → under_way2 ≡ Some (Passing q) → IsLocalPass q → ⊥
-    quick2 q does local = passing_none pass q result at_once (sym under_way_is ∙ does) local
+    quick2 q does local = grind (arith, at_once, sym under_way_is ∙ does, local)
 
     ended_more : (u t : Tid) → is_in u (threads_in own).ended ≡ true → is_in u ((threads_in own).ended ++ t ∷ []) ≡ true
     ended_more u t before = pushed_in u t (threads_in own).ended ∙ ap (λ b. b || (same_tid u t || false)) before
@@ -172,10 +142,7 @@ module _ (cpu : TabledCpu) where
 
         idle : (x : Threads) → threads_in own2 ≡ x → x.ended ≡ (threads_in own).ended → (threads_in own).current ≡ None
             → IsTabled homes caps number own2 under_way2 (passed_by (threads_in own).current guests pass) opening
-        idle x same ended_same runs =
-            subst (λ o. IsTabled homes caps number own2 under_way2 (passed_by o guests pass) opening) (sym runs)
-            (tabled_same cpu own2 under_way2 part2
-            (λ u before. abbrev_same u x same ended_same before) quick2)
+        idle x same ended_same runs = grind (arith, part2, abbrev_same, quick2)
 
         by_case : (q : Pass) → pass ≡ q → Case q → threads_in own2 ≡ pass_after q queue (threads_in own)
             → IsTabled homes caps number own2 under_way2 (passed_by (threads_in own).current guests pass) opening
@@ -188,8 +155,7 @@ module _ (cpu : TabledCpu) where
             (tabled_with cpu t g passed own2 under_way2 at part2
             (λ over. abbrev_same t _ now refl (tabled.ends t g at over)) (λ u other before. abbrev_same u _ now refl before) quick2)
         by_case End same (finishes t g runs has at asks) now =
-            let ended_is : (threads_in own2).ended ≡ (threads_in own).ended ++ t ∷ []
-            = ap (λ (y : Threads). y.ended) now ∙ ap (λ o. (threads_in own).ended ++ as_list o) runs in
+            let ended_is = ap (λ (y : Threads). y.ended) now ∙ ap (λ o. (threads_in own).ended ++ as_list o) runs in
             subst (λ x. x) (λ i. IsTabled homes caps number own2 under_way2 (passed_by (sym runs i) guests (sym same i)) opening)
             (tabled_with cpu t g ended own2 under_way2 at part2
             (λ over. subst (λ l. is_in t l ≡ true) (sym ended_is) (pushed_in t t (threads_in own).ended
@@ -198,9 +164,7 @@ module _ (cpu : TabledCpu) where
 
         go : (r : Option (Unit {0})) → threads_in own2 ≡ threads_if (threads_in own) pass queue r
             → IsTabled homes caps number own2 under_way2 (passed_if (threads_in own).current guests pass r) opening
-        go None same =
-            tabled_same cpu own2 under_way2 part2
-            (λ u before. abbrev_same u _ same refl before) quick2
+        go None same = grind (arith, part2, abbrev_same, quick2)
         go (Some x) same = by_case pass refl case_is same
 
     module _ (setup : Setup) (of : IsSetupOf setup homes caps guests limit) (outset : Outset ActsFor cpu old)
@@ -211,20 +175,7 @@ module _ (cpu : TabledCpu) where
       opens = opens_as setup homes caps number opening of.homes_are of.caps_are tabled.opens
 
       not_halted : is_in_section (phase number old) ≡ false → table_halted setup number p ≡ None
-      not_halted outside =
-          halted_same cpu setup of
-          ∙ not_halted_so inside (is_in_section (phase number old)) (cpu_halted (threads_in own) guests trace limit) busy live outside
-
-      -- a pass that touches nothing shared is not under way
-      outside_so : IsLocalPass pass → is_in_section (phase number old) ≡ false
-      outside_so local = sym busy ∙ idle (go under_way refl)
-        where
-          go : (d : Option UnderWay) → under_way ≡ d → under_way ≡ None
-          go None none = none
-          go (Some d) does =
-              let agreed : Some (Passing pass) ≡ Some d = sym (ap under_way_of chose) ∙ is.agrees d does in
-              let passing : d ≡ Passing pass = cc agreed in
-              absurd (tabled.quick pass (does ∙ ap Some passing) local)
+      not_halted outside = grind (arith, halted_same, not_halted_so)
 
       known_so : HandIsKnown setup own2
       known_so u has = subst (λ h. IsSome (slice_get h u.0)) (sym of.homes_are) (known2 u has)
@@ -248,8 +199,7 @@ module _ (cpu : TabledCpu) where
             goes = λ past same. step_goes setup number p p old past same (λ inside. refl) goes;
           })
           (record { own = own2; answer = result }) known_so
-          (subst (λ h. Follows ActsFor tower opening number (fifo_pass_plan h number pass own) old new (record { own = own2; answer = result }))
-          (sym of.homes_are) follows))
+          (rw of.homes_are follows))
 
       -- a pass that is done alone
       by_alone : is_in_section (phase number old) ≡ false → new ≡ old → choice setup number p ≡ Alone (private own2 guests2 trace) → Goal
@@ -260,18 +210,12 @@ module _ (cpu : TabledCpu) where
 
       -- where nobody runs, the guests stay
       idle_guests : (threads_in own).current ≡ None → private own2 guests trace ≡ private own2 guests2 trace
-      idle_guests runs = sym (ap (λ l. private own2 l trace) (guests_are ∙ go result))
-        where
-          go : (r : Option (Unit {0})) → passed_if (threads_in own).current guests pass r ≡ guests
-          go None = refl
-          go (Some x) = ap (λ o. passed_by o guests pass) runs
+      idle_guests runs = grind (arith, guests_are)
 
       line_by : (o : Buffering) → own ≡ o → (q : Pass) → pass ≡ q
           → IsLine setup number (private o guests trace) (fifo_pass_plan setup.homes number q o) (private_passed setup o (states guests) trace q)
           → IsLine setup number p (fifo_pass_plan setup.homes number pass own) (private_passed setup own (states guests) trace pass)
-      line_by o same q pass_is line =
-          subst (λ x. x) (λ i. IsLine setup number (private (sym same i) guests trace) (fifo_pass_plan setup.homes number (sym pass_is i) (sym same i))
-          (private_passed setup (sym same i) (states guests) trace (sym pass_is i))) line
+      line_by o same q pass_is line = grind arith
 
       drain_step : pass ≡ Drain → (threads_in own).current ≡ None → (threads_in own).hand ≡ None → (threads_in own).ready ≡ [] → Goal
       drain_step pass_is runs has none =
@@ -296,16 +240,14 @@ module _ (cpu : TabledCpu) where
       switch_step pass_is runs has some same now = go (threads_in own).ready refl
         where
           outside : is_in_section (phase number old) ≡ false
-          outside = outside_so (subst IsLocalPass (sym pass_is) tt)
+          outside = grind (arith, subst IsLocalPass (sym pass_is) tt)
 
           go : (ready : List Tid) → (threads_in own).ready ≡ ready → Goal
           go [] queue_is = absurd (some queue_is)
           go (t ∷ ready) queue_is =
               let o : Buffering = own_at None None (t ∷ ready) (threads_in own).ended None own.cv.lock.slept own.cv.waits own.call_states in
-              let own_so : own ≡ o = λ i. own_at (runs i) (has i) (queue_is i) (threads_in own).ended
-              (tabled.part.idle runs i) own.cv.lock.slept own.cv.waits own.call_states in
-              let next : private own2 guests trace ≡ record p { current = Some t; ready = ready }
-              = ap (λ x. private x guests trace) (now ∙ ap (λ x. with_threads x (switched (threads_in x))) own_so)
+              let own_so : own ≡ o = grind arith in
+              let next = ap (λ x. private x guests trace) (now ∙ ap (λ x. with_threads x (switched (threads_in x))) own_so)
               ∙ (switched_now setup number (states guests) trace (threads_in own).ended own.cv.lock.slept own.cv.waits own.call_states t ready
               ∙ sym (ap (λ x. record (private x guests trace) { current = Some t; ready = ready }) own_so)) in
               by_alone outside same (choice_idle setup number p has runs (not_halted outside)
@@ -329,16 +271,11 @@ module _ (cpu : TabledCpu) where
         long_guests = subst (λ n. t.0 < n) (sym (states_long guests)) (guest_within guests t.0 g at)
 
         long_call_states : t.0 < length own.call_states
-        long_call_states =
-            let within = guest_within guests t.0 g at in
-            let few = is.few in
-            let long = tabled.part.call_states in
-            omega (arith, within, few, long)
+        long_call_states = grind (arith, guest_within)
 
         chosen_line : is_in_section (phase number old) ≡ false → choice setup number p ≡ at_instruction setup number p t (next_of g.program g.thread)
         chosen_line outside =
-            choice_current setup number p t None has runs quiet (not_halted outside)
-            ∙ ap (at_instruction setup number p t) (stands_there cpu setup of t g at)
+            grind (arith, choice_current, quiet, not_halted, stands_there)
           where
             quiet : (thread_at p t).call ≡ None
             quiet =
@@ -372,7 +309,7 @@ module _ (cpu : TabledCpu) where
             (chosen_line outside ∙ (ap (at_instruction setup number p t) (finish_exit g.thread (next_of g.program g.thread) asks) ∙ ap Alone (sym next)))
           where
             outside : is_in_section (phase number old) ≡ false
-            outside = outside_so (subst IsLocalPass (sym pass_is) tt)
+            outside = grind (arith, subst IsLocalPass (sym pass_is) tt)
 
             states_so : states guests2 ≡ states guests
             states_so =
@@ -392,8 +329,7 @@ module _ (cpu : TabledCpu) where
         where
           follows_at : (q : Pass) → pass ≡ q → Follows ActsFor tower opening number (fifo_pass_plan homes number q own) old new
               (record { own = own2; answer = result })
-          follows_at q same = subst (λ x. Follows ActsFor tower opening number (fifo_pass_plan homes number x own) old new
-              (record { own = own2; answer = result })) same follows
+          follows_at q same = rw (← same) follows
 
           go : (q : Pass) → pass ≡ q → Case q → Goal
           go Switch same (switches runs has some) =
@@ -430,8 +366,7 @@ module _ (cpu : TabledCpu) where
         → (setup : Setup) (of : IsSetupOf setup homes caps guests limit)
         → IsStep ActsFor (cpu_step setup number) p (private own (with_guest guests t.0 computed) trace) (named old) (named old) Stepped
     compute_steps ActsFor old outset live setup of =
-        let free : is_calling g.stage ≡ false = not_calling t g Compute at does.1.2 (λ c e. absurd (cc e)) in
-        let at_idle = free_at_idle t g at free in
+        let at_idle = free_at_idle t g at (not_calling t g Compute at does.1.2 (λ c e. absurd (cc e))) in
         let rest = at_rest _ _ _ _ _ _ (tabled.part.mine t does.0) at_idle in
         let outside : is_in_section (phase number old) ≡ false = sym outset.busy ∙ outset.idle (idle under_way refl) in
         let live_now = halted_same cpu setup of
@@ -441,8 +376,7 @@ module _ (cpu : TabledCpu) where
         let there = guest_there own guests trace t g at in
         let i : Instruction = next_of g.program g.thread in
         let within : t.0 < length (states guests) = subst (λ n. t.0 < n) (sym (states_long guests)) (guest_within guests t.0 g at) in
-        let next : private own (with_guest guests t.0 computed) trace ≡ with_state p t (after_local i g.thread)
-        = ap (λ l. private_of own l trace) (states_changed guests t.0 computed g at)
+        let next = ap (λ l. private_of own l trace) (states_changed guests t.0 computed g at)
         ∙ computed_now setup number (states guests) trace [] [] [] [] own t (after_local i g.thread) within in
         alone_is_step ActsFor setup number p (private own (with_guest guests t.0 computed) trace) (named old)
         (ap is_in_section (phase_renamed name_of number old) ∙ outside)
@@ -451,8 +385,7 @@ module _ (cpu : TabledCpu) where
         ∙ (local_at setup number p t g.thread i does.1.2 ∙ (ap (λ x. Alone (with_state p t (after_local i x.guest))) there ∙ ap Alone (sym next)))))
       where
         idle : (d : Option UnderWay) → under_way ≡ d → under_way ≡ None
-        idle None none = none
-        idle (Some d) now = let no : None ≡ Some d = sym (ap under_way_of chose) ∙ is.agrees d now in absurd (cc no)
+        idle d none = grind arith
 
   -- A CPU that is halted, and a look.
 

@@ -1,31 +1,21 @@
 -- A poll of a call is a step of the table, and the CPU stays as the table asks.
-use Rattle.std.proofs.Common.{◌≡◌, ◌≢◌, ◌⊎◌, inl, inr, ℕ, ◌<◌, Bool, true, false, List, ◌++◌, length, slice_get, slice_set, Option, Some, None, IsSome, is_some}
-use Rattle.std.proofs.Common.{option_map, refl, ap, sym, ◌∙◌, subst}
-use Rattle.std.proofs.lemmas.{Bool.cases_eq, List.append-nil, List.length-set, List.map-set}
-use Rattle.event_log.specs.{declared.entries.Entry.Entry, declared.ids.BufId.BufId, declared.ids.CpuId.CpuId, declared.ids.LockId.LockId}
-use Rattle.event_log.specs.{declared.ids.LockId.TheVariants.Pending, declared.ids.LockId.TheVariants.Buffer, declared.ids.Tid.Tid}
-use Rattle.event_log.specs.{declared.ids.TheConstants.THREADS, Actions.Action, Actions.phase}
-use Rattle.guest.specs.{declared.instructions.Instruction.Instruction, State.State, State.at_start, State.next_of}
-use Rattle.thread_blocks.specs.Queues.{is_in}
-use Rattle.layer_traits.specs.{declared.calls.Call.Call, declared.calls.Effect.Effect, declared.calls.Reply.Reply, declared.passes.Pass.Pass}
-use Rattle.layer_traits.specs.{declared.steps.Reason.Reason, declared.steps.Step.TheVariants.Stepped, declared.call_states.Stage.Stage}
-use Rattle.layer_traits.specs.{declared.call_states.CallState.CallState, Along.IsStep, Passes.IsLocalPass, Places.home_of, Plans.Follows, Plans.is_in_section}
-use Rattle.layer_traits.specs.BufferLaw.{Buffering, Calling, UnderWay, Passing, begun_of, buffer_of, fifo_plan, going, going_at, still_calling, call_state_of}
-use Rattle.cpu.specs.{declared.cpus.Choice.TheVariants.Polls, declared.guests.Guest.Guest, declared.guests.GuestStage.GuestStage}
-use Rattle.cpu.specs.{declared.guests.Todo.TheVariants.Calls, Guests.HasComeIn, Guests.after_answer, Guests.entries_of, Guests.fresh_effect, Guests.had}
-use Rattle.cpu.specs.{Guests.is_calling, Guests.is_ended, Guests.polled, Guests.stage_after, Guests.todo_at, Cpus.chosen, Cpus.under_way_of, Cpus.fresh_at}
-use Rattle.cpu.specs.{Cpus.guest_at, Cpus.halted_at as cpu_halted, Cpus.of_cpu, Cpus.of_thread, Cpus.reason_in, Cpus.with_guest, Table.Setups.Setup}
-use Rattle.cpu.specs.{Table.Setups.opening as table_opening, Table.Setups.opening_buffer, Table.Steps.cpu_step, Table.Steps.halted_at as table_halted}
-use Rattle.cpu.specs.{Tower.Views.TowerBlock, Tower.Views.TowerName, Tower.Views.tower, Tower.Privates.guests_after, Tower.Privates.private_after}
-use Rattle.cpu.specs.{Tower.Privates.private_of, Tower.Privates.threads_in, Tower.Privates.trace_after, Tower.Composed.AsksFor, Tower.Composed.HandIsKnown}
-use Rattle.cpu.specs.{Tower.Composed.IsBeginning, Tower.Composed.IsGoing, Tower.Composed.IsUsed, Tower.Composed.OpensAs, Tower.Composed.named}
-use Rattle.cpu.specs.{Tower.Positions.IsPart, Tables.IsSetupOf, Tables.IsTabled, Tables.bare, Tables.private, Tables.state_of, Tables.states}
-use Rattle.cpu.specs.declared.guests.GuestStage.TheVariants.{Idle, Begun, Done, Ended}
-use Rattle.cpu.proofs.{CpuStates.TabledCpu, CpuStates.Outset, CpuStates.valid, GuestsFollow.had_going, GuestLists.at_other, GuestLists.at_same}
-use Rattle.cpu.proofs.{GuestLists.guest_within, CallSteps.PollsAt, CallSteps.polls_at, CallSteps.poll_number, CallSteps.poll_call_states, TableRows.call_is}
-use Rattle.cpu.proofs.{TableRows.halted_same, TableRows.states_at, TableRows.states_long, Tower.BegunPolls.first_polls_are_steps, Tower.BegunPolls.polls_are_steps}
-use Rattle.cpu.proofs.{Tower.Chains.put_same, Tower.KeptByPolls.IsFree, Tower.KeptByPolls.begins_keep, Tower.KeptByPolls.preserved_by, Tower.KeptByPolls.plans_keep}
-use Rattle.cpu.proofs.{Tower.PolledSystem.Polled, Tower.KeptByPasses.at_rest, Tower.KeptByPasses.in_call}
+use Rattle.std.proofs.Common.{◌≡◌, ◌≢◌, ◌⊎◌, inl, inr, ℕ, ◌<◌, Bool, true, false, List, ◌++◌, length, slice_get, slice_set, Option, Some, None, IsSome}
+use Rattle.std.proofs.{Common.{option_map, ap, sym, ◌∙◌, subst, arith}, lemmas.List.{append-nil, length-set, map-set}}
+use Rattle.event_log.specs.{declared.{entries.Entry.Entry, ids.{BufId.BufId, CpuId.CpuId, LockId.LockId, Tid.Tid, TheConstants.THREADS}}, Actions.Action}
+use Rattle.{event_log.specs.Actions.phase, guest.specs.{declared.instructions.Instruction.Instruction, State.{State, at_start, next_of}}}
+use Rattle.{thread_blocks.specs.Queues.is_in, layer_traits.specs.declared.{calls.{Call.Call, Effect.Effect, Reply.Reply}, passes.Pass.Pass}}
+use Rattle.layer_traits.specs.{declared.{steps.{Reason.Reason, Step.TheVariants.Stepped}, call_states.{Stage.Stage, CallState.CallState}}, Along.IsStep}
+use Rattle.layer_traits.specs.{Passes.IsLocalPass, Places.home_of, Plans.{Follows, is_in_section}, BufferLaw.{Buffering, UnderWay, Passing, begun_of}}
+use Rattle.layer_traits.specs.BufferLaw.{buffer_of, fifo_plan, going, going_at, still_calling, call_state_of}
+use Rattle.cpu.specs.{declared.{cpus.Choice.TheVariants.Polls, guests.{Guest.Guest, GuestStage.GuestStage, Todo.TheVariants.Calls}}, Guests.HasComeIn}
+use Rattle.cpu.specs.{Guests.{after_answer, entries_of, fresh_effect, had, is_ended, polled, todo_at}, Cpus.{chosen, fresh_at, guest_at}}
+use Rattle.cpu.specs.{Cpus.{halted_at as cpu_halted, of_cpu, of_thread, reason_in, with_guest}, Table.{Setups.Setup, Steps.cpu_step}}
+use Rattle.cpu.specs.{Table.Steps.halted_at as table_halted, Tower.{Views.{TowerBlock, TowerName, tower}, Privates.{guests_after, private_after, private_of}}}
+use Rattle.cpu.specs.Tower.{Privates.{threads_in, trace_after}, Composed.{AsksFor, HandIsKnown, IsBeginning, IsGoing, OpensAs, named}, Positions.IsPart}
+use Rattle.cpu.{specs.Tables.{IsSetupOf, IsTabled, bare, private, state_of, states}, proofs.GuestLists.{with_each, at_other, at_same, guest_within}}
+use Rattle.cpu.proofs.{CpuStates.{TabledCpu, Outset, valid}, GuestsFollow.had_going, CallSteps.{PollsAt, polls_at, poll_number, poll_call_states}}
+use Rattle.cpu.proofs.{TableRows.{call_is, halted_same, states_at, states_long}, Tower.{BegunPolls.{first_polls_are_steps, polls_are_steps}, Chains.put_same}}
+use Rattle.cpu.proofs.Tower.{KeptByPolls.{IsFree, begins_keep, preserved_by, plans_keep}, PolledSystem.Polled, KeptByPasses.at_rest}
 use Rattle.guest.specs.declared.instructions.Instruction.TheVariants as ins
 use Rattle.layer_traits.specs.declared.call_states.Stage.TheVariants as at_stage
 
@@ -33,16 +23,7 @@ use Rattle.layer_traits.specs.declared.call_states.Stage.TheVariants as at_stage
 pub opens_as : (setup : Setup) (homes : List CpuId) (caps : List ℕ) (number : CpuId) (opening : LockId → Option TowerBlock) → setup.homes ≡ homes
     → setup.caps ≡ caps
     → OpensAs (bare homes caps) number opening → OpensAs setup number opening
-opens_as setup homes caps number opening homes_are caps_are opens lock used = opens lock (used_so lock used) ∙ alike lock
-  where
-    used_so : (l : LockId) → IsUsed setup number l → IsUsed (bare homes caps) number l
-    used_so (Buffer b) it = tt
-    used_so (Pending d) (inl same) = inl same
-    used_so (Pending d) (inr there) = inr (there.0, ap (λ h. slice_get h there.0.0) (sym homes_are) ∙ there.1)
-
-    alike : (l : LockId) → table_opening (bare homes caps) l ≡ table_opening setup l
-    alike (Pending d) = refl
-    alike (Buffer b) = ap (λ x. opening_buffer (slice_get x b.0)) (sym caps_are)
+opens_as setup homes caps number opening homes_are caps_are opens lock used = opens lock (grind (arith, used)) ∙ (grind arith)
 
 -- what an instruction asks for
 asks_for : (i : Instruction) (s : State) (c : Call) → todo_at s i ≡ Calls c → AsksFor i s c
@@ -51,56 +32,14 @@ asks_for (ins.Recv b r k) s c is = sym (cc is)
 asks_for (ins.Close b) s c is = sym (cc is)
 asks_for line s c is = absurd (cc is)
 
-is_at_idle : (s : Stage) → (s ≡ at_stage.Idle) ⊎ (s ≡ at_stage.Idle → ⊥)
-is_at_idle at_stage.Idle = inl refl
-is_at_idle stage = inr (λ e. absurd (cc e))
-
 -- a call state inside a call goes on as it is
 goes_same : (s : Stage) (call_state : CallState) (c : Call) → (s ≡ at_stage.Idle → ⊥) → going_at s call_state c ≡ call_state
-goes_same at_stage.Idle call_state c calls = absurd (calls refl)
-goes_same stage call_state c calls = refl
-
--- the trace after a poll
-first_trace : (c : CpuId) (t : Tid) (b : BufId) (before after : Option Effect) (trace : List Entry) → before ≡ None
-    → trace ++ entries_of c t b after ≡ trace_after c t b before after trace
-first_trace c t b before None trace none = append-nil trace ∙ sym (ap (λ o. trace_after c t b o None trace) none)
-first_trace c t b before (Some f) trace none = sym (ap (λ o. trace_after c t b o (Some f) trace) none)
+goes_same s call_state c calls = grind arith
 
 trace_by : (c : CpuId) (t : Tid) (b : BufId) (trace : List Entry) (stage : GuestStage) (program : List Instruction) (s : State) (es : List Entry)
     (begun : Option Call) (effect before after : Option Effect) → HasComeIn stage program s es begun effect → before ≡ had begun effect
     → trace ++ entries_of c t b (fresh_effect stage after) ≡ trace_after c t b before after trace
-trace_by c t b trace Idle program s es begun effect before after follows is =
-    first_trace c t b before after trace (is ∙ ap (λ o. had o effect) follows.0)
-trace_by c t b trace Begun program s es begun effect before after follows is =
-    first_trace c t b before after trace (is ∙ (ap (λ o. had o effect) follows.2 ∙ follows.3))
-trace_by c t b trace Done program s es begun effect before after follows is =
-    append-nil trace ∙ sym (ap (λ o. trace_after c t b o after trace) (is ∙ (ap (λ o. had o effect) follows.3 ∙ follows.4)))
-trace_by c t b trace Ended program s es begun effect before after follows is =
-    first_trace c t b before after trace (is ∙ ap (λ o. had o effect) follows.0)
-
--- what holds of each guest of a table in which one changed
-pub with_each : (guests : List (Option Guest)) (t : ℕ) (f : Guest → Guest) (g : Guest) → guest_at guests t ≡ Some g → (P : ℕ → Guest → Type 0) → P t (f g)
-    → ((u : ℕ) (x : Guest) → u ≢ t → guest_at guests u ≡ Some x → P u x) → (u : ℕ) (x : Guest) → guest_at (with_guest guests t f) u ≡ Some x → P u x
-with_each guests t f g at P here there u x found = go (cases_eq u t)
-  where
-    go : (u ≡ t) ⊎ (u ≡ t → ⊥) → P u x
-    go (inl equal) =
-        let new : guest_at (with_guest guests t f) u
-        ≡ Some (f g) = subst (λ (k : ℕ). guest_at (with_guest guests t f) k ≡ Some (f g)) (sym equal) (at_same guests t f g at) in
-        let one : f g ≡ x = cc (found, new) in
-        subst (λ (k : ℕ). P k x) (sym equal) (subst (λ (y : Guest). P t y) one here)
-    go (inr other) = there u x other (sym (at_other guests t u f other) ∙ found)
-
-polled_lives : (effect : Option Effect) (answer : Option Reply) → is_ended (stage_after effect answer) ≡ true → ⊥
-polled_lives effect (Some reply) is = absurd (cc is)
-polled_lives (Some f) None is = absurd (cc is)
-polled_lives None None is = absurd (cc is)
-
-calls_on : (t : Tid) (current : Option Tid) (answer : Option Reply) (p : Pass) → still_calling t current answer ≡ Some (Passing p) → ⊥
-calls_on t None None p is = absurd (cc is)
-calls_on t None (Some r) p is = absurd (cc is)
-calls_on t (Some u) None p is = absurd (cc is)
-calls_on t (Some u) (Some r) p is = absurd (cc is)
+trace_by c t b trace stage program s es begun effect before after follows is = grind (arith, append-nil)
 
 -- where a CPU is live and no section is under way, it is not halted
 pub not_halted_so : (inside b : Bool) (h : Option Reason) → inside ≡ b → reason_in inside h ≡ None → b ≡ false → h ≡ None
@@ -129,30 +68,18 @@ module _ (cpu : TabledCpu) where
       → (is_ended (f g).stage ≡ true → is_in t (threads_in own2).ended ≡ true)
       → ((u : Tid) → u.0 ≢ t.0 → is_in u (threads_in own).ended ≡ true → is_in u (threads_in own2).ended ≡ true)
       → ((p : Pass) → under_way2 ≡ Some (Passing p) → IsLocalPass p → ⊥) → IsTabled homes caps number own2 under_way2 (with_guest guests t.0 f) opening
-  tabled_with t g f own2 under_way2 at part over_t over quick = record {
-    part = part;
-    opens = tabled.opens;
-    only = λ (u : Tid) (x : Guest) found. with_each guests t.0 f g at (λ (k : ℕ) (y : Guest). home_of homes (record { 0 = k }) ≡ Some number)
-        (tabled.only t g at) (λ k y other there. tabled.only (record { 0 = k }) y there) u.0 x found;
-    ends = λ (u : Tid) (x : Guest) found ended. with_each guests t.0 f g at
-        (λ (k : ℕ) (y : Guest). is_ended y.stage ≡ true → is_in (record { 0 = k }) (threads_in own2).ended ≡ true) over_t
-        (λ k y other there now. over (record { 0 = k }) other (tabled.ends (record { 0 = k }) y there now)) u.0 x found ended;
-    size = length-set guests t.0 (option_map f (guest_at guests t.0)) ∙ tabled.size;
-    quick = quick;
-  }
-
-  -- the guests stay
-  pub tabled_same : (own2 : Buffering) (under_way2 : Option UnderWay) → IsPart own2
-      → ((u : Tid) → is_in u (threads_in own).ended ≡ true → is_in u (threads_in own2).ended ≡ true)
-      → ((p : Pass) → under_way2 ≡ Some (Passing p) → IsLocalPass p → ⊥) → IsTabled homes caps number own2 under_way2 guests opening
-  tabled_same own2 under_way2 part over quick = record {
-    part = part;
-    opens = tabled.opens;
-    only = tabled.only;
-    ends = λ u x found now. over u (tabled.ends u x found now);
-    size = tabled.size;
-    quick = quick;
-  }
+  tabled_with t g f own2 under_way2 at part over_t over quick =
+      let each = with_each guests (with_guest guests t.0 f) t.0 (f g) (at_same guests t.0 f g at) (λ u other. at_other guests t.0 u f other) in record {
+        part = part;
+        opens = tabled.opens;
+        only = λ (u : Tid) (x : Guest) found. each (λ (k : ℕ) (y : Guest). home_of homes (record { 0 = k }) ≡ Some number)
+            (tabled.only t g at) (λ k y other there. tabled.only (record { 0 = k }) y there) u.0 x found;
+        ends = λ (u : Tid) (x : Guest) found ended. each
+            (λ (k : ℕ) (y : Guest). is_ended y.stage ≡ true → is_in (record { 0 = k }) (threads_in own2).ended ≡ true) over_t
+            (λ k y other there now. over (record { 0 = k }) other (tabled.ends (record { 0 = k }) y there now)) u.0 x found ended;
+        size = length-set guests t.0 (option_map f (guest_at guests t.0)) ∙ tabled.size;
+        quick = quick;
+      }
 
   module _ (t : Tid) (c : Call) (chose : chosen (threads_in own) guests ≡ Polls t c) where
     abbrev polls : PollsAt (threads_in own) guests t c
@@ -178,7 +105,7 @@ module _ (cpu : TabledCpu) where
       current = polls.runs;
       begun = sym (ap (λ x. x.call) (goes_same call_state.stage call_state c calls))
           ∙ poll_call_states (valid cpu) t c chose;
-      stands = in_call _ _ _ _ _ _ (tabled.part.mine t polls.runs) calls;
+      stands = grind (arith, tabled.part.mine t polls.runs, calls);
       fits = tabled.part.fits t;
       in_guests = in_guests;
       in_call_states = subst (λ n. t.0 < n) (sym tabled.part.call_states) small;
@@ -222,17 +149,7 @@ module _ (cpu : TabledCpu) where
 
     -- a call that has not begun has no section under way
     outside_so : (inside : Bool) → (under_way ≡ None → inside ≡ false) → call_state.stage ≡ at_stage.Idle → inside ≡ false
-    outside_so inside idle at_idle = go under_way refl
-      where
-        go : (d : Option UnderWay) → under_way ≡ d → inside ≡ false
-        go None none = idle none
-        go (Some d) does =
-            let agreed : Some (Calling t) ≡ Some d = sym (ap under_way_of chose) ∙ is.agrees d does in
-            let calling : d ≡ Calling t = cc agreed in
-            let yes : is_calling g.stage ≡ true = is.calls t g (does ∙ ap Some calling) polls.at in
-            let begun = call_is g.stage g.program g.thread (of_thread t.0 (of_cpu number seen)) (begun_of call_state) call_state.effect follows_g in
-            let none : is_some (begun_of call_state) ≡ false = ap (λ s. is_some (begun_of (record call_state { stage = s }))) at_idle in
-            absurd (cc (yes, begun, none))
+    outside_so inside idle at_idle = grind (arith, call_is, follows_g)
 
     module _ (ActsFor : CpuId → Type 0) (old : List (Action TowerName)) (outset : Outset ActsFor cpu old)
         (live : reason_in outset.inside (cpu_halted (threads_in own) guests trace limit) ≡ None) (after : TabledPoll ActsFor cpu t c old) where
@@ -241,7 +158,7 @@ module _ (cpu : TabledCpu) where
       open after use {follows, ended_is, under_way_is, guests_is, trace_is}
 
       part2 : IsPart own2
-      part2 = go (is_at_idle call_state.stage)
+      part2 = go (grind arith)
         where
           go : (call_state.stage ≡ at_stage.Idle) ⊎ (call_state.stage ≡ at_stage.Idle → ⊥) → IsPart own2
           go (inl at_idle) =
@@ -257,9 +174,9 @@ module _ (cpu : TabledCpu) where
       poll_tabled =
           subst (λ (l : List (Option Guest)). IsTabled homes caps number own2 under_way2 l opening) (sym guests_is)
           (tabled_with t g (λ x. polled x ((call_state_of own2.call_states t).effect) result) own2 under_way2 polls.at part2
-          (λ over. absurd (polled_lives ((call_state_of own2.call_states t).effect) result over))
+          (λ over. absurd (grind (arith, over)))
           (λ u other over. subst (λ l. is_in u l ≡ true) (sym ended_is) over)
-          (λ p does local. calls_on t (threads_in own2).current result p (sym under_way_is ∙ does)))
+          (λ p does local. grind (arith, sym under_way_is ∙ does)))
 
       abbrev effect2 : Option Effect
       effect2 = (call_state_of own2.call_states t).effect
@@ -289,16 +206,13 @@ module _ (cpu : TabledCpu) where
         private_so = λ i. private_of own2 (sym (ap states guests_is ∙ states_after result) i) (sym trace_so i)
 
         not_halted : is_in_section (phase number old) ≡ false → table_halted setup number (private own guests trace) ≡ None
-        not_halted outside =
-            halted_same cpu setup of
-            ∙ not_halted_so inside (is_in_section (phase number old)) (cpu_halted (threads_in own) guests trace limit) busy live outside
+        not_halted outside = grind (arith, halted_same, not_halted_so)
 
         known_in : (o : Buffering) → ((u : Tid) → (threads_in o).hand ≡ Some u → IsSome (slice_get homes u.0)) → HandIsKnown setup o
         known_in o hand u has = subst (λ h. IsSome (slice_get h u.0)) (sym of.homes_are) (hand u has)
 
         follows_so : Follows ActsFor tower opening number (fifo_plan setup.homes number t c own) old new (record { own = own2; answer = result })
-        follows_so = subst (λ h. Follows ActsFor tower opening number (fifo_plan h number t c own) old new (record { own = own2; answer = result }))
-            (sym of.homes_are) follows
+        follows_so = rw of.homes_are follows
 
         abbrev polled_so : Polled
         polled_so = record {
@@ -313,8 +227,7 @@ module _ (cpu : TabledCpu) where
         }
 
         pub poll_steps : IsStep ActsFor (cpu_step setup number) (private own guests trace) (private own2 guests2 trace2) (named old) (named new) Stepped
-        poll_steps = subst (λ q. IsStep ActsFor (cpu_step setup number) (private own guests trace) q (named old) (named new) Stepped) private_so
-            (go (is_at_idle call_state.stage))
+        poll_steps = rw (← private_so) (go (grind arith))
           where
             go : (call_state.stage ≡ at_stage.Idle) ⊎ (call_state.stage ≡ at_stage.Idle → ⊥)
                 → IsStep ActsFor (cpu_step setup number) (private own guests trace)

@@ -1,18 +1,9 @@
 -- A step of a system that is taken is the step table's.
-use Rattle.std.proofs.Common.{◌≡◌, ◌≢◌, ℕ, ◌+◌, ◌<◌, Bool, true, List, [], ◌∷◌, ◌++◌, map, Option, Some, None, refl, ap, sym, ◌∙◌, subst}
-use Rattle.std.proofs.Common.{slice_set}
-use Rattle.std.specs.Prelude.{slice_get}
-use Rattle.std.specs.List.{AllByRecursion}
-use Rattle.std.proofs.lemmas.{Bool.ne_eqb, List.map-set}
-use Rattle.event_log.specs.{declared.ids.CpuId.CpuId, declared.ids.TheConstants.CPUS, Actions.Action, Actions.Take, Actions.Try, Actions.Give, Actions.AreLegal}
-use Rattle.event_log.specs.{Actions.cpu_of_action, History.AreForeign, History.IsLawful, History.same_cpu}
-use Rattle.event_log.proofs.{Foreign.cpus_of_actions_known, Same.same_cpu_self}
-use Rattle.layer_traits.specs.{declared.steps.Reason.Reason, declared.steps.Step.Step, declared.steps.Step.TheVariants.Stepped}
-use Rattle.layer_traits.specs.{Along.IsStep}
-use Rattle.cpu.specs.{Table.Blocks.Name, Table.Setups.Setup, Table.Setups.Private, Table.Steps.Stepping, Table.Steps.Whole, Table.Steps.answered_by}
-use Rattle.cpu.specs.{Table.Steps.cpu_step, Table.Steps.roomy, Table.Steps.step_at, Table.Steps.system_step, Tower.Composed.named, Tower.Views.TowerName}
-use Rattle.cpu.specs.{Claims.CpuShown, Claims.Shown, Systems.SamePlan}
-use Rattle.cpu.specs.{Systems.reason_or}
+use Rattle.std.proofs.{Common.{◌≡◌, ◌≢◌, ℕ, ◌+◌, ◌<◌, List, [], ◌∷◌, ◌++◌, map, Some, refl, ap, ◌∙◌, subst, slice_set, arith}, lemmas.Bool.ne_eqb}
+use Rattle.{std.{proofs.lemmas.List.map-set, specs.{Prelude.slice_get, List.AllByRecursion}}, event_log.specs.declared.ids.{CpuId.CpuId, TheConstants.CPUS}}
+use Rattle.event_log.{specs.{Actions.{Action, Take, Try, Give, AreLegal, cpu_of_action}, History.{AreForeign, IsLawful}}, proofs.Foreign.cpus_of_actions_known}
+use Rattle.{event_log.proofs.Same.same_cpu_self, layer_traits.specs.{declared.steps.Step.TheVariants.Stepped, Along.IsStep}, cpu.specs.Table.Blocks.Name}
+use Rattle.cpu.specs.{Table.{Setups.{Setup, Private}, Steps.{Stepping, Whole, cpu_step, system_step}}, Tower.{Composed.named, Views.TowerName}, Claims.CpuShown}
 use Rattle.cpu.proofs.ListReads.{all_left, all_right, shows_at}
 
 -- where the holder acts for each CPU that there may be, no action is foreign
@@ -20,9 +11,7 @@ none_else : {N : Type 0} (ActsFor : CpuId → Type 0) (others : List (Action N))
     → AllByRecursion (λ a. (cpu_of_action a).0 < CPUS) others → AreForeign ActsFor cpu_of_action others → others ≡ []
 none_else ActsFor [] all known foreign = refl
 none_else ActsFor (a ∷ others) all known foreign =
-    let theirs = (foreign (cpu_of_action a) (all (cpu_of_action a) known.0)).0 in
-    let same : same_cpu (cpu_of_action a) (cpu_of_action a) ≡ true = same_cpu_self (cpu_of_action a) in
-    absurd (cc (theirs, same))
+    absurd (cc ((foreign (cpu_of_action a) (all (cpu_of_action a) known.0)).0, same_cpu_self (cpu_of_action a)))
 
 -- who acts is a CPU that there may be, by whatever name
 renamed_known : (acts : List (Action TowerName)) → IsLawful (λ before a. (cpu_of_action a).0 < CPUS) acts
@@ -31,9 +20,6 @@ renamed_known [] lawful = tt
 renamed_known (Take cpu lock ∷ past) lawful = (lawful.0, renamed_known past lawful.1)
 renamed_known (Try cpu lock hit ∷ past) lawful = (lawful.0, renamed_known past lawful.1)
 renamed_known (Give cpu lock name ∷ past) lawful = (lawful.0, renamed_known past lawful.1)
-
-pub acts_known : (acts : List (Action TowerName)) → AreLegal acts → AllByRecursion (λ a. (cpu_of_action a).0 < CPUS) (named acts)
-acts_known acts legal = renamed_known acts (cpus_of_actions_known acts legal)
 
 abbrev whole : List Private → List (Action Name) → ℕ → ℕ → Whole
 whole cpus log room taken = record { cpus = cpus; log = log; room = room; taken = taken }
@@ -48,8 +34,7 @@ table_step : (ActsFor : CpuId → Type 0) (setup : Setup) (c : CpuId) (cpus : Li
     → AllByRecursion (λ a. (cpu_of_action a).0 < CPUS) log2 → taken ≢ room
     → left (slice_set cpus c.0 q) log2 room (taken + 1) ≡ system_step setup c (record { cpus = cpus; log = log; room = room; taken = taken })
 table_step ActsFor setup c cpus log log2 room taken p q at step all known live =
-    ap (λ (x : Private). left (slice_set cpus c.0 x) log2 room (taken + 1)) next
-    ∙ ap (λ (l : List (Action Name)). left (slice_set cpus c.0 (cpu_step setup c p log).next) l room (taken + 1)) grows ∙ sym step_is
+    grind (arith, next, grows, step_is)
   where
     none : step.others ≡ []
     none = none_else ActsFor step.others all
@@ -64,15 +49,9 @@ table_step ActsFor setup c cpus log log2 room taken p q at step all known live =
     grows : log2 ≡ (cpu_step setup c p log).acts ++ log
     grows = step.grows ∙ ap (λ (l : List (Action Name)). (cpu_step setup c p (l ++ log)).acts ++ (l ++ log)) none
 
-    answers : (cpu_step setup c p log).answer ≡ Stepped
-    answers = sym (step.answers ∙ ap (λ (l : List (Action Name)). (cpu_step setup c p (l ++ log)).answer) none)
-
     step_is : system_step setup c (whole cpus log room taken)
         ≡ left (slice_set cpus c.0 (cpu_step setup c p log).next) ((cpu_step setup c p log).acts ++ log) room (taken + 1)
-    step_is =
-        ap (λ (x : Option Private). step_at setup c (whole cpus log room taken) x) at
-        ∙ ap (λ (a : Step). answered_by c (whole cpus log room taken) (cpu_step setup c p log) a) answers
-        ∙ ap (λ (b : Bool). roomy c (whole cpus log room taken) (cpu_step setup c p log) b) (ne_eqb taken room live)
+    step_is = grind (arith, ne_eqb, none)
 
 -- a step of one CPU among those that are shown
 pub shown_step : {X : Type 0} (shown : X → CpuShown) (ActsFor : CpuId → Type 0) (setup : Setup) (c : CpuId) (xs : List X) (k : ℕ) (x y : X)
@@ -83,30 +62,11 @@ pub shown_step : {X : Type 0} (shown : X → CpuShown) (ActsFor : CpuId → Type
     ≡ system_step setup c (record { cpus = map (λ p. p.private) (map shown xs); log = named acts; room = room; taken = taken })
 shown_step shown ActsFor setup c xs k x y acts acts2 room taken at same step all legal live =
     let there : slice_get (map (λ (p : CpuShown). p.private) (map shown xs)) c.0 ≡ Some (shown x).private =
-    subst (λ (j : ℕ). slice_get (map (λ (p : CpuShown). p.private) (map shown xs)) j ≡ Some (shown x).private) same
-    (shows_at (λ (p : CpuShown). p.private) (map shown xs) k (shown x) (shows_at shown xs k x at)) in
-    let written : map (λ (p : CpuShown). p.private) (map shown (slice_set xs k y))
-    ≡ slice_set (map (λ (p : CpuShown). p.private) (map shown xs)) c.0 (shown y).private =
-    ap (λ (l : List CpuShown). map (λ (p : CpuShown). p.private) l) (map-set shown xs k y)
+    rw (← same) (shows_at (λ (p : CpuShown). p.private) (map shown xs) k (shown x) (shows_at shown xs k x at)) in
+    let written = ap (λ (l : List CpuShown). map (λ (p : CpuShown). p.private) l) (map-set shown xs k y)
     ∙ map-set (λ (p : CpuShown). p.private) (map shown xs) k (shown y)
     ∙ ap (λ (j : ℕ). slice_set (map (λ (p : CpuShown). p.private) (map shown xs)) j (shown y).private) same in
     ap (λ (l : List Private). left l (named acts2) room (taken + 1)) written
     ∙ table_step ActsFor setup c (map (λ (p : CpuShown). p.private) (map shown xs)) (named acts) (named acts2) room taken (shown x).private
     (shown y).private there
-    step all (acts_known acts2 legal) live
-
--- a CPU that takes a step has no reason of its own
-pub own_live : (r : Option Reason) (s : Shown) → reason_or r s ≡ None → r ≡ None
-own_live None s live = refl
-own_live (Some reason) s live = absurd (cc live)
-
--- what two steps leave as it was
-pub same_plans : {s r t : Shown} → SamePlan s r → SamePlan r t → SamePlan s t
-same_plans one two = record {
-  caps = two.caps ∙ one.caps;
-  homes = two.homes ∙ one.homes;
-  programs = two.programs ∙ one.programs;
-  count = two.count ∙ one.count;
-  limits = two.limits ∙ one.limits;
-  room = two.room ∙ one.room;
-}
+    step all (renamed_known acts2 (cpus_of_actions_known acts2 legal)) live

@@ -1,10 +1,9 @@
 -- CPUs and systems at boot: their guests, and that nothing has happened.
 use Rattle.std.specs.Prelude.{◌≡◌, ℕ, ◌≤◌, ◌==◌, List, [], length, map, replicate, Option, Some, None, slice_get, if◌then◌else◌}
-use Rattle.event_log.specs.declared.{entries.Entry.Entry, ids.CpuId.CpuId, ids.Tid.Tid, ids.TheConstants.THREADS}
-use Rattle.layer_traits.specs.{declared.call_states.CallState.CallState, Places.Threads, Places.at_boot, Places.home_of, BufferLaw.Buffering}
-use Rattle.layer_traits.specs.{BufferLaw.UnderWay, BufferLaw.buffering_at_start, BufferLaw.no_call}
-use Rattle.cpu.specs.{declared.guests.Guest.Guest, Guests.new_guest, Claims.listed, Cpus.NamesBelow, Cpus.guest_at}
-use Rattle.boot.specs.Plan.{BootPlan, Task}
+use Rattle.event_log.specs.declared.{entries.Entry.Entry, ids.{CpuId.CpuId, Tid.Tid, TheConstants.THREADS}}
+use Rattle.layer_traits.specs.{declared.call_states.CallState.CallState, Places.{Threads, at_boot, home_of}, BufferLaw.{Buffering, UnderWay}}
+use Rattle.{layer_traits.specs.BufferLaw.{buffering_at_start, no_call}, cpu.specs.{declared.guests.Guest.Guest, Guests.new_guest, Claims.listed}}
+use Rattle.{cpu.specs.Cpus.{NamesBelow, guest_at}, boot.specs.Plan.{BootPlan, Task}}
 
 -- a CPU's guests at boot: a place for each thread; at the number of each thread at home with it, and there alone, a new guest, whose
 -- program names the machine's buffers alone

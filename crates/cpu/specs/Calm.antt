@@ -1,9 +1,8 @@
 -- When a CPU of a system is calm, when a system is quiet, and that no trace is longer than there is room for.
 use Rattle.std.specs.Prelude.{◌≡◌, ℕ, ◌<◌, ◌≤◌, Bool, true, false, not, ◌&&◌, List, [], ◌∷◌, length, Option, Some, None, is_some, slice_get}
-use Rattle.event_log.specs.declared.ids.{CpuId.CpuId, Tid.Tid}
-use Rattle.layer_traits.specs.{declared.steps.Reason.Reason, declared.steps.Reason.TheVariants.AllEnded, declared.steps.Reason.TheVariants.TraceFull}
-use Rattle.layer_traits.specs.{declared.steps.Reason.TheVariants.StepsUsed, Places.Threads, Places.pending_by}
-use Rattle.cpu.specs.{Claims.CpuShown, Claims.Shown, Systems.own_reason}
+use Rattle.{event_log.specs.declared.ids.{CpuId.CpuId, Tid.Tid}, layer_traits.specs.declared.steps.Reason.{Reason, TheVariants.{AllEnded, TraceFull}}}
+use Rattle.{layer_traits.specs.{declared.steps.Reason.TheVariants.StepsUsed, Places.{Threads, pending_by}}, cpu.specs.Claims.{CpuShown, Shown}}
+use Rattle.cpu.specs.Systems.{own_reason}
 
 -- whether nobody stands in a list
 abbrev pub is_nobody : List Tid → Bool

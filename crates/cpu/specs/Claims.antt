@@ -1,17 +1,13 @@
 -- What a system shows, and what holds of it after every list of steps.
 use Rattle.std.specs.Prelude.{◌≡◌, ◌⊎◌, ℕ, zero, suc, ◌+◌, ◌<◌, Bool, true, false, List, [], ◌∷◌, map, length, reverse, Option, Some, None, slice_get}
-use Rattle.std.specs.Prelude.{slice_index_or}
-use Rattle.std.specs.List.{AllByRecursion}
-use Rattle.event_log.specs.{declared.entries.Entry.Entry, declared.ids.BufId.BufId, declared.ids.CpuId.CpuId, declared.ids.Tid.Tid, Actions.Action}
-use Rattle.event_log.specs.{Messages.Message, Runs.IsRun, Runs.is_closed, Streams.IsFirstInFirstOut, Traces.IsInterleaving}
-use Rattle.guest.specs.{declared.instructions.Instruction.Instruction, Calls.AreProgramsCalls, Calls.HasEnded}
-use Rattle.layer_traits.specs.{declared.calls.Call.Call, declared.calls.Effect.Effect, declared.calls.Place.Place, BufferEffects.contents_of}
-use Rattle.layer_traits.specs.{BufferLaw.Buffering, OnePlace.StandsOnce as InOnePlace, OnePlace.total, Places.AreMoves, Places.Stands, Places.Step}
-use Rattle.layer_traits.specs.{Places.Threads, Places.count_in, Places.home_of, Places.where_is, Observed.IsOwnPlace, Observed.queue_place}
-use Rattle.layer_traits.specs.declared.moves.WaitList.{WaitList, TheVariants.Sleepers, TheVariants.Receivers, TheVariants.Senders}
-use Rattle.thread_blocks.specs.Queues.{is_in}
-use Rattle.cpu.specs.{declared.guests.Guest.Guest, Guests.HasComeIn, Guests.is_ended, Table.Blocks.Name, Table.Setups.Private, Tables.private}
-use Rattle.cpu.specs.{Tower.Composed.named, Tower.Views.TowerName, Cpus.IsOfHome, Cpus.guest_at, Cpus.of_thread, Cpus.programs_of}
+use Rattle.{std.specs.{Prelude.slice_index_or, List.AllByRecursion}, event_log.specs.declared.{entries.Entry.Entry, ids.{BufId.BufId, CpuId.CpuId, Tid.Tid}}}
+use Rattle.event_log.specs.{Actions.Action, Messages.Message, Runs.{IsRun, is_closed}, Streams.IsFirstInFirstOut, Traces.IsInterleaving}
+use Rattle.{guest.specs.{declared.instructions.Instruction.Instruction, Calls.{AreProgramsCalls, HasEnded}}, layer_traits.specs.declared.calls.Call.Call}
+use Rattle.layer_traits.specs.declared.{calls.{Effect.Effect, Place.Place}, moves.WaitList.{WaitList, TheVariants.{Sleepers, Receivers, Senders}}}
+use Rattle.layer_traits.specs.{BufferEffects.contents_of, BufferLaw.Buffering, OnePlace.{StandsOnce as InOnePlace, total}, Places.{AreMoves, Stands, Step}}
+use Rattle.{layer_traits.specs.{Places.{Threads, count_in, home_of, where_is}, Observed.{IsOwnPlace, queue_place}}, thread_blocks.specs.Queues.is_in}
+use Rattle.cpu.specs.{declared.guests.Guest.Guest, Guests.{HasComeIn, is_ended}, Table.{Blocks.Name, Setups.Private}, Tables.private, Tower.Composed.named}
+use Rattle.cpu.specs.{Tower.Views.TowerName, Cpus.{IsOfHome, guest_at, of_thread, programs_of}}
 
 -- who sleeps at a buffer: for its lock, for a message, for room
 pub record Waiters : Type 0 where

@@ -1,10 +1,8 @@
 -- One CPU over a layer of message calls and its machine: what always holds of it, and what each of its steps leaves.
 use Rattle.std.specs.Prelude.{◌≡◌, ◌≢◌, ℕ, ◌+◌, ◌≤◌, length, Option, None, vec_capacity}
-use Rattle.event_log.specs.declared.ids.CpuId.{CpuId}
-use Rattle.layer_traits.specs.{declared.call_layers.CallLayer.Ghosts, declared.steps.Reason.Reason, declared.steps.Step.Step, BufferLaw.MovesGrow}
-use Rattle.layer_traits.specs.declared.steps.Step.TheVariants.{Stepped}
-use Rattle.cpu.specs.{declared.cpus.Cpu.Cpu, Cpus.ActsGrow, Cpus.IsCpu, Cpus.SeenGrows, Cpus.halted_at, Cpus.programs_of, Cpus.reason_in, Tables.IsTabled}
-use Rattle.cpu.specs.{Tables.WentByTable}
+use Rattle.{event_log.specs.declared.ids.CpuId.CpuId, layer_traits.specs.declared.{call_layers.CallLayer.Ghosts, steps.{Reason.Reason, Step.Step}}}
+use Rattle.{layer_traits.specs.{declared.steps.Step.TheVariants.Stepped, BufferLaw.MovesGrow}, cpu.specs.{declared.cpus.Cpu.Cpu, Cpus.{ActsGrow, IsCpu}}}
+use Rattle.cpu.specs.{Cpus.{SeenGrows, halted_at, programs_of, reason_in}, Tables.{IsTabled, WentByTable}}
 
 -- what always holds of the CPU
 abbrev pub IsCpuAt : {P L M : Type 0} → Ghosts P L M → M → Cpu P M → Type 0

@@ -1,21 +1,15 @@
 -- One CPU over a layer of message calls: what it does next, why it is halted, and what always holds of it. Lists of entries are
 -- newest first; a trace is oldest first.
 use Rattle.std.specs.Prelude.{◌≡◌, ℕ, ◌+◌, ◌≤◌, ◌==◌, Bool, true, false, not, ◌&&◌, List, [], ◌∷◌, ◌++◌, length, map, filter, count_by, reverse, Option, Some}
-use Rattle.std.specs.Prelude.{None, is_some, option_map, slice_index_or, slice_set, if◌then◌else◌}
-use Rattle.std.specs.List.{AllByRecursion, list_all}
-use Rattle.event_log.specs.{declared.entries.Entry.Entry, declared.ids.CpuId.CpuId, declared.ids.Tid.Tid, declared.ids.TheConstants.THREADS, History.AreForeign}
-use Rattle.event_log.specs.{Actions.Action, Actions.cpu_of_action}
-use Rattle.thread_blocks.specs.Queues.{is_in}
-use Rattle.guest.specs.{declared.instructions.Instruction.Instruction, Instructions.instruction_at, Instructions.names_below}
-use Rattle.layer_traits.specs.{declared.calls.Call.Call, declared.calls.Effect.Effect, declared.steps.Reason.Reason, declared.steps.Reason.TheVariants.AllEnded}
-use Rattle.layer_traits.specs.{declared.steps.Reason.TheVariants.TraceFull, declared.steps.Step.Step, declared.steps.Step.TheVariants.Stepped}
-use Rattle.layer_traits.specs.{declared.steps.Step.TheVariants.Halted, declared.call_states.CallState.CallState, Places.Threads, Places.home_of}
-use Rattle.layer_traits.specs.{BufferLaw.UnderWay, BufferLaw.Calling, BufferLaw.Passing, BufferLaw.cpu_of_entry, BufferLaw.call_state_of}
-use Rattle.layer_traits.specs.declared.passes.Pass.{Pass, TheVariants.Switch, TheVariants.YieldNow, TheVariants.Drain, TheVariants.MakeReady, TheVariants.End}
-use Rattle.cpu.specs.{declared.guests.Guest.Guest, declared.guests.Todo.Todo, declared.guests.Todo.TheVariants.Finish, declared.guests.Todo.TheVariants.PassOn}
-use Rattle.cpu.specs.{declared.guests.Todo.TheVariants.Compute, declared.guests.Todo.TheVariants.Calls, declared.cpus.Choice.Choice}
-use Rattle.cpu.specs.{declared.cpus.Choice.TheVariants.Polls, declared.cpus.Choice.TheVariants.Passes, declared.cpus.Choice.TheVariants.Computes}
-use Rattle.cpu.specs.{Guests.HasCome, Guests.after_pass, Guests.fresh_effect, Guests.is_begun, Guests.is_calling, Guests.is_ended, Guests.todo_of}
+use Rattle.std.specs.{Prelude.{None, is_some, option_map, slice_index_or, slice_set, if◌then◌else◌}, List.{AllByRecursion, list_all}}
+use Rattle.event_log.specs.{declared.{entries.Entry.Entry, ids.{CpuId.CpuId, Tid.Tid, TheConstants.THREADS}}, History.AreForeign, Actions.Action}
+use Rattle.{event_log.specs.Actions.cpu_of_action, thread_blocks.specs.Queues.is_in, guest.specs.declared.instructions.Instruction.Instruction}
+use Rattle.{guest.specs.Instructions.{instruction_at, names_below}, layer_traits.specs.declared.{calls.{Call.Call, Effect.Effect}, steps.Reason.Reason}}
+use Rattle.layer_traits.specs.declared.steps.{Reason.TheVariants.{AllEnded, TraceFull}, Step.{Step, TheVariants.{Stepped, Halted}}}
+use Rattle.layer_traits.specs.declared.{call_states.CallState.CallState, passes.Pass.{Pass, TheVariants.{Switch, YieldNow, Drain, MakeReady, End}}}
+use Rattle.layer_traits.specs.{Places.{Threads, home_of}, BufferLaw.{UnderWay, Calling, Passing, cpu_of_entry, call_state_of}}
+use Rattle.cpu.specs.declared.{guests.{Guest.Guest, Todo.{Todo, TheVariants.{Finish, PassOn, Compute, Calls}}}, cpus.Choice.{Choice, TheVariants.Polls}}
+use Rattle.cpu.specs.{declared.cpus.Choice.TheVariants.{Passes, Computes}, Guests.{HasCome, after_pass, fresh_effect, is_begun, is_calling, is_ended, todo_of}}
 
 -- the guest of a thread, in a table by thread
 abbrev pub guest_at : List (Option Guest) → ℕ → Option Guest

@@ -1,18 +1,13 @@
 -- A thread's guest: what it does next, what a poll of its call makes of it, and how its entries led to its private state. Lists of
 -- entries are newest first.
 use Rattle.std.specs.Prelude.{◌≡◌, ℕ, Bool, true, false, List, Option, Some, None, option_map, option_to_list}
-use Rattle.event_log.specs.{declared.entries.Entry.Entry, declared.entries.Kind.Kind, declared.ids.BufId.BufId, declared.ids.CpuId.CpuId, declared.ids.Tid.Tid}
-use Rattle.event_log.specs.{Messages.Message}
-use Rattle.guest.specs.{declared.instructions.Instruction.Instruction, declared.instructions.Into.Into, State.State, State.at_start, State.next_of}
-use Rattle.guest.specs.{State.message_from, State.moved_on, State.moved_into, State.moved_aside, State.after_local, State.after_send, State.after_recv}
-use Rattle.guest.specs.{State.after_close, State.after_closed, State.after_yield, Calls.IsProgramsCalls, Calls.HasEnded}
-use Rattle.layer_traits.specs.declared.calls.{Call.Call, Call.TheVariants.Send, Call.TheVariants.Recv, Call.TheVariants.Close, Effect.Effect, Reply.Reply}
-use Rattle.layer_traits.specs.declared.calls.Reply.TheVariants.{Sent, Got, Shut, Closed, NoBuffer}
-use Rattle.layer_traits.specs.{declared.passes.Pass.Pass, declared.passes.Pass.TheVariants.YieldNow, declared.passes.Pass.TheVariants.End}
-use Rattle.layer_traits.specs.{declared.call_states.CallState.CallState, BufferLaw.IsEffectOf, BufferLaw.begun_of, BufferLaw.entry_of}
-use Rattle.cpu.specs.declared.guests.{Guest.Guest, GuestStage.GuestStage, GuestStage.TheVariants.Idle, GuestStage.TheVariants.Begun}
-use Rattle.cpu.specs.declared.guests.{GuestStage.TheVariants.Done, GuestStage.TheVariants.Ended, Todo.Todo, Todo.TheVariants.Finish, Todo.TheVariants.PassOn}
-use Rattle.cpu.specs.declared.guests.{Todo.TheVariants.Compute, Todo.TheVariants.Calls}
+use Rattle.event_log.specs.{declared.{entries.{Entry.Entry, Kind.Kind}, ids.{BufId.BufId, CpuId.CpuId, Tid.Tid}}, Messages.Message}
+use Rattle.guest.specs.{declared.instructions.{Instruction.Instruction, Into.Into}, State.{State, at_start, next_of, message_from, moved_on, moved_into}}
+use Rattle.guest.specs.{State.{moved_aside, after_local, after_send, after_recv, after_close, after_closed, after_yield}, Calls.{IsProgramsCalls, HasEnded}}
+use Rattle.layer_traits.specs.declared.calls.{Call.{Call, TheVariants.{Send, Recv, Close}}, Effect.Effect, Reply.{Reply, TheVariants.{Sent, Got, Shut, Closed}}}
+use Rattle.layer_traits.specs.declared.{calls.Reply.TheVariants.NoBuffer, passes.Pass.{Pass, TheVariants.{YieldNow, End}}, call_states.CallState.CallState}
+use Rattle.{layer_traits.specs.BufferLaw.{IsEffectOf, begun_of, entry_of}, cpu.specs.declared.guests.{Guest.Guest, GuestStage.{GuestStage, TheVariants.Idle}}}
+use Rattle.cpu.specs.declared.guests.{GuestStage.TheVariants.{Begun, Done, Ended}, Todo.{Todo, TheVariants.{Finish, PassOn, Compute, Calls}}}
 use Rattle.event_log.specs.declared.entries.Kind.TheVariants as kind
 use Rattle.guest.specs.declared.instructions.Instruction.TheVariants as ins
 use Rattle.layer_traits.specs.declared.call_states.Stage.TheVariants as call_state_stage

@@ -1,14 +1,11 @@
 -- What a system tells of its CPUs, its queues and its buffers is what the step table has there.
 use Rattle.std.specs.Prelude.{◌≡◌, ℕ, ◌<◌, ◌≤◌, true, false, List, [], length, Some, None, slice_get, slice_index, slice_index_or}
-use Rattle.event_log.specs.declared.{entries.Kind.Kind, ids.BufId.BufId, ids.LockId.TheVariants.Buffer as AtBuffer, ids.LockId.TheVariants.Pending, ids.Tid.Tid}
-use Rattle.event_log.specs.declared.{ids.TheConstants.THREADS, ids.CpuId.CpuId}
-use Rattle.event_log.specs.{Actions.phase, Buffers.IsAllowedEffect, Buffers.items_of, Messages.Message, Runs.Group, Runs.Receives, Runs.Sends, Runs.group_of}
-use Rattle.layer_traits.specs.{declared.calls.Place.Place, Places.pending_by, Plans.is_in_section}
-use Rattle.thread_blocks.specs.Queues.{is_in}
-use Rattle.cpu.specs.{Claims.CpuShown, Claims.IsPlaceOf, Claims.Shown, Claims.waiters_at, Claims.buffer_at, Cpus.halted_at as own_halted_at, Sound.IsSetupFor}
-use Rattle.cpu.specs.{Systems.whole_of, Wakeups.Quiet.IsLive, Wakeups.Quiet.IsNextEffect, Wakeups.Quiet.IsStuck}
-use Rattle.cpu.specs.Table.{Blocks.Buffer, Blocks.OfBuffer, Blocks.OfPending, Blocks.front, Blocks.stands_in, Setups.Private, Setups.Setup, Setups.home_of}
-use Rattle.cpu.specs.Table.{Setups.stands_at, Setups.thread_at, Steps.Whole, Steps.block_at, Steps.cpu_numbered, Steps.halted_at}
+use Rattle.event_log.specs.declared.{entries.Kind.Kind, ids.{BufId.BufId, LockId.TheVariants.{Buffer as AtBuffer, Pending}, Tid.Tid, TheConstants.THREADS}}
+use Rattle.event_log.specs.{declared.ids.CpuId.CpuId, Actions.phase, Buffers.{IsAllowedEffect, items_of}, Messages.Message, Runs.{Group, Receives, Sends}}
+use Rattle.{event_log.specs.Runs.group_of, layer_traits.specs.{declared.calls.Place.Place, Places.pending_by, Plans.is_in_section}}
+use Rattle.{thread_blocks.specs.Queues.is_in, cpu.specs.{Claims.{CpuShown, IsPlaceOf, Shown, waiters_at, buffer_at}, Cpus.halted_at as own_halted_at}}
+use Rattle.cpu.specs.{Sound.IsSetupFor, Systems.whole_of, Wakeups.Quiet.{IsLive, IsNextEffect, IsStuck}, Table.Blocks.{Buffer, OfBuffer, OfPending, front}}
+use Rattle.cpu.specs.Table.{Blocks.stands_in, Setups.{Private, Setup, home_of, stands_at, thread_at}, Steps.{Whole, block_at, cpu_numbered, halted_at}}
 use Rattle.layer_traits.specs.declared.calls.Place.TheVariants as place
 
 -- CPU c of the table has a private state of which this holds

@@ -1,11 +1,10 @@
 -- A system is one that the step table reaches from boot, whichever setup of the table is its. So it has lost no wake-up, and a call of a
 -- CPU that runs alone returns.
 use Rattle.std.specs.Prelude.{◌≡◌, ℕ, ◌+◌, ◌<◌, ◌≤◌, List, [], ◌∷◌, length, map, replicate, Some}
-use Rattle.event_log.specs.declared.{entries.Kind.TheVariants.Close, ids.BufId.BufId, ids.CpuId.CpuId, ids.LockId.TheVariants.Buffer as AtBuffer, ids.Tid.Tid}
-use Rattle.boot.specs.Plan.{BootPlan}
-use Rattle.cpu.specs.{Boots.homes_for, Claims.Shown, Systems.GoesBy, Systems.whole_of, Table.Blocks.Buffer, Table.Blocks.OfBuffer, Table.Setups.Setup}
-use Rattle.cpu.specs.{Table.Setups.Private, Table.Steps.IsReached, Table.Steps.Whole, Table.Steps.block_at, Table.Steps.system_step, Table.Steps.whole_at_boot}
-use Rattle.cpu.specs.{Wakeups.Alone.HasReturned, Wakeups.Alone.IsInCall, Wakeups.Alone.IsReady, Wakeups.Alone.steps_to_return, Wakeups.Lost.NoWakeUpIsLost}
+use Rattle.event_log.specs.declared.{entries.Kind.TheVariants.Close, ids.{BufId.BufId, CpuId.CpuId, LockId.TheVariants.Buffer as AtBuffer, Tid.Tid}}
+use Rattle.{boot.specs.Plan.BootPlan, cpu.specs.{Boots.homes_for, Claims.Shown, Systems.{GoesBy, whole_of}, Table.{Blocks.{Buffer, OfBuffer}, Setups.Setup}}}
+use Rattle.cpu.specs.{Table.{Setups.Private, Steps.{IsReached, Whole, block_at, system_step, whole_at_boot}}, Wakeups.Alone.{HasReturned, IsInCall, IsReady}}
+use Rattle.cpu.specs.Wakeups.{Alone.steps_to_return, Lost.NoWakeUpIsLost}
 
 -- a setup of the step table is this system's: it agrees with each of its CPUs, and has as many
 pub record IsSetupFor (setup : Setup) (s : Shown) : Type 0 where

@@ -1,12 +1,9 @@
 -- What always holds of a system, what its steps leave as it was, and why a CPU of it takes no step.
 use Rattle.std.specs.Prelude.{◌≡◌, ℕ, ◌+◌, ◌^◌, ◌<◌, ◌≤◌, ◌==◌, List, [], ◌∷◌, ◌++◌, length, map, Option, Some, None, slice_get, if◌then◌else◌}
-use Rattle.std.specs.List.{AllByRecursion}
-use Rattle.event_log.specs.{declared.entries.Entry.Entry, declared.ids.CpuId.CpuId, declared.ids.Tid.Tid, declared.ids.TheConstants.CPUS}
-use Rattle.event_log.specs.{declared.ids.TheConstants.THREADS, Actions.Action, Actions.Rests, Actions.phase}
-use Rattle.layer_traits.specs.{declared.steps.Reason.Reason, declared.steps.Reason.TheVariants.StepsUsed, declared.steps.Step.Step}
-use Rattle.layer_traits.specs.{declared.steps.Step.TheVariants.Stepped, Places.home_of}
-use Rattle.cpu.specs.{Table.Setups.Setup, Table.Steps.Stepping, Table.Steps.Whole, Table.Steps.system_step, Table.Steps.cpu_step, Tables.IsSetupOf}
-use Rattle.cpu.specs.{Cpus.halted_at, Cpus.reason_in, Cpus.step_answer, Claims.CpuShown, Claims.Shown, Claims.programs_in}
+use Rattle.{std.specs.List.AllByRecursion, event_log.specs.declared.{entries.Entry.Entry, ids.{CpuId.CpuId, Tid.Tid, TheConstants.{CPUS, THREADS}}}}
+use Rattle.{event_log.specs.Actions.{Action, Rests, phase}, layer_traits.specs.declared.steps.{Reason.{Reason, TheVariants.StepsUsed}, Step.Step}}
+use Rattle.{layer_traits.specs.{declared.steps.Step.TheVariants.Stepped, Places.home_of}, cpu.specs.Table.{Setups.Setup, Steps.{Stepping, Whole, system_step}}}
+use Rattle.cpu.specs.{Table.Steps.cpu_step, Tables.IsSetupOf, Cpus.{halted_at, reason_in, step_answer}, Claims.{CpuShown, Shown, programs_in}}
 
 -- what no step changes: capacities, homes, programs, the number of CPUs, the room of each trace, and the room for steps
 pub record SamePlan (s r : Shown) : Type 0 where

@@ -37,11 +37,9 @@ pub struct Cpu<I: CallLayer<IpcLaw>> {
 }
 
 impl<I: CallLayer<IpcLaw>> Cpu<I> {
-    ghost use Rattle.layer_traits.specs.declared.steps.{Reason.Reason, Step.TheVariants.Halted, Step.TheVariants.Stepped};
-    ghost use Rattle.cpu.specs.{declared.cpus.Choice.TheVariants.Polls, declared.cpus.Choice.TheVariants.Passes, declared.cpus.Choice.TheVariants.Computes};
-    ghost use Rattle.cpu.specs.{CpuSteps.IsCpuAt, CpuSteps.IsTabledAt, CpuSteps.Leaves, CpuSteps.RunsAt, CpuSteps.WentAt, CpuSteps.stops_at, Cpus.chosen};
-    ghost use Rattle.cpu.specs.{Cpus.halted_at, Cpus.step_answer, CpuSteps.SteppedAt};
-    ghost use Rattle.layer_traits.specs.declared.passes.Pass.TheVariants.{Drain};
+    ghost use Rattle.layer_traits.specs.declared.{steps.{Reason.Reason, Step.TheVariants.{Halted, Stepped}}, passes.Pass.TheVariants.Drain};
+    ghost use Rattle.cpu.specs.{declared.cpus.Choice.TheVariants.{Polls, Passes, Computes}, CpuSteps.{IsCpuAt, IsTabledAt, Leaves, RunsAt, WentAt, stops_at}};
+    ghost use Rattle.cpu.specs.{CpuSteps.SteppedAt, Cpus.{chosen, halted_at, step_answer}};
 
     /// What the CPU does next, where it is not halted.
     #[inline(always)]

@@ -1,10 +1,8 @@
 //! The guests of a CPU, by thread.
 
-ghost use Rattle.std.specs.Prelude.{◌≡◌, ◌+◌, ◌^◌, ◌<◌, ◌≤◌, not, length, if◌then◌else◌, Some, None, IfSome};
-ghost use Rattle.std.specs.List.{count_by, list_all};
-ghost use Rattle.layer_traits.specs.{Places.one_if, BufferLaw.answer_with, declared.calls.Call.Call};
-ghost use Rattle.cpu.specs.{Guests.computed, Guests.is_begun, Guests.is_ended, Guests.polled, Cpus.begun_count, Cpus.fresh_at, Cpus.guest_at};
-ghost use Rattle.cpu.specs.{Cpus.is_begun_guest, Cpus.is_over, Cpus.passed_by, Cpus.stands_at, Cpus.with_guest};
+ghost use Rattle.std.specs.{Prelude.{◌≡◌, ◌+◌, ◌^◌, ◌<◌, ◌≤◌, not, length, if◌then◌else◌, Some, None, IfSome}, List.{count_by, list_all}};
+ghost use Rattle.{layer_traits.specs.{Places.one_if, BufferLaw.answer_with, declared.calls.Call.Call}, cpu.specs.Guests.{computed, is_begun, is_ended, polled}};
+ghost use Rattle.cpu.specs.Cpus.{begun_count, fresh_at, guest_at, is_begun_guest, is_over, passed_by, stands_at, with_guest};
 
 use crate::guests::{Guest, GuestStage};
 use event_log::{BufId, Tid};
@@ -28,9 +26,8 @@ pub struct Guests {
 }
 
 impl Model for Guests {
-    ghost use Rattle.std.specs.Prelude.{◌≡◌, not, Option, Vec};
-    ghost use Rattle.std.specs.{Global.Global, List.count_by};
-    ghost use Rattle.cpu.specs.{declared.guests.Guest.Guest, Cpus.IsKept, Cpus.begun_count, Cpus.is_over};
+    ghost use Rattle.std.specs.{Prelude.{◌≡◌, not, Option, Vec}, Global.Global, List.count_by};
+    ghost use Rattle.cpu.specs.{declared.guests.Guest.Guest, Cpus.{IsKept, begun_count, is_over}};
 
     ghost Value = { Vec (Option Guest) Global };
 
@@ -41,8 +38,7 @@ impl Model for Guests {
 }
 
 impl Guests {
-    ghost use Rattle.std.specs.{Borrow.sem, Io.BufRead.Rests};
-    ghost use Rattle.cpu.specs.contracts.guest_tables.Guests.{the_row};
+    ghost use Rattle.{std.specs.{Borrow.sem, Io.BufRead.Rests}, cpu.specs.contracts.guest_tables.Guests.the_row};
 
     /// The guests of this table.
     pub(crate) fn new(table: Vec<Option<Guest>>) -> Guests

@@ -1,11 +1,10 @@
 //! What holds of the step table. Each law is the contract of a function that does nothing, so that
 //! the law is proved with the crate.
 
-ghost use Rattle.cpu.specs.{Table.Worked.AloneRuns, Table.Worked.RunsOfTwo, Table.Worked.RunsOfThree, Table.Closing.ClosingRuns, Table.Words.RunsOfWords};
-ghost use Rattle.cpu.specs.{Tower.Views.TablesAgree, Tower.Composed.HaltsExactly, Tower.Composed.PlansAreLines};
-ghost use Rattle.cpu.specs.Wakeups.{Lost.OrderLosesNoWakeUp, Lost.SystemsKeepOrder, Lost.SystemsLoseNoWakeUp, Lost.FreeLocksHaveNoSleepers};
-ghost use Rattle.cpu.specs.Wakeups.{Lost.CpusLoseNoWakeUp, OneSignal.OneSignalLosesAWakeUp, OneSignal.SilentAnswerLosesAWakeUp, Quiet.QuietIsStuck};
-ghost use Rattle.cpu.specs.Wakeups.{Alone.CallsReturnAlone, OnePlace.StandInOnePlace, Met.PremisesAreMet};
+ghost use Rattle.cpu.specs.{Table.{Worked.{AloneRuns, RunsOfTwo, RunsOfThree}, Closing.ClosingRuns, Words.RunsOfWords}, Tower.Views.TablesAgree};
+ghost use Rattle.cpu.specs.{Tower.Composed.{HaltsExactly, PlansAreLines}, Wakeups.Lost.{OrderLosesNoWakeUp, SystemsKeepOrder, SystemsLoseNoWakeUp}};
+ghost use Rattle.cpu.specs.Wakeups.{Lost.{FreeLocksHaveNoSleepers, CpusLoseNoWakeUp}, OneSignal.{OneSignalLosesAWakeUp, SilentAnswerLosesAWakeUp}};
+ghost use Rattle.cpu.specs.Wakeups.{Quiet.QuietIsStuck, Alone.CallsReturnAlone, OnePlace.StandInOnePlace, Met.PremisesAreMet};
 
 /// Worked runs of one thread on one CPU, by computation: what each leaves after its schedule.
 pub fn runs_alone()

@@ -6,8 +6,7 @@ mod opening;
 mod plans;
 mod quiet;
 
-ghost use Rattle.std.specs.Prelude.{◌≡◌, ◌+◌, ◌<◌, ◌≤◌, ◌↔◌, true, false, All, IsOk, OnErr, OnOk, Some, None, [], length, map, slice_index_or};
-ghost use Rattle.std.specs.Prelude.{replicate, take};
+ghost use Rattle.std.specs.Prelude.{◌≡◌, ◌+◌, ◌<◌, ◌≤◌, ◌↔◌, true, false, All, IsOk, OnErr, OnOk, Some, None, [], length, map, slice_index_or, replicate, take};
 ghost use Rattle.layer_traits.specs.Spins.{BeginWith};
 
 use crate::cpus::Cpu;
@@ -65,10 +64,9 @@ impl<I: Owned + Drop> System<I>
 where
     I::Machine: Drop,
 {
-    ghost use Rattle.layer_traits.specs.declared.steps.{Reason.Reason, Step.TheVariants.Halted, Step.TheVariants.Stepped};
-    ghost use Rattle.event_log.specs.{declared.ids.TheConstants.CPUS, declared.ids.TheConstants.THREADS, Buffers.items_of};
-    ghost use Rattle.cpu.specs.{Cpus.step_answer, Sound.RanByTable, Sound.ReturnsAlone, Sound.SoundByTable, Observed.ObservedByTable, Systems.HaltsByTable};
-    ghost use Rattle.cpu.specs.{Systems.Ran, Systems.SamePlan, Systems.SteppedByTable, Systems.halted_in, Systems.reason_of};
+    ghost use Rattle.{layer_traits.specs.declared.steps.{Reason.Reason, Step.TheVariants.{Halted, Stepped}}, event_log.specs.declared.ids.TheConstants.CPUS};
+    ghost use Rattle.{event_log.specs.{declared.ids.TheConstants.THREADS, Buffers.items_of}, cpu.specs.{Cpus.step_answer, Sound.{RanByTable, ReturnsAlone}}};
+    ghost use Rattle.cpu.specs.{Sound.SoundByTable, Observed.ObservedByTable, Systems.{HaltsByTable, Ran, SamePlan, SteppedByTable, halted_in, reason_of}};
     ghost use Rattle.cpu.specs.Claims.{FollowPrograms, HasOneOrder, IsPlaceOf, MovesAgree, StandsOnce, StayHome, shown_of, traces_of};
 
     /// Takes one step of `cpu`: one local action or one atomic action.

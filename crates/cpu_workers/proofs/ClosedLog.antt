@@ -2,30 +2,24 @@
 -- step table's, and in the buffers what its effects leave.
 use Rattle.std.proofs.Common.{◌≡◌, ℕ, suc, ◌<◌, ◌≤◌, Bool, true, false, List, [], ◌∷◌, length, map, slice_get, slice_index, Option, Some, None, option_map}
 use Rattle.std.proofs.Common.{if◌then◌else◌, inl, refl, ap, sym, ◌∙◌, subst, arith}
-use Rattle.event_log.specs.declared.ids.{BufId.BufId, CpuId.CpuId, LockId.LockId, LockId.TheVariants.Pending, LockId.TheVariants.Buffer as AtBuffer}
-use Rattle.event_log.specs.{Actions.Action, Actions.AreLegal, Actions.acts_of, Actions.renamed, Buffers.items_of, Runs.is_closed, History.IsLawful}
-use Rattle.event_log.specs.{History.same_lock, Sections.Section, Sections.block_after, Sections.renamed_section, Sections.sections_in}
-use Rattle.event_log.proofs.{Foreign.sections_acts, Renaming.legal_renamed, Renaming.sections_in_renamed, Same.same_lock_true, Tickets.legal_acts}
-use Rattle.layer_traits.specs.{declared.buffer_edits.BufferEdit.BufferEdit, declared.conditions.CvEdit.CvEdit, declared.conditions.CvLeave.CvLeave}
-use Rattle.layer_traits.specs.{declared.queue_edits.QueueBlock.QueueBlock, declared.queue_edits.QueueEdit.QueueEdit, declared.queues.QueueEvent.QueueEvent}
-use Rattle.layer_traits.specs.{Acted.ItemsAre, Acted.guarded, BufferEffects.MayTakeEffect, BufferEffects.contents_of, BufferEffects.effects_in}
-use Rattle.layer_traits.specs.{BufferProtocol.BufferLock, BufferProtocol.buffer_monitor_rules, Conditions.CvCall, Conditions.cv_rules, IpcLaw.OpensSo}
-use Rattle.layer_traits.specs.{QLockLaw.lock_kernel, QLocking.lock_edited, OneLock.opened, QueueBlocks.StartsWell, QueueBlocks.above_of, QueueRules.AreProper}
-use Rattle.layer_traits.specs.{QueueRules.queue_edited, Queues.QueueAllowed, Queues.buffer_sections, Queues.event_of, Renaming.renamed_edit}
-use Rattle.layer_traits.specs.{Renaming.renamed_events, Renaming.viewed, Renaming.viewed_block, Sleeping.sleep_edited, WordsProtocol.MayCome}
-use Rattle.layer_traits.specs.{WordsProtocol.edit_of, WordsProtocol.sections, Laws.Openings.opens_so}
-use Rattle.layer_traits.proofs.KernelRenaming.{homes_viewed, proper_renamed, seen_renamed, starts_viewed, viewed_there}
-use Rattle.layer_traits.proofs.{NestedLemmas.lawful_events, NestedLemmas.lawful_proper, PlanRenaming.block_viewed, Seen.sections_allowed, Seen.words_legal}
-use Rattle.sleep_wakeup.specs.{Laws.NestedLaws.nested_lawful, Nested.nested_edited, Nested.nested_moves, Nested.nested_rules, Nested.state_of}
-use Rattle.queuing_lock.specs.{declared.edits.QLockEdit.QLockEdit, Laws.NestedLaws.locks_lawful, Nested.busy_rules, Nested.nested_lock_of}
-use Rattle.fifo_buffer.specs.Laws.{OwnedLaws.items_acted, Tallies.effects_lawful}
-use Rattle.fifo_buffer.proofs.Opening.{boots_well, caps_are}
-use Rattle.table_machine.specs.SeatViews.{TableView}
-use Rattle.cpu.specs.{Table.Setups.Setup, Table.Setups.opening as table_opening, Table.Steps.block_at, Tower.Composed.named, Tower.Views.TowerBlock}
-use Rattle.cpu.specs.{Tower.Views.TowerName, Tower.Views.view}
-use Rattle.cpu.proofs.{TableCalls.opens_so as opens_as, PartsOfTable.block_read}
-use Rattle.cpu_workers.specs.{Closing.LockBlock, Closing.LockEdit, Closing.StartsSo, Closing.WordsOfTower, Closing.acts_in, Closing.blocks_read}
-use Rattle.cpu_workers.specs.{Closing.seen_above, Closing.tower_rules, Lawful.messages_in, Orders.effects_of}
+use Rattle.event_log.specs.{declared.ids.{BufId.BufId, CpuId.CpuId, LockId.{LockId, TheVariants.{Pending, Buffer as AtBuffer}}}, Actions.{Action, AreLegal}}
+use Rattle.event_log.specs.{Actions.{acts_of, renamed}, Buffers.items_of, Runs.is_closed, History.{IsLawful, same_lock}, Sections.{Section, block_after}}
+use Rattle.event_log.{specs.Sections.{renamed_section, sections_in}, proofs.{Foreign.sections_acts, Renaming.{legal_renamed, sections_in_renamed}}}
+use Rattle.{event_log.proofs.{Same.same_lock_true, Tickets.legal_acts}, layer_traits.specs.declared.buffer_edits.BufferEdit.BufferEdit}
+use Rattle.layer_traits.specs.declared.{conditions.{CvEdit.CvEdit, CvLeave.CvLeave}, queue_edits.{QueueBlock.QueueBlock, QueueEdit.QueueEdit}}
+use Rattle.layer_traits.specs.{declared.queues.QueueEvent.QueueEvent, Acted.{ItemsAre, guarded}, BufferEffects.{MayTakeEffect, contents_of, effects_in}}
+use Rattle.layer_traits.specs.{BufferProtocol.{BufferLock, buffer_monitor_rules}, Conditions.{CvCall, cv_rules}, IpcLaw.OpensSo, QLockLaw.lock_kernel}
+use Rattle.layer_traits.specs.{QLocking.lock_edited, OneLock.opened, QueueBlocks.{StartsWell, above_of}, QueueRules.{AreProper, queue_edited}}
+use Rattle.layer_traits.specs.{Queues.{QueueAllowed, buffer_sections, event_of}, Renaming.{renamed_edit, renamed_events, viewed, viewed_block}}
+use Rattle.layer_traits.{specs.{Sleeping.sleep_edited, WordsProtocol.{MayCome, edit_of, sections}, Laws.Openings.opens_so}, proofs.KernelRenaming.homes_viewed}
+use Rattle.layer_traits.proofs.{KernelRenaming.{proper_renamed, seen_renamed, starts_viewed, viewed_there}, NestedLemmas.{lawful_events, lawful_proper}}
+use Rattle.{layer_traits.proofs.{PlanRenaming.block_viewed, Seen.{sections_allowed, words_legal}}, sleep_wakeup.specs.Laws.NestedLaws.nested_lawful}
+use Rattle.{sleep_wakeup.specs.Nested.{nested_edited, nested_moves, nested_rules, state_of}, queuing_lock.specs.declared.edits.QLockEdit.QLockEdit}
+use Rattle.{queuing_lock.specs.{Laws.NestedLaws.locks_lawful, Nested.{busy_rules, nested_lock_of}}, fifo_buffer.specs.Laws.OwnedLaws.items_acted}
+use Rattle.{fifo_buffer.{specs.Laws.Tallies.effects_lawful, proofs.Opening.{boots_well, caps_are}}, table_machine.specs.SeatViews.TableView}
+use Rattle.cpu.specs.{Table.{Setups.{Setup, opening as table_opening}, Steps.block_at}, Tower.{Composed.named, Views.{TowerBlock, TowerName, view}}}
+use Rattle.{cpu.proofs.{TableCalls.opens_so as opens_as, PartsOfTable.block_read}, cpu_workers.specs.Closing.{LockBlock, LockEdit, StartsSo, WordsOfTower}}
+use Rattle.cpu_workers.specs.{Closing.{acts_in, blocks_read, seen_above, tower_rules}, Lawful.messages_in, Orders.effects_of}
 use Rattle.layer_traits.specs.declared.queue_edits.QueueBlock.TheVariants as block
 use Rattle.layer_traits.specs.declared.queue_edits.QueueEdit.TheVariants as edit
 use Rattle.sleep_wakeup.specs.Nested as sleep

@@ -1,11 +1,8 @@
 -- The number of an owned machine at rest: that of its actions which gave the lock on.
-use Rattle.std.proofs.Common.{◌≡◌, ℕ, ◌+◌, ◌%◌, ◌^◌, true, false, List, [], ◌∷◌, Option, Some, None, refl, sym, ap, ◌∙◌, if◌then◌else◌}
-use Rattle.event_log.specs.{declared.ids.CpuId.CpuId, declared.ids.LockId.LockId, History.same_lock, Sections.Section, Sections.block_after}
-use Rattle.event_log.specs.{Sections.sections_in, Actions.Action, Actions.Take, Actions.Try, Actions.Give, Actions.Rests, Actions.gives, Actions.phase}
-use Rattle.layer_traits.specs.{Owned.IsObserved, Plans.is_in_section}
-use Rattle.std.specs.Prelude.{IsSome}
-use Rattle.cpu_workers.specs.{declared.counting.AddOne.AddOne, Counts.counting, Counts.sections_at}
-use Rattle.cpu_workers.proofs.Counts.{number_is}
+use Rattle.std.{proofs.Common.{◌≡◌, ℕ, ◌+◌, ◌%◌, ◌^◌, true, false, List, [], ◌∷◌, Option, Some, None, refl, sym, ap, ◌∙◌, if◌then◌else◌}, specs.Prelude.IsSome}
+use Rattle.event_log.specs.{declared.ids.{CpuId.CpuId, LockId.LockId}, History.same_lock, Sections.{Section, block_after, sections_in}, Actions.{Action, Take}}
+use Rattle.{event_log.specs.Actions.{Try, Give, Rests, gives, phase}, layer_traits.specs.{Owned.IsObserved, Plans.is_in_section}}
+use Rattle.cpu_workers.{specs.{declared.counting.AddOne.AddOne, Counts.{counting, sections_at}}, proofs.Counts.number_is}
 
 -- as many sections as gives
 pub gives_are_sections : {E : Type 0} (lock : LockId) (acts : List (Action E)) → sections_at lock (sections_in acts) ≡ gives lock acts

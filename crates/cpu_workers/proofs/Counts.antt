@@ -1,21 +1,16 @@
 -- Facts on what workers that count did.
 use Rattle.std.proofs.Common.{◌≡◌, ◌≢◌, ℕ, zero, suc, ◌+◌, ◌*◌, ◌%◌, ◌^◌, ◌<◌, ◌≤◌, Bool, true, false, if◌then◌else◌, Option, None, Some, option_map, List, []}
-use Rattle.std.proofs.Common.{◌∷◌, ◌++◌, length, get_or, slice_get, All, refl, ap, sym, ◌∙◌, subst, ne_eqb, zero-add, mul-le-mul}
-use Rattle.std.proofs.Common.{mod-eq_of_lt, lt_of_not-le, arith}
-use Rattle.std.proofs.lemmas.{Option.get_or_from_slice_get}
-use Rattle.table_machine.proofs.Fresh.{length_new}
-use Rattle.event_log.proofs.{Foreign.own_others, Same.same_cpu_self, Same.same_lock_self}
-use Rattle.event_log.specs.{declared.ids.TheConstants.CPUS, declared.ids.CpuId.CpuId, declared.ids.LockId.LockId, History.own_events, History.same_cpu}
-use Rattle.event_log.specs.{History.same_lock, History.AreOthers, declared.events.Event.Event, declared.events.Event.TheVariants.Draw}
-use Rattle.event_log.specs.{declared.events.Event.TheVariants.Look, declared.events.Event.TheVariants.Free, WordsLog.Idle, WordsLog.cpu_of_event}
-use Rattle.event_log.specs.{WordsLog.frees, WordsLog.lock_phase, Sections.Section, Sections.block_after, Sections.cpu_of_section, Sections.sections_of}
-use Rattle.layer_traits.specs.{declared.edits.Mark.Mark, OneLock.opened, Protocol.section, WordsProtocol.edit_of, WordsProtocol.sections, BufferLaw.MayGoOn}
-use Rattle.table_machine.specs.SeatViews.{TableView, SeatView, site_of, new_seat_view, new_seat_views, Covers, IsOver, Closes}
-use Rattle.cpu_workers.specs.{declared.counting.AddOne.AddOne, declared.counting.TheConstants.NUMBER, Counts.counting, Counts.sections_at, Counts.made}
-use Rattle.cpu_workers.specs.{Counts.HasMade, Counts.AllHaveMade, Counts.IsNumberOfFrees}
+use Rattle.std.proofs.Common.{◌∷◌, ◌++◌, length, get_or, slice_get, All, refl, ap, sym, ◌∙◌, subst, ne_eqb, zero-add, mul-le-mul, mod-eq_of_lt, lt_of_not-le}
+use Rattle.{std.proofs.{Common.arith, lemmas.Option.get_or_from_slice_get}, table_machine.{proofs.Fresh.length_new, specs.SeatViews.{TableView, SeatView}}}
+use Rattle.{table_machine.specs.SeatViews.{site_of, new_seat_view, new_seat_views, Covers, IsOver, Closes}, event_log.proofs.Foreign.own_others}
+use Rattle.event_log.{proofs.Same.{same_cpu_self, same_lock_self}, specs.declared.{ids.{TheConstants.CPUS, CpuId.CpuId, LockId.LockId}, events.Event.Event}}
+use Rattle.event_log.specs.{declared.events.Event.TheVariants.{Draw, Look, Free}, History.{own_events, same_cpu, same_lock, AreOthers}, WordsLog.Idle}
+use Rattle.event_log.specs.{WordsLog.{cpu_of_event, frees, lock_phase}, Sections.{Section, block_after, cpu_of_section, sections_of}}
+use Rattle.layer_traits.specs.{declared.edits.Mark.Mark, OneLock.opened, Protocol.section, WordsProtocol.{edit_of, sections}, BufferLaw.MayGoOn}
+use Rattle.cpu_workers.specs.{declared.counting.{AddOne.AddOne, TheConstants.NUMBER}, Counts.{counting, sections_at, made, HasMade, AllHaveMade}}
+use Rattle.cpu_workers.{specs.Counts.IsNumberOfFrees, proofs.{Joining.{both_more, both_length}, TableKeys.came_at}}
 use mathlib.Core.Logic.{dite}
 use native.Mathlib.Decide.{ℕ_discrete, dec_le}
-use Rattle.cpu_workers.proofs.{Joining.both_more, Joining.both_length, TableKeys.came_at}
 
 -- as many sections as Frees
 pub frees_are_sections : {M E : Type 0} (edit : M → E) (lock : LockId) (log : List (Event M)) → sections_at lock (sections_of edit log) ≡ frees lock log

@@ -5,10 +5,9 @@ use denote.Ref.{NamedLft}
 use denote.Hole.{as_row}
 use denote.Param.SendFields.{declared_send}
 use denote.Param.Send.{IsSend, IsSync, sendable, array_send, enum_send, enum_sync, recorded_send, recorded_sync, view_send}
-use Rattle.std.proofs.Crossing.{crosses}
-use Rattle.layer_traits.specs.Payloads.{buffer_meant, buffer_told, cv_meant, cv_told, lock_told, queue_meant, queue_told}
-use Rattle.queuing_lock.specs.Nested.{section_meant}
-use Rattle.sleep_wakeup.specs.Nested.{nested_meant, nested_told}
+use Rattle.{std.proofs.Crossing.crosses, layer_traits.specs.Payloads.{buffer_meant, buffer_told, cv_meant, cv_told, lock_told, queue_meant, queue_told}}
+use Rattle.{queuing_lock.specs.Nested.section_meant, sleep_wakeup.specs.Nested.{nested_meant, nested_told}, event_log.specs.declared.ids.TheConstants.THREADS}
+use Rattle.table_machine.proofs.Crossing.{ghost_send, seat_send}
 use Rattle.thread_blocks.specs.contracts.queues.ThreadQueue as queue
 use Rattle.thread_blocks.proofs.queues.ThreadQueue.TheSendSync as queue_crosses
 use Rattle.layer_traits.proofs.block_box.BlockBox.TheSendSync as box_crosses
@@ -20,7 +19,6 @@ use Rattle.layer_traits.proofs.sleeps.Outcome.TheSendSync as outcome_crosses
 use Rattle.layer_traits.proofs.payloads.Parcel.TheSendSync as parcel_crosses
 use Rattle.layer_traits.proofs.payloads.Payload.TheSendSync as payload_crosses
 use Rattle.std.specs.contracts.option.Option as option
-use Rattle.event_log.specs.declared.ids.TheConstants.{THREADS}
 use Rattle.layer_traits.specs.contracts.calls.Call as call
 use Rattle.layer_traits.specs.contracts.call_states.CallState as call_state
 use Rattle.layer_traits.proofs.call_states.Stage.TheSendSync as stage_crosses
@@ -33,7 +31,6 @@ use Rattle.layer_traits.proofs.buffer_blocks.BufferBlock.TheSendSync as buffer_b
 use Rattle.spinlock.specs.contracts.spin_lock.SpinLock as spin_lock
 use Rattle.spinlock.proofs.stages.TicketPhase.TheSendSync as ticket_phase
 use Rattle.table_machine.specs.contracts.seats.Seat as table_seat
-use Rattle.table_machine.proofs.Crossing.{ghost_send, seat_send}
 use Rattle.layer_traits.specs.contracts.queue_edits.QueueEdit as edit_row
 use Rattle.sleep_wakeup.specs.contracts.edits.SleepEdit as sleep_edit_row
 use Rattle.queuing_lock.specs.contracts.edits.QLockEdit as lock_edit_row

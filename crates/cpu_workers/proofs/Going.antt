@@ -1,16 +1,12 @@
 -- How a call of native code goes on, poll by poll.
-use Rattle.std.proofs.Common.{◌≡◌, List, [], ◌∷◌, ◌++◌, Option, Some, None, option_map, option_to_list, is_some, true, false, refl, ◌≢◌, if◌then◌else◌, ap, sym, ◌∙◌, subst, inl}
-use Rattle.std.proofs.Common.{inr, ◌⊎◌, append_assoc}
-use Rattle.event_log.specs.declared.{entries.Entry.Entry, ids.CpuId.CpuId, ids.Tid.Tid}
-use Rattle.event_log.proofs.Same.{same_cpu_self}
-use Rattle.layer_traits.specs.{declared.calls.Call.Call, declared.calls.Effect.Effect, declared.calls.Reply.Reply, declared.call_states.CallState.CallState}
-use Rattle.layer_traits.specs.{declared.call_states.Stage.Stage, BufferLaw.Answered, BufferLaw.Called, BufferLaw.IsEffectOf, BufferLaw.OthersSeen}
-use Rattle.layer_traits.specs.{BufferLaw.RunsOn, BufferLaw.buffer_of, BufferLaw.call_state_of, BufferLaw.entry_of, BufferLaw.Calling, BufferLaw.begun}
-use Rattle.layer_traits.specs.{BufferLaw.begun_at, BufferLaw.going, BufferLaw.going_at, BufferLaw.still_calling, Places.Threads, Passes.pass_after, declared.passes.Pass.Pass}
-use Rattle.layer_traits.specs.declared.passes.Pass.TheVariants.{Switch, YieldNow, Drain, MakeReady, End}
-use Rattle.layer_traits.specs.declared.call_states.Stage.TheVariants.{Idle, Acquires, Enters, Tries, Waits, AcquiresAgain, Signals, SignalsOwn, Releases}
-use Rattle.cpu.specs.{Cpus.of_cpu, Guests.entries_of}
-use Rattle.cpu.proofs.GuestLists.{cpu_same}
+use Rattle.std.proofs.Common.{◌≡◌, List, [], ◌∷◌, ◌++◌, Option, Some, None, option_map, option_to_list, is_some, true, false, refl, ◌≢◌, if◌then◌else◌, ap, sym}
+use Rattle.std.proofs.Common.{◌∙◌, subst, inl, inr, ◌⊎◌, append_assoc}
+use Rattle.event_log.{specs.declared.{entries.Entry.Entry, ids.{CpuId.CpuId, Tid.Tid}}, proofs.Same.same_cpu_self}
+use Rattle.layer_traits.specs.declared.{calls.{Call.Call, Effect.Effect, Reply.Reply}, call_states.{CallState.CallState, Stage.{Stage, TheVariants.Idle}}}
+use Rattle.layer_traits.specs.declared.call_states.Stage.TheVariants.{Acquires, Enters, Tries, Waits, AcquiresAgain, Signals, SignalsOwn, Releases}
+use Rattle.layer_traits.specs.{declared.passes.Pass.{Pass, TheVariants.{Switch, YieldNow, Drain, MakeReady, End}}, BufferLaw.{Answered, Called, IsEffectOf}}
+use Rattle.layer_traits.specs.BufferLaw.{OthersSeen, RunsOn, buffer_of, call_state_of, entry_of, Calling, begun, begun_at, going, going_at, still_calling}
+use Rattle.{layer_traits.specs.{Places.Threads, Passes.pass_after}, cpu.{specs.{Cpus.of_cpu, Guests.entries_of}, proofs.GuestLists.cpu_same}}
 use Rattle.cpu_workers.specs.Calls.{IsOn, IsOne, Returned, Went}
 
 -- what a poll leaves of a call, before its answer is read

@@ -1,8 +1,6 @@
 -- Lists whose elements belong together, and loops over them.
 use Rattle.std.proofs.Common.{◌≡◌, ℕ, zero, suc, ◌+◌, ◌<◌, ◌≤◌, List, [], ◌∷◌, ◌++◌, length, map, All, refl, ap, sym, ◌∙◌, subst, length-append, arith}
-use Rattle.std.specs.Prelude.{Result, Err, MatchResult, Some, slice_get}
-use Rattle.std.proofs.lemmas.Option.{get_or_from_slice_get}
-use Rattle.event_log.proofs.ListLemmas.{there_is}
+use Rattle.{std.{proofs.lemmas.Option.get_or_from_slice_get, specs.Prelude.{Result, Err, MatchResult, Some, slice_get}}, event_log.proofs.ListLemmas.there_is}
 use Rattle.cpu_workers.specs.Reports.{Both}
 pub use Rattle.table_machine.proofs.Returning.{all_tail, no_more, yield_more}
 

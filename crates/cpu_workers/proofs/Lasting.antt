@@ -1,15 +1,10 @@
 -- What holds of workers that run at one table.
 use Rattle.std.proofs.Common.{◌≡◌, Bool, true, false, List, [], ◌∷◌, Option, Some, None, if◌then◌else◌, refl, sym, subst}
-use Rattle.event_log.specs.{declared.ids.CpuId.CpuId, declared.ids.Tid.Tid, Actions.Action}
-use Rattle.guest.specs.declared.instructions.Instruction.{Instruction}
-use Rattle.cpu.specs.{Table.Blocks.Name, Table.Setups.Setup, Table.Setups.Call, Table.Setups.Private, Table.Setups.at_boot, Table.Setups.have_ended}
-use Rattle.cpu.specs.{Table.Setups.home_threads, Table.Setups.stands_at, Table.Setups.thread_at, Table.Choice.Halts, Table.Choice.Goes, Table.Choice.at_call}
-use Rattle.cpu.specs.{Table.Choice.at_current, Table.Choice.at_hand, Table.Choice.at_instruction, Table.Choice.at_ready, Table.Steps.AlongTable}
-use Rattle.cpu.specs.{Table.Steps.cpu_step, Table.Steps.halted_at, Table.Steps.halted_by, Wakeups.Lost.Ran}
-use Rattle.cpu.proofs.Wakeups.CpusByTable.{cpus_lose_no_wake_up}
-use Rattle.cpu_workers.specs.declared.workers.stops.Stop.TheVariants.{AllEnded, TurnsUsed, TraceFull, Held}
-use Rattle.cpu_workers.specs.Laws.{HasWorked, StopsAreTrue, WorkersLoseNoWakeUp}
-use Rattle.cpu_workers.proofs.Turning.{along_others}
+use Rattle.{event_log.specs.{declared.ids.{CpuId.CpuId, Tid.Tid}, Actions.Action}, guest.specs.declared.instructions.Instruction.Instruction}
+use Rattle.cpu.specs.Table.{Blocks.Name, Setups.{Setup, Call, Private, at_boot, have_ended, home_threads, stands_at, thread_at}, Choice.{Halts, Goes, at_call}}
+use Rattle.cpu.specs.{Table.{Choice.{at_current, at_hand, at_instruction, at_ready}, Steps.{AlongTable, cpu_step, halted_at, halted_by}}, Wakeups.Lost.Ran}
+use Rattle.{cpu.proofs.Wakeups.CpusByTable.cpus_lose_no_wake_up, cpu_workers.specs.declared.workers.stops.Stop.TheVariants.{AllEnded, TurnsUsed, TraceFull}}
+use Rattle.cpu_workers.{specs.{declared.workers.stops.Stop.TheVariants.Held, Laws.{HasWorked, StopsAreTrue, WorkersLoseNoWakeUp}}, proofs.Turning.along_others}
 use Rattle.guest.specs.declared.instructions.Instruction.TheVariants as ins
 use Rattle.layer_traits.specs.declared.steps.Reason.TheVariants as reason
 

@@ -1,11 +1,10 @@
 -- A caller's calls: what one call leaves, and what each reply says of it.
 use Rattle.std.proofs.Common.{◌≡◌, ℕ, zero, suc, Bool, true, false, ◌==◌, List, [], ◌∷◌, replicate, slice_index_or, refl, sym, ◌∙◌, subst, if◌then◌else◌}
-use Rattle.event_log.specs.{declared.entries.Entry.Entry, declared.entries.Kind.Kind, declared.ids.BufId.BufId, declared.ids.CpuId.CpuId}
-use Rattle.event_log.specs.{Buffers.IsAllowedEffect, History.IsLawful, Messages.Message, Runs.Closes, Runs.Receives, Runs.Sends, Runs.group_of}
-use Rattle.layer_traits.specs.declared.calls.{Call.TheVariants.Send, Call.TheVariants.Recv, Call.TheVariants.Close, Effect.Effect, Reply.Reply}
-use Rattle.layer_traits.specs.{BufferEffects.MayTakeEffect, BufferEffects.entry, BufferLaw.reply_to_recv, BufferLaw.reply_to_send}
-use Rattle.cpu.specs.Cpus.{of_cpu}
-use Rattle.cpu_workers.specs.Callers.{CallerView, CarriesNone, HasCalled, HasMade, with_call}
+use Rattle.event_log.specs.{declared.{entries.{Entry.Entry, Kind.Kind}, ids.{BufId.BufId, CpuId.CpuId}}, Buffers.IsAllowedEffect, History.IsLawful}
+use Rattle.{event_log.specs.{Messages.Message, Runs.{Closes, Receives, Sends, group_of}}, layer_traits.specs.declared.calls.Call.TheVariants.{Send, Recv}}
+use Rattle.layer_traits.specs.{declared.calls.{Call.TheVariants.Close, Effect.Effect, Reply.Reply}, BufferEffects.{MayTakeEffect, entry}}
+use Rattle.{layer_traits.specs.BufferLaw.{reply_to_recv, reply_to_send}, cpu.specs.Cpus.of_cpu, cpu_workers.specs.Callers.{CallerView, CarriesNone, HasCalled}}
+use Rattle.cpu_workers.specs.Callers.{HasMade, with_call}
 use Rattle.event_log.specs.declared.entries.Kind.TheVariants as kind
 use Rattle.layer_traits.specs.declared.calls.Reply.TheVariants as reply
 

@@ -1,13 +1,9 @@
 -- Natives at one table of words: what each leaves there, and that the table may be closed.
-use Rattle.std.proofs.Common.{◌≡◌, ℕ, ◌<◌, All, List, length, map, Some, slice_get, sym, ◌∙◌, subst}
-use Rattle.std.proofs.lemmas.{List.length-map, Option.get_or_from_slice_get}
-use Rattle.event_log.specs.{Actions.Action, History.IsLawful}
-use Rattle.layer_traits.specs.{OneLock.opened, OnePlace.cpu_at, WordsProtocol.MayCome}
-use Rattle.table_machine.specs.SeatViews.{Covers, IsOver, TableView, new_seat_views, site_of}
-use Rattle.cpu.proofs.ListReads.{shows_at, there_is}
-use Rattle.cpu_workers.specs.{Callers.CallerView, Closing.Key, Closing.tower_rules, Natives.HasLeftCalls, Natives.HaveLeftKeys, Seating.Block, Seating.Edit}
-use Rattle.cpu_workers.specs.Seating.{tower_acts}
-use Rattle.cpu_workers.proofs.{Joining.found_within, SeatViews.SameActs, SeatViews.left_at, TableKeys.as_many}
+use Rattle.std.proofs.{Common.{◌≡◌, ℕ, ◌<◌, All, List, length, map, Some, slice_get, sym, ◌∙◌, subst}, lemmas.{List.length-map, Option.get_or_from_slice_get}}
+use Rattle.{event_log.specs.{Actions.Action, History.IsLawful}, layer_traits.specs.{OneLock.opened, OnePlace.cpu_at, WordsProtocol.MayCome}}
+use Rattle.{table_machine.specs.SeatViews.{Covers, IsOver, TableView, new_seat_views, site_of}, cpu.proofs.ListReads.{shows_at, there_is}}
+use Rattle.cpu_workers.specs.{Callers.CallerView, Closing.{Key, tower_rules}, Natives.{HasLeftCalls, HaveLeftKeys}, Seating.{Block, Edit, tower_acts}}
+use Rattle.cpu_workers.proofs.{Joining.found_within, SeatViews.{SameActs, left_at}, TableKeys.as_many}
 
 module _ {N X : Type 0} (Kept : N → N → CallerView → Type 0) (caps : List ℕ) (table_view : TableView Block) (natives : List N) (left : List X)
     (machine : X → Key) (native_of : X → N) (acts : Key → List (Action Edit)) (same : SameActs acts) where

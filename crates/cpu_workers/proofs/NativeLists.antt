@@ -1,16 +1,10 @@
 -- Natives and what they leave, by their places in the lists.
 use Rattle.std.proofs.Common.{◌≡◌, ℕ, zero, suc, ◌+◌, ◌<◌, ◌≤◌, false, All, List, [], ◌∷◌, ◌++◌, length, Some, slice_get, ap, sym, ◌∙◌, subst, arith}
-use Rattle.std.specs.List.{AllByRecursion}
-use Rattle.std.specs.Prelude.{IfOk, Result, Ok, Err}
-use Rattle.std.proofs.lemmas.Option.{get_or_from_slice_get}
-use Rattle.event_log.specs.{declared.ids.CpuId.CpuId, declared.ids.TheConstants.BUFFERS, declared.ids.TheConstants.CPUS, Actions.Action, Actions.phase}
-use Rattle.event_log.specs.{Buffers.IsCapacity}
-use Rattle.layer_traits.specs.{OnePlace.cpu_at, Openings.AreOpenable, Plans.is_in_section}
-use Rattle.cpu.specs.{Claims.listed, Tower.Views.TowerName}
-use Rattle.cpu.proofs.{ListReads.listed_length, PlanGuests.listed_more}
-use Rattle.cpu_workers.specs.{Callers.CallerView, Natives.HasKept, Natives.HasLeftCalls, Natives.HasLeftMachine, Natives.IsNewCaller, Natives.own_homes}
-use Rattle.cpu_workers.specs.{Orders.IsTraceOf}
-use Rattle.cpu_workers.proofs.{Joining.all_by_number, Joining.found_within}
+use Rattle.std.{proofs.lemmas.Option.get_or_from_slice_get, specs.{List.AllByRecursion, Prelude.{IfOk, Result, Ok, Err}}}
+use Rattle.event_log.specs.{declared.ids.{CpuId.CpuId, TheConstants.{BUFFERS, CPUS}}, Actions.{Action, phase}, Buffers.IsCapacity}
+use Rattle.{layer_traits.specs.{OnePlace.cpu_at, Openings.AreOpenable, Plans.is_in_section}, cpu.specs.{Claims.listed, Tower.Views.TowerName}}
+use Rattle.{cpu.proofs.{ListReads.listed_length, PlanGuests.listed_more}, cpu_workers.specs.{Callers.CallerView, Natives.{HasKept, HasLeftCalls}}}
+use Rattle.cpu_workers.{specs.{Natives.{HasLeftMachine, IsNewCaller, own_homes}, Orders.IsTraceOf}, proofs.Joining.{all_by_number, found_within}}
 
 -- what holds of all holds of the one at this place
 pub all_at : {X : Type 0} (P : X → Type 0) (xs : List X) (k : ℕ) (x : X) → All P xs → slice_get xs k ≡ Some x → P x

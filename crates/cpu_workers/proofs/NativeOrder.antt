@@ -1,16 +1,12 @@
 -- From native threads that came back and their closed table to the one order of their calls.
 use Rattle.std.proofs.Common.{◌≡◌, ℕ, ◌+◌, ◌*◌, ◌^◌, ◌<◌, ◌≤◌, List, [], length, Some, slice_get, slice_index_or, ap, sym, ◌∙◌, subst, arith}
-use Rattle.std.proofs.lemmas.Option.{get_or_from_slice_get}
-use Rattle.event_log.specs.declared.{entries.Entry.Entry, ids.CpuId.CpuId, ids.LockId.LockId, ids.LockId.TheVariants.Buffer as AtBuffer}
-use Rattle.event_log.specs.{Actions.Action, Actions.cpu_of_action, History.AreOthers, Messages.Message, WordsLog.cpu_of_event}
-use Rattle.event_log.proofs.Foreign.{own_none}
-use Rattle.layer_traits.specs.{declared.queue_edits.QueueBlock.QueueBlock, BufferEffects.contents_of, OnePlace.cpu_at}
-use Rattle.table_machine.specs.SeatViews.{TableView, Closes}
-use Rattle.cpu.specs.{Claims.buffer_at, Table.Setups.Setup, Tower.Views.TowerName}
-use Rattle.cpu_workers.specs.{Closing.Key, Closing.LockBlock, Closing.StartsSo, Closing.acts_in, Closing.blocks_read, Closing.tower_rules, Lawful.messages_in}
-use Rattle.cpu_workers.specs.{Natives.left_of, Orders.IsTraceOf, Orders.effects_of}
-use Rattle.cpu_workers.proofs.{ClosedLog.effects_may, ClosedLog.messages_left, OneOrder.HasOrder, OneOrder.one_order, OneOrder.trace_in, Reporting.acts_append}
-use Rattle.cpu_workers.proofs.{Reporting.acts_others, Reporting.contents_wide, Reporting.listed_so, Reporting.no_more_own, Reporting.none_own}
+use Rattle.{std.proofs.lemmas.Option.get_or_from_slice_get, event_log.specs.declared.{entries.Entry.Entry, ids.{CpuId.CpuId, LockId.LockId}}}
+use Rattle.event_log.specs.{declared.ids.LockId.TheVariants.Buffer as AtBuffer, Actions.{Action, cpu_of_action}, History.AreOthers, Messages.Message}
+use Rattle.{event_log.{specs.WordsLog.cpu_of_event, proofs.Foreign.own_none}, layer_traits.specs.declared.queue_edits.QueueBlock.QueueBlock}
+use Rattle.{layer_traits.specs.{BufferEffects.contents_of, OnePlace.cpu_at}, table_machine.specs.SeatViews.{TableView, Closes}, cpu.specs.Claims.buffer_at}
+use Rattle.{cpu.specs.{Table.Setups.Setup, Tower.Views.TowerName}, cpu_workers.specs.Closing.{Key, LockBlock, StartsSo, acts_in, blocks_read, tower_rules}}
+use Rattle.cpu_workers.{specs.{Lawful.messages_in, Natives.left_of, Orders.{IsTraceOf, effects_of}}, proofs.ClosedLog.{effects_may, messages_left}}
+use Rattle.cpu_workers.proofs.{OneOrder.{HasOrder, one_order, trace_in}, Reporting.{acts_append, acts_others, contents_wide, listed_so, no_more_own, none_own}}
 
 -- what a CPU left: its key, and its calls, which are its effects in what the key has seen
 pub record HasCome (setup : Setup) (keys : List Key) (calls : List (List Entry)) (c : CpuId) : Type 0 where

@@ -1,15 +1,10 @@
 -- Natives that came back from one table have run.
 use Rattle.std.proofs.Common.{◌≡◌, ℕ, zero, suc, ◌*◌, ◌^◌, ◌<◌, ◌≤◌, List, [], ◌∷◌, length, map, Some, slice_get, refl, ap, ◌∙◌, subst, arith}
-use Rattle.std.proofs.lemmas.{List.length-map, Nat.mul-le}
-use Rattle.event_log.specs.declared.{entries.Entry.Entry, ids.CpuId.CpuId, ids.LockId.LockId, ids.TheConstants.BUFFERS, ids.TheConstants.CPUS}
-use Rattle.event_log.proofs.Streams.{taken_put}
-use Rattle.layer_traits.specs.{OneLock.opened, OnePlace.cpu_at}
-use Rattle.table_machine.specs.SeatViews.{Closes, TableView}
-use Rattle.cpu.specs.Table.Setups.{Setup}
-use Rattle.cpu.proofs.ListReads.{shows_at, there_is}
-use Rattle.cpu_workers.specs.{declared.workers.callers.TheConstants.MOST_CALLS, Callers.CallerView, Closing.Key, Closing.StartsSo, Closing.acts_in}
-use Rattle.cpu_workers.specs.{Closing.tower_rules, Natives.HasLeftKey, Natives.HaveLeftKeys, Natives.HaveRun, Natives.OpensWith, Natives.left_of}
-use Rattle.cpu_workers.specs.{Natives.own_homes, Orders.IsTraceOf, Seating.Block}
+use Rattle.{std.proofs.lemmas.{List.length-map, Nat.mul-le}, event_log.specs.declared.{entries.Entry.Entry, ids.{CpuId.CpuId, LockId.LockId}}}
+use Rattle.{event_log.{specs.declared.ids.TheConstants.{BUFFERS, CPUS}, proofs.Streams.taken_put}, layer_traits.specs.{OneLock.opened, OnePlace.cpu_at}}
+use Rattle.{table_machine.specs.SeatViews.{Closes, TableView}, cpu.{specs.Table.Setups.Setup, proofs.ListReads.{shows_at, there_is}}}
+use Rattle.cpu_workers.specs.{declared.workers.callers.TheConstants.MOST_CALLS, Callers.CallerView, Closing.{Key, StartsSo, acts_in, tower_rules}}
+use Rattle.cpu_workers.specs.{Natives.{HasLeftKey, HaveLeftKeys, HaveRun, OpensWith, left_of, own_homes}, Orders.IsTraceOf, Seating.Block}
 use Rattle.cpu_workers.proofs.NativeOrder.{HasCome, calls_ordered}
 
 -- One of each.

@@ -1,14 +1,9 @@
 -- What the workers of a plan left is a lawful report of one words log.
-use Rattle.std.proofs.Common.{ℕ, ◌*◌, ◌^◌, ◌<◌, ◌≤◌, List, refl, sym, subst, arith}
-use Rattle.std.proofs.lemmas.Nat.{mul-le}
-use Rattle.boot.specs.Plan.{BootPlan, IsPlan}
-use Rattle.event_log.specs.{declared.entries.Entry.Entry, declared.ids.CpuId.CpuId, declared.ids.LockId.LockId, declared.ids.TheConstants.CPUS}
-use Rattle.event_log.specs.{declared.ids.TheConstants.ENTRIES, declared.ids.TheConstants.TRACE, Actions.Action}
-use Rattle.layer_traits.specs.OneLock.{opened}
-use Rattle.cpu.specs.{Sound.setup_for, Tower.Views.TowerName}
-use Rattle.cpu_workers.specs.{declared.workers.gates.Go.Go, declared.workers.stops.Stop.Stop, Closing.HasSeen, Closing.acts_in, Closing.shown}
-use Rattle.cpu_workers.specs.{Lawful.CpuReport, Logs.HasWords, Seating.Block, Seating.HasLeft, Seating.IsReportOf}
-use Rattle.cpu_workers.proofs.Reporting.{has_seen, of_words}
+use Rattle.std.proofs.{Common.{ℕ, ◌*◌, ◌^◌, ◌<◌, ◌≤◌, List, refl, sym, subst, arith}, lemmas.Nat.mul-le}
+use Rattle.{boot.specs.Plan.{BootPlan, IsPlan}, event_log.specs.declared.{entries.Entry.Entry, ids.{CpuId.CpuId, LockId.LockId, TheConstants.{CPUS, ENTRIES}}}}
+use Rattle.{event_log.specs.{declared.ids.TheConstants.TRACE, Actions.Action}, layer_traits.specs.OneLock.opened, cpu.specs.Sound.setup_for}
+use Rattle.{cpu.specs.Tower.Views.TowerName, cpu_workers.specs.{declared.workers.{gates.Go.Go, stops.Stop.Stop}, Closing.{HasSeen, acts_in, shown}}}
+use Rattle.cpu_workers.{specs.{Lawful.CpuReport, Logs.HasWords, Seating.{Block, HasLeft, IsReportOf}}, proofs.Reporting.{has_seen, of_words}}
 
 -- a worker that left this did it along what it has seen
 seen_so : (plan : BootPlan) (May : CpuId → Go → ℕ → Type 0) (turns : ℕ) (c : CpuId) (acts : List (Action TowerName)) (site : List ℕ) (line : CpuReport)

@@ -1,21 +1,14 @@
 -- The traces of all CPUs are an order of the effects of one list of actions, if each CPU has seen a front of it that has all of its own.
 use Rattle.std.proofs.Common.{◌≡◌, ◌≢◌, ◌⊎◌, inl, inr, ℕ, zero, suc, ◌+◌, ◌*◌, ◌<◌, ◌≤◌, ◌==◌, ◌^◌, Bool, true, false, List, [], ◌∷◌, ◌++◌, length, map}
 use Rattle.std.proofs.Common.{reverse, Option, Some, None, option_to_list, slice_index_or, if◌then◌else◌, refl, ap, sym, ◌∙◌, subst, arith}
-use Rattle.std.specs.List.{AllByRecursion}
-use Rattle.std.proofs.lemmas.{Bool.cases_eq, Bool.cases_lt, Bool.eq-eqb, Bool.ne_eqb, List.length-reverse}
-use Rattle.event_log.specs.{declared.entries.Entry.Entry, declared.ids.CpuId.CpuId, declared.ids.LockId.TheVariants.Buffer, Actions.Action, Actions.Take}
-use Rattle.event_log.specs.{Actions.Try, Actions.Give, Actions.cpu_of_action, History.AreOthers, History.IsLawful, History.own_events, History.same_cpu}
-use Rattle.event_log.specs.{Runs.IsRun, Sections.sections_in, Traces.IsInterleaving}
-use Rattle.event_log.proofs.Same.{same_cpu_self}
-use Rattle.layer_traits.specs.{declared.queue_edits.QueueEdit.TheVariants.Push, declared.queue_edits.QueueEdit.TheVariants.TakeAll}
-use Rattle.layer_traits.specs.{declared.queue_edits.QueueEdit.TheVariants.Above, BufferEffects.MayTakeEffect, BufferEffects.contents_of, BufferEffects.drawn}
-use Rattle.layer_traits.specs.{BufferEffects.effect_of, BufferEffects.opening_locks, BufferProtocol.BufferSection, BufferProtocol.buffer_at as block_at}
-use Rattle.layer_traits.specs.{OnePlace.cpu_at, Protocol.section, Queues.buffer_at, Queues.buffer_sections, Queues.event_of}
-use Rattle.layer_traits.proofs.EffectRunLemmas.{effects_are_run}
-use Rattle.fifo_buffer.specs.Laws.Tallies.{effect_position}
-use Rattle.cpu.specs.{Cpus.of_cpu, Tower.Views.TowerName}
-use Rattle.cpu.proofs.{ListReads.all_reversed, OneOrder.filter_reversed, OneOrder.interleaved}
-use Rattle.cpu_workers.specs.Orders.{IsTraceOf, effects_of}
+use Rattle.std.{proofs.lemmas.{Bool.{cases_eq, cases_lt, eq-eqb, ne_eqb}, List.length-reverse}, specs.List.AllByRecursion}
+use Rattle.event_log.specs.{declared.{entries.Entry.Entry, ids.{CpuId.CpuId, LockId.TheVariants.Buffer}}, Actions.{Action, Take, Try, Give, cpu_of_action}}
+use Rattle.event_log.specs.{History.{AreOthers, IsLawful, own_events, same_cpu}, Runs.IsRun, Sections.sections_in, Traces.IsInterleaving}
+use Rattle.{event_log.proofs.Same.same_cpu_self, layer_traits.specs.declared.queue_edits.QueueEdit.TheVariants.{Push, TakeAll, Above}}
+use Rattle.layer_traits.specs.{BufferEffects.{MayTakeEffect, contents_of, drawn, effect_of, opening_locks}, BufferProtocol.BufferSection}
+use Rattle.layer_traits.specs.{BufferProtocol.buffer_at as block_at, OnePlace.cpu_at, Protocol.section, Queues.{buffer_at, buffer_sections, event_of}}
+use Rattle.{layer_traits.proofs.EffectRunLemmas.effects_are_run, fifo_buffer.specs.Laws.Tallies.effect_position, cpu.specs.{Cpus.of_cpu, Tower.Views.TowerName}}
+use Rattle.{cpu.proofs.{ListReads.all_reversed, OneOrder.{filter_reversed, interleaved}}, cpu_workers.specs.Orders.{IsTraceOf, effects_of}}
 
 -- An action adds at most one effect, of its own CPU.
 

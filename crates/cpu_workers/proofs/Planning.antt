@@ -1,20 +1,15 @@
 -- A worker's plan is its CPU's, and its threads follow their programs.
 use Rattle.std.proofs.Common.{◌≡◌, ◌≢◌, ℕ, zero, suc, ◌+◌, Bool, true, false, not, ◌&&◌, ◌==◌, List, [], ◌∷◌, length, reverse, Option, Some, None, is_some}
-use Rattle.std.proofs.Common.{option_map, slice_index_or, if◌then◌else◌, refl, ap, sym, ◌∙◌, subst, arith}
-use Rattle.std.specs.List.{AllByRecursion, list_all}
-use Rattle.std.proofs.lemmas.List.{reverse-reverse}
-use Rattle.event_log.specs.{declared.entries.Entry.Entry, declared.ids.CpuId.CpuId, declared.ids.Tid.Tid, Actions.Action}
-use Rattle.guest.specs.{declared.instructions.Instruction.Instruction, Calls.IsProgramsCalls, Calls.HasEnded, State.State, State.next_of}
-use Rattle.layer_traits.specs.{declared.calls.Call.Call, declared.calls.Effect.Effect, declared.steps.Reason.TheVariants.AllEnded}
-use Rattle.layer_traits.specs.{declared.steps.Reason.TheVariants.TraceFull, declared.steps.Reason.TheVariants.StepsUsed, declared.steps.Step.Step}
-use Rattle.layer_traits.specs.{Along.Outcome, Along.IsStep, BufferLaw.begun_of, BufferLaw.call_state_of, Places.Threads}
-use Rattle.cpu.specs.{declared.guests.Guest.Guest, declared.guests.GuestStage.GuestStage, declared.guests.GuestStage.TheVariants.Idle}
-use Rattle.cpu.specs.{declared.guests.GuestStage.TheVariants.Begun, declared.guests.GuestStage.TheVariants.Done, declared.guests.GuestStage.TheVariants.Ended}
-use Rattle.cpu.specs.{Guests.HasComeIn, Guests.after_effect, Guests.is_ended, Cpus.IsCpu, Cpus.IsOfHome, Cpus.begins, Cpus.begun_count, Cpus.chosen}
-use Rattle.cpu.specs.{Cpus.guest_at, Cpus.halted_at, Cpus.is_over, Cpus.of_cpu, Cpus.of_thread, Cpus.programs_of, Table.Setups.Setup, Table.Setups.Thread}
-use Rattle.cpu.specs.{Table.Setups.thread_at, Tables.IsSetupOf, Tables.private, Tower.Privates.threads_in, Tower.Views.TowerName}
-use Rattle.cpu.proofs.{ListReads.all_reversed, OneOrder.filter_reversed, TableCalls.ObservedCpu, TableRows.guest_there, GuestLists.guest_with}
-use Rattle.cpu_workers.specs.{Orders.FollowsProgram, Orders.HasFollowed, Working.IsPlanned}
+use Rattle.std.proofs.{Common.{option_map, slice_index_or, if◌then◌else◌, refl, ap, sym, ◌∙◌, subst, arith}, lemmas.List.reverse-reverse}
+use Rattle.{std.specs.List.{AllByRecursion, list_all}, event_log.specs.{declared.{entries.Entry.Entry, ids.{CpuId.CpuId, Tid.Tid}}, Actions.Action}}
+use Rattle.guest.specs.{declared.instructions.Instruction.Instruction, Calls.{IsProgramsCalls, HasEnded}, State.{State, next_of}}
+use Rattle.layer_traits.specs.declared.{calls.{Call.Call, Effect.Effect}, steps.{Reason.TheVariants.{AllEnded, TraceFull, StepsUsed}, Step.Step}}
+use Rattle.{layer_traits.specs.{Along.{Outcome, IsStep}, BufferLaw.{begun_of, call_state_of}, Places.Threads}, cpu.specs.declared.guests.Guest.Guest}
+use Rattle.cpu.specs.{declared.guests.GuestStage.{GuestStage, TheVariants.{Idle, Begun, Done, Ended}}, Guests.{HasComeIn, after_effect, is_ended}, Cpus.IsCpu}
+use Rattle.cpu.specs.{Cpus.{IsOfHome, begins, begun_count, chosen, guest_at, halted_at, is_over, of_cpu, of_thread, programs_of}, Table.Setups.{Setup, Thread}}
+use Rattle.cpu.{specs.{Table.Setups.thread_at, Tables.{IsSetupOf, private}, Tower.{Privates.threads_in, Views.TowerName}}, proofs.ListReads.all_reversed}
+use Rattle.cpu.proofs.{OneOrder.filter_reversed, TableCalls.ObservedCpu, TableRows.guest_there, GuestLists.guest_with}
+use Rattle.cpu_workers.specs.{Orders.{FollowsProgram, HasFollowed}, Working.IsPlanned}
 
 program_there : (guests : List (Option Guest)) (t : ℕ) (g : Guest) → guest_at guests t ≡ Some g → slice_index_or (programs_of guests) t None ≡ Some g.program
 program_there [] t g at = absurd (cc at)

@@ -1,30 +1,22 @@
 -- From the workers that came back and the closed table to the lawful report.
 use Rattle.std.proofs.Common.{◌≡◌, ℕ, zero, suc, ◌+◌, ◌*◌, ◌<◌, ◌≤◌, ◌^◌, Bool, true, false, List, [], ◌∷◌, ◌++◌, length, map, Some, None, slice_get}
-use Rattle.std.proofs.Common.{slice_index_or, if◌then◌else◌, refl, ap, sym, ◌∙◌, subst, arith}
-use Rattle.std.specs.List.{AllByRecursion}
-use Rattle.std.proofs.lemmas.{List.length-append, List.length-map, List.length-set, Option.get_or_from_slice_get}
-use Rattle.event_log.specs.{declared.entries.Entry.Entry, Actions.Action, Actions.AreLegal, Actions.cpu_of_action, Actions.phase, Actions.acts_of}
-use Rattle.event_log.specs.{Actions.renamed, History.AreOthers, History.own_events, History.same_cpu, Messages.Message, WordsLog.cpu_of_event}
-use Rattle.event_log.specs.declared.ids.{CpuId.CpuId, LockId.LockId, LockId.TheVariants.Pending, LockId.TheVariants.Buffer as AtBuffer}
-use Rattle.event_log.proofs.{Foreign.acts_of-append, Foreign.others_acts, Foreign.own_append, Foreign.own_none, Foreign.phase_others, Streams.taken_put}
-use Rattle.event_log.proofs.{Renaming.legal_renamed, Renaming.others_renamed, Same.same_cpu_self}
-use Rattle.layer_traits.specs.{declared.queue_edits.QueueBlock.QueueBlock, Along.Along, BufferEffects.contents_of, OnePlace.cpu_at, Places.home_of}
-use Rattle.layer_traits.specs.{Plans.is_in_section, Renaming.renamed_edit, WordsProtocol.edit_of}
-use Rattle.layer_traits.proofs.PlanRenaming.{map-append}
-use Rattle.table_machine.specs.SeatViews.{TableView, Closes}
-use Rattle.cpu.specs.{Claims.buffer_at, Claims.listed, Cpus.IsOfHome, Cpus.of_thread, Table.Blocks.Name, Table.Setups.Setup, Table.Setups.Private}
-use Rattle.cpu.specs.{Table.Setups.at_boot, Table.Setups.program_of, Table.Setups.thread_at, Table.Steps.cpu_step, Table.Steps.halted_at, Tower.Composed.named}
-use Rattle.cpu.specs.{Tower.Views.TowerName, Tower.Views.name_of, Wakeups.Lost.IsWorked}
-use Rattle.cpu.proofs.{TableQuiet.ended_at, Wakeups.CpusByTable.cpus_lose_no_wake_up}
-use Rattle.cpu_workers.specs.{declared.workers.gates.Go.Go, declared.workers.gates.Go.TheVariants.Limit, declared.workers.gates.Go.TheVariants.Pass}
-use Rattle.cpu_workers.specs.{declared.workers.stops.Stop.Stop, Lawful.AreLeft, Lawful.HasGone, Lawful.IsLawfulReport, Lawful.IsCpuReportOf, Lawful.IsReport}
-use Rattle.cpu_workers.specs.{Lawful.CpuReport, Lawful.Shown, Lawful.ReportsTrue, Lawful.left_in, Lawful.messages_in, Logs.IsReportOfWords}
-use Rattle.cpu_workers.specs.{Orders.FollowsProgram, Orders.HasFollowed, Orders.IsTraceOf, Orders.effects_of, Working.Charge, Working.IsPlanned}
-use Rattle.cpu_workers.specs.{Working.Working, Closing.HasSeen, Closing.HaveCome, Closing.IsReported, Closing.Key, Closing.LockBlock, Closing.ReportsAreLawful}
-use Rattle.cpu_workers.specs.{Closing.StartsSo, Closing.WordsOfTower, Closing.acts_in, Closing.tower_rules}
+use Rattle.std.proofs.{Common.{slice_index_or, if◌then◌else◌, refl, ap, sym, ◌∙◌, subst, arith}, lemmas.List.{length-append, length-map, length-set}}
+use Rattle.{std.{proofs.lemmas.Option.get_or_from_slice_get, specs.List.AllByRecursion}, event_log.specs.declared.{entries.Entry.Entry, ids.CpuId.CpuId}}
+use Rattle.event_log.specs.{declared.ids.LockId.{LockId, TheVariants.{Pending, Buffer as AtBuffer}}, Actions.{Action, AreLegal, cpu_of_action, phase, acts_of}}
+use Rattle.event_log.specs.{Actions.renamed, History.{AreOthers, own_events, same_cpu}, Messages.Message, WordsLog.cpu_of_event}
+use Rattle.event_log.proofs.{Foreign.{acts_of-append, others_acts, own_append, own_none, phase_others}, Streams.taken_put, Renaming.legal_renamed}
+use Rattle.{event_log.proofs.{Renaming.others_renamed, Same.same_cpu_self}, layer_traits.specs.{declared.queue_edits.QueueBlock.QueueBlock, Along.Along}}
+use Rattle.layer_traits.specs.{BufferEffects.contents_of, OnePlace.cpu_at, Places.home_of, Plans.is_in_section, Renaming.renamed_edit, WordsProtocol.edit_of}
+use Rattle.{layer_traits.proofs.PlanRenaming.map-append, table_machine.specs.SeatViews.{TableView, Closes}, cpu.specs.Claims.{buffer_at, listed}}
+use Rattle.cpu.specs.{Cpus.{IsOfHome, of_thread}, Table.{Blocks.Name, Setups.{Setup, Private, at_boot, program_of, thread_at}, Steps.{cpu_step, halted_at}}}
+use Rattle.cpu.{specs.{Tower.{Composed.named, Views.{TowerName, name_of}}, Wakeups.Lost.IsWorked}, proofs.TableQuiet.ended_at}
+use Rattle.{cpu.proofs.Wakeups.CpusByTable.cpus_lose_no_wake_up, cpu_workers.specs.declared.workers.{gates.Go.{Go, TheVariants.{Limit, Pass}}, stops.Stop.Stop}}
+use Rattle.cpu_workers.specs.Lawful.{AreLeft, HasGone, IsLawfulReport, IsCpuReportOf, IsReport, CpuReport, Shown, ReportsTrue, left_in, messages_in}
+use Rattle.cpu_workers.specs.{Logs.IsReportOfWords, Orders.{FollowsProgram, HasFollowed, IsTraceOf, effects_of}, Working.{Charge, IsPlanned, Working}}
+use Rattle.cpu_workers.specs.Closing.{HasSeen, HaveCome, IsReported, Key, LockBlock, ReportsAreLawful, StartsSo, WordsOfTower, acts_in, tower_rules}
 use Rattle.cpu_workers.specs.Reports.{HasRun, IsTrueStop, MayTake, Took, TookWithin, WasHeld, PassedAtEach, AskedAtEach, WentBy, Within, below}
-use Rattle.cpu_workers.proofs.{ClosedLog.acts_legal, ClosedLog.buffers_left, ClosedLog.effects_may, ClosedLog.messages_left, ClosedLog.queues_left}
-use Rattle.cpu_workers.proofs.{Lasting.all_ended, OneOrder.HasOrder, OneOrder.one_order, OneOrder.trace_in, Turning.along_others, Turning.within_others}
+use Rattle.cpu_workers.proofs.{ClosedLog.{acts_legal, buffers_left, effects_may, messages_left, queues_left}, Lasting.all_ended, OneOrder.{HasOrder, one_order}}
+use Rattle.cpu_workers.proofs.{OneOrder.trace_in, Turning.{along_others, within_others}}
 use Rattle.layer_traits.specs.declared.steps.Reason.TheVariants as reason
 use Rattle.sleep_wakeup.specs.Nested as sleep
 use Rattle.queuing_lock.specs.Nested as lock

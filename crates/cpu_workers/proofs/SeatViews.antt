@@ -1,23 +1,15 @@
 -- The workers of a plan at one table of words: what each leaves there, and that the table may be closed.
 use Rattle.std.proofs.Common.{◌≡◌, ℕ, ◌+◌, ◌<◌, ◌≤◌, true, false, All, List, [], length, map, drop, get_or, Option, Some, None, refl, ap, sym, ◌∙◌, subst}
-use Rattle.std.specs.Prelude.{IfOk, Result, Ok, Err, slice_get, if◌then◌else◌}
-use Rattle.std.proofs.lemmas.{List.length-map, List.drop_all, Option.get_or_from_slice_get}
-use Rattle.atomic_table.specs.Seated.{TableId}
-use Rattle.boot.specs.Plan.{BootPlan}
-use Rattle.event_log.specs.{declared.entries.Entry.Entry, declared.ids.CpuId.CpuId, declared.ids.LockId.LockId, Actions.Action, Actions.Phase, Actions.Rests}
-use Rattle.event_log.specs.{Actions.Waits, Actions.Holds, Actions.acts_of, Actions.phase, Actions.renamed, History.IsLawful, History.same_lock}
-use Rattle.event_log.specs.{Sections.sections_in, WordsLog.Idle, WordsLog.lock_phase}
-use Rattle.event_log.proofs.{Renaming.phase_renamed, ListLemmas.from_index}
-use Rattle.layer_traits.specs.{OneLock.opened, OnePlace.cpu_at, Plans.is_in_section, Renaming.renamed_edit, WordsProtocol.MayCome, WordsProtocol.edit_of}
-use Rattle.queuing_lock.specs.Nested.{edit_in as lock_call}
-use Rattle.sleep_wakeup.specs.Nested.{edit_in as slept_edit}
-use Rattle.spinlock.specs.Laws.LineLaws.{rests_outside}
-use Rattle.table_machine.specs.SeatViews.{TableView, Covers, IsOver, new_seat_view, new_seat_views, site_of}
-use Rattle.cpu.specs.Tower.{Composed.named, Views.TowerName, Views.name_of}
-use Rattle.cpu.proofs.ListReads.{shows_at, there_is}
-use Rattle.cpu_workers.specs.{declared.workers.seating.Left.Left, declared.workers.gates.Go.Go, declared.workers.stops.Stop.Stop, Closing.Key}
-use Rattle.cpu_workers.specs.{Closing.tower_rules, Seating.Block, Seating.Edit, Seating.HasLeft, Seating.HaveLeft, Seating.IsReady, Seating.tower_acts}
-use Rattle.cpu_workers.proofs.TableKeys.{as_many, seat_views_at}
+use Rattle.std.{proofs.lemmas.{List.{length-map, drop_all}, Option.get_or_from_slice_get}, specs.Prelude.{IfOk, Result, Ok, Err, slice_get, if◌then◌else◌}}
+use Rattle.{atomic_table.specs.Seated.TableId, boot.specs.Plan.BootPlan, event_log.specs.declared.{entries.Entry.Entry, ids.{CpuId.CpuId, LockId.LockId}}}
+use Rattle.event_log.specs.{Actions.{Action, Phase, Rests, Waits, Holds, acts_of, phase, renamed}, History.{IsLawful, same_lock}, Sections.sections_in}
+use Rattle.{event_log.{specs.WordsLog.{Idle, lock_phase}, proofs.{Renaming.phase_renamed, ListLemmas.from_index}}, layer_traits.specs.OneLock.opened}
+use Rattle.layer_traits.specs.{OnePlace.cpu_at, Plans.is_in_section, Renaming.renamed_edit, WordsProtocol.{MayCome, edit_of}}
+use Rattle.{queuing_lock.specs.Nested.edit_in as lock_call, sleep_wakeup.specs.Nested.edit_in as slept_edit, spinlock.specs.Laws.LineLaws.rests_outside}
+use Rattle.{table_machine.specs.SeatViews.{TableView, Covers, IsOver, new_seat_view, new_seat_views, site_of}, cpu.specs.Tower.Composed.named}
+use Rattle.{cpu.{specs.Tower.Views.{TowerName, name_of}, proofs.ListReads.{shows_at, there_is}}, cpu_workers.specs.declared.workers.seating.Left.Left}
+use Rattle.cpu_workers.specs.{declared.workers.{gates.Go.Go, stops.Stop.Stop}, Closing.{Key, tower_rules}, Seating.{Block, Edit, HasLeft, HaveLeft, IsReady}}
+use Rattle.cpu_workers.{specs.Seating.tower_acts, proofs.TableKeys.{as_many, seat_views_at}}
 
 -- a new key is one for a CPU before its first action, however the machine tells its actions and that a CPU is outside
 pub ready_at : (Opens : (LockId → Option Block) → Type 0) (table_view : TableView Block) (n : ℕ) (IsOutside : Key → Type 0) (acts : Key → List (Action Edit))

@@ -1,18 +1,13 @@
 -- A CPU that was made with its guests is one before its first step, over a machine in which nothing was done.
-use Rattle.std.proofs.Common.{◌≡◌, ℕ, ◌≤◌, List, [], length, replicate, Option, None, ap, sym, ◌∙◌, subst}
-use Rattle.std.specs.Prelude.{IfOk, Result, Ok, Err}
-use Rattle.boot.specs.Plan.{BootPlan, IsPlan, Task}
-use Rattle.event_log.specs.{declared.entries.Entry.Entry, declared.ids.CpuId.CpuId, declared.ids.LockId.LockId, declared.ids.TheConstants.THREADS}
-use Rattle.event_log.specs.{Actions.Action}
-use Rattle.layer_traits.specs.{declared.call_states.CallState.CallState, BufferLaw.Buffering, BufferLaw.UnderWay, BufferLaw.buffering_at_start}
-use Rattle.layer_traits.specs.{BufferLaw.no_call, IpcLaw.OpensSo, Places.Threads, Places.at_boot}
-use Rattle.cpu.specs.{declared.guests.Guest.Guest, Boots.AreGuests, Boots.IsBooted, Boots.guests_for, Boots.homes_for, Cpus.IsCpu, Cpus.guest_at}
-use Rattle.cpu.specs.{Cpus.programs_of, Sound.setup_for, Table.Setups.Setup, Table.Setups.Private, Table.Setups.at_boot as boot_of, Table.Setups.program_or}
-use Rattle.cpu.specs.{Tables.IsTabled, Tables.private, Tower.Views.TowerBlock, Tower.Views.TowerName}
+use Rattle.std.{proofs.Common.{◌≡◌, ℕ, ◌≤◌, List, [], length, replicate, Option, None, ap, sym, ◌∙◌, subst}, specs.Prelude.{IfOk, Result, Ok, Err}}
+use Rattle.{boot.specs.Plan.{BootPlan, IsPlan, Task}, event_log.specs.declared.{entries.Entry.Entry, ids.{CpuId.CpuId, LockId.LockId, TheConstants.THREADS}}}
+use Rattle.{event_log.specs.Actions.Action, layer_traits.specs.{declared.call_states.CallState.CallState, BufferLaw.{Buffering, UnderWay, buffering_at_start}}}
+use Rattle.{layer_traits.specs.{BufferLaw.no_call, IpcLaw.OpensSo, Places.{Threads, at_boot}}, cpu.specs.{declared.guests.Guest.Guest, Boots.AreGuests}}
+use Rattle.cpu.specs.{Boots.{IsBooted, guests_for, homes_for}, Cpus.{IsCpu, guest_at, programs_of}, Sound.setup_for, Table.Setups.{Setup, Private}}
+use Rattle.cpu.specs.{Table.Setups.{at_boot as boot_of, program_or}, Tables.{IsTabled, private}, Tower.Views.{TowerBlock, TowerName}}
 use Rattle.cpu.proofs.{InvariantAtBoot.boots, ListReads.shows_at, PlanGuests.by_task, SystemsAtBoot.private_boots, TableCalls.boots_tabled}
-use Rattle.cpu.proofs.{GuestLists.guest_with}
-use Rattle.cpu_workers.specs.{declared.workers.gates.Go.Go, declared.workers.turns.Did.Did, Reports.HasRun, Seating.HasLeft, Seating.IsApart, Seating.IsAtBoot}
-use Rattle.cpu_workers.specs.{Working.Charge, Working.IsPlanned, Working.Working}
+use Rattle.{cpu.proofs.GuestLists.guest_with, cpu_workers.specs.{declared.workers.{gates.Go.Go, turns.Did.Did}, Reports.HasRun, Seating.{HasLeft, IsApart}}}
+use Rattle.cpu_workers.specs.{Seating.IsAtBoot, Working.{Charge, IsPlanned, Working}}
 
 -- what a CPU was made with, and what it is
 pub record Made : Type 0 where

@@ -1,10 +1,8 @@
 -- The keys of a new table of words, and what belongs to each.
 use Rattle.std.proofs.Common.{◌≡◌, ℕ, zero, suc, ◌<◌, ◌≤◌, All, List, length, Some, slice_get, refl, ap, sym, ◌∙◌, subst, arith}
-use Rattle.table_machine.specs.SeatViews.{TableView, SeatView, IsOf, new_seat_view, new_seat_views}
-use Rattle.table_machine.proofs.Fresh.{length_new}
-use Rattle.cpu.proofs.{InvariantAtBoot.at_end, ListReads.there_is}
-use Rattle.cpu_workers.specs.{Counts.IsFresh, Reports.Both}
-use Rattle.cpu_workers.proofs.Joining.{all_by_number, both_back, both_length}
+use Rattle.table_machine.{specs.SeatViews.{TableView, SeatView, IsOf, new_seat_view, new_seat_views}, proofs.Fresh.length_new}
+use Rattle.{cpu.proofs.{InvariantAtBoot.at_end, ListReads.there_is}, cpu_workers.{specs.{Counts.IsFresh, Reports.Both}, proofs.Joining.all_by_number}}
+use Rattle.cpu_workers.proofs.Joining.{both_back, both_length}
 
 pub seat_views_at : {E B : Type 0} (table_view : TableView B) (n k : ℕ) (d : SeatView E B) → slice_get (new_seat_views table_view n) k ≡ Some d → d ≡ new_seat_view table_view k
 seat_views_at table_view zero k d at = absurd (cc at)

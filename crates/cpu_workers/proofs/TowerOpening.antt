@@ -1,15 +1,9 @@
 -- The tower over a lock opens as the lock does: its buffers, its homes and its queues are those that the locks hold.
-use Rattle.std.proofs.Common.{◌≡◌, ◌≤◌, ℕ, List, length, ◌∙◌, arith}
-use Rattle.std.specs.Prelude.{IsSome, Option}
-use Rattle.event_log.specs.declared.ids.{CpuId.CpuId, LockId.LockId, LockId.TheVariants.Pending, TheConstants.BUFFERS}
-use Rattle.fifo_buffer.specs.FifoFits.{BootsSo, caps_in}
-use Rattle.fifo_buffer.proofs.Opening.{boots_well, caps_are as told_caps}
-use Rattle.layer_traits.specs.{BufferEffects.opening_locks, QueueBlocks.homes_in, QueueBlocks.inner, Renaming.viewed}
-use Rattle.layer_traits.proofs.KernelRenaming.{homes_viewed, viewed_there}
-use Rattle.queuing_lock.specs.Nested.{nested_lock_of}
-use Rattle.sleep_wakeup.specs.Nested.{state_of}
-use Rattle.cpu.specs.Tower.Views.{TowerBlock}
-use Rattle.cpu_workers.specs.Seating.{Block}
+use Rattle.std.{proofs.Common.{◌≡◌, ◌≤◌, ℕ, List, length, ◌∙◌, arith}, specs.Prelude.{IsSome, Option}}
+use Rattle.{event_log.specs.declared.ids.{CpuId.CpuId, LockId.{LockId, TheVariants.Pending}, TheConstants.BUFFERS}, fifo_buffer.specs.FifoFits.BootsSo}
+use Rattle.{fifo_buffer.{specs.FifoFits.caps_in, proofs.Opening.{boots_well, caps_are as told_caps}}, layer_traits.specs.BufferEffects.opening_locks}
+use Rattle.layer_traits.{specs.{QueueBlocks.{homes_in, inner}, Renaming.viewed}, proofs.KernelRenaming.{homes_viewed, viewed_there}}
+use Rattle.{queuing_lock.specs.Nested.nested_lock_of, sleep_wakeup.specs.Nested.state_of, cpu.specs.Tower.Views.TowerBlock, cpu_workers.specs.Seating.Block}
 
 -- the locks as buffers see them
 abbrev pub seen_from_top : (LockId → Option Block) → LockId → Option TowerBlock

@@ -1,19 +1,12 @@
 -- A worker's turns along one list of actions.
 use Rattle.std.proofs.Common.{◌≡◌, ◌⊎◌, inl, inr, ℕ, ◌+◌, ◌<◌, ◌≤◌, ◌==◌, Bool, true, false, List, [], ◌∷◌, ◌++◌, Option, if◌then◌else◌, refl, ap, sym, ◌∙◌}
-use Rattle.std.proofs.Common.{subst, arith, ltb-true, ltb-false}
-use Rattle.std.specs.Prelude.{nat_lt}
-use Rattle.event_log.specs.{declared.ids.CpuId.CpuId, History.AreOthers, Actions.Action, Actions.cpu_of_action, Actions.phase}
-use Rattle.event_log.proofs.Foreign.{phase_others}
-use Rattle.layer_traits.specs.{declared.steps.Reason.Reason, declared.steps.Step.Step, declared.steps.Step.TheVariants.Stepped, Along.Outcome, Along.Along}
-use Rattle.layer_traits.specs.{Along.starts, Along.others, Along.steps, Along.IsStep, Plans.is_in_section}
-use Rattle.cpu.specs.{Table.Blocks.Name, Table.Setups.Setup, Table.Setups.Private, Table.Steps.cpu_step, Table.Steps.halted_at, Tower.Composed.answer_of}
-use Rattle.cpu.proofs.Tower.Polls.{halts_exactly}
-use Rattle.cpu_workers.specs.{declared.workers.gates.Go.Go, declared.workers.gates.Go.TheVariants.Limit, declared.workers.gates.Go.TheVariants.Pass}
-use Rattle.cpu_workers.specs.{Working.IsPlanned, Working.IsSame, Working.MayStep, Working.Charge, Working.Turned, Working.Working, Working.is_inside}
-use Rattle.cpu_workers.specs.{Working.log, Reports.Counts, Reports.HasRun, Reports.IsTrueStop, Reports.MayHold, Reports.Took, Reports.TookWithin}
-use Rattle.cpu_workers.specs.{Reports.Within, Reports.another, Reports.below, Reports.counted_on, Reports.most, Reports.MayTake, Reports.none_taken}
-use Rattle.cpu_workers.specs.{Reports.one_taken, Reports.PassedAtEach, Reports.AskedAtEach, declared.workers.stops.Stop.Stop}
-use Rattle.cpu_workers.specs.declared.workers.stops.Stop.TheVariants.{AllEnded, TurnsUsed, TraceFull, Held}
+use Rattle.{std.{proofs.Common.{subst, arith, ltb-true, ltb-false}, specs.Prelude.nat_lt}, event_log.specs.{declared.ids.CpuId.CpuId, History.AreOthers}}
+use Rattle.{event_log.{specs.Actions.{Action, cpu_of_action, phase}, proofs.Foreign.phase_others}, layer_traits.specs.declared.steps.{Reason.Reason, Step.Step}}
+use Rattle.layer_traits.specs.{declared.steps.Step.TheVariants.Stepped, Along.{Outcome, Along, starts, others, steps, IsStep}, Plans.is_in_section}
+use Rattle.cpu.{specs.{Table.{Blocks.Name, Setups.{Setup, Private}, Steps.{cpu_step, halted_at}}, Tower.Composed.answer_of}, proofs.Tower.Polls.halts_exactly}
+use Rattle.cpu_workers.specs.declared.workers.{gates.Go.{Go, TheVariants.{Limit, Pass}}, stops.Stop.{Stop, TheVariants.{AllEnded, TurnsUsed, TraceFull, Held}}}
+use Rattle.cpu_workers.specs.{Working.{IsPlanned, IsSame, MayStep, Charge, Turned, Working, is_inside, log}, Reports.{Counts, HasRun, IsTrueStop, MayHold}}
+use Rattle.cpu_workers.specs.Reports.{Took, TookWithin, Within, another, below, counted_on, most, MayTake, none_taken, one_taken, PassedAtEach, AskedAtEach}
 
 module _ {P N : Type 0} (table : P → List (Action N) → Outcome P N) (cpu : CpuId) (first : P) where
   -- other CPUs act

@@ -1,11 +1,8 @@
 -- Callers: native threads that send to buffers and receive from them, each at a CPU of its own.
 use Rattle.std.specs.Prelude.{◌≡◌, ℕ, ◌≤◌, List, ◌++◌, [], ◌∷◌, length}
-use Rattle.event_log.specs.{declared.entries.Entry.Entry, declared.entries.Kind.Kind, declared.ids.BufId.BufId, declared.ids.CpuId.CpuId, declared.ids.Tid.Tid}
-use Rattle.event_log.specs.{Messages.Message, Messages.no_message}
-use Rattle.event_log.specs.declared.entries.Kind.TheVariants.{Send, Recv, Close, SendClosed, RecvClosed}
-use Rattle.layer_traits.specs.{declared.calls.Call.Call, declared.calls.Effect.Effect, declared.calls.Reply.Reply, BufferEffects.entry, BufferLaw.IsEffectOf}
-use Rattle.layer_traits.specs.{BufferLaw.buffer_of, BufferLaw.entry_of, BufferLaw.reply_of}
-use Rattle.cpu.specs.Cpus.{of_cpu}
+use Rattle.event_log.specs.declared.{entries.{Entry.Entry, Kind.{Kind, TheVariants.{Send, Recv, Close, SendClosed, RecvClosed}}}, ids.BufId.BufId}
+use Rattle.{event_log.specs.{declared.ids.{CpuId.CpuId, Tid.Tid}, Messages.{Message, no_message}}, layer_traits.specs.declared.calls.{Call.Call, Effect.Effect}}
+use Rattle.{layer_traits.specs.{declared.calls.Reply.Reply, BufferEffects.entry, BufferLaw.{IsEffectOf, buffer_of, entry_of, reply_of}}, cpu.specs.Cpus.of_cpu}
 use Rattle.cpu_workers.specs.declared.workers.callers.TheConstants.{MOST_CALLS}
 
 -- a caller to its users: its CPU and its thread, the capacities of the buffers, which machine it is, and the entries of its calls, oldest first

@@ -1,26 +1,19 @@
 -- The workers of one table of the tower's locks, once they have come back and the table is closed.
-use Rattle.std.specs.Prelude.{◌≡◌, ℕ, ◌*◌, ◌^◌, ◌<◌, ◌≤◌, false, List, length, map, Option, Some, IsSome, option_map, slice_get}
-use Rattle.std.specs.List.{AllByRecursion}
-use Rattle.event_log.specs.{declared.entries.Entry.Entry, declared.events.Event.Event, declared.ids.CpuId.CpuId, declared.ids.LockId.LockId}
-use Rattle.event_log.specs.{declared.ids.LockId.TheVariants.Pending, declared.ids.TheConstants.BUFFERS, declared.ids.Tid.Tid, Actions.Action, Actions.AreLegal}
-use Rattle.event_log.specs.{Actions.acts_of, Actions.phase, Actions.renamed}
-use Rattle.layer_traits.specs.{declared.buffer_edits.BufferEdit.BufferEdit, declared.buffer_edits.BufferOut.BufferOut, declared.conditions.CvEdit.CvEdit}
-use Rattle.layer_traits.specs.{declared.conditions.CvLeave.CvLeave, declared.conditions.CvOut.CvOut, declared.edits.Mark.Mark, declared.locked.QOut.QOut}
-use Rattle.layer_traits.specs.{declared.queue_edits.QueueBlock.QueueBlock, declared.queue_edits.QueueEdit.QueueEdit, declared.queues.QueueAnswer.QueueAnswer}
-use Rattle.layer_traits.specs.{declared.sleeps.Outcome.Outcome, BufferBlocks.BufferState, BufferEffects.opening_locks, BufferProtocol.buffer_monitor_rules}
-use Rattle.layer_traits.specs.{Conditions.cv_rules, OneLock.opened, Places.home_of, Plans.is_in_section, Protocol.Rules, QueueBlocks.StartsWell}
-use Rattle.layer_traits.specs.{QueueBlocks.homes_in, QueueBlocks.inner, QueueRules.queue_rules, Renaming.renamed_edit, Renaming.viewed, Renaming.viewed_block}
-use Rattle.layer_traits.specs.{WordsProtocol.edit_of}
-use Rattle.sleep_wakeup.specs.{declared.edits.SleepBlock.SleepBlock, declared.edits.SleepEdit.SleepEdit, Nested.nested_moves, Nested.nested_rules}
-use Rattle.sleep_wakeup.specs.{Nested.state_of}
-use Rattle.queuing_lock.specs.{declared.edits.QBlock.QBlock, declared.edits.QLockEdit.QLockEdit, Nested.busy_rules, Nested.nested_lock_of}
-use Rattle.table_machine.specs.SeatViews.{TableView, Closes, SeatView}
-use Rattle.cpu.specs.Table.{Blocks.Block, Setups.Setup, Setups.Private, Setups.at_boot, Setups.program_of, Setups.thread_at, Steps.cpu_step, Steps.halted_at}
-use Rattle.cpu.specs.{Cpus.IsOfHome, Cpus.of_thread, Tower.Composed.named, Tower.Views.TowerBlock, Tower.Views.TowerName, Tower.Views.view}
-use Rattle.cpu_workers.specs.declared.workers.{gates.Go.Go, gates.Go.TheVariants.Limit, gates.Go.TheVariants.Pass, stops.Stop.Stop, stops.Stop.TheVariants.Held}
-use Rattle.cpu_workers.specs.declared.workers.{stops.Stop.TheVariants.TurnsUsed}
-use Rattle.cpu_workers.specs.{Lawful.IsLawfulReport, Lawful.IsCpuReportOf, Lawful.CpuReport, Lawful.Shown, Orders.FollowsProgram, Orders.IsTraceOf}
-use Rattle.cpu_workers.specs.{Reports.IsTrueStop, Reports.MayTake, Reports.Took, Reports.TookWithin, Reports.WasHeld, Reports.PassedAtEach, Reports.AskedAtEach}
+use Rattle.std.specs.{Prelude.{◌≡◌, ℕ, ◌*◌, ◌^◌, ◌<◌, ◌≤◌, false, List, length, map, Option, Some, IsSome, option_map, slice_get}, List.AllByRecursion}
+use Rattle.event_log.specs.declared.{entries.Entry.Entry, events.Event.Event, ids.{CpuId.CpuId, LockId.{LockId, TheVariants.Pending}, TheConstants.BUFFERS}}
+use Rattle.event_log.specs.{declared.ids.Tid.Tid, Actions.{Action, AreLegal, acts_of, phase, renamed}}
+use Rattle.layer_traits.specs.declared.{buffer_edits.{BufferEdit.BufferEdit, BufferOut.BufferOut}, conditions.{CvEdit.CvEdit, CvLeave.CvLeave, CvOut.CvOut}}
+use Rattle.layer_traits.specs.declared.{edits.Mark.Mark, locked.QOut.QOut, queue_edits.{QueueBlock.QueueBlock, QueueEdit.QueueEdit}}
+use Rattle.layer_traits.specs.{declared.{queues.QueueAnswer.QueueAnswer, sleeps.Outcome.Outcome}, BufferBlocks.BufferState, BufferEffects.opening_locks}
+use Rattle.layer_traits.specs.{BufferProtocol.buffer_monitor_rules, Conditions.cv_rules, OneLock.opened, Places.home_of, Plans.is_in_section, Protocol.Rules}
+use Rattle.layer_traits.specs.{QueueBlocks.{StartsWell, homes_in, inner}, QueueRules.queue_rules, Renaming.{renamed_edit, viewed, viewed_block}}
+use Rattle.{layer_traits.specs.WordsProtocol.edit_of, sleep_wakeup.specs.{declared.edits.{SleepBlock.SleepBlock, SleepEdit.SleepEdit}, Nested.nested_moves}}
+use Rattle.{sleep_wakeup.specs.Nested.{nested_rules, state_of}, queuing_lock.specs.{declared.edits.{QBlock.QBlock, QLockEdit.QLockEdit}, Nested.busy_rules}}
+use Rattle.{queuing_lock.specs.Nested.nested_lock_of, table_machine.specs.SeatViews.{TableView, Closes, SeatView}, cpu.specs.Table.{Blocks.Block, Setups.Setup}}
+use Rattle.cpu.specs.{Table.{Setups.{Private, at_boot, program_of, thread_at}, Steps.{cpu_step, halted_at}}, Cpus.{IsOfHome, of_thread}, Tower.Composed.named}
+use Rattle.{cpu.specs.Tower.Views.{TowerBlock, TowerName, view}, cpu_workers.specs.declared.workers.{gates.Go.{Go, TheVariants.{Limit, Pass}}, stops.Stop.Stop}}
+use Rattle.cpu_workers.specs.{declared.workers.stops.Stop.TheVariants.{Held, TurnsUsed}, Lawful.{IsLawfulReport, IsCpuReportOf, CpuReport, Shown}}
+use Rattle.cpu_workers.specs.{Orders.{FollowsProgram, IsTraceOf}, Reports.{IsTrueStop, MayTake, Took, TookWithin, WasHeld, PassedAtEach, AskedAtEach}}
 use Rattle.sleep_wakeup.specs.Nested as sleep
 use Rattle.queuing_lock.specs.Nested as lock
 

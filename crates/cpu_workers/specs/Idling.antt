@@ -1,7 +1,6 @@
 -- When a worker lets other threads run: how many looks are left to it, and whether its CPU has anything to do.
 use Rattle.std.specs.Prelude.{ℕ, ◌==◌, ◌-◌, Bool, true, false, List, [], Option, None, if◌then◌else◌}
-use Rattle.event_log.specs.declared.ids.Tid.{Tid}
-use Rattle.cpu_workers.specs.declared.workers.turns.TheConstants.{SPINS}
+use Rattle.{event_log.specs.declared.ids.Tid.Tid, cpu_workers.specs.declared.pauses.TheConstants.SPINS}
 
 -- how many looks are left after a turn that left the CPU in a section, or in none: one less; one, where they are used up; all of them
 abbrev pub spins_left : Bool → ℕ → ℕ

@@ -1,18 +1,13 @@
 -- What the report of workers tells: one order of their traces, and the run of each by the step table along one list of actions.
-use Rattle.std.specs.Prelude.{◌≡◌, ℕ, ◌<◌, ◌≤◌, false, List, [], length, reverse, Option, Some, None, slice_get}
-use Rattle.std.specs.List.{AllByRecursion}
-use Rattle.event_log.specs.{declared.entries.Entry.Entry, Actions.Action, Actions.AreLegal, Actions.cpu_of_action, Actions.phase, History.own_events}
-use Rattle.event_log.specs.{Messages.Message, Runs.IsRun, Streams.IsFirstInFirstOut, Traces.IsInterleaving}
-use Rattle.event_log.specs.declared.ids.{BufId.BufId, CpuId.CpuId, LockId.LockId, LockId.TheVariants.Pending, LockId.TheVariants.Buffer as AtBuffer, Tid.Tid}
-use Rattle.guest.specs.{Calls.AreProgramsCalls, Calls.IsProgramsCalls, Calls.HasEnded, State.State}
-use Rattle.layer_traits.specs.{Places.home_of, Plans.is_in_section}
-use Rattle.cpu.specs.{Claims.buffer_at, Claims.listed, Cpus.IsOfHome, Cpus.of_thread, Table.Blocks.Block, Table.Blocks.Buffer, Table.Blocks.Name}
-use Rattle.cpu.specs.{Table.Blocks.OfBuffer, Table.Blocks.OfPending, Table.Setups.Setup, Table.Setups.Private, Table.Setups.at_boot, Table.Setups.program_of}
-use Rattle.cpu.specs.{Table.Steps.block_at, Table.Steps.cpu_step, Table.Steps.halted_at, Wakeups.Lost.NoWakeUpIsLost}
-use Rattle.cpu_workers.specs.{declared.workers.gates.Go.Go, declared.workers.gates.Go.TheVariants.Limit, declared.workers.gates.Go.TheVariants.Pass}
-use Rattle.cpu_workers.specs.{declared.workers.stops.Stop.Stop, declared.workers.stops.Stop.TheVariants.AllEnded}
-use Rattle.cpu_workers.specs.{declared.workers.stops.Stop.TheVariants.TurnsUsed, declared.workers.stops.Stop.TheVariants.Held, Reports.IsTrueStop}
-use Rattle.cpu_workers.specs.{Reports.MayHold, Reports.MayTake, Reports.Took, Reports.TookWithin, Reports.WasHeld, Reports.PassedAtEach, Reports.AskedAtEach}
+use Rattle.std.specs.{Prelude.{◌≡◌, ℕ, ◌<◌, ◌≤◌, false, List, [], length, reverse, Option, Some, None, slice_get}, List.AllByRecursion}
+use Rattle.event_log.specs.declared.{entries.Entry.Entry, ids.{BufId.BufId, CpuId.CpuId, LockId.{LockId, TheVariants.{Pending, Buffer as AtBuffer}}, Tid.Tid}}
+use Rattle.event_log.specs.{Actions.{Action, AreLegal, cpu_of_action, phase}, History.own_events, Messages.Message, Runs.IsRun, Streams.IsFirstInFirstOut}
+use Rattle.{event_log.specs.Traces.IsInterleaving, guest.specs.{Calls.{AreProgramsCalls, IsProgramsCalls, HasEnded}, State.State}}
+use Rattle.{layer_traits.specs.{Places.home_of, Plans.is_in_section}, cpu.specs.{Claims.{buffer_at, listed}, Cpus.{IsOfHome, of_thread}, Table.Blocks.Block}}
+use Rattle.cpu.specs.Table.{Blocks.{Buffer, Name, OfBuffer, OfPending}, Setups.{Setup, Private, at_boot, program_of}, Steps.{block_at, cpu_step, halted_at}}
+use Rattle.{cpu.specs.Wakeups.Lost.NoWakeUpIsLost, cpu_workers.specs.declared.workers.{gates.Go.{Go, TheVariants.{Limit, Pass}}, stops.Stop.Stop}}
+use Rattle.cpu_workers.specs.{declared.workers.stops.Stop.TheVariants.{AllEnded, TurnsUsed, Held}, Reports.{IsTrueStop, MayHold, MayTake, Took, TookWithin}}
+use Rattle.cpu_workers.specs.Reports.{WasHeld, PassedAtEach, AskedAtEach}
 
 -- what a report tells of one CPU: its trace, oldest first, how many turns it took, and why it stopped
 pub record CpuReport : Type 0 where

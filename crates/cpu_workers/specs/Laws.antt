@@ -1,10 +1,8 @@
 -- What holds of workers that run at one table.
 use Rattle.std.specs.Prelude.{◌≡◌, ℕ, ◌≤◌, ◌<◌, Bool, true, List, [], ◌++◌, None}
-use Rattle.event_log.specs.{declared.ids.CpuId.CpuId, History.AreOthers, History.own_events, Actions.Action, Actions.cpu_of_action}
-use Rattle.cpu.specs.{Table.Blocks.Name, Table.Setups.Setup, Table.Setups.Private, Table.Setups.at_boot, Table.Setups.have_ended, Table.Setups.home_threads}
-use Rattle.cpu.specs.{Table.Steps.cpu_step, Table.Steps.halted_at, Wakeups.Lost.LosesNoWakeUp}
-use Rattle.cpu_workers.specs.{declared.workers.stops.Stop.Stop, declared.workers.stops.Stop.TheVariants.AllEnded}
-use Rattle.cpu_workers.specs.{declared.workers.stops.Stop.TheVariants.TurnsUsed, declared.workers.stops.Stop.TheVariants.Held, Reports.IsTrueStop, Reports.Took}
+use Rattle.{event_log.specs.{declared.ids.CpuId.CpuId, History.{AreOthers, own_events}, Actions.{Action, cpu_of_action}}, cpu.specs.Table.Blocks.Name}
+use Rattle.cpu.specs.{Table.{Setups.{Setup, Private, at_boot, have_ended, home_threads}, Steps.{cpu_step, halted_at}}, Wakeups.Lost.LosesNoWakeUp}
+use Rattle.cpu_workers.specs.{declared.workers.stops.Stop.{Stop, TheVariants.{AllEnded, TurnsUsed, Held}}, Reports.{IsTrueStop, Took}}
 
 -- a worker's CPU has come from boot by the step table along what it has seen, and the list goes on from that with other CPUs' actions
 pub record HasWorked (setup : Setup) (c : CpuId) (log : List (Action Name)) : Type 0 where

@@ -1,15 +1,11 @@
 -- Native threads at one table: what each has called, and the one order of all their calls.
 use Rattle.std.specs.Prelude.{◌≡◌, ℕ, ◌<◌, ◌≤◌, false, List, [], map, length, slice_get, Option, Some, IsSome}
-use Rattle.event_log.specs.{declared.entries.Entry.Entry, declared.ids.CpuId.CpuId, declared.ids.LockId.LockId, declared.ids.LockId.TheVariants.Pending}
-use Rattle.event_log.specs.{Actions.Action, Actions.acts_of, Actions.phase, Messages.Message, Runs.IsRun, Streams.IsFirstInFirstOut, Traces.IsInterleaving}
-use Rattle.layer_traits.specs.{BufferEffects.opening_locks, OnePlace.cpu_at, Plans.is_in_section, QueueBlocks.StartsWell, QueueBlocks.homes_in}
-use Rattle.layer_traits.specs.{QueueBlocks.inner, Renaming.viewed, WordsProtocol.edit_of}
-use Rattle.queuing_lock.specs.Nested.{nested_lock_of}
-use Rattle.sleep_wakeup.specs.Nested.{state_of}
-use Rattle.table_machine.specs.SeatViews.{IsOver, TableView}
-use Rattle.cpu.specs.{Claims.buffer_at, Claims.listed, Tower.Views.TowerName}
-use Rattle.cpu_workers.specs.{declared.workers.callers.TheConstants.MOST_CALLS, Callers.CallerView, Callers.IsSameCaller, Closing.Key, Closing.blocks_read}
-use Rattle.cpu_workers.specs.{Lawful.held_at, Orders.IsTraceOf, Seating.Block, Seating.tower_acts}
+use Rattle.event_log.specs.{declared.{entries.Entry.Entry, ids.{CpuId.CpuId, LockId.{LockId, TheVariants.Pending}}}, Actions.{Action, acts_of, phase}}
+use Rattle.{event_log.specs.{Messages.Message, Runs.IsRun, Streams.IsFirstInFirstOut, Traces.IsInterleaving}, layer_traits.specs.BufferEffects.opening_locks}
+use Rattle.layer_traits.specs.{OnePlace.cpu_at, Plans.is_in_section, QueueBlocks.{StartsWell, homes_in, inner}, Renaming.viewed, WordsProtocol.edit_of}
+use Rattle.{queuing_lock.specs.Nested.nested_lock_of, sleep_wakeup.specs.Nested.state_of, table_machine.specs.SeatViews.{IsOver, TableView}}
+use Rattle.{cpu.specs.{Claims.{buffer_at, listed}, Tower.Views.TowerName}, cpu_workers.specs.declared.workers.callers.TheConstants.MOST_CALLS}
+use Rattle.cpu_workers.specs.{Callers.{CallerView, IsSameCaller}, Closing.{Key, blocks_read}, Lawful.held_at, Orders.IsTraceOf, Seating.{Block, tower_acts}}
 
 -- a native has run at its caller, which is the same, and has kept what it promises of itself and of the calls
 pub record HasKept {N : Type 0} (Kept : N → N → CallerView → Type 0) (native : N) (caller : CallerView) (after : N) (last : CallerView) : Type 0 where

@@ -1,18 +1,14 @@
 -- The workers of a plan at one table: their actions by the layers' names, what each has done, and the blocks that they leave.
 use Rattle.std.specs.Prelude.{◌≡◌, ℕ, List, [], map, length, slice_get, Option, Some, IsSome, ◌<◌}
-use Rattle.boot.specs.Plan.{BootPlan}
-use Rattle.event_log.specs.{declared.entries.Entry.Entry, declared.ids.BufId.BufId, declared.ids.CpuId.CpuId, declared.ids.LockId.LockId}
-use Rattle.event_log.specs.{declared.ids.LockId.TheVariants.Pending, Actions.Action, Actions.AreLegal, Actions.acts_of, Actions.renamed, Messages.Message}
-use Rattle.layer_traits.specs.{declared.queue_edits.QueueBlock.QueueBlock, declared.queue_edits.QueueEdit.QueueEdit, BufferEffects.opening_locks}
-use Rattle.layer_traits.specs.{OneLock.AreDistinct, OneLock.opened, QueueBlocks.StartsWell, QueueBlocks.homes_in, QueueBlocks.inner, Renaming.renamed_edit}
-use Rattle.layer_traits.specs.{Renaming.viewed, WordsProtocol.edit_of}
-use Rattle.queuing_lock.specs.Nested.{edit_in as lock_call, nested_lock_of}
-use Rattle.sleep_wakeup.specs.Nested.{edit_in as slept_edit, state_of}
-use Rattle.cpu.specs.{Boots.homes_for, Sound.setup_for, Table.Setups.at_boot, Tower.Views.TowerName}
-use Rattle.table_machine.specs.SeatViews.{TableView, Closes, IsOver, site_of}
-use Rattle.cpu_workers.specs.{declared.workers.gates.Go.Go, declared.workers.stops.Stop.Stop, Closing.Key, Closing.LockBlock, Closing.LockEdit}
-use Rattle.cpu_workers.specs.{Closing.blocks_read, Closing.tower_rules, Lawful.held_at, Orders.HasFollowed, Orders.IsTraceOf, Reports.HasRun, Working.IsPlanned}
-use Rattle.cpu_workers.specs.{Working.Working}
+use Rattle.{boot.specs.Plan.BootPlan, event_log.specs.declared.{entries.Entry.Entry, ids.{BufId.BufId, CpuId.CpuId, LockId.{LockId, TheVariants.Pending}}}}
+use Rattle.{event_log.specs.{Actions.{Action, AreLegal, acts_of, renamed}, Messages.Message}, layer_traits.specs.declared.queue_edits.QueueBlock.QueueBlock}
+use Rattle.layer_traits.specs.{declared.queue_edits.QueueEdit.QueueEdit, BufferEffects.opening_locks, OneLock.{AreDistinct, opened}, QueueBlocks.StartsWell}
+use Rattle.layer_traits.specs.{QueueBlocks.{homes_in, inner}, Renaming.{renamed_edit, viewed}, WordsProtocol.edit_of}
+use Rattle.{queuing_lock.specs.Nested.{edit_in as lock_call, nested_lock_of}, sleep_wakeup.specs.Nested.{edit_in as slept_edit, state_of}}
+use Rattle.{cpu.specs.{Boots.homes_for, Sound.setup_for, Table.Setups.at_boot, Tower.Views.TowerName}, table_machine.specs.SeatViews.{TableView, Closes}}
+use Rattle.{table_machine.specs.SeatViews.{IsOver, site_of}, cpu_workers.specs.{declared.workers.{gates.Go.Go, stops.Stop.Stop}, Closing.{Key, LockBlock}}}
+use Rattle.cpu_workers.specs.{Closing.{LockEdit, blocks_read, tower_rules}, Lawful.held_at, Orders.{HasFollowed, IsTraceOf}, Reports.HasRun, Working.IsPlanned}
+use Rattle.cpu_workers.specs.Working.{Working}
 
 -- what a section of the tower's locks does, and what such a lock guards
 abbrev pub Edit : Type 0

@@ -16,6 +16,7 @@
 pub mod counting;
 mod laws;
 mod natives;
+mod pauses;
 mod plan_words;
 mod pool;
 mod refusals;

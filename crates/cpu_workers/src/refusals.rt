@@ -2,8 +2,7 @@
 //! memory or waits.
 
 ghost use Rattle.std.specs.Prelude.{◌≡◌};
-ghost use Rattle.event_log.specs.Refusals.{no_memory};
-ghost use Rattle.cpu_workers.specs.declared.refusals.WorkerError.TheVariants.{NoMemory as LacksMemory};
+ghost use Rattle.{event_log.specs.Refusals.no_memory, cpu_workers.specs.declared.refusals.WorkerError.TheVariants.NoMemory as LacksMemory};
 
 use event_log::NoMemory;
 use std::alloc::AllocError;

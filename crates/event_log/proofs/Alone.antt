@@ -1,11 +1,8 @@
 -- A CPU alone: at a lock that is free its next three actions are one section, and then the lock is free again.
-use Rattle.std.proofs.Common.{◌≡◌, ℕ, ◌+◌, ◌<◌, Bool, true, false, List, ◌∷◌, ◌==◌, if◌then◌else◌, refl, ap, sym, subst, ◌∙◌, arith}
-use Rattle.std.proofs.lemmas.Bool.{eq-eqb}
-use Rattle.event_log.specs.{declared.ids.CpuId.CpuId, declared.ids.LockId.LockId, declared.ids.TheConstants.CPUS, History.same_lock, Actions.Action}
-use Rattle.event_log.specs.{Actions.Take, Actions.Try, Actions.Give, Actions.Phase, Actions.Rests, Actions.Waits, Actions.Holds, Actions.phase, Actions.spot_of}
-use Rattle.event_log.specs.{Actions.takes, Actions.gives, Actions.AreLegal, Actions.action_in, Actions.next_action, Actions.IsFree, Actions.AreFree}
-use Rattle.event_log.specs.{Sections.sections_in, Laws.IsOneSection}
-use Rattle.event_log.proofs.{Same.same_cpu_self, Same.same_lock_self, Line.crowd, Line.crowd_absent, Exclusion.is_at, Exclusion.phase_own, Exclusion.line_at}
+use Rattle.std.proofs.{Common.{◌≡◌, ◌<◌, Bool, true, List, ◌∷◌, refl, ap, ◌∙◌, arith}, lemmas.Bool.eq-eqb}
+use Rattle.event_log.specs.{declared.ids.{CpuId.CpuId, LockId.LockId, TheConstants.CPUS}, Actions.{Action, Take, Try, Give, Phase, Rests, Waits, Holds, phase}}
+use Rattle.event_log.{specs.{Actions.{AreLegal, action_in, next_action, IsFree, AreFree}, Laws.IsOneSection}, proofs.Same.{same_cpu_self, same_lock_self}}
+use Rattle.event_log.proofs.{Line.{crowd, crowd_absent}, Exclusion.{is_at, phase_own, line_at}}
 
 -- a CPU that rests takes a spot
 pub first_action : {N : Type 0} (cpu : CpuId) (lock : LockId) (name : N) (past : List (Action N)) → phase cpu past ≡ Rests
@@ -15,25 +12,17 @@ first_action cpu lock name past rests = ap (action_in cpu lock name past) rests
 -- at a lock that was free it then enters
 pub second_action : {N : Type 0} (cpu : CpuId) (lock : LockId) (name : N) (past : List (Action N)) → IsFree lock past
     → next_action cpu lock name (Take cpu lock ∷ past) ≡ Try cpu lock true
-second_action cpu lock name past free =
-    let here : spot_of cpu (Take cpu lock ∷ past) ≡ takes lock past = ap (λ b. if b then takes lock past else spot_of cpu past) (same_cpu_self cpu) in
-    let served : (gives lock past == spot_of cpu (Take cpu lock ∷ past)) ≡ true =
-    eq-eqb (gives lock past) (spot_of cpu (Take cpu lock ∷ past)) (sym free ∙ sym here) in
-    ap (action_in cpu lock name (Take cpu lock ∷ past)) (phase_own (Take cpu lock) past) ∙ ap (Try cpu lock) served
+second_action cpu lock name past free = grind (arith, same_cpu_self, eq-eqb, phase_own)
 
 -- and then it gives the lock on
 pub third_action : {N : Type 0} (cpu : CpuId) (lock : LockId) (name : N) (past : List (Action N))
     → next_action cpu lock name (Try cpu lock true ∷ past) ≡ Give cpu lock name
 third_action cpu lock name past = ap (action_in cpu lock name (Try cpu lock true ∷ past)) (phase_own (Try cpu lock true) past)
 
-kept_equal : (b : Bool) (t g : ℕ) → t ≡ g → (if b then t + 1 else t) ≡ (if b then g + 1 else g)
-kept_equal true t g same = ap (λ n. n + 1) same
-kept_equal false t g same = same
-
 -- a section leaves a lock as free as it was
 pub free_after : {N : Type 0} (cpu : CpuId) (at lock : LockId) (name : N) (hit : Bool) (past : List (Action N)) → IsFree lock past
     → IsFree lock (Give cpu at name ∷ Try cpu at hit ∷ Take cpu at ∷ past)
-free_after cpu at lock name hit past free = kept_equal (same_lock lock at) (takes lock past) (gives lock past) free
+free_after cpu at lock name hit past free = grind arith
 
 -- where every lock is free, it is so again after a section
 pub free_again : {N : Type 0} (cpu : CpuId) (at : LockId) (name : N) (hit : Bool) (past : List (Action N)) → AreFree past
@@ -43,19 +32,7 @@ free_again cpu at name hit past free lock = free_after cpu at lock name hit past
 -- the next three actions of a CPU that rests, alone at a free lock, are one section
 pub three_are_one : {N : Type 0} (cpu : CpuId) (lock : LockId) (name : N) (past : List (Action N)) → phase cpu past ≡ Rests → IsFree lock past
     → IsOneSection cpu lock name past
-three_are_one cpu lock name past rests free =
-    let first = next_action cpu lock name past in
-    let second = next_action cpu lock name (first ∷ past) in
-    let e1 : first ≡ Take cpu lock = first_action cpu lock name past rests in
-    let e2 : second ≡ Try cpu lock true = ap (λ a. next_action cpu lock name (a ∷ past)) e1 ∙ second_action cpu lock name past free in
-    let e3 : next_action cpu lock name (second ∷ first ∷ past) ≡ Give cpu lock name =
-    ap (λ b. next_action cpu lock name (b ∷ first ∷ past)) e2 ∙ third_action cpu lock name (first ∷ past) in (
-      e1,
-      e2,
-      e3,
-      λ i. sections_in (e3 i ∷ e2 i ∷ e1 i ∷ past),
-      subst (λ actions. IsFree lock actions) (sym (λ i. e3 i ∷ e2 i ∷ e1 i ∷ past)) (free_after cpu lock lock name true past free),
-    )
+three_are_one cpu lock name past rests free = grind (arith, first_action, second_action, third_action, free_after)
 
 -- where each CPU of the machine rests, every lock is free
 pub free_where_all_rest : {N : Type 0} (actions : List (Action N)) → AreLegal actions → ((c : CpuId) → c.0 < CPUS → phase c actions ≡ Rests) → AreFree actions

@@ -1,5 +1,5 @@
 -- What truth values tell.
-use Rattle.std.proofs.Common.{◌≡◌, Bool, true, false, Option, Some, None, is_some, refl}
+use Rattle.std.proofs.Common.{arith, ◌≡◌, Bool, true, false, Option, None, is_some}
 
 -- a test does not fail and pass
 pub refuted : {A : Type 0} {b : Bool} → b ≡ false → b ≡ true → A
@@ -7,5 +7,4 @@ refuted off on = absurd (cc (off, on))
 
 -- what is nothing
 pub none_of : {A : Type 0} (o : Option A) → is_some o ≡ false → o ≡ None
-none_of None is = refl
-none_of (Some a) is = absurd cc
+none_of o is = grind arith

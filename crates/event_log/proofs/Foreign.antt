@@ -1,12 +1,9 @@
 -- Events of other CPUs: they change nothing of a CPU's own, and where a holder acts for every CPU there are none.
-use Rattle.std.proofs.Common.{◌≡◌, ◌<◌, Bool, true, false, List, [], ◌∷◌, ◌++◌, if◌then◌else◌, refl, ap, sym, subst, ◌∙◌}
-use Rattle.event_log.specs.{declared.ids.CpuId.CpuId, declared.ids.TheConstants.CPUS, declared.events.Event.Event, declared.events.Event.TheVariants.Draw}
-use Rattle.event_log.specs.{declared.events.Event.TheVariants.Look, declared.events.Event.TheVariants.Free, History.same_cpu, History.own_events}
-use Rattle.event_log.specs.{History.IsLawful, History.AreOthers, WordsLog.cpu_of_event, WordsLog.lock_phase, WordsLog.IsLegalWords, Actions.Action}
-use Rattle.event_log.specs.{Actions.Take, Actions.Try, Actions.Give, Actions.phase, Actions.cpu_of_action, Actions.spot_of, Actions.MayAct, Actions.AreLegal}
-use Rattle.event_log.specs.{Actions.act_of, Actions.acts_of, Sections.cpu_of_section, Sections.sections_of, Sections.sections_in}
-use Rattle.event_log.proofs.{Same.same_lock_self, Exclusion.is_at, Exclusion.phase_other, Exclusion.spot_other, Exclusion.knows, Tickets.lock_phase_other}
-use Rattle.event_log.proofs.{Tickets.legal_acts, Tickets.cpu_of_action_is}
+use Rattle.std.proofs.Common.{arith, ◌≡◌, ◌<◌, false, List, [], ◌∷◌, ◌++◌, if◌then◌else◌, refl, ap, sym, subst, ◌∙◌}
+use Rattle.event_log.specs.{declared.{ids.{CpuId.CpuId, TheConstants.CPUS}, events.Event.Event}, History.{same_cpu, own_events, IsLawful, AreOthers}}
+use Rattle.event_log.specs.{WordsLog.{cpu_of_event, lock_phase, IsLegalWords}, Actions.{Action, Take, Try, Give, phase, cpu_of_action, spot_of, MayAct}}
+use Rattle.event_log.{specs.{Actions.{AreLegal, act_of, acts_of}, Sections.{cpu_of_section, sections_of, sections_in}}, proofs.Same.same_lock_self}
+use Rattle.event_log.proofs.{Exclusion.{is_at, phase_other, spot_other, knows}, Tickets.{lock_phase_other, legal_acts, cpu_of_action_is}}
 
 -- Any relation and any event.
 
@@ -21,13 +18,7 @@ others_both by c (e ∷ more) past first second = (first.0, others_both by c mor
 
 pub own_append : {E : Type 0} (by : E → CpuId) (c : CpuId) (more past : List E) → own_events by c (more ++ past) ≡ own_events by c more ++ own_events by c past
 own_append by c [] past = refl
-own_append by c (e ∷ more) past = own_more (same_cpu (by e) c) e (own_events by c more) (own_events by c past) (own_events by c (more ++ past))
-    (own_append by c more past)
-  where
-    own_more : {E : Type 0} (b : Bool) (e : E) (xs ys whole : List E) → whole ≡ xs ++ ys
-        → (if b then e ∷ whole else whole) ≡ (if b then e ∷ xs else xs) ++ ys
-    own_more true e xs ys whole is = ap (λ z. e ∷ z) is
-    own_more false e xs ys whole is = is
+own_append by c (e ∷ more) past = grind (arith, own_append by c more past)
 
 -- a CPU has none of its own among the events of others
 pub own_none : {E : Type 0} (by : E → CpuId) (c : CpuId) (others : List E) → AreOthers by c others → own_events by c others ≡ []
@@ -70,16 +61,11 @@ cpus_of_actions_known (a ∷ past) legal = (cpu_of_action_known a past legal.0 l
 pub sections_of-append : {M E : Type 0} (edit : M → E) (more past : List (Event M))
     → sections_of edit (more ++ past) ≡ sections_of edit more ++ sections_of edit past
 sections_of-append edit [] past = refl
-sections_of-append edit (Draw cpu lock ticket ∷ more) past = sections_of-append edit more past
-sections_of-append edit (Look cpu lock ticket read ∷ more) past = sections_of-append edit more past
-sections_of-append edit (Free cpu lock mark ∷ more) past =
-    ap (λ s. record { cpu = cpu; lock = lock; edit = edit mark } ∷ s) (sections_of-append edit more past)
+sections_of-append edit (e ∷ more) past = grind (arith, sections_of-append edit more past)
 
 pub sections_in-append : {N : Type 0} (more past : List (Action N)) → sections_in (more ++ past) ≡ sections_in more ++ sections_in past
 sections_in-append [] past = refl
-sections_in-append (Take cpu lock ∷ more) past = sections_in-append more past
-sections_in-append (Try cpu lock hit ∷ more) past = sections_in-append more past
-sections_in-append (Give cpu lock name ∷ more) past = ap (λ s. record { cpu = cpu; lock = lock; edit = name } ∷ s) (sections_in-append more past)
+sections_in-append (a ∷ more) past = grind (arith, sections_in-append more past)
 
 pub acts_of-append : {M N : Type 0} (name : M → N) (more past : List (Event M)) → acts_of name (more ++ past) ≡ acts_of name more ++ acts_of name past
 acts_of-append name [] past = refl
@@ -88,9 +74,7 @@ acts_of-append name (e ∷ more) past = ap (λ acts. act_of name e ∷ acts) (ac
 -- the sections of a words log are those of its actions
 pub sections_acts : {M N : Type 0} (name : M → N) (log : List (Event M)) → sections_in (acts_of name log) ≡ sections_of name log
 sections_acts name [] = refl
-sections_acts name (Draw cpu lock ticket ∷ past) = sections_acts name past
-sections_acts name (Look cpu lock ticket read ∷ past) = sections_acts name past
-sections_acts name (Free cpu lock mark ∷ past) = ap (λ s. record { cpu = cpu; lock = lock; edit = name mark } ∷ s) (sections_acts name past)
+sections_acts name (e ∷ past) = grind (arith, sections_acts name past)
 
 pub others_acts : {M N : Type 0} (name : M → N) (c : CpuId) (others : List (Event M)) → AreOthers cpu_of_event c others
     → AreOthers cpu_of_action c (acts_of name others)
@@ -100,24 +84,18 @@ others_acts name c (e ∷ others) foreign = (subst (λ d. same_cpu d c ≡ false
 pub others_sections_in : {N : Type 0} (c : CpuId) (others : List (Action N)) → AreOthers cpu_of_action c others
     → AreOthers cpu_of_section c (sections_in others)
 others_sections_in c [] foreign = tt
-others_sections_in c (Take cpu lock ∷ others) foreign = others_sections_in c others foreign.1
-others_sections_in c (Try cpu lock hit ∷ others) foreign = others_sections_in c others foreign.1
-others_sections_in c (Give cpu lock name ∷ others) foreign = (foreign.0, others_sections_in c others foreign.1)
+others_sections_in c (a ∷ others) foreign = grind (arith, others_sections_in c others foreign.1)
 
 pub others_sections_of : {M E : Type 0} (edit : M → E) (c : CpuId) (others : List (Event M)) → AreOthers cpu_of_event c others
     → AreOthers cpu_of_section c (sections_of edit others)
 others_sections_of edit c [] foreign = tt
-others_sections_of edit c (Draw cpu lock ticket ∷ others) foreign = others_sections_of edit c others foreign.1
-others_sections_of edit c (Look cpu lock ticket read ∷ others) foreign = others_sections_of edit c others foreign.1
-others_sections_of edit c (Free cpu lock mark ∷ others) foreign = (foreign.0, others_sections_of edit c others foreign.1)
+others_sections_of edit c (e ∷ others) foreign = grind (arith, others_sections_of edit c others foreign.1)
 
 -- whose section it is is a CPU of the machine
 pub sections_in_known : {N : Type 0} (actions : List (Action N)) → IsLawful (λ before a. (cpu_of_action a).0 < CPUS) actions
     → IsLawful (λ before s. s.cpu.0 < CPUS) (sections_in actions)
 sections_in_known [] known = tt
-sections_in_known (Take cpu lock ∷ past) known = sections_in_known past known.1
-sections_in_known (Try cpu lock hit ∷ past) known = sections_in_known past known.1
-sections_in_known (Give cpu lock name ∷ past) known = (known.0, sections_in_known past known.1)
+sections_in_known (a ∷ past) known = grind (arith, sections_in_known past known.1)
 
 pub sections_of_known : {M E : Type 0} (edit : M → E) (log : List (Event M)) → IsLegalWords log → IsLawful (λ before s. s.cpu.0 < CPUS) (sections_of edit log)
 sections_of_known edit log legal =

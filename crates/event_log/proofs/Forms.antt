@@ -1,17 +1,13 @@
 -- The form to read aloud and the recursion on the history say the same, for every relation.
-use Rattle.std.proofs.Common.{◌≡◌, List, [], ◌∷◌, ◌++◌, reverse, refl, ap, sym, subst, ◌∙◌, append_assoc}
-use Rattle.std.proofs.lemmas.List.{reverse-append, reverse-reverse}
-use Rattle.event_log.specs.{History.IsLawful, Forms.IsLawfulLog}
+use Rattle.std.proofs.{Common.{arith, ◌≡◌, List, [], ◌∷◌, ◌++◌, reverse, refl, ap, sym, subst, ◌∙◌, append_assoc}, lemmas.List.reverse-append}
+use Rattle.{std.proofs.lemmas.List.reverse-reverse, event_log.specs.{History.IsLawful, Forms.IsLawfulLog}}
 
 -- in a lawful history each event may follow what was before it
 pub splits_from : {E : Type 0} (May : List E → E → Type 0) (history later : List E) (e : E) (past : List E)
     → IsLawful May history → history ≡ later ++ (e ∷ past) → May past e
 splits_from May [] [] e past lawful split = absurd cc
 splits_from May [] (l ∷ later) e past lawful split = absurd cc
-splits_from May (x ∷ history) [] e past lawful split =
-    let same : x ≡ e = cc (split) in
-    let rest : history ≡ past = cc (split) in
-    subst (λ y. May past y) same (subst (λ h. May h x) rest lawful.0)
+splits_from May (x ∷ history) [] e past lawful split = let may = lawful.0 in grind arith
 splits_from May (x ∷ history) (l ∷ later) e past lawful split = splits_from May history later e past lawful.1 (cc (split))
 
 -- a history in which each event may follow what was before it is lawful
@@ -27,8 +23,7 @@ turned before e later =
     reverse-append before (e ∷ later) ∙ (ap (λ r. r ++ reverse before) (reverse-append (e ∷ []) later) ∙ append_assoc (reverse later) (e ∷ []) (reverse before))
 
 pub log_from_history : {E : Type 0} (May : List E → E → Type 0) (log : List E) → IsLawful May (reverse log) → IsLawfulLog May log
-log_from_history May log lawful before e later split =
-    splits_from May (reverse log) (reverse later) e (reverse before) lawful (ap reverse split ∙ turned before e later)
+log_from_history May log lawful before e later split = grind (arith, splits_from, turned)
 
 pub history_from_log : {E : Type 0} (May : List E → E → Type 0) (log : List E) → IsLawfulLog May log → IsLawful May (reverse log)
 history_from_log May log lawful = from_splits May (reverse log) (λ later e past split.
@@ -39,13 +34,11 @@ history_from_log May log lawful = from_splits May (reverse log) (λ later e past
 pub log_push : {E : Type 0} (May : List E → E → Type 0) (log : List E) (e : E)
     → IsLawfulLog May log → May (reverse log) e → IsLawfulLog May (log ++ (e ∷ []))
 log_push May log e lawful may =
-    let whole : reverse (log ++ (e ∷ [])) ≡ e ∷ reverse log = reverse-append log (e ∷ []) in
-    log_from_history May (log ++ (e ∷ [])) (subst (IsLawful May) (sym whole) (may, history_from_log May log lawful))
+    log_from_history May (log ++ (e ∷ [])) (rw (reverse-append log (e ∷ [])) (may, history_from_log May log lawful))
 
 -- the newest event of a lawful log may follow the rest of it
 pub log_last : {E : Type 0} (May : List E → E → Type 0) (log : List E) (e : E)
     → IsLawfulLog May (log ++ (e ∷ [])) → IsLawfulLog May log × May (reverse log) e
 log_last May log e lawful =
-    let whole : reverse (log ++ (e ∷ [])) ≡ e ∷ reverse log = reverse-append log (e ∷ []) in
-    let parts : IsLawful May (e ∷ reverse log) = subst (IsLawful May) whole (history_from_log May (log ++ (e ∷ [])) lawful) in
+    let parts = rw (reverse-append log (e ∷ [])) at (history_from_log May (log ++ (e ∷ [])) lawful) in
     (log_from_history May log parts.1, parts.0)

@@ -1,13 +1,10 @@
 -- Reads of lists, also of those that were written.
-use Rattle.std.proofs.Common.{◌≡◌, ◌≢◌, ℕ, zero, suc, ◌+◌, ◌<◌, List, [], ◌∷◌, length, drop, get_or, replicate, Some, slice_set, refl, ap, sym, ◌∙◌, arith}
-use Rattle.std.specs.Prelude.{slice_get}
-use Rattle.std.proofs.lemmas.List.{drop_more}
+use Rattle.std.proofs.Common.{◌≡◌, ◌≢◌, ℕ, zero, suc, ◌+◌, ◌<◌, List, [], ◌∷◌, length, drop, get_or, replicate, Some, slice_set, length-set, refl, ap, sym, ◌∙◌}
+use Rattle.std.{proofs.{Common.arith, lemmas.{Option.slice_get_read, List.{drop_more, get_or-set_same}}}, specs.Prelude.slice_get}
 
 -- what was written is read
 pub set_there : {X : Type 0} (xs : List X) (i : ℕ) (x : X) → i < length xs → slice_get (slice_set xs i x) i ≡ Some x
-set_there [] i x within = absurd (omega arith)
-set_there (z ∷ zs) zero x within = refl
-set_there (z ∷ zs) (suc i) x within = set_there zs i x (omega arith)
+set_there xs i x within = slice_get_read (slice_set xs i x) (length xs) i x (sym (length-set xs i x)) within (sym (get_or-set_same xs i x x within))
 
 -- a write elsewhere changes nothing
 pub set_else : {X : Type 0} (xs : List X) (i j : ℕ) (x : X) → j ≢ i → slice_get (slice_set xs i x) j ≡ slice_get xs j

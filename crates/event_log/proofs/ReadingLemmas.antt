@@ -1,6 +1,6 @@
 -- The loops that read parts one after another: what is read so far, and what is left.
-use Rattle.std.proofs.Common.{◌≡◌, ℕ, ◌+◌, ◌<◌, ◌≤◌, List, [], ◌∷◌, ◌++◌, length, get_or, drop, map, Option, Some, None, Result, Ok, Err, option_map}
-use Rattle.std.proofs.Common.{option_and_then, refl, sym, ◌∙◌, ap, add-one, drop-cons, drop_of_length-le, append_assoc, append-nil}
+use Rattle.std.proofs.Common.{arith, ◌≡◌, ℕ, ◌+◌, ◌<◌, ◌≤◌, List, [], ◌∷◌, ◌++◌, length, get_or, drop, map, Option, Some, None, Result, Ok, Err, option_map}
+use Rattle.std.proofs.Common.{option_and_then, sym, ◌∙◌, ap, add-one, drop-cons, drop_of_length-le, append_assoc, append-nil}
 use Rattle.event_log.specs.Reading.{◌>>=◌, read_from, all_as}
 
 -- what is read so far stands in front of the rest
@@ -12,27 +12,18 @@ abbrev pub left_from : {X A B E : Type 0} → (X → A) → (ℕ → A → Resul
 left_from view read xs i = read_from read i (map view (drop i xs))
 
 module _ {X A B E : Type 0} (view : X → A) (read : ℕ → A → Result B E) where
-  after_one : (front : List B) (y : B) (rest : Result (List B) E) → after front (rest >>= λ ys. Ok (y ∷ ys)) ≡ after (front ++ y ∷ []) rest
-  after_one front y (Ok ys) = ap Ok (sym (append_assoc front (y ∷ []) ys))
-  after_one front y (Err e) = refl
-
-  after_none : (rest : Result (List B) E) → after [] rest ≡ rest
-  after_none (Ok ys) = refl
-  after_none (Err e) = refl
-
   left_at : (xs : List X) (i : ℕ) (d : X) → i < length xs → left_from view read xs i
       ≡ (read i (view (get_or xs i d)) >>= λ y. left_from view read xs (i + 1) >>= λ ys. Ok (y ∷ ys))
   left_at xs i d h = ap (λ rest. read_from read i (map view rest)) (drop-cons xs i d h ∙ ap (λ k. get_or xs i d ∷ drop k xs) (sym (add-one i)))
 
   -- before the first part
   pub read_none : (xs : List X) → after [] (left_from view read xs 0) ≡ read_from read 0 (map view xs)
-  read_none xs = after_none (read_from read 0 (map view xs))
+  read_none xs = grind arith
 
   -- a part that reads as `y`
   pub read_one : (xs : List X) (i : ℕ) (d : X) (front : List B) (y : B) → i < length xs → read i (view (get_or xs i d)) ≡ Ok y
       → after (front ++ y ∷ []) (left_from view read xs (i + 1)) ≡ after front (left_from view read xs i)
-  read_one xs i d front y h e = sym (ap (after front) (left_at xs i d h ∙ ap (λ r. r >>= λ z. left_from view read xs (i + 1) >>= λ ys. Ok (z ∷ ys)) e)
-      ∙ after_one front y (left_from view read xs (i + 1)))
+  read_one xs i d front y h e = grind (arith, left_at xs i d h, append_assoc)
 
   -- a part with a fault
   pub read_fault : (xs : List X) (i : ℕ) (d : X) (front : List B) (e : E) → i < length xs → read i (view (get_or xs i d)) ≡ Err e
@@ -51,31 +42,20 @@ abbrev pub left_as : {X A B : Type 0} → (X → A) → (A → Option B) → Lis
 left_as view kind xs i = all_as kind (map view (drop i xs))
 
 module _ {X A B : Type 0} (view : X → A) (kind : A → Option B) where
-  front_one : (front : List B) (y : B) (rest : Option (List B)) → with_front front (option_map (λ ys. y ∷ ys) rest) ≡ with_front (front ++ y ∷ []) rest
-  front_one front y (Some ys) = ap Some (sym (append_assoc front (y ∷ []) ys))
-  front_one front y None = refl
-
-  front_none : (rest : Option (List B)) → with_front [] rest ≡ rest
-  front_none (Some ys) = refl
-  front_none None = refl
-
   seen_at : (xs : List X) (i : ℕ) (d : X) → i < length xs → left_as view kind xs i
       ≡ option_and_then (λ y. option_map (λ ys. y ∷ ys) (left_as view kind xs (i + 1))) (kind (view (get_or xs i d)))
   seen_at xs i d h = ap (λ rest. all_as kind (map view rest)) (drop-cons xs i d h ∙ ap (λ k. get_or xs i d ∷ drop k xs) (sym (add-one i)))
 
   pub seen_none : (xs : List X) → with_front [] (left_as view kind xs 0) ≡ all_as kind (map view xs)
-  seen_none xs = front_none (all_as kind (map view xs))
+  seen_none xs = grind arith
 
   pub seen_one : (xs : List X) (i : ℕ) (d : X) (front : List B) (y : B) → i < length xs → kind (view (get_or xs i d)) ≡ Some y
       → with_front (front ++ y ∷ []) (left_as view kind xs (i + 1)) ≡ with_front front (left_as view kind xs i)
-  seen_one xs i d front y h e =
-      sym (ap (with_front front) (seen_at xs i d h ∙ ap (option_and_then (λ z. option_map (λ ys. z ∷ ys) (left_as view kind xs (i + 1)))) e)
-      ∙ front_one front y (left_as view kind xs (i + 1)))
+  seen_one xs i d front y h e = grind (arith, seen_at xs i d h, append_assoc)
 
   pub seen_other : (xs : List X) (i : ℕ) (d : X) (front : List B) → i < length xs → kind (view (get_or xs i d)) ≡ None
       → with_front front (left_as view kind xs i) ≡ None
-  seen_other xs i d front h other =
-      ap (with_front front) (seen_at xs i d h ∙ ap (option_and_then (λ z. option_map (λ ys. z ∷ ys) (left_as view kind xs (i + 1)))) other)
+  seen_other xs i d front h other = grind (arith, seen_at xs i d h)
 
   pub seen_all : (xs : List X) (i : ℕ) (front : List B) → length xs ≤ i → with_front front (left_as view kind xs i) ≡ Some front
   seen_all xs i front h = ap (λ rest. with_front front (all_as kind (map view rest))) (drop_of_length-le xs h) ∙ ap Some (append-nil front)

@@ -1,42 +1,21 @@
 -- Actions under other names: nothing changes but the names of the sections.
-use Rattle.std.proofs.Common.{◌≡◌, ◌+◌, List, [], ◌∷◌, ◌==◌, if◌then◌else◌, map, refl, ap, sym, ◌∙◌}
-use Rattle.event_log.specs.{declared.ids.CpuId.CpuId, declared.ids.LockId.LockId, History.same_cpu, History.AreOthers, Actions.Action, Actions.Take}
-use Rattle.event_log.specs.{Actions.Try, Actions.Give, Actions.Phase, Actions.Rests, Actions.Waits, Actions.Holds, Actions.phase, Actions.left_in}
-use Rattle.event_log.specs.{Actions.cpu_of_action, Actions.spot_of, Actions.takes, Actions.gives, Actions.is_take, Actions.is_give, Actions.MayAct}
-use Rattle.event_log.specs.{Actions.AreLegal, Actions.action_in, Actions.next_action, Actions.renamed, Sections.renamed_section, Sections.sections_in}
+use Rattle.std.proofs.Common.{arith, ◌≡◌, List, [], ◌∷◌, ◌==◌, if◌then◌else◌, map, refl, sym, ◌∙◌}
+use Rattle.event_log.specs.{declared.ids.{CpuId.CpuId, LockId.LockId}, History.{same_cpu, AreOthers}, Actions.{Action, Take, Try, Give, Phase, Rests, Waits}}
+use Rattle.event_log.specs.Actions.{Holds, phase, cpu_of_action, spot_of, takes, gives, MayAct, AreLegal, action_in, next_action, renamed}
+use Rattle.event_log.specs.Sections.{renamed_section, sections_in}
 
 module _ {N L : Type 0} (f : N → L) where
-  cpu_of_action_renamed : (a : Action N) → cpu_of_action (renamed f a) ≡ cpu_of_action a
-  cpu_of_action_renamed (Take cpu lock) = refl
-  cpu_of_action_renamed (Try cpu lock hit) = refl
-  cpu_of_action_renamed (Give cpu lock name) = refl
-
-  left_in_renamed : (a : Action N) → left_in (renamed f a) ≡ left_in a
-  left_in_renamed (Take cpu lock) = refl
-  left_in_renamed (Try cpu lock hit) = refl
-  left_in_renamed (Give cpu lock name) = refl
-
   pub phase_renamed : (c : CpuId) (past : List (Action N)) → phase c (map (renamed f) past) ≡ phase c past
   phase_renamed c [] = refl
-  phase_renamed c (a ∷ past) = λ i. if same_cpu (cpu_of_action_renamed a i) c then left_in_renamed a i else phase_renamed c past i
-
-  is_take_renamed : (lock : LockId) (a : Action N) → is_take lock (renamed f a) ≡ is_take lock a
-  is_take_renamed lock (Take cpu at) = refl
-  is_take_renamed lock (Try cpu at hit) = refl
-  is_take_renamed lock (Give cpu at name) = refl
-
-  is_give_renamed : (lock : LockId) (a : Action N) → is_give lock (renamed f a) ≡ is_give lock a
-  is_give_renamed lock (Take cpu at) = refl
-  is_give_renamed lock (Try cpu at hit) = refl
-  is_give_renamed lock (Give cpu at name) = refl
+  phase_renamed c (a ∷ past) = grind (arith, phase_renamed c past)
 
   pub takes_renamed : (lock : LockId) (past : List (Action N)) → takes lock (map (renamed f) past) ≡ takes lock past
   takes_renamed lock [] = refl
-  takes_renamed lock (a ∷ past) = λ i. if is_take_renamed lock a i then takes_renamed lock past i + 1 else takes_renamed lock past i
+  takes_renamed lock (a ∷ past) = grind (arith, takes_renamed lock past)
 
   pub gives_renamed : (lock : LockId) (past : List (Action N)) → gives lock (map (renamed f) past) ≡ gives lock past
   gives_renamed lock [] = refl
-  gives_renamed lock (a ∷ past) = λ i. if is_give_renamed lock a i then gives_renamed lock past i + 1 else gives_renamed lock past i
+  gives_renamed lock (a ∷ past) = grind (arith, gives_renamed lock past)
 
   pub spot_renamed : (c : CpuId) (past : List (Action N)) → spot_of c (map (renamed f) past) ≡ spot_of c past
   spot_renamed c [] = refl
@@ -64,15 +43,12 @@ module _ {N L : Type 0} (f : N → L) where
   -- the next action is the same, under the other name
   pub next_action_renamed : (cpu : CpuId) (lock : LockId) (name : N) (past : List (Action N))
       → next_action cpu lock (f name) (map (renamed f) past) ≡ renamed f (next_action cpu lock name past)
-  next_action_renamed cpu lock name past =
-      ap (action_in cpu lock (f name) (map (renamed f) past)) (phase_renamed cpu past) ∙ action_in_renamed cpu lock name past (phase cpu past)
+  next_action_renamed cpu lock name past = grind (arith, phase_renamed, action_in_renamed)
 
   pub others_renamed : (c : CpuId) (others : List (Action N)) → AreOthers cpu_of_action c others → AreOthers cpu_of_action c (map (renamed f) others)
   others_renamed c [] foreign = tt
-  others_renamed c (a ∷ others) foreign = (ap (λ d. same_cpu d c) (cpu_of_action_renamed a) ∙ foreign.0, others_renamed c others foreign.1)
+  others_renamed c (a ∷ others) foreign = grind (arith, others_renamed c others foreign.1)
 
   pub sections_in_renamed : (past : List (Action N)) → sections_in (map (renamed f) past) ≡ map (renamed_section f) (sections_in past)
   sections_in_renamed [] = refl
-  sections_in_renamed (Take cpu lock ∷ past) = sections_in_renamed past
-  sections_in_renamed (Try cpu lock hit ∷ past) = sections_in_renamed past
-  sections_in_renamed (Give cpu lock name ∷ past) = ap (λ s. record { cpu = cpu; lock = lock; edit = f name } ∷ s) (sections_in_renamed past)
+  sections_in_renamed (a ∷ past) = grind (arith, sections_in_renamed past)

@@ -1,9 +1,8 @@
 -- Lemmas on the part of a table that holds a queue.
-use Rattle.std.proofs.Common.{◌≡◌, ℕ, ◌+◌, ◌-◌, ◌%◌, ◌<◌, ◌≤◌, ◌⊎◌, List, [], ◌∷◌, ◌++◌, length, get_or, set, ap, ◌∙◌, ap₂, inl, inr, mod-eq_of_lt, arith}
-use Rattle.std.proofs.Common.{length-append, length-drop, length-set, length-take-le, get_or-drop, get_or-take}
-use Rattle.std.proofs.lemmas.{List.same_lists, List.drop_more, List.get_or_append_left, List.get_or-append_right, Bool.cases_lt, Grind.common_steps}
-use Rattle.event_log.specs.Rings.{window}
-use native.Mathlib.Nat.{mod-eq-sub-mod, mod-add-mod}
+use Rattle.std.proofs.Common.{◌≡◌, ℕ, ◌+◌, ◌-◌, ◌%◌, ◌<◌, ◌≤◌, ◌⊎◌, List, [], ◌∷◌, ◌++◌, length, get_or, set, ◌∙◌, inl, inr, mod-eq_of_lt, arith, length-append}
+use Rattle.std.proofs.{Common.{length-drop, length-set, length-take-le, get_or-drop, get_or-take}, lemmas.List.{same_lists, drop_more, get_or_append_left}}
+use Rattle.{std.proofs.lemmas.{List.get_or-append_right, Bool.cases_lt, Grind.common_steps}, event_log.specs.Rings.window}
+use native.Mathlib.Nat.{mod-eq-sub-mod}
 
 -- an index below 2 N wraps once at most
 mod_wraps_once : (N j : ℕ) → j < N + N → ((j < N) × (j % N ≡ j)) ⊎ ((N ≤ j) × (j % N ≡ j - N))
@@ -19,13 +18,7 @@ module _ {A : Type 0} (N k n : ℕ) (xs : List A) (start_in_range : k < N) (len_
 
   -- item i of the window is slot (k + i) % N, which is before the end of the table or past it
   pub get_or-window : (i : ℕ) (d : A) → i < n → get_or (window k n xs) i d ≡ get_or xs ((k + i) % N) d
-  get_or-window i d in_range =
-      let length_tail = length-drop k xs in
-      get_or-take n _ i d in_range ∙ elim (mod_wraps_once N (k + i) (omega arith)) [
-        | inl unwrapped ↦ get_or_append_left _ _ d i (omega arith) ∙ get_or-drop k xs i d ∙ ap (λ j. get_or xs j d) (omega arith)
-        | inr wrapped ↦ get_or-append_right _ _ (N - k) i d (omega arith) (omega arith) ∙ get_or-take k xs _ d (omega arith)
-            ∙ ap (λ j. get_or xs j d) (omega arith)
-      ]
+  get_or-window i d in_range = grind (arith, length-drop, get_or-take, mod_wraps_once, get_or_append_left, get_or-drop, get_or-append_right)
 
 -- A second block, since these use the lemmas above at other windows.
 module _ {A : Type 0} (N k n : ℕ) (xs : List A) (start_in_range : k < N) (len_fits : n ≤ N) (length_xs : length xs ≡ N) where
@@ -47,17 +40,4 @@ module _ {A : Type 0} (N k n : ℕ) (xs : List A) (start_in_range : k < N) (len_
 
   -- the window is slot k, then the window from the next slot; the tails are compared item by item
   pub window_before_pop : (d : A) → 0 < n → window k n xs ≡ get_or xs k d ∷ window ((k + 1) % N) (n - 1) xs
-  window_before_pop d nonempty =
-      let next_in_range : (k + 1) % N < N = grind (arith, mod_wraps_once N (k + 1) (omega arith)) in
-      let length_old = length-window N k n xs start_in_range len_fits length_xs in
-      let length_new = length-window N ((k + 1) % N) (n - 1) xs next_in_range (omega arith) length_xs in
-      let old_item = get_or-window N k n xs start_in_range len_fits length_xs in
-      drop_more _ 0 d (omega arith) ∙ ap₂ ◌∷◌ (grind (arith, old_item 0 d, mod_wraps_once N k))
-      (same_lists _ _ (simp length-drop (omega arith)) (λ i d in_range. grind (
-        arith,
-        length-drop 1 (window k n xs),
-        get_or-drop 1 (window k n xs) i d,
-        mod-add-mod (k + 1) N i,
-        old_item (1 + i) d,
-        get_or-window N _ (n - 1) xs next_in_range (omega arith) length_xs i d,
-      )))
+  window_before_pop d nonempty = grind (arith, mod_wraps_once, length-window, get_or-window, drop_more, same_lists, length-drop, get_or-drop)

@@ -1,10 +1,8 @@
 -- How a run grows, and what its entries are by their index.
 use Rattle.std.proofs.Common.{◌≡◌, ℕ, zero, suc, ◌+◌, ◌==◌, Bool, ◌&&◌, if◌then◌else◌, List, [], ◌∷◌, ◌++◌, take, Some, refl, sym, ap, ◌∙◌, append_assoc, arith}
-use Rattle.std.specs.Prelude.{slice_get}
-use Rattle.std.proofs.lemmas.{Bool.eq-eqb, List.append-nil, List.Sums.sum_by-cons, List.Sums.sum_by_push}
-use Rattle.event_log.specs.{Messages.Message, declared.entries.Entry.Entry, declared.entries.Kind.Kind, Buffers.empty_buffers, Buffers.items_of, Runs.IsNext}
-use Rattle.event_log.specs.{Runs.IsRunFrom, Runs.IsRun, Runs.after_entry, Runs.contents_from, Runs.count_of, Runs.count_of_kind, Runs.kind_eq}
-use Rattle.event_log.specs.{Traces.HasOpOrderFrom}
+use Rattle.{std.{proofs.lemmas.{Bool.eq-eqb, List.{append-nil, Sums.{sum_by-cons, sum_by_push}}}, specs.Prelude.slice_get}, event_log.specs.Messages.Message}
+use Rattle.event_log.specs.{declared.entries.{Entry.Entry, Kind.Kind}, Buffers.{empty_buffers, items_of}, Runs.{IsNext, IsRunFrom, IsRun, after_entry}}
+use Rattle.event_log.specs.{Runs.{contents_from, count_of, count_of_kind, kind_eq}, Traces.HasOpOrderFrom}
 
 -- one entry more
 pub run_from_more : (caps : List ℕ) (earlier : List Entry) (contents : List (List Message)) (es : List Entry) (left : List (List Message)) (e : Entry)

@@ -1,8 +1,7 @@
 -- Tests whether two CPUs or two locks are one.
-use Rattle.std.proofs.Common.{◌≡◌, ◌≢◌, ℕ, true, false, refl, ap, arith}
-use Rattle.std.proofs.lemmas.Bool.{eq-eqb, eqb-true}
-use Rattle.event_log.specs.{declared.ids.BufId.BufId, declared.ids.CpuId.CpuId, declared.ids.LockId.LockId, declared.ids.LockId.TheVariants.Pending}
-use Rattle.event_log.specs.{declared.ids.LockId.TheVariants.Buffer, History.same_cpu, History.same_lock, Locks.lock_number}
+use Rattle.std.proofs.{Common.{◌≡◌, ◌≢◌, ℕ, true, false, refl, ap, arith}, lemmas.Bool.{eq-eqb, eqb-true}}
+use Rattle.event_log.specs.{declared.ids.{BufId.BufId, CpuId.CpuId, LockId.{LockId, TheVariants.{Pending, Buffer}}}, History.{same_cpu, same_lock}}
+use Rattle.event_log.specs.Locks.{lock_number}
 
 abbrev pub cpu_numbered : ℕ → CpuId
 cpu_numbered n = record { 0 = n }
@@ -21,17 +20,11 @@ same_lock_self (Pending a) = same_cpu_self a
 same_lock_self (Buffer a) = eq-eqb a.0 a.0 refl
 
 pub same_lock_true : (a b : LockId) → same_lock a b ≡ true → a ≡ b
-same_lock_true (Pending a) (Pending b) same = ap Pending (same_cpu_true a b same)
-same_lock_true (Buffer a) (Buffer b) same = ap (λ n. Buffer (buffer_numbered n)) (eqb-true a.0 b.0 same)
-same_lock_true (Pending a) (Buffer b) same = absurd cc
-same_lock_true (Buffer a) (Pending b) same = absurd cc
+same_lock_true a b same = grind (arith, eqb-true)
 
 -- two locks with one number are one lock
 pub lock_number_same : (a b : LockId) → lock_number a ≡ lock_number b → same_lock a b ≡ true
-lock_number_same (Pending a) (Pending b) e = eq-eqb a.0 b.0 (omega arith)
-lock_number_same (Buffer a) (Buffer b) e = eq-eqb a.0 b.0 (omega arith)
-lock_number_same (Pending a) (Buffer b) e = absurd (omega arith)
-lock_number_same (Buffer a) (Pending b) e = absurd (omega arith)
+lock_number_same a b e = grind (arith, eq-eqb)
 
 pub lock_number_other : (a b : LockId) → same_lock a b ≡ false → lock_number a ≢ lock_number b
 lock_number_other a b other e = let same : same_lock a b ≡ true = lock_number_same a b e in cc

@@ -1,10 +1,8 @@
 -- Worked logs, newest event first: the definitions accept what they should, and nothing else.
 use Rattle.std.proofs.Common.{◌≡◌, ℕ, ◌+◌, ◌-◌, ◌*◌, List, [], ◌∷◌, Some, refl, arith}
-use Rattle.event_log.specs.declared.{ids.CpuId.CpuId, ids.LockId.LockId, ids.TheConstants.CPUS, ids.LockId.TheVariants.Pending, ids.LockId.TheVariants.Buffer}
-use Rattle.event_log.specs.declared.{events.Event.Event, events.Event.TheVariants.Draw, events.Event.TheVariants.Look, events.Event.TheVariants.Free}
-use Rattle.event_log.specs.declared.grants.GrantEvent.{GrantEvent, TheVariants.Take, TheVariants.Peek, TheVariants.Give}
-use Rattle.event_log.specs.{WordsLog.IsLegalWords, Grants.IsLegalGrants, Grants.grant_word, Sections.sections_of, Sections.block_after}
-use Rattle.event_log.proofs.Same.{cpu_numbered}
+use Rattle.event_log.specs.declared.{ids.{CpuId.CpuId, LockId.{LockId, TheVariants.{Pending, Buffer}}, TheConstants.CPUS}, events.Event.Event}
+use Rattle.event_log.specs.declared.{events.Event.TheVariants.{Draw, Look, Free}, grants.GrantEvent.{GrantEvent, TheVariants.{Take, Peek, Give}}}
+use Rattle.event_log.{specs.{WordsLog.IsLegalWords, Grants.{IsLegalGrants, grant_word}, Sections.{sections_of, block_after}}, proofs.Same.cpu_numbered}
 
 abbrev a : CpuId
 a = cpu_numbered 0
@@ -30,28 +28,7 @@ two_sections_are_legal =
 -- the first CPU draws again while the second one is inside, and enters behind it
 third_section_is_legal : IsLegalWords {M = ℕ} (Look a lock 2 2 ∷ Free b lock 8 ∷ Draw a lock 2 ∷ Look b lock 1 1 ∷ Free a lock 9 ∷ Look b lock 1 0
     ∷ Look a lock 0 0 ∷ Draw b lock 1 ∷ Draw a lock 0 ∷ [])
-third_section_is_legal = (
-  (refl, refl),
-  (
-    (1, refl),
-    (
-      (omega arith, refl, refl),
-      (
-        (refl, refl),
-        (
-          (0, refl),
-          (
-            (refl, refl),
-            (
-              (refl, refl),
-              ((omega arith, refl, refl), ((omega arith, refl, refl), tt)),
-            ),
-          ),
-        ),
-      ),
-    ),
-  ),
-)
+third_section_is_legal = ((refl, refl), ((1, refl), ((omega arith, refl, refl), two_sections_are_legal.1)))
 
 -- each section's edit appends its digit
 two_sections_edit_in_turn : block_after (λ digit block. 10 * block + digit) (λ l. Some 1) lock (sections_of (λ mark. mark) two_sections) ≡ Some 198

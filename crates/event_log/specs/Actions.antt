@@ -1,9 +1,8 @@
 -- What any fair lock's log says, whatever its words are: who took a spot in the line of a lock, tried, and gave the lock on.
 -- A give carries the name of the section that it ends. Newest first, with true numbers.
 use Rattle.std.specs.Prelude.{◌≡◌, ℕ, ◌<◌, Bool, false, List, [], ◌∷◌, ◌==◌, map, if◌then◌else◌}
-use Rattle.event_log.specs.{declared.ids.CpuId.CpuId, declared.ids.LockId.LockId, declared.ids.TheConstants.CPUS, declared.events.Event.Event}
-use Rattle.event_log.specs.{declared.events.Event.TheVariants.Draw, declared.events.Event.TheVariants.Look, declared.events.Event.TheVariants.Free}
-use Rattle.event_log.specs.{History.same_cpu, History.same_lock, History.how_many, History.IsLawful}
+use Rattle.event_log.specs.declared.{ids.{CpuId.CpuId, LockId.LockId, TheConstants.CPUS}, events.Event.{Event, TheVariants.{Draw, Look, Free}}}
+use Rattle.event_log.specs.History.{same_cpu, same_lock, how_many, IsLawful}
 
 -- an action at a lock: a spot in its line is taken, an entry is tried, or the lock is given on by a section of this name
 pub data Action (N : Type 0) : Type 0 where

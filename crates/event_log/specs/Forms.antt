@@ -1,6 +1,6 @@
 -- Lawful logs, to be read aloud: oldest first, and each event may follow what stands before it.
 use Rattle.std.specs.Prelude.{◌≡◌, ◌↔◌, List, [], ◌∷◌, ◌++◌, reverse}
-use Rattle.event_log.specs.{declared.events.Event.Event, WordsLog.MayFollow, WordsLog.IsLegalWords}
+use Rattle.event_log.specs.{declared.events.Event.Event, WordsLog.{MayFollow, IsLegalWords}}
 
 -- wherever the log, oldest first, is split at an event, the event may follow the history of what stands before it
 abbrev pub IsLawfulLog : {E : Type 0} → (List E → E → Type 0) → List E → Type 0

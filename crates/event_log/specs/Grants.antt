@@ -1,9 +1,8 @@
 -- The log of locks with a grant word for each waiter, newest first, and which such logs are legal.
 use Rattle.std.specs.Prelude.{◌≡◌, ℕ, ◌+◌, ◌%◌, ◌^◌, ◌<◌, ◌≤◌, Bool, false, List, [], ◌∷◌, ◌==◌, map, if◌then◌else◌}
-use Rattle.event_log.specs.{declared.ids.CpuId.CpuId, declared.ids.LockId.LockId, declared.ids.TheConstants.CPUS, History.same_cpu, History.same_lock}
-use Rattle.event_log.specs.{History.how_many, History.IsLawful, WordsLog.LockPhase, WordsLog.Idle, WordsLog.Waiting, WordsLog.Holding, Actions.Action}
-use Rattle.event_log.specs.{Actions.Take as TakePlace, Actions.Try as TryEntry, Actions.Give as GiveOn, Actions.AreLegal}
-use Rattle.event_log.specs.declared.grants.GrantEvent.{GrantEvent, TheVariants.Take, TheVariants.Peek, TheVariants.Give}
+use Rattle.event_log.specs.declared.{ids.{CpuId.CpuId, LockId.LockId, TheConstants.CPUS}, grants.GrantEvent.{GrantEvent, TheVariants.{Take, Peek, Give}}}
+use Rattle.event_log.specs.{History.{same_cpu, same_lock, how_many, IsLawful}, WordsLog.{LockPhase, Idle, Waiting, Holding}, Actions.Action}
+use Rattle.event_log.specs.Actions.{Take as TakePlace, Try as TryEntry, Give as GiveOn, AreLegal}
 
 -- the CPU that acts
 abbrev pub cpu_of_grant : {M : Type 0} → GrantEvent M → CpuId

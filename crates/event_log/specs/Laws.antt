@@ -1,10 +1,8 @@
 -- What holds of every legal log, of marks or names of any type.
 use Rattle.std.specs.Prelude.{◌≡◌, ℕ, ◌<◌, ◌≤◌, ◌↔◌, true, false, List, [], ◌∷◌, ◌++◌}
-use Rattle.event_log.specs.{declared.ids.CpuId.CpuId, declared.ids.LockId.LockId, declared.events.Event.Event, declared.events.Event.TheVariants.Draw}
-use Rattle.event_log.specs.{declared.events.Event.TheVariants.Look, declared.events.Event.TheVariants.Free, History.same_cpu, History.own_events}
-use Rattle.event_log.specs.{WordsLog.cpu_of_event, WordsLog.frees, WordsLog.IsLegalWords, WordsLog.Holding, WordsLog.lock_phase, declared.ids.TheConstants.CPUS}
-use Rattle.event_log.specs.{Actions.Action, Actions.Take, Actions.Try, Actions.Give, Actions.Rests, Actions.Holds, Actions.cpu_of_action, Actions.gives}
-use Rattle.event_log.specs.{Actions.phase, Actions.AreLegal, Actions.IsFree, Actions.AreFree, Actions.next_action, Actions.acts_of, Sections.sections_in}
+use Rattle.event_log.specs.declared.{ids.{CpuId.CpuId, LockId.LockId, TheConstants.CPUS}, events.Event.{Event, TheVariants.{Draw, Look, Free}}}
+use Rattle.event_log.specs.{History.{same_cpu, own_events}, WordsLog.{cpu_of_event, frees, IsLegalWords, Holding, lock_phase}, Actions.{Action, Take, Try}}
+use Rattle.event_log.specs.{Actions.{Give, Rests, Holds, cpu_of_action, gives, phase, AreLegal, IsFree, AreFree, next_action, acts_of}, Sections.sections_in}
 
 -- two CPUs never hold one lock
 abbrev pub OneHolds : Type 0 → Type 0

@@ -1,6 +1,5 @@
 -- What an event log shows of itself.
-use Rattle.std.specs.Prelude.{ℕ, List}
-use Rattle.event_log.specs.declared.logs.EventLog.{EventLog}
+use Rattle.{std.specs.Prelude.{ℕ, List}, event_log.specs.declared.logs.EventLog.EventLog}
 
 -- the events of a log, oldest first
 abbrev pub events_in : {E : Type 0} → EventLog E → List E

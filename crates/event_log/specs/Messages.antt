@@ -1,6 +1,5 @@
 -- What a buffer carries: a message is a list of one to eight numbers, its words, and none is spelled by the one word 0.
-use Rattle.std.specs.Prelude.{◌-◌, ◌<◌, ◌≤◌, ◌^◌, ℕ, List, [], ◌∷◌, ◌++◌, length, replicate, slice_index_or}
-use Rattle.std.specs.List.{AllByRecursion}
+use Rattle.std.specs.{Prelude.{◌-◌, ◌<◌, ◌≤◌, ◌^◌, ℕ, List, [], ◌∷◌, ◌++◌, length, replicate, slice_index_or}, List.AllByRecursion}
 use Rattle.event_log.specs.declared.messages.TheConstants.{WORDS}
 
 -- a message

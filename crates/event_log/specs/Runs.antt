@@ -1,8 +1,7 @@
 -- Runs of the machine whose sends, receives and closes are single steps on first-in first-out buffers.
 use Rattle.std.specs.Prelude.{◌≡◌, ℕ, ◌<◌, Bool, true, false, ◌&&◌, ◌==◌, List, [], ◌∷◌, ◌++◌, length, nat_lt, count_by, slice_index, slice_set}
-use Rattle.event_log.specs.{declared.entries.Kind.Kind, declared.entries.Entry.Entry, Messages.Message, Buffers.items_of, Buffers.empty_buffers}
-use Rattle.event_log.specs.{Buffers.IsAllowedEffect, Buffers.after_effect}
-use Rattle.event_log.specs.declared.entries.Kind.TheVariants.{Send, Recv, Close, SendClosed, RecvClosed}
+use Rattle.event_log.specs.{declared.entries.{Kind.{Kind, TheVariants.{Send, Recv, Close, SendClosed, RecvClosed}}, Entry.Entry}, Messages.Message}
+use Rattle.event_log.specs.Buffers.{items_of, empty_buffers, IsAllowedEffect, after_effect}
 
 -- what an effect is counted with: a send that found its buffer closed is a send, and a receive that did is a receive
 pub data Group : Type 0 where

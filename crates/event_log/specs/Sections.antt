@@ -1,7 +1,7 @@
 -- Critical sections, newest first, and the block that they leave.
 use Rattle.std.specs.Prelude.{List, [], ◌∷◌, option_map, Option, if◌then◌else◌}
-use Rattle.event_log.specs.{declared.ids.CpuId.CpuId, declared.ids.LockId.LockId, History.same_lock, Actions.Action, Actions.Take, Actions.Try, Actions.Give}
-use Rattle.event_log.specs.declared.events.Event.{Event, TheVariants.Draw, TheVariants.Look, TheVariants.Free}
+use Rattle.event_log.specs.{declared.{ids.{CpuId.CpuId, LockId.LockId}, events.Event.{Event, TheVariants.{Draw, Look, Free}}}, History.same_lock}
+use Rattle.event_log.specs.Actions.{Action, Take, Try, Give}
 
 -- a section: who edited the block of which lock, and how
 pub record Section (E : Type 0) : Type 0 where

@@ -1,7 +1,7 @@
 -- First in, first out, as a user says it: what came out of each buffer is what went in, in that order, and the rest is left.
 use Rattle.std.specs.Prelude.{◌≡◌, ℕ, ◌==◌, List, [], ◌∷◌, ◌++◌, if◌then◌else◌}
-use Rattle.event_log.specs.{declared.entries.Kind.Kind, declared.entries.Entry.Entry, Messages.Message, Buffers.items_of, Runs.IsRun}
-use Rattle.event_log.specs.declared.entries.Kind.TheVariants.{Send, Recv, Close, SendClosed, RecvClosed}
+use Rattle.event_log.specs.{declared.entries.{Kind.{Kind, TheVariants.{Send, Recv, Close, SendClosed, RecvClosed}}, Entry.Entry}, Messages.Message}
+use Rattle.event_log.specs.{Buffers.items_of, Runs.IsRun}
 
 -- what an effect puts in front of the messages that are put later: a send its message, each other effect none
 abbrev pub put_by : Kind → Message → List Message → List Message

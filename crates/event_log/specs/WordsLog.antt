@@ -1,8 +1,7 @@
 -- The words log: Draws, Looks and Frees of ticket locks, newest first, and which such logs are legal.
 use Rattle.std.specs.Prelude.{◌≡◌, ℕ, ◌%◌, ◌^◌, ◌<◌, Bool, false, List, [], ◌∷◌, ◌==◌, if◌then◌else◌}
-use Rattle.event_log.specs.{declared.ids.CpuId.CpuId, declared.ids.LockId.LockId, declared.ids.TheConstants.CPUS, declared.events.Event.Event}
-use Rattle.event_log.specs.{declared.events.Event.TheVariants.Draw, declared.events.Event.TheVariants.Look, declared.events.Event.TheVariants.Free}
-use Rattle.event_log.specs.{History.same_cpu, History.same_lock, History.how_many, History.IsLawful}
+use Rattle.event_log.specs.declared.{ids.{CpuId.CpuId, LockId.LockId, TheConstants.CPUS}, events.Event.{Event, TheVariants.{Draw, Look, Free}}}
+use Rattle.event_log.specs.History.{same_cpu, same_lock, how_many, IsLawful}
 
 -- the CPU that acts
 abbrev pub cpu_of_event : {M : Type 0} → Event M → CpuId

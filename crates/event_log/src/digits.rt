@@ -1,9 +1,8 @@
 //! Numbers written in decimal digits, as programs, schedules and trace texts spell them. No call
 //! takes memory or waits.
 
-ghost use Rattle.std.specs.Prelude.{◌≡◌, ◌≤◌, ◌<◌, ◌^◌, ℕ, List, Some, decimal, false, length, slice_index, take, true, IfSome};
-ghost use Rattle.std.specs.{Char.is_ascii_digit, List.list_all, Str.all_ascii_digits, Str.Parse.digits_value};
-ghost use Rattle.event_log.specs.declared.digits.TheConstants.{SHORT};
+ghost use Rattle.std.specs.{Prelude.{◌≡◌, ◌≤◌, ◌<◌, ◌^◌, ℕ, List, Some, decimal, false, length, slice_index, take, true, IfSome}, Char.is_ascii_digit};
+ghost use Rattle.{std.specs.{List.list_all, Str.{all_ascii_digits, Parse.digits_value}}, event_log.specs.declared.digits.TheConstants.SHORT};
 ghost use Rattle.event_log.specs.Digits.{is_number, number_to};
 
 /// Whether `text` spells a number, of any size: it is `0`, or digits of which the first is not `0`.

@@ -17,8 +17,7 @@ pub struct Msg {
 }
 
 impl Model for Msg {
-    ghost use Rattle.std.specs.Prelude.{◌≡◌, ◌≤◌, ◌<◌, ℕ, List, length, take};
-    ghost use Rattle.std.proofs.Common.{arith, length-take-le};
+    ghost use Rattle.std.{specs.Prelude.{◌≡◌, ◌≤◌, ◌<◌, ℕ, List, length, take}, proofs.Common.{arith, length-take-le}};
     ghost use Rattle.event_log.specs.{declared.messages.TheConstants.WORDS, Messages.padded};
 
     ghost Value = { List ℕ };

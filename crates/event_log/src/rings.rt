@@ -2,7 +2,7 @@
 //! or waits.
 
 ghost use Rattle.std.specs.Prelude.{◌≡◌, ◌+◌, ◌<◌, ◌≤◌, ◌++◌, ◌∷◌, [], length};
-ghost use Rattle.event_log.specs.{declared.ids.TheConstants.CAPACITY, Rings.first, Rings.rest};
+ghost use Rattle.event_log.specs.{declared.ids.TheConstants.CAPACITY, Rings.{first, rest}};
 
 use crate::cells::{Cells, Ticks};
 use crate::ids::CAPACITY;

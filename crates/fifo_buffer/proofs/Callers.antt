@@ -1,9 +1,8 @@
 -- A thread that runs on a CPU and whose call takes a section poll there: its CPU's part and the log before the section poll.
 use Rattle.std.proofs.Common.{◌≡◌, ◌<◌, List, length, Option, Some}
 use Rattle.event_log.specs.declared.ids.{CpuId.CpuId, LockId.LockId, Tid.Tid, TheConstants.THREADS}
-use Rattle.layer_traits.specs.{declared.buffer_edits.BufferOut.BufferOut, declared.calls.Call.Call, declared.queue_edits.QueueBlock.QueueBlock}
-use Rattle.layer_traits.specs.{BufferProtocol.BufferLock, CvLaw.Waiting, Places.home_of, QueueBlocks.homes_in}
-use Rattle.fifo_buffer.specs.SectionPolls.{BufferEvent}
+use Rattle.layer_traits.specs.{declared.{buffer_edits.BufferOut.BufferOut, calls.Call.Call, queue_edits.QueueBlock.QueueBlock}, BufferProtocol.BufferLock}
+use Rattle.{layer_traits.specs.{CvLaw.Waiting, Places.home_of, QueueBlocks.homes_in}, fifo_buffer.specs.SectionPolls.BufferEvent}
 
 pub record Caller : Type 1 where
   pub opening : LockId → Option (QueueBlock BufferLock)

@@ -1,23 +1,16 @@
 -- One poll of the conditions, for a call: who was woken out of its wait, who was handed the lock, and whose section went on.
-use Rattle.std.proofs.Common.{◌≡◌, ℕ, Bool, true, false, List, [], length, Option, Some, None, IsSome, is_some, slice_set, refl, ap, sym, ◌∙◌, subst}
-use Rattle.std.proofs.lemmas.List.{length-set}
-use Rattle.event_log.specs.{declared.ids.BufId.BufId, declared.ids.LockId.LockId, declared.ids.LockId.TheVariants.Buffer, declared.ids.Tid.Tid}
-use Rattle.event_log.specs.{History.IsLawful, History.same_lock}
-use Rattle.event_log.proofs.Same.{same_lock_true}
-use Rattle.layer_traits.specs.{declared.buffer_edits.BufferEdit.BufferEdit, declared.buffer_edits.BufferOut.BufferOut, declared.calls.Call.Call}
-use Rattle.layer_traits.specs.{declared.calls.Effect.Effect, declared.conditions.CvOut.CvOut, declared.locked.QOut.QOut}
-use Rattle.layer_traits.specs.{declared.locked.QOut.TheVariants.Acquired, declared.locked.QOut.TheVariants.Released, declared.scheds.SchedCall.SchedCall}
-use Rattle.layer_traits.specs.{declared.call_states.Stage.Stage, declared.call_states.CallState.CallState, BufferLaw.buffer_of, BufferLaw.recorded}
-use Rattle.layer_traits.specs.{BufferLaw.section_at, BufferLaw.side_of, BufferProtocol.BufferLock, BufferProtocol.BufferSection, BufferProtocol.buffer_at}
-use Rattle.layer_traits.specs.{BufferProtocol.buffer_monitor_rules, Conditions.CvCall, Conditions.cv_rules, CvLaw.CvPolled, CvLaw.WaitOver, CvLaw.Waiting}
-use Rattle.layer_traits.specs.{CvLaw.left_waiting, CvLaw.left_woken, QLockLaw.Handed, QLockLaw.LockPolled, QLockLaw.Locks, QLockLaw.Locking, QLockLaw.left_handed}
-use Rattle.layer_traits.specs.{QLockLaw.lock_kernel, QLockLaw.slept_for, QLocking.wait_list_in, QLocking.owner_in, QLocking.lock_caller, Plans.Left}
-use Rattle.layer_traits.specs.{QueueBlocks.homes_in, QueueBlocks.inner, Queues.QueueAllowed, Queues.buffer_sections, SleepLaw.Sleeping}
-use Rattle.layer_traits.specs.declared.call_states.Stage.TheVariants.{Idle, Acquires, Enters, Tries, Waits, AcquiresAgain, Signals, SignalsOwn, Releases}
-use Rattle.thread_blocks.specs.Queues.{same_tid, is_in}
-use Rattle.fifo_buffer.specs.Stances.{Grip, Holds, InCall, Stance, CallStateFits, call_state_in, waits_at}
-use Rattle.fifo_buffer.specs.SectionPolls.{Begins, BufferEvent, BufferOutcome, Ended, Goes, SectionPolled, recorded_if}
-use Rattle.fifo_buffer.proofs.{Within.within, Callers.Caller, Events.caller_is, Polls.lock_section_poll, Polls.other_mark, Polls.own_mark}
+use Rattle.std.proofs.Common.{◌≡◌, ℕ, true, false, List, [], length, Option, Some, None, IsSome, is_some, slice_set, refl, ap, sym, ◌∙◌, subst, arith}
+use Rattle.{std.proofs.lemmas.List.length-set, event_log.specs.{declared.ids.{BufId.BufId, LockId.{LockId, TheVariants.Buffer}, Tid.Tid}, History.IsLawful}}
+use Rattle.layer_traits.specs.declared.{buffer_edits.{BufferEdit.BufferEdit, BufferOut.BufferOut}, calls.{Call.Call, Effect.Effect}, conditions.CvOut.CvOut}
+use Rattle.layer_traits.specs.declared.{locked.QOut.{QOut, TheVariants.{Acquired, Released}}, scheds.SchedCall.SchedCall, call_states.Stage.Stage}
+use Rattle.layer_traits.specs.{declared.call_states.CallState.CallState, BufferLaw.{buffer_of, recorded, section_at}, BufferProtocol.BufferLock}
+use Rattle.layer_traits.specs.{BufferProtocol.{BufferSection, buffer_at, buffer_monitor_rules}, Conditions.{CvCall, cv_rules}, CvLaw.{CvPolled, WaitOver}}
+use Rattle.layer_traits.specs.{CvLaw.{Waiting, left_waiting, left_woken}, QLockLaw.{Handed, LockPolled, Locks, Locking, left_handed, lock_kernel, slept_for}}
+use Rattle.layer_traits.specs.{QLocking.{wait_list_in, owner_in, lock_caller}, Plans.Left, QueueBlocks.{homes_in, inner}, Queues.QueueAllowed}
+use Rattle.{layer_traits.specs.{Queues.buffer_sections, SleepLaw.Sleeping}, thread_blocks.specs.Queues.{same_tid, is_in}, fifo_buffer.specs.Stances.Holds}
+use Rattle.fifo_buffer.specs.{Stances.{InCall, CallStateFits, call_state_in, waits_at}, SectionPolls.{Begins, BufferEvent, BufferOutcome, Ended, Goes}}
+use Rattle.fifo_buffer.{specs.SectionPolls.{SectionPolled, recorded_if}, proofs.{Callers.Caller, Events.caller_is, Polls.{lock_section_poll, other_mark}}}
+use Rattle.fifo_buffer.proofs.Polls.{own_mark}
 use Rattle.layer_traits.specs.declared.conditions.CvOut.TheVariants as answer
 use Rattle.layer_traits.specs.declared.moves.WaitList.TheVariants as line
 
@@ -28,59 +21,7 @@ waited_on : (O : LockId → Option BufferLock) (past : List BufferSection) (t : 
     → (slept ≡ None) × ((out : QOut (CvOut BufferOut)) → CallStateFits O past t (recorded (call_state_in stage call position effect) stage out).call None None
     (recorded (call_state_in stage call position effect) stage out))
     × ((out : QOut (CvOut BufferOut)) → (recorded (call_state_in stage call position effect) stage out).effect ≡ effect)
-waited_on O past t call at slept Idle position effect now = absurd (wrong now.waits_here.1)
-  where
-    wrong : false ≡ true → ⊥
-    wrong is = absurd cc
-waited_on O past t call at slept Acquires position effect now = absurd (wrong now.waits_here.1)
-  where
-    wrong : false ≡ true → ⊥
-    wrong is = absurd cc
-waited_on O past t call at slept Enters position effect now = absurd (wrong now.waits_here.1)
-  where
-    wrong : false ≡ true → ⊥
-    wrong is = absurd cc
-waited_on O past t call at slept Tries position effect now = absurd (wrong now.waits_here.1)
-  where
-    wrong : false ≡ true → ⊥
-    wrong is = absurd cc
-waited_on O past t call at slept AcquiresAgain position effect now = absurd (wrong now.waits_here.1)
-  where
-    wrong : false ≡ true → ⊥
-    wrong is = absurd cc
-waited_on O past t call at slept Signals position effect now = absurd (wrong now.waits_here.1)
-  where
-    wrong : false ≡ true → ⊥
-    wrong is = absurd cc
-waited_on O past t call at slept SignalsOwn position effect now = absurd (wrong now.waits_here.1)
-  where
-    wrong : false ≡ true → ⊥
-    wrong is = absurd cc
-waited_on O past t call at slept Releases position effect now = absurd (wrong now.waits_here.1)
-  where
-    wrong : false ≡ true → ⊥
-    wrong is = absurd cc
-waited_on O past t call at (Some b) Waits position effect now = absurd (wrong now.slept_here.1)
-  where
-    wrong : false ≡ true → ⊥
-    wrong is = absurd cc
-waited_on O past t call at None Waits position effect now = (refl, again, λ out. refl)
-  where
-    again : (out : QOut (CvOut BufferOut)) → InCall O past t call None None AcquiresAgain position effect
-    again out = within _ _ _ _ refl now.stance (λ w. absurd cc) (λ w. now.joins refl) now.effect_is tt tt
-
--- a thread that was handed the lock holds it
-handed_stance : (O : LockId → Option BufferLock) (past : List BufferSection) (t : Tid) (b : BufId) (side : _) (lined : Bool) (position : ℕ)
-    → Holds t (buffer_at O past (Buffer b)) → Stance O past t b side false true lined position → Stance O past t b side true false lined position
-handed_stance O past t b side lined position holds stance = record {
-  grip = λ l. go l (same_lock l (Buffer b)) refl (stance.grip l);
-  line = stance.line;
-  drawn_is = stance.drawn_is;
-}
-  where
-    go : (l : LockId) (v : Bool) → same_lock l (Buffer b) ≡ v → Grip t false v (buffer_at O past l) → Grip t v false (buffer_at O past l)
-    go l true same grip = subst (λ k. Holds t (buffer_at O past k)) (sym (same_lock_true l (Buffer b) same)) holds
-    go l false same grip = grip
+waited_on O past t call at slept stage position effect now = grind arith
 
 handed_on : (O : LockId → Option BufferLock) (past : List BufferSection) (t : Tid) (call : Call) (at : BufId) (stage : Stage) (position : ℕ)
     (effect : Option Effect)
@@ -88,46 +29,7 @@ handed_on : (O : LockId → Option BufferLock) (past : List BufferSection) (t : 
     → CallStateFits O past t (recorded (call_state_in stage call position effect) stage Acquired).call None None (recorded
     (call_state_in stage call position effect) stage Acquired)
     × ((recorded (call_state_in stage call position effect) stage Acquired).effect ≡ effect) × (waits_at stage ≡ false)
-handed_on O past t call at Acquires position effect holds now = (
-  within _ _ _ _ refl (handed_stance O past t (buffer_of call) (side_of call) false position holds now.stance) (λ w. absurd cc) (λ w. absurd cc) now.effect_is
-      tt tt,
-  refl,
-  refl,
-)
-handed_on O past t call at AcquiresAgain position effect holds now = (
-  within _ _ _ _ refl (handed_stance O past t (buffer_of call) (side_of call) true position holds now.stance) (λ w. absurd cc) (λ w. now.joins refl)
-      now.effect_is tt tt,
-  refl,
-  refl,
-)
-handed_on O past t call at Idle position effect holds now = absurd (wrong now.slept_here.1)
-  where
-    wrong : false ≡ true → ⊥
-    wrong is = absurd cc
-handed_on O past t call at Enters position effect holds now = absurd (wrong now.slept_here.1)
-  where
-    wrong : false ≡ true → ⊥
-    wrong is = absurd cc
-handed_on O past t call at Tries position effect holds now = absurd (wrong now.slept_here.1)
-  where
-    wrong : false ≡ true → ⊥
-    wrong is = absurd cc
-handed_on O past t call at Waits position effect holds now = absurd (wrong now.slept_here.1)
-  where
-    wrong : false ≡ true → ⊥
-    wrong is = absurd cc
-handed_on O past t call at Signals position effect holds now = absurd (wrong now.slept_here.1)
-  where
-    wrong : false ≡ true → ⊥
-    wrong is = absurd cc
-handed_on O past t call at SignalsOwn position effect holds now = absurd (wrong now.slept_here.1)
-  where
-    wrong : false ≡ true → ⊥
-    wrong is = absurd cc
-handed_on O past t call at Releases position effect holds now = absurd (wrong now.slept_here.1)
-  where
-    wrong : false ≡ true → ⊥
-    wrong is = absurd cc
+handed_on O past t call at stage position effect holds now = grind arith
 
 module _ (caller : Caller) (new : List BufferEvent) where
   open caller use {opening, ActsFor, c, t, small, call, own, slept_size, waits_size, runs, old}
@@ -241,8 +143,7 @@ module _ (caller : Caller) (new : List BufferEvent) where
       wrong w out = absurd cc
 
       held : (x : Option BufferLock) → owner_in x ≡ Some t → is_in t (wait_list_in line.Sleepers x) ≡ false → Holds t x
-      held None owns awake = absurd cc
-      held (Some lock) owns awake = (owns, awake)
+      held x owns awake = grind arith
 
   -- a poll of the conditions is a section poll of the call
   polled_in : (stage : Stage) (position : ℕ) (effect : Option Effect) (before under_way : Option (SchedCall (CvCall BufferEdit)))

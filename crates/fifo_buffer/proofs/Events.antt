@@ -1,25 +1,16 @@
 -- What holds of a thread's call state over events, where none of them is of its CPU; and what its stance lets it do.
-use Rattle.std.proofs.Common.{◌≡◌, ◌≢◌, ℕ, Bool, true, false, ◌&&◌, List, [], ◌∷◌, ◌++◌, Option, Some, None, refl, ap, sym, ◌∙◌, subst, arith}
-use Rattle.std.proofs.Math.Bool.{and-true}
-use Rattle.event_log.specs.{declared.ids.BufId.BufId, declared.ids.CpuId.CpuId, declared.ids.LockId.LockId, declared.ids.LockId.TheVariants.Buffer}
-use Rattle.event_log.specs.{declared.ids.Tid.Tid, History.AreOthers, History.IsLawful, History.same_cpu}
-use Rattle.event_log.proofs.Same.{same_cpu_self, same_lock_self}
-use Rattle.layer_traits.specs.{declared.buffer_edits.BufferEdit.BufferEdit, declared.calls.Call.Call, declared.calls.Call.TheVariants.Send}
-use Rattle.layer_traits.specs.{declared.calls.Call.TheVariants.Recv, declared.calls.Call.TheVariants.Close, declared.calls.Effect.Effect}
-use Rattle.layer_traits.specs.{declared.locked.Side.Side, declared.locked.Side.TheVariants.Receivers, declared.locked.Side.TheVariants.Senders}
-use Rattle.layer_traits.specs.{declared.queue_edits.QueueBlock.QueueBlock, declared.queues.QueueCall.QueueCall, declared.queues.QueueCall.TheVariants.Push}
-use Rattle.layer_traits.specs.{declared.queues.QueueCall.TheVariants.TakeAll, declared.queues.QueueCall.TheVariants.OnBuffer, declared.call_states.Stage.Stage}
-use Rattle.layer_traits.specs.{declared.call_states.CallState.CallState, BufferBlocks.line_of, BufferLaw.buffer_of, BufferLaw.section_at, BufferLaw.side_of}
-use Rattle.layer_traits.specs.{Conditions.CvCall, Conditions.cv_rules, QLockLaw.lock_kernel, QLocking.IsOwners, QLocking.lock_caller, QLocking.owner_in}
-use Rattle.layer_traits.specs.{Places.count_in, Places.home_of, Places.one_if, Protocol.section, QueueBlocks.homes_in, QueueBlocks.inner, Queues.QueueAllowed}
-use Rattle.layer_traits.specs.{Queues.buffer_sections, Queues.cpu_of_queue_event, Queues.with_section}
-use Rattle.layer_traits.specs.declared.call_states.Stage.TheVariants.{Idle, Acquires, Enters, Tries, Waits, AcquiresAgain}
-use Rattle.layer_traits.specs.BufferProtocol.{BufferLock, BufferSection, IsDue, buffer_at, buffer_monitor_rules, buffer_rules, is_in_line}
-use Rattle.layer_traits.proofs.{CountLemmas.not_counted, ListsLemmas.counted_in}
-use Rattle.thread_blocks.specs.Queues.{same_tid}
-use Rattle.thread_blocks.proofs.Members.{same_tid_true}
-use Rattle.fifo_buffer.specs.{Stances.Grip, Stances.InCall, Stances.Stance, Stances.CallStateFits, Stances.line_at, Stances.same_side, SectionPolls.BufferEvent}
-use Rattle.fifo_buffer.proofs.Apart.{fits_apart, side_self}
+use Rattle.std.proofs.{Common.{◌≡◌, ◌≢◌, ℕ, Bool, true, false, ◌&&◌, List, [], ◌∷◌, ◌++◌, Option, Some, None, refl, ap, ◌∙◌, subst, arith}, Math.Bool.and-true}
+use Rattle.event_log.specs.{declared.ids.{BufId.BufId, CpuId.CpuId, LockId.{LockId, TheVariants.Buffer}, Tid.Tid}, History.{AreOthers, IsLawful, same_cpu}}
+use Rattle.{event_log.proofs.Same.{same_cpu_self, same_lock_self}, layer_traits.specs.declared.{buffer_edits.BufferEdit.BufferEdit, calls.Call.Call}}
+use Rattle.layer_traits.specs.declared.{calls.{Call.TheVariants.{Send, Recv, Close}, Effect.Effect}, locked.Side.{Side, TheVariants.{Receivers, Senders}}}
+use Rattle.layer_traits.specs.declared.{queue_edits.QueueBlock.QueueBlock, queues.QueueCall.{QueueCall, TheVariants.{Push, TakeAll, OnBuffer}}}
+use Rattle.layer_traits.specs.declared.call_states.{Stage.{Stage, TheVariants.{Idle, Acquires, Enters, Tries, Waits, AcquiresAgain}}, CallState.CallState}
+use Rattle.layer_traits.specs.{BufferLaw.{buffer_of, section_at, side_of}, Conditions.{CvCall, cv_rules}, QLockLaw.lock_kernel, QLocking.IsOwners}
+use Rattle.layer_traits.specs.{QLocking.{lock_caller, owner_in}, Places.{count_in, home_of, one_if}, Protocol.section, QueueBlocks.{homes_in, inner}}
+use Rattle.layer_traits.specs.{Queues.{QueueAllowed, buffer_sections, cpu_of_queue_event, with_section}, BufferProtocol.{BufferLock, BufferSection, IsDue}}
+use Rattle.layer_traits.{specs.BufferProtocol.{buffer_at, buffer_monitor_rules, buffer_rules, is_in_line}, proofs.CountLemmas.not_counted}
+use Rattle.{layer_traits.proofs.ListsLemmas.counted_in, thread_blocks.{specs.Queues.same_tid, proofs.Members.same_tid_true}, fifo_buffer.specs.Stances.Grip}
+use Rattle.fifo_buffer.{specs.{Stances.{InCall, Stance, CallStateFits, line_at, same_side}, SectionPolls.BufferEvent}, proofs.Apart.{fits_apart, side_self}}
 
 module _ (opening : LockId → Option (QueueBlock BufferLock)) where
   -- one event, none of whose callers is this thread
@@ -41,15 +32,7 @@ module _ (opening : LockId → Option (QueueBlock BufferLock)) where
 
   home_apart : (c : CpuId) (e : BufferEvent) (u t : Tid) → home_of (homes_in opening) u ≡ Some c → same_cpu e.cpu c ≡ false
       → home_of (homes_in opening) t ≡ Some e.cpu → same_tid t u ≡ false
-  home_apart c e u t home other there = go (same_tid t u) refl
-    where
-      go : (b : Bool) → same_tid t u ≡ b → b ≡ false
-      go false is = refl
-      go true is =
-          let one : t ≡ u = same_tid_true t u is in
-          let cpus : Some e.cpu ≡ Some c = sym there ∙ ap (home_of (homes_in opening)) one ∙ home in
-          let same : e.cpu ≡ c = cc in
-          absurd (cc (other, subst (λ d. same_cpu e.cpu d ≡ true) same (same_cpu_self e.cpu)))
+  home_apart c e u t home other there = grind (arith, same_tid_true, same_cpu_self)
 
   -- events of other CPUs
   pub keeps_fits : (c : CpuId) (u : Tid) → home_of (homes_in opening) u ≡ Some c → (more past : List BufferEvent) → AreOthers cpu_of_queue_event c more
@@ -64,15 +47,7 @@ module _ (opening : LockId → Option (QueueBlock BufferLock)) where
 
 -- the thread that calls
 pub caller_is : (t : Tid) (call : Call) (stage : Stage) → lock_caller (cv_rules buffer_monitor_rules) (section_at t call stage) ≡ t
-caller_is t call Idle = refl
-caller_is t call Acquires = refl
-caller_is t (Send b m) Enters = refl
-caller_is t (Recv b) Enters = refl
-caller_is t (Close b) Enters = refl
-caller_is t (Send b m) Tries = refl
-caller_is t (Recv b) Tries = refl
-caller_is t (Close b) Tries = refl
-caller_is t call other = refl
+caller_is t call stage = grind arith
 
 -- what a stance lets its thread do
 module _ (O : LockId → Option BufferLock) (past : List BufferSection) (t : Tid) where
@@ -84,8 +59,7 @@ module _ (O : LockId → Option BufferLock) (past : List BufferSection) (t : Tid
       (subst (λ v. Grip t (holds && v) (asks && v) (buffer_at O past (Buffer b))) (same_lock_self (Buffer b)) (stance.grip (Buffer b))))
 
   owned : (x : Option BufferLock) → Grip t true false x → owner_in x ≡ Some t
-  owned None grip = absurd grip
-  owned (Some lock) grip = grip.0
+  owned x grip = grind arith
 
   not_owned : (x : Option BufferLock) → Grip t false false x → owner_in x ≢ Some t
   not_owned None grip is = absurd (cc is)
@@ -94,10 +68,7 @@ module _ (O : LockId → Option BufferLock) (past : List BufferSection) (t : Tid
   -- the owner of its buffer's lock is as its section asks
   pub owner_due : (call : Call) (stage : Stage) (position : ℕ) (effect : Option Effect) → InCall O past t call None None stage position effect
       → IsOwners buffer_rules (section_at t call stage) (owner_in (buffer_at O past (Buffer (buffer_of call))))
-  owner_due call Idle position effect now = absurd (none now.called)
-    where
-      none : false ≡ true → ⊥
-      none is = absurd cc
+  owner_due call Idle position effect now = grind arith
   owner_due call Acquires position effect now = not_owned _ (grip_here (buffer_of call) (side_of call) false false false position now.stance)
   owner_due (Send b m) Enters position effect now = owned _ (grip_here b Senders true false false position now.stance)
   owner_due (Recv b) Enters position effect now = owned _ (grip_here b Receivers true false false position now.stance)
@@ -110,12 +81,10 @@ module _ (O : LockId → Option BufferLock) (past : List BufferSection) (t : Tid
   owner_due call other position effect now = owned _ (grip_here (buffer_of call) (side_of call) true false false position now.stance)
 
   out_of_line : (side : Side) (x : Option BufferLock) → count_in t (line_at side x) ≡ 0 → is_in_line side t x ≡ false
-  out_of_line side None none = refl
-  out_of_line side (Some lock) none = not_counted t (line_of side lock.above) none
+  out_of_line side x none = grind (arith, not_counted)
 
   in_line : (side : Side) (x : Option BufferLock) → count_in t (line_at side x) ≡ 1 → is_in_line side t x ≡ true
-  in_line side None once = absurd (omega (arith, once))
-  in_line side (Some lock) once = counted_in t (line_of side lock.above) (omega (arith, once))
+  in_line side x once = grind (arith, counted_in)
 
   once_there : (b : BufId) (side : Side) (position : ℕ) → Stance O past t b side true false true position
       → count_in t (line_at side (buffer_at O past (Buffer b))) ≡ 1

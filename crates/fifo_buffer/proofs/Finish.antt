@@ -1,27 +1,20 @@
 -- What a poll of a call leaves, after its last section poll.
 use Rattle.std.proofs.Common.{◌≡◌, ◌≢◌, ◌⊎◌, inl, inr, Bool, true, false, List, ◌++◌, Option, Some, None, option_map, option_to_list, is_some, if◌then◌else◌}
-use Rattle.std.proofs.Common.{refl, ap, sym, ◌∙◌, subst}
-use Rattle.event_log.specs.declared.ids.{CpuId.CpuId, Tid.Tid}
-use Rattle.layer_traits.specs.declared.{buffer_edits.BufferEdit.BufferEdit, buffer_edits.BufferOut.BufferOut, calls.Call.Call, calls.Effect.Effect}
-use Rattle.layer_traits.specs.declared.{calls.Reply.Reply, conditions.CvOut.CvOut, locked.QOut.QOut, scheds.SchedCall.SchedCall, call_states.Stage.Stage}
-use Rattle.layer_traits.specs.declared.{call_states.CallState.CallState, buffer_edits.BufferOut.TheVariants.Entered}
-use Rattle.layer_traits.specs.{BufferEffects.effects_in, BufferLaw.Answered, BufferLaw.Called, BufferLaw.begun_at, BufferLaw.buffer_of, BufferLaw.entry_of}
-use Rattle.layer_traits.specs.{BufferLaw.going, BufferLaw.recorded, BufferLaw.enlisted, BufferLaw.replied, BufferLaw.reply_of, BufferLaw.call_state_of}
-use Rattle.layer_traits.specs.{BufferLaw.reported_by, BufferLaw.tried, Conditions.CvCall, QLockLaw.slept_for, Places.home_of, Queues.buffer_sections}
-use Rattle.layer_traits.specs.declared.call_states.Stage.TheVariants.{Idle, Acquires, Enters, Tries, Waits, AcquiresAgain, Signals, SignalsOwn, Releases}
-use Rattle.thread_blocks.specs.Queues.{same_tid}
-use Rattle.thread_blocks.proofs.Members.{same_tid_true}
-use Rattle.fifo_buffer.specs.{Stances.InCall, Stances.CallStateFits, Stances.called_at, Stances.done_at, SectionPolls.After, SectionPolls.CallsFit}
-use Rattle.fifo_buffer.specs.{SectionPolls.FitsAt, SectionPolls.NoSection, SectionPolls.Sleeps, SectionPolls.Stays, SectionPolls.calling_after}
-use Rattle.fifo_buffer.proofs.{SectionPollTaken.SectionPollTaken, Parts.effects_append, Parts.effects_others, Parts.effects_over}
+use Rattle.std.proofs.Common.{refl, ap, sym, ◌∙◌, subst, arith}
+use Rattle.{event_log.specs.declared.ids.{CpuId.CpuId, Tid.Tid}, layer_traits.specs.declared.buffer_edits.{BufferEdit.BufferEdit, BufferOut.BufferOut}}
+use Rattle.layer_traits.specs.declared.{calls.{Call.Call, Effect.Effect, Reply.Reply}, conditions.CvOut.CvOut, locked.QOut.QOut, scheds.SchedCall.SchedCall}
+use Rattle.layer_traits.specs.{declared.call_states.{Stage.{Stage, TheVariants.Idle}, CallState.CallState}, BufferEffects.effects_in, BufferLaw.Answered}
+use Rattle.layer_traits.specs.BufferLaw.{Called, begun_at, buffer_of, entry_of, going, recorded, enlisted, replied, reply_of, call_state_of, tried}
+use Rattle.{layer_traits.specs.{Conditions.CvCall, QLockLaw.slept_for, Places.home_of, Queues.buffer_sections}, thread_blocks.specs.Queues.same_tid}
+use Rattle.{thread_blocks.proofs.Members.same_tid_true, fifo_buffer.specs.{Stances.{InCall, CallStateFits, called_at, done_at}, SectionPolls.{After, CallsFit}}}
+use Rattle.fifo_buffer.{specs.SectionPolls.{FitsAt, NoSection, Sleeps, Stays, calling_after}, proofs.{SectionPollTaken.SectionPollTaken, Parts.effects_append}}
+use Rattle.fifo_buffer.proofs.Parts.{effects_others, effects_over}
 
 enlisted_call : (call_state : CallState) (out : BufferOut) → (enlisted call_state out).call ≡ call_state.call
-enlisted_call call_state (Entered p) = refl
-enlisted_call call_state other = refl
+enlisted_call call_state out = grind arith
 
 tried_call : (call_state : CallState) (out : BufferOut) → (tried call_state out).call ≡ call_state.call
-tried_call call_state (Entered p) = refl
-tried_call call_state other = refl
+tried_call call_state out = grind arith
 
 -- the call goes on after a section, but for the last one, after which it answers
 pub goes_or_ends : (call_state : CallState) (call : Call) (stage : Stage) (out : QOut (CvOut BufferOut)) → call_state.call ≡ Some call
@@ -30,26 +23,10 @@ pub goes_or_ends : (call_state : CallState) (call : Call) (stage : Stage) (out :
     ⊎ ((f : Effect) × (call_state.effect ≡ Some f) × (replied call call_state stage ≡ Some (reply_of call f)) × ((recorded call_state stage out).stage ≡ Idle)
     × ((recorded call_state stage out).call ≡ None)
     × ((recorded call_state stage out).effect ≡ call_state.effect))
-goes_or_ends call_state call Idle out is done = inl (refl, is)
-goes_or_ends call_state call Acquires out is done = inl (refl, is)
-goes_or_ends call_state call Enters out is done = inl (refl, enlisted_call call_state (reported_by out) ∙ is)
-goes_or_ends call_state call Tries out is done = inl (refl, tried_call call_state (reported_by out) ∙ is)
-goes_or_ends call_state call Waits out is done = inl (refl, is)
-goes_or_ends call_state call AcquiresAgain out is done = inl (refl, is)
-goes_or_ends call_state call Signals out is done = inl (refl, is)
-goes_or_ends call_state call SignalsOwn out is done = inl (refl, is)
-goes_or_ends call_state call Releases out is done =
-    let it = go call_state.effect refl done in
-    inr (it.0, it.1, it.2, refl, refl, refl)
-  where
-    go : (o : Option Effect) → call_state.effect ≡ o → is_some o ≡ true
-        → (f : Effect) × (call_state.effect ≡ Some f) × (option_map (reply_of call) call_state.effect ≡ Some (reply_of call f))
-    go None same some = absurd cc
-    go (Some f) same some = (f, same, ap (option_map (reply_of call)) same)
+goes_or_ends call_state call stage out is done = grind (arith, enlisted_call, tried_call)
 
 begun_there : (stage : Stage) (o : Option Call) → called_at stage ≡ true → begun_at stage o ≡ o
-begun_there Idle o is = absurd cc
-begun_there stage o is = refl
+begun_there stage o is = grind arith
 
 module _ (poll_section : SectionPollTaken) (home : home_of poll_section.homes poll_section.t ≡ Some poll_section.c)
     (called : poll_section.call_state.call ≡ Some poll_section.call)

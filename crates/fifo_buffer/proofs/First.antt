@@ -1,20 +1,20 @@
 -- A poll of a call may begin with a section poll, and go on with another.
-use Rattle.std.proofs.Common.{◌≡◌, true, false, List, Option, Some, None, refl, ap, sym, ◌∙◌, subst}
-use Rattle.event_log.specs.declared.ids.{BufId.BufId, CpuId.CpuId, LockId.LockId, Tid.Tid}
-use Rattle.layer_traits.specs.{declared.buffer_edits.BufferEdit.BufferEdit, declared.buffer_edits.BufferOut.BufferOut, declared.calls.Call.Call}
-use Rattle.layer_traits.specs.{declared.locked.Side.TheVariants.Senders, declared.scheds.SchedCall.SchedCall, BufferLaw.Calling, BufferLaw.MayGoOn}
-use Rattle.layer_traits.specs.{BufferLaw.MayPollCall, BufferLaw.Passing, BufferLaw.begun, BufferLaw.going, BufferLaw.going_at, BufferLaw.call_state_of}
-use Rattle.layer_traits.specs.{BufferProtocol.BufferLock, BufferProtocol.BufferSection, Conditions.CvCall, CvLaw.Waiting, QLockLaw.slept_for, Places.home_of}
-use Rattle.layer_traits.specs.declared.call_states.{Stage.Stage, Stage.TheVariants.Idle, Stage.TheVariants.Acquires, CallState.CallState}
-use Rattle.thread_blocks.specs.Queues.{same_tid}
-use Rattle.fifo_buffer.specs.Stances.{InCall, Stance, CallStateFits, called_at}
-use Rattle.fifo_buffer.specs.SectionPolls.{BufferOutcome, CallsFit, FitsAt, Goes, IsCalling, MayPollSection, Midway, under_way_at}
+use Rattle.std.proofs.Common.{◌≡◌, ◌⊎◌, true, false, List, Option, Some, None, refl, ap, sym, subst, arith}
+use Rattle.{event_log.specs.declared.ids.{BufId.BufId, CpuId.CpuId, LockId.LockId, Tid.Tid}, layer_traits.specs.declared.buffer_edits.BufferEdit.BufferEdit}
+use Rattle.layer_traits.specs.declared.{buffer_edits.BufferOut.BufferOut, calls.Call.Call, locked.Side.TheVariants.Senders, scheds.SchedCall.SchedCall}
+use Rattle.layer_traits.specs.{declared.call_states.{Stage.{Stage, TheVariants.{Idle, Acquires}}, CallState.CallState}, BufferLaw.{Calling, MayGoOn}}
+use Rattle.layer_traits.specs.{BufferLaw.{MayPollCall, begun, going, going_at, call_state_of}, BufferProtocol.{BufferLock, BufferSection}, Conditions.CvCall}
+use Rattle.{layer_traits.specs.{CvLaw.Waiting, QLockLaw.slept_for, Places.home_of}, thread_blocks.specs.Queues.same_tid, fifo_buffer.specs.Stances.InCall}
+use Rattle.fifo_buffer.specs.{Stances.{Stance, CallStateFits, called_at}, SectionPolls.{CallsFit, FitsAt, Goes, MayPollSection, under_way_at}}
 use Rattle.layer_traits.specs.declared.scheds.SchedCall.TheVariants as sched
 
 -- within a call the call state goes on as it is
 pub going_same : (stage : Stage) (call_state : CallState) (call : Call) → called_at stage ≡ true → going_at stage call_state call ≡ call_state
-going_same Idle call_state call is = absurd cc
-going_same stage call_state call is = refl
+going_same stage call_state call is = grind arith
+
+-- a call that goes on at its beginning goes on to acquire its buffer's lock
+pub acquires_at : {at stage : Stage} → at ≡ stage → called_at stage ≡ true → (at ≡ Idle) ⊎ (at ≡ Acquires) → Acquires ≡ stage
+acquires_at is called either = grind arith
 
 module _ (O : LockId → Option BufferLock) (past : List BufferSection) (t : Tid) (call : Call) where
   begun_fits : (slept waits : Option BufId) → Stance O past t (record { 0 = 0 }) Senders false false false 0 → slept ≡ None → waits ≡ None
@@ -40,25 +40,13 @@ module _ (O : LockId → Option BufferLock) (past : List BufferSection) (t : Tid
         subst (λ (x : CallState). InCall O past t call slept waits x.stage x.position x.effect) (sym same)
             (begun_fits slept waits fits.stance fits.slept_none fits.waits_none),
       )
-  going_fits call_state slept waits (Some k) is fits may =
-      let same : going call_state call ≡ call_state = going_same call_state.stage call_state call fits.called in
-      let calls : Some k ≡ Some call = sym is ∙ sym (ap (λ (x : CallState). x.call) same) ∙ may in
-      let one : k ≡ call = cc in (
-        may,
-        subst (λ (x : CallState). InCall O past t call slept waits x.stage x.position x.effect) (sym same)
-            (subst (λ j. InCall O past t j slept waits call_state.stage call_state.position call_state.effect) one fits),
-      )
+  going_fits call_state slept waits (Some k) is fits may = grind (arith, going_same)
 
 -- a call that goes on is begun
 pub goes_called : (O : LockId → Option BufferLock) (past : List BufferSection) (t : Tid) (k : Call) (call_state : CallState) (own : Waiting BufferOut)
     (w : Option (SchedCall (CvCall BufferEdit)))
     → Goes O past t k call_state own w → called_at call_state.stage ≡ true
-goes_called O past t k call_state own None goes = goes.fits.called
-goes_called O past t k call_state own (Some s) goes = midway own.lock.sleep.deferred goes.midway
-  where
-    midway : (deferred : Option BufferOutcome) → Midway O past t k call_state deferred own.lock.sleep.threads.hand → called_at call_state.stage ≡ true
-    midway None now = now.1.called
-    midway (Some outcome) now = now.called
+goes_called O past t k call_state own w goes = grind arith
 
 -- the first section poll of a poll
 pub first_may : (homes : List CpuId) (c : CpuId) (O : LockId → Option BufferLock) (past : List BufferSection) (own : Waiting BufferOut)
@@ -74,24 +62,6 @@ first_may homes c O past own call_states None None t call home fits runs hand ca
     (call_state_of call_states t).call refl
     (fits.fit t home) call_state_may in
     (record { current = runs; called = both.0; goes = record { hand = hand refl; deferred = fits.deferred; fits = both.1 } }, λ u there other. fits.fit u there)
-first_may homes c O past own call_states (Some (sched.Pass p)) None t call home fits runs hand call_state_may may = absurd (wrong may)
-  where
-    wrong : Passing p ≡ Calling t → ⊥
-    wrong is = absurd cc
+first_may homes c O past own call_states (Some (sched.Pass p)) None t call home fits runs hand call_state_may may = grind arith
 first_may homes c O past own call_states (Some (sched.OnBuffer b e)) None t call home fits runs hand call_state_may may = absurd fits.none
-first_may homes c O past own call_states under_way (Some v) t call home fits runs hand call_state_may may =
-    let one : v ≡ t = same may in
-    let mine : IsCalling homes c O past own call_states under_way t = subst (IsCalling homes c O past own call_states under_way) one fits in
-    let called : called_at (call_state_of call_states t).stage ≡ true = goes_called O past t mine.call
-    (call_state_of call_states t) own under_way mine.may.goes in
-    let same_call_state : going (call_state_of call_states t) call ≡ call_state_of call_states t = going_same (call_state_of call_states t).stage
-    (call_state_of call_states t) call called in
-    let calls : Some mine.call ≡ Some call = sym mine.may.called ∙ sym (ap (λ (x : CallState). x.call) same_call_state) ∙ call_state_may in
-    let is_call : mine.call ≡ call = cc in (
-      subst (λ (x : CallState). MayPollSection O past t call x own under_way) (sym same_call_state)
-          (subst (λ k. MayPollSection O past t k (call_state_of call_states t) own under_way) is_call mine.may),
-      mine.others,
-    )
-  where
-    same : Calling v ≡ Calling t → v ≡ t
-    same is = cc
+first_may homes c O past own call_states under_way (Some v) t call home fits runs hand call_state_may may = grind (arith, goes_called, going_same)

@@ -1,11 +1,8 @@
 -- A machine that opens with an empty buffer for each capacity boots as the layer wants it.
-use Rattle.std.proofs.Common.{◌≡◌, ℕ, ◌≤◌, List, [], length, map, Option, Some, None, option_map, slice_get, refl, ap, sym, ◌∙◌}
-use Rattle.std.proofs.{Math.Path.fun_ext, lemmas.Option.slice_get-map}
-use Rattle.event_log.specs.declared.ids.{BufId.BufId, CpuId.CpuId, LockId.LockId, LockId.TheVariants.Pending, LockId.TheVariants.Buffer}
-use Rattle.layer_traits.specs.declared.queue_edits.QueueBlock.{QueueBlock, TheVariants.Queue, TheVariants.Above}
-use Rattle.layer_traits.specs.{BufferBlocks.BufferState, BufferBlocks.empty_block, BufferEffects.fresh_lock, BufferEffects.opening_locks}
-use Rattle.layer_traits.specs.{BufferProtocol.BufferLock, QueueBlocks.StartsAs, QueueBlocks.above_of, QueueBlocks.inner, Capacities.caps_from}
-use Rattle.layer_traits.proofs.CapacityLemmas.{caps_observed}
+use Rattle.std.proofs.{Common.{◌≡◌, ℕ, ◌≤◌, List, [], length, map, Option, None, option_map, slice_get, refl, ap, sym, ◌∙◌, arith}, Math.Path.fun_ext}
+use Rattle.{std.proofs.lemmas.Option.slice_get-map, event_log.specs.declared.ids.{BufId.BufId, LockId.{LockId, TheVariants.Buffer}}}
+use Rattle.layer_traits.specs.{declared.queue_edits.QueueBlock.QueueBlock, BufferBlocks.{BufferState, empty_block}, BufferEffects.{fresh_lock, opening_locks}}
+use Rattle.layer_traits.{specs.{BufferProtocol.BufferLock, QueueBlocks.{StartsAs, inner}, Capacities.caps_from}, proofs.CapacityLemmas.caps_observed}
 use Rattle.fifo_buffer.specs.FifoFits.{BootsSo, caps_in}
 
 -- a lock round a block, with no owner and nobody asleep
@@ -13,23 +10,13 @@ abbrev pub resting : BufferState → BufferLock
 resting block = record { owner = None; sleepers = []; receivers = []; senders = []; above = block }
 
 rested : (o : Option ℕ) → option_map resting (option_map empty_block o) ≡ option_map fresh_lock o
-rested None = refl
-rested (Some capacity) = refl
+rested o = grind arith
 
 module _ (opening : LockId → Option (QueueBlock BufferLock)) (caps : List ℕ) where
   -- each lock opens as one of its kind, and each buffer's with an empty block of its capacity at rest
   pub boots_so : ((lock : LockId) → StartsAs lock (opening lock))
       → ((b : BufId) → inner opening (Buffer b) ≡ option_map resting (slice_get (map empty_block caps) b.0)) → inner opening ≡ opening_locks caps
-  boots_so kinds blocks = fun_ext by_lock
-    where
-      no_buffer : (c : CpuId) (o : Option (QueueBlock BufferLock)) → StartsAs (Pending c) o → above_of o ≡ None
-      no_buffer c None kind = refl
-      no_buffer c (Some (Queue queue homes)) kind = refl
-      no_buffer c (Some (Above block)) kind = absurd kind
-
-      by_lock : (lock : LockId) → inner opening lock ≡ opening_locks caps lock
-      by_lock (Pending c) = no_buffer c (opening (Pending c)) (kinds (Pending c))
-      by_lock (Buffer b) = blocks b ∙ ap (option_map resting) (slice_get-map empty_block caps b.0) ∙ rested (slice_get caps b.0)
+  boots_so kinds blocks = grind (arith, fun_ext, slice_get-map, rested)
 
   -- the same where the blocks stand in a list
   pub boots_at : (blocks : List BufferState) → ((lock : LockId) → StartsAs lock (opening lock))

@@ -1,32 +1,21 @@
 -- A thread's own sections: what each leaves of its stance, and its effect.
-use Rattle.std.proofs.Common.{◌≡◌, ◌<◌, ℕ, Bool, true, false, ◌&&◌, List, [], ◌∷◌, ◌++◌, Option, Some, None, option_map, nat_lt, if◌then◌else◌, refl, ap, sym}
-use Rattle.std.proofs.Common.{◌∙◌, subst, arith, lt-ltb}
-use Rattle.std.proofs.{lemmas.Bool.and_parts, lemmas.Bool.and_right, Math.Bool.and-true}
-use Rattle.event_log.specs.{declared.ids.BufId.BufId, declared.ids.CpuId.CpuId, declared.ids.LockId.LockId, declared.ids.LockId.TheVariants.Buffer}
-use Rattle.event_log.specs.{declared.ids.Tid.Tid, declared.ids.TheConstants.THREADS, History.same_lock, Messages.Message, Messages.no_message, Runs.group_of}
-use Rattle.event_log.proofs.{Same.same_lock_self, Same.same_lock_true, BoolLemmas.none_of}
-use Rattle.layer_traits.specs.declared.{buffer_edits.BufferEdit.BufferEdit, buffer_edits.BufferOut.BufferOut, calls.Call.Call, calls.Call.TheVariants.Send}
-use Rattle.layer_traits.specs.declared.{calls.Call.TheVariants.Recv, calls.Call.TheVariants.Close, calls.Effect.Effect, conditions.CvEdit.TheVariants.Edit}
-use Rattle.layer_traits.specs.declared.{conditions.CvEdit.TheVariants.SignalFront, conditions.CvLeave.TheVariants.Leave, conditions.CvLeave.TheVariants.Wait}
-use Rattle.layer_traits.specs.declared.{conditions.CvOut.CvOut, locked.QEdit.TheVariants.Acquire, locked.QEdit.TheVariants.Inside}
-use Rattle.layer_traits.specs.declared.{locked.QEdit.TheVariants.Release, locked.QOut.QOut, locked.QOut.TheVariants.Did, locked.QOut.TheVariants.Released}
-use Rattle.layer_traits.specs.declared.{locked.Side.Side, locked.Side.TheVariants.Receivers, locked.Side.TheVariants.Senders, call_states.Stage.Stage}
-use Rattle.layer_traits.specs.declared.buffer_edits.BufferEdit.TheVariants.{Enter, TryPut, TryTake, Shut}
-use Rattle.layer_traits.specs.declared.call_states.Stage.TheVariants.{Idle, Acquires, Enters, Tries, Waits, AcquiresAgain, Signals, SignalsOwn, Releases}
-use Rattle.layer_traits.specs.{BufferBlocks.BufferState, BufferBlocks.effect_kind, BufferBlocks.entered, BufferBlocks.first_item, BufferBlocks.is_first}
-use Rattle.layer_traits.specs.{BufferBlocks.is_next, BufferBlocks.line_of, BufferBlocks.may_go, BufferBlocks.may_join, BufferBlocks.drawn_of}
-use Rattle.layer_traits.specs.{BufferBlocks.put_in, BufferBlocks.taken_out, BufferEffects.drawn, BufferEffects.effect_of, BufferEffects.effect_on}
-use Rattle.layer_traits.specs.{BufferEffects.is_enter, BufferEffects.drawn_in, BufferLaw.IsEffectOf, BufferLaw.buffer_of, BufferLaw.entry_of}
-use Rattle.layer_traits.specs.{BufferLaw.section_at, BufferLaw.side_of, BufferProtocol.BufferLock, BufferProtocol.BufferSection, BufferProtocol.buffer_at}
-use Rattle.layer_traits.specs.{BufferProtocol.buffer_rules, BufferProtocol.has_tried_in_vain, BufferProtocol.is_next_at, Conditions.CvCall, QLocking.asked}
-use Rattle.layer_traits.specs.{QLocking.lock_edited, QLocking.lock_out, QLocking.asker_report, Places.count_in, Places.one_if, Protocol.section}
-use Rattle.layer_traits.proofs.CountLemmas.{count_append, not_counted}
-use Rattle.thread_blocks.specs.Queues.{same_tid, is_in, rest}
-use Rattle.thread_blocks.proofs.{Members.same_tid_self, Distinct.out_of_rest}
-use Rattle.fifo_buffer.specs.{Laws.BlockSteps.kind_counts, Stances.Grip, Stances.Holds, Stances.InCall, Stances.IsFreeOf, Stances.Stance, Stances.CallStateFits}
-use Rattle.fifo_buffer.specs.{Stances.done_at, Stances.recorded_by, Stances.line_at, Stances.same_side, Stances.slept_by, Stances.call_state_in}
-use Rattle.fifo_buffer.specs.{Stances.waits_by}
-use Rattle.fifo_buffer.proofs.{Within.within, Apart.above_asked, Apart.line_shut, Apart.side_self}
+use Rattle.std.proofs.Common.{◌≡◌, ◌<◌, ℕ, Bool, true, false, ◌&&◌, List, [], ◌∷◌, ◌++◌, Option, Some, None, option_map, if◌then◌else◌, refl, ap, sym, ◌∙◌}
+use Rattle.{std.proofs.{Common.{subst, arith, lt-ltb}, lemmas.Bool.{and_parts, and_right}, Math.Bool.and-true}, event_log.specs.declared.ids.BufId.BufId}
+use Rattle.event_log.specs.{declared.ids.{CpuId.CpuId, LockId.{LockId, TheVariants.Buffer}, Tid.Tid, TheConstants.THREADS}, History.same_lock, Messages.Message}
+use Rattle.event_log.{specs.{Messages.no_message, Runs.group_of}, proofs.{Same.{same_lock_self, same_lock_true}, BoolLemmas.none_of}}
+use Rattle.layer_traits.specs.declared.buffer_edits.{BufferEdit.{BufferEdit, TheVariants.{Enter, TryPut, TryTake, Shut}}, BufferOut.BufferOut}
+use Rattle.layer_traits.specs.declared.{calls.{Call.{Call, TheVariants.{Send, Recv, Close}}, Effect.Effect}, conditions.CvEdit.TheVariants.{Edit, SignalFront}}
+use Rattle.layer_traits.specs.declared.{conditions.{CvLeave.TheVariants.{Leave, Wait}, CvOut.CvOut}, locked.QEdit.TheVariants.{Acquire, Inside, Release}}
+use Rattle.layer_traits.specs.declared.locked.{QOut.{QOut, TheVariants.{Did, Released}}, Side.{Side, TheVariants.{Receivers, Senders}}}
+use Rattle.layer_traits.specs.declared.call_states.Stage.{Stage, TheVariants.{Idle, Acquires, Enters, Tries, Waits, AcquiresAgain, Signals, SignalsOwn}}
+use Rattle.layer_traits.specs.{declared.call_states.Stage.TheVariants.Releases, BufferBlocks.{BufferState, effect_kind, entered, first_item, is_first, is_next}}
+use Rattle.layer_traits.specs.{BufferBlocks.{line_of, may_join, drawn_of, put_in, taken_out}, BufferEffects.{drawn, effect_of, effect_on, is_enter, drawn_in}}
+use Rattle.layer_traits.specs.{BufferLaw.{IsEffectOf, buffer_of, entry_of, section_at, side_of}, BufferProtocol.{BufferLock, BufferSection, buffer_at}}
+use Rattle.layer_traits.specs.{BufferProtocol.{buffer_rules, has_tried_in_vain}, Conditions.CvCall, QLocking.{asked, lock_edited, lock_out, asker_report}}
+use Rattle.{layer_traits.{specs.{Places.{count_in, one_if}, Protocol.section}, proofs.CountLemmas.{count_append, not_counted}}, thread_blocks.specs.Queues.rest}
+use Rattle.{thread_blocks.proofs.{Members.same_tid_self, Distinct.out_of_rest}, fifo_buffer.specs.{Laws.BlockSteps.kind_counts, Stances.{Grip, Holds, InCall}}}
+use Rattle.fifo_buffer.specs.Stances.{IsFreeOf, Stance, CallStateFits, done_at, recorded_by, line_at, same_side, slept_by, call_state_in, waits_by}
+use Rattle.fifo_buffer.proofs.{Within.within, Apart.{above_asked, line_shut, side_self}}
 use Rattle.event_log.specs.declared.entries.Kind.TheVariants as kind
 use Rattle.layer_traits.specs.declared.buffer_edits.BufferOut.TheVariants as told
 use Rattle.layer_traits.specs.declared.conditions.CvOut.TheVariants as answer
@@ -82,52 +71,32 @@ module _ (opening : LockId → Option BufferLock) (past : List BufferSection) (c
       line_there : (l : LockId) (at : Side) (v : Bool) → same_lock l (Buffer b) ≡ v
           → count_in t (line_at at (if v then option_map (lock_edited buffer_rules e) (buffer_at opening past l) else buffer_at opening past l))
           ≡ one_if (lined' && (v && same_side at side))
-      line_there l at true same =
-          let now : count_in t (line_of at lock.above) ≡ one_if (lined && same_side at side)
-          = sym (ap (λ x. count_in t (line_at at x)) (here l same)) ∙ stance.line l at ∙ ap (λ v. one_if (lined && (v && same_side at side))) same in
-          ap (λ x. count_in t (line_at at (option_map (lock_edited buffer_rules e) x))) (here l same) ∙ lines at now
-      line_there l at false same =
-          stance.line l at ∙ ap (λ v. one_if (lined && (v && same_side at side))) same
-          ∙ ap one_if (and_right lined false refl) ∙ ap one_if (sym (and_right lined' false refl))
+      line_there l at v same = grind (arith, here, and_right)
 
   -- its drawn position stays, where it does not enter
   drawn_own : is_enter side t e ≡ false → drawn opening (Buffer b) side t (section c (Buffer b) e ∷ past) ≡ drawn opening (Buffer b) side t past
-  drawn_own none =
-      ap (λ v. if v then drawn_in side (buffer_at opening past (Buffer b)) else drawn opening (Buffer b) side t past)
-      (and_right (same_lock (Buffer b) (Buffer b)) (is_enter side t e) none)
+  drawn_own none = grind (arith, and_right)
 
 -- whoever takes a free lock holds it
 take_free : (t : Tid) (owner : Option Tid) (lock : BufferLock) → owner ≡ None → IsFreeOf t (Some lock) → Holds t (Some (asked t owner lock))
-take_free t None lock is free = (refl, free.1)
-take_free t (Some o) lock is free = absurd cc
+take_free t owner lock is free = grind arith
 
 -- whoever is first in a line, where it stands once, is not among those behind
 gone_from : (t : Tid) (q : List Tid) → is_first t q ≡ true → count_in t q ≡ 1 → count_in t (rest q) ≡ 0
-gone_from t [] is once = absurd cc
-gone_from t (x ∷ q) is once = let one : one_if (same_tid t x) ≡ 1 = ap one_if is in omega (arith, one, once)
+gone_from t q is once = grind arith
 
 joins_line : (t : Tid) (q : List Tid) → count_in t q ≡ 0 → count_in t (q ++ t ∷ []) ≡ 1
-joins_line t q none =
-    let self : one_if (same_tid t t) ≡ 1 = ap one_if (same_tid_self t) in
-    let sum = count_append t q (t ∷ []) in
-    omega (arith, self, none, sum)
+joins_line t q none = grind (arith, same_tid_self, count_append)
 
 lines_entered : (t : Tid) (side at : Side) (x : BufferState) → count_in t (line_of at x) ≡ 0
     → count_in t (line_of at (entered side t x)) ≡ one_if (same_side at side)
-lines_entered t Receivers Receivers x none = joins_line t x.receive_line none
-lines_entered t Receivers Senders x none = none
-lines_entered t Senders Receivers x none = none
-lines_entered t Senders Senders x none = joins_line t x.send_line none
+lines_entered t side at x none = grind (arith, joins_line)
 
 may_enter : (t : Tid) (q : List Tid) → t.0 < THREADS → count_in t q ≡ 0 → may_join t q ≡ true
-may_enter t q small none =
-    let lt : nat_lt t.0 THREADS ≡ true = lt-ltb t.0 THREADS small in
-    let out : is_in t q ≡ false = not_counted t q none in
-    rw (lt, out) refl
+may_enter t q small none = grind (arith, lt-ltb, not_counted)
 
 enter_own : (side : Side) (t : Tid) → is_enter side t (Inside (Edit (Enter t side))) ≡ true
-enter_own Receivers t = same_tid_self t
-enter_own Senders t = same_tid_self t
+enter_own side t = grind (arith, same_tid_self)
 
 -- the stances after each kind of section of the thread's own
 module _ (opening : LockId → Option BufferLock) (past : List BufferSection) (c : CpuId) (t : Tid) (b : BufId) (side : Side)
@@ -215,8 +184,7 @@ module _ (opening : LockId → Option BufferLock) (past : List BufferSection) (c
       (λ at now. ap (λ (v : Bool). count_in t (line_of at (if v then put_in m lock.above else lock.above))) next ∙ lines at now) (λ lines. absurd cc)
     where
       lines : (at : Side) → count_in t (line_of at lock.above) ≡ one_if (same_side at Senders) → count_in t (line_of at (put_in m lock.above)) ≡ 0
-      lines Receivers now = now
-      lines Senders now = gone_from t lock.above.send_line (and_parts (is_first t lock.above.send_line) (may_go Senders lock.above) next).0 now
+      lines at now = grind (arith, gone_from, and_parts)
 
   has_taken : is_next Receivers t lock.above ≡ true → Stance opening past t b Receivers true false true position
       → Stance opening (section c (Buffer b) (Inside (Edit (TryTake t))) ∷ past) t b Receivers true false false position
@@ -226,8 +194,7 @@ module _ (opening : LockId → Option BufferLock) (past : List BufferSection) (c
       (λ at now. ap (λ (v : Bool). count_in t (line_of at (if v then taken_out lock.above else lock.above))) next ∙ lines at now) (λ lines. absurd cc)
     where
       lines : (at : Side) → count_in t (line_of at lock.above) ≡ one_if (same_side at Receivers) → count_in t (line_of at (taken_out lock.above)) ≡ 0
-      lines Receivers now = gone_from t lock.above.receive_line (and_parts (is_first t lock.above.receive_line) (may_go Receivers lock.above) next).0 now
-      lines Senders now = now
+      lines at now = grind (arith, gone_from, and_parts)
 
   put_in_vain : (m : Message) → is_next Senders t lock.above ≡ false → Stance opening past t b Senders true false true position
       → Stance opening (section c (Buffer b) (Inside (Edit (TryPut t m))) ∷ past) t b Senders true false true position
@@ -247,15 +214,11 @@ module _ (opening : LockId → Option BufferLock) (past : List BufferSection) (c
 
   vain_put : (m : Message) → is_next Senders t lock.above ≡ false
       → has_tried_in_vain opening (Buffer b) Senders t (section c (Buffer b) (Inside (Edit (TryPut t m))) ∷ past) ≡ true
-  vain_put m next =
-      let at : is_next_at Senders t (buffer_at opening past (Buffer b)) ≡ false = ap (is_next_at Senders t) is ∙ next in
-      rw (same_tid_self t, same_lock_self (Buffer b), at) refl
+  vain_put m next = grind (arith, is, same_tid_self, same_lock_self)
 
   vain_take : is_next Receivers t lock.above ≡ false
       → has_tried_in_vain opening (Buffer b) Receivers t (section c (Buffer b) (Inside (Edit (TryTake t))) ∷ past) ≡ true
-  vain_take next =
-      let at : is_next_at Receivers t (buffer_at opening past (Buffer b)) ≡ false = ap (is_next_at Receivers t) is ∙ next in
-      rw (same_tid_self t, same_lock_self (Buffer b), at) refl
+  vain_take next = grind (arith, is, same_tid_self, same_lock_self)
 
 -- each section of a call, by its stage
 module _ (opening : LockId → Option BufferLock) (past : List BufferSection) (c : CpuId) (t : Tid) (lock : BufferLock) (position : ℕ)

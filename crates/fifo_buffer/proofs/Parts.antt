@@ -1,27 +1,18 @@
 -- How the effects and the moves of the buffers grow with events, and that a part keeps fitting over events of other CPUs.
 use Rattle.std.proofs.Common.{◌≡◌, ◌≢◌, ℕ, Bool, true, false, List, [], ◌∷◌, ◌++◌, Option, Some, None, option_to_list, if◌then◌else◌, refl, ap, sym, ◌∙◌, subst}
-use Rattle.std.proofs.Common.{append_assoc}
-use Rattle.std.specs.List.{AllByRecursion}
-use Rattle.event_log.specs.{declared.entries.Entry.Entry, History.AreForeign, History.AreOthers, History.IsLawful, History.same_cpu}
-use Rattle.event_log.specs.declared.ids.{BufId.BufId, CpuId.CpuId, LockId.LockId, LockId.TheVariants.Buffer, Tid.Tid}
-use Rattle.layer_traits.specs.declared.buffer_edits.BufferEdit.{BufferEdit, TheVariants.Enter, TheVariants.TryPut, TheVariants.TryTake, TheVariants.Shut}
-use Rattle.layer_traits.specs.{declared.buffer_edits.BufferOut.BufferOut, declared.calls.Call.Call, declared.conditions.CvEdit.TheVariants.Edit}
-use Rattle.layer_traits.specs.{declared.conditions.CvEdit.TheVariants.SignalFront, declared.locked.QEdit.TheVariants.Acquire}
-use Rattle.layer_traits.specs.{declared.locked.QEdit.TheVariants.Inside, declared.locked.QEdit.TheVariants.Release, declared.locked.Side.Side}
-use Rattle.layer_traits.specs.{declared.locked.Side.TheVariants.Receivers, declared.locked.Side.TheVariants.Senders, declared.queue_edits.QueueBlock.QueueBlock}
-use Rattle.layer_traits.specs.{declared.queues.QueueCall.QueueCall, declared.queues.QueueCall.TheVariants.Push, declared.queues.QueueCall.TheVariants.TakeAll}
-use Rattle.layer_traits.specs.{declared.queues.QueueCall.TheVariants.OnBuffer, declared.scheds.SchedCall.SchedCall, declared.call_states.CallState.CallState}
-use Rattle.layer_traits.specs.{BufferBlocks.effect_kind, BufferBlocks.first_item, BufferBlocks.is_next, BufferEffects.effect_of, BufferEffects.effect_on}
-use Rattle.layer_traits.specs.{BufferEffects.effects_in, BufferEffects.entry, BufferLaw.MovesGrow, BufferLaw.OthersSeen, BufferLaw.cpu_of_entry}
-use Rattle.layer_traits.specs.{BufferLaw.recorded, BufferLaw.call_state_of, BufferProtocol.BufferLock, BufferProtocol.BufferSection}
-use Rattle.layer_traits.specs.{BufferProtocol.buffer_monitor_rules, Conditions.CvCall, Conditions.cv_rules, CvLaw.Waiting, QLockLaw.lock_kernel}
-use Rattle.layer_traits.specs.{QLockLaw.slept_for, Places.home_of, Protocol.section, QueueBlocks.homes_in, QueueBlocks.inner, Queues.QueueAllowed}
-use Rattle.layer_traits.specs.{Queues.buffer_sections, Queues.cpu_of_queue_event, Queues.moves_in, Queues.with_section}
-use Rattle.layer_traits.proofs.CallLemmas.{moves_append, moves_others, moves_over}
-use Rattle.event_log.proofs.{Same.same_cpu_true, Foreign.others_both}
-use Rattle.fifo_buffer.specs.{FifoFits.PartFits, Stances.CallStateFits, SectionPolls.BufferEvent, SectionPolls.BufferOutcome, SectionPolls.CallsFit}
-use Rattle.fifo_buffer.specs.{SectionPolls.Goes, SectionPolls.IsDeferred, SectionPolls.Midway}
-use Rattle.fifo_buffer.proofs.Events.{keeps_fits}
+use Rattle.{std.{proofs.Common.{append_assoc, arith}, specs.List.AllByRecursion}, event_log.specs.declared.{entries.Entry.Entry, ids.BufId.BufId}}
+use Rattle.event_log.specs.{declared.ids.{CpuId.CpuId, LockId.{LockId, TheVariants.Buffer}, Tid.Tid}, History.{AreForeign, AreOthers, IsLawful, same_cpu}}
+use Rattle.{event_log.proofs.{Same.same_cpu_true, Foreign.others_both}, layer_traits.specs.declared.buffer_edits.BufferEdit.{BufferEdit, TheVariants.Enter}}
+use Rattle.layer_traits.specs.declared.{buffer_edits.{BufferEdit.TheVariants.{TryPut, TryTake, Shut}, BufferOut.BufferOut}, calls.Call.Call}
+use Rattle.layer_traits.specs.declared.{conditions.CvEdit.TheVariants.{Edit, SignalFront}, locked.{QEdit.TheVariants.{Acquire, Inside, Release}, Side.Side}}
+use Rattle.layer_traits.specs.declared.{locked.Side.TheVariants.{Receivers, Senders}, queue_edits.QueueBlock.QueueBlock, queues.QueueCall.QueueCall}
+use Rattle.layer_traits.specs.declared.{queues.QueueCall.TheVariants.{Push, TakeAll, OnBuffer}, scheds.SchedCall.SchedCall, call_states.CallState.CallState}
+use Rattle.layer_traits.specs.{BufferBlocks.{effect_kind, first_item, is_next}, BufferEffects.{effect_of, effect_on, effects_in, entry}, BufferLaw.MovesGrow}
+use Rattle.layer_traits.specs.{BufferLaw.{OthersSeen, cpu_of_entry, recorded, call_state_of}, BufferProtocol.{BufferLock, BufferSection, buffer_monitor_rules}}
+use Rattle.layer_traits.specs.{Conditions.{CvCall, cv_rules}, CvLaw.Waiting, QLockLaw.{lock_kernel, slept_for}, Places.home_of, Protocol.section}
+use Rattle.layer_traits.specs.{QueueBlocks.{homes_in, inner}, Queues.{QueueAllowed, buffer_sections, cpu_of_queue_event, moves_in, with_section}}
+use Rattle.{layer_traits.proofs.CallLemmas.{moves_append, moves_others, moves_over}, fifo_buffer.specs.{FifoFits.PartFits, Stances.CallStateFits}}
+use Rattle.fifo_buffer.{specs.SectionPolls.{BufferEvent, BufferOutcome, CallsFit, Goes, IsDeferred, Midway}, proofs.Events.keeps_fits}
 
 -- an effect has its section's CPU
 one_entry : (d cpu : CpuId) (b : BufId) (call : CvCall BufferEdit) (position : Side → Tid → ℕ) (x : Option BufferLock) → same_cpu cpu d ≡ false
@@ -60,9 +51,7 @@ module _ (O : LockId → Option BufferLock) where
 
   effects_with : (cpu : CpuId) (call : QueueCall (CvCall BufferEdit)) (past : List BufferSection)
       → effects_in O (with_section cpu call past) ≡ effect_by cpu call past ++ effects_in O past
-  effects_with cpu (Push d t) past = refl
-  effects_with cpu (TakeAll d) past = refl
-  effects_with cpu (OnBuffer b call) past = refl
+  effects_with cpu call past = grind arith
 
   pub effects_append : (more past : List BufferEvent)
       → effects_in O (buffer_sections (more ++ past)) ≡ effects_over more past ++ effects_in O (buffer_sections past)
@@ -203,8 +192,7 @@ own_others c d other [] own = tt
 own_others c d other (e ∷ mine) own = (go (same_cpu e.cpu d) refl, own_others c d other mine own.1)
   where
     go : (b : Bool) → same_cpu e.cpu d ≡ b → b ≡ false
-    go false is = refl
-    go true is = absurd (other (sym (same_cpu_true e.cpu d is) ∙ own.0))
+    go b is = grind (arith, same_cpu_true)
 
 pub other_part : (opening : LockId → Option (QueueBlock BufferLock)) (c d : CpuId) → d ≢ c → (mine others past new : List BufferEvent)
     → AllByRecursion (λ (e : BufferEvent). e.cpu ≡ c) mine → AreOthers cpu_of_queue_event d others → new ≡ mine ++ (others ++ past)

@@ -1,16 +1,14 @@
 -- A call that is passed on to the scheduler has no effect, and leaves the call states as they fit.
-use Rattle.std.proofs.Common.{◌≡◌, Bool, true, false, List, [], ◌++◌, Option, Some, None, is_some, if◌then◌else◌, refl, ap, sym, ◌∙◌, subst}
-use Rattle.event_log.specs.{declared.ids.CpuId.CpuId, declared.ids.LockId.LockId, declared.ids.Tid.Tid, History.AreOthers, History.IsLawful}
-use Rattle.layer_traits.specs.{declared.buffer_edits.BufferEdit.BufferEdit, declared.buffer_edits.BufferOut.BufferOut, declared.passes.Pass.Pass}
-use Rattle.layer_traits.specs.{declared.passes.Pass.TheVariants.Switch, declared.queue_edits.QueueBlock.QueueBlock, declared.scheds.SchedCall.SchedCall}
-use Rattle.layer_traits.specs.{declared.call_states.CallState.CallState, BufferEffects.effects_in, BufferLaw.Calling, BufferLaw.MayGoOn, BufferLaw.OthersSeen}
-use Rattle.layer_traits.specs.{BufferLaw.Passing, BufferProtocol.BufferLock, BufferProtocol.buffer_monitor_rules, Conditions.CvCall, Conditions.cv_rules}
-use Rattle.layer_traits.specs.{CvLaw.Waiting, QLockLaw.lock_kernel, Passes.PassPolled, Places.Threads, QueueBlocks.homes_in, QueueBlocks.inner}
-use Rattle.layer_traits.specs.{Queues.QueueAllowed, Queues.buffer_sections, Queues.cpu_of_queue_event, Queues.moves_in, Scheds.SchedPolled, Scheds.events_of}
-use Rattle.layer_traits.specs.{Scheds.pass_call, SleepLaw.done_if}
-use Rattle.layer_traits.proofs.{CallLemmas.pass_polled, SleepLemmas.done_same, Seen.lawful_rest}
-use Rattle.fifo_buffer.specs.{FifoFits.PartFits, SectionPolls.BufferEvent, SectionPolls.BufferOutcome, SectionPolls.NoSection, SectionPolls.under_way_at}
-use Rattle.fifo_buffer.proofs.Parts.{effects_append, effects_others, effects_over, part_on}
+use Rattle.std.proofs.Common.{◌≡◌, Bool, true, false, List, [], ◌++◌, Option, Some, None, is_some, if◌then◌else◌, ap, sym, ◌∙◌, arith}
+use Rattle.event_log.specs.{declared.ids.{CpuId.CpuId, LockId.LockId, Tid.Tid}, History.{AreOthers, IsLawful}}
+use Rattle.layer_traits.specs.declared.{buffer_edits.{BufferEdit.BufferEdit, BufferOut.BufferOut}, passes.Pass.Pass, queue_edits.QueueBlock.QueueBlock}
+use Rattle.layer_traits.specs.{declared.{scheds.SchedCall.SchedCall, call_states.CallState.CallState}, BufferEffects.effects_in, BufferLaw.{Calling, MayGoOn}}
+use Rattle.layer_traits.specs.{BufferLaw.{OthersSeen, Passing}, BufferProtocol.{BufferLock, buffer_monitor_rules}, Conditions.{CvCall, cv_rules}, CvLaw.Waiting}
+use Rattle.layer_traits.specs.{QLockLaw.lock_kernel, Passes.PassPolled, Places.Threads, QueueBlocks.{homes_in, inner}, Queues.{QueueAllowed, buffer_sections}}
+use Rattle.layer_traits.specs.{Queues.{cpu_of_queue_event, moves_in}, Scheds.{SchedPolled, events_of, pass_call}, SleepLaw.done_if}
+use Rattle.{layer_traits.proofs.{CallLemmas.pass_polled, SleepLemmas.done_same, Seen.lawful_rest}, fifo_buffer.specs.FifoFits.PartFits}
+use Rattle.fifo_buffer.{specs.SectionPolls.{BufferEvent, BufferOutcome, NoSection, under_way_at}, proofs.Parts.{effects_append, effects_others, effects_over}}
+use Rattle.fifo_buffer.proofs.Parts.{part_on}
 use Rattle.layer_traits.specs.declared.scheds.SchedCall.TheVariants as sched
 
 -- its event, where it has one, is no section of a buffer
@@ -19,14 +17,11 @@ pass_events homes c p done = if done then events_of c (pass_call homes c p) else
 
 no_sections : (homes : List CpuId) (c : CpuId) (p : Pass) (done : Bool) (past : List BufferEvent)
     → buffer_sections (pass_events homes c p done ++ past) ≡ buffer_sections past
-no_sections homes c p false past = refl
-no_sections homes c Switch true past = refl
-no_sections homes c other true past = refl
+no_sections homes c p done past = grind arith
 
 split : (homes : List CpuId) (c : CpuId) (p : Pass) (done : Bool) (past : List BufferEvent)
     → (if done then events_of c (pass_call homes c p) ++ past else past) ≡ pass_events homes c p done ++ past
-split homes c p true past = refl
-split homes c p false past = refl
+split homes c p done past = grind arith
 
 -- a call that was passed on to the scheduler of CPU c: the log and the CPU's threads before it and after it, and what it did
 pub record PassDone : Type 1 where
@@ -101,9 +96,7 @@ module _ (pass : PassDone) where
 pub lawful_before : (opening : LockId → Option (QueueBlock BufferLock)) (mine past new : List BufferEvent) → new ≡ mine ++ past
     → IsLawful (QueueAllowed (lock_kernel (cv_rules buffer_monitor_rules) opening)) new
     → IsLawful (QueueAllowed (lock_kernel (cv_rules buffer_monitor_rules) opening)) past
-lawful_before opening mine past new is lawful =
-    let may = QueueAllowed (lock_kernel (cv_rules buffer_monitor_rules) opening) in
-    lawful_rest may mine past (subst (IsLawful may) is lawful)
+lawful_before opening mine past new is lawful = grind (arith, lawful_rest)
 
 -- what a pass changes of the part: its threads, and which pass is under way
 pub passed_own : (opening : LockId → Option (QueueBlock BufferLock)) (c : CpuId) (past : List BufferEvent) (cv cv' : Waiting BufferOut)

@@ -1,44 +1,31 @@
 -- One poll of the conditions, for a call at a stage: what it may be, and what it leaves.
 use Rattle.std.proofs.Common.{◌≡◌, ◌⊎◌, inl, inr, ◌<◌, ℕ, Bool, true, false, not, ◌&&◌, List, [], ◌∷◌, ◌++◌, length, Option, Some, None, IsSome, option_map}
-use Rattle.std.proofs.Common.{option_to_list, is_some, slice_set, if◌then◌else◌, refl, ap, sym, ◌∙◌, subst, arith}
-use Rattle.std.proofs.lemmas.{Bool.eqb-false, List.get_or-set_other, List.get_or-set_same, List.length-set}
-use Rattle.event_log.specs.{declared.ids.BufId.BufId, declared.ids.CpuId.CpuId, declared.ids.LockId.LockId, declared.ids.LockId.TheVariants.Buffer}
-use Rattle.event_log.specs.{declared.ids.Tid.Tid, declared.ids.TheConstants.THREADS, History.AreForeign, History.IsLawful}
-use Rattle.event_log.proofs.BoolLemmas.{none_of}
-use Rattle.layer_traits.specs.declared.{buffer_edits.BufferEdit.BufferEdit, buffer_edits.BufferOut.BufferOut, calls.Call.Call, calls.Call.TheVariants.Send}
-use Rattle.layer_traits.specs.declared.{calls.Call.TheVariants.Recv, calls.Call.TheVariants.Close, calls.Effect.Effect, conditions.CvLeave.TheVariants.Wait}
-use Rattle.layer_traits.specs.declared.{conditions.CvOut.CvOut, locked.QEdit.TheVariants.Acquire, locked.QEdit.TheVariants.Release, locked.QOut.QOut}
-use Rattle.layer_traits.specs.declared.{locked.Side.TheVariants.Receivers, locked.Side.TheVariants.Senders, moves.WaitList.WaitList}
-use Rattle.layer_traits.specs.declared.{queue_edits.QueueBlock.QueueBlock, scheds.SchedCall.SchedCall, call_states.Stage.Stage, call_states.CallState.CallState}
-use Rattle.layer_traits.specs.declared.locked.QOut.TheVariants.{Acquired, Queued, Did, Released}
-use Rattle.layer_traits.specs.declared.call_states.Stage.TheVariants.{Idle, Acquires, Enters, Tries, Waits, AcquiresAgain}
-use Rattle.layer_traits.specs.{BufferEffects.effects_in, BufferLaw.IsEffectOf, BufferLaw.buffer_of, BufferLaw.recorded, BufferLaw.section_at, BufferLaw.side_of}
-use Rattle.layer_traits.specs.{BufferProtocol.BufferLock, BufferProtocol.BufferSection, BufferProtocol.buffer_at, BufferProtocol.buffer_monitor_rules}
-use Rattle.layer_traits.specs.{BufferProtocol.buffer_rules, Conditions.CvCall, Conditions.cv_rules, CvLaw.MayCallCond, CvLaw.MayWait, CvLaw.Waiting}
-use Rattle.layer_traits.specs.{CvLaw.left_waiting, QLockLaw.MayGo, QLockLaw.MayLock, QLockLaw.Locking, QLockLaw.left_after, QLockLaw.lock_kernel, QLockLaw.slept_for}
-use Rattle.layer_traits.specs.{QLocking.wait_list_asked, QLocking.wait_list_slept, QLocking.lock_answer, QLocking.lock_out, QLocking.asker_report, Passes.own_slept}
-use Rattle.layer_traits.specs.{Passes.own_woken, Passes.passed_on, Passes.queue_for, Places.Threads, Places.home_of, Plans.Left, Protocol.section}
-use Rattle.layer_traits.specs.{QueueBlocks.homes_in, QueueBlocks.inner, Queues.QueueAllowed, Queues.buffer_sections, Queues.event, Queues.cpu_of_queue_event}
-use Rattle.layer_traits.specs.{Queues.out_at, SleepLaw.PollResult, SleepLaw.Does, SleepLaw.Sends, SleepLaw.Sleeping, SleepLaw.Waits as WaitsStill}
-use Rattle.layer_traits.specs.{SleepLaw.MayDo, SleepLaw.left_with, SleepLaw.must_send, SleepLaw.seen_with}
-use Rattle.layer_traits.proofs.PlaceLemmas.{woken_current}
-use Rattle.thread_blocks.specs.Queues.{same_tid}
-use Rattle.fifo_buffer.specs.Stances.{InCall, IsMark, CallStateFits, asks_at, recorded_by, slept_by, call_state_in, waits_at, waits_by}
-use Rattle.fifo_buffer.specs.SectionPolls.{After, BufferEvent, BufferOutcome, Goes, IsDeferred, MayPollSection, Midway, SectionPolled, recorded_if, is_plain}
-use Rattle.fifo_buffer.proofs.{Apart.fits_apart, Callers.Caller, Events.caller_is, Events.due_now, Events.keeps_fits, Events.owner_due, OwnSteps.Stepped}
-use Rattle.fifo_buffer.proofs.{OwnSteps.own_step}
+use Rattle.std.proofs.{Common.{option_to_list, is_some, slice_set, if◌then◌else◌, refl, ap, sym, ◌∙◌, subst, arith}, lemmas.Bool.eqb-false}
+use Rattle.{std.proofs.lemmas.List.{get_or-set_other, get_or-set_same, length-set}, event_log.specs.declared.ids.{BufId.BufId, CpuId.CpuId, LockId.LockId}}
+use Rattle.event_log.specs.{declared.ids.{LockId.TheVariants.Buffer, Tid.Tid, TheConstants.THREADS}, History.{AreForeign, IsLawful}}
+use Rattle.{event_log.proofs.BoolLemmas.none_of, layer_traits.specs.declared.{buffer_edits.{BufferEdit.BufferEdit, BufferOut.BufferOut}, calls.Call.Call}}
+use Rattle.layer_traits.specs.declared.{calls.Effect.Effect, conditions.{CvLeave.TheVariants.Wait, CvOut.CvOut}, locked.QEdit.TheVariants.{Acquire, Release}}
+use Rattle.layer_traits.specs.declared.{locked.QOut.{QOut, TheVariants.{Acquired, Queued, Did, Released}}, moves.WaitList.WaitList}
+use Rattle.layer_traits.specs.declared.{queue_edits.QueueBlock.QueueBlock, scheds.SchedCall.SchedCall, call_states.{Stage.Stage, CallState.CallState}}
+use Rattle.layer_traits.specs.{BufferEffects.effects_in, BufferLaw.{IsEffectOf, buffer_of, recorded, section_at, side_of}, BufferProtocol.BufferLock}
+use Rattle.layer_traits.specs.{BufferProtocol.{BufferSection, buffer_at, buffer_monitor_rules, buffer_rules}, Conditions.{CvCall, cv_rules}, CvLaw.MayCallCond}
+use Rattle.layer_traits.specs.{CvLaw.{MayWait, Waiting, left_waiting}, QLockLaw.{MayGo, MayLock, Locking, left_after, lock_kernel, slept_for}}
+use Rattle.layer_traits.specs.{QLocking.{wait_list_asked, wait_list_slept, lock_answer, lock_out, asker_report}, Passes.{own_slept, own_woken, passed_on}}
+use Rattle.layer_traits.specs.{Passes.queue_for, Places.{Threads, home_of}, Plans.Left, Protocol.section, QueueBlocks.{homes_in, inner}, Queues.QueueAllowed}
+use Rattle.layer_traits.specs.{Queues.{buffer_sections, event, cpu_of_queue_event, out_at}, SleepLaw.{PollResult, Does, Sends, Sleeping, Waits as WaitsStill}}
+use Rattle.{layer_traits.{specs.SleepLaw.{MayDo, left_with, must_send, seen_with}, proofs.PlaceLemmas.woken_current}, thread_blocks.specs.Queues.same_tid}
+use Rattle.fifo_buffer.specs.{Stances.{InCall, CallStateFits, asks_at, recorded_by, slept_by, call_state_in, waits_at, waits_by}, SectionPolls.After}
+use Rattle.fifo_buffer.specs.SectionPolls.{BufferEvent, BufferOutcome, Goes, IsDeferred, MayPollSection, Midway, SectionPolled, recorded_if, is_plain}
+use Rattle.fifo_buffer.proofs.{Apart.fits_apart, Callers.Caller, Events.{caller_is, due_now, keeps_fits, owner_due}, OwnSteps.{Stepped, own_step}}
 use Rattle.layer_traits.specs.declared.conditions.CvOut.TheVariants as answer
 use Rattle.layer_traits.specs.declared.queues.QueueCall.TheVariants as queue
 use Rattle.layer_traits.specs.declared.scheds.SchedCall.TheVariants as sched
 
 pub waits_section : (t : Tid) (call : Call) (stage : Stage) → waits_at stage ≡ true → section_at t call stage ≡ Release (Wait t (side_of call))
-waits_section t call Waits is = refl
-waits_section t call stage is = absurd cc
+waits_section t call stage is = grind arith
 
 pub asks_section : (t : Tid) (call : Call) (stage : Stage) → asks_at stage ≡ true → section_at t call stage ≡ Acquire t
-asks_section t call Acquires is = refl
-asks_section t call AcquiresAgain is = refl
-asks_section t call stage is = absurd cc
+asks_section t call stage is = grind arith
 
 module _ (opening : LockId → Option (QueueBlock BufferLock)) (c : CpuId) (t : Tid) (home : home_of (homes_in opening) t ≡ Some c) (call : Call)
     (call_state : CallState)
@@ -51,14 +38,8 @@ module _ (opening : LockId → Option (QueueBlock BufferLock)) (c : CpuId) (t : 
       (MayGo slept under_way (buffer_of call) (section_at t call call_state.stage) t
       (MayLock (cv_rules buffer_monitor_rules) (lock_kernel (cv_rules buffer_monitor_rules) opening) c past own.lock.sleep.threads.hand (buffer_of call)
       (section_at t call call_state.stage)))
-  may_for own None slept (Some at) slept_is waits_is goes =
-      let mark : IsMark (buffer_of call) (waits_at call_state.stage) (Some at) = subst (IsMark (buffer_of call) (waits_at call_state.stage)) waits_is
-      goes.fits.waits_here in
-      (refl, mark.0, (side_of call, waits_section t call call_state.stage mark.1))
-  may_for own None (Some at) None slept_is waits_is goes =
-      let mark : IsMark (buffer_of call) (asks_at call_state.stage) (Some at) = subst (IsMark (buffer_of call)
-      (asks_at call_state.stage)) slept_is goes.fits.slept_here in
-      (refl, mark.0, asks_section t call call_state.stage mark.1)
+  may_for own None slept (Some at) slept_is waits_is goes = grind (arith, waits_section)
+  may_for own None (Some at) None slept_is waits_is goes = grind (arith, asks_section)
   may_for own None None None slept_is waits_is goes =
       let now : InCall (inner opening) (buffer_sections past) t call None None call_state.stage call_state.position call_state.effect
       = subst (λ w. InCall (inner opening) (buffer_sections past) t call None w call_state.stage call_state.position call_state.effect) waits_is
@@ -70,26 +51,15 @@ module _ (opening : LockId → Option (QueueBlock BufferLock)) (c : CpuId) (t : 
         stays = λ more others lawful. due_now (inner opening) (buffer_sections (more ++ past)) t call call_state.stage call_state.position call_state.effect
             (keeps_fits opening c t home more past others lawful (Some call) None None call_state now);
       }
-  may_for own (Some s) slept (Some at) slept_is waits_is goes = absurd (none (sym goes.waits ∙ waits_is))
-    where
-      none : None ≡ Some at → ⊥
-      none is = absurd cc
-  may_for own (Some s) (Some at) None slept_is waits_is goes = absurd (none (sym goes.slept ∙ slept_is))
-    where
-      none : None ≡ Some at → ⊥
-      none is = absurd cc
+  may_for own (Some s) slept (Some at) slept_is waits_is goes = grind arith
+  may_for own (Some s) (Some at) None slept_is waits_is goes = grind arith
   may_for own (Some s) None None slept_is waits_is goes = goes.is
 
   pub may_poll_section : (own : Waiting BufferOut) (under_way : Option (SchedCall (CvCall BufferEdit)))
       → MayPollSection (inner opening) (buffer_sections past) t call call_state own under_way
       → MayCallCond buffer_monitor_rules (lock_kernel (cv_rules buffer_monitor_rules) opening) c past own under_way (buffer_of call)
       (section_at t call call_state.stage)
-  may_poll_section own under_way may =
-      let same = caller_is t call call_state.stage in
-      record {
-        runs = rw same may.current;
-        may = rw same (may_for own under_way (slept_for own.lock.slept t) (slept_for own.waits t) refl refl may.goes);
-      }
+  may_poll_section own under_way may = grind (arith, caller_is, may_for)
 
 -- the marks after an answer
 abbrev slept_list : Tid → BufId → List (Option BufId) → QOut (CvOut BufferOut) → List (Option BufId)
@@ -117,13 +87,7 @@ both_left : (t : Tid) (b : BufId) (waits slept : List (Option BufId)) (sleep : S
       own = record { lock = record { sleep = sleep; slept = slept_list t b slept out }; waits = waits_list t b waits out };
       answer = if is_plain out then Some outcome else None;
     }
-both_left t b waits slept sleep Acquired outcome is = rw is refl
-both_left t b waits slept sleep Queued outcome is = rw is refl
-both_left t b waits slept sleep (Did o) outcome is = rw is refl
-both_left t b waits slept sleep (Released (answer.Did o)) outcome is = rw is refl
-both_left t b waits slept sleep (Released (answer.Signalled side front)) outcome is = rw is refl
-both_left t b waits slept sleep (Released answer.Left) outcome is = rw is refl
-both_left t b waits slept sleep (Released (answer.Waited side)) outcome is = rw is refl
+both_left t b waits slept sleep out outcome is = grind arith
 
 plain_marks : (O : LockId → Option BufferLock) (past : _) (t : Tid) (b : BufId) (call_state : CallState) (stage : Stage) (out : QOut (CvOut BufferOut))
     → is_plain out ≡ true
@@ -139,61 +103,36 @@ plain_marks O past t b call_state stage (Released (answer.Waited side)) plain fi
 
 plain_recorded : (call_state : CallState) (stage : Stage) (out : QOut (CvOut BufferOut)) → is_plain out ≡ true
     → recorded_by call_state stage out ≡ recorded call_state stage out
-plain_recorded call_state stage Acquired plain = refl
-plain_recorded call_state stage Queued plain = absurd cc
-plain_recorded call_state stage (Did o) plain = refl
-plain_recorded call_state stage (Released (answer.Did o)) plain = refl
-plain_recorded call_state stage (Released (answer.Signalled side front)) plain = refl
-plain_recorded call_state stage (Released answer.Left) plain = refl
-plain_recorded call_state stage (Released (answer.Waited side)) plain = absurd cc
+plain_recorded call_state stage out plain = grind arith
 
 asked_sleeps : (owner : Option Tid) → is_some (wait_list_asked owner) ≡ is_some (wait_list_slept (cv_rules buffer_monitor_rules) (asker_report owner))
-asked_sleeps None = refl
-asked_sleeps (Some o) = refl
+asked_sleeps owner = grind arith
 
 -- whether a section puts its caller to sleep: its answer tells
 sleeps_as : (e : CvCall BufferEdit) (lock : BufferLock)
     → (lock_answer (cv_rules buffer_monitor_rules) e lock).slept ≡ is_some (wait_list_slept (cv_rules buffer_monitor_rules) (lock_answer
     (cv_rules buffer_monitor_rules) e lock).out)
-sleeps_as (Acquire t) lock = asked_sleeps lock.owner
-sleeps_as other lock = refl
+sleeps_as e lock = grind (arith, asked_sleeps)
 
 plain_stays : (out : QOut (CvOut BufferOut)) → is_plain out ≡ true → wait_list_slept (cv_rules buffer_monitor_rules) out ≡ None
-plain_stays Acquired plain = refl
-plain_stays Queued plain = absurd cc
-plain_stays (Did o) plain = refl
-plain_stays (Released (answer.Did o)) plain = refl
-plain_stays (Released (answer.Signalled side front)) plain = refl
-plain_stays (Released answer.Left) plain = refl
-plain_stays (Released (answer.Waited side)) plain = absurd cc
+plain_stays out plain = grind arith
 
 -- a wait's answer is not handed on at once
 no_wait_plain : (t : Tid) (call : Call) (stage : Stage) (lock : BufferLock) → is_plain (lock_out buffer_rules (section_at t call stage) lock) ≡ true
     → waits_at stage ≡ false
-no_wait_plain t call Waits lock plain = absurd cc
-no_wait_plain t call stage lock plain = refl
+no_wait_plain t call stage lock plain = grind arith
 
 -- a section that wakes somebody has no effect
 same_effect_or_none : (t : Tid) (call : Call) (stage : Stage) (call_state : CallState) (lock : BufferLock)
     → ((recorded call_state stage (lock_out buffer_rules (section_at t call stage) lock)).effect ≡ call_state.effect)
     ⊎ ((lock_answer buffer_rules (section_at t call stage) lock).woke ≡ None)
-same_effect_or_none t call Idle call_state lock = inl refl
-same_effect_or_none t call Acquires call_state lock = inl refl
-same_effect_or_none t (Send b m) Enters call_state lock = inl refl
-same_effect_or_none t (Recv b) Enters call_state lock = inl refl
-same_effect_or_none t (Close b) Enters call_state lock = inr refl
-same_effect_or_none t (Send b m) Tries call_state lock = inr refl
-same_effect_or_none t (Recv b) Tries call_state lock = inr refl
-same_effect_or_none t (Close b) Tries call_state lock = inr refl
-same_effect_or_none t call other call_state lock = inl refl
+same_effect_or_none t call stage call_state lock = grind arith
 
 woken_ended : (homes : List CpuId) (c : CpuId) (woke : Option Tid) (own : Threads) → (own_woken homes c woke own).ended ≡ own.ended
-woken_ended homes c None own = refl
-woken_ended homes c (Some u) own = refl
+woken_ended homes c woke own = grind arith
 
 slept_ended : (line : Option WaitList) (own : Threads) → (own_slept line own).ended ≡ own.ended
-slept_ended None own = refl
-slept_ended (Some l) own = refl
+slept_ended line own = grind arith
 
 -- marks of other threads
 pub other_mark : (l : List (Option BufId)) (t u : Tid) (v : Option BufId) → same_tid t u ≡ false → slept_for (slice_set l t.0 v) u ≡ slept_for l u
@@ -204,76 +143,43 @@ own_mark l t v size small = get_or-set_same l t.0 v None (omega (arith, size, sm
 
 plain_lists : (t : Tid) (b : BufId) (slept waits : List (Option BufId)) (out : QOut (CvOut BufferOut)) → is_plain out ≡ true
     → (slept_list t b slept out ≡ slept) × (waits_list t b waits out ≡ waits)
-plain_lists t b slept waits Acquired plain = (refl, refl)
-plain_lists t b slept waits Queued plain = absurd cc
-plain_lists t b slept waits (Did o) plain = (refl, refl)
-plain_lists t b slept waits (Released (answer.Did o)) plain = (refl, refl)
-plain_lists t b slept waits (Released (answer.Signalled side front)) plain = (refl, refl)
-plain_lists t b slept waits (Released answer.Left) plain = (refl, refl)
-plain_lists t b slept waits (Released (answer.Waited side)) plain = absurd cc
+plain_lists t b slept waits out plain = grind arith
 
 slept_mark : (t : Tid) (b : BufId) (slept : List (Option BufId)) (out : QOut (CvOut BufferOut)) → length slept ≡ THREADS → t.0 < THREADS
     → slept_for slept t ≡ None
     → slept_for (slept_list t b slept out) t ≡ slept_by b out
-slept_mark t b slept Queued size small none = own_mark slept t (Some b) size small
-slept_mark t b slept other size small none = none
+slept_mark t b slept out size small none = grind (arith, own_mark)
 
 waits_mark : (t : Tid) (b : BufId) (waits : List (Option BufId)) (out : QOut (CvOut BufferOut)) → length waits ≡ THREADS → t.0 < THREADS
     → slept_for waits t ≡ None
     → slept_for (waits_list t b waits out) t ≡ waits_by b out
-waits_mark t b waits Acquired size small none = none
-waits_mark t b waits Queued size small none = none
-waits_mark t b waits (Did o) size small none = none
-waits_mark t b waits (Released (answer.Did o)) size small none = none
-waits_mark t b waits (Released (answer.Signalled side front)) size small none = none
-waits_mark t b waits (Released answer.Left) size small none = none
-waits_mark t b waits (Released (answer.Waited side)) size small none = own_mark waits t (Some b) size small
+waits_mark t b waits out size small none = grind (arith, own_mark)
 
 -- the marks of others, and the lengths
 marks_other : (t u : Tid) (b : BufId) (slept waits : List (Option BufId)) (out : QOut (CvOut BufferOut)) → same_tid t u ≡ false
     → (slept_for (slept_list t b slept out) u ≡ slept_for slept u) × (slept_for (waits_list t b waits out) u ≡ slept_for waits u)
-marks_other t u b slept waits Acquired other = (refl, refl)
-marks_other t u b slept waits Queued other = (other_mark slept t u (Some b) other, refl)
-marks_other t u b slept waits (Did o) other = (refl, refl)
-marks_other t u b slept waits (Released (answer.Did o)) other = (refl, refl)
-marks_other t u b slept waits (Released (answer.Signalled side front)) other = (refl, refl)
-marks_other t u b slept waits (Released answer.Left) other = (refl, refl)
-marks_other t u b slept waits (Released (answer.Waited side)) other = (refl, other_mark waits t u (Some b) other)
+marks_other t u b slept waits out other = grind (arith, other_mark)
 
 marks_sizes : (t : Tid) (b : BufId) (slept waits : List (Option BufId)) (out : QOut (CvOut BufferOut))
     → (length (slept_list t b slept out) ≡ length slept) × (length (waits_list t b waits out) ≡ length waits)
-marks_sizes t b slept waits Acquired = (refl, refl)
-marks_sizes t b slept waits Queued = (length-set slept t.0 (Some b), refl)
-marks_sizes t b slept waits (Did o) = (refl, refl)
-marks_sizes t b slept waits (Released (answer.Did o)) = (refl, refl)
-marks_sizes t b slept waits (Released (answer.Signalled side front)) = (refl, refl)
-marks_sizes t b slept waits (Released answer.Left) = (refl, refl)
-marks_sizes t b slept waits (Released (answer.Waited side)) = (refl, length-set waits t.0 (Some b))
+marks_sizes t b slept waits out = grind (arith, length-set)
 
 -- an answer that is not handed on at once puts its caller to sleep
 sleeping_wait_list : (out : QOut (CvOut BufferOut)) → is_plain out ≡ false → is_some (wait_list_slept (cv_rules buffer_monitor_rules) out) ≡ true
-sleeping_wait_list Queued plain = refl
-sleeping_wait_list (Released (answer.Waited Receivers)) plain = refl
-sleeping_wait_list (Released (answer.Waited Senders)) plain = refl
-sleeping_wait_list other plain = absurd cc
+sleeping_wait_list out plain = grind arith
 
 sleeping_recorded : (call_state : CallState) (stage : Stage) (out : QOut (CvOut BufferOut)) → is_plain out ≡ false
     → recorded_by call_state stage out ≡ call_state
-sleeping_recorded call_state stage Queued plain = refl
-sleeping_recorded call_state stage (Released (answer.Waited side)) plain = refl
-sleeping_recorded call_state stage other plain = absurd cc
+sleeping_recorded call_state stage out plain = grind arith
 
 sleeps_none : (line : Option WaitList) (own : Threads) → is_some line ≡ true → (own_slept line own).current ≡ None
-sleeps_none None own is = absurd cc
-sleeps_none (Some l) own is = refl
+sleeps_none line own is = grind arith
 
 not_true : (x y : Bool) → (not x && y) ≡ true → (x ≡ false) × (y ≡ true)
-not_true true y is = absurd cc
-not_true false y is = (refl, is)
+not_true x y is = grind arith
 
 not_false : (x y : Bool) → (not x && y) ≡ false → x ≡ false → y ≡ false
-not_false true y is out = absurd cc
-not_false false y is out = is
+not_false x y is out = grind arith
 
 module _ (caller : Caller) (stage : Stage) (position : ℕ) (effect : Option Effect) (others : List BufferEvent)
     (foreign : AreForeign caller.ActsFor cpu_of_queue_event others) where
@@ -305,20 +211,7 @@ module _ (caller : Caller) (stage : Stage) (position : ℕ) (effect : Option Eff
 
   module _ (slept_none : slept_for own.lock.slept t ≡ None) (waits_none : slept_for own.waits t ≡ None) where
     view : (under_way : Option (SchedCall (CvCall BufferEdit))) → Goes O (buffer_sections old) t call call_state own under_way → Fresh ⊎ Keeping
-    view None goes =
-        inl (
-          goes.deferred,
-          goes.hand,
-          subst (λ w. InCall O (buffer_sections old) t call None w stage position effect) waits_none
-              (subst (λ s. InCall O (buffer_sections old) t call s (slept_for own.waits t) stage position effect) slept_none goes.fits),
-        )
-    view (Some s) goes = go own.lock.sleep.deferred refl goes.midway
-      where
-        go : (deferred : Option BufferOutcome) → own.lock.sleep.deferred ≡ deferred
-            → Midway O (buffer_sections old) t call call_state deferred own.lock.sleep.threads.hand
-            → Fresh ⊎ Keeping
-        go None is midway = inl (is, midway.0, midway.1)
-        go (Some outcome) is midway = inr (outcome, is, midway)
+    view under_way goes = grind arith
 
     never : waits_at stage ≡ true → false ≡ is_some (slept_for own.waits t)
     never is = ap is_some (sym waits_none)
@@ -505,28 +398,13 @@ module _ (caller : Caller) (stage : Stage) (position : ℕ) (effect : Option Eff
           parts = not_true outcome.slept (is_some threads.hand) sends
 
           plain : is_plain outcome.out ≡ true
-          plain = go (is_plain outcome.out) refl
-            where
-              go : (b : Bool) → is_plain outcome.out ≡ b → b ≡ true
-              go true is = refl
-              go false is = let slept : outcome.slept ≡ true = sleeps_as e lock ∙ sleeping_wait_list outcome.out is in absurd (cc (slept, parts.0))
+          plain = grind (arith, sleeps_as, sleeping_wait_list, parts)
 
           stays_up : wait_list_slept (cv_rules buffer_monitor_rules) outcome.out ≡ None
           stays_up = plain_stays outcome.out plain
 
           quiet : (recorded call_state stage outcome.out).effect ≡ call_state.effect
-          quiet = by_case (same_effect_or_none t call stage call_state lock)
-            where
-              by_case : ((recorded call_state stage outcome.out).effect ≡ call_state.effect) ⊎ (outcome.woke ≡ None)
-                  → (recorded call_state stage outcome.out).effect ≡ call_state.effect
-              by_case (inl is) = is
-              by_case (inr woke) =
-                  let hand : threads.hand ≡ None
-                  = ap (λ w. (own_woken (homes_in opening) c w (own_slept (wait_list_slept
-                  (cv_rules buffer_monitor_rules) outcome.out) own.lock.sleep.threads)).hand) woke
-                  ∙ ap (λ line. (own_slept line own.lock.sleep.threads).hand) stays_up ∙ now.1 in
-                  let none : is_some threads.hand ≡ false = ap is_some hand in
-                  absurd (cc (none, parts.1))
+          quiet = grind (arith, same_effect_or_none, stays_up, parts)
 
           none_some : {f : Effect} → effect ≡ None → effect ≡ Some f → ⊥
           none_some is_none is = absurd (cc (is_none, is))

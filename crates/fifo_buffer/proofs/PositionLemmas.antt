@@ -1,25 +1,15 @@
 -- A line's counter counts the threads that entered it.
-use Rattle.std.proofs.Common.{◌≡◌, ℕ, ◌+◌, ◌≤◌, ◌<◌, ◌%◌, ◌^◌, Bool, true, false, not, ◌&&◌, List, [], ◌∷◌, length, Option, Some, None, option_map}
-use Rattle.std.proofs.Common.{if◌then◌else◌, get_or, refl, ap, sym, ◌∙◌, arith, lt-ltb}
-use Rattle.std.proofs.lemmas.Option.{slice_get_within, slice_get-get_or}
-use Rattle.event_log.specs.{declared.ids.BufId.BufId, declared.ids.CpuId.CpuId, declared.ids.LockId.LockId, declared.ids.LockId.TheVariants.Buffer}
-use Rattle.event_log.specs.{declared.ids.Tid.Tid, declared.ids.TheConstants.THREADS, History.IsLawful, History.same_lock, Messages.Message}
-use Rattle.event_log.proofs.Same.{same_lock_true}
-use Rattle.layer_traits.specs.{declared.buffer_edits.BufferEdit.BufferEdit, declared.conditions.CvEdit.TheVariants.Edit}
-use Rattle.layer_traits.specs.{declared.conditions.CvEdit.TheVariants.SignalFront, declared.locked.QEdit.TheVariants.Acquire}
-use Rattle.layer_traits.specs.{declared.locked.QEdit.TheVariants.Inside, declared.locked.QEdit.TheVariants.Release, declared.locked.Side.Side}
-use Rattle.layer_traits.specs.{declared.locked.Side.TheVariants.Receivers, declared.locked.Side.TheVariants.Senders, declared.queue_edits.QueueBlock.QueueBlock}
-use Rattle.layer_traits.specs.{declared.queues.QueueCall.QueueCall, declared.queues.QueueCall.TheVariants.Push, declared.queues.QueueCall.TheVariants.TakeAll}
-use Rattle.layer_traits.specs.{declared.queues.QueueCall.TheVariants.OnBuffer, BufferEffects.fresh_lock, BufferEffects.drawn_in, BufferProtocol.BufferLock}
-use Rattle.layer_traits.specs.{BufferProtocol.BufferSection, BufferProtocol.IsDue, BufferProtocol.buffer_at, BufferProtocol.buffer_monitor_rules}
-use Rattle.layer_traits.specs.{BufferProtocol.buffer_rules, BufferProtocol.is_in_line, Conditions.CvCall, Conditions.cv_rules, QLockLaw.lock_kernel}
-use Rattle.layer_traits.specs.{QLocking.asked, QLocking.lock_caller, QLocking.lock_edited, Places.home_of, Protocol.section, QueueBlocks.StartsWell}
-use Rattle.layer_traits.specs.{QueueBlocks.homes_in, QueueBlocks.inner, Queues.QueueAllowed, Queues.buffer_sections, Queues.with_section}
-use Rattle.layer_traits.specs.declared.buffer_edits.BufferEdit.TheVariants.{Enter, TryPut, TryTake, Shut}
-use Rattle.layer_traits.specs.BufferBlocks.{BufferState, counted, entered, is_next, line_of, may_join, drawn_of, put_in, shut, taken_out}
-use Rattle.thread_blocks.specs.Queues.{is_in}
-use Rattle.fifo_buffer.specs.{FifoFits.BootsSo, FifoFits.caps_in, Laws.OwnedLaws.found, Positions.PositionsAreCounts, Positions.enters, Positions.entries_of}
-use Rattle.fifo_buffer.specs.{Stances.same_side, SectionPolls.BufferEvent}
+use Rattle.std.proofs.Common.{◌≡◌, ℕ, ◌+◌, ◌<◌, ◌%◌, ◌^◌, Bool, true, false, not, ◌&&◌, List, [], ◌∷◌, length, Option, Some, option_map, if◌then◌else◌, get_or}
+use Rattle.std.proofs.{Common.{refl, ap, sym, ◌∙◌, arith, lt-ltb}, lemmas.Option.{slice_get_within, slice_get-get_or}}
+use Rattle.event_log.specs.{declared.ids.{BufId.BufId, CpuId.CpuId, LockId.{LockId, TheVariants.Buffer}, Tid.Tid, TheConstants.THREADS}, History.IsLawful}
+use Rattle.{event_log.{specs.{History.same_lock, Messages.Message}, proofs.Same.same_lock_true}, layer_traits.specs.declared.buffer_edits.BufferEdit.BufferEdit}
+use Rattle.layer_traits.specs.declared.{locked.Side.Side, queue_edits.QueueBlock.QueueBlock, queues.QueueCall.{QueueCall, TheVariants.{Push, TakeAll}}}
+use Rattle.layer_traits.specs.{declared.queues.QueueCall.TheVariants.OnBuffer, BufferEffects.{fresh_lock, drawn_in}, BufferProtocol.{BufferLock, BufferSection}}
+use Rattle.layer_traits.specs.{BufferProtocol.{IsDue, buffer_at, buffer_monitor_rules, buffer_rules}, Conditions.{CvCall, cv_rules}, QLockLaw.lock_kernel}
+use Rattle.layer_traits.specs.{QLocking.{asked, lock_caller, lock_edited}, Places.home_of, Protocol.section, QueueBlocks.{StartsWell, homes_in, inner}}
+use Rattle.layer_traits.specs.{Queues.{QueueAllowed, buffer_sections, with_section}, BufferBlocks.{BufferState, counted, entered, may_join, drawn_of, put_in}}
+use Rattle.{layer_traits.specs.BufferBlocks.{shut, taken_out}, thread_blocks.specs.Queues.is_in, fifo_buffer.specs.FifoFits.{BootsSo, caps_in}}
+use Rattle.fifo_buffer.specs.{Laws.OwnedLaws.found, Positions.{PositionsAreCounts, enters, entries_of}, Stances.same_side, SectionPolls.BufferEvent}
 
 -- one more thread entered, or none
 abbrev more : Bool → ℕ → ℕ
@@ -27,30 +17,19 @@ more v n = if v then counted n else n
 
 -- a section counts a thread that enters, which may join: it is one of the machine's and stands in neither line
 asked_same : (side : Side) (t : Tid) (owner : Option Tid) (lock : BufferLock) → drawn_of side (asked t owner lock).above ≡ drawn_of side lock.above
-asked_same side t None lock = refl
-asked_same side t (Some o) lock = refl
+asked_same side t owner lock = grind arith
 
 entered_counts : (side at : Side) (t : Tid) (x : BufferState) → drawn_of side (entered at t x) ≡ more (same_side side at) (drawn_of side x)
-entered_counts Receivers Receivers t x = refl
-entered_counts Receivers Senders t x = refl
-entered_counts Senders Receivers t x = refl
-entered_counts Senders Senders t x = refl
+entered_counts side at t x = grind arith
 
 put_same : (side : Side) (m : Message) (x : BufferState) (v : Bool) → drawn_of side (if v then put_in m x else x) ≡ drawn_of side x
-put_same Receivers m x true = refl
-put_same Receivers m x false = refl
-put_same Senders m x true = refl
-put_same Senders m x false = refl
+put_same side m x v = grind arith
 
 taken_same : (side : Side) (x : BufferState) (v : Bool) → drawn_of side (if v then taken_out x else x) ≡ drawn_of side x
-taken_same Receivers x true = refl
-taken_same Receivers x false = refl
-taken_same Senders x true = refl
-taken_same Senders x false = refl
+taken_same side x v = grind arith
 
 shut_same : (side : Side) (x : BufferState) → drawn_of side (shut x) ≡ drawn_of side x
-shut_same Receivers x = refl
-shut_same Senders x = refl
+shut_same side x = grind arith
 
 joins_now : (t : Tid) (queue : List Tid) → t.0 < THREADS → is_in t queue ≡ false → may_join t queue ≡ true
 joins_now t queue small out = ap (λ v. v && not (is_in t queue)) (lt-ltb t.0 THREADS small) ∙ ap not out
@@ -58,23 +37,10 @@ joins_now t queue small out = ap (λ v. v && not (is_in t queue)) (lt-ltb t.0 TH
 section_counts : (side : Side) (O : LockId → Option BufferLock) (past : List BufferSection) (d : BufId) (call : CvCall BufferEdit) (lock : BufferLock)
     → buffer_at O past (Buffer d) ≡ Some lock → IsDue O past (Buffer d) call → (lock_caller buffer_rules call).0 < THREADS
     → drawn_of side (lock_edited buffer_rules call lock).above ≡ more (enters side call) (drawn_of side lock.above)
-section_counts side O past d (Acquire t) lock at due small = asked_same side t lock.owner lock
-section_counts side O past d (Inside (Edit (Enter t to))) lock at due small =
-    ap (λ v. drawn_of side (if v then entered to t lock.above else lock.above)) (joins_now t (line_of to lock.above) small (out to))
-    ∙ entered_counts side to t lock.above
-  where
-    out : (to : Side) → is_in t (line_of to lock.above) ≡ false
-    out Receivers = sym (ap (is_in_line Receivers t) at) ∙ due.1
-    out Senders = sym (ap (is_in_line Senders t) at) ∙ due.0
-section_counts side O past d (Inside (Edit (TryPut t m))) lock at due small = put_same side m lock.above (is_next Senders t lock.above)
-section_counts side O past d (Inside (Edit (TryTake t))) lock at due small = taken_same side lock.above (is_next Receivers t lock.above)
-section_counts side O past d (Inside (Edit (Shut t))) lock at due small = shut_same side lock.above
-section_counts side O past d (Inside (SignalFront t to)) lock at due small = refl
-section_counts side O past d (Release leave) lock at due small = refl
+section_counts side O past d call lock at due small = grind (arith, asked_same, joins_now, entered_counts, put_same, taken_same, shut_same)
 
 counts_more : (v : Bool) (a n : ℕ) → a ≡ n % 2 ^ 64 → more v a ≡ (if v then n + 1 else n) % 2 ^ 64
-counts_more true a n is = omega (arith, is)
-counts_more false a n is = is
+counts_more v a n is = grind arith
 
 module _ (opening : LockId → Option (QueueBlock BufferLock)) (starts : StartsWell opening) (boots : BootsSo opening) (b : BufId) (side : Side)
     (within : b.0 < length (caps_in opening)) where
@@ -88,14 +54,10 @@ module _ (opening : LockId → Option (QueueBlock BufferLock)) (starts : StartsW
       ∙ ap (option_map fresh_lock) (slice_get-get_or (caps_in opening) b.0 0 within)) ∙ none side
     where
       none : (s : Side) → drawn_in s (Some (fresh_lock (get_or (caps_in opening) b.0 0))) ≡ 0
-      none Receivers = refl
-      none Senders = refl
+      none s = grind arith
 
   small_home : (t : Tid) (c : CpuId) → home_of (homes_in opening) t ≡ Some c → t.0 < THREADS
-  small_home t c home =
-      let below : t.0 < length (homes_in opening) = slice_get_within (homes_in opening) t.0 c home in
-      let room : length (homes_in opening) ≤ THREADS = starts.room in
-      omega (arith, below, room)
+  small_home t c home = grind (arith, slice_get_within)
 
   abbrev drawn_if : List BufferSection → CvCall BufferEdit → Bool → ℕ
   drawn_if past call v =

@@ -1,15 +1,12 @@
 -- What a section poll leaves of the call states; and where a thread that runs stands.
-use Rattle.std.proofs.Common.{◌≡◌, Bool, false, List, Option, Some, None, is_some, slice_set, if◌then◌else◌, refl, ap, ◌∙◌}
-use Rattle.event_log.specs.declared.ids.{CpuId.CpuId, LockId.LockId, Tid.Tid}
-use Rattle.layer_traits.specs.{declared.buffer_edits.BufferOut.BufferOut, declared.calls.Call.Call, declared.moves.WaitList.WaitList}
-use Rattle.layer_traits.specs.{declared.queue_edits.QueueBlock.QueueBlock, declared.call_states.Stage.Stage, declared.call_states.CallState.CallState}
-use Rattle.layer_traits.specs.{BufferLaw.buffering, BufferLaw.left_recorded, BufferLaw.replied, BufferProtocol.BufferLock, BufferProtocol.buffer_monitor_rules}
-use Rattle.layer_traits.specs.{Conditions.cv_rules, CvLaw.Waiting, ListsAgree.is_at, QLockLaw.LocksAgree, QLockLaw.lock_kernel, QLocking.wait_list_in}
-use Rattle.layer_traits.specs.{QLocking.lock_after, Places.AreMoves, Places.Stands, Places.Threads, Places.home_of, Places.one_if, Places.wait_channel_of}
-use Rattle.layer_traits.specs.{QueueBlocks.homes_in, QueueBlocks.inner, Queues.buffer_sections, Queues.moves_in}
-use Rattle.layer_traits.proofs.{CountLemmas.not_counted, PlaceLemmas.current_at}
-use Rattle.thread_blocks.specs.Queues.{is_in}
-use Rattle.fifo_buffer.specs.SectionPolls.{BufferEvent, BufferOutcome, recorded_if}
+use Rattle.std.proofs.Common.{◌≡◌, Bool, false, List, Option, Some, None, is_some, slice_set, if◌then◌else◌, ap, ◌∙◌, arith}
+use Rattle.{event_log.specs.declared.ids.{CpuId.CpuId, LockId.LockId, Tid.Tid}, layer_traits.specs.declared.{buffer_edits.BufferOut.BufferOut, calls.Call.Call}}
+use Rattle.layer_traits.specs.declared.{moves.WaitList.WaitList, queue_edits.QueueBlock.QueueBlock, call_states.{Stage.Stage, CallState.CallState}}
+use Rattle.layer_traits.specs.{BufferLaw.{buffering, left_recorded, replied}, BufferProtocol.{BufferLock, buffer_monitor_rules}, Conditions.cv_rules}
+use Rattle.layer_traits.specs.{CvLaw.Waiting, ListsAgree.is_at, QLockLaw.{LocksAgree, lock_kernel}, QLocking.{wait_list_in, lock_after}, Places.AreMoves}
+use Rattle.layer_traits.specs.{Places.{Stands, Threads, home_of, one_if, wait_channel_of}, QueueBlocks.{homes_in, inner}, Queues.{buffer_sections, moves_in}}
+use Rattle.{layer_traits.proofs.{CountLemmas.not_counted, PlaceLemmas.current_at}, thread_blocks.specs.Queues.is_in, fifo_buffer.specs.SectionPolls.BufferEvent}
+use Rattle.fifo_buffer.specs.SectionPolls.{BufferOutcome, recorded_if}
 
 -- what a section poll leaves is what its plan makes of the poll's answer
 pub recorded_left : (t : Tid) (call : Call) (call_state : CallState) (call_states now : List CallState) (stage : Stage) (cv : Waiting BufferOut)
@@ -17,8 +14,7 @@ pub recorded_left : (t : Tid) (call : Call) (call_state : CallState) (call_state
     → done ≡ is_some answer → now ≡ slice_set call_states t.0 (recorded_if call_state stage answer)
     → left_recorded t call call_state call_states stage (record { own = cv; answer = answer })
     ≡ record { own = buffering cv now; answer = if done then replied call call_state stage else None }
-recorded_left t call call_state call_states now stage cv None done is same = rw (is, same) refl
-recorded_left t call call_state call_states now stage cv (Some outcome) done is same = rw (is, same) refl
+recorded_left t call call_state call_states now stage cv answer done is same = grind arith
 
 module _ (opening : LockId → Option (QueueBlock BufferLock)) (c : CpuId) (past : List BufferEvent) (own : Threads) (t : Tid)
     (legal : AreMoves (homes_in opening) (moves_in (lock_kernel (cv_rules buffer_monitor_rules) opening) past))

@@ -1,17 +1,11 @@
 -- A part fits at the start.
-use Rattle.std.proofs.Common.{◌≡◌, ℕ, zero, suc, slice_index_or, List, [], ◌∷◌, length, replicate, Option, Some, None, option_map, slice_get, refl, ap, sym}
-use Rattle.std.proofs.Common.{◌∙◌, subst}
-use Rattle.std.proofs.lemmas.List.{length-replicate}
-use Rattle.event_log.specs.declared.ids.{BufId.BufId, CpuId.CpuId, LockId.LockId, LockId.TheVariants.Pending, LockId.TheVariants.Buffer, Tid.Tid}
-use Rattle.event_log.specs.declared.ids.{TheConstants.THREADS}
-use Rattle.layer_traits.specs.{declared.buffer_edits.BufferOut.BufferOut, declared.locked.Side.Side, declared.locked.Side.TheVariants.Receivers}
-use Rattle.layer_traits.specs.{declared.locked.Side.TheVariants.Senders, declared.queue_edits.QueueBlock.QueueBlock, declared.call_states.CallState.CallState}
-use Rattle.layer_traits.specs.{BufferEffects.fresh_lock, BufferEffects.opening_locks, BufferLaw.no_call, BufferLaw.call_state_of, BufferProtocol.BufferLock}
-use Rattle.layer_traits.specs.{BufferProtocol.buffer_monitor_rules, Conditions.cv_rules, CvLaw.Waiting, CvLaw.waiting_at_start, QLockLaw.lock_kernel}
-use Rattle.layer_traits.specs.{QLockLaw.slept_for, QLocking.AreAtRest, QLocking.IsAtRest, Places.count_in, QueueBlocks.inner, Queues.buffer_sections}
-use Rattle.layer_traits.specs.{Queues.moves_in}
-use Rattle.fifo_buffer.specs.{FifoFits.BootsSo, FifoFits.PartFits, FifoFits.caps_in, Stances.IsFreeOf, Stances.CallStateFits, Stances.line_at}
-use Rattle.fifo_buffer.specs.{SectionPolls.BufferEvent, SectionPolls.FitsAt}
+use Rattle.std.proofs.Common.{◌≡◌, ℕ, zero, suc, slice_index_or, List, [], ◌∷◌, length, replicate, Option, None, option_map, refl, ap, sym, ◌∙◌, subst, arith}
+use Rattle.{std.proofs.lemmas.List.length-replicate, event_log.specs.declared.ids.{BufId.BufId, CpuId.CpuId, LockId.LockId, Tid.Tid, TheConstants.THREADS}}
+use Rattle.layer_traits.specs.declared.{buffer_edits.BufferOut.BufferOut, locked.Side.Side, queue_edits.QueueBlock.QueueBlock, call_states.CallState.CallState}
+use Rattle.layer_traits.specs.{BufferEffects.{fresh_lock, opening_locks}, BufferLaw.{no_call, call_state_of}, BufferProtocol.{BufferLock, buffer_monitor_rules}}
+use Rattle.layer_traits.specs.{Conditions.cv_rules, CvLaw.{Waiting, waiting_at_start}, QLockLaw.{lock_kernel, slept_for}, QLocking.{AreAtRest, IsAtRest}}
+use Rattle.{layer_traits.specs.{Places.count_in, QueueBlocks.inner, Queues.{buffer_sections, moves_in}}, fifo_buffer.specs.FifoFits.{BootsSo, PartFits}}
+use Rattle.fifo_buffer.specs.{FifoFits.caps_in, Stances.{IsFreeOf, CallStateFits, line_at}, SectionPolls.{BufferEvent, FitsAt}}
 
 -- what a list of equal items holds anywhere
 pub same_default : {A : Type 0} (n i : ℕ) (a : A) → slice_index_or (replicate n a) i a ≡ a
@@ -26,35 +20,25 @@ no_events opening [] none = refl
 no_events opening (e ∷ past) none = absurd cc
 
 fresh_rests : (o : Option ℕ) → IsAtRest (option_map fresh_lock o)
-fresh_rests None = tt
-fresh_rests (Some n) = (refl, refl, refl, refl)
+fresh_rests o = grind arith
 
 rests_at : (caps : List ℕ) (lock : LockId) → IsAtRest (opening_locks caps lock)
-rests_at caps (Pending d) = tt
-rests_at caps (Buffer b) = fresh_rests (slice_get caps b.0)
+rests_at caps lock = grind (arith, fresh_rests)
 
 pub all_rest : (opening : LockId → Option (QueueBlock BufferLock)) → BootsSo opening → AreAtRest (inner opening)
 all_rest opening boots = subst AreAtRest (sym boots) (rests_at (caps_in opening))
 
 fresh_free : (t : Tid) (o : Option ℕ) → IsFreeOf t (option_map fresh_lock o)
-fresh_free t None = tt
-fresh_free t (Some n) = (λ is. absurd (cc is), refl)
+fresh_free t o = grind arith
 
 free_at : (t : Tid) (caps : List ℕ) (lock : LockId) → IsFreeOf t (opening_locks caps lock)
-free_at t caps (Pending d) = tt
-free_at t caps (Buffer b) = fresh_free t (slice_get caps b.0)
+free_at t caps lock = grind (arith, fresh_free)
 
 fresh_line : (t : Tid) (side : Side) (o : Option ℕ) → count_in t (line_at side (option_map fresh_lock o)) ≡ 0
-fresh_line t side None = refl
-fresh_line t side (Some n) = empty side
-  where
-    empty : (at : Side) → count_in t (line_at at (Some (fresh_lock n))) ≡ 0
-    empty Receivers = refl
-    empty Senders = refl
+fresh_line t side o = grind arith
 
 line_none : (t : Tid) (side : Side) (caps : List ℕ) (lock : LockId) → count_in t (line_at side (opening_locks caps lock)) ≡ 0
-line_none t side caps (Pending d) = refl
-line_none t side caps (Buffer b) = fresh_line t side (slice_get caps b.0)
+line_none t side caps lock = grind (arith, fresh_line)
 
 no_call_fits : (opening : LockId → Option (QueueBlock BufferLock)) → BootsSo opening → (t : Tid) (slept waits : Option BufId) (call_state : CallState)
     → slept ≡ None → waits ≡ None → call_state ≡ no_call

@@ -1,9 +1,9 @@
 -- A thread within its call, from what is known of it.
 use Rattle.std.proofs.Common.{◌≡◌, ℕ, true, ◌&&◌, List, Option, is_some, not}
-use Rattle.event_log.specs.declared.ids.{BufId.BufId, LockId.LockId, LockId.TheVariants.Buffer, Tid.Tid}
-use Rattle.layer_traits.specs.{declared.calls.Call.Call, declared.calls.Effect.Effect, declared.call_states.Stage.Stage, BufferLaw.buffer_of, BufferLaw.side_of}
-use Rattle.layer_traits.specs.BufferProtocol.{BufferLock, BufferSection, has_tried_in_vain}
-use Rattle.fifo_buffer.specs.Stances.{InCall, IsLined, IsMark, Stance, asks_at, called_at, done_at, holds_at, lined_at, waits_at}
+use Rattle.{event_log.specs.declared.ids.{BufId.BufId, LockId.{LockId, TheVariants.Buffer}, Tid.Tid}, layer_traits.specs.declared.calls.Call.Call}
+use Rattle.layer_traits.specs.{declared.{calls.Effect.Effect, call_states.Stage.Stage}, BufferLaw.{buffer_of, side_of}, BufferProtocol.BufferLock}
+use Rattle.{layer_traits.specs.BufferProtocol.{BufferSection, has_tried_in_vain}, fifo_buffer.specs.Stances.{InCall, IsLined, IsMark, Stance, asks_at}}
+use Rattle.fifo_buffer.specs.Stances.{called_at, done_at, holds_at, lined_at, waits_at}
 
 pub within : {opening : LockId → Option BufferLock} {past : List BufferSection} {t : Tid} (call : Call) (slept waits : Option BufId) (stage : Stage)
     {position : ℕ} {effect : Option Effect} → called_at stage ≡ true

@@ -1,11 +1,8 @@
 -- What an effect of the first of a line makes of a buffer's block, whichever side's it is and whether it finds the buffer closed.
 use Rattle.std.specs.Prelude.{◌≡◌, true, false}
-use Rattle.event_log.specs.{declared.entries.Kind.Kind, declared.entries.Kind.TheVariants.Send, declared.entries.Kind.TheVariants.Recv, declared.ids.Tid.Tid}
-use Rattle.event_log.specs.{Buffers.IsAllowedEffect, Buffers.after_effect, Messages.Message, Runs.group_of}
-use Rattle.layer_traits.specs.{declared.locked.Side.Side, declared.locked.Side.TheVariants.Receivers, declared.locked.Side.TheVariants.Senders}
-use Rattle.layer_traits.specs.{BufferBlocks.BufferState, BufferBlocks.counted, BufferBlocks.is_first, BufferBlocks.line_of, BufferBlocks.drawn_of}
-use Rattle.thread_blocks.specs.Queues.{rest}
-use Rattle.fifo_buffer.specs.Stances.{same_side}
+use Rattle.event_log.specs.{declared.{entries.Kind.{Kind, TheVariants.{Send, Recv}}, ids.Tid.Tid}, Buffers.{IsAllowedEffect, after_effect}, Messages.Message}
+use Rattle.{event_log.specs.Runs.group_of, layer_traits.specs.{declared.locked.Side.{Side, TheVariants.{Receivers, Senders}}, BufferBlocks.BufferState}}
+use Rattle.{layer_traits.specs.BufferBlocks.{counted, is_first, line_of, drawn_of}, thread_blocks.specs.Queues.rest, fifo_buffer.specs.Stances.same_side}
 
 -- the kind with which a side's effects are counted
 abbrev pub kind_on : Side → Kind

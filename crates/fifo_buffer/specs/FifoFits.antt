@@ -1,10 +1,9 @@
 -- A part of the buffers and its machine agree.
 use Rattle.std.specs.Prelude.{◌≡◌, ℕ, List, Option}
-use Rattle.event_log.specs.declared.ids.{CpuId.CpuId, LockId.LockId, Tid.Tid}
-use Rattle.layer_traits.specs.{declared.buffer_edits.BufferEdit.BufferEdit, declared.buffer_edits.BufferOut.BufferOut}
-use Rattle.layer_traits.specs.{declared.queue_edits.QueueBlock.QueueBlock, declared.scheds.SchedCall.SchedCall, declared.call_states.CallState.CallState}
-use Rattle.layer_traits.specs.{BufferEffects.opening_locks, BufferProtocol.BufferLock, Conditions.CvCall, CvLaw.Waiting, QueueBlocks.homes_in}
-use Rattle.layer_traits.specs.{QueueBlocks.inner, Queues.buffer_sections, Capacities.caps_from}
+use Rattle.{event_log.specs.declared.ids.{CpuId.CpuId, LockId.LockId, Tid.Tid}, layer_traits.specs.declared.buffer_edits.BufferEdit.BufferEdit}
+use Rattle.layer_traits.specs.declared.{buffer_edits.BufferOut.BufferOut, queue_edits.QueueBlock.QueueBlock, scheds.SchedCall.SchedCall}
+use Rattle.layer_traits.specs.{declared.call_states.CallState.CallState, BufferEffects.opening_locks, BufferProtocol.BufferLock, Conditions.CvCall}
+use Rattle.layer_traits.specs.{CvLaw.Waiting, QueueBlocks.{homes_in, inner}, Queues.buffer_sections, Capacities.caps_from}
 use Rattle.fifo_buffer.specs.SectionPolls.{BufferEvent, CallsFit, Sizes}
 
 -- the capacities of the buffers: a buffer's number is less than 256

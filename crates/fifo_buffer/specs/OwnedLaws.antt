@@ -1,11 +1,8 @@
 -- What is read off a buffer's lock: its items, whether it is closed, its owner and its waiting lists.
-use Rattle.std.specs.Prelude.{Bool, List, Option, Some}
-use Rattle.event_log.specs.{declared.ids.BufId.BufId, declared.ids.LockId.LockId, declared.ids.LockId.TheVariants.Buffer, declared.ids.Tid.Tid}
-use Rattle.event_log.specs.{Messages.Message}
-use Rattle.layer_traits.specs.{declared.moves.WaitList.WaitList, declared.queue_edits.QueueBlock.QueueBlock, BufferProtocol.BufferLock}
-use Rattle.layer_traits.specs.{BufferProtocol.buffer_monitor_rules, Conditions.cv_rules, QLocking.wait_list_in, QLocking.lock_after, QueueBlocks.inner}
-use Rattle.layer_traits.specs.{Queues.buffer_sections}
-use Rattle.fifo_buffer.specs.SectionPolls.{BufferEvent}
+use Rattle.{std.specs.Prelude.{Bool, List, Option, Some}, event_log.specs.declared.ids.{BufId.BufId, LockId.{LockId, TheVariants.Buffer}, Tid.Tid}}
+use Rattle.{event_log.specs.Messages.Message, layer_traits.specs.declared.{moves.WaitList.WaitList, queue_edits.QueueBlock.QueueBlock}}
+use Rattle.layer_traits.specs.{BufferProtocol.{BufferLock, buffer_monitor_rules}, Conditions.cv_rules, QLocking.{wait_list_in, lock_after}, QueueBlocks.inner}
+use Rattle.{layer_traits.specs.Queues.buffer_sections, fifo_buffer.specs.SectionPolls.BufferEvent}
 
 -- the items of a lock's buffer, whether it is closed, its owner, and its waiting lists
 abbrev pub items_in : BufferLock → List Message

@@ -1,20 +1,14 @@
 -- What a part keeps between its polls, what it may ask of the conditions beneath, and what one poll of them does for a call.
-use Rattle.std.specs.Prelude.{◌≡◌, ◌⊎◌, Bool, true, false, List, ◌++◌, length, Option, Some, None, option_map, option_to_list, is_some}
-use Rattle.std.specs.List.{AllByRecursion}
-use Rattle.event_log.specs.{declared.ids.BufId.BufId, declared.ids.CpuId.CpuId, declared.ids.LockId.LockId, declared.ids.Tid.Tid}
-use Rattle.event_log.specs.{declared.ids.TheConstants.THREADS, History.AreForeign}
-use Rattle.layer_traits.specs.declared.{buffer_edits.BareBufferOut.BareBufferOut, buffer_edits.BufferEdit.BufferEdit, buffer_edits.BufferOut.BufferOut}
-use Rattle.layer_traits.specs.declared.{calls.Call.Call, calls.Effect.Effect, conditions.CvOut.CvOut, locked.QOut.QOut, locked.QOut.TheVariants.Queued}
-use Rattle.layer_traits.specs.declared.{locked.QOut.TheVariants.Released, payloads.Parcel.Parcel, queues.QueueEvent.QueueEvent, scheds.SchedCall.SchedCall}
-use Rattle.layer_traits.specs.declared.{scheds.SchedCall.TheVariants.Pass, scheds.SchedCall.TheVariants.OnBuffer, sleeps.Outcome.Outcome}
-use Rattle.layer_traits.specs.declared.{call_states.Stage.Stage, calls.Reply.Reply, call_states.Stage.TheVariants.Acquires, call_states.Stage.TheVariants.Waits}
-use Rattle.layer_traits.specs.declared.{call_states.Stage.TheVariants.AcquiresAgain, call_states.CallState.CallState}
-use Rattle.layer_traits.specs.{BufferEffects.effects_in, BufferLaw.Calling, BufferLaw.UnderWay, BufferLaw.IsEffectOf, BufferLaw.Passing, BufferLaw.buffer_of}
-use Rattle.layer_traits.specs.{BufferLaw.entry_of, BufferLaw.recorded, BufferLaw.replied, BufferLaw.section_at, BufferLaw.call_state_of}
-use Rattle.layer_traits.specs.{BufferProtocol.BufferLock, BufferProtocol.BufferSection, Conditions.CvCall, CvLaw.Waiting, QLockLaw.slept_for}
-use Rattle.layer_traits.specs.{Payloads.buffer_told, Payloads.cv_told, Payloads.lock_told, Payloads.outcome_told, Places.home_of, Queues.buffer_sections}
-use Rattle.thread_blocks.specs.Queues.{same_tid}
-use Rattle.fifo_buffer.specs.Stances.{InCall, CallStateFits, ThreadFits, called_at, done_at, waits_at}
+use Rattle.std.specs.{Prelude.{◌≡◌, ◌⊎◌, Bool, true, false, List, ◌++◌, length, Option, Some, None, option_map, option_to_list, is_some}, List.AllByRecursion}
+use Rattle.event_log.specs.{declared.ids.{BufId.BufId, CpuId.CpuId, LockId.LockId, Tid.Tid, TheConstants.THREADS}, History.AreForeign}
+use Rattle.layer_traits.specs.declared.{buffer_edits.{BareBufferOut.BareBufferOut, BufferEdit.BufferEdit, BufferOut.BufferOut}, calls.Call.Call}
+use Rattle.layer_traits.specs.declared.{calls.{Effect.Effect, Reply.Reply}, conditions.CvOut.CvOut, locked.QOut.{QOut, TheVariants.{Queued, Released}}}
+use Rattle.layer_traits.specs.declared.{payloads.Parcel.Parcel, queues.QueueEvent.QueueEvent, scheds.SchedCall.{SchedCall, TheVariants.{Pass, OnBuffer}}}
+use Rattle.layer_traits.specs.declared.{sleeps.Outcome.Outcome, call_states.{Stage.{Stage, TheVariants.{Acquires, Waits, AcquiresAgain}}, CallState.CallState}}
+use Rattle.layer_traits.specs.{BufferEffects.effects_in, BufferLaw.{Calling, UnderWay, IsEffectOf, Passing, buffer_of, entry_of, recorded, replied, section_at}}
+use Rattle.layer_traits.specs.{BufferLaw.call_state_of, BufferProtocol.{BufferLock, BufferSection}, Conditions.CvCall, CvLaw.Waiting, QLockLaw.slept_for}
+use Rattle.layer_traits.specs.{Payloads.{buffer_told, cv_told, lock_told, outcome_told}, Places.home_of, Queues.buffer_sections}
+use Rattle.{thread_blocks.specs.Queues.same_tid, fifo_buffer.specs.Stances.{InCall, CallStateFits, ThreadFits, called_at, done_at, waits_at}}
 use Rattle.layer_traits.specs.declared.conditions.CvOut.TheVariants as answer
 
 -- an event of the buffers, and what a section of one answers

@@ -1,15 +1,12 @@
 -- Where a thread stands in its message call, read over the sections of the buffers: which lock it holds, in which line it stands with
 -- which position, and whether it tried in vain.
 use Rattle.std.specs.Prelude.{◌≡◌, ◌≢◌, ℕ, Bool, true, false, not, ◌&&◌, List, [], Option, Some, None, is_some}
-use Rattle.event_log.specs.{declared.ids.BufId.BufId, declared.ids.LockId.LockId, declared.ids.LockId.TheVariants.Buffer, declared.ids.Tid.Tid}
-use Rattle.event_log.specs.{History.same_lock}
-use Rattle.layer_traits.specs.declared.{calls.Call.Call, calls.Call.TheVariants.Close, calls.Effect.Effect, buffer_edits.BufferOut.BufferOut}
-use Rattle.layer_traits.specs.declared.{conditions.CvOut.CvOut, locked.QOut.QOut, locked.QOut.TheVariants.Acquired, locked.QOut.TheVariants.Queued}
-use Rattle.layer_traits.specs.declared.{locked.QOut.TheVariants.Did, locked.QOut.TheVariants.Released, locked.Side.Side, locked.Side.TheVariants.Receivers}
-use Rattle.layer_traits.specs.declared.{locked.Side.TheVariants.Senders, call_states.Stage.Stage, call_states.CallState.CallState}
-use Rattle.layer_traits.specs.declared.call_states.Stage.TheVariants.{Idle, Acquires, Tries, Waits, AcquiresAgain, Signals, SignalsOwn, Releases}
-use Rattle.layer_traits.specs.{BufferBlocks.line_of, BufferEffects.drawn, BufferLaw.buffer_of, BufferLaw.recorded, BufferLaw.side_of, BufferProtocol.BufferLock}
-use Rattle.layer_traits.specs.{BufferProtocol.BufferSection, BufferProtocol.buffer_at, BufferProtocol.has_tried_in_vain, Places.count_in, Places.one_if}
+use Rattle.event_log.specs.{declared.ids.{BufId.BufId, LockId.{LockId, TheVariants.Buffer}, Tid.Tid}, History.same_lock}
+use Rattle.layer_traits.specs.declared.{calls.{Call.{Call, TheVariants.Close}, Effect.Effect}, buffer_edits.BufferOut.BufferOut, conditions.CvOut.CvOut}
+use Rattle.layer_traits.specs.declared.locked.{QOut.{QOut, TheVariants.{Acquired, Queued, Did, Released}}, Side.{Side, TheVariants.{Receivers, Senders}}}
+use Rattle.layer_traits.specs.declared.call_states.Stage.{Stage, TheVariants.{Idle, Acquires, Tries, Waits, AcquiresAgain, Signals, SignalsOwn, Releases}}
+use Rattle.layer_traits.specs.{declared.call_states.CallState.CallState, BufferBlocks.line_of, BufferEffects.drawn, BufferLaw.{buffer_of, recorded, side_of}}
+use Rattle.layer_traits.specs.{BufferProtocol.{BufferLock, BufferSection, buffer_at, has_tried_in_vain}, Places.{count_in, one_if}}
 use Rattle.thread_blocks.specs.Queues.{is_in}
 use Rattle.layer_traits.specs.declared.conditions.CvOut.TheVariants as answer
 

@@ -1,9 +1,8 @@
 -- What a buffer's block tells of its effects.
 use Rattle.std.specs.Prelude.{◌≡◌, ℕ, ◌+◌, ◌<◌, ◌%◌, ◌^◌, List, [], ◌∷◌, length, slice_index}
-use Rattle.event_log.specs.{declared.entries.Entry.Entry, declared.entries.Kind.TheVariants.Close, declared.ids.BufId.BufId, declared.ids.CpuId.CpuId}
-use Rattle.event_log.specs.{declared.ids.Tid.Tid, Buffers.items_of, Runs.count_of, Runs.count_of_kind, Runs.is_closed}
-use Rattle.layer_traits.specs.{declared.locked.Side.Side, BufferBlocks.BufferState, BufferBlocks.line_of, BufferBlocks.drawn_of, BufferEffects.contents_of}
-use Rattle.fifo_buffer.specs.BlockSteps.{kind_on}
+use Rattle.event_log.specs.{declared.{entries.{Entry.Entry, Kind.TheVariants.Close}, ids.{BufId.BufId, CpuId.CpuId, Tid.Tid}}, Buffers.items_of, Runs.count_of}
+use Rattle.{event_log.specs.Runs.{count_of_kind, is_closed}, layer_traits.specs.{declared.locked.Side.Side, BufferBlocks.{BufferState, line_of, drawn_of}}}
+use Rattle.{layer_traits.specs.BufferEffects.contents_of, fifo_buffer.specs.BlockSteps.kind_on}
 
 -- the threads of a line have drawn the positions n, n + 1 and so on, modulo 2^64
 abbrev pub IsNumbered : (Tid → ℕ) → ℕ → List Tid → Type 0

@@ -1,8 +1,7 @@
 //! The call states of all threads. No call takes memory or waits.
 
 ghost use Rattle.std.specs.Prelude.{◌≡◌, ◌<◌, is_some, replicate, slice_set};
-ghost use Rattle.event_log.specs.declared.ids.TheConstants.{THREADS};
-ghost use Rattle.layer_traits.specs.{BufferLaw.going, BufferLaw.no_call, BufferLaw.call_state_of, Payloads.told_by};
+ghost use Rattle.{event_log.specs.declared.ids.TheConstants.THREADS, layer_traits.specs.{BufferLaw.{going, no_call, call_state_of}, Payloads.told_by}};
 ghost use Rattle.fifo_buffer.specs.SectionPolls.{outcome_of, recorded_if};
 
 use crate::sections::{begin, record_section};
@@ -86,29 +85,33 @@ impl CallStates {
         }
     }
 
-    /// Keeps for `t`, which is in `call`, what a poll of its section answered, with the parcel that
-    /// the answer brought, and returns whether it did.
+    /// Keeps for `t`, which is in `call`, what a poll of its section at this stage answered, with the
+    /// parcel that the answer brought, and returns whether it did.
     ///
-    /// Requires: the thread is below `THREADS`.
+    /// Requires: the thread is below `THREADS`, and its call goes on at this stage.
     #[inline(always)]
     pub fn record_answer(
         &mut self,
         t: Tid,
         call: &Call,
+        stage: Stage,
         answer: &Option<Outcome<QOut<CvOut<BareBufferOut>>>>,
         parcel: &Parcel,
     ) -> bool
-        requires { t.0 < THREADS }
+        requires known { t.0 < THREADS }
+        requires stage { stage ≡ (going (call_state_of self.old.call_states t) call.now).stage }
         ensures done { result ≡ is_some answer.now }
         ensures call_states { self.new.call_states ≡ slice_set self.old.call_states t.0 (recorded_if (going (call_state_of self.old.call_states t) call.now)
-            (going (call_state_of self.old.call_states t) call.now).stage (told_by outcome_of answer.now parcel.now)) }
+            stage (told_by outcome_of answer.now parcel.now)) }
     {
         let call_state = &mut self.call_states[usize::from(t.0)];
-        begin(call_state, call);
+        if stage == Stage::Acquires {
+            begin(call_state, call);
+        }
         match answer {
             None => false,
             Some(outcome) => {
-                record_section(call_state, &outcome.out, parcel);
+                record_section(call_state, stage, &outcome.out, parcel);
                 true
             }
         }

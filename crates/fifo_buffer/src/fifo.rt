@@ -3,9 +3,9 @@
 ghost use Rattle.std.specs.Prelude.{◌≡◌, ◌<◌, [], Bool, Some, None, IsSome, refl, slice_set, if◌then◌else◌};
 ghost use Rattle.event_log.specs.declared.ids.{LockId.TheVariants.Buffer, TheConstants.THREADS};
 ghost use Rattle.layer_traits.specs.BufferLaw.{answer_in, buffer_of, buffering, going, plan_of, replied, call_state_of};
-ghost use Rattle.layer_traits.specs.{BufferProtocol.buffer_rules, Framed.Framed, QLocking.lock_moves, QLocking.lock_rules, QLockLaw.slept_for, Plans.Follows};
-ghost use Rattle.layer_traits.specs.{Plans.table_of, QueueBlocks.homes_in, QueueBlocks.inner, QueueRules.queue_rules, Queues.buffer_sections};
-ghost use Rattle.fifo_buffer.specs.SectionPolls.{MayPollSection, Sizes, SectionPolled, calling_after, reply_at};
+ghost use Rattle.layer_traits.specs.{BufferProtocol.buffer_rules, Framed.Framed, QLocking.lock_moves, QLocking.lock_rules, QLockLaw.is_handed, QLockLaw.slept_for};
+ghost use Rattle.layer_traits.specs.{Plans.Follows, Plans.table_of, QueueBlocks.homes_in, QueueBlocks.inner, QueueRules.queue_rules, Queues.buffer_sections};
+ghost use Rattle.fifo_buffer.specs.SectionPolls.{MayPollSection, Sizes, SectionPolled, calling_after, is_at_once, reply_at};
 
 use crate::call_state_table::CallStates;
 use crate::sections::{answers_at_once, reply, section};
@@ -16,6 +16,15 @@ use layer_traits::{
     OwnedBuffers, OwnedThreadLayer, Pass, Payload, PollRun, ReplyKind, Stage, ThreadLayer,
     WaitList,
 };
+
+/// What a poll of a section of a call did.
+#[derive(Clone, Copy)]
+struct SectionPoll {
+    /// The section ended.
+    ended: bool,
+    /// If it did, the next section follows in the same poll.
+    at_once: bool,
+}
 
 /// One CPU's part of first-in first-out blocking bounded buffers (Anderson and Dahlin), over a part
 /// `C` of conditions: it keeps of each thread how far its message call has come, and for clauses alone
@@ -30,9 +39,9 @@ pub struct Fifo<C> {
 }
 
 impl<C: ThreadLayer<CvLaw<BufferEdit>>> Fifo<C> {
-    /// Polls the section of `call` by `t` at this stage, and returns whether it ended.
+    /// Polls the section of `call` by `t` at this stage.
     #[inline(always)]
-    fn poll_section(&mut self, m: &mut C::Machine, t: Tid, call: &Call, stage: Stage) -> bool
+    fn poll_section(&mut self, m: &mut C::Machine, t: Tid, call: &Call, stage: Stage) -> SectionPoll
         requires known { t.0 < THREADS }
         requires stage { stage ≡ (going (call_state_of self.old.call_states.call_states t) call.now).stage }
         requires fits { C.Fits self.old.lower m.old }
@@ -44,8 +53,10 @@ impl<C: ThreadLayer<CvLaw<BufferEdit>>> Fifo<C> {
             (C.under_way self.old.lower) }
         ensures section_polled { SectionPolled (homes_in (C.opening m.old)) (λ c. C.ActsFor m.old c) (inner (C.opening m.old)) (C.cpu_of self.old.lower) t call.now
             (going (call_state_of self.old.call_states.call_states t) call.now) (C.seen m.old) (C.seen m.new) (C.own self.old.lower) (C.own self.new.lower)
-            (C.under_way self.new.lower) result
+            (C.under_way self.new.lower) result.ended
             (call_state_of self.new.call_states.call_states t) }
+        ensures at_once { result.at_once ≡ is_at_once stage
+            (is_handed (C.own self.old.lower).lock.slept (C.own self.old.lower).lock.sleep.threads.current) }
         ensures call_states { self.new.call_states.call_states ≡ slice_set self.old.call_states.call_states t.0 (call_state_of self.new.call_states.call_states t) }
         ensures calling { self.new.calling ≡ self.old.calling }
         ensures woken { IsSome (slept_for (C.own self.old.lower).waits t) → m.new ≡ m.old }
@@ -61,17 +72,20 @@ impl<C: ThreadLayer<CvLaw<BufferEdit>>> Fifo<C> {
             (C.acts m.old) (C.acts m.new)
             (record {
               own = buffering (C.own self.new.lower) self.new.call_states.call_states;
-              answer = if result then replied call.now (going (call_state_of self.old.call_states.call_states t) call.now)
+              answer = if result.ended then replied call.now (going (call_state_of self.old.call_states.call_states t) call.now)
                   (going (call_state_of self.old.call_states.call_states t) call.now).stage else None;
             }) }
     {
+        let at_once = answers_at_once(stage, self.lower.at_once());
         let edit = section(t, call, stage, &mut self.payload.parcel);
         let buffer = call.buffer();
         let answer = self
             .lower
             .poll(m, BufferCall { buffer, edit }, &mut self.payload);
-        self.call_states
-            .record_answer(t, call, &answer, &self.payload.parcel)
+        let ended = self
+            .call_states
+            .record_answer(t, call, stage, &answer, &self.payload.parcel);
+        SectionPoll { ended, at_once }
     }
 
     /// The kind of the reply of `call` after a section poll at this stage, which ended its section or
@@ -99,14 +113,11 @@ impl<C: ThreadLayer<CvLaw<BufferEdit>>> Fifo<C> {
 }
 
 impl<C: ThreadLayer<CvLaw<BufferEdit>>> CallLayer<BufferLaw> for Fifo<C> {
-    ghost use Rattle.std.proofs.Common.{ap};
-    ghost use Rattle.event_log.specs.declared.ids.LockId.TheVariants.{Buffer, Pending};
-    ghost use Rattle.layer_traits.proofs.ActedLemmas.{moves_read};
-    ghost use Rattle.layer_traits.specs.{BufferEffects.effects_in, BufferEffects.opening_locks, BufferLaw.buffering, Laws.Openings.opens_so};
-    ghost use Rattle.layer_traits.specs.{BufferProtocol.buffer_monitor_rules, Conditions.cv_rules, QLockLaw.lock_kernel, QLocking.wait_list_in};
-    ghost use Rattle.layer_traits.specs.{QLocking.lock_after, QueueBlocks.inner, Queues.buffer_sections, Queues.moves_in};
-    ghost use Rattle.fifo_buffer.specs.{FifoFits.BootsSo, FifoFits.PartFits, FifoFits.caps_in, Laws.FifoLaws.fifo_lawful, Laws.FifoLaws.fifo_wait_lists};
-    ghost use Rattle.fifo_buffer.specs.{Laws.FifoLaws.none_under, SectionPolls.under_way_at};
+    ghost use Rattle.{std.proofs.Common.ap, event_log.specs.declared.ids.LockId.TheVariants.{Buffer, Pending}, layer_traits.proofs.ActedLemmas.moves_read};
+    ghost use Rattle.layer_traits.specs.{BufferEffects.{effects_in, opening_locks}, BufferLaw.buffering, Laws.Openings.opens_so};
+    ghost use Rattle.layer_traits.specs.{BufferProtocol.buffer_monitor_rules, Conditions.cv_rules, QLockLaw.lock_kernel, QLocking.{wait_list_in, lock_after}};
+    ghost use Rattle.{layer_traits.specs.{QueueBlocks.inner, Queues.{buffer_sections, moves_in}}, fifo_buffer.specs.FifoFits.{BootsSo, PartFits, caps_in}};
+    ghost use Rattle.fifo_buffer.specs.{Laws.FifoLaws.{fifo_lawful, fifo_wait_lists, none_under}, SectionPolls.under_way_at};
 
     type Machine = C::Machine;
 
@@ -200,13 +211,22 @@ impl<C: ThreadLayer<CvLaw<BufferEdit>>> CallLayer<BufferLaw> for Fifo<C> {
         let mut first = true;
         'sections: loop {
             let stage = self.call_states.next_stage(t, call);
-            let at_once = answers_at_once(stage, self.lower.at_once());
-            let done = self.poll_section(m, t, call, stage);
-            if first && done && at_once {
+            // An arm for each stage, so that each holds the section of its stage alone.
+            let polled = match stage {
+                Stage::Idle | Stage::Acquires => self.poll_section(m, t, call, Stage::Acquires),
+                Stage::Enters => self.poll_section(m, t, call, Stage::Enters),
+                Stage::Tries => self.poll_section(m, t, call, Stage::Tries),
+                Stage::Waits => self.poll_section(m, t, call, Stage::Waits),
+                Stage::AcquiresAgain => self.poll_section(m, t, call, Stage::AcquiresAgain),
+                Stage::Signals => self.poll_section(m, t, call, Stage::Signals),
+                Stage::SignalsOwn => self.poll_section(m, t, call, Stage::SignalsOwn),
+                Stage::Releases => self.poll_section(m, t, call, Stage::Releases),
+            };
+            if first && polled.ended && polled.at_once {
                 first = false;
                 continue 'sections;
             }
-            return self.complete(t, call, stage, done);
+            return self.complete(t, call, stage, polled.ended);
         }
     }
 
@@ -214,27 +234,29 @@ impl<C: ThreadLayer<CvLaw<BufferEdit>>> CallLayer<BufferLaw> for Fifo<C> {
     fn poll_on(&mut self, m: &mut C::Machine, t: Tid, call: &Call, most: usize) -> PollRun {
         let had = self.call_states.has_taken(t, call);
         let mut actions = 0;
-        let mut looked = false;
         loop {
-            if actions > 0 && self.look(m) {
-                actions += 1;
-                if looked || actions == most {
-                    return PollRun {
-                        actions,
-                        reply: None,
-                    };
-                }
-                looked = true;
-                continue;
-            }
             let reply = self.poll_kind(m, t, call);
             actions += 1;
-            looked = false;
             if actions == most || reply.is_some() || self.current().is_none() {
                 return PollRun { actions, reply };
             }
             if self.call_states.effect_here(t).is_some() != had {
                 return PollRun { actions, reply };
+            }
+            if self.look(m) {
+                actions += 1;
+                if actions == most {
+                    return PollRun {
+                        actions,
+                        reply: None,
+                    };
+                }
+                if self.look(m) {
+                    return PollRun {
+                        actions: actions + 1,
+                        reply: None,
+                    };
+                }
             }
         }
     }
@@ -276,16 +298,12 @@ impl<C: ThreadLayer<CvLaw<BufferEdit>>> CallLayer<BufferLaw> for Fifo<C> {
 }
 
 impl<C: OwnedThreadLayer<CvLaw<BufferEdit>>> OwnedBuffers for Fifo<C> {
-    ghost use Rattle.std.specs.Prelude.{option_map};
-    ghost use Rattle.event_log.specs.{Buffers.items_of, Runs.is_closed};
-    ghost use Rattle.layer_traits.proofs.ActedLemmas.{owner_by_acts};
-    ghost use Rattle.layer_traits.specs.{BufferEffects.contents_of, BufferEffects.effects_in, BufferProtocol.buffer_monitor_rules, Conditions.cv_rules};
-    ghost use Rattle.layer_traits.specs.{QLockLaw.lock_kernel, QLocking.wait_list_in, QLocking.owner_in, Places.pending_by, QueueBlocks.inner};
-    ghost use Rattle.layer_traits.specs.{Queues.buffer_sections, Queues.moves_in};
-    ghost use Rattle.fifo_buffer.specs.{FifoFits.caps_in, Laws.OwnedLaws.block_there, Laws.OwnedLaws.closed_read, Laws.OwnedLaws.effects_known};
-    ghost use Rattle.fifo_buffer.specs.{Laws.OwnedLaws.items_acted, Laws.OwnedLaws.items_read, Laws.OwnedLaws.wait_lists_read, Laws.OwnedLaws.lock_read};
-    ghost use Rattle.fifo_buffer.specs.{Laws.OwnedLaws.owner_read, Laws.OwnedLaws.queue_read, OwnedLaws.closed_of, OwnedLaws.items_in, OwnedLaws.wait_lists_of};
-    ghost use Rattle.fifo_buffer.specs.{OwnedLaws.buffer_lock_of, OwnedLaws.owner_of};
+    ghost use Rattle.{std.specs.Prelude.option_map, event_log.specs.{Buffers.items_of, Runs.is_closed}, layer_traits.proofs.ActedLemmas.owner_by_acts};
+    ghost use Rattle.layer_traits.specs.{BufferEffects.{contents_of, effects_in}, BufferProtocol.buffer_monitor_rules, Conditions.cv_rules};
+    ghost use Rattle.layer_traits.specs.{QLockLaw.lock_kernel, QLocking.{wait_list_in, owner_in}, Places.pending_by, QueueBlocks.inner, Queues.buffer_sections};
+    ghost use Rattle.{layer_traits.specs.Queues.moves_in, fifo_buffer.specs.{FifoFits.caps_in, Laws.OwnedLaws.{block_there, closed_read, effects_known}}};
+    ghost use Rattle.fifo_buffer.specs.{Laws.OwnedLaws.{items_acted, items_read, wait_lists_read, lock_read, owner_read, queue_read}, OwnedLaws.closed_of};
+    ghost use Rattle.fifo_buffer.specs.OwnedLaws.{items_in, wait_lists_of, buffer_lock_of, owner_of};
 
     ghost owner = { λ m b. owner_in (buffer_lock_of (C.opening m) (C.seen m) b) };
 

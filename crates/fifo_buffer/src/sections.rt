@@ -1,11 +1,9 @@
 //! The sections of a message call, stage by stage. No call takes memory or waits.
 
 ghost use Rattle.std.specs.Prelude.{◌≡◌, Option, option_map};
-ghost use Rattle.layer_traits.specs.{declared.calls.Effect.Effect, declared.payloads.Parcel.Parcel, BufferLaw.first_of, BufferLaw.going, BufferLaw.message_of};
-ghost use Rattle.layer_traits.specs.{BufferLaw.recorded, BufferLaw.other_side, BufferLaw.enlisted, BufferLaw.reply_by, BufferLaw.reply_with};
-ghost use Rattle.layer_traits.specs.{BufferLaw.section_at, BufferLaw.side_of, BufferLaw.reported_by, BufferLaw.tried, BufferLaw.try_of, Payloads.buffer_meant};
-ghost use Rattle.layer_traits.specs.{Payloads.buffer_told, Payloads.cv_meant, Payloads.cv_told, Payloads.lock_meant, Payloads.lock_told};
-ghost use Rattle.fifo_buffer.specs.SectionPolls.{is_at_once, reply_at};
+ghost use Rattle.layer_traits.specs.{declared.{calls.Effect.Effect, payloads.Parcel.Parcel}, BufferLaw.{first_of, going, message_of, recorded, other_side}};
+ghost use Rattle.layer_traits.specs.{BufferLaw.{enlisted, reply_by, reply_with, section_at, side_of, reported_by, tried, try_of}, Payloads.buffer_meant};
+ghost use Rattle.{layer_traits.specs.Payloads.{buffer_told, cv_meant, cv_told, lock_meant, lock_told}, fifo_buffer.specs.SectionPolls.{is_at_once, reply_at}};
 
 use event_log::{Kind, Msg, Tid};
 use layer_traits::{
@@ -103,7 +101,6 @@ pub fn section(
 }
 
 /// Begins `call` where its thread is between calls.
-#[inline(always)]
 pub fn begin(call_state: &mut CallState, call: &Call)
     ensures { call_state.new ≡ going call_state.old call.now }
 {
@@ -117,7 +114,6 @@ pub fn begin(call_state: &mut CallState, call: &Call)
 
 /// Keeps what a thread that entered its line was told: its position; or what one that closed the
 /// buffer was told: its effect. The numbers lie in the parcel.
-#[inline(always)]
 fn record_entry(call_state: &mut CallState, out: &QOut<CvOut<BareBufferOut>>, parcel: &Parcel)
     ensures { call_state.new ≡ enlisted call_state.old (reported_by (lock_told (cv_told buffer_told) out.now parcel.now)) }
 {
@@ -143,7 +139,6 @@ fn record_entry(call_state: &mut CallState, out: &QOut<CvOut<BareBufferOut>>, pa
 
 /// Keeps what a thread that tried was told: its effect, with the message and the number that lie in
 /// the parcel, or that it has to wait.
-#[inline(always)]
 fn record_try(call_state: &mut CallState, out: &QOut<CvOut<BareBufferOut>>, parcel: &Parcel)
     ensures { call_state.new ≡ tried call_state.old (reported_by (lock_told (cv_told buffer_told) out.now parcel.now)) }
 {
@@ -163,13 +158,18 @@ fn record_try(call_state: &mut CallState, out: &QOut<CvOut<BareBufferOut>>, parc
     }
 }
 
-/// Keeps what the section of the call state's stage answered, with the parcel that the answer brought:
-/// the call state is at the next stage then.
+/// Keeps what the section of this stage answered, with the parcel that the answer brought: the call
+/// state is at the next stage then.
 #[inline(always)]
-pub fn record_section(call_state: &mut CallState, out: &QOut<CvOut<BareBufferOut>>, parcel: &Parcel)
-    ensures { call_state.new ≡ recorded call_state.old call_state.old.stage (lock_told (cv_told buffer_told) out.now parcel.now) }
+pub fn record_section(
+    call_state: &mut CallState,
+    stage: Stage,
+    out: &QOut<CvOut<BareBufferOut>>,
+    parcel: &Parcel,
+)
+    ensures { call_state.new ≡ recorded call_state.old stage (lock_told (cv_told buffer_told) out.now parcel.now) }
 {
-    match call_state.stage {
+    match stage {
         Stage::Idle => {}
         Stage::Acquires => call_state.stage = Stage::Enters,
         Stage::Enters => record_entry(call_state, out, parcel),

@@ -1,13 +1,10 @@
 -- One step of a thread keeps the relation of its program to its calls.
-use Rattle.std.proofs.Common.{◌≡◌, ◌==◌, ℕ, Bool, true, false, List, ◌∷◌, Option, refl, sym, ◌∙◌, subst, if◌then◌else◌, eqb-true}
-use Rattle.std.proofs.lemmas.Bool.{false≢true}
-use Rattle.event_log.specs.declared.{ids.BufId.BufId, entries.Entry.Entry}
-use Rattle.event_log.specs.declared.entries.Kind.TheVariants.{Send as SendKind, Recv as RecvKind, Close as CloseKind, SendClosed, RecvClosed}
-use Rattle.guest.specs.declared.instructions.{Register.Register, Source.Source, Into.Into, Instruction.Instruction}
-use Rattle.guest.specs.declared.instructions.Instruction.TheVariants.{Set, Add, Sub, Jnz, Send, Recv, Close, Yield}
-use Rattle.guest.specs.{State.State, State.next_of, State.value_in, State.message_from, State.moved_on, State.moved_to, State.after_local, State.after_send}
-use Rattle.guest.specs.{State.after_recv, State.after_close, State.after_closed, State.after_yield, Calls.IsProgramsCalls, Calls.sets, Calls.adds}
-use Rattle.guest.specs.{Calls.subtracts, Calls.jumps, Calls.goes_on, Calls.yields, Calls.sends, Calls.receives, Calls.closes, Calls.offers, Calls.asks}
+use Rattle.std.proofs.{Common.{◌≡◌, ◌==◌, ℕ, Bool, true, false, List, ◌∷◌, Option, refl, sym, ◌∙◌, subst, if◌then◌else◌, eqb-true}, lemmas.Bool.false≢true}
+use Rattle.event_log.specs.declared.{ids.BufId.BufId, entries.{Entry.Entry, Kind.TheVariants.{Send as SendKind, Recv as RecvKind, Close as CloseKind}}}
+use Rattle.{event_log.specs.declared.entries.Kind.TheVariants.{SendClosed, RecvClosed}, guest.specs.declared.instructions.{Register.Register, Source.Source}}
+use Rattle.guest.specs.{declared.instructions.{Into.Into, Instruction.{Instruction, TheVariants.{Set, Add, Sub, Jnz, Send, Recv, Close, Yield}}}, State.State}
+use Rattle.guest.specs.State.{next_of, value_in, message_from, moved_on, moved_to, after_local, after_send, after_recv, after_close, after_closed, after_yield}
+use Rattle.guest.specs.Calls.{IsProgramsCalls, sets, adds, subtracts, jumps, goes_on, yields, sends, receives, closes, offers, asks}
 
 after_jump : (program : List Instruction) (es : List Entry) (s : State) (r : Register) (k : ℕ) (b : Bool) → b ≡ (value_in s r == 0)
     → IsProgramsCalls program es s → next_of program s ≡ Jnz r k
@@ -43,36 +40,31 @@ pub calls-send : (program : List Instruction) (es : List Entry) (s : State) (b :
     → IsProgramsCalls program es s → next_of program s ≡ Send b from k
     → e.kind ≡ SendKind → e.buffer ≡ b → e.value ≡ message_from s from → IsProgramsCalls program (e ∷ es) (after_send (next_of program s) s)
 calls-send program es s b from k e calls at kind buffer value =
-    let P : Instruction → Type 0 = λ i. IsProgramsCalls program (e ∷ es) (after_send i s) in
-    subst P (sym at) (sends b from k e calls at kind buffer value)
+    subst (λ (i : Instruction). IsProgramsCalls program (e ∷ es) (after_send i s)) (sym at) (sends b from k e calls at kind buffer value)
 
 -- a receive that returns has its entry, newest first
 pub calls-recv : (program : List Instruction) (es : List Entry) (s : State) (b : BufId) (into : Into) (k : Option ℕ) (e : Entry)
     → IsProgramsCalls program es s → next_of program s ≡ Recv b into k
     → e.kind ≡ RecvKind → e.buffer ≡ b → IsProgramsCalls program (e ∷ es) (after_recv (next_of program s) e.value s)
 calls-recv program es s b into k e calls at kind buffer =
-    let P : Instruction → Type 0 = λ i. IsProgramsCalls program (e ∷ es) (after_recv i e.value s) in
-    subst P (sym at) (receives b into k e calls at kind buffer)
+    subst (λ (i : Instruction). IsProgramsCalls program (e ∷ es) (after_recv i e.value s)) (sym at) (receives b into k e calls at kind buffer)
 
 -- a close that returns has its entry, newest first
 pub calls-close : (program : List Instruction) (es : List Entry) (s : State) (b : BufId) (e : Entry) → IsProgramsCalls program es s
     → next_of program s ≡ Close b → e.kind ≡ CloseKind → e.buffer ≡ b → IsProgramsCalls program (e ∷ es) (after_close (next_of program s) s)
 calls-close program es s b e calls at kind buffer =
-    let P : Instruction → Type 0 = λ i. IsProgramsCalls program (e ∷ es) (after_close i s) in
-    subst P (sym at) (closes b e calls at kind buffer)
+    subst (λ (i : Instruction). IsProgramsCalls program (e ∷ es) (after_close i s)) (sym at) (closes b e calls at kind buffer)
 
 -- a send that returns and found its buffer closed has its entry, newest first
 pub calls-offer : (program : List Instruction) (es : List Entry) (s : State) (b : BufId) (from : Source) (k : Option ℕ) (e : Entry)
     → IsProgramsCalls program es s → next_of program s ≡ Send b from k
     → e.kind ≡ SendClosed → e.buffer ≡ b → e.value ≡ message_from s from → IsProgramsCalls program (e ∷ es) (after_closed (next_of program s) s)
 calls-offer program es s b from k e calls at kind buffer value =
-    let P : Instruction → Type 0 = λ i. IsProgramsCalls program (e ∷ es) (after_closed i s) in
-    subst P (sym at) (offers b from k e calls at kind buffer value)
+    subst (λ (i : Instruction). IsProgramsCalls program (e ∷ es) (after_closed i s)) (sym at) (offers b from k e calls at kind buffer value)
 
 -- a receive that returns and found its buffer closed and empty has its entry, newest first
 pub calls-ask : (program : List Instruction) (es : List Entry) (s : State) (b : BufId) (into : Into) (k : Option ℕ) (e : Entry)
     → IsProgramsCalls program es s → next_of program s ≡ Recv b into k
     → e.kind ≡ RecvClosed → e.buffer ≡ b → IsProgramsCalls program (e ∷ es) (after_closed (next_of program s) s)
 calls-ask program es s b into k e calls at kind buffer =
-    let P : Instruction → Type 0 = λ i. IsProgramsCalls program (e ∷ es) (after_closed i s) in
-    subst P (sym at) (asks b into k e calls at kind buffer)
+    subst (λ (i : Instruction). IsProgramsCalls program (e ∷ es) (after_closed i s)) (sym at) (asks b into k e calls at kind buffer)

@@ -1,10 +1,9 @@
 -- Reading a program line by line: what stands after some lines.
 use Rattle.std.proofs.Common.{◌≡◌, ℕ, ◌+◌, ◌<◌, ◌≤◌, List, [], ◌∷◌, ◌++◌, length, get_or, map, All, Ok, refl, sym, ◌∙◌, ap, length-append}
-use Rattle.std.proofs.lemmas.List.{length-map, Elements.All-push, Elements.All-nil}
-use Rattle.event_log.specs.Reading.{read_from}
-use Rattle.event_log.proofs.ReadingLemmas.{after, left_from, read_none, read_one, read_fault, read_all}
-use Rattle.guest.specs.{declared.instructions.Instruction.Instruction, Instructions.IsWithin, Language.numbered_line, Language.program_lines, Language.Fails}
-use Rattle.guest.specs.declared.refusals.GuestError.{GuestError, TheVariants.NoMemory, TheVariants.At}
+use Rattle.{std.proofs.lemmas.List.{length-map, Elements.{All-push, All-nil}}, event_log.{specs.Reading.read_from, proofs.ReadingLemmas.{after, left_from}}}
+use Rattle.{event_log.proofs.ReadingLemmas.{read_none, read_one, read_fault, read_all}, guest.specs.declared.instructions.Instruction.Instruction}
+use Rattle.guest.specs.{declared.refusals.GuestError.{GuestError, TheVariants.{NoMemory, At}}, Instructions.IsWithin, Language.{numbered_line, program_lines}}
+use Rattle.guest.specs.Language.{Fails}
 
 -- after the first `i` lines: their instructions stand in front of what is left to read
 pub record ReadSoFar {X : Type 0} (text : X → List ℕ) (lines : List X) (i : ℕ) (front : List Instruction) : Type 0 where

@@ -1,11 +1,10 @@
 -- The calls that a program makes, given what it receives. Lists of entries are newest first.
 use Rattle.std.specs.Prelude.{◌≡◌, ◌≢◌, ℕ, List, [], ◌∷◌, Option, reverse}
-use Rattle.event_log.specs.declared.{ids.BufId.BufId, entries.Entry.Entry}
-use Rattle.event_log.specs.declared.entries.Kind.TheVariants.{Send as SendKind, Recv as RecvKind, Close as CloseKind, SendClosed, RecvClosed}
-use Rattle.guest.specs.{declared.instructions.Register.Register, declared.instructions.Source.Source, declared.instructions.Into.Into}
-use Rattle.guest.specs.{declared.instructions.Instruction.Instruction, State.State, State.at_start, State.next_of, State.value_in, State.message_from}
-use Rattle.guest.specs.{State.moved_on, State.moved_with, State.moved_into, State.moved_to, State.moved_aside, State.wrapped_sum, State.wrapped_difference}
-use Rattle.guest.specs.declared.instructions.Instruction.TheVariants.{Set, Add, Sub, Jnz, Send, Recv, Close, Yield, Exit}
+use Rattle.event_log.specs.declared.{ids.BufId.BufId, entries.{Entry.Entry, Kind.TheVariants.{Send as SendKind, Recv as RecvKind, Close as CloseKind}}}
+use Rattle.{event_log.specs.declared.entries.Kind.TheVariants.{SendClosed, RecvClosed}, guest.specs.declared.instructions.{Register.Register, Source.Source}}
+use Rattle.guest.specs.declared.instructions.{Into.Into, Instruction.{Instruction, TheVariants.{Set, Add, Sub, Jnz, Send, Recv, Close, Yield, Exit}}}
+use Rattle.guest.specs.State.{State, at_start, next_of, value_in, message_from, moved_on, moved_with, moved_into, moved_to, moved_aside, wrapped_sum}
+use Rattle.guest.specs.State.{wrapped_difference}
 
 -- the program has made just the calls of these entries, newest first, when it stands in this state
 pub data IsProgramsCalls (program : List Instruction) : List Entry → State → Type 0 where

@@ -1,13 +1,12 @@
 -- The guest language: which line is which instruction, and the first fault of a line and of a program.
 use Rattle.std.specs.Prelude.{◌≡◌, ℕ, ◌==◌, ◌-◌, List, [], ◌∷◌, length, codes, bytes_eq, nat_lt, Option, Some, None, Result, Ok, Err, if◌then◌else◌}
 use Rattle.std.specs.List.{slice_split}
-use Rattle.event_log.specs.{declared.ids.BufId.BufId, declared.ids.TheConstants.BUFFERS, Digits.is_number, Digits.number_to, Reading.◌>>=◌, Reading.read_from}
-use Rattle.guest.specs.declared.instructions.{TheConstants.REGISTERS, Register.Register, Source.TheVariants.One as FromOne, Source.TheVariants.First}
-use Rattle.guest.specs.declared.instructions.{Into.TheVariants.One as IntoOne, Into.TheVariants.All, Instruction.Instruction}
-use Rattle.guest.specs.declared.instructions.Register.TheVariants.{Reg0, Reg1, Reg2, Reg3, Reg4, Reg5, Reg6, Reg7}
-use Rattle.guest.specs.declared.instructions.Instruction.TheVariants.{Set, Add, Sub, Jnz, Send, Recv, Close, Yield, Exit}
-use Rattle.guest.specs.declared.refusals.{GuestFault.GuestFault, GuestError.GuestError, GuestError.TheVariants.NoMemory, GuestError.TheVariants.At}
-use Rattle.guest.specs.declared.refusals.GuestFault.TheVariants.{UnknownWord, BadRegister, BadNumber, BadTarget, TooLong, Empty}
+use Rattle.event_log.specs.{declared.ids.{BufId.BufId, TheConstants.BUFFERS}, Digits.{is_number, number_to}, Reading.{◌>>=◌, read_from}}
+use Rattle.guest.specs.declared.instructions.{TheConstants.REGISTERS, Register.{Register, TheVariants.{Reg0, Reg1, Reg2, Reg3, Reg4, Reg5, Reg6, Reg7}}}
+use Rattle.guest.specs.declared.instructions.{Source.TheVariants.{One as FromOne, First}, Into.TheVariants.{One as IntoOne, All}, Instruction.Instruction}
+use Rattle.guest.specs.declared.{instructions.Instruction.TheVariants.{Set, Add, Sub, Jnz, Send, Recv, Close, Yield, Exit}, refusals.GuestFault.GuestFault}
+use Rattle.guest.specs.declared.refusals.{GuestFault.TheVariants.{UnknownWord, BadRegister, BadNumber, BadTarget, TooLong, Empty}, GuestError.GuestError}
+use Rattle.guest.specs.declared.refusals.GuestError.TheVariants.{NoMemory, At}
 
 -- the value, if there is one, or else this fault
 abbrev pub or_fault : {A : Type 0} → GuestFault → Option A → Result A GuestFault

@@ -1,10 +1,9 @@
 -- What holds of every program: statements of this crate's laws.
 use Rattle.std.specs.Prelude.{◌≡◌, ℕ, List, ◌∷◌, Option}
-use Rattle.event_log.specs.declared.{ids.BufId.BufId, entries.Entry.Entry}
-use Rattle.event_log.specs.declared.entries.Kind.TheVariants.{Send as SendKind, Recv as RecvKind, Close as CloseKind, SendClosed, RecvClosed}
-use Rattle.guest.specs.{declared.instructions.Source.Source, declared.instructions.Into.Into, State.State, State.next_of, State.message_from, State.after_local}
-use Rattle.guest.specs.{State.after_send, State.after_recv, State.after_close, State.after_closed, State.after_yield, Calls.IsProgramsCalls}
-use Rattle.guest.specs.declared.instructions.Instruction.{Instruction, TheVariants.Send, TheVariants.Recv, TheVariants.Close}
+use Rattle.event_log.specs.declared.{ids.BufId.BufId, entries.{Entry.Entry, Kind.TheVariants.{Send as SendKind, Recv as RecvKind, Close as CloseKind}}}
+use Rattle.{event_log.specs.declared.entries.Kind.TheVariants.{SendClosed, RecvClosed}, guest.specs.declared.instructions.{Source.Source, Into.Into}}
+use Rattle.guest.specs.{declared.instructions.Instruction.{Instruction, TheVariants.{Send, Recv, Close}}, State.{State, next_of, message_from, after_local}}
+use Rattle.guest.specs.{State.{after_send, after_recv, after_close, after_closed, after_yield}, Calls.IsProgramsCalls}
 
 -- each kind of step keeps the relation of a program to its calls
 pub record StepsKeepCalls : Type 0 where

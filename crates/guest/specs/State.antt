@@ -1,11 +1,9 @@
 -- A thread's private state, and what each instruction makes of it.
 use Rattle.std.specs.Prelude.{ℕ, ◌+◌, ◌-◌, ◌^◌, ◌%◌, ◌==◌, List, [], ◌∷◌, take, replicate, Option, Some, None, slice_index, slice_set, if◌then◌else◌}
-use Rattle.event_log.specs.Messages.{Message, first_word, padded}
-use Rattle.guest.specs.{declared.instructions.TheConstants.REGISTERS, declared.instructions.Register.Register, declared.instructions.Source.Source}
-use Rattle.guest.specs.{declared.instructions.Source.TheVariants.One as FromOne, declared.instructions.Source.TheVariants.First}
-use Rattle.guest.specs.{declared.instructions.Into.Into, declared.instructions.Into.TheVariants.One as IntoOne, declared.instructions.Into.TheVariants.All}
-use Rattle.guest.specs.{declared.instructions.Instruction.Instruction, Instructions.number_of, Instructions.instruction_at}
-use Rattle.guest.specs.declared.instructions.Instruction.TheVariants.{Set, Add, Sub, Jnz, Send, Recv, Close, Yield, Exit}
+use Rattle.{event_log.specs.Messages.{Message, first_word, padded}, guest.specs.declared.instructions.{TheConstants.REGISTERS, Register.Register}}
+use Rattle.guest.specs.declared.instructions.{Source.{Source, TheVariants.{One as FromOne, First}}, Into.{Into, TheVariants.{One as IntoOne, All}}}
+use Rattle.guest.specs.declared.instructions.Instruction.{Instruction, TheVariants.{Set, Add, Sub, Jnz, Send, Recv, Close, Yield, Exit}}
+use Rattle.guest.specs.Instructions.{number_of, instruction_at}
 
 -- the line at which a thread stands, and its registers by number
 pub record State : Type 0 where

@@ -132,8 +132,7 @@ pub struct Program {
 }
 
 impl Model for Program {
-    ghost use Rattle.std.specs.Prelude.{List};
-    ghost use Rattle.guest.specs.{declared.instructions.Instruction.Instruction, Instructions.IsProgram};
+    ghost use Rattle.{std.specs.Prelude.List, guest.specs.{declared.instructions.Instruction.Instruction, Instructions.IsProgram}};
 
     ghost Value = { List Instruction };
 
@@ -143,10 +142,9 @@ impl Model for Program {
 }
 
 impl Program {
-    ghost use Rattle.std.specs.Prelude.{◌≡◌, ◌≢◌, ◌<◌, length, map, IfOk};
-    ghost use Rattle.guest.specs.{declared.instructions.Instruction.TheVariants.Exit, Instructions.IsProgram, Instructions.IsWithin};
-    ghost use Rattle.guest.specs.{Instructions.instruction_at, Instructions.names_below, Language.program_in, Language.Gives};
-    ghost use Rattle.std.specs.List.{list_all};
+    ghost use Rattle.std.specs.{Prelude.{◌≡◌, ◌≢◌, ◌<◌, length, map, IfOk}, List.list_all};
+    ghost use Rattle.guest.specs.{declared.instructions.Instruction.TheVariants.Exit, Instructions.{IsProgram, IsWithin, instruction_at, names_below}};
+    ghost use Rattle.guest.specs.Language.{program_in, Gives};
 
     /// Reads the lines of a program, one instruction each.
     ///

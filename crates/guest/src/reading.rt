@@ -2,10 +2,9 @@
 //! each. `instructions_in` takes memory. No call waits.
 
 ghost use Rattle.std.specs.Prelude.{◌≡◌, ◌<◌, ◌≤◌, ◌^◌, ℕ, List, Ok, map, length, All, IfOk};
-ghost use Rattle.event_log.specs.{declared.ids.TheConstants.BUFFERS, Reading.read_from};
-ghost use Rattle.guest.specs.{Instructions.IsSource, Instructions.IsWithin, declared.instructions.Source.TheVariants.First};
-ghost use Rattle.guest.specs.Language.{register_in, word_in, buffer_in, words_in, target_in, one_piece, two_pieces, three_pieces, four_pieces, pieces_in};
-ghost use Rattle.guest.specs.Language.{line_in, at_line, program_lines, Gives};
+ghost use Rattle.{event_log.specs.{declared.ids.TheConstants.BUFFERS, Reading.read_from}, guest.specs.Instructions.{IsSource, IsWithin}};
+ghost use Rattle.guest.specs.{declared.instructions.Source.TheVariants.First, Language.{register_in, word_in, buffer_in, words_in, target_in, one_piece}};
+ghost use Rattle.guest.specs.Language.{two_pieces, three_pieces, four_pieces, pieces_in, line_in, at_line, program_lines, Gives};
 
 use crate::instructions::{Instruction, Into, REGISTERS, Register, Source};
 use crate::refusals::{GuestError, GuestFault};

@@ -24,9 +24,9 @@ impl Model for Thread {
 
 impl Thread {
     ghost use Rattle.std.specs.Prelude.{◌≡◌, ◌<◌, length};
-    ghost use Rattle.guest.specs.{Instructions.IsSource, Instructions.IsWithin, declared.instructions.Into.TheVariants.All, State.at_start, State.next_of};
-    ghost use Rattle.guest.specs.{State.after_local, State.after_yield, State.after_send, State.after_recv, State.after_close, State.after_closed};
-    ghost use Rattle.guest.specs.{State.value_in, State.message_from, State.moved_on, State.moved_with, State.moved_into, State.moved_aside};
+    ghost use Rattle.guest.specs.{Instructions.{IsSource, IsWithin}, declared.instructions.Into.TheVariants.All, State.{at_start, next_of, after_local}};
+    ghost use Rattle.guest.specs.State.{after_yield, after_send, after_recv, after_close, after_closed, value_in, message_from, moved_on, moved_with};
+    ghost use Rattle.guest.specs.State.{moved_into, moved_aside};
 
     /// A thread before its first instruction: at line 0, each register 0.
     pub fn new() -> Thread

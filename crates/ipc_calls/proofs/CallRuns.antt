@@ -1,12 +1,8 @@
 -- Runs of polls of a call on a buffer that is there are runs of polls of the buffers beneath.
-use Rattle.std.proofs.Common.{◌≡◌, ℕ, ◌<◌, List, Option, None, length, arith}
-use Rattle.std.proofs.lemmas.Bool.{lt-ltb}
-use Rattle.event_log.specs.declared.ids.{CpuId.CpuId, Tid.Tid}
-use Rattle.layer_traits.specs.{declared.call_layers.CallLayer.Ghosts, declared.calls.Call.Call, declared.calls.Reply.Reply, declared.calls.ReplyKind.ReplyKind}
-use Rattle.layer_traits.specs.{BufferLaw.BufferPlan, BufferLaw.Buffering, BufferLaw.buffer_of, BufferLaw.fifo_plan}
-use Rattle.layer_traits.specs.{Framed.Framed, IpcLaw.ipc_plan, LayerPolls.IsQuietAt, LayerPolls.LookedAt, LayerPolls.PolledAt, LayerPolls.PolledOnAt}
-use Rattle.layer_traits.specs.PollRuns.{once, again, looks}
-use Rattle.layer_traits.proofs.PollRunLemmas.{Kept, kept}
+use Rattle.std.proofs.{Common.{◌≡◌, ℕ, ◌<◌, List, Option, None, length, arith}, lemmas.Bool.lt-ltb}
+use Rattle.{event_log.specs.declared.ids.{CpuId.CpuId, Tid.Tid}, layer_traits.specs.declared.{call_layers.CallLayer.Ghosts, calls.{Call.Call, Reply.Reply}}}
+use Rattle.layer_traits.specs.{declared.calls.ReplyKind.ReplyKind, BufferLaw.{BufferPlan, Buffering, buffer_of, fifo_plan}, Framed.Framed, IpcLaw.ipc_plan}
+use Rattle.layer_traits.{specs.{LayerPolls.{IsQuietAt, LookedAt, PolledAt, PolledOnAt}, PollRuns.{once, again, looks}}, proofs.PollRunLemmas.{Kept, kept}}
 use Rattle.ipc_calls.specs.{declared.ipc.Ipc.Ipc, Parts.KeepsPlan}
 
 -- what a part of message calls tells as a layer of calls, over a part of buffers

@@ -1,13 +1,10 @@
 -- The locks of the tower at boot, as its layers read them.
-use Rattle.std.proofs.Common.{◌≡◌, ℕ, List, map, Option, Some, None, option_map, slice_get, refl, ap, ◌∙◌}
-use Rattle.std.proofs.lemmas.Option.{slice_get-map}
-use Rattle.event_log.specs.declared.ids.{BufId.BufId, LockId.LockId, LockId.TheVariants.Buffer}
-use Rattle.fifo_buffer.proofs.Opening.{boots_at, resting}
-use Rattle.layer_traits.specs.{declared.queue_edits.QueueBlock.QueueBlock, BufferBlocks.BufferState, BufferBlocks.empty_block, BufferEffects.opening_locks}
-use Rattle.layer_traits.specs.{QueueBlocks.StartsWell, QueueBlocks.inner, Renaming.viewed}
-use Rattle.layer_traits.proofs.KernelRenaming.{inner_viewed, starts_viewed}
-use Rattle.queuing_lock.specs.{declared.edits.QBlock.QBlock, Nested.nested_lock_of, Nested.unowned}
-use Rattle.sleep_wakeup.specs.{declared.edits.SleepBlock.SleepBlock, Nested.state_of}
+use Rattle.std.proofs.{Common.{◌≡◌, ℕ, List, map, Option, Some, None, option_map, slice_get, refl, ap, ◌∙◌}, lemmas.Option.slice_get-map}
+use Rattle.{event_log.specs.declared.ids.{BufId.BufId, LockId.{LockId, TheVariants.Buffer}}, fifo_buffer.proofs.Opening.{boots_at, resting}}
+use Rattle.layer_traits.specs.{declared.queue_edits.QueueBlock.QueueBlock, BufferBlocks.{BufferState, empty_block}, BufferEffects.opening_locks}
+use Rattle.layer_traits.{specs.{QueueBlocks.{StartsWell, inner}, Renaming.viewed}, proofs.KernelRenaming.{inner_viewed, starts_viewed}}
+use Rattle.{queuing_lock.specs.{declared.edits.QBlock.QBlock, Nested.{nested_lock_of, unowned}}, sleep_wakeup.specs.declared.edits.SleepBlock.SleepBlock}
+use Rattle.sleep_wakeup.specs.Nested.{state_of}
 use Rattle.sleep_wakeup.specs.Nested as nested
 
 module _ (opening : LockId → Option (QueueBlock (SleepBlock (QBlock BufferState)))) (caps : List ℕ) (buffers : List BufferState)

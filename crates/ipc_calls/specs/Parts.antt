@@ -1,9 +1,7 @@
 -- What a part of message calls keeps for itself, and what it tells of where a thread stands.
-use Rattle.std.specs.Prelude.{◌≡◌, ℕ, ◌<◌, Bool, false, ◌||◌, List, Option, Some, None, option_map, option_and_then}
-use Rattle.std.specs.Option.{option_or}
-use Rattle.event_log.specs.declared.ids.{BufId.BufId, CpuId.CpuId, Tid.Tid}
-use Rattle.layer_traits.specs.{declared.calls.Place.Place, declared.moves.WaitList.WaitList, Owned.wait_list_among, Places.Threads, Places.is_thread}
-use Rattle.layer_traits.specs.declared.moves.WaitList.TheVariants.{Sleepers, Receivers, Senders}
+use Rattle.std.specs.{Prelude.{◌≡◌, ℕ, ◌<◌, Bool, false, ◌||◌, List, Option, Some, None, option_map, option_and_then}, Option.option_or}
+use Rattle.{event_log.specs.declared.ids.{BufId.BufId, CpuId.CpuId, Tid.Tid}, layer_traits.specs.declared.{calls.Place.Place, moves.WaitList.WaitList}}
+use Rattle.layer_traits.specs.{declared.moves.WaitList.TheVariants.{Sleepers, Receivers, Senders}, Owned.wait_list_among, Places.{Threads, is_thread}}
 use Rattle.thread_blocks.specs.Queues.{is_in}
 use Rattle.layer_traits.specs.declared.calls.Place.TheVariants as place
 

@@ -41,9 +41,8 @@ pub trait OpensBuffers: OwnedBuffers {
 /// Shared queues whose machine is opened with the locks of buffers, and that tell of its blocks.
 pub trait OpensQueues: OwnedLayer<QueueLaw<SleepEdit<LockEdit>>> {
     ghost use Rattle.event_log.specs.declared.ids.{CpuId.CpuId, LockId.TheVariants.Pending, TheConstants.CPUS};
-    ghost use Rattle.layer_traits.specs.{BufferEffects.opening_locks, Openings.AreOpenable, QueueBlocks.homes_in, QueueBlocks.inner, Renaming.viewed};
-    ghost use Rattle.queuing_lock.specs.Nested.{nested_lock_of};
-    ghost use Rattle.sleep_wakeup.specs.Nested.{state_of};
+    ghost use Rattle.layer_traits.specs.{BufferEffects.opening_locks, Openings.AreOpenable, QueueBlocks.{homes_in, inner}, Renaming.viewed};
+    ghost use Rattle.{queuing_lock.specs.Nested.nested_lock_of, sleep_wakeup.specs.Nested.state_of};
 
     /// As `open` of [`OpensLocks`].
     ///
@@ -73,9 +72,8 @@ pub trait OpensQueues: OwnedLayer<QueueLaw<SleepEdit<LockEdit>>> {
 /// Schedulers whose machine is opened with the locks of buffers, and that tell of its blocks.
 pub trait OpensScheds: OwnedLayer<SchedLaw<SleepEdit<LockEdit>>> {
     ghost use Rattle.event_log.specs.declared.ids.{CpuId.CpuId, LockId.TheVariants.Pending, TheConstants.CPUS};
-    ghost use Rattle.layer_traits.specs.{BufferEffects.opening_locks, Openings.AreOpenable, QueueBlocks.homes_in, QueueBlocks.inner, Renaming.viewed};
-    ghost use Rattle.queuing_lock.specs.Nested.{nested_lock_of};
-    ghost use Rattle.sleep_wakeup.specs.Nested.{state_of};
+    ghost use Rattle.layer_traits.specs.{BufferEffects.opening_locks, Openings.AreOpenable, QueueBlocks.{homes_in, inner}, Renaming.viewed};
+    ghost use Rattle.{queuing_lock.specs.Nested.nested_lock_of, sleep_wakeup.specs.Nested.state_of};
 
     /// As `open` of [`OpensLocks`].
     ///

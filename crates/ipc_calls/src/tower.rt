@@ -2,10 +2,9 @@
 //! and `open` take memory. No call waits.
 
 ghost use Rattle.std.specs.Prelude.{◌≡◌, ◌<◌, ◌≤◌, [], None, IsSome, IfOk, length, replicate};
-ghost use Rattle.event_log.specs.declared.ids.{CpuId.CpuId, LockId.TheVariants.Pending, TheConstants.BUFFERS, TheConstants.THREADS};
-ghost use Rattle.layer_traits.specs.{BufferEffects.opening_locks, BufferLaw.no_call, OneLock.AreDistinct, OneLock.opened, Openings.AreOpenable};
-ghost use Rattle.layer_traits.specs.{QueueBlocks.StartsWell, QueueBlocks.homes_in, QueueBlocks.inner, Renaming.viewed};
-ghost use Rattle.queuing_lock.specs.Nested.{nested_lock_of};
+ghost use Rattle.event_log.specs.declared.ids.{CpuId.CpuId, LockId.TheVariants.Pending, TheConstants.{BUFFERS, THREADS}};
+ghost use Rattle.layer_traits.specs.{BufferEffects.opening_locks, BufferLaw.no_call, OneLock.{AreDistinct, opened}, Openings.AreOpenable};
+ghost use Rattle.{layer_traits.specs.{QueueBlocks.{StartsWell, homes_in, inner}, Renaming.viewed}, queuing_lock.specs.Nested.nested_lock_of};
 ghost use Rattle.sleep_wakeup.specs.Nested.{state_of};
 
 use crate::ipc::Ipc;

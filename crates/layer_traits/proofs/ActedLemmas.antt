@@ -1,18 +1,14 @@
 -- A layer whose history is that of its actions' sections tells of threads what these make of it.
-use Rattle.std.proofs.Common.{◌≡◌, List, Option, Some, None, option_map, map, refl, ap, sym, ◌∙◌, subst}
-use Rattle.event_log.specs.{declared.ids.BufId.BufId, declared.ids.LockId.LockId, declared.ids.LockId.TheVariants.Pending}
-use Rattle.event_log.specs.{declared.ids.LockId.TheVariants.Buffer, Sections.sections_in}
-use Rattle.layer_traits.specs.{declared.buffer_edits.BufferEdit.BufferEdit, declared.queue_edits.QueueBlock.QueueBlock}
-use Rattle.layer_traits.specs.{declared.queue_edits.QueueBlock.TheVariants.Above, declared.queues.QueueEvent.QueueEvent, Acted.BufferActs, Acted.MovesAre}
-use Rattle.layer_traits.specs.{Acted.guarded, Acted.owner_after, BufferProtocol.BufferLock, BufferProtocol.buffer_rules, Conditions.CvCall, QLockLaw.lock_kernel}
-use Rattle.layer_traits.specs.{QLocking.wait_list_in, QLocking.lock_after, QLocking.lock_moves, QLocking.lock_rules, QLocking.owner_in, Places.AreMoves}
-use Rattle.layer_traits.specs.{Places.pending_by, QueueBlocks.StartsWell, QueueBlocks.above_of, QueueBlocks.homes_in, QueueBlocks.inner, QueueBlocks.with_queue}
-use Rattle.layer_traits.specs.{QueueRules.AreProper, Queues.buffer_sections, Queues.event_of, Queues.moves_in}
-use Rattle.layer_traits.proofs.NestedLemmas.{proper_buffer, proper_queue}
+use Rattle.std.proofs.Common.{◌≡◌, List, Option, option_map, map, ap, sym, ◌∙◌, arith}
+use Rattle.event_log.specs.{declared.ids.{BufId.BufId, LockId.{LockId, TheVariants.Buffer}}, Sections.sections_in}
+use Rattle.layer_traits.specs.declared.{buffer_edits.BufferEdit.BufferEdit, queue_edits.QueueBlock.{QueueBlock, TheVariants.Above}}
+use Rattle.layer_traits.specs.{declared.queues.QueueEvent.QueueEvent, Acted.{BufferActs, MovesAre, guarded, owner_after}, BufferProtocol.BufferLock}
+use Rattle.layer_traits.specs.{BufferProtocol.buffer_rules, Conditions.CvCall, QLockLaw.lock_kernel, QLocking.{wait_list_in, lock_after, lock_moves}}
+use Rattle.layer_traits.specs.{QLocking.{lock_rules, owner_in}, Places.AreMoves, QueueBlocks.{StartsWell, above_of, homes_in, inner}, QueueRules.AreProper}
+use Rattle.layer_traits.{specs.Queues.{buffer_sections, event_of, moves_in}, proofs.NestedLemmas.{proper_buffer, proper_queue}}
 
 above_made : {B : Type 0} (above : Option B) → above_of (option_map Above above) ≡ above
-above_made None = refl
-above_made (Some block) = refl
+above_made above = grind arith
 
 module _ (opening : LockId → Option (QueueBlock BufferLock)) (acts : BufferActs) (starts : StartsWell opening) (proper : AreProper (sections_in acts))
     (seen : List (QueueEvent (CvCall BufferEdit))) (seen_is : seen ≡ map event_of (sections_in acts)) where
@@ -31,10 +27,7 @@ module _ (opening : LockId → Option (QueueBlock BufferLock)) (acts : BufferAct
       (λ b line. wait_list_in line (lock_after buffer_rules (inner opening) (Buffer b) (buffer_sections seen)))
   moves_read moving = record {
     made = ap (moves_in (lock_kernel buffer_rules opening)) seen_is;
-    pending = λ d. subst (λ past. guarded opening acts (Pending d)
-        ≡ with_queue (pending_by (moves_in (lock_kernel buffer_rules opening) past) d) (opening (Pending d)))
-        (sym seen_is)
-        (proper_queue (lock_rules buffer_rules) (lock_moves buffer_rules) opening starts d (sections_in acts) proper
-        (subst (λ past. AreMoves (homes_in opening) (moves_in (lock_kernel buffer_rules opening) past)) seen_is moving));
+    pending = λ d. rw seen_is
+        (proper_queue (lock_rules buffer_rules) (lock_moves buffer_rules) opening starts d (sections_in acts) proper (rw seen_is at moving));
     waiting = λ b line. ap (wait_list_in line) (lock_is b);
   }

@@ -1,39 +1,23 @@
 -- A machine whose holder acts for every CPU sees no foreign events; and a section where every CPU rests.
-use Rattle.std.proofs.Common.{◌≡◌, ◌<◌, Bool, true, false, List, [], ◌∷◌, ◌++◌, Option, Some, None, IsSome, option_map, if◌then◌else◌, refl, ap, sym, ◌∙◌}
-use Rattle.std.proofs.Common.{subst, arith}
-use Rattle.std.proofs.lemmas.Bool.{eq-eqb}
-use Rattle.event_log.specs.{declared.ids.CpuId.CpuId, declared.ids.LockId.LockId, declared.ids.TheConstants.CPUS, History.AreForeign}
-use Rattle.event_log.specs.{History.same_cpu, History.same_lock, Actions.Action, Actions.Take, Actions.Try, Actions.Give, Actions.Rests}
-use Rattle.event_log.specs.{Actions.Waits, Actions.Holds, Actions.cpu_of_action, Actions.phase, Actions.takes, Actions.gives, Actions.spot_of, Actions.AreLegal}
-use Rattle.event_log.specs.{Actions.next_action, Actions.action_in, Sections.Section, Sections.sections_in, Sections.block_after}
-use Rattle.event_log.proofs.{Exclusion.is_at, Exclusion.line_at, Exclusion.phase_own, Foreign.cpu_of_action_known, Line.crowd}
-use Rattle.event_log.proofs.{Line.crowd_same, Line.crowd_none, Same.same_cpu_self}
-use Rattle.layer_traits.specs.{Plans.Table, Plans.Left, Plans.Acting, Plans.at_give, Plans.reply}
+use Rattle.std.proofs.Common.{◌≡◌, ◌<◌, true, false, List, [], ◌∷◌, ◌++◌, Option, IsSome, option_map, if◌then◌else◌, refl, ap, sym, ◌∙◌, arith}
+use Rattle.{std.proofs.lemmas.Bool.eq-eqb, event_log.specs.{declared.ids.{CpuId.CpuId, LockId.LockId, TheConstants.CPUS}, History.AreForeign, Actions.Action}}
+use Rattle.event_log.specs.Actions.{Take, Try, Give, Rests, Waits, Holds, cpu_of_action, phase, takes, gives, spot_of, AreLegal, next_action, action_in}
+use Rattle.event_log.{specs.Sections.{Section, sections_in, block_after}, proofs.{Exclusion.{is_at, line_at, phase_own}, Foreign.cpu_of_action_known}}
+use Rattle.{event_log.proofs.{Line.{crowd, crowd_same, crowd_none}, Same.same_cpu_self}, layer_traits.specs.Plans.{Table, Left, Acting, at_give, reply}}
 
 -- no action is foreign to a holder that acts for every CPU
 pub no_foreign_acts : {N : Type 0} (ActsFor : CpuId → Type 0) → ((c : CpuId) → c.0 < CPUS → ActsFor c) → (others old : List (Action N))
     → AreLegal (others ++ old) → AreForeign ActsFor cpu_of_action others → others ≡ []
 no_foreign_acts ActsFor all [] old legal foreign = refl
 no_foreign_acts ActsFor all (a ∷ others) old legal foreign =
-    let other : same_cpu (cpu_of_action a) (cpu_of_action a) ≡ false = (foreign (cpu_of_action a) (all (cpu_of_action a) (cpu_of_action_known a
-    (others ++ old) legal.0 legal.1))).0 in
-    let itself : same_cpu (cpu_of_action a) (cpu_of_action a) ≡ true = same_cpu_self (cpu_of_action a) in
-    absurd (cc (other, itself))
+    let other = (foreign (cpu_of_action a) (all (cpu_of_action a) (cpu_of_action_known a (others ++ old) legal.0 legal.1))).0 in
+    absurd (cc (other, same_cpu_self (cpu_of_action a)))
 
 -- a lock that opened with a block has one after any sections
 pub block_there : {E B : Type 0} (edited : E → B → B) (opening : LockId → Option B) (lock : LockId) (past : List (Section E)) → IsSome (opening lock)
     → IsSome (block_after edited opening lock past)
 block_there {B = B} edited opening lock [] some = some
-block_there {B = B} edited opening lock (s ∷ past) some =
-    either (same_lock lock s.lock) (block_after edited opening lock past) (block_there edited opening lock past some)
-  where
-    mapped : (o : Option B) → IsSome o → IsSome (option_map (edited s.edit) o)
-    mapped None there = there
-    mapped (Some block) there = refl
-
-    either : (b : Bool) (o : Option B) → IsSome o → IsSome (if b then option_map (edited s.edit) o else o)
-    either true o there = mapped o there
-    either false o there = there
+block_there {B = B} edited opening lock (s ∷ past) some = grind (arith, block_there edited opening lock past some)
 
 module _ {N : Type 0} (cpu : CpuId) (lock : LockId) (name : N) (past : List (Action N)) (rests : (c : CpuId) → phase c past ≡ Rests) where
   -- where every CPU rests, each lock was given on as often as it was taken
@@ -75,9 +59,8 @@ pub acts_alone : {N B R S A : Type 0} (ActsFor : CpuId → Type 0) (table : Tabl
     → ((c : CpuId) → c.0 < CPUS → ActsFor c) → AreLegal new → Acting ActsFor table opening cpu lock name react old new got
     → (new ≡ next_action cpu lock name old ∷ old) × (got ≡ react (reply table opening cpu lock name old))
 acts_alone ActsFor table opening cpu lock name react old new got all legal acting =
-    let past_legal : AreLegal acting.past = (subst (λ l. AreLegal l) acting.acted.grows legal).1 in
-    let none : acting.acted.others ≡ []
-    = no_foreign_acts ActsFor all acting.acted.others old (subst (λ l. AreLegal l) acting.acted.joined past_legal) acting.acted.foreign in
+    let past_legal = (rw acting.acted.grows at legal).1 in
+    let none = no_foreign_acts ActsFor all acting.acted.others old (rw acting.acted.joined at past_legal) acting.acted.foreign in
     let same : acting.past ≡ old = acting.acted.joined ∙ ap (λ l. l ++ old) none in (
       acting.acted.grows ∙ ap (λ past. next_action cpu lock name past ∷ past) same,
       acting.moves ∙ ap (λ past. react (reply table opening cpu lock name past)) same,
@@ -96,23 +79,13 @@ pub three_polls : {N B R : Type 0} (table : Table N B R) (lock : LockId) (name :
     → second ≡ next_action cpu lock name first ∷ first → third ≡ next_action cpu' lock name second ∷ second → fourth ≡ next_action cpu'' lock name third ∷ third
     → answer ≡ reply table o'' cpu'' lock name third → Section3 table o cpu lock name first third fourth answer
 three_polls {N = N} table lock name o o' o'' cpu cpu' cpu'' first second third fourth answer rests legal same same' kept kept' one two three gives =
-    let cpu2 : cpu'' ≡ cpu = same' ∙ same in
-    let taken : second ≡ Take cpu lock ∷ first = one ∙ ap (λ a. a ∷ first) (first_action cpu lock name first rests) in
-    let tried : third ≡ Try cpu lock true ∷ Take cpu lock ∷ first
-    = two ∙ (ap (λ c. next_action c lock name second ∷ second) same
-    ∙ (ap (λ l. next_action cpu lock name l ∷ l) taken
-    ∙ ap (λ a. a ∷ Take cpu lock ∷ first) (second_action cpu lock name first rests legal))) in
-    let given : fourth ≡ Give cpu lock name ∷ Try cpu lock true ∷ Take cpu lock ∷ first
-    = three ∙ (ap (λ c. next_action c lock name third ∷ third) cpu2
-    ∙ (ap (λ l. next_action cpu lock name l ∷ l) tried
-    ∙ ap (λ a. a ∷ Try cpu lock true ∷ Take cpu lock ∷ first) (third_action cpu lock name first rests))) in
+    let taken = one ∙ ap (λ a. a ∷ first) (first_action cpu lock name first rests) in
+    let tried = rw (same, taken, second_action cpu lock name first rests legal) at two in
     record {
       tried = tried;
-      given = given;
-      answers = gives ∙ (ap (λ x. reply table x cpu'' lock name third) (kept' ∙ kept) ∙ (ap (λ c. reply table o c lock name third) cpu2
-          ∙ (ap (λ l. reply table o cpu lock name l) tried ∙ third_reply cpu lock name first rests table o)));
+      given = rw (same' ∙ same, tried, third_action cpu lock name first rests) at three;
+      answers = rw (kept' ∙ kept, same' ∙ same, tried, third_reply cpu lock name first rests table o) at gives;
     }
 
 pub answer_there : {B R : Type 0} (f : B → R) (block : Option B) → IsSome block → IsSome (option_map f block)
-answer_there f None there = there
-answer_there f (Some block) there = refl
+answer_there f block there = grind (arith, there)

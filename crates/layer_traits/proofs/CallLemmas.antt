@@ -1,69 +1,30 @@
 -- Calls at shared queues: their steps are lawful moves, calls of others are moves of others, and what a poll of a pass means in moves.
-use Rattle.std.proofs.Common.{◌≡◌, Bool, true, false, List, [], ◌∷◌, ◌++◌, Option, Some, None, MatchOption, is_some, if◌then◌else◌, refl, ap, sym, ◌∙◌, subst}
-use Rattle.event_log.specs.{declared.ids.BufId.BufId, declared.ids.CpuId.CpuId, declared.ids.LockId.LockId, declared.ids.LockId.TheVariants.Buffer}
-use Rattle.event_log.specs.{declared.ids.Tid.Tid, History.AreOthers, History.IsLawful, History.same_cpu, Actions.Action}
-use Rattle.thread_blocks.specs.Queues.{same_tid}
-use Rattle.thread_blocks.proofs.Members.{same_tid_true}
-use Rattle.layer_traits.specs.{declared.moves.WaitList.WaitList, declared.queues.QueueCall.QueueCall, declared.queues.QueueCall.TheVariants.Push}
-use Rattle.layer_traits.specs.{declared.queues.QueueCall.TheVariants.TakeAll, declared.queues.QueueCall.TheVariants.OnBuffer}
-use Rattle.layer_traits.specs.{declared.queues.QueueEvent.QueueEvent, declared.scheds.SchedAnswer.SchedAnswer, MoveRules.WakesSleepers, MoveRules.edit_move}
-use Rattle.layer_traits.specs.{MoveRules.section_moves, MoveRules.slept_at, MoveRules.asleep_after, MoveRules.asleep_by, Passes.PassPolled, Passes.pass_after}
-use Rattle.layer_traits.specs.{Passes.pass_steps, Plans.Act, Plans.Follows, Plans.Left, Plans.Now, Plans.Plan, Plans.Table, Plans.raised, Queues.CallAllowed}
-use Rattle.layer_traits.specs.{Queues.Kernel, Queues.QueueAllowed, Queues.buffer_sections, Queues.call_move, Queues.event, Queues.cpu_of_queue_event}
-use Rattle.layer_traits.specs.{Queues.moves_in, Queues.out_at, Scheds.SchedPolled, Scheds.events_of, Scheds.pass_call}
-use Rattle.layer_traits.specs.declared.passes.Pass.{Pass, TheVariants.Switch}
-use Rattle.layer_traits.specs.Places.{AreMoves, Asleep, Hand, Home, MayMove, Move, Moved, Pend, WaitChannel, Pushed, Step, Still, Threads, Took, Where, home_of}
-use Rattle.layer_traits.specs.Places.{is_asleep, is_cpu, is_wait_channel, is_thread, pending_by, wait_channel_of, step, cpu_of_step, where_after, where_is}
-use Rattle.layer_traits.specs.Places.{where_slept, where_taken, where_woken}
+use Rattle.std.proofs.Common.{◌≡◌, Bool, true, false, List, [], ◌∷◌, ◌++◌, Option, Some, None, MatchOption, is_some, if◌then◌else◌, refl, ap, sym, ◌∙◌, arith}
+use Rattle.event_log.specs.{declared.ids.{BufId.BufId, CpuId.CpuId, LockId.{LockId, TheVariants.Buffer}, Tid.Tid}, History.{AreOthers, IsLawful}}
+use Rattle.{event_log.specs.Actions.Action, thread_blocks.proofs.Members.same_tid_true, layer_traits.specs.declared.queues.QueueCall.QueueCall}
+use Rattle.layer_traits.specs.declared.{queues.{QueueCall.TheVariants.{Push, TakeAll, OnBuffer}, QueueEvent.QueueEvent}, scheds.SchedAnswer.SchedAnswer}
+use Rattle.layer_traits.specs.{declared.passes.Pass.{Pass, TheVariants.Switch}, MoveRules.{WakesSleepers, edit_move, section_moves, asleep_after, asleep_by}}
+use Rattle.layer_traits.specs.{Passes.{PassPolled, pass_after, pass_steps}, Plans.{Act, Follows, Left, Now, Plan, Table, raised}, Queues.{CallAllowed, Kernel}}
+use Rattle.layer_traits.specs.{Queues.{QueueAllowed, buffer_sections, call_move, event, cpu_of_queue_event, moves_in, out_at}, Scheds.{SchedPolled, events_of}}
+use Rattle.layer_traits.specs.{Scheds.pass_call, Places.{AreMoves, MayMove, Move, Moved, Pushed, Step, Still, Threads, Took, Where, is_asleep, is_wait_channel}}
+use Rattle.layer_traits.specs.Places.{pending_by, wait_channel_of, step, cpu_of_step, where_after, where_is, where_taken, where_woken}
 use Rattle.layer_traits.specs.declared.scheds.SchedCall.TheVariants as call
 
 -- Where a thread sleeps needs no home.
 
 taken_wait_channel : (d : CpuId) (w : Where) → wait_channel_of (where_taken d w) ≡ wait_channel_of w
-taken_wait_channel d Home = refl
-taken_wait_channel d (Hand c) = refl
-taken_wait_channel d (Pend c) = go (same_cpu d c)
-  where
-    go : (b : Bool) → wait_channel_of (if b then Home else Pend c) ≡ None
-    go true = refl
-    go false = refl
-taken_wait_channel d (Asleep p) = refl
+taken_wait_channel d w = grind arith
 
 woken_wait_channel : (c : CpuId) (home : Option CpuId) → wait_channel_of (where_woken c home) ≡ None
-woken_wait_channel c home = go (is_cpu c home)
-  where
-    go : (b : Bool) → wait_channel_of (if b then Home else Hand c) ≡ None
-    go true = refl
-    go false = refl
-
-slept_wait_channel : (lock : LockId) (slept : Option WaitList) (w : Where) (p : Option WaitChannel) → wait_channel_of w ≡ p
-    → wait_channel_of (where_slept lock slept w) ≡ slept_at lock slept p
-slept_wait_channel lock None w p is = is
-slept_wait_channel lock (Some line) w p is = refl
+woken_wait_channel c home = grind arith
 
 module _ (homes : List CpuId) where
   wait_channel_after : (past : List Step) (c : CpuId) (move : Move) (t : Tid) → MayMove homes past c move
       → wait_channel_of (where_is homes past t) ≡ asleep_by past t
       → wait_channel_of (where_after homes c move t (where_is homes past t)) ≡ asleep_after move t (asleep_by past t)
-  wait_channel_after past c (Pushed d u) t may is = go (same_tid u t) refl
-    where
-      go : (b : Bool) → same_tid u t ≡ b → wait_channel_of (if b then Pend d else where_is homes past t) ≡ asleep_by past t
-      go false other = is
-      go true same = sym (ap wait_channel_of (subst (λ v. where_is homes past v ≡ Hand c) (same_tid_true u t same) may.held)) ∙ is
+  wait_channel_after past c (Pushed d u) t may is = grind (arith, same_tid_true, may.held)
   wait_channel_after past c (Took d) t may is = taken_wait_channel d (where_is homes past t) ∙ is
-  wait_channel_after past c (Moved lock caller slept woke) t may is = by_woke (is_thread t woke)
-    where
-      by_caller : (b : Bool) → wait_channel_of (if b then where_slept lock slept (where_is homes past t) else where_is homes past t)
-          ≡ (if b then slept_at lock slept (asleep_by past t) else asleep_by past t)
-      by_caller true = slept_wait_channel lock slept (where_is homes past t) (asleep_by past t) is
-      by_caller false = is
-
-      by_woke : (b : Bool)
-          → wait_channel_of (if b then where_woken c (home_of homes t)
-          else (if same_tid caller t then where_slept lock slept (where_is homes past t) else where_is homes past t))
-          ≡ (if b then None else (if same_tid caller t then slept_at lock slept (asleep_by past t) else asleep_by past t))
-      by_woke true = woken_wait_channel c (home_of homes t)
-      by_woke false = by_caller (same_tid caller t)
+  wait_channel_after past c (Moved lock caller slept woke) t may is = grind (arith, woken_wait_channel)
   wait_channel_after past c Still t may is = is
 
   -- where a thread sleeps by its place is where it sleeps by the moves alone
@@ -96,9 +57,8 @@ module _ {E B O : Type 0} (k : Kernel E B O) where
       by_call : (c : CpuId) (q : QueueCall E) (past : List (QueueEvent E)) → CallAllowed k past c q
           → IsLawful (k.rules.allowed k.opening) (buffer_sections past)
           → IsLawful (k.rules.allowed k.opening) (buffer_sections (event c q ∷ past))
-      by_call c (Push d t) past allowed before = before
-      by_call c (TakeAll d) past allowed before = before
       by_call c (OnBuffer b e) past allowed before = (allowed.upper, before)
+      by_call c q past allowed before = before
 
   -- pushes and takings put nobody to sleep and wake nobody
   pub sections_asleep : (past : List (QueueEvent E)) (u : Tid) → asleep_by (section_moves k.rules k.moves k.opening (buffer_sections past)) u
@@ -109,9 +69,8 @@ module _ {E B O : Type 0} (k : Kernel E B O) where
       by_call : (c : CpuId) (q : QueueCall E) (past : List (QueueEvent E))
           → asleep_by (section_moves k.rules k.moves k.opening (buffer_sections past)) u ≡ asleep_by (moves_in k past) u
           → asleep_by (section_moves k.rules k.moves k.opening (buffer_sections (event c q ∷ past))) u ≡ asleep_by (moves_in k (event c q ∷ past)) u
-      by_call c (Push d t) past before = before
-      by_call c (TakeAll d) past before = before
       by_call c (OnBuffer b e) past before = ap (asleep_after (edit_move k.moves (Buffer b) e (out_at k past b e)) u) before
+      by_call c q past before = before
 
   module _ (wakes : WakesSleepers k.rules k.moves) where
     sleeps : (past : List (QueueEvent E)) → IsLawful (QueueAllowed k) past → AreMoves k.homes (moves_in k past) → (c : CpuId) (b : BufId) (e : E)

@@ -1,26 +1,14 @@
 -- Threads in lists, by count.
-use Rattle.std.proofs.Common.{◌≡◌, ◌+◌, ◌<◌, Bool, true, false, ◌||◌, List, [], ◌∷◌, ◌++◌, Option, Some, None, refl, ap, sym, ◌∙◌, subst, arith, add_assoc}
-use Rattle.std.proofs.Common.{zero-add}
-use Rattle.std.proofs.lemmas.Bool.{eq-eqb, eqb-true, eqb-false, ne_eqb}
-use Rattle.event_log.specs.{declared.ids.CpuId.CpuId, declared.ids.Tid.Tid, History.same_cpu}
-use Rattle.event_log.proofs.Same.{same_cpu_self, same_cpu_true}
-use Rattle.thread_blocks.specs.Queues.{same_tid, is_in, first, rest}
-use Rattle.thread_blocks.proofs.Members.{same_tid_self}
-use Rattle.layer_traits.specs.{Passes.as_list, Places.is_cpu, Places.is_thread, Places.one_if, Places.count_in}
+use Rattle.std.proofs.Common.{◌≡◌, ◌+◌, ◌<◌, Bool, true, false, List, [], ◌∷◌, ◌++◌, Option, Some, None, refl, ap, sym, ◌∙◌, arith, add_assoc, zero-add}
+use Rattle.event_log.{specs.{declared.ids.{CpuId.CpuId, Tid.Tid}, History.same_cpu}, proofs.Same.{same_cpu_self, same_cpu_true}}
+use Rattle.{thread_blocks.{specs.Queues.{same_tid, is_in, first, rest}, proofs.Members.same_tid_self}, layer_traits.specs.{Passes.as_list, Places.is_cpu}}
+use Rattle.layer_traits.specs.Places.{is_thread, one_if, count_in}
 
 pub same_tid_sym : (t u : Tid) → same_tid t u ≡ same_tid u t
-same_tid_sym t u = go (same_tid u t) refl
-  where
-    go : (b : Bool) → same_tid u t ≡ b → same_tid t u ≡ b
-    go true same = eq-eqb t.0 u.0 (sym (eqb-true u.0 t.0 same))
-    go false other = ne_eqb t.0 u.0 (λ e. eqb-false u.0 t.0 other (sym e))
+same_tid_sym t u = grind arith
 
 pub same_cpu_sym : (c d : CpuId) → same_cpu c d ≡ same_cpu d c
-same_cpu_sym c d = go (same_cpu d c) refl
-  where
-    go : (b : Bool) → same_cpu d c ≡ b → same_cpu c d ≡ b
-    go true same = eq-eqb c.0 d.0 (sym (eqb-true d.0 c.0 same))
-    go false other = ne_eqb c.0 d.0 (λ e. eqb-false d.0 c.0 other (sym e))
+same_cpu_sym c d = grind arith
 
 pub is_cpu_true : (c : CpuId) (home : Option CpuId) → is_cpu c home ≡ true → home ≡ Some c
 is_cpu_true c None is = absurd cc
@@ -45,10 +33,7 @@ pub count_other : (t u : Tid) → same_tid u t ≡ false → one_if (same_tid t 
 count_other t u other = ap one_if (same_tid_sym t u ∙ other)
 
 pub count_behind : (t u : Tid) (q : List Tid) → same_tid u t ≡ false → count_in t (q ++ u ∷ []) ≡ count_in t q
-count_behind t u q other =
-    let none = count_other t u other in
-    let sum = count_append t q (u ∷ []) in
-    omega (arith, none, sum)
+count_behind t u q other = omega (arith, count_other t u other, count_append t q (u ∷ []))
 
 pub count_as_list : (t : Tid) (o : Option Tid) → count_in t (as_list o) ≡ one_if (is_thread t o)
 count_as_list t None = refl
@@ -60,23 +45,12 @@ count_front t [] = refl
 count_front t (x ∷ q) = ap (λ b. one_if b + count_in t q) (same_tid_sym x t)
 
 pub one_if_most : (b : Bool) → one_if b < 2
-one_if_most true = omega arith
-one_if_most false = omega arith
+one_if_most b = grind arith
 
 -- who stands in a list is counted, and the other way round
 pub in_counted : (t : Tid) (q : List Tid) → is_in t q ≡ true → 0 < count_in t q
 in_counted t [] is = absurd cc
-in_counted t (x ∷ q) is = go (same_tid t x) refl is (in_counted t q)
-  where
-    go : (b : Bool) → same_tid t x ≡ b → (same_tid t x || is_in t q) ≡ true → (is_in t q ≡ true → 0 < count_in t q) → 0 < one_if (same_tid t x) + count_in t q
-    go true same found more = let one : one_if (same_tid t x) ≡ 1 = ap one_if same in omega (arith, one)
-    go false other found more =
-        let behind : 0 < count_in t q = more (subst (λ b. (b || is_in t q) ≡ true) other found) in
-        omega (arith, behind)
+in_counted t (x ∷ q) is = grind (arith, in_counted t q)
 
 pub not_counted : (t : Tid) (q : List Tid) → count_in t q ≡ 0 → is_in t q ≡ false
-not_counted t q none = go (is_in t q) refl
-  where
-    go : (b : Bool) → is_in t q ≡ b → b ≡ false
-    go true is = let some : 0 < count_in t q = in_counted t q is in absurd (omega (arith, some, none))
-    go false is = refl
+not_counted t q none = grind (arith, in_counted t q)

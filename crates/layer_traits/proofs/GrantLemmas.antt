@@ -1,14 +1,11 @@
 -- How the told log of grant words grows, and what its counts and words are.
-use Rattle.std.proofs.Common.{◌≡◌, ℕ, ◌<◌, List, [], ◌∷◌, ◌++◌, Option, Some, None, MatchOption, slice_index, refl, ap, sym, subst, ◌∙◌}
-use Rattle.event_log.specs.{declared.ids.CpuId.CpuId, declared.ids.LockId.LockId, declared.ids.TheConstants.CPUS, declared.grants.GrantEvent.GrantEvent}
-use Rattle.event_log.specs.{Actions.gives, Actions.takes, Grants.WordFits, Grants.acts_of_grants, Grants.cpu_of_grant, Grants.grant_lock_phase}
-use Rattle.event_log.specs.{Grants.grant_word, Grants.tickets, History.AreOthers, History.Adds, History.same_cpu, Sections.block_after, WordsLog.IsLegalWords}
-use Rattle.event_log.specs.{WordsLog.Holding, WordsLog.Waiting, WordsLog.cpu_of_event, WordsLog.draws, WordsLog.frees, WordsLog.lock_phase}
-use Rattle.event_log.specs.declared.events.Event.{Event, TheVariants.Draw, TheVariants.Look, TheVariants.Free}
-use Rattle.event_log.proofs.{GrantWords.legal_grants, GrantWords.one_word, GrantWords.takes_grants, GrantWords.words_fit, Tickets.gives_acts}
-use Rattle.event_log.proofs.{Tickets.takes_acts}
-use Rattle.layer_traits.specs.{declared.edits.Mark.Mark, GrantProtocol.grant_sections, AsGrants.as_grant, AsGrants.as_grants, Laws.AsGrants.acts_as_grants}
-use Rattle.layer_traits.specs.{Laws.AsGrants.sections_as_grants, Laws.AsGrants.stands_as_grants, Laws.AsGrants.grants_agree, WordsProtocol.sections}
+use Rattle.std.proofs.Common.{◌≡◌, ℕ, ◌<◌, List, [], ◌∷◌, ◌++◌, Option, Some, None, MatchOption, slice_index, refl, ap, sym, ◌∙◌}
+use Rattle.event_log.specs.declared.{ids.{CpuId.CpuId, LockId.LockId, TheConstants.CPUS}, grants.GrantEvent.GrantEvent, events.Event.{Event, TheVariants.Draw}}
+use Rattle.event_log.specs.{declared.events.Event.TheVariants.{Look, Free}, Actions.{gives, takes}, Grants.{WordFits, cpu_of_grant, grant_lock_phase}}
+use Rattle.event_log.specs.{Grants.{grant_word, tickets}, History.{AreOthers, Adds, same_cpu}, Sections.block_after, WordsLog.{IsLegalWords, Holding, Waiting}}
+use Rattle.event_log.{specs.WordsLog.{cpu_of_event, draws, frees, lock_phase}, proofs.GrantWords.{legal_grants, one_word, takes_grants, words_fit}}
+use Rattle.{event_log.proofs.Tickets.{gives_acts, takes_acts}, layer_traits.specs.{declared.edits.Mark.Mark, GrantProtocol.grant_sections, AsGrants.as_grant}}
+use Rattle.layer_traits.specs.{AsGrants.as_grants, Laws.AsGrants.{acts_as_grants, sections_as_grants, stands_as_grants, grants_agree}, WordsProtocol.sections}
 
 module _ {M : Type 0} where
   -- the events that came after these, as they are told
@@ -57,11 +54,9 @@ module _ {M : Type 0} where
         → (k : ℕ) → k < CPUS → slice_index words k ≡ grant_word lock k (as_grants log)
     words_as_grants words fits k within =
         let told = (grants_agree log legal).legal in
-        let count : gives lock (acts_of_grants same (as_grants log)) ≡ frees lock log =
-        ap (gives lock) (acts_as_grants same log legal) ∙ gives_acts same lock log in
+        let count = ap (gives lock) (acts_as_grants same log legal) ∙ gives_acts same lock log in
         one_word k (frees lock log) (slice_index words k) (grant_word lock k (as_grants log)) (fits k within)
-        (subst (λ n. WordFits k n (grant_word lock k (as_grants log))) count
-        (words_fit same lock k within (as_grants log) told (legal_grants same (as_grants log) told)))
+        (rw count at (words_fit same lock k within (as_grants log) told (legal_grants same (as_grants log) told)))
 
 -- what a look found, in terms of grant words
 pub hits_as_grants : {E B : Type 0} (edited : E → B → B) (opening : LockId → Option B) (log : List (Event (Mark E))) → IsLegalWords log

@@ -1,26 +1,19 @@
 -- A layer that wraps its edits in those of the layer beneath: what was seen, allowed, polled and planned there is so here, under the
 -- layer's own names.
 use Rattle.std.proofs.Common.{◌≡◌, ◌≤◌, length, Bool, true, false, List, [], ◌∷◌, ◌++◌, Option, Some, None, IsSome, MatchOption, option_map, is_some}
-use Rattle.std.proofs.Common.{if◌then◌else◌, map, refl, ap, sym, ◌∙◌, subst}
-use Rattle.std.proofs.Math.Path.{transport}
-use Rattle.event_log.specs.{declared.ids.BufId.BufId, declared.ids.CpuId.CpuId, declared.ids.LockId.LockId, declared.ids.LockId.TheVariants.Pending}
-use Rattle.event_log.specs.{declared.ids.LockId.TheVariants.Buffer, declared.ids.TheConstants.THREADS, History.IsLawful, History.AreOthers, History.Grows}
-use Rattle.event_log.specs.{Actions.Action, Actions.renamed, Sections.Section, Sections.renamed_section, Sections.sections_in, Sections.block_after}
-use Rattle.event_log.proofs.Renaming.{next_action_renamed, others_renamed, sections_in_renamed}
-use Rattle.layer_traits.specs.{declared.passes.Pass.Pass, declared.queue_edits.QueueBlock.QueueBlock, declared.queue_edits.QueueEdit.QueueEdit}
-use Rattle.layer_traits.specs.{declared.queues.QueueAnswer.QueueAnswer, declared.queues.QueueCall.QueueCall, declared.queues.QueueEvent.QueueEvent}
-use Rattle.layer_traits.specs.{declared.scheds.SchedAnswer.SchedAnswer, declared.scheds.SchedAnswer.TheVariants.Answer, declared.scheds.SchedCall.SchedCall}
-use Rattle.layer_traits.specs.{MoveRules.edit_move, Passes.own_slept, Passes.own_woken, Passes.pass_after, Passes.queue_for, Places.Threads, Places.Moved}
-use Rattle.layer_traits.specs.{Places.step, Places.MayEdit, Places.MayPush, Places.home_of, Places.pending_by, Plans.Left, Plans.Plan, Plans.Now, Plans.Act}
-use Rattle.layer_traits.specs.{Plans.Follows, Plans.raised, Plans.reply, Plans.table_of, Protocol.section, QueueBlocks.StartsAs, QueueBlocks.StartsWell}
-use Rattle.layer_traits.specs.{QueueBlocks.above_of, QueueBlocks.homes_in, QueueBlocks.homes_of, QueueBlocks.inner, QueueRules.AreProper, QueueRules.IsProper}
-use Rattle.layer_traits.specs.{QueueRules.queue_answer, QueueRules.queue_edited, QueueRules.queue_rules, Queues.Kernel, Queues.CallAllowed, Queues.IsKnownEvent}
-use Rattle.layer_traits.specs.{Queues.QueueAllowed, Queues.buffer_sections, Queues.call_move, Queues.event, Queues.cpu_of_queue_event, Queues.event_of}
-use Rattle.layer_traits.specs.{Queues.call_at, Queues.moves_in, Queues.out_at, Queues.with_section, Renaming.named, Renaming.renamed_call}
-use Rattle.layer_traits.specs.{Renaming.renamed_edit, Renaming.renamed_event, Renaming.renamed_events, Renaming.renamed_sched, Renaming.viewed}
-use Rattle.layer_traits.specs.{Renaming.viewed_block, Scheds.EditStays, Scheds.IsLocal, Scheds.SchedPolled, Scheds.answer_to, Scheds.events_of, Scheds.left}
-use Rattle.layer_traits.specs.{Scheds.left_by, Scheds.own_after, Scheds.own_answered, Scheds.queue_call, Scheds.sched_plan}
-use Rattle.layer_traits.specs.declared.passes.Pass.TheVariants.{Switch, YieldNow, Drain, MakeReady, End}
+use Rattle.std.proofs.{Common.{if◌then◌else◌, map, refl, ap, sym, ◌∙◌, subst, arith}, Math.Path.transport}
+use Rattle.event_log.specs.{declared.ids.{BufId.BufId, CpuId.CpuId, LockId.{LockId, TheVariants.{Pending, Buffer}}, TheConstants.THREADS}, History.IsLawful}
+use Rattle.event_log.specs.{History.{AreOthers, Grows}, Actions.{Action, renamed}, Sections.{Section, renamed_section, sections_in, block_after}}
+use Rattle.{event_log.proofs.Renaming.{next_action_renamed, others_renamed, sections_in_renamed}, layer_traits.specs.declared.passes.Pass.Pass}
+use Rattle.layer_traits.specs.declared.{passes.Pass.TheVariants.{YieldNow, Drain, MakeReady}, queue_edits.{QueueBlock.QueueBlock, QueueEdit.QueueEdit}}
+use Rattle.layer_traits.specs.declared.{queues.{QueueAnswer.QueueAnswer, QueueCall.QueueCall, QueueEvent.QueueEvent}, scheds.SchedAnswer.SchedAnswer}
+use Rattle.layer_traits.specs.{declared.scheds.{SchedAnswer.TheVariants.Answer, SchedCall.SchedCall}, MoveRules.edit_move, Passes.{own_slept, own_woken}}
+use Rattle.layer_traits.specs.{Passes.{pass_after, queue_for}, Places.{Threads, Moved, step, MayEdit, MayPush, home_of, pending_by}, Plans.{Left, Plan, Now}}
+use Rattle.layer_traits.specs.{Plans.{Act, Follows, raised, reply, table_of}, Protocol.section, QueueBlocks.{StartsAs, StartsWell, homes_in, homes_of, inner}}
+use Rattle.layer_traits.specs.{QueueRules.{AreProper, IsProper, queue_answer, queue_edited, queue_rules}, Queues.{Kernel, CallAllowed, IsKnownEvent}}
+use Rattle.layer_traits.specs.Queues.{QueueAllowed, buffer_sections, call_move, event, cpu_of_queue_event, event_of, call_at, moves_in, out_at, with_section}
+use Rattle.layer_traits.specs.Renaming.{named, renamed_call, renamed_edit, renamed_event, renamed_events, renamed_sched, viewed, viewed_block}
+use Rattle.layer_traits.specs.Scheds.{EditStays, IsLocal, SchedPolled, answer_to, events_of, left, left_by, own_after, own_answered, queue_call, sched_plan}
 use Rattle.layer_traits.proofs.PlanRenaming.{block_viewed, map-append, reply_viewed}
 use Rattle.layer_traits.specs.declared.queue_edits.QueueBlock.TheVariants as block
 use Rattle.layer_traits.specs.declared.queue_edits.QueueEdit.TheVariants as edit
@@ -33,17 +26,10 @@ use Rattle.layer_traits.specs.declared.scheds.SchedCall.TheVariants as call
 module _ {A B : Type 0} (view : A → B) (opening : LockId → Option (QueueBlock A)) where
   -- the blocks of buffers are seen so
   pub inner_viewed : (lock : LockId) → inner (viewed view opening) lock ≡ option_map view (inner opening lock)
-  inner_viewed lock = go (opening lock)
-    where
-      go : (o : Option (QueueBlock A)) → above_of (option_map (viewed_block view) o) ≡ option_map view (above_of o)
-      go None = refl
-      go (Some (block.Queue queue homes)) = refl
-      go (Some (block.Above above)) = refl
+  inner_viewed lock = grind arith
 
   homes_seen : (o : Option (QueueBlock A)) → homes_of (option_map (viewed_block view) o) ≡ homes_of o
-  homes_seen None = refl
-  homes_seen (Some (block.Queue queue homes)) = refl
-  homes_seen (Some (block.Above above)) = refl
+  homes_seen o = grind arith
 
   -- the homes are the same
   pub homes_viewed : homes_in (viewed view opening) ≡ homes_in opening
@@ -51,18 +37,10 @@ module _ {A B : Type 0} (view : A → B) (opening : LockId → Option (QueueBloc
 
   -- a lock is there exactly where it was
   pub there_viewed : (lock : LockId) → IsSome (viewed view opening lock) → IsSome (opening lock)
-  there_viewed lock there = go (opening lock) there
-    where
-      go : (o : Option (QueueBlock A)) → IsSome (option_map (viewed_block view) o) → IsSome o
-      go None some = some
-      go (Some b) some = refl
+  there_viewed lock there = grind arith
 
   pub viewed_there : (lock : LockId) → IsSome (opening lock) → IsSome (viewed view opening lock)
-  viewed_there lock there = go (opening lock) there
-    where
-      go : (o : Option (QueueBlock A)) → IsSome o → IsSome (option_map (viewed_block view) o)
-      go None some = some
-      go (Some b) some = refl
+  viewed_there lock there = grind arith
 
   -- a boot's blocks are those of a boot
   pub starts_viewed : StartsWell opening → StartsWell (viewed view opening)
@@ -73,20 +51,17 @@ module _ {A B : Type 0} (view : A → B) (opening : LockId → Option (QueueBloc
   }
     where
       kind : (lock : LockId) (o : Option (QueueBlock A)) → StartsAs lock o → StartsAs lock (option_map (viewed_block view) o)
-      kind lock None is = tt
       kind (Pending c) (Some (block.Queue queue homes)) is = is
-      kind (Pending c) (Some (block.Above above)) is = is
-      kind (Buffer b) (Some (block.Queue queue homes)) is = is
       kind (Buffer b) (Some (block.Above above)) is = is
+      kind lock o is = is
 
 -- Histories under other names.
 
 module _ {D E : Type 0} (name : D → E) where
   with_renamed : (c : CpuId) (q : QueueCall D) (past : List (Section D)) (above : List (Section E)) → above ≡ map (renamed_section name) past
       → with_section c (renamed_call name q) above ≡ map (renamed_section name) (with_section c q past)
-  with_renamed c (queue.Push d t) past above same = same
-  with_renamed c (queue.TakeAll d) past above same = same
   with_renamed c (queue.OnBuffer b d) past above same = ap (λ p. section c (Buffer b) (name d) ∷ p) same
+  with_renamed c q past above same = same
 
   -- the sections are the same
   pub sections_renamed : (past : List (QueueEvent D)) → buffer_sections (renamed_events name past) ≡ map (renamed_section name) (buffer_sections past)
@@ -114,9 +89,7 @@ module _ {D E : Type 0} (name : D → E) where
   }
 
   call_renamed : (lock : LockId) (m : QueueEdit D) → renamed_call name (call_at lock m) ≡ call_at lock (renamed_edit name m)
-  call_renamed lock (edit.Push t) = refl
-  call_renamed lock edit.TakeAll = refl
-  call_renamed lock (edit.Above d) = refl
+  call_renamed lock m = grind arith
 
   sections_seen : (past : List (Section (QueueEdit D)))
       → renamed_events name (map event_of past) ≡ map event_of (map (renamed_section (renamed_edit name)) past)
@@ -129,9 +102,7 @@ module _ {D E : Type 0} (name : D → E) where
   seen_renamed acts = sections_seen (sections_in acts) ∙ ap (map event_of) (sym (sections_in_renamed (renamed_edit name) acts))
 
   renamed_proper : (lock : LockId) (d : QueueEdit D) → IsProper lock d → IsProper lock (renamed_edit name d)
-  renamed_proper lock (edit.Push t) proper = proper
-  renamed_proper lock edit.TakeAll proper = proper
-  renamed_proper lock (edit.Above d) proper = proper
+  renamed_proper lock d proper = grind arith
 
   proper_sections : (past : List (Section (QueueEdit D))) → AreProper past → AreProper (map (renamed_section (renamed_edit name)) past)
   proper_sections [] proper = tt
@@ -173,8 +144,7 @@ module _ {D E A B O : Type 0} (k : Kernel D A O) (j : Kernel E B O) (name : D �
       k.opening lock past
 
   out_viewed : (d : D) (o : Option A) → option_map (j.rules.answer (name d)) (option_map view o) ≡ option_map (k.rules.answer d) o
-  out_viewed d None = refl
-  out_viewed d (Some a) = ap Some (sym (answers d a))
+  out_viewed d o = grind (arith, answers)
 
   -- an edit answers the same
   pub out_renamed : (past : List (QueueEvent D)) (b : BufId) (d : D) → out_at j (renamed_events name past) b (name d) ≡ out_at k past b d
@@ -188,9 +158,8 @@ module _ {D E A B O : Type 0} (k : Kernel D A O) (j : Kernel E B O) (name : D �
   move_out lock d (Some out) = λ i. Moved lock (callers d i) (slept i out) (woke i out)
 
   move_renamed : (past : List (QueueEvent D)) (q : QueueCall D) → call_move j (renamed_events name past) (renamed_call name q) ≡ call_move k past q
-  move_renamed past (queue.Push d t) = refl
-  move_renamed past (queue.TakeAll d) = refl
   move_renamed past (queue.OnBuffer b d) = ap (edit_move j.moves (Buffer b) (name d)) (out_renamed past b d) ∙ move_out (Buffer b) d (out_at k past b d)
+  move_renamed past q = refl
 
   -- the threads move alike
   pub moves_renamed : (past : List (QueueEvent D)) → moves_in j (renamed_events name past) ≡ moves_in k past
@@ -236,18 +205,10 @@ module _ {D E A B O : Type 0} (k : Kernel D A O) (j : Kernel E B O) (name : D �
   report_renamed past (call.Pass p) = refl
   report_renamed past (call.OnBuffer b d) = ap (option_map Answer) (out_renamed past b d)
 
-  pass_seen : (c : CpuId) (p : Pass) (past : List (QueueEvent D)) → renamed_events name (events_of c (queue_call k.homes c (call.Pass p)) ++ past)
-      ≡ events_of c (queue_call j.homes c (call.Pass p)) ++ renamed_events name past
-  pass_seen c Switch past = refl
-  pass_seen c YieldNow past = refl
-  pass_seen c Drain past = refl
-  pass_seen c (MakeReady t) past = ap (λ (h : List CpuId). event c (queue.Push (queue_for h c t) t) ∷ renamed_events name past) (sym homes)
-  pass_seen c End past = refl
-
   call_seen : (c : CpuId) (s : SchedCall D) (past : List (QueueEvent D)) → renamed_events name (events_of c (queue_call k.homes c s) ++ past)
       ≡ events_of c (queue_call j.homes c (renamed_sched name s)) ++ renamed_events name past
-  call_seen c (call.Pass p) past = pass_seen c p past
-  call_seen c (call.OnBuffer b d) past = refl
+  call_seen c (call.Pass (MakeReady t)) past = ap (λ (h : List CpuId). event c (queue.Push (queue_for h c t) t) ∷ renamed_events name past) (sym homes)
+  call_seen c s past = refl
 
   local_renamed : (s : SchedCall D) → IsLocal (renamed_sched name s) → IsLocal s
   local_renamed (call.Pass p) local = local
@@ -267,9 +228,6 @@ module _ {D E A B O : Type 0} (k : Kernel D A O) (j : Kernel E B O) (name : D �
     at_once = λ local. polled.at_once (local_renamed s local);
   }
     where
-      past : List (QueueEvent D)
-      past = polled.others ++ old
-
       here : renamed_events name (polled.others ++ old) ≡ renamed_events name polled.others ++ renamed_events name old
       here = events_append name polled.others old
 
@@ -292,41 +250,28 @@ module _ {D E A B O : Type 0} (k : Kernel D A O) (j : Kernel E B O) (name : D �
   -- Plans and actions.
 
   by_renamed : (c : CpuId) (h : List CpuId) (own : Threads) (r : Option (QueueAnswer O)) → left_by k.moves h c own r ≡ left_by j.moves h c own r
-  by_renamed c h own None = refl
-  by_renamed c h own (Some told.Done) = refl
-  by_renamed c h own (Some (told.Taken queue)) = refl
   by_renamed c h own (Some (told.Answer out)) = λ i. left (own_woken h c (sym woke i out) (own_slept (sym slept i out) own)) (Some (Answer out))
+  by_renamed c h own r = refl
 
   -- the plan beneath is the plan here
   pub plan_renamed : (h : List CpuId) (c : CpuId) (s : SchedCall D) (own : Threads)
       → named (renamed_edit name) (sched_plan k.moves h c s own) ≡ sched_plan j.moves h c (renamed_sched name s) own
-  plan_renamed h c (call.Pass Switch) own = refl
   plan_renamed h c (call.Pass YieldNow) own = λ i. Act (Pending c) edit.TakeAll (λ r. by_renamed c h own r i)
   plan_renamed h c (call.Pass Drain) own = λ i. Act (Pending c) edit.TakeAll (λ r. by_renamed c h own r i)
   plan_renamed h c (call.Pass (MakeReady t)) own = λ i. Act (Pending (queue_for h c t)) (edit.Push t) (λ r. by_renamed c h own r i)
-  plan_renamed h c (call.Pass End) own = refl
   plan_renamed h c (call.OnBuffer b d) own = λ i. Act (Buffer b) (edit.Above (name d)) (λ r. by_renamed c h own r i)
+  plan_renamed h c s own = refl
 
   queue_edits : (m : QueueEdit D) (b : QueueBlock A)
       → viewed_block view (queue_edited k.rules.edited m b) ≡ queue_edited j.rules.edited (renamed_edit name m) (viewed_block view b)
-  queue_edits (edit.Push t) (block.Queue queue h) = refl
-  queue_edits (edit.Push t) (block.Above a) = refl
-  queue_edits edit.TakeAll (block.Queue queue h) = refl
-  queue_edits edit.TakeAll (block.Above a) = refl
-  queue_edits (edit.Above d) (block.Queue queue h) = refl
-  queue_edits (edit.Above d) (block.Above a) = ap block.Above (edits d a)
+  queue_edits m b = grind (arith, edits)
 
   queue_answers : (m : QueueEdit D) (b : QueueBlock A)
       → queue_answer k.rules.answer m b ≡ queue_answer j.rules.answer (renamed_edit name m) (viewed_block view b)
-  queue_answers (edit.Push t) b = refl
-  queue_answers edit.TakeAll (block.Queue queue h) = refl
-  queue_answers edit.TakeAll (block.Above a) = refl
-  queue_answers (edit.Above d) (block.Queue queue h) = refl
-  queue_answers (edit.Above d) (block.Above a) = ap told.Answer (answers d a)
+  queue_answers m b = grind (arith, answers)
 
   same_option : {X : Type 0} (o : Option X) → option_map (λ (x : X). x) o ≡ o
-  same_option None = refl
-  same_option (Some x) = refl
+  same_option o = grind arith
 
   -- a poll that followed its plan beneath followed it here
   pub follows_named : {S T : Type 0} (ActsFor : CpuId → Type 0) (opening : LockId → Option (QueueBlock A)) (cpu : CpuId)

@@ -1,24 +1,17 @@
 -- Sections of the edits of shared queues as calls: a section is its call, what the blocks of the locks hold after calls, and what one
 -- poll of a section means as a poll of its call.
 use Rattle.std.proofs.Common.{◌≡◌, ◌<◌, Bool, true, false, ◌&&◌, not, List, [], ◌∷◌, ◌++◌, Option, Some, None, MatchOption, is_some, option_map, if◌then◌else◌}
-use Rattle.std.proofs.Common.{map, refl, ap, sym, ◌∙◌, subst, arith}
-use Rattle.std.proofs.lemmas.{Bool.lt-ltb, Option.slice_get_within}
-use Rattle.event_log.specs.{declared.ids.BufId.BufId, declared.ids.CpuId.CpuId, declared.ids.LockId.LockId, declared.ids.LockId.TheVariants.Pending}
-use Rattle.event_log.specs.{declared.ids.LockId.TheVariants.Buffer, declared.ids.Tid.Tid, declared.ids.TheConstants.THREADS, History.AreForeign}
-use Rattle.event_log.specs.{History.AreOthers, History.Grows, History.IsLawful, History.same_cpu, History.same_lock, Sections.Section, Sections.block_after}
-use Rattle.event_log.specs.{Sections.cpu_of_section}
-use Rattle.thread_blocks.specs.Queues.{is_in}
-use Rattle.layer_traits.specs.{declared.queue_edits.QueueBlock.QueueBlock, declared.queue_edits.QueueEdit.QueueEdit, declared.queues.QueueAnswer.QueueAnswer}
-use Rattle.layer_traits.specs.{declared.queues.QueueAnswer.TheVariants.Done, declared.queues.QueueAnswer.TheVariants.Taken}
-use Rattle.layer_traits.specs.{declared.queues.QueueAnswer.TheVariants.Answer, declared.queues.QueueCall.QueueCall, declared.queues.QueueCall.TheVariants.Push}
-use Rattle.layer_traits.specs.{declared.queues.QueueCall.TheVariants.TakeAll, declared.queues.QueueCall.TheVariants.OnBuffer}
-use Rattle.layer_traits.specs.{declared.queues.QueueEvent.QueueEvent, MoveRules.MoveRules, MoveRules.WakesSleepers, MoveRules.edit_move, Places.AreMoves}
-use Rattle.layer_traits.specs.{Places.MayMove, Places.MayPush, Places.pending_after, Places.pending_by, Protocol.IsKnown, Protocol.Rules, Protocol.StaysAllowed}
-use Rattle.layer_traits.specs.{Protocol.section, QueueBlocks.StartsAs, QueueBlocks.StartsWell, QueueBlocks.above_of, QueueBlocks.homes_in, QueueBlocks.inner}
-use Rattle.layer_traits.specs.{QueueBlocks.with_queue, QueueRules.AreProper, QueueRules.IsProper, QueueRules.IsProperCall, QueueRules.SectionAllowed}
-use Rattle.layer_traits.specs.{QueueRules.queue_answer, QueueRules.queue_edited, QueueRules.queue_rules, Polls.MayPoll, Polls.Polled, Sleeping.joined}
-use Rattle.layer_traits.specs.Queues.{CallAllowed, call_move, IsKnownEvent, Kernel, MayQueue, QueueAllowed, QueuePolled, StaysCallable, answer_of}
-use Rattle.layer_traits.specs.Queues.{buffer_sections, call_at, edit_of, event, cpu_of_queue_event, event_of, kernel, lock_of, moves_in, out_at}
+use Rattle.std.proofs.{Common.{map, refl, ap, sym, ◌∙◌, subst, arith}, lemmas.{Bool.lt-ltb, Option.slice_get_within}}
+use Rattle.event_log.specs.declared.ids.{BufId.BufId, CpuId.CpuId, LockId.{LockId, TheVariants.{Pending, Buffer}}, Tid.Tid, TheConstants.THREADS}
+use Rattle.event_log.specs.{History.{AreForeign, AreOthers, Grows, IsLawful, same_cpu, same_lock}, Sections.{Section, block_after, cpu_of_section}}
+use Rattle.{thread_blocks.specs.Queues.is_in, layer_traits.specs.declared.queue_edits.{QueueBlock.QueueBlock, QueueEdit.QueueEdit}}
+use Rattle.layer_traits.specs.declared.queues.{QueueAnswer.{QueueAnswer, TheVariants.{Done, Taken, Answer}}, QueueCall.{QueueCall, TheVariants.{Push, TakeAll}}}
+use Rattle.layer_traits.specs.{declared.queues.{QueueCall.TheVariants.OnBuffer, QueueEvent.QueueEvent}, MoveRules.{MoveRules, WakesSleepers, edit_move}}
+use Rattle.layer_traits.specs.{Places.{AreMoves, MayMove, MayPush, pending_after, pending_by}, Protocol.{IsKnown, Rules, StaysAllowed, section}}
+use Rattle.layer_traits.specs.{QueueBlocks.{StartsAs, StartsWell, homes_in, inner, with_queue}, QueueRules.{AreProper, IsProper, IsProperCall, SectionAllowed}}
+use Rattle.layer_traits.specs.{QueueRules.{queue_answer, queue_edited, queue_rules}, Polls.{MayPoll, Polled}, Sleeping.joined, Queues.{CallAllowed, call_move}}
+use Rattle.layer_traits.specs.Queues.{IsKnownEvent, Kernel, MayQueue, QueueAllowed, QueuePolled, StaysCallable, answer_of, buffer_sections, call_at, edit_of}
+use Rattle.layer_traits.specs.{Queues.{event, cpu_of_queue_event, event_of, kernel, lock_of, moves_in, out_at}, Laws.Openings.above_is}
 use Rattle.layer_traits.proofs.{CallLemmas.moves_lawful, CountLemmas.same_cpu_sym, PlaceLemmas.pend_where, PlanRenaming.map-append}
 use Rattle.layer_traits.specs.declared.queue_edits.QueueBlock.TheVariants as block
 use Rattle.layer_traits.specs.declared.queue_edits.QueueEdit.TheVariants as edit
@@ -26,14 +19,10 @@ use Rattle.layer_traits.specs.declared.queue_edits.QueueEdit.TheVariants as edit
 -- A section is its call.
 
 pub call_at_of : {E : Type 0} (call : QueueCall E) → call_at (lock_of call) (edit_of call) ≡ call
-call_at_of (Push d t) = refl
-call_at_of (TakeAll d) = refl
-call_at_of (OnBuffer b e) = refl
+call_at_of call = grind arith
 
 edit_of_at : {E : Type 0} (lock : LockId) (x : QueueEdit E) → edit_of (call_at lock x) ≡ x
-edit_of_at lock (edit.Push t) = refl
-edit_of_at lock edit.TakeAll = refl
-edit_of_at lock (edit.Above e) = refl
+edit_of_at lock x = grind arith
 
 -- a call edits a block of its kind
 pub proper_of : {E : Type 0} (call : QueueCall E) → IsProper (lock_of call) (edit_of call)
@@ -114,17 +103,10 @@ module _ {E B O : Type 0} (rules : Rules E B O) (mv : MoveRules E O) (opening : 
   -- What the locks' blocks hold.
 
   module _ (starts : StartsWell opening) where
-    opens_buffer : (b : BufId) (found : Option (QueueBlock B)) → StartsAs (Buffer b) found → found ≡ option_map block.Above (above_of found)
-    opens_buffer b None kind = refl
-    opens_buffer b (Some (block.Queue queue homes)) kind = absurd kind
-    opens_buffer b (Some (block.Above x)) kind = refl
-
     edits_above : (e : E) (x : Bool) (found : Option (QueueBlock B)) (above : Option B) → found ≡ option_map block.Above above
         → (if x then option_map (queue_edited rules.edited (edit.Above e)) found else found)
         ≡ option_map block.Above (if x then option_map (rules.edited e) above else above)
-    edits_above e false found above is = is
-    edits_above e true found None is = ap (option_map (queue_edited rules.edited (edit.Above e))) is
-    edits_above e true found (Some x) is = ap (option_map (queue_edited rules.edited (edit.Above e))) is
+    edits_above e x found above is = grind (arith, is)
 
     buffer_step : (b : BufId) (lock : LockId) (x : QueueEdit E) (c : CpuId) (past : List (Section (QueueEdit E))) → IsProper lock x
         → block_after (queue_edited rules.edited) opening (Buffer b) past
@@ -133,18 +115,16 @@ module _ {E B O : Type 0} (rules : Rules E B O) (mv : MoveRules E O) (opening : 
         ≡ option_map block.Above (block_after rules.edited (inner opening) (Buffer b) (buffer_sections (map event_of (section c lock x ∷ past))))
     buffer_step b (Pending d) (edit.Push t) c past proper is = is
     buffer_step b (Pending d) edit.TakeAll c past proper is = is
-    buffer_step b (Pending d) (edit.Above e) c past proper is = absurd cc
-    buffer_step b (Buffer at) (edit.Push t) c past proper is = absurd cc
-    buffer_step b (Buffer at) edit.TakeAll c past proper is = absurd cc
     buffer_step b (Buffer at) (edit.Above e) c past proper is =
         edits_above e (same_lock (Buffer b) (Buffer at)) (block_after (queue_edited rules.edited) opening (Buffer b) past)
         (block_after rules.edited (inner opening) (Buffer b) (buffer_sections (map event_of past))) is
+    buffer_step b lock x c past proper is = absurd cc
 
     -- a buffer's block is that which the sections of the layer above leave
     pub proper_buffer : (b : BufId) (log : List (Section (QueueEdit E))) → AreProper log
         → block_after (queue_edited rules.edited) opening (Buffer b) log
         ≡ option_map block.Above (block_after rules.edited (inner opening) (Buffer b) (buffer_sections (map event_of log)))
-    proper_buffer b [] proper = opens_buffer b (opening (Buffer b)) (starts.kinds (Buffer b))
+    proper_buffer b [] proper = above_is b (opening (Buffer b)) (starts.kinds (Buffer b))
     proper_buffer b (s ∷ past) proper = buffer_step b s.lock s.edit s.cpu past proper.0 (proper_buffer b past proper.1)
 
     pub buffer_block : (b : BufId) (log : List (Section (QueueEdit E))) → Lawful log
@@ -153,28 +133,17 @@ module _ {E B O : Type 0} (rules : Rules E B O) (mv : MoveRules E O) (opening : 
     buffer_block b log lawful = proper_buffer b log (lawful_proper log lawful)
 
     opens_queue : (d : CpuId) (found : Option (QueueBlock B)) → StartsAs (Pending d) found → found ≡ with_queue [] found
-    opens_queue d None kind = refl
-    opens_queue d (Some (block.Queue queue homes)) kind = ap (λ q. Some (block.Queue q homes)) kind
-    opens_queue d (Some (block.Above x)) kind = absurd kind
+    opens_queue d found kind = grind arith
 
     -- who may be pushed is one of the machine's threads, and does not stand in the queue
     pub push_known : (past : List (QueueEvent E)) (c d : CpuId) (t : Tid) → MayPush (homes_in opening) (moves_in beneath past) c d t → t.0 < THREADS
     push_known past c d t may =
-        let within = slice_get_within (homes_in opening) t.0 d may.home in
-        let most = starts.room in
-        omega (arith, within, most)
+        omega (arith, slice_get_within (homes_in opening) t.0 d may.home, starts.room)
 
     pub push_new : (past : List (QueueEvent E)) → AreMoves (homes_in opening) (moves_in beneath past) → (c d e : CpuId) (t : Tid)
         → MayPush (homes_in opening) (moves_in beneath past) c d t
         → is_in t (pending_by (moves_in beneath past) e) ≡ false
-    push_new past moving c d e t may = go (is_in t (pending_by (moves_in beneath past) e)) refl
-      where
-        go : (b : Bool) → is_in t (pending_by (moves_in beneath past) e) ≡ b → b ≡ false
-        go false is = refl
-        go true is =
-            let pends = pend_where (homes_in opening) (moves_in beneath past) moving e t is in
-            let held = may.held in
-            absurd (cc (pends, held))
+    push_new past moving c d e t may = grind (arith, may.held, pend_where (homes_in opening) (moves_in beneath past) moving e t)
 
     pushed_is : (t : Tid) (queue : List Tid) → t.0 < THREADS → is_in t queue ≡ false → joined t queue ≡ queue ++ t ∷ []
     pushed_is t queue known new = λ i. if (lt-ltb t.0 THREADS known i) && not (new i) then queue ++ t ∷ [] else queue
@@ -183,15 +152,10 @@ module _ {E B O : Type 0} (rules : Rules E B O) (mv : MoveRules E O) (opening : 
         → ((homes : _) → queue_edited rules.edited x (block.Queue queue homes) ≡ block.Queue next homes)
         → ((b : B) → queue_edited rules.edited x (block.Above b) ≡ block.Above b)
         → (if at then option_map (queue_edited rules.edited x) found else found) ≡ with_queue (if at then next else queue) opened
-    edits_queue x false found opened queue next is edits leaves = is
-    edits_queue x true found None queue next is edits leaves = ap (option_map (queue_edited rules.edited x)) is
-    edits_queue x true found (Some (block.Queue old homes)) queue next is edits leaves = ap (option_map (queue_edited rules.edited x)) is
-        ∙ ap Some (edits homes)
-    edits_queue x true found (Some (block.Above b)) queue next is edits leaves = ap (option_map (queue_edited rules.edited x)) is ∙ ap Some (leaves b)
+    edits_queue x at found opened queue next is edits leaves = grind (arith, is, edits, leaves)
 
     still_pending : (b : BufId) (e : E) (d : CpuId) (queue : List Tid) (out : Option O) → pending_after (edit_move mv (Buffer b) e out) d queue ≡ queue
-    still_pending b e d queue None = refl
-    still_pending b e d queue (Some o) = refl
+    still_pending b e d queue out = grind arith
 
     queue_step : (d : CpuId) (lock : LockId) (x : QueueEdit E) (c : CpuId) (past : List (Section (QueueEdit E))) → IsProper lock x
         → MayMove (homes_in opening) (moves_in beneath (map event_of past)) c (call_move beneath (map event_of past) (call_at lock x))
@@ -213,12 +177,10 @@ module _ {E B O : Type 0} (rules : Rules E B O) (mv : MoveRules E O) (opening : 
         edits_queue edit.TakeAll (same_cpu d at) (block_after (queue_edited rules.edited) opening (Pending d) past) (opening (Pending d)) queue [] is
         (λ homes. refl) (λ b. refl)
         ∙ ap (λ b. with_queue (if b then [] else queue) (opening (Pending d))) (same_cpu_sym d at)
-    queue_step d (Pending at) (edit.Above e) c past proper may moving is = absurd cc
-    queue_step d (Buffer at) (edit.Push t) c past proper may moving is = absurd cc
-    queue_step d (Buffer at) edit.TakeAll c past proper may moving is = absurd cc
     queue_step d (Buffer at) (edit.Above e) c past proper may moving is =
         is ∙ ap (λ q. with_queue q (opening (Pending d)))
         (sym (still_pending at e d (pending_by (moves_in beneath (map event_of past)) d) (out_at beneath (map event_of past) at e)))
+    queue_step d lock x c past proper may moving is = absurd cc
 
     -- a queue's block holds who is pending there by the moves
     pub proper_queue : (d : CpuId) (log : List (Section (QueueEdit E))) → AreProper log → AreMoves (homes_in opening) (moves_in beneath (map event_of log))
@@ -239,19 +201,15 @@ module _ {E B O : Type 0} (rules : Rules E B O) (mv : MoveRules E O) (opening : 
       report_push : (found : Option (QueueBlock B)) (t : Tid) (answer : QueueAnswer O)
           → option_map (queue_answer rules.answer (edit.Push t)) found ≡ Some answer
           → Some Done ≡ Some answer
-      report_push None t answer is = absurd cc
-      report_push (Some b) t answer is = is
+      report_push found t answer is = grind (arith, is)
 
       report_taken : (d : CpuId) (opened : Option (QueueBlock B)) → StartsAs (Pending d) opened → (queue : List Tid) (answer : QueueAnswer O)
           → option_map (queue_answer rules.answer edit.TakeAll) (with_queue queue opened) ≡ Some answer → Some (Taken queue) ≡ Some answer
-      report_taken d None kind queue answer is = absurd cc
-      report_taken d (Some (block.Queue old homes)) kind queue answer is = is
-      report_taken d (Some (block.Above b)) kind queue answer is = absurd kind
+      report_taken d opened kind queue answer is = grind (arith, is)
 
       report_above : (e : E) (above : Option B) → option_map Answer (option_map (rules.answer e) above)
           ≡ option_map (queue_answer rules.answer (edit.Above e)) (option_map block.Above above)
-      report_above e None = refl
-      report_above e (Some b) = refl
+      report_above e above = grind arith
 
       -- the answer of a section is that of its call
       pub answers_call : (log : List (Section (QueueEdit E))) → Lawful log → (call : QueueCall E) (answer : QueueAnswer O)

@@ -1,14 +1,12 @@
 -- The home and the counts of one lock, event by event.
 use Rattle.std.proofs.Common.{◌≡◌, ℕ, ◌+◌, ◌%◌, ◌^◌, ◌<◌, ◌≤◌, Bool, true, false, List, [], ◌∷◌, ◌==◌, Option, Some, None, IsSome, option_map, if◌then◌else◌}
-use Rattle.std.proofs.Common.{refl, ap, sym, ◌∙◌, subst}
-use Rattle.event_log.specs.{declared.ids.CpuId.CpuId, declared.ids.LockId.LockId, declared.events.Event.Event, declared.events.Event.TheVariants.Draw}
-use Rattle.event_log.specs.{declared.events.Event.TheVariants.Look, declared.events.Event.TheVariants.Free, declared.ids.TheConstants.CPUS, Actions.acts_of}
-use Rattle.event_log.specs.{Actions.gives, Actions.phase, Actions.spot_of, History.same_cpu, History.same_lock, Sections.block_after}
-use Rattle.event_log.specs.WordsLog.{IsLegalWords, MayFollow, Idle, Waiting, Holding, cpu_of_event, left_by, lock_phase, draws, frees, is_free}
-use Rattle.event_log.proofs.{Exclusion.is_at, Exclusion.near, Same.same_cpu_self, Same.same_cpu_true, Same.same_lock_self, Observed.TicketOf, Observed.phase_of}
-use Rattle.event_log.proofs.Tickets.{gives_acts, legal_acts, one_inside, phase_acts, same_rests, lock_phase_other, ticket_at}
-use Rattle.layer_traits.specs.{declared.edits.Mark.Mark, OneLock.SomeoneInside, OneLock.NobodyInside, OneLock.HomeFits, WordsProtocol.edit_of}
-use Rattle.layer_traits.specs.{WordsProtocol.sections}
+use Rattle.std.proofs.Common.{refl, ap, sym, ◌∙◌, subst, arith}
+use Rattle.event_log.specs.declared.{ids.{CpuId.CpuId, LockId.LockId, TheConstants.CPUS}, events.Event.{Event, TheVariants.{Draw, Look, Free}}}
+use Rattle.event_log.specs.{Actions.{acts_of, gives, phase, spot_of}, History.{same_cpu, same_lock}, Sections.block_after, WordsLog.{IsLegalWords, MayFollow}}
+use Rattle.event_log.{specs.WordsLog.{Idle, Waiting, Holding, cpu_of_event, left_by, lock_phase, draws, frees, is_free}, proofs.Exclusion.{is_at, near}}
+use Rattle.event_log.proofs.{Same.{same_cpu_self, same_cpu_true, same_lock_self}, Observed.{TicketOf, phase_of}, Tickets.{gives_acts, legal_acts, one_inside}}
+use Rattle.{event_log.proofs.Tickets.{phase_acts, same_rests, lock_phase_other, ticket_at}, layer_traits.specs.declared.edits.Mark.Mark}
+use Rattle.layer_traits.specs.{OneLock.{SomeoneInside, NobodyInside, HomeFits}, WordsProtocol.{edit_of, sections}}
 
 -- the lock whose word an event acts on
 abbrev pub event_lock : {M : Type 0} → Event M → LockId
@@ -22,11 +20,9 @@ lock_phase_own e log = ap (λ b. if b then left_by e else lock_phase (cpu_of_eve
 -- an event at another lock counts nothing here
 pub counts_elsewhere : {M : Type 0} (Fit : ℕ → ℕ → Type 0) (e : Event M) (log : List (Event M)) (lock : LockId) → same_lock lock (event_lock e) ≡ false
     → Fit (draws lock log) (frees lock log) → Fit (draws lock (e ∷ log)) (frees lock (e ∷ log))
-counts_elsewhere Fit (Draw cpu at ticket) log lock other fits =
-    subst (λ b. Fit (if b then draws lock log + 1 else draws lock log) (frees lock log)) (sym other) fits
+counts_elsewhere Fit (Draw cpu at ticket) log lock other fits = rw other fits
 counts_elsewhere Fit (Look cpu at ticket read) log lock other fits = fits
-counts_elsewhere Fit (Free cpu at mark) log lock other fits =
-    subst (λ b. Fit (draws lock log) (if b then frees lock log + 1 else frees lock log)) (sym other) fits
+counts_elsewhere Fit (Free cpu at mark) log lock other fits = rw other fits
 
 -- for a CPU that waits, words that tell which spot is served tell whether its look hits
 pub serves_exactly : {E : Type 0} (log : List (Event (Mark E))) → IsLegalWords log → (cpu : CpuId) (lock : LockId) (ticket : ℕ)
@@ -48,27 +44,19 @@ serves_exactly log legal cpu lock ticket waiting served tells =
 -- who is inside is not the CPU that acts, where that one was not inside, and so stays inside
 someone_stays : {M : Type 0} (lock : LockId) (e : Event M) (log : List (Event M)) → ((t : ℕ) → lock_phase (cpu_of_event e) log ≡ Holding lock t → ⊥)
     → SomeoneInside lock log → SomeoneInside lock (e ∷ log)
-someone_stays lock e log was (c, t, inside) = (c, t, go (same_cpu (cpu_of_event e) c) refl)
-  where
-    go : (b : Bool) → same_cpu (cpu_of_event e) c ≡ b → lock_phase c (e ∷ log) ≡ Holding lock t
-    go true same = absurd (was t (subst (λ d. lock_phase d log ≡ Holding lock t) (sym (same_cpu_true (cpu_of_event e) c same)) inside))
-    go false other = lock_phase_other e log c other ∙ inside
+someone_stays lock e log was (c, t, inside) = (c, t, grind (arith, lock_phase_other e log c, was t, same_cpu_true (cpu_of_event e) c, inside))
 
 -- where nobody is inside, an event by which its CPU does not enter leaves nobody inside
 nobody_stays : {M : Type 0} (lock : LockId) (e : Event M) (log : List (Event M)) → ((t : ℕ) → left_by e ≡ Holding lock t → ⊥)
     → NobodyInside lock log → NobodyInside lock (e ∷ log)
-nobody_stays lock e log now nobody c t inside = go (same_cpu (cpu_of_event e) c) refl
-  where
-    go : (b : Bool) → same_cpu (cpu_of_event e) c ≡ b → ⊥
-    go true same = now t (sym (lock_phase_own e log) ∙ subst (λ d. lock_phase d (e ∷ log) ≡ Holding lock t) (sym (same_cpu_true
-        (cpu_of_event e) c same)) inside)
-    go false other = nobody c t (sym (lock_phase_other e log c other) ∙ inside)
+nobody_stays lock e log now nobody c t inside =
+    grind (arith, lock_phase_own e log, lock_phase_other e log c, now t, nobody c t, same_cpu_true (cpu_of_event e) c)
 
 not_here : (lock at : LockId) (t s : ℕ) → same_lock lock at ≡ false → Holding at s ≡ Holding lock t → ⊥
-not_here lock at t s other e =
-    let one : at ≡ lock = cc in
-    let same : same_lock lock at ≡ true = subst (λ l. same_lock lock l ≡ true) (sym one) (same_lock_self lock) in
-    cc
+not_here lock at t s other e = grind (arith, same_lock_self)
+
+not_entered : (lock at : LockId) (b : Bool) (t s : ℕ) → same_lock lock at ≡ false → (if b then Holding at s else Waiting at s) ≡ Holding lock t → ⊥
+not_entered lock at b t s other h = grind (arith, not_here)
 
 module _ {E B : Type 0} (edited : E → B → B) (opening : LockId → Option B) (lock : LockId) where
   block_keeps : (e : Event (Mark E)) (log : List (Event (Mark E))) → is_free lock e ≡ false
@@ -91,11 +79,7 @@ module _ {E B : Type 0} (edited : E → B → B) (opening : LockId → Option B)
       → (home : Option B) → HomeFits edited opening log lock home → HomeFits edited opening (e ∷ log) lock home
   elsewhere (Draw cpu at ticket) log may other = lock_stays (Draw cpu at ticket) log refl (λ t h. absurd (cc (may.1, h))) (λ t h. absurd (cc h))
   elsewhere (Look cpu at ticket read) log may other =
-      lock_stays (Look cpu at ticket read) log refl (λ t h. absurd (cc (may.0, h))) (λ t h. entered (read == ticket) t h)
-    where
-      entered : (b : Bool) (t : ℕ) → (if b then Holding at ticket else Waiting at ticket) ≡ Holding lock t → ⊥
-      entered true t h = not_here lock at t ticket other h
-      entered false t h = absurd (cc h)
+      lock_stays (Look cpu at ticket read) log refl (λ t h. absurd (cc (may.0, h))) (λ t h. not_entered lock at (read == ticket) t ticket other h)
   elsewhere (Free cpu at mark) log may other =
       lock_stays (Free cpu at mark) log other (λ t h. not_here lock at t may.0 other (sym may.1 ∙ h)) (λ t h. absurd (cc h))
 
@@ -122,44 +106,32 @@ module _ {E B : Type 0} (edited : E → B → B) (opening : LockId → Option B)
       → (block : B) → option_map (edited mark.edit) (block_after edited opening lock (sections log)) ≡ Some block
       → HomeFits edited opening (Free cpu lock mark ∷ log) lock (Some block)
   freed cpu ticket mark log legal inside block is =
-      (nobody, ap (λ b. if b then option_map (edited mark.edit) before else before) (same_lock_self lock) ∙ is)
+      (nobody, rw same_lock_self is)
     where
-      before : Option B
-      before = block_after edited opening lock (sections log)
-
       nobody : NobodyInside lock (Free cpu lock mark ∷ log)
       nobody c t h = go (same_cpu cpu c) refl
         where
           go : (b : Bool) → same_cpu cpu c ≡ b → ⊥
-          go true same =
-              let here : lock_phase cpu (Free cpu lock mark ∷ log) ≡ Holding lock t
-              = subst (λ d. lock_phase d (Free cpu lock mark ∷ log) ≡ Holding lock t) (sym (same_cpu_true cpu c same)) h in
-              absurd (cc (sym (lock_phase_own (Free cpu lock mark) log) ∙ here))
+          go true same = absurd (cc (lock_phase_own (Free cpu lock mark) log, rw (← same_cpu_true cpu c same) at h))
           go false other =
-              let there : lock_phase c log ≡ Holding lock t = sym (lock_phase_other (Free cpu lock mark) log c other) ∙ h in
-              let one : c ≡ cpu = one_inside log legal c cpu lock t ticket there inside in
-              absurd (cc (other, subst (λ d. same_cpu cpu d ≡ true) (sym one) (same_cpu_self cpu)))
+              let there = sym (lock_phase_other (Free cpu lock mark) log c other) ∙ h in
+              absurd (cc (other, ap (same_cpu cpu) (one_inside log legal c cpu lock t ticket there inside), same_cpu_self cpu))
 
   -- a look that hits finds the block at home
   pub hit_finds : (cpu : CpuId) (ticket read : ℕ) (log : List (Event (Mark E))) → IsLegalWords (Look cpu lock ticket read ∷ log) → (read == ticket) ≡ true
       → (home : Option B) → HomeFits edited opening log lock home → IsSome home
   hit_finds cpu ticket read log legal hits (Some block) fits = refl
-  hit_finds cpu ticket read log legal hits None fits =
-      absurd (go (same_cpu cpu fits.0) refl)
+  hit_finds cpu ticket read log legal hits None fits = absurd (go (same_cpu cpu fits.0) refl)
     where
-      c : CpuId
-      c = fits.0
-
       entered : lock_phase cpu (Look cpu lock ticket read ∷ log) ≡ Holding lock ticket
       entered = lock_phase_own (Look cpu lock ticket read) log ∙ ap (λ b. if b then Holding lock ticket else Waiting lock ticket) hits
 
-      go : (b : Bool) → same_cpu cpu c ≡ b → ⊥
-      go true same = cc (legal.0.0, subst (λ d. lock_phase d log ≡ Holding lock fits.1) (sym (same_cpu_true cpu c same)) fits.2)
+      go : (b : Bool) → same_cpu cpu fits.0 ≡ b → ⊥
+      go true same = cc (legal.0.0, fits.2, same_cpu_true cpu fits.0 same)
       go false other =
-          let there : lock_phase c (Look cpu lock ticket read ∷ log) ≡ Holding lock fits.1
-          = lock_phase_other (Look cpu lock ticket read) log c other ∙ fits.2 in
-          let one : c ≡ cpu = one_inside (Look cpu lock ticket read ∷ log) legal c cpu lock fits.1 ticket there entered in
-          cc (other, subst (λ d. same_cpu cpu d ≡ true) (sym one) (same_cpu_self cpu))
+          let there = lock_phase_other (Look cpu lock ticket read) log fits.0 other ∙ fits.2 in
+          let one = one_inside (Look cpu lock ticket read ∷ log) legal fits.0 cpu lock fits.1 ticket there entered in
+          cc (other, ap (same_cpu cpu) one, same_cpu_self cpu)
 
   -- where nobody is inside, the block is home
   pub all_home : (log : List (Event (Mark E))) → NobodyInside lock log → (home : Option B) → HomeFits edited opening log lock home → IsSome home

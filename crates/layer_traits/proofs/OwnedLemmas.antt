@@ -1,8 +1,6 @@
 -- What a layer beneath tells of its blocks, a layer tells of what it makes of them.
-use Rattle.std.proofs.Common.{◌≡◌, Option, Some, None, option_map, refl, ap, sym, ◌∙◌, subst}
-use Rattle.std.proofs.lemmas.Option.{same_Some}
-use Rattle.event_log.specs.declared.ids.CpuId.{CpuId}
-use Rattle.layer_traits.specs.{Owned.IsHeld, Owned.IsObserved, Observed.IsObservedAs}
+use Rattle.std.proofs.{Common.{◌≡◌, Option, Some, None, option_map, refl, sym, ◌∙◌, subst, arith}, lemmas.Option.same_Some}
+use Rattle.{event_log.specs.declared.ids.CpuId.CpuId, layer_traits.specs.{Owned.{IsHeld, IsObserved}, Observed.IsObservedAs}}
 
 -- what is true under one name is true under another
 pub same_shown : {P A : Type 0} (Fits : P → Type 0) (cpu_of : P → CpuId) (IsInside : CpuId → Type 0) (here : P → Option A) (home truth other : Option A)
@@ -10,29 +8,37 @@ pub same_shown : {P A : Type 0} (Fits : P → Type 0) (cpu_of : P → CpuId) (Is
     → IsObserved Fits cpu_of IsInside here home truth → IsObserved Fits cpu_of IsInside here home other
 same_shown Fits cpu_of IsInside here home truth other same shown = subst (λ o. IsObserved Fits cpu_of IsInside here home o) same shown
 
--- a block in the hands of a part beneath is in those of the part that stands on it
-held_under : {P Q A : Type 0} (below : Q → P) (FitsP : P → Type 0) (FitsQ : Q → Type 0) (cpu_below : P → CpuId) (cpu_of : Q → CpuId)
-    (InsideP InsideQ : CpuId → Type 0) (here : P → Option A) → ((q : Q) → FitsQ q → FitsP (below q)) → ((q : Q) → FitsQ q → cpu_below (below q) ≡ cpu_of q)
-    → ((c : CpuId) → InsideP c → InsideQ c)
-    → IsHeld FitsP cpu_below InsideP here → IsHeld FitsQ cpu_of InsideQ (λ q. here (below q))
-held_under below FitsP FitsQ cpu_below cpu_of InsideP InsideQ here fits cpus inside is = record {
-  cpu = is.cpu;
-  known = is.known;
-  inside = inside is.cpu is.inside;
-  has = λ q at fit. is.has (below q) (cpus q fit ∙ at) (fits q fit);
-}
+module _ {P Q A : Type 0} (below : Q → P) (FitsP : P → Type 0) (FitsQ : Q → Type 0) (cpu_below : P → CpuId) (cpu_of : Q → CpuId)
+    (InsideP InsideQ : CpuId → Type 0) (here : P → Option A) where
+  -- a block in the hands of a part beneath is in those of the part that stands on it
+  held_under : ((q : Q) → FitsQ q → FitsP (below q)) → ((q : Q) → FitsQ q → cpu_below (below q) ≡ cpu_of q) → ((c : CpuId) → InsideP c → InsideQ c)
+      → IsHeld FitsP cpu_below InsideP here → IsHeld FitsQ cpu_of InsideQ (λ q. here (below q))
+  held_under fits cpus inside is = record {
+    cpu = is.cpu;
+    known = is.known;
+    inside = inside is.cpu is.inside;
+    has = λ q at fit. is.has (below q) (cpus q fit ∙ at) (fits q fit);
+  }
 
--- parts that stand on those beneath tell what those tell
-pub shown_under : {P Q A : Type 0} (below : Q → P) (FitsP : P → Type 0) (FitsQ : Q → Type 0) (cpu_below : P → CpuId) (cpu_of : Q → CpuId)
-    (InsideP InsideQ : CpuId → Type 0)
-    (here : P → Option A) (home truth : Option A) → ((q : Q) → FitsQ q → FitsP (below q)) → ((q : Q) → FitsQ q → cpu_below (below q) ≡ cpu_of q)
-    → ((c : CpuId) → InsideP c → InsideQ c)
-    → IsObserved FitsP cpu_below InsideP here home truth → IsObserved FitsQ cpu_of InsideQ (λ q. here (below q)) home truth
-shown_under below FitsP FitsQ cpu_below cpu_of InsideP InsideQ here home truth fits cpus inside shown = record {
-  by_machine = shown.by_machine;
-  by_part = λ q x fit tells. shown.by_part (below q) x (fits q fit) tells;
-  somewhere = λ none. held_under below FitsP FitsQ cpu_below cpu_of InsideP InsideQ here fits cpus inside (shown.somewhere none);
-}
+  -- parts that stand on those beneath tell what those tell
+  pub shown_under : (home truth : Option A) → ((q : Q) → FitsQ q → FitsP (below q)) → ((q : Q) → FitsQ q → cpu_below (below q) ≡ cpu_of q)
+      → ((c : CpuId) → InsideP c → InsideQ c)
+      → IsObserved FitsP cpu_below InsideP here home truth → IsObserved FitsQ cpu_of InsideQ (λ q. here (below q)) home truth
+  shown_under home truth fits cpus inside shown = record {
+    by_machine = shown.by_machine;
+    by_part = λ q x fit tells. shown.by_part (below q) x (fits q fit) tells;
+    somewhere = λ none. held_under fits cpus inside (shown.somewhere none);
+  }
+
+  -- and of a block that there is
+  pub read_under : (home : Option A) (truth : A) → ((q : Q) → FitsQ q → FitsP (below q)) → ((q : Q) → FitsQ q → cpu_below (below q) ≡ cpu_of q)
+      → ((c : CpuId) → InsideP c → InsideQ c)
+      → IsObservedAs FitsP cpu_below InsideP here home truth → IsObservedAs FitsQ cpu_of InsideQ (λ q. here (below q)) home truth
+  read_under home truth fits cpus inside told = record {
+    by_machine = told.by_machine;
+    by_part = λ q x fit tells. told.by_part (below q) x (fits q fit) tells;
+    somewhere = λ none. held_under fits cpus inside (told.somewhere none);
+  }
 
 -- parts that stand on parts beneath, each of the CPU of its lower part, which fits where it does; and who may hold a lock beneath
 pub record PartsOn (P Q : Type 0) : Type 1 where
@@ -59,12 +65,10 @@ shown_on parts tells home truth shown =
 viewed_some : {A B : Type 0} (view : A → B) (truth : Option A) (o : Option A) (y : B)
     → ((x : A) → o ≡ Some x → truth ≡ Some x) → option_map view o ≡ Some y
     → option_map view truth ≡ Some y
-viewed_some view truth None y tells is = absurd cc
-viewed_some view truth (Some x) y tells is = ap (option_map view) (tells x refl) ∙ is
+viewed_some view truth o y tells is = grind (arith, tells)
 
 viewed_none : {A B : Type 0} (view : A → B) (o : Option A) → option_map view o ≡ None → o ≡ None
-viewed_none view None none = refl
-viewed_none view (Some x) none = absurd cc
+viewed_none view o none = grind (arith, none)
 
 -- what is told of a block is told of its view
 pub viewed_shown : {P A B : Type 0} (view : A → B) (Fits : P → Type 0) (cpu_of : P → CpuId) (IsInside : CpuId → Type 0) (here : P → Option A)
@@ -93,16 +97,4 @@ observed_as Fits cpu_of IsInside here home truth x is shown = record {
   by_machine = λ y tells. same_Some y x (sym (shown.by_machine y tells) ∙ is);
   by_part = λ p y fits tells. same_Some y x (sym (shown.by_part p y fits tells) ∙ is);
   somewhere = shown.somewhere;
-}
-
--- parts that stand on those beneath tell what those tell
-pub read_under : {P Q A : Type 0} (below : Q → P) (FitsP : P → Type 0) (FitsQ : Q → Type 0) (cpu_below : P → CpuId) (cpu_of : Q → CpuId)
-    (InsideP InsideQ : CpuId → Type 0)
-    (here : P → Option A) (home : Option A) (truth : A) → ((q : Q) → FitsQ q → FitsP (below q)) → ((q : Q) → FitsQ q → cpu_below (below q) ≡ cpu_of q)
-    → ((c : CpuId) → InsideP c → InsideQ c)
-    → IsObservedAs FitsP cpu_below InsideP here home truth → IsObservedAs FitsQ cpu_of InsideQ (λ q. here (below q)) home truth
-read_under below FitsP FitsQ cpu_below cpu_of InsideP InsideQ here home truth fits cpus inside told = record {
-  by_machine = told.by_machine;
-  by_part = λ q x fit tells. told.by_part (below q) x (fits q fit) tells;
-  somewhere = λ none. held_under below FitsP FitsQ cpu_below cpu_of InsideP InsideQ here fits cpus inside (told.somewhere none);
 }

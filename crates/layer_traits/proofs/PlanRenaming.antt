@@ -1,14 +1,9 @@
 -- A layer that wraps its edits in those of the layer beneath: its blocks and replies are views of those there, under the layer's own names.
-use Rattle.std.proofs.Common.{◌≡◌, Bool, true, false, List, [], ◌∷◌, ◌++◌, Option, Some, None, option_map, if◌then◌else◌, map, refl, ap, sym, ◌∙◌}
-use Rattle.event_log.specs.{declared.ids.CpuId.CpuId, declared.ids.LockId.LockId, History.same_lock, Actions.Action, Actions.Phase, Actions.Rests}
-use Rattle.event_log.specs.{Actions.Waits, Actions.Holds, Actions.phase, Actions.renamed, Sections.Section, Sections.renamed_section, Sections.sections_in}
-use Rattle.event_log.specs.{Sections.block_after}
-use Rattle.event_log.proofs.Renaming.{phase_renamed, sections_in_renamed}
-use Rattle.layer_traits.specs.Plans.{Table, at_give, reply}
-
-pub map-append : {X Y : Type 0} (f : X → Y) (xs ys : List X) → map f (xs ++ ys) ≡ map f xs ++ map f ys
-map-append f [] ys = refl
-map-append f (x ∷ xs) ys = ap (λ l. f x ∷ l) (map-append f xs ys)
+use Rattle.std.proofs.Common.{◌≡◌, List, [], ◌∷◌, Option, option_map, map, refl, ap, sym, ◌∙◌, arith}
+use Rattle.event_log.specs.{declared.ids.{CpuId.CpuId, LockId.LockId}, Actions.{Action, Phase, phase, renamed}, Sections.{Section, renamed_section}}
+use Rattle.{event_log.{specs.Sections.{sections_in, block_after}, proofs.Renaming.{phase_renamed, sections_in_renamed}}, layer_traits.specs.Plans.Table}
+use Rattle.layer_traits.specs.Plans.{at_give, reply}
+pub use Rattle.std.proofs.lemmas.List.{map-append}
 
 -- A table stands on the one beneath: its names, blocks and answers are made of those there, and edits and answers agree. M, A and Q
 -- are the names, blocks and answers beneath, and N, B and R those of the layer.
@@ -23,32 +18,20 @@ module _ {M N A B Q R : Type 0} (low : Table M A Q) (high : Table N B R) (stands
   open stands use {name, view, told, edits, answers}
 
   viewed_edit : (m : M) (block : Option A) → option_map (high.edited (name m)) (option_map view block) ≡ option_map view (option_map (low.edited m) block)
-  viewed_edit m None = refl
-  viewed_edit m (Some block) = ap Some (sym (edits m block))
+  viewed_edit m block = grind (arith, edits)
 
   viewed_answer : (m : M) (block : Option A) → option_map told (option_map (low.answer m) block) ≡ option_map (high.answer (name m)) (option_map view block)
-  viewed_answer m None = refl
-  viewed_answer m (Some block) = ap Some (answers m block)
+  viewed_answer m block = grind (arith, answers)
 
   -- the layer's block is its view of the block beneath
   pub block_viewed : (lock : LockId) (past : List (Section M))
       → block_after high.edited (λ l. option_map view (opening l)) lock (map (renamed_section name) past)
       ≡ option_map view (block_after low.edited opening lock past)
   block_viewed lock [] = refl
-  block_viewed lock (s ∷ past) =
-      either (same_lock lock s.lock) (block_after high.edited (λ l. option_map view (opening l)) lock (map (renamed_section name) past))
-      (block_after low.edited opening lock past) (block_viewed lock past)
-    where
-      either : (b : Bool) (above : Option B) (beneath : Option A) → above ≡ option_map view beneath
-          → (if b then option_map (high.edited (name s.edit)) above else above)
-          ≡ option_map view (if b then option_map (low.edited s.edit) beneath else beneath)
-      either true above beneath same = ap (option_map (high.edited (name s.edit))) same ∙ viewed_edit s.edit beneath
-      either false above beneath same = same
+  block_viewed lock (s ∷ past) = grind (arith, block_viewed lock past, edits s.edit)
 
   at_give_mapped : (p : Phase) (answer : Option Q) → option_map told (at_give p answer) ≡ at_give p (option_map told answer)
-  at_give_mapped Rests answer = refl
-  at_give_mapped (Waits lock) answer = refl
-  at_give_mapped (Holds lock) answer = refl
+  at_give_mapped p answer = grind arith
 
   -- and its reply is what the reply beneath tells
   pub reply_viewed : (cpu : CpuId) (lock : LockId) (m : M) (past : List (Action M))

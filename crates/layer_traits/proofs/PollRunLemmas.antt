@@ -1,24 +1,17 @@
 -- Runs of polls: what a run keeps, and that a call that was quiet so far may be polled again.
-use Rattle.std.proofs.Common.{◌≡◌, ◌≢◌, ◌⊎◌, inl, inr, ℕ, ◌+◌, ◌<◌, ◌≤◌, List, Option, Some, None, is_some, length, refl, ap, sym, ◌∙◌, subst}
-use Rattle.std.proofs.Common.{arith}
-use Rattle.std.proofs.Math.Nat.{lt_of_not-le}
-use Rattle.event_log.specs.declared.ids.{CpuId.CpuId, Tid.Tid}
-use Rattle.layer_traits.specs.{declared.calls.Call.Call, declared.calls.Effect.Effect, declared.calls.Reply.Reply, declared.calls.ReplyKind.ReplyKind}
-use Rattle.layer_traits.specs.declared.call_layers.CallLayer.{Ghosts}
-use Rattle.layer_traits.specs.{declared.call_states.Stage.Stage, declared.call_states.Stage.TheVariants.Idle, declared.call_states.CallState.CallState}
+use Rattle.std.proofs.Common.{◌≡◌, ◌≢◌, ◌⊎◌, ℕ, ◌+◌, ◌<◌, ◌≤◌, List, Option, Some, None, is_some, length, refl, ap, sym, ◌∙◌, subst, arith}
+use Rattle.{std.proofs.Math.Nat.lt_of_not-le, event_log.specs.declared.ids.{CpuId.CpuId, Tid.Tid}, layer_traits.specs.declared.calls.{Call.Call, Effect.Effect}}
+use Rattle.layer_traits.specs.declared.{calls.{Reply.Reply, ReplyKind.ReplyKind}, call_layers.CallLayer.Ghosts, call_states.{Stage.Stage, CallState.CallState}}
 use Rattle.layer_traits.specs.BufferLaw.{BufferPlan, Buffering, Calling, IsEffectOf, MayGoOn, MayPollCall, UnderWay, begun_at, begun_of, buffer_of}
-use Rattle.layer_traits.specs.BufferLaw.{call_state_of, going, going_at, still_calling}
-use Rattle.layer_traits.specs.{Framed.Framed, LayerPolls.IsQuietAt, LayerPolls.LookedAt, LayerPolls.PolledAt, LayerPolls.PolledOnAt, Places.Threads}
-use Rattle.layer_traits.specs.PollRuns.{once, again, looks}
+use Rattle.layer_traits.specs.{BufferLaw.{call_state_of, going, going_at, still_calling}, Framed.Framed, LayerPolls.{IsQuietAt, LookedAt, PolledAt, PolledOnAt}}
+use Rattle.layer_traits.specs.{Places.Threads, PollRuns.{once, again, looks}}
 
 -- a call that has begun goes on as it is
 going_begun_at : (stage : Stage) (call_state : CallState) (call : Call) → begun_at stage call_state.call ≡ Some call → going_at stage call_state call ≡ call_state
-going_begun_at Idle call_state call is = absurd cc
-going_begun_at other call_state call is = refl
+going_begun_at stage call_state call is = grind (arith, is)
 
 begun_is_at : (stage : Stage) (call_state : CallState) (call : Call) → begun_at stage call_state.call ≡ Some call → call_state.call ≡ Some call
-begun_is_at Idle call_state call is = absurd cc
-begun_is_at other call_state call is = is
+begun_is_at stage call_state call is = grind (arith, is)
 
 pub going_begun : (call_state : CallState) (call : Call) → begun_of call_state ≡ Some call → going call_state call ≡ call_state
 going_begun call_state call is = going_begun_at call_state.stage call_state call is
@@ -33,8 +26,7 @@ still_called : (t : Tid) (current : Option Tid) (under_way : Option UnderWay) �
 still_called t current under_way runs is = is ∙ ap (λ (u : Option Tid). still_calling t u None) runs
 
 still_runs : {A : Type 0} (t : Tid) (current : Option Tid) → (current ≡ Some t) ⊎ ((current ≡ None) × A) → current ≢ None → current ≡ Some t
-still_runs t current (inl some) runs = some
-still_runs t current (inr none) runs = absurd (runs none.0)
+still_runs t current either runs = grind (arith, either)
 
 -- where a poll leaves a call with an effect just where it had one, it is the same
 effect_kept : (call : Call) (old new mine : Option Effect) → ((f : Effect) → mine ≡ Some f → (old ≡ None) × (new ≡ Some f) × IsEffectOf call f)
@@ -135,20 +127,18 @@ module _ {P L M : Type 0} (I : Ghosts P L M) (plan : ℕ → List CpuId → CpuI
     nothing_yet : SoFar p m 0 p m
     quiet_yet : {k : ℕ} {q : P} {n : M} → 0 < k → PolledOnAt I plan t call p m k q n None → IsQuietAt I plan t call p q → SoFar p m k q n
 
-  on_may : (q : P) (n : M) → I.Fits q n → (I.threads q).current ≡ Some t → IsOn q → MayPoll q n
-  on_may q n fits runs on = record {
-    fits = fits;
-    runs = runs;
-    hand = λ none. absurd (let some = on.under_way in cc);
-    same = may_go_on (call_state_of (I.call_states q) t) call on.begun;
-    goes_on = subst (λ (u : Option UnderWay). MayGoOn u (Calling t)) (sym on.under_way) refl;
-  }
-
   -- then the call may be polled again
   pub may_poll : (p : P) (m : M) (actions : ℕ) (q : P) (n : M) → SoFar p m actions q n → MayPoll p m → MayPoll q n
   may_poll p m _ _ _ nothing_yet may = may
   may_poll p m _ q n (quiet_yet {k = k} some run quiet) may =
-      on_may q n (kept p m k q n None run).fits quiet.runs (is_on p m k q n run quiet.runs)
+      let on = is_on p m k q n run quiet.runs in
+      record {
+        fits = (kept p m k q n None run).fits;
+        runs = quiet.runs;
+        hand = λ none. absurd (cc (none, on.under_way));
+        same = may_go_on (call_state_of (I.call_states q) t) call on.begun;
+        goes_on = subst (λ (u : Option UnderWay). MayGoOn u (Calling t)) (sym on.under_way) refl;
+      }
 
   -- the room that is left, and the capacities
   pub left : (p : P) (m : M) (actions : ℕ) (q : P) (n : M) → SoFar p m actions q n → (I.room m ≤ I.room n + actions) × (I.caps n ≡ I.caps m)

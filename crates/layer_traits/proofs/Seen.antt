@@ -1,16 +1,12 @@
 -- What a CPU knows of a history that foreign events lengthen: where it is, its block, and that its section stays allowed.
 use Rattle.std.proofs.Common.{◌≡◌, ℕ, ◌<◌, Bool, true, false, List, [], ◌∷◌, ◌++◌, Option, option_map, if◌then◌else◌, refl, ap, sym, ◌∙◌, subst, append_assoc}
-use Rattle.event_log.specs.{declared.ids.CpuId.CpuId, declared.ids.LockId.LockId, declared.ids.TheConstants.CPUS, declared.events.Event.Event, History.IsLawful}
-use Rattle.event_log.specs.{History.AreOthers, History.AreForeign, History.same_cpu, History.same_lock, WordsLog.IsLegalWords, WordsLog.Holding}
-use Rattle.event_log.specs.{WordsLog.cpu_of_event, WordsLog.lock_phase, Sections.Section, Sections.cpu_of_section, Sections.block_after, Actions.acts_of}
-use Rattle.event_log.specs.declared.events.Event.TheVariants.{Draw, Look, Free}
-use Rattle.event_log.proofs.{Exclusion.is_at, Exclusion.knows, Foreign.sections_of-append, Foreign.others_sections_of, Foreign.sections_of_known}
-use Rattle.event_log.proofs.{Same.same_cpu_self, Same.same_lock_self, Same.same_lock_true, Tickets.phase_of, Tickets.phase_acts, Tickets.legal_acts}
-use Rattle.event_log.proofs.{Tickets.one_inside}
-use Rattle.layer_traits.specs.{declared.edits.Mark.Mark, Protocol.StaysAllowed, Protocol.IsKnown, WordsProtocol.MayCome, WordsProtocol.edit_of}
-use Rattle.layer_traits.specs.{WordsProtocol.sections}
-pub use Rattle.event_log.proofs.Foreign.{lawful_before as lawful_rest, lock_phase_others}
-pub use Rattle.layer_traits.specs.WordsProtocol.{words_legal}
+use Rattle.event_log.specs.declared.{ids.{CpuId.CpuId, LockId.LockId, TheConstants.CPUS}, events.Event.{Event, TheVariants.{Draw, Look, Free}}}
+use Rattle.event_log.specs.{History.{IsLawful, AreOthers, AreForeign, same_cpu, same_lock}, WordsLog.{IsLegalWords, Holding, cpu_of_event, lock_phase}}
+use Rattle.event_log.{specs.{Sections.{Section, cpu_of_section, block_after}, Actions.acts_of}, proofs.{Exclusion.{is_at, knows}, Foreign.sections_of-append}}
+use Rattle.event_log.proofs.{Foreign.{others_sections_of, sections_of_known}, Same.{same_cpu_self, same_lock_self, same_lock_true}, Tickets.phase_of}
+use Rattle.{event_log.proofs.Tickets.{phase_acts, legal_acts, one_inside}, layer_traits.specs.{declared.edits.Mark.Mark, Protocol.{StaysAllowed, IsKnown}}}
+use Rattle.layer_traits.specs.WordsProtocol.{MayCome, edit_of, sections}
+pub use Rattle.{event_log.proofs.Foreign.{lawful_before as lawful_rest, lock_phase_others}, layer_traits.specs.WordsProtocol.words_legal}
 
 pub sections-append : {E : Type 0} (more log : List (Event (Mark E))) → sections (more ++ log) ≡ sections more ++ sections log
 sections-append more log = sections_of-append edit_of more log
@@ -61,10 +57,8 @@ module _ {E B : Type 0} (edited : E → B → B) (opening : LockId → Option B)
       ≡ block_after edited opening lock (sections past)
   free_elsewhere by at mark past legal other drawn there here false elsewhere = refl
   free_elsewhere by at mark past legal other drawn there here true same =
-      let at_lock : lock_phase by past ≡ Holding lock drawn = subst (λ l. lock_phase by past ≡ Holding l drawn) (sym (same_lock_true lock at same)) there in
-      let one : by ≡ cpu = one_inside past legal by cpu lock drawn ticket at_lock here in
-      let itself : same_cpu by cpu ≡ true = subst (λ c. same_cpu c cpu ≡ true) (sym one) (same_cpu_self cpu) in
-      absurd (cc (other, itself))
+      let one = one_inside past legal by cpu lock drawn ticket (rw (← same_lock_true lock at same) at there) here in
+      absurd (cc (other, ap (λ c. same_cpu c cpu) one, same_cpu_self cpu))
 
   -- while a CPU is inside a lock, no event of others changes the block that the sections leave there
   pub block_stays : (more log : List (Event (Mark E))) → IsLegalWords (more ++ log) → AreOthers cpu_of_event cpu more → lock_phase cpu log ≡ Holding lock ticket

@@ -1,10 +1,9 @@
 -- A poll of a sleeping layer is one poll of the scheduler's call that is due.
-use Rattle.std.proofs.Common.{◌≡◌, List, ◌++◌, Option, Some, None, IsSome, is_some, option_map, refl, ap, sym, ◌∙◌, subst}
-use Rattle.event_log.specs.declared.ids.{BufId.BufId, CpuId.CpuId, Tid.Tid}
-use Rattle.layer_traits.specs.{declared.queues.QueueEvent.QueueEvent, declared.scheds.SchedAnswer.SchedAnswer, declared.scheds.SchedAnswer.TheVariants.Done}
-use Rattle.layer_traits.specs.{declared.scheds.SchedAnswer.TheVariants.Answer, declared.sleeps.Outcome.Outcome, Places.Threads, Queues.Kernel, Queues.out_at}
-use Rattle.layer_traits.specs.{Scheds.SchedPolled, Scheds.own_answered, SleepLaw.Sleeping, SleepLaw.SleepPolled, SleepLaw.Waits, SleepLaw.Does, SleepLaw.Sends}
-use Rattle.layer_traits.specs.{SleepLaw.due, SleepLaw.done_if, SleepLaw.left_done, SleepLaw.left_reported}
+use Rattle.std.proofs.Common.{◌≡◌, List, ◌++◌, Option, Some, None, IsSome, is_some, option_map, refl, ap, sym, ◌∙◌, subst, arith}
+use Rattle.{event_log.specs.declared.ids.{BufId.BufId, CpuId.CpuId, Tid.Tid}, layer_traits.specs.declared.queues.QueueEvent.QueueEvent}
+use Rattle.layer_traits.specs.{declared.{scheds.SchedAnswer.{SchedAnswer, TheVariants.{Done, Answer}}, sleeps.Outcome.Outcome}, Places.Threads, Queues.Kernel}
+use Rattle.layer_traits.specs.{Queues.out_at, Scheds.{SchedPolled, own_answered}, SleepLaw.{Sleeping, SleepPolled, Waits, Does, Sends, due, done_if, left_done}}
+use Rattle.layer_traits.specs.SleepLaw.{left_reported}
 
 -- an outcome is kept exactly while a thread stands in the hand
 abbrev pub HandDefers : {O : Type 0} → Option Tid → Option (Outcome O) → Type 0
@@ -16,25 +15,17 @@ HandDefers (Some t) None = ⊥
 module _ {E B O : Type 0} (k : Kernel E B (Outcome O)) (b : BufId) (e : E) where
   answer_is : (past : List (QueueEvent E)) (outcome : Outcome O) → option_map Answer (out_at k past b e) ≡ Some (Answer outcome)
       → out_at k past b e ≡ Some outcome
-  answer_is past outcome answers = go (out_at k past b e) answers
-    where
-      go : (o : Option (Outcome O)) → option_map Answer o ≡ Some (Answer outcome) → o ≡ Some outcome
-      go None none = absurd cc
-      go (Some out) some = cc
+  answer_is past outcome answers = grind (arith, answers)
 
   no_answer : (past : List (QueueEvent E)) → option_map Answer (out_at k past b e) ≡ Some Done → ⊥
-  no_answer past answers = go (out_at k past b e) answers
-    where
-      go : (o : Option (Outcome O)) → option_map Answer o ≡ Some Done → ⊥
-      go None none = cc
-      go (Some out) some = cc
+  no_answer past answers = grind (arith, answers)
 
   -- what the scheduler's poll did is a poll here, and leaves what its answer tells
   pub sleep_polled : (ActsFor : CpuId → Type 0) (c : CpuId) (old new : List (QueueEvent E)) (own : Sleeping O) (own' : Threads)
       (hand : Option Tid) (deferred : Option (Outcome O)) (answer : Option (SchedAnswer (Outcome O))) → own.threads.hand ≡ hand → own.deferred ≡ deferred
       → HandDefers hand deferred
       → SchedPolled k ActsFor c (due hand b e) answer old new own.threads own' → SleepPolled k ActsFor c b e old new own (left_reported deferred own' answer)
-  sleep_polled ActsFor c old new own own' None None None in_hand is_deferred fits polled = record {
+  sleep_polled ActsFor c old new own own' hand deferred None in_hand is_deferred fits polled = record {
     others = polled.others;
     foreign = polled.foreign;
     poll_result = Waits;
@@ -53,14 +44,6 @@ module _ {E B O : Type 0} (k : Kernel E B (Outcome O)) (b : BufId) (e : E) where
         is = polled.is;
         leaves = ap (left_done outcome) (polled.after ∙ ap (λ o. own_answered k.moves k.homes c o own.threads) out);
       }
-  sleep_polled ActsFor c old new own own' (Some t) (Some outcome) None in_hand is_deferred fits polled = record {
-    others = polled.others;
-    foreign = polled.foreign;
-    poll_result = Waits;
-    may = tt;
-    is = polled.is;
-    leaves = λ i. record { own = record { threads = polled.after i; deferred = sym is_deferred i }; answer = None };
-  }
   sleep_polled ActsFor c old new own own' (Some t) (Some outcome) (Some Done) in_hand is_deferred fits polled = record {
     others = polled.others;
     foreign = polled.foreign;
@@ -70,10 +53,8 @@ module _ {E B O : Type 0} (k : Kernel E B (Outcome O)) (b : BufId) (e : E) where
     leaves = λ i. record { own = record { threads = polled.after i; deferred = None }; answer = sym is_deferred i };
   }
   sleep_polled ActsFor c old new own own' (Some t) (Some outcome) (Some (Answer out)) in_hand is_deferred fits polled = let other = polled.answers in absurd cc
-  sleep_polled ActsFor c old new own own' None (Some outcome) answer in_hand is_deferred fits polled = absurd fits
-  sleep_polled ActsFor c old new own own' (Some t) None answer in_hand is_deferred fits polled = absurd fits
+  sleep_polled ActsFor c old new own own' hand deferred (Some answer) in_hand is_deferred fits polled = absurd fits
 
 -- whether a pass is done, told as an answer of the scheduler
 pub done_same : (O : Type 0) (result : Option (Unit {0})) → is_some (done_if {O = O} result) ≡ is_some result
-done_same O None = refl
-done_same O (Some u) = refl
+done_same O result = grind arith

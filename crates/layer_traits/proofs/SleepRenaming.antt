@@ -1,12 +1,10 @@
 -- A layer that wraps its edits in those of a sleeping layer beneath: a poll and a plan there are a poll and a plan here, under the
 -- layer's own names.
-use Rattle.std.proofs.Common.{◌≡◌, List, ◌∷◌, ◌++◌, Option, Some, None, refl, ap, sym, ◌∙◌, subst}
-use Rattle.event_log.specs.declared.ids.{BufId.BufId, CpuId.CpuId, Tid.Tid}
-use Rattle.layer_traits.specs.{declared.passes.Pass.Pass, declared.queues.QueueEvent.QueueEvent, declared.sleeps.Outcome.Outcome, Passes.queue_for, Plans.Left}
-use Rattle.layer_traits.specs.{Plans.raised, Queues.Kernel, Queues.event, Renaming.named, Renaming.renamed_edit, Renaming.renamed_events}
-use Rattle.layer_traits.specs.{Renaming.renamed_sched, Scheds.sched_plan, SleepLaw.PollResult, SleepLaw.MayDo, SleepLaw.SleepPolled, SleepLaw.Sleeping}
-use Rattle.layer_traits.specs.{SleepLaw.Waits, SleepLaw.Does, SleepLaw.Sends, SleepLaw.due, SleepLaw.left_done, SleepLaw.left_passed, SleepLaw.left_reported}
-use Rattle.layer_traits.specs.{SleepLaw.left_with, SleepLaw.pass_plan, SleepLaw.seen_with, SleepLaw.sleep_plan}
+use Rattle.std.proofs.Common.{◌≡◌, List, ◌∷◌, ◌++◌, Option, Some, refl, ap, sym, ◌∙◌, subst, arith}
+use Rattle.{event_log.specs.declared.ids.{BufId.BufId, CpuId.CpuId, Tid.Tid}, layer_traits.specs.declared.{passes.Pass.Pass, queues.QueueEvent.QueueEvent}}
+use Rattle.layer_traits.specs.{declared.sleeps.Outcome.Outcome, Passes.queue_for, Plans.{Left, raised}, Queues.{Kernel, event}, Renaming.{named, renamed_edit}}
+use Rattle.layer_traits.specs.{Renaming.{renamed_events, renamed_sched}, Scheds.sched_plan, SleepLaw.{PollResult, MayDo, SleepPolled, Sleeping, Waits, Does}}
+use Rattle.layer_traits.specs.SleepLaw.{Sends, due, left_done, left_passed, left_reported, left_with, pass_plan, seen_with, sleep_plan}
 use Rattle.layer_traits.proofs.KernelRenaming.{Wraps, answered_renamed, events_append, events_others, named_raised, out_renamed, plan_renamed}
 use Rattle.layer_traits.specs.declared.queues.QueueCall.TheVariants as queue
 use Rattle.layer_traits.specs.declared.scheds.SchedCall.TheVariants as call
@@ -50,8 +48,7 @@ module _ {D E A B O : Type 0} (k : Kernel D A (Outcome O)) (j : Kernel E B (Outc
       }
 
   due_renamed : (hand : Option Tid) (b : BufId) (d : D) → renamed_sched name (due hand b d) ≡ due hand b (name d)
-  due_renamed None b d = refl
-  due_renamed (Some t) b d = refl
+  due_renamed hand b d = grind arith
 
   -- the plan beneath is the plan here
   pub sleep_plan_renamed : (h : List CpuId) (c : CpuId) (b : BufId) (d : D) (own : Sleeping O)

@@ -1,13 +1,8 @@
 -- Looks that all missed change no CPU's phase or spot and no section, and are the same looks under other names.
-use Rattle.std.proofs.Common.{◌≡◌, ℕ, zero, suc, ◌<◌, ◌%◌, Bool, true, false, List, ◌∷◌, ◌++◌, map, replicate, if◌then◌else◌, refl, ap, sym, ◌∙◌}
-use Rattle.std.proofs.Common.{arith}
-use Rattle.event_log.specs.{declared.ids.CpuId.CpuId, declared.ids.LockId.LockId, declared.ids.LockId.TheVariants.Pending, declared.ids.TheConstants.CPUS}
-use Rattle.event_log.specs.{declared.events.Event.Event, declared.events.Event.TheVariants.Look, declared.grants.GrantEvent.GrantEvent}
-use Rattle.event_log.specs.{declared.grants.GrantEvent.TheVariants.Peek, Actions.Action, Actions.Try, Actions.Waits, Actions.phase, Actions.renamed}
-use Rattle.event_log.specs.{Actions.spot_of, Grants.grant_word, History.same_cpu, Sections.sections_in}
-use Rattle.event_log.proofs.Same.{same_cpu_true}
-use Rattle.event_log.proofs.Renaming.{phase_renamed}
-use Rattle.layer_traits.specs.{AsGrants.as_grants, Spins.Misses}
+use Rattle.std.proofs.Common.{◌≡◌, ℕ, zero, suc, ◌<◌, ◌%◌, false, List, ◌∷◌, ◌++◌, map, replicate, refl, ap, ◌∙◌, arith}
+use Rattle.event_log.specs.declared.{ids.{CpuId.CpuId, LockId.{LockId, TheVariants.Pending}, TheConstants.CPUS}, events.Event.{Event, TheVariants.Look}}
+use Rattle.event_log.specs.{declared.grants.GrantEvent.{GrantEvent, TheVariants.Peek}, Actions.{Action, Try, Waits, phase, renamed, spot_of}, Grants.grant_word}
+use Rattle.{event_log.{specs.Sections.sections_in, proofs.{Same.same_cpu_true, Renaming.phase_renamed}}, layer_traits.specs.{AsGrants.as_grants, Spins.Misses}}
 
 -- no look is none that hit
 pub none_missed : {N : Type 0} (cpu : CpuId) (acts : List (Action N)) → Misses cpu 0 acts acts
@@ -17,14 +12,9 @@ module _ {N : Type 0} (cpu : CpuId) (lock : LockId) (old : List (Action N)) wher
   abbrev missed : ℕ → List (Action N)
   missed looks = replicate looks (Try cpu lock false) ++ old
 
-  one_more : (c : CpuId) (past : List (Action N)) (b : Bool) → same_cpu cpu c ≡ b → phase cpu old ≡ Waits lock → phase c past ≡ phase c old
-      → (if b then Waits lock else phase c past) ≡ phase c old
-  one_more c past true same waits rest = sym waits ∙ ap (λ d. phase d old) (same_cpu_true cpu c same)
-  one_more c past false other waits rest = rest
-
   phase_missed : (c : CpuId) (looks : ℕ) → phase cpu old ≡ Waits lock → phase c (missed looks) ≡ phase c old
   phase_missed c zero waits = refl
-  phase_missed c (suc looks) waits = one_more c (missed looks) (same_cpu cpu c) refl waits (phase_missed c looks waits)
+  phase_missed c (suc looks) waits = grind (arith, waits, same_cpu_true cpu c, phase_missed c looks waits)
 
   pub same_phase : (c : CpuId) (looks : ℕ) → (0 < looks → phase cpu old ≡ Waits lock) → phase c (missed looks) ≡ phase c old
   same_phase c zero waits = refl

@@ -1,15 +1,13 @@
 -- The steps at the front of a list that are those of a CPU, part by part.
 use Rattle.std.proofs.Common.{◌≡◌, ℕ, ◌+◌, ◌-◌, ◌≤◌, List, ◌++◌, length, take, drop, replicate, slice_range, ap, sym, ◌∙◌, subst, arith, length-drop}
-use Rattle.std.proofs.Math.Seq.{take-add, take-length}
-use Rattle.std.proofs.lemmas.List.{length-take-le, replicate-append-replicate, take_rest}
-use Rattle.event_log.specs.declared.ids.CpuId.{CpuId}
-use Rattle.layer_traits.specs.Spins.{BeginWith}
+use Rattle.std.proofs.{Math.Seq.{take-add, take-length}, lemmas.List.{length-take-le, replicate-append-replicate, take_rest}}
+use Rattle.{event_log.specs.declared.ids.CpuId.CpuId, layer_traits.specs.Spins.BeginWith}
 
 module _ (cpu : CpuId) (n k : ℕ) (steps : List CpuId) (begin : BeginWith cpu n steps) where
   -- so many more at the front of the rest
   begin_further : BeginWith cpu k (drop n steps) → BeginWith cpu (n + k) steps
   begin_further more = record {
-    few = let few = begin.few in let rest = more.few in let left = length-drop n steps in omega (arith, few, rest, left);
+    few = omega (arith, begin.few, more.few, length-drop n steps);
     first = take-add n k steps ∙ (ap (λ xs. xs ++ take k (drop n steps)) begin.first
         ∙ (ap (λ xs. replicate n cpu ++ xs) more.first ∙ replicate-append-replicate n k cpu));
   }
@@ -22,8 +20,7 @@ module _ (cpu : CpuId) (n k : ℕ) (steps : List CpuId) (begin : BeginWith cpu n
   pub begin_part : k ≤ length steps - n → BeginWith cpu (length (slice_range steps n (n + k))) (slice_range steps n (n + k)) → BeginWith cpu (n + k) steps
   begin_part within part =
       let as_many : (n + k) - n ≡ k = omega arith in
-      let left = length-drop n steps in
-      let few : k ≤ length (drop n steps) = omega (arith, within, left) in
+      let few : k ≤ length (drop n steps) = omega (arith, within, length-drop n steps) in
       let all : BeginWith cpu (length (take k (drop n steps))) (take k (drop n steps))
       = subst (λ (m : ℕ). BeginWith cpu (length (take m (drop n steps))) (take m (drop n steps))) as_many part in
       let long : length (take k (drop n steps)) ≡ k = length-take-le k (drop n steps) few in

@@ -1,11 +1,10 @@
 -- What the layers tell of threads is what the sections of the actions make of it.
 use Rattle.std.specs.Prelude.{◌≡◌, ℕ, Bool, List, Option, Some, map}
-use Rattle.event_log.specs.declared.ids.{BufId.BufId, CpuId.CpuId, LockId.LockId, LockId.TheVariants.Pending, LockId.TheVariants.Buffer, Tid.Tid}
-use Rattle.event_log.specs.{Actions.Action, Messages.Message, Sections.block_after, Sections.sections_in}
-use Rattle.layer_traits.specs.{declared.buffer_edits.BufferEdit.BufferEdit, declared.moves.WaitList.WaitList, declared.queue_edits.QueueBlock.QueueBlock}
-use Rattle.layer_traits.specs.{declared.queue_edits.QueueEdit.QueueEdit, BufferProtocol.BufferLock, BufferProtocol.buffer_rules, Conditions.CvCall}
-use Rattle.layer_traits.specs.{QLockLaw.lock_kernel, QLocking.wait_list_in, QLocking.lock_edited, QLocking.owner_in, Places.Step, Places.pending_by}
-use Rattle.layer_traits.specs.{QueueBlocks.above_of, QueueBlocks.with_queue, QueueRules.queue_edited, Queues.event_of, Queues.moves_in}
+use Rattle.event_log.specs.{declared.ids.{BufId.BufId, CpuId.CpuId, LockId.{LockId, TheVariants.{Pending, Buffer}}, Tid.Tid}, Actions.Action, Messages.Message}
+use Rattle.{event_log.specs.Sections.{block_after, sections_in}, layer_traits.specs.declared.{buffer_edits.BufferEdit.BufferEdit, moves.WaitList.WaitList}}
+use Rattle.layer_traits.specs.{declared.queue_edits.{QueueBlock.QueueBlock, QueueEdit.QueueEdit}, BufferProtocol.{BufferLock, buffer_rules}, Conditions.CvCall}
+use Rattle.layer_traits.specs.{QLockLaw.lock_kernel, QLocking.{wait_list_in, lock_edited, owner_in}, Places.{Step, pending_by}, QueueBlocks.above_of}
+use Rattle.layer_traits.specs.{QueueBlocks.with_queue, QueueRules.queue_edited, Queues.{event_of, moves_in}}
 
 -- the actions on the locks of buffers and of pending queues, newest first
 abbrev pub BufferActs : Type 0

@@ -1,7 +1,7 @@
 -- Tables of steps: what one step of a CPU makes of its private state, as a function of that state and of the actions before it.
 -- A step that was taken by the table, and a CPU's way along one list of actions in which other CPUs act between its steps.
 use Rattle.std.specs.Prelude.{◌≡◌, ℕ, ◌+◌, false, List, [], ◌∷◌, ◌++◌}
-use Rattle.event_log.specs.{declared.ids.CpuId.CpuId, History.same_cpu, History.AreForeign, Actions.Action, Actions.cpu_of_action}
+use Rattle.event_log.specs.{declared.ids.CpuId.CpuId, History.{same_cpu, AreForeign}, Actions.{Action, cpu_of_action}}
 use Rattle.layer_traits.specs.declared.steps.Step.{Step, TheVariants.Stepped}
 
 -- what one step leaves: the private state, the actions that it did (one or none), and what it answers

@@ -1,9 +1,8 @@
 -- A words log, told as the log of grant words that says the same: each spot, try and give of the one is one of the other.
 use Rattle.std.specs.Prelude.{◌≡◌, ◌%◌, List, [], ◌∷◌}
-use Rattle.event_log.specs.{declared.ids.CpuId.CpuId, declared.ids.TheConstants.CPUS, declared.events.Event.Event, declared.events.Event.TheVariants.Draw}
-use Rattle.event_log.specs.{declared.events.Event.TheVariants.Look, declared.events.Event.TheVariants.Free, Actions.acts_of, Grants.IsLegalGrants}
-use Rattle.event_log.specs.{Grants.acts_of_grants, Grants.grant_lock_phase, Grants.grant_word, WordsLog.lock_phase}
-use Rattle.event_log.specs.declared.grants.GrantEvent.{GrantEvent, TheVariants.Take, TheVariants.Peek, TheVariants.Give}
+use Rattle.event_log.specs.declared.{ids.{CpuId.CpuId, TheConstants.CPUS}, events.Event.{Event, TheVariants.{Draw, Look, Free}}, grants.GrantEvent.GrantEvent}
+use Rattle.event_log.specs.{declared.grants.GrantEvent.TheVariants.{Take, Peek, Give}, Actions.acts_of, Grants.{IsLegalGrants, acts_of_grants}}
+use Rattle.event_log.specs.{Grants.{grant_lock_phase, grant_word}, WordsLog.lock_phase}
 
 -- an event after this told past: a Peek reads what the Gives before it left in its ticket's word
 abbrev pub as_grant : {M : Type 0} → Event M → List (GrantEvent M) → GrantEvent M

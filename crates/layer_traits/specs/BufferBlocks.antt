@@ -1,12 +1,10 @@
 -- A buffer's block: its two lines, its items, whether it is closed, and its counters, and what the edits make of it.
 use Rattle.std.specs.Prelude.{ℕ, ◌+◌, ◌%◌, ◌^◌, Bool, true, false, not, ◌&&◌, ◌||◌, List, [], ◌∷◌, ◌++◌, length, nat_lt, Option, None, if◌then◌else◌}
-use Rattle.event_log.specs.{declared.entries.Kind.Kind, declared.ids.Tid.Tid, declared.ids.TheConstants.THREADS, Messages.Message, Messages.no_message}
-use Rattle.event_log.specs.declared.entries.Kind.TheVariants.{Send, Recv, SendClosed, RecvClosed}
-use Rattle.layer_traits.specs.declared.{locked.Side.Side, locked.Side.TheVariants.Receivers, locked.Side.TheVariants.Senders}
-use Rattle.layer_traits.specs.declared.{buffer_edits.BufferEdit.BufferEdit, buffer_edits.BufferOut.BufferOut}
-use Rattle.layer_traits.specs.declared.buffer_edits.BufferEdit.TheVariants.{Enter, TryPut, TryTake, Shut}
-use Rattle.layer_traits.specs.declared.buffer_edits.BufferOut.TheVariants.{Entered, NotYet, Done, WasShut}
-use Rattle.thread_blocks.specs.Queues.{same_tid, is_in, first, rest}
+use Rattle.event_log.specs.declared.{entries.Kind.{Kind, TheVariants.{Send, Recv, SendClosed, RecvClosed}}, ids.{Tid.Tid, TheConstants.THREADS}}
+use Rattle.{event_log.specs.Messages.{Message, no_message}, layer_traits.specs.declared.locked.Side.{Side, TheVariants.{Receivers, Senders}}}
+use Rattle.layer_traits.specs.declared.buffer_edits.{BufferEdit.{BufferEdit, TheVariants.{Enter, TryPut, TryTake, Shut}}, BufferOut.BufferOut}
+use Rattle.{layer_traits.specs.declared.buffer_edits.BufferOut.TheVariants.{Entered, NotYet, Done, WasShut}, thread_blocks.specs.Queues.{same_tid, is_in}}
+use Rattle.thread_blocks.specs.Queues.{first, rest}
 
 -- what a buffer's block holds: who stands in line, first in front, on either side; the items, first in front; how many there is
 -- room for; whether it is closed; and, modulo 2^64, how many effects it had, how many threads entered the send line and the receive

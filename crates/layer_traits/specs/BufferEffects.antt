@@ -2,16 +2,13 @@
 -- one after the other. Counters have 64 bits: numbers are modulo 2^64.
 use Rattle.std.specs.Prelude.{◌≡◌, ℕ, ◌%◌, ◌^◌, ◌<◌, Bool, false, ◌&&◌, List, [], ◌∷◌, ◌++◌, length, slice_get, slice_index, Option, Some, None, option_map}
 use Rattle.std.specs.Prelude.{option_to_list, if◌then◌else◌}
-use Rattle.event_log.specs.{declared.entries.Entry.Entry, declared.entries.Kind.Kind, declared.entries.Kind.TheVariants.Close, declared.ids.BufId.BufId}
-use Rattle.event_log.specs.{declared.ids.CpuId.CpuId, declared.ids.LockId.LockId, declared.ids.LockId.TheVariants.Pending}
-use Rattle.event_log.specs.{declared.ids.LockId.TheVariants.Buffer, declared.ids.Tid.Tid, Buffers.IsAllowedEffect, Buffers.empty_buffers, Buffers.items_of}
-use Rattle.event_log.specs.{History.same_lock, Messages.Message, Messages.no_message, Runs.after_entry, Runs.count_of, Runs.count_of_kind, Runs.is_closed}
-use Rattle.layer_traits.specs.{declared.locked.QEdit.TheVariants.Acquire, declared.locked.QEdit.TheVariants.Inside, declared.locked.QEdit.TheVariants.Release}
-use Rattle.layer_traits.specs.{declared.locked.Side.Side, declared.locked.Side.TheVariants.Receivers, declared.locked.Side.TheVariants.Senders}
-use Rattle.layer_traits.specs.{declared.conditions.CvEdit.TheVariants.Edit, declared.conditions.CvEdit.TheVariants.SignalFront, Conditions.CvCall}
-use Rattle.layer_traits.specs.{BufferBlocks.effect_kind, BufferBlocks.empty_block, BufferBlocks.first_item, BufferBlocks.is_next, BufferBlocks.drawn_of}
-use Rattle.layer_traits.specs.{BufferProtocol.BufferLock, BufferProtocol.BufferSection, BufferProtocol.buffer_at}
-use Rattle.layer_traits.specs.declared.buffer_edits.BufferEdit.{BufferEdit, TheVariants.Enter, TheVariants.TryPut, TheVariants.TryTake, TheVariants.Shut}
+use Rattle.event_log.specs.declared.{entries.{Entry.Entry, Kind.{Kind, TheVariants.Close}}, ids.{BufId.BufId, CpuId.CpuId, LockId.LockId}}
+use Rattle.event_log.specs.{declared.ids.{LockId.TheVariants.{Pending, Buffer}, Tid.Tid}, Buffers.{IsAllowedEffect, empty_buffers, items_of}, History.same_lock}
+use Rattle.event_log.specs.{Messages.{Message, no_message}, Runs.{after_entry, count_of, count_of_kind, is_closed}}
+use Rattle.layer_traits.specs.declared.locked.{QEdit.TheVariants.{Acquire, Inside, Release}, Side.{Side, TheVariants.{Receivers, Senders}}}
+use Rattle.layer_traits.specs.declared.{conditions.CvEdit.TheVariants.{Edit, SignalFront}, buffer_edits.BufferEdit.{BufferEdit, TheVariants.{Enter, TryPut}}}
+use Rattle.layer_traits.specs.{declared.buffer_edits.BufferEdit.TheVariants.{TryTake, Shut}, Conditions.CvCall, BufferBlocks.{effect_kind, empty_block}}
+use Rattle.layer_traits.specs.{BufferBlocks.{first_item, is_next, drawn_of}, BufferProtocol.{BufferLock, BufferSection, buffer_at}}
 use Rattle.thread_blocks.specs.Queues.{same_tid}
 
 -- whether a call enters this side's line for this thread

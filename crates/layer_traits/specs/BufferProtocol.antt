@@ -1,16 +1,13 @@
 -- Which section of a buffer which CPU may do after which sections: whoever enters stands in no line of the buffer, whoever tries
 -- stands in the line of its side, and whoever waits tried in vain in its section before; whoever owns the lock may close.
 use Rattle.std.specs.Prelude.{◌≡◌, Bool, true, false, not, ◌&&◌, List, [], ◌∷◌, Option, Some, None, if◌then◌else◌}
-use Rattle.event_log.specs.{declared.ids.LockId.LockId, declared.ids.Tid.Tid, History.same_lock, Sections.Section}
-use Rattle.layer_traits.specs.declared.{locked.QEdit.TheVariants.Acquire, locked.QEdit.TheVariants.Inside, locked.QEdit.TheVariants.Release, locked.Side.Side}
-use Rattle.layer_traits.specs.declared.{locked.Side.TheVariants.Receivers, locked.Side.TheVariants.Senders, conditions.CvEdit.TheVariants.Edit}
-use Rattle.layer_traits.specs.declared.{conditions.CvEdit.TheVariants.SignalFront, conditions.CvLeave.CvLeave, conditions.CvLeave.TheVariants.Leave}
-use Rattle.layer_traits.specs.declared.{conditions.CvLeave.TheVariants.Wait, conditions.CvEdit.CvEdit, conditions.CvOut.CvOut, buffer_edits.BufferOut.BufferOut}
-use Rattle.layer_traits.specs.declared.buffer_edits.BufferEdit.{BufferEdit, TheVariants.Enter, TheVariants.TryPut, TheVariants.TryTake, TheVariants.Shut}
-use Rattle.layer_traits.specs.{Conditions.CvCall, Conditions.MonitorRules, Conditions.cv_rules, QLocking.LockRules, QLocking.LockState}
-use Rattle.layer_traits.specs.{QLocking.lock_after, QLocking.lock_caller, BufferBlocks.BufferState, BufferBlocks.buffer_answer}
-use Rattle.layer_traits.specs.{BufferBlocks.buffer_edited, BufferBlocks.thread_of_edit, BufferBlocks.front_ready, BufferBlocks.is_next, BufferBlocks.line_of}
-use Rattle.thread_blocks.specs.Queues.{same_tid, is_in}
+use Rattle.event_log.specs.{declared.ids.{LockId.LockId, Tid.Tid}, History.same_lock, Sections.Section}
+use Rattle.layer_traits.specs.declared.locked.{QEdit.TheVariants.{Acquire, Inside, Release}, Side.{Side, TheVariants.{Receivers, Senders}}}
+use Rattle.layer_traits.specs.declared.conditions.{CvEdit.{TheVariants.{Edit, SignalFront}, CvEdit}, CvLeave.{CvLeave, TheVariants.{Leave, Wait}}, CvOut.CvOut}
+use Rattle.layer_traits.specs.declared.buffer_edits.{BufferOut.BufferOut, BufferEdit.{BufferEdit, TheVariants.{Enter, TryPut, TryTake, Shut}}}
+use Rattle.layer_traits.specs.{Conditions.{CvCall, MonitorRules, cv_rules}, QLocking.{LockRules, LockState, lock_after, lock_caller}, BufferBlocks.BufferState}
+use Rattle.{layer_traits.specs.BufferBlocks.{buffer_answer, buffer_edited, thread_of_edit, front_ready, is_next, line_of}, thread_blocks.specs.Queues.same_tid}
+use Rattle.thread_blocks.specs.Queues.{is_in}
 
 -- a section of a buffer
 abbrev pub BufferSection : Type 0

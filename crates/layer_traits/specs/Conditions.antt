@@ -1,11 +1,8 @@
 -- Conditions: what the edits that signal and wait make of the block of a queuing lock.
-use Rattle.std.specs.Prelude.{List, Option, Some, None}
-use Rattle.event_log.specs.{declared.ids.LockId.LockId, declared.ids.Tid.Tid, Sections.Section}
-use Rattle.layer_traits.specs.declared.locked.{QEdit.QEdit, Side.Side, Side.TheVariants.Receivers, Side.TheVariants.Senders, WakeWaiter.WakeWaiter}
-use Rattle.layer_traits.specs.declared.locked.{WakeWaiter.TheVariants.Nobody, WakeWaiter.TheVariants.Receiver, WakeWaiter.TheVariants.Sender}
-use Rattle.layer_traits.specs.declared.conditions.{CvEdit.CvEdit, CvEdit.TheVariants.Edit, CvEdit.TheVariants.SignalFront, CvLeave.CvLeave}
-use Rattle.layer_traits.specs.declared.conditions.{CvLeave.TheVariants.Leave, CvLeave.TheVariants.Wait, CvOut.CvOut, CvOut.TheVariants.Did}
-use Rattle.layer_traits.specs.declared.conditions.{CvOut.TheVariants.Signalled, CvOut.TheVariants.Left, CvOut.TheVariants.Waited}
+use Rattle.{std.specs.Prelude.{List, Option, Some, None}, event_log.specs.{declared.ids.{LockId.LockId, Tid.Tid}, Sections.Section}}
+use Rattle.layer_traits.specs.declared.locked.{QEdit.QEdit, Side.{Side, TheVariants.{Receivers, Senders}}, WakeWaiter.{WakeWaiter, TheVariants.Nobody}}
+use Rattle.layer_traits.specs.declared.{locked.WakeWaiter.TheVariants.{Receiver, Sender}, conditions.CvEdit.{CvEdit, TheVariants.{Edit, SignalFront}}}
+use Rattle.layer_traits.specs.declared.conditions.{CvLeave.{CvLeave, TheVariants.{Leave, Wait}}, CvOut.{CvOut, TheVariants.{Did, Signalled, Left, Waited}}}
 use Rattle.layer_traits.specs.QLocking.{LockState, LockRules}
 
 -- the calls on a lock with conditions: Acquire, an edit or a signal inside, and a leave or a wait as its release

@@ -1,16 +1,13 @@
 -- The law of the layer of conditions: what one poll of a call does to the history and to the part's own state.
 -- A wait is one event; what it answers is held back until its thread is current again. To take the lock again is a call of its own.
 use Rattle.std.specs.Prelude.{◌≡◌, ◌⊎◌, false, List, Option, Some, None, replicate, slice_set}
-use Rattle.event_log.specs.declared.ids.{BufId.BufId, CpuId.CpuId, LockId.LockId, LockId.TheVariants.Buffer, Tid.Tid, TheConstants.THREADS}
-use Rattle.layer_traits.specs.declared.locked.{QEdit.TheVariants.Acquire, QEdit.TheVariants.Inside, QEdit.TheVariants.Release, QOut.QOut}
-use Rattle.layer_traits.specs.declared.locked.{QOut.TheVariants.Acquired, QOut.TheVariants.Queued, QOut.TheVariants.Did, QOut.TheVariants.Released, Side.Side}
-use Rattle.layer_traits.specs.{declared.conditions.CvLeave.TheVariants.Leave, declared.conditions.CvLeave.TheVariants.Wait, declared.conditions.CvOut.CvOut}
-use Rattle.layer_traits.specs.{declared.moves.WaitList.WaitList, declared.queues.QueueEvent.QueueEvent, declared.queue_edits.QueueEdit.QueueEdit}
-use Rattle.layer_traits.specs.{declared.queues.QueueAnswer.QueueAnswer, declared.passes.Pass.Pass, declared.scheds.SchedCall.SchedCall}
-use Rattle.layer_traits.specs.{declared.sleeps.Outcome.Outcome, Conditions.MonitorRules, Conditions.CvCall, Conditions.cv_rules, MoveRules.MoveRules}
-use Rattle.layer_traits.specs.{Queues.Kernel, Queues.buffer_sections, QLocking.LockState, QLocking.lock_after, QLocking.lock_caller, QLocking.wait_list_in}
-use Rattle.layer_traits.specs.{QLockLaw.Locking, QLockLaw.LockPolled, QLockLaw.MayGo, QLockLaw.MayLock, QLockLaw.MustWait, QLockLaw.at_start, QLockLaw.slept_for}
-use Rattle.layer_traits.specs.{QLockLaw.lock_plan, QLockLaw.lock_pass_plan, Plans.Left, Plans.Plan, Plans.Now, Plans.raised}
+use Rattle.event_log.specs.declared.ids.{BufId.BufId, CpuId.CpuId, LockId.{LockId, TheVariants.Buffer}, Tid.Tid, TheConstants.THREADS}
+use Rattle.layer_traits.specs.declared.locked.{QEdit.TheVariants.{Acquire, Inside, Release}, QOut.{QOut, TheVariants.{Acquired, Queued, Did, Released}}}
+use Rattle.layer_traits.specs.declared.{locked.Side.Side, conditions.{CvLeave.TheVariants.{Leave, Wait}, CvOut.CvOut}, moves.WaitList.WaitList}
+use Rattle.layer_traits.specs.declared.{queues.{QueueEvent.QueueEvent, QueueAnswer.QueueAnswer}, queue_edits.QueueEdit.QueueEdit, passes.Pass.Pass}
+use Rattle.layer_traits.specs.{declared.{scheds.SchedCall.SchedCall, sleeps.Outcome.Outcome}, Conditions.{MonitorRules, CvCall, cv_rules}, MoveRules.MoveRules}
+use Rattle.layer_traits.specs.{Queues.{Kernel, buffer_sections}, QLocking.{LockState, lock_after, lock_caller, wait_list_in}, QLockLaw.{Locking, LockPolled}}
+use Rattle.layer_traits.specs.{QLockLaw.{MayGo, MayLock, MustWait, at_start, slept_for, lock_plan, lock_pass_plan}, Plans.{Left, Plan, Now, raised}}
 use Rattle.thread_blocks.specs.Queues.{is_in}
 use Rattle.layer_traits.specs.declared.conditions.CvOut.TheVariants as answer
 

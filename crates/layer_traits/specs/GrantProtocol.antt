@@ -1,8 +1,7 @@
 -- The protocol read over a log of grant words, and its sections.
 use Rattle.std.specs.Prelude.{◌≡◌, ℕ, List}
-use Rattle.event_log.specs.{declared.ids.CpuId.CpuId, declared.ids.LockId.LockId, Grants.MayFollowGrants, Grants.acts_of_grants, Grants.grant_lock_phase}
-use Rattle.event_log.specs.{Sections.Section, Sections.sections_in, WordsLog.Holding}
-use Rattle.event_log.specs.declared.grants.GrantEvent.{GrantEvent, TheVariants.Take, TheVariants.Peek, TheVariants.Give}
+use Rattle.event_log.specs.{declared.{ids.{CpuId.CpuId, LockId.LockId}, grants.GrantEvent.{GrantEvent, TheVariants.{Take, Peek, Give}}}, Grants.MayFollowGrants}
+use Rattle.event_log.specs.{Grants.{acts_of_grants, grant_lock_phase}, Sections.{Section, sections_in}, WordsLog.Holding}
 use Rattle.layer_traits.specs.{declared.edits.Mark.Mark, WordsProtocol.edit_of}
 
 -- the sections of a log of grant words whose marks tell the edits: its Gives

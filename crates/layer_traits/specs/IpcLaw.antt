@@ -1,11 +1,10 @@
 -- The law of the layer of message calls: what it adds to that of the buffers.
 use Rattle.std.specs.Prelude.{◌≡◌, ◌⊎◌, ℕ, ◌<◌, List, [], Option, Some, nat_lt, option_map, slice_get, if◌then◌else◌}
-use Rattle.event_log.specs.declared.ids.{BufId.BufId, CpuId.CpuId, LockId.LockId, LockId.TheVariants.Pending, LockId.TheVariants.Buffer, Tid.Tid}
-use Rattle.layer_traits.specs.{declared.moves.WaitList.WaitList, Places.Asleep, Places.At, Places.Step, Places.count_in, Places.one_if, Places.wait_channel_of}
-use Rattle.layer_traits.specs.{Places.where_is, ListsAgree.is_at, declared.calls.Call.Call, declared.calls.Reply.Reply}
-use Rattle.layer_traits.specs.{declared.calls.Reply.TheVariants.NoBuffer, Plans.Now, BufferProtocol.BufferLock, BufferEffects.fresh_lock, BufferLaw.BufferPlan}
-use Rattle.layer_traits.specs.{BufferLaw.Buffering, BufferLaw.buffer_of, BufferLaw.fifo_plan}
-use Rattle.layer_traits.specs.declared.queue_edits.QueueBlock.{QueueBlock, TheVariants.Queue, TheVariants.Above}
+use Rattle.event_log.specs.declared.ids.{BufId.BufId, CpuId.CpuId, LockId.{LockId, TheVariants.{Pending, Buffer}}, Tid.Tid}
+use Rattle.layer_traits.specs.declared.{moves.WaitList.WaitList, calls.{Call.Call, Reply.{Reply, TheVariants.NoBuffer}}, queue_edits.QueueBlock.QueueBlock}
+use Rattle.layer_traits.specs.{declared.queue_edits.QueueBlock.TheVariants.{Queue, Above}, Places.{Asleep, At, Step, count_in, one_if, wait_channel_of}}
+use Rattle.layer_traits.specs.{Places.where_is, ListsAgree.is_at, Plans.Now, BufferProtocol.BufferLock, BufferEffects.fresh_lock, BufferLaw.BufferPlan}
+use Rattle.layer_traits.specs.BufferLaw.{Buffering, buffer_of, fifo_plan}
 
 -- the waiting lists of the buffers and the threads' places agree by count: who sleeps stands once on the list of its place, and on no
 -- other list; nobody sleeps but at a buffer

@@ -1,8 +1,7 @@
 -- Runs of polls of a layer of calls, said of the layer.
-use Rattle.std.specs.Prelude.{ℕ, List, Option}
-use Rattle.event_log.specs.{declared.ids.CpuId.CpuId, declared.ids.Tid.Tid}
-use Rattle.layer_traits.specs.{declared.call_layers.CallLayer.Ghosts, declared.calls.Call.Call, declared.calls.Reply.Reply, declared.calls.ReplyKind.ReplyKind}
-use Rattle.layer_traits.specs.{BufferLaw.BufferPlan, BufferLaw.Buffering, PollRuns.IsQuiet, PollRuns.Looked, PollRuns.Polled, PollRuns.PolledOn}
+use Rattle.{std.specs.Prelude.{ℕ, List, Option}, event_log.specs.declared.ids.{CpuId.CpuId, Tid.Tid}, layer_traits.specs.declared.call_layers.CallLayer.Ghosts}
+use Rattle.layer_traits.specs.{declared.calls.{Call.Call, Reply.Reply, ReplyKind.ReplyKind}, BufferLaw.{BufferPlan, Buffering}, PollRuns.{IsQuiet, Looked}}
+use Rattle.layer_traits.specs.PollRuns.{Polled, PolledOn}
 
 module _ {P L M : Type 0} (I : Ghosts P L M) (plan : ℕ → List CpuId → CpuId → Tid → Call → Buffering → BufferPlan Reply) where
   -- a look of the layer took its part and machine to the last two

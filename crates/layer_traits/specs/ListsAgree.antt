@@ -1,12 +1,11 @@
 -- The waiting lists of the locks agree with the places of the threads, by count: a thread stands once in the list of the line at
 -- which it sleeps, and in no other.
 use Rattle.std.specs.Prelude.{◌≡◌, Bool, true, false, ◌&&◌, List, Option, Some, None}
-use Rattle.event_log.specs.{declared.ids.CpuId.CpuId, declared.ids.LockId.LockId, declared.ids.Tid.Tid, History.same_lock, Sections.block_after}
-use Rattle.layer_traits.specs.{declared.moves.WaitList.WaitList, declared.moves.WaitList.TheVariants.Sleepers, declared.moves.WaitList.TheVariants.Receivers}
-use Rattle.layer_traits.specs.{declared.moves.WaitList.TheVariants.Senders, declared.queue_edits.QueueBlock.QueueBlock, declared.queues.QueueEvent.QueueEvent}
-use Rattle.layer_traits.specs.{Places.At, Places.Stands, Places.Threads, Places.WaitChannel, Places.one_if, Places.count_in, Places.wait_channel_of}
-use Rattle.layer_traits.specs.{Places.where_is, QueueBlocks.inner, QueueBlocks.homes_in, Queues.buffer_sections, Queues.moves_in, Sleeping.SleepRules}
-use Rattle.layer_traits.specs.{Sleeping.SleepState, Sleeping.wait_list_at, Sleeping.sleep_edited, SleepLaw.sleep_kernel}
+use Rattle.event_log.specs.{declared.ids.{CpuId.CpuId, LockId.LockId, Tid.Tid}, History.same_lock, Sections.block_after}
+use Rattle.layer_traits.specs.declared.{moves.WaitList.{WaitList, TheVariants.{Sleepers, Receivers, Senders}}, queue_edits.QueueBlock.QueueBlock}
+use Rattle.layer_traits.specs.{declared.queues.QueueEvent.QueueEvent, Places.{At, Stands, Threads, WaitChannel, one_if, count_in, wait_channel_of, where_is}}
+use Rattle.layer_traits.specs.{QueueBlocks.{inner, homes_in}, Queues.{buffer_sections, moves_in}, Sleeping.{SleepRules, SleepState, wait_list_at, sleep_edited}}
+use Rattle.layer_traits.specs.SleepLaw.{sleep_kernel}
 
 -- whether two lines are one
 abbrev pub same_list : WaitList → WaitList → Bool

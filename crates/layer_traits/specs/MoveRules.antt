@@ -1,9 +1,8 @@
 -- What the sections of edits do to places: which move each makes, and where a thread sleeps after them.
 use Rattle.std.specs.Prelude.{◌≡◌, true, List, [], ◌∷◌, Option, Some, None, option_map, if◌then◌else◌}
-use Rattle.event_log.specs.{declared.ids.LockId.LockId, declared.ids.Tid.Tid, History.IsLawful, Sections.Section, Sections.block_after}
-use Rattle.thread_blocks.specs.Queues.{same_tid}
-use Rattle.layer_traits.specs.{declared.moves.WaitList.WaitList, Places.WaitChannel, Places.At, Places.Move, Places.Pushed, Places.Took, Places.Moved}
-use Rattle.layer_traits.specs.{Places.Still, Places.Step, Places.step, Places.is_thread, Places.is_wait_channel, Protocol.Rules}
+use Rattle.{event_log.specs.{declared.ids.{LockId.LockId, Tid.Tid}, History.IsLawful, Sections.{Section, block_after}}, thread_blocks.specs.Queues.same_tid}
+use Rattle.layer_traits.specs.{declared.moves.WaitList.WaitList, Places.{WaitChannel, At, Move, Pushed, Took, Moved, Still, Step, step, is_thread}}
+use Rattle.layer_traits.specs.{Places.is_wait_channel, Protocol.Rules}
 
 -- what edits do to places: the thread that calls an edit, the line in which the answer leaves the caller asleep, and whom it wakes
 pub record MoveRules (E O : Type 0) : Type 0 where

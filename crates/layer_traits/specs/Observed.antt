@@ -1,10 +1,8 @@
 -- What a machine and its parts tell: of a block, what is true of it; of a thread, where it stands.
 use Rattle.std.specs.Prelude.{◌≡◌, ◌⊎◌, ◌<◌, true, Option, Some, None}
-use Rattle.event_log.specs.declared.ids.{CpuId.CpuId, Tid.Tid, TheConstants.CPUS}
-use Rattle.layer_traits.specs.{declared.calls.Place.Place, declared.moves.WaitList.TheVariants.Sleepers, declared.moves.WaitList.TheVariants.Receivers}
-use Rattle.layer_traits.specs.{declared.moves.WaitList.TheVariants.Senders, Owned.IsHeld, Places.Where, Places.Home, Places.Hand, Places.Pend, Places.Asleep}
-use Rattle.layer_traits.specs.{Places.At, Places.Threads}
-use Rattle.thread_blocks.specs.Queues.{is_in}
+use Rattle.{event_log.specs.declared.ids.{CpuId.CpuId, Tid.Tid, TheConstants.CPUS}, layer_traits.specs.declared.calls.Place.Place}
+use Rattle.layer_traits.specs.{declared.moves.WaitList.TheVariants.{Sleepers, Receivers, Senders}, Owned.IsHeld, Places.{Where, Home, Hand, Pend, Asleep, At}}
+use Rattle.{layer_traits.specs.Places.Threads, thread_blocks.specs.Queues.is_in}
 use Rattle.event_log.specs.declared.ids.LockId.TheVariants as lock
 use Rattle.layer_traits.specs.declared.calls.Place.TheVariants as place
 

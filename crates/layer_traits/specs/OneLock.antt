@@ -1,8 +1,7 @@
 -- The home block of one lock, read against a words log; the opening blocks as a list.
 use Rattle.std.specs.Prelude.{◌≡◌, ℕ, false, List, [], ◌∷◌, Option, Some, None, MatchOption, if◌then◌else◌}
-use Rattle.event_log.specs.{declared.ids.CpuId.CpuId, declared.ids.LockId.LockId, declared.events.Event.Event, History.same_lock, WordsLog.lock_phase}
-use Rattle.event_log.specs.{WordsLog.Holding, Sections.block_after}
-use Rattle.layer_traits.specs.{declared.edits.Mark.Mark, WordsProtocol.sections}
+use Rattle.event_log.specs.{declared.{ids.{CpuId.CpuId, LockId.LockId}, events.Event.Event}, History.same_lock, WordsLog.{lock_phase, Holding}}
+use Rattle.{event_log.specs.Sections.block_after, layer_traits.specs.{declared.edits.Mark.Mark, WordsProtocol.sections}}
 
 -- some CPU is inside this lock
 abbrev pub SomeoneInside : {M : Type 0} → LockId → List (Event M) → Type 0

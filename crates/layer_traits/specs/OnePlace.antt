@@ -1,7 +1,7 @@
 -- Each thread stands in exactly one place: over all CPUs, how often a thread runs or is ready, is in a hand, is pending, sleeps or has ended.
 use Rattle.std.specs.Prelude.{◌≡◌, ℕ, zero, suc, ◌+◌, ◌<◌, List, Some, is_some}
-use Rattle.event_log.specs.declared.ids.{CpuId.CpuId, Tid.Tid}
-use Rattle.layer_traits.specs.Places.{Step, Threads, Stands, AreMoves, home_of, is_thread, is_asleep, where_is, pending_by, one_if, count_in}
+use Rattle.{event_log.specs.declared.ids.{CpuId.CpuId, Tid.Tid}, layer_traits.specs.Places.{Step, Threads, Stands, AreMoves, home_of, is_thread, is_asleep}}
+use Rattle.layer_traits.specs.Places.{where_is, pending_by, one_if, count_in}
 
 -- the sum of f over the numbers below n
 abbrev pub total : (ℕ → ℕ) → ℕ → ℕ

@@ -1,7 +1,6 @@
 -- What a machine may open with, and what it is then.
 use Rattle.std.specs.Prelude.{◌≡◌, ℕ, ◌<◌, ◌≤◌, All, List, [], length}
-use Rattle.event_log.specs.{declared.entries.Entry.Entry, declared.ids.CpuId.CpuId, declared.ids.TheConstants.BUFFERS, declared.ids.TheConstants.CPUS}
-use Rattle.event_log.specs.{declared.ids.TheConstants.THREADS, Buffers.IsCapacity}
+use Rattle.event_log.specs.{declared.{entries.Entry.Entry, ids.{CpuId.CpuId, TheConstants.{BUFFERS, CPUS, THREADS}}}, Buffers.IsCapacity}
 use Rattle.layer_traits.specs.Places.{Step}
 
 -- so many CPUs, buffers of these capacities and threads of these homes make a machine: it has a CPU, each home is one of its CPUs, and no

@@ -1,8 +1,7 @@
 -- What a machine and its parts tell of a block: it is at home in the machine, or in the hands of a CPU that may hold its lock.
 use Rattle.std.specs.Prelude.{◌≡◌, ◌≢◌, ◌<◌, List, Option, Some, None, if◌then◌else◌}
-use Rattle.event_log.specs.declared.ids.{CpuId.CpuId, Tid.Tid, TheConstants.CPUS}
-use Rattle.layer_traits.specs.{declared.moves.WaitList.WaitList, declared.moves.WaitList.TheVariants.Sleepers, declared.moves.WaitList.TheVariants.Receivers}
-use Rattle.layer_traits.specs.{declared.moves.WaitList.TheVariants.Senders, QLocking.LockState, Sleeping.SleepState}
+use Rattle.{event_log.specs.declared.ids.{CpuId.CpuId, Tid.Tid, TheConstants.CPUS}, layer_traits.specs.declared.moves.WaitList.{WaitList, TheVariants.Sleepers}}
+use Rattle.layer_traits.specs.{declared.moves.WaitList.TheVariants.{Receivers, Senders}, QLocking.LockState, Sleeping.SleepState}
 use Rattle.thread_blocks.specs.Queues.{is_in}
 
 -- a CPU of the machine that may hold a lock has it in its hands: each part of that CPU has something to tell

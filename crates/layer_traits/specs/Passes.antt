@@ -1,11 +1,9 @@
 -- Passes: the calls by which a CPU passes from thread to thread. What they do to a CPU's own threads and to the places, where each
 -- may come, and what one poll of a pass means.
 use Rattle.std.specs.Prelude.{◌≡◌, ◌≢◌, List, [], ◌∷◌, ◌++◌, Option, Some, None, IsSome, is_some, if◌then◌else◌}
-use Rattle.event_log.specs.{declared.ids.CpuId.CpuId, declared.ids.Tid.Tid, History.AreForeign}
-use Rattle.thread_blocks.specs.Queues.{first, rest}
-use Rattle.layer_traits.specs.{declared.moves.WaitList.WaitList, declared.passes.Pass.Pass, Places.Threads, Places.Step, Places.Pushed, Places.Took}
-use Rattle.layer_traits.specs.{Places.step, Places.cpu_of_step, Places.home_of, Places.is_cpu, Places.pending_by}
-use Rattle.layer_traits.specs.declared.passes.Pass.TheVariants.{Switch, YieldNow, Drain, MakeReady, End}
+use Rattle.{event_log.specs.{declared.ids.{CpuId.CpuId, Tid.Tid}, History.AreForeign}, thread_blocks.specs.Queues.{first, rest}}
+use Rattle.layer_traits.specs.{declared.{moves.WaitList.WaitList, passes.Pass.{Pass, TheVariants.{Switch, YieldNow, Drain, MakeReady, End}}}, Places.Threads}
+use Rattle.layer_traits.specs.Places.{Step, Pushed, Took, step, cpu_of_step, home_of, is_cpu, pending_by}
 
 -- the home, or this CPU where there is none
 abbrev pub or_else : CpuId → Option CpuId → CpuId

@@ -1,15 +1,12 @@
 -- What an edit means, and what an answer tells, with the payload beside it: the parcel that is put or brought, and the threads that
 -- were taken.
-use Rattle.std.specs.Prelude.{Option, option_map}
-use Rattle.layer_traits.specs.declared.{buffer_edits.BareBufferEdit.BareBufferEdit, buffer_edits.BareBufferOut.BareBufferOut}
-use Rattle.layer_traits.specs.declared.{buffer_edits.BufferEdit.BufferEdit, buffer_edits.BufferOut.BufferOut, conditions.CvEdit.CvEdit}
-use Rattle.layer_traits.specs.declared.{conditions.CvEdit.TheVariants.Edit, conditions.CvEdit.TheVariants.SignalFront, conditions.CvOut.CvOut}
-use Rattle.layer_traits.specs.declared.{locked.QEdit.QEdit, locked.QEdit.TheVariants.Acquire, locked.QEdit.TheVariants.Inside, locked.QEdit.TheVariants.Release}
-use Rattle.layer_traits.specs.declared.{locked.QOut.QOut, queue_edits.QueueEdit.QueueEdit, queues.BareQueueAnswer.BareQueueAnswer}
-use Rattle.layer_traits.specs.declared.{queues.QueueAnswer.QueueAnswer, queues.QueueCall.QueueCall, queues.QueueCall.TheVariants.Push}
-use Rattle.layer_traits.specs.declared.{queues.QueueCall.TheVariants.TakeAll, queues.QueueCall.TheVariants.OnBuffer, scheds.SchedAnswer.SchedAnswer}
-use Rattle.layer_traits.specs.declared.{scheds.SchedCall.SchedCall, sleeps.Outcome.Outcome, payloads.Parcel.Parcel, payloads.Payload.Payload}
-use Rattle.layer_traits.specs.declared.buffer_edits.BufferEdit.TheVariants.{Enter, TryPut, TryTake, Shut}
+use Rattle.{std.specs.Prelude.{Option, option_map}, layer_traits.specs.declared.buffer_edits.{BareBufferEdit.BareBufferEdit, BareBufferOut.BareBufferOut}}
+use Rattle.layer_traits.specs.declared.buffer_edits.{BufferEdit.{BufferEdit, TheVariants.{Enter, TryPut, TryTake, Shut}}, BufferOut.BufferOut}
+use Rattle.layer_traits.specs.declared.{conditions.{CvEdit.{CvEdit, TheVariants.{Edit, SignalFront}}, CvOut.CvOut}, locked.QEdit.{QEdit, TheVariants.Acquire}}
+use Rattle.layer_traits.specs.declared.{locked.{QEdit.TheVariants.{Inside, Release}, QOut.QOut}, queue_edits.QueueEdit.QueueEdit}
+use Rattle.layer_traits.specs.declared.queues.{BareQueueAnswer.BareQueueAnswer, QueueAnswer.QueueAnswer, QueueCall.{QueueCall, TheVariants.{Push, TakeAll}}}
+use Rattle.layer_traits.specs.declared.{queues.QueueCall.TheVariants.OnBuffer, scheds.{SchedAnswer.SchedAnswer, SchedCall.SchedCall}, sleeps.Outcome.Outcome}
+use Rattle.layer_traits.specs.declared.payloads.{Parcel.Parcel, Payload.Payload}
 use Rattle.layer_traits.specs.declared.buffer_edits.BareBufferEdit.TheVariants as bare
 use Rattle.layer_traits.specs.declared.buffer_edits.BareBufferOut.TheVariants as brought
 use Rattle.layer_traits.specs.declared.buffer_edits.BufferOut.TheVariants as told

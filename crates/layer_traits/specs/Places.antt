@@ -1,9 +1,7 @@
 -- Places: where each thread stands, as a function of neutral moves, newest first. A thread exists exactly if it has a home; no
 -- edit, no block and no lock word is named here. What a CPU has of its own agrees with the places by count.
-use Rattle.std.specs.Prelude.{◌≡◌, ◌≢◌, ℕ, ◌+◌, Bool, true, false, ◌&&◌, List, [], ◌∷◌, ◌++◌, Option, Some, None, MatchOption, if◌then◌else◌}
-use Rattle.std.specs.List.{slice_get}
-use Rattle.event_log.specs.{declared.ids.CpuId.CpuId, declared.ids.LockId.LockId, declared.ids.Tid.Tid, History.same_cpu, History.IsLawful}
-use Rattle.thread_blocks.specs.Queues.{same_tid}
+use Rattle.std.specs.{Prelude.{◌≡◌, ◌≢◌, ℕ, ◌+◌, Bool, true, false, ◌&&◌, List, [], ◌∷◌, ◌++◌, Option, Some, None, MatchOption, if◌then◌else◌}, List.slice_get}
+use Rattle.{event_log.specs.{declared.ids.{CpuId.CpuId, LockId.LockId, Tid.Tid}, History.{same_cpu, IsLawful}}, thread_blocks.specs.Queues.same_tid}
 use Rattle.layer_traits.specs.declared.moves.WaitList.{WaitList}
 
 -- the home of a thread, in the list of the homes of all threads; a thread without one does not exist

@@ -1,9 +1,8 @@
 -- Plans: what a poll is to do, as a function of the part's own state and of the call, and what it means that a poll followed its plan.
 -- The history beneath tells the phase of a CPU, so a plan names a section and no phase.
 use Rattle.std.specs.Prelude.{◌≡◌, Bool, true, false, List, ◌∷◌, ◌++◌, Option, None, option_map}
-use Rattle.event_log.specs.{declared.ids.CpuId.CpuId, declared.ids.LockId.LockId, History.AreForeign, Actions.Action, Actions.Phase, Actions.Rests}
-use Rattle.event_log.specs.{Actions.Waits, Actions.Holds, Actions.cpu_of_action, Actions.phase, Actions.next_action, Sections.block_after, Sections.sections_in}
-use Rattle.layer_traits.specs.Protocol.{Rules}
+use Rattle.event_log.specs.{declared.ids.{CpuId.CpuId, LockId.LockId}, History.AreForeign, Actions.{Action, Phase, Rests, Waits, Holds, cpu_of_action, phase}}
+use Rattle.{event_log.specs.{Actions.next_action, Sections.{block_after, sections_in}}, layer_traits.specs.Protocol.Rules}
 
 -- what the names of sections mean: the block that a section leaves, and its answer
 pub record Table (N B R : Type 0) : Type 0 where

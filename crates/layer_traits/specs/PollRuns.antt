@@ -1,13 +1,12 @@
 -- Runs of polls: what one poll of a call did, what one look of its section at its lock did, and polls and looks of one call one after the other.
 use Rattle.std.specs.Prelude.{◌≡◌, ℕ, ◌+◌, ◌<◌, ◌≤◌, Bool, true, List, Option, Some, None, length}
-use Rattle.event_log.specs.{declared.entries.Entry.Entry, declared.ids.CpuId.CpuId, declared.ids.LockId.LockId, declared.ids.Tid.Tid, Actions.Action}
-use Rattle.layer_traits.specs.{declared.calls.Call.Call, declared.calls.Reply.Reply, declared.calls.ReplyKind.ReplyKind, declared.buffer_edits.BufferEdit.BufferEdit}
-use Rattle.layer_traits.specs.{declared.queue_edits.QueueEdit.QueueEdit, declared.queue_edits.QueueBlock.QueueBlock, declared.call_states.CallState.CallState}
-use Rattle.layer_traits.specs.{BufferLaw.BufferPlan, BufferLaw.Buffering, BufferLaw.Called, BufferLaw.IsRefused, BufferLaw.MovesGrow, BufferLaw.OthersSeen}
-use Rattle.layer_traits.specs.{BufferLaw.RunsOn, BufferLaw.UnderWay, BufferLaw.answer_in, BufferLaw.buffer_of, BufferLaw.call_state_of, BufferLaw.going}
-use Rattle.layer_traits.specs.{BufferLaw.still_calling, BufferProtocol.BufferLock, BufferProtocol.buffer_rules, Conditions.CvCall, Framed.Framed, IpcLaw.NothingDone}
-use Rattle.layer_traits.specs.{Looks.Tries, Places.Step, Places.Threads, Plans.Follows, Plans.table_of, QLocking.lock_moves, QLocking.lock_rules}
-use Rattle.layer_traits.specs.{QueueBlocks.homes_in, QueueRules.queue_rules}
+use Rattle.event_log.specs.{declared.{entries.Entry.Entry, ids.{CpuId.CpuId, LockId.LockId, Tid.Tid}}, Actions.Action}
+use Rattle.layer_traits.specs.declared.{calls.{Call.Call, Reply.Reply, ReplyKind.ReplyKind}, buffer_edits.BufferEdit.BufferEdit}
+use Rattle.layer_traits.specs.{declared.{queue_edits.{QueueEdit.QueueEdit, QueueBlock.QueueBlock}, call_states.CallState.CallState}, BufferLaw.BufferPlan}
+use Rattle.layer_traits.specs.BufferLaw.{Buffering, Called, IsRefused, MovesGrow, OthersSeen, RunsOn, UnderWay, answer_in, buffer_of, call_state_of, going}
+use Rattle.layer_traits.specs.{BufferLaw.still_calling, BufferProtocol.{BufferLock, buffer_rules}, Conditions.CvCall, Framed.Framed, IpcLaw.NothingDone}
+use Rattle.layer_traits.specs.{Looks.Tries, Places.{Step, Threads}, Plans.{Follows, table_of}, QLocking.{lock_moves, lock_rules}, QueueBlocks.homes_in}
+use Rattle.layer_traits.specs.QueueRules.{queue_rules}
 
 module _ {P M : Type 0} (Fits : P → M → Type 0) (cpu_of : P → CpuId) (opening_of : M → LockId → Option (QueueBlock BufferLock)) (site_of : M → List ℕ)
     (room_of : M → ℕ) (ActsFor MayHold : M → CpuId → Type 0) (threads_of : P → Threads) (call_states_of : P → List CallState) (own_of : P → Buffering)

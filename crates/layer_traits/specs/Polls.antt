@@ -1,7 +1,6 @@
 -- What one call of a machine or of a layer adds to the history that its holder has seen, and what it asks.
 use Rattle.std.specs.Prelude.{◌≡◌, List, ◌∷◌, ◌++◌, Option, Some, None, option_map, is_some, MatchOption, if◌then◌else◌}
-use Rattle.event_log.specs.{declared.ids.CpuId.CpuId, declared.ids.LockId.LockId, History.AreForeign, Sections.Section, Sections.cpu_of_section}
-use Rattle.event_log.specs.{Sections.block_after}
+use Rattle.event_log.specs.{declared.ids.{CpuId.CpuId, LockId.LockId}, History.AreForeign, Sections.{Section, cpu_of_section, block_after}}
 use Rattle.layer_traits.specs.Protocol.{Rules, StaysAllowed}
 
 -- a call is under way until it is answered

@@ -1,7 +1,6 @@
 -- What edits mean, and the protocol: which section which CPU may do after which sections.
 use Rattle.std.specs.Prelude.{◌<◌, List, ◌++◌, Option}
-use Rattle.event_log.specs.{declared.ids.CpuId.CpuId, declared.ids.LockId.LockId, declared.ids.TheConstants.CPUS, History.IsLawful, History.AreOthers}
-use Rattle.event_log.specs.{Sections.Section, Sections.cpu_of_section}
+use Rattle.event_log.specs.{declared.ids.{CpuId.CpuId, LockId.LockId, TheConstants.CPUS}, History.{IsLawful, AreOthers}, Sections.{Section, cpu_of_section}}
 
 -- what an edit means: the block that it leaves, its answer, and, from the opening blocks on, after which sections which CPU may do it
 pub record Rules (E B O : Type 0) : Type 1 where

@@ -1,18 +1,14 @@
 -- What one poll of a queuing lock adds to the history, and what it leaves of the part's own state.
 use Rattle.std.specs.Prelude.{◌≡◌, ◌⊎◌, Bool, true, false, List, ◌++◌, Option, Some, None, is_some, replicate, slice_index_or, slice_set, if◌then◌else◌}
-use Rattle.event_log.specs.{declared.ids.BufId.BufId, declared.ids.CpuId.CpuId, declared.ids.LockId.LockId, declared.ids.LockId.TheVariants.Buffer}
-use Rattle.event_log.specs.{declared.ids.TheConstants.THREADS, declared.ids.Tid.Tid, History.IsLawful, History.AreOthers}
-use Rattle.layer_traits.specs.declared.locked.{QEdit.QEdit, QEdit.TheVariants.Acquire, QEdit.TheVariants.Inside, QEdit.TheVariants.Release, QOut.QOut}
-use Rattle.layer_traits.specs.declared.locked.{QOut.TheVariants.Acquired, QOut.TheVariants.Queued, QOut.TheVariants.Did, QOut.TheVariants.Released}
-use Rattle.layer_traits.specs.{declared.moves.WaitList.WaitList, declared.queue_edits.QueueBlock.QueueBlock, declared.queue_edits.QueueEdit.QueueEdit}
-use Rattle.layer_traits.specs.{declared.queues.QueueAnswer.QueueAnswer, declared.queues.QueueEvent.QueueEvent, declared.passes.Pass.Pass}
-use Rattle.layer_traits.specs.{declared.scheds.SchedCall.SchedCall, declared.sleeps.Outcome.Outcome, ListsAgree.is_at, MoveRules.MoveRules, Places.Stands}
-use Rattle.layer_traits.specs.{Places.one_if, Places.count_in, Places.wait_channel_of, Places.where_is, Places.at_boot, Plans.Left, Plans.Plan, Plans.Now}
-use Rattle.layer_traits.specs.{Plans.raised, Protocol.section, QueueBlocks.inner, QueueBlocks.homes_in, Queues.Kernel, Queues.kernel, Queues.cpu_of_queue_event}
-use Rattle.layer_traits.specs.{Queues.buffer_sections, Queues.moves_in, Queues.QueueAllowed, SleepLaw.Sleeping, SleepLaw.SleepPolled, SleepLaw.MayCall}
-use Rattle.layer_traits.specs.{SleepLaw.MustSend, SleepLaw.sleep_plan, SleepLaw.pass_plan}
-use Rattle.layer_traits.specs.QLocking.{LockRules, LockState, lock_caller, lock_rules, lock_moves, lock_after, owner_of, IsOwners, wait_list_in}
-use Rattle.thread_blocks.specs.Queues.{is_in}
+use Rattle.event_log.specs.{declared.ids.{BufId.BufId, CpuId.CpuId, LockId.{LockId, TheVariants.Buffer}, TheConstants.THREADS, Tid.Tid}, History.IsLawful}
+use Rattle.{event_log.specs.History.AreOthers, layer_traits.specs.declared.locked.{QEdit.{QEdit, TheVariants.{Acquire, Inside, Release}}, QOut.QOut}}
+use Rattle.layer_traits.specs.declared.{locked.QOut.TheVariants.{Acquired, Queued, Did, Released}, moves.WaitList.WaitList, queue_edits.QueueBlock.QueueBlock}
+use Rattle.layer_traits.specs.declared.{queue_edits.QueueEdit.QueueEdit, queues.{QueueAnswer.QueueAnswer, QueueEvent.QueueEvent}, passes.Pass.Pass}
+use Rattle.layer_traits.specs.{declared.{scheds.SchedCall.SchedCall, sleeps.Outcome.Outcome}, ListsAgree.is_at, MoveRules.MoveRules, Places.{Stands, one_if}}
+use Rattle.layer_traits.specs.{Places.{count_in, wait_channel_of, where_is, at_boot}, Plans.{Left, Plan, Now, raised}, Protocol.section, QueueBlocks.inner}
+use Rattle.layer_traits.specs.{QueueBlocks.homes_in, Queues.{Kernel, kernel, cpu_of_queue_event, buffer_sections, moves_in, QueueAllowed}, SleepLaw.Sleeping}
+use Rattle.layer_traits.specs.{SleepLaw.{SleepPolled, MayCall, MustSend, sleep_plan, pass_plan}, QLocking.{LockRules, LockState, lock_caller, lock_rules}}
+use Rattle.{layer_traits.specs.QLocking.{lock_moves, lock_after, owner_of, IsOwners, wait_list_in}, thread_blocks.specs.Queues.is_in}
 use Rattle.layer_traits.specs.declared.scheds.SchedCall.TheVariants as call
 
 -- all that says what the calls on a queuing lock mean

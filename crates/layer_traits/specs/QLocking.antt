@@ -1,11 +1,9 @@
 -- A lock with an owner: what its calls make of the owner and of the waiting lists; and the owner as a function of the history.
 use Rattle.std.specs.Prelude.{◌≡◌, ◌≢◌, List, [], Option, Some, None, is_some, if◌then◌else◌}
-use Rattle.event_log.specs.{declared.ids.LockId.LockId, declared.ids.Tid.Tid, Sections.Section, Sections.block_after}
-use Rattle.layer_traits.specs.declared.locked.{QEdit.QEdit, QEdit.TheVariants.Acquire, QEdit.TheVariants.Inside, QEdit.TheVariants.Release, QOut.QOut}
-use Rattle.layer_traits.specs.declared.locked.{QOut.TheVariants.Acquired, QOut.TheVariants.Queued, QOut.TheVariants.Did, QOut.TheVariants.Released, Side.Side}
-use Rattle.layer_traits.specs.declared.locked.{Side.TheVariants.Receivers, Side.TheVariants.Senders, WakeWaiter.WakeWaiter, WakeWaiter.TheVariants.Nobody}
-use Rattle.layer_traits.specs.declared.locked.{WakeWaiter.TheVariants.Receiver, WakeWaiter.TheVariants.Sender}
-use Rattle.layer_traits.specs.{declared.moves.WaitList.WaitList, declared.sleeps.Outcome.Outcome, MoveRules.MoveRules, Protocol.Rules, Sleeping.joined}
+use Rattle.{event_log.specs.{declared.ids.{LockId.LockId, Tid.Tid}, Sections.{Section, block_after}}, layer_traits.specs.declared.locked.QEdit.QEdit}
+use Rattle.layer_traits.specs.declared.locked.{QEdit.TheVariants.{Acquire, Inside, Release}, QOut.{QOut, TheVariants.{Acquired, Queued, Did, Released}}}
+use Rattle.layer_traits.specs.declared.locked.{Side.{Side, TheVariants.{Receivers, Senders}}, WakeWaiter.{WakeWaiter, TheVariants.{Nobody, Receiver, Sender}}}
+use Rattle.layer_traits.specs.{declared.{moves.WaitList.WaitList, sleeps.Outcome.Outcome}, MoveRules.MoveRules, Protocol.Rules, Sleeping.joined}
 use Rattle.thread_blocks.specs.Queues.{is_in, first, rest, without}
 use Rattle.layer_traits.specs.declared.moves.WaitList.TheVariants as wait_list
 

@@ -1,9 +1,8 @@
 -- The blocks of locks that guard queues of threads: nested, so that the homes, the pending queues and the blocks above them are all
 -- read off one opening.
 use Rattle.std.specs.Prelude.{◌≡◌, ◌≤◌, List, [], length, Option, Some, None, IsSome}
-use Rattle.event_log.specs.declared.ids.{CpuId.CpuId, LockId.LockId, LockId.TheVariants.Pending, LockId.TheVariants.Buffer, Tid.Tid, TheConstants.THREADS}
-use Rattle.layer_traits.specs.{declared.queue_edits.QueueBlock.QueueBlock, declared.queue_edits.QueueBlock.TheVariants.Queue}
-use Rattle.layer_traits.specs.{declared.queue_edits.QueueBlock.TheVariants.Above, Places.home_of}
+use Rattle.event_log.specs.declared.ids.{CpuId.CpuId, LockId.{LockId, TheVariants.{Pending, Buffer}}, Tid.Tid, TheConstants.THREADS}
+use Rattle.layer_traits.specs.{declared.queue_edits.QueueBlock.{QueueBlock, TheVariants.{Queue, Above}}, Places.home_of}
 
 -- the block of the layer above, where it is one
 abbrev pub above_of : {B : Type 0} → Option (QueueBlock B) → Option B

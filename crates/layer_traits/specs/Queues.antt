@@ -1,14 +1,12 @@
 -- Calls at shared queues as one list of events, newest first: pushes, takings, and edits of the blocks above. Which moves they make,
 -- after which of them which may come, what each answers, and what one poll of a call means.
 use Rattle.std.specs.Prelude.{◌≡◌, ◌<◌, List, [], ◌∷◌, ◌++◌, Option, Some, None, option_map, is_some, MatchOption, if◌then◌else◌}
-use Rattle.event_log.specs.declared.ids.{BufId.BufId, CpuId.CpuId, LockId.LockId, LockId.TheVariants.Pending, LockId.TheVariants.Buffer, TheConstants.CPUS}
-use Rattle.event_log.specs.{History.AreForeign, History.AreOthers, History.IsLawful, Sections.Section, Sections.block_after}
-use Rattle.layer_traits.specs.{declared.queue_edits.QueueBlock.QueueBlock, declared.queue_edits.QueueEdit.QueueEdit, MoveRules.MoveRules, MoveRules.edit_move}
-use Rattle.layer_traits.specs.{Places.Move, Places.Pushed, Places.Took, Places.Step, Places.step, Places.MayEdit, Places.MayPush, Places.pending_by, Plans.Plan}
-use Rattle.layer_traits.specs.{Plans.section_plan, Protocol.Rules, Protocol.section, QueueBlocks.inner, QueueBlocks.homes_in}
-use Rattle.layer_traits.specs.declared.queues.{QueueAnswer.QueueAnswer, QueueAnswer.TheVariants.Done, QueueAnswer.TheVariants.Taken}
-use Rattle.layer_traits.specs.declared.queues.{QueueAnswer.TheVariants.Answer, QueueCall.QueueCall, QueueCall.TheVariants.Push, QueueCall.TheVariants.TakeAll}
-use Rattle.layer_traits.specs.declared.queues.{QueueCall.TheVariants.OnBuffer, QueueEvent.QueueEvent}
+use Rattle.event_log.specs.{declared.ids.{BufId.BufId, CpuId.CpuId, LockId.{LockId, TheVariants.{Pending, Buffer}}, TheConstants.CPUS}, History.AreForeign}
+use Rattle.{event_log.specs.{History.{AreOthers, IsLawful}, Sections.{Section, block_after}}, layer_traits.specs.declared.queue_edits.QueueBlock.QueueBlock}
+use Rattle.layer_traits.specs.declared.{queue_edits.QueueEdit.QueueEdit, queues.QueueAnswer.{QueueAnswer, TheVariants.{Done, Taken, Answer}}}
+use Rattle.layer_traits.specs.{declared.queues.{QueueCall.{QueueCall, TheVariants.{Push, TakeAll, OnBuffer}}, QueueEvent.QueueEvent}, MoveRules.MoveRules}
+use Rattle.layer_traits.specs.{MoveRules.edit_move, Places.{Move, Pushed, Took, Step, step, MayEdit, MayPush, pending_by}, Plans.{Plan, section_plan}}
+use Rattle.layer_traits.specs.{Protocol.{Rules, section}, QueueBlocks.{inner, homes_in}}
 use Rattle.layer_traits.specs.declared.queue_edits.QueueEdit.TheVariants as edit
 
 -- what stands above shared queues: what its edits mean and what they do to places, its opening blocks, and the homes of all threads

@@ -1,8 +1,7 @@
 -- A layer that wraps its edits in those of the layer beneath: the same blocks, events and calls under the layer's own names.
-use Rattle.std.specs.Prelude.{List, Option, map, option_map}
-use Rattle.event_log.specs.declared.ids.LockId.{LockId}
-use Rattle.layer_traits.specs.{declared.queue_edits.QueueBlock.QueueBlock, declared.queue_edits.QueueEdit.QueueEdit, declared.queues.QueueCall.QueueCall}
-use Rattle.layer_traits.specs.{declared.queues.QueueEvent.QueueEvent, declared.scheds.SchedCall.SchedCall, Plans.Plan, Plans.Now, Plans.Act, Queues.event}
+use Rattle.{std.specs.Prelude.{List, Option, map, option_map}, event_log.specs.declared.ids.LockId.LockId}
+use Rattle.layer_traits.specs.declared.{queue_edits.{QueueBlock.QueueBlock, QueueEdit.QueueEdit}, queues.{QueueCall.QueueCall, QueueEvent.QueueEvent}}
+use Rattle.layer_traits.specs.{declared.scheds.SchedCall.SchedCall, Plans.{Plan, Now, Act}, Queues.event}
 use Rattle.layer_traits.specs.declared.queue_edits.QueueBlock.TheVariants as block
 use Rattle.layer_traits.specs.declared.queue_edits.QueueEdit.TheVariants as edit
 use Rattle.layer_traits.specs.declared.queues.QueueCall.TheVariants as queue

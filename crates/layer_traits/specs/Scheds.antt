@@ -1,16 +1,13 @@
 -- Calls of a scheduler: a pass from thread to thread, or an edit of a buffer's block by the thread that runs. What each makes of the
 -- CPU's own threads, which call it is at the shared queues, where it may come, and what one poll of it means.
 use Rattle.std.specs.Prelude.{◌≡◌, List, [], ◌∷◌, ◌++◌, Option, Some, None, IsSome, option_map, is_some, MatchOption, if◌then◌else◌}
-use Rattle.event_log.specs.{declared.ids.CpuId.CpuId, declared.ids.LockId.LockId, declared.ids.LockId.TheVariants.Buffer, History.AreForeign, History.AreOthers}
-use Rattle.event_log.specs.{History.IsLawful}
-use Rattle.layer_traits.specs.{declared.passes.Pass.Pass, declared.queue_edits.QueueEdit.QueueEdit, declared.queues.QueueAnswer.QueueAnswer}
-use Rattle.layer_traits.specs.{declared.queues.QueueCall.QueueCall, declared.queues.QueueEvent.QueueEvent, declared.scheds.SchedAnswer.SchedAnswer}
-use Rattle.layer_traits.specs.{declared.scheds.SchedAnswer.TheVariants.Done, declared.scheds.SchedAnswer.TheVariants.Answer}
-use Rattle.layer_traits.specs.{declared.scheds.SchedCall.SchedCall, MoveRules.MoveRules, Passes.MayPass, Passes.IsLocalPass, Passes.own_slept, Passes.own_woken}
-use Rattle.layer_traits.specs.{Passes.pass_after, Passes.passed_on, Passes.queue_for, Passes.took, Places.Threads, Places.pending_by, Plans.Left, Plans.Plan}
-use Rattle.layer_traits.specs.{Plans.Now, Plans.raised, Protocol.section, Queues.Kernel, Queues.QueueAllowed, Queues.buffer_sections, Queues.event}
-use Rattle.layer_traits.specs.{Queues.cpu_of_queue_event, Queues.moves_in, Queues.out_at, Queues.queue_plan}
-use Rattle.layer_traits.specs.declared.passes.Pass.TheVariants.{Switch, YieldNow, Drain, MakeReady, End}
+use Rattle.event_log.specs.{declared.ids.{CpuId.CpuId, LockId.{LockId, TheVariants.Buffer}}, History.{AreForeign, AreOthers, IsLawful}}
+use Rattle.layer_traits.specs.declared.{passes.Pass.{Pass, TheVariants.{Switch, YieldNow, Drain, MakeReady, End}}, queue_edits.QueueEdit.QueueEdit}
+use Rattle.layer_traits.specs.declared.{queues.{QueueAnswer.QueueAnswer, QueueCall.QueueCall, QueueEvent.QueueEvent}, scheds.SchedAnswer.SchedAnswer}
+use Rattle.layer_traits.specs.{declared.scheds.{SchedAnswer.TheVariants.{Done, Answer}, SchedCall.SchedCall}, MoveRules.MoveRules, Passes.MayPass}
+use Rattle.layer_traits.specs.{Passes.{IsLocalPass, own_slept, own_woken, pass_after, passed_on, queue_for, took}, Places.{Threads, pending_by}, Plans.Left}
+use Rattle.layer_traits.specs.{Plans.{Plan, Now, raised}, Protocol.section, Queues.{Kernel, QueueAllowed, buffer_sections, event, cpu_of_queue_event, moves_in}}
+use Rattle.layer_traits.specs.Queues.{out_at, queue_plan}
 use Rattle.layer_traits.specs.declared.queues.QueueAnswer.TheVariants as told
 use Rattle.layer_traits.specs.declared.queues.QueueCall.TheVariants as queue
 use Rattle.layer_traits.specs.declared.scheds.SchedCall.TheVariants as call

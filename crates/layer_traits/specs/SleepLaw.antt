@@ -1,13 +1,12 @@
 -- What one poll of a sleeping layer adds to the history, and what it leaves of the part's own state.
 use Rattle.std.specs.Prelude.{◌≡◌, Bool, not, ◌&&◌, List, ◌∷◌, ◌++◌, Option, Some, None, IsSome, option_map, is_some, if◌then◌else◌}
-use Rattle.event_log.specs.{declared.ids.BufId.BufId, declared.ids.CpuId.CpuId, declared.ids.LockId.LockId, declared.ids.Tid.Tid, History.AreForeign}
-use Rattle.layer_traits.specs.{declared.queue_edits.QueueBlock.QueueBlock, declared.queue_edits.QueueEdit.QueueEdit, declared.queues.QueueAnswer.QueueAnswer}
-use Rattle.layer_traits.specs.{declared.queues.QueueCall.TheVariants.Push, declared.queues.QueueCall.TheVariants.OnBuffer}
-use Rattle.layer_traits.specs.{declared.queues.QueueEvent.QueueEvent, declared.passes.Pass.Pass, declared.passes.Pass.TheVariants.MakeReady}
-use Rattle.layer_traits.specs.{declared.sleeps.Outcome.Outcome, MoveRules.MoveRules, Passes.queue_for, Passes.passed_on, Places.Threads, Plans.Left, Plans.Plan}
-use Rattle.layer_traits.specs.{Plans.raised, Queues.Kernel, Queues.kernel, Queues.event, Queues.cpu_of_queue_event, Queues.out_at, Scheds.EditStays}
-use Rattle.layer_traits.specs.{Scheds.own_answered, Scheds.sched_plan, Sleeping.SleepRules, Sleeping.SleepState, Sleeping.sleep_rules, Sleeping.sleep_moves}
-use Rattle.layer_traits.specs.declared.scheds.{SchedAnswer.SchedAnswer, SchedAnswer.TheVariants.Done, SchedAnswer.TheVariants.Answer, SchedCall.SchedCall}
+use Rattle.event_log.specs.{declared.ids.{BufId.BufId, CpuId.CpuId, LockId.LockId, Tid.Tid}, History.AreForeign}
+use Rattle.layer_traits.specs.declared.{queue_edits.{QueueBlock.QueueBlock, QueueEdit.QueueEdit}, queues.{QueueAnswer.QueueAnswer, QueueCall.TheVariants.Push}}
+use Rattle.layer_traits.specs.declared.{queues.{QueueCall.TheVariants.OnBuffer, QueueEvent.QueueEvent}, passes.Pass.{Pass, TheVariants.MakeReady}}
+use Rattle.layer_traits.specs.declared.{sleeps.Outcome.Outcome, scheds.{SchedAnswer.{SchedAnswer, TheVariants.{Done, Answer}}, SchedCall.SchedCall}}
+use Rattle.layer_traits.specs.{MoveRules.MoveRules, Passes.{queue_for, passed_on}, Places.Threads, Plans.{Left, Plan, raised}, Queues.{Kernel, kernel, event}}
+use Rattle.layer_traits.specs.{Queues.{cpu_of_queue_event, out_at}, Scheds.{EditStays, own_answered, sched_plan}, Sleeping.{SleepRules, SleepState}}
+use Rattle.layer_traits.specs.Sleeping.{sleep_rules, sleep_moves}
 use Rattle.layer_traits.specs.declared.scheds.SchedCall.TheVariants as call
 
 -- all that says what the sections of a sleeping layer mean

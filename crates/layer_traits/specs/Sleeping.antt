@@ -1,11 +1,9 @@
 -- The waiting lists of a lock, and what a section makes of them: who leaves one, and which its caller joins.
 use Rattle.std.specs.Prelude.{◌≡◌, ◌<◌, not, ◌&&◌, nat_lt, List, [], ◌∷◌, ◌++◌, Option, Some, None, is_some, if◌then◌else◌}
-use Rattle.event_log.specs.{declared.ids.LockId.LockId, declared.ids.TheConstants.THREADS, declared.ids.Tid.Tid, Sections.Section}
-use Rattle.layer_traits.specs.{declared.moves.WaitList.WaitList, declared.moves.WaitList.TheVariants.Sleepers, declared.moves.WaitList.TheVariants.Receivers}
-use Rattle.layer_traits.specs.{declared.moves.WaitList.TheVariants.Senders, declared.sleeps.Wake.Wake, declared.sleeps.Outcome.Outcome, MoveRules.MoveRules}
-use Rattle.layer_traits.specs.{MoveRules.section_moves, MoveRules.asleep_by, Protocol.Rules}
-use Rattle.layer_traits.specs.declared.sleeps.Wake.TheVariants.{Nobody, FirstSleeper, Receiver, Sender}
-use Rattle.thread_blocks.specs.Queues.{is_in, first, rest, without}
+use Rattle.event_log.specs.{declared.ids.{LockId.LockId, TheConstants.THREADS, Tid.Tid}, Sections.Section}
+use Rattle.layer_traits.specs.declared.{moves.WaitList.{WaitList, TheVariants.{Sleepers, Receivers, Senders}}, sleeps.Wake.{Wake, TheVariants.Nobody}}
+use Rattle.layer_traits.specs.{declared.sleeps.{Wake.TheVariants.{FirstSleeper, Receiver, Sender}, Outcome.Outcome}, MoveRules.{MoveRules, section_moves}}
+use Rattle.{layer_traits.specs.{MoveRules.asleep_by, Protocol.Rules}, thread_blocks.specs.Queues.{is_in, first, rest, without}}
 
 -- the block of a lock with its waiting lists, each with its first in front
 pub record SleepState (B : Type 0) : Type 0 where

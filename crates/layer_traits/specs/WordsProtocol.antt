@@ -1,9 +1,8 @@
 -- The protocol in a words log: its Frees are the sections, each with the edit that its mark tells. Only locks of words and what lies
 -- beneath them need it.
 use Rattle.std.specs.Prelude.{List, [], ◌∷◌}
-use Rattle.event_log.specs.{declared.events.Event.Event, History.IsLawful, WordsLog.IsLegalWords, WordsLog.MayFollow, Sections.Section, Sections.sections_of}
-use Rattle.event_log.specs.declared.events.Event.TheVariants.{Draw, Look, Free}
-use Rattle.layer_traits.specs.declared.edits.Mark.{Mark}
+use Rattle.event_log.specs.{declared.events.Event.{Event, TheVariants.{Draw, Look, Free}}, History.IsLawful, WordsLog.{IsLegalWords, MayFollow}}
+use Rattle.{event_log.specs.Sections.{Section, sections_of}, layer_traits.specs.declared.edits.Mark.Mark}
 
 -- the edit that a mark tells
 abbrev pub edit_of : {E : Type 0} → Mark E → E

@@ -3,8 +3,7 @@
 //! Only `BlockBox::new` takes memory, and no call waits.
 
 ghost use Rattle.std.specs.Prelude.{◌≡◌, ◌<◌, ◌++◌, ◌∷◌, [], false, IfOk};
-ghost use Rattle.event_log.specs.declared.ids.TheConstants.{THREADS};
-ghost use Rattle.thread_blocks.specs.Queues.{is_in};
+ghost use Rattle.{event_log.specs.declared.ids.TheConstants.THREADS, thread_blocks.specs.Queues.is_in};
 
 use crate::edits::SplitEdit;
 use crate::payloads::Payload;

@@ -3,9 +3,8 @@
 //! No call takes memory, and none waits.
 
 ghost use Rattle.std.specs.Prelude.{◌≡◌, ◌≤◌, ◌++◌, ◌∷◌, [], if◌then◌else◌};
-ghost use Rattle.event_log.specs.declared.ids.TheConstants.{CAPACITY};
-ghost use Rattle.layer_traits.specs.declared.buffer_edits.BufferEdit.TheVariants.{Enter, TryPut, TryTake, Shut};
-ghost use Rattle.layer_traits.specs.{declared.locked.Side.TheVariants.Receivers, declared.locked.Side.TheVariants.Senders, Payloads.buffer_told};
+ghost use Rattle.{event_log.specs.declared.ids.TheConstants.CAPACITY, layer_traits.specs.declared.buffer_edits.BufferEdit.TheVariants.{Enter, TryPut, TryTake}};
+ghost use Rattle.layer_traits.specs.{declared.{buffer_edits.BufferEdit.TheVariants.Shut, locked.Side.TheVariants.{Receivers, Senders}}, Payloads.buffer_told};
 ghost use Rattle.layer_traits.specs.BufferBlocks.{buffer_answer, buffer_edited, empty_block, front_ready, is_first, may_go, may_join};
 
 use crate::buffer_edits::{BareBufferEdit, BareBufferOut, BufferEdit, BufferOut};
@@ -35,8 +34,7 @@ pub struct BufferBlock {
 
 impl Model for BufferBlock {
     ghost use Rattle.std.specs.Prelude.{◌≤◌, length};
-    ghost use Rattle.event_log.specs.declared.ids.TheConstants.{CAPACITY};
-    ghost use Rattle.layer_traits.specs.BufferBlocks.{BufferState};
+    ghost use Rattle.{event_log.specs.declared.ids.TheConstants.CAPACITY, layer_traits.specs.BufferBlocks.BufferState};
 
     ghost Value = { BufferState };
 
@@ -270,7 +268,6 @@ impl Guarded for BufferEdit {
         }
     }
 
-    #[inline(always)]
     fn whole(handed: &BareBufferEdit, parcel: &Parcel) -> BufferEdit {
         match handed {
             BareBufferEdit::Enter(t, side) => BufferEdit::Enter(*t, *side),

@@ -4,19 +4,17 @@
 //! No call takes memory, and none waits.
 
 ghost use Rattle.std.specs.Prelude.{◌≡◌, ◌≢◌, ℕ, ◌<◌, ◌≤◌, Bool, true, false, List, [], Option, Some, None, IsSome, length, map, replicate};
-ghost use Rattle.event_log.specs.declared.ids.{CpuId.CpuId, Tid.Tid, BufId.BufId, LockId.LockId, TheConstants.THREADS};
-ghost use Rattle.layer_traits.specs.{declared.calls.Call.Call, declared.calls.Reply.Reply, declared.buffer_edits.BufferEdit.BufferEdit};
-ghost use Rattle.layer_traits.specs.{declared.moves.WaitList.WaitList, declared.queue_edits.QueueEdit.QueueEdit, declared.queue_edits.QueueBlock.QueueBlock};
-ghost use Rattle.layer_traits.specs.{declared.call_states.CallState.CallState, Acted.MovesAre, Conditions.CvCall, Places.Step, Places.Stands, Places.Threads};
-ghost use Rattle.layer_traits.specs.{Places.AreMoves, Places.at_boot, Plans.Follows, Plans.table_of, Plans.is_in_section, Framed.Framed, Looks.Tries, Spins.BeginWith, Spins.Spun, Spins.Misses};
-ghost use Rattle.layer_traits.specs.{QueueBlocks.StartsWell, QueueBlocks.homes_in, QueueBlocks.inner, Queues.buffer_sections, Queues.event_of};
-ghost use Rattle.layer_traits.specs.{QueueRules.queue_rules, Passes.MayPass, Passes.IsLocalPass, Passes.PassPolled, QLocking.lock_moves, QLocking.lock_rules};
-ghost use Rattle.layer_traits.specs.{BufferProtocol.BufferLock, BufferProtocol.buffer_rules, BufferEffects.MayTakeEffect, BufferEffects.effects_in};
-ghost use Rattle.layer_traits.specs.{IpcLaw.WaitListsAgree, IpcLaw.NothingDone, IpcLaw.OpensSo, PollRuns.PolledOn};
-ghost use Rattle.layer_traits.specs.BufferLaw.{BufferPlan, Buffering, Called, answer_in, reply_with, Calling, UnderWay, IsRefused, MayGoOn, MayPollCall};
-ghost use Rattle.layer_traits.specs.BufferLaw.{MovesGrow, OthersSeen, Passing, RunsOn, buffer_of, buffering_at_start, fifo_pass_plan, no_call, still_calling};
-ghost use Rattle.layer_traits.specs.BufferLaw.{still_passing, call_state_of, message_of};
-ghost use Rattle.event_log.specs.{declared.entries.Entry.Entry, History.IsLawful, Actions.Action, Actions.AreLegal, Actions.phase, Sections.sections_in};
+ghost use Rattle.event_log.specs.declared.{ids.{CpuId.CpuId, Tid.Tid, BufId.BufId, LockId.LockId, TheConstants.THREADS}, entries.Entry.Entry};
+ghost use Rattle.{event_log.specs.{History.IsLawful, Actions.{Action, AreLegal, phase}, Sections.sections_in}, layer_traits.specs.declared.calls.Call.Call};
+ghost use Rattle.layer_traits.specs.declared.{calls.Reply.Reply, buffer_edits.BufferEdit.BufferEdit, moves.WaitList.WaitList, queue_edits.QueueEdit.QueueEdit};
+ghost use Rattle.layer_traits.specs.{declared.{queue_edits.QueueBlock.QueueBlock, call_states.CallState.CallState}, Acted.MovesAre, Conditions.CvCall};
+ghost use Rattle.layer_traits.specs.{Places.{Step, Stands, Threads, AreMoves, at_boot}, Plans.{Follows, table_of, is_in_section}, Framed.Framed, Looks.Tries};
+ghost use Rattle.layer_traits.specs.{Spins.{BeginWith, Spun, Misses}, QueueBlocks.{StartsWell, homes_in, inner}, Queues.{buffer_sections, event_of}};
+ghost use Rattle.layer_traits.specs.{QueueRules.queue_rules, Passes.{MayPass, IsLocalPass, PassPolled}, QLocking.{lock_moves, lock_rules}};
+ghost use Rattle.layer_traits.specs.{BufferProtocol.{BufferLock, buffer_rules}, BufferEffects.{MayTakeEffect, effects_in}, IpcLaw.WaitListsAgree};
+ghost use Rattle.layer_traits.specs.{IpcLaw.{NothingDone, OpensSo}, PollRuns.PolledOn, BufferLaw.{BufferPlan, Buffering, Called, answer_in, reply_with}};
+ghost use Rattle.layer_traits.specs.BufferLaw.{Calling, UnderWay, IsRefused, MayGoOn, MayPollCall, MovesGrow, OthersSeen, Passing, RunsOn, buffer_of};
+ghost use Rattle.layer_traits.specs.BufferLaw.{buffering_at_start, fifo_pass_plan, no_call, still_calling, still_passing, call_state_of, message_of};
 
 use crate::calls::{Call, Effect, PollRun, Reply, ReplyKind};
 use crate::own_threads::OwnThreads;

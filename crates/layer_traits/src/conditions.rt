@@ -127,7 +127,6 @@ impl<G: Guarded> Locked for CvEdit<G> {
         }
     }
 
-    #[inline(always)]
     fn whole(handed: &CvEdit<G::Handed>, parcel: &Parcel) -> CvEdit<G> {
         match handed {
             CvEdit::Edit(edit) => CvEdit::Edit(G::whole(edit, parcel)),

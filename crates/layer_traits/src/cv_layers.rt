@@ -3,15 +3,13 @@
 //! No call takes memory, and none waits.
 
 ghost use Rattle.std.specs.Prelude.{◌≡◌, ◌⊎◌, ◌≤◌, [], IsSome, None, length, map};
-ghost use Rattle.layer_traits.specs.{CvLaw.Waiting, CvLaw.waiting_at_start, CvLaw.CvPolled, CvLaw.MayCallCond, CvLaw.MustStay, CvLaw.cv_plan};
-ghost use Rattle.layer_traits.specs.{CvLaw.cv_pass_plan, Conditions.cv_rules, QLockLaw.LockAgrees, QLockLaw.lock_kernel, QLockLaw.slept_for, QLockLaw.is_handed};
-ghost use Rattle.layer_traits.specs.{QLocking.AreAtRest, QLocking.lock_after, QLocking.lock_caller, QLocking.lock_moves, QLocking.lock_rules, Owned.wait_list_under};
-ghost use Rattle.layer_traits.specs.{Payloads.cv_meant, Payloads.cv_told, Payloads.lock_meant, Payloads.lock_told, Payloads.outcome_told, Places.AreMoves};
-ghost use Rattle.layer_traits.specs.{Places.pending_by, Plans.table_of, QueueBlocks.StartsWell, QueueBlocks.homes_in, QueueBlocks.inner, QueueRules.AreProper};
-ghost use Rattle.layer_traits.specs.{QueueRules.queue_rules, Queues.QueueAllowed, Queues.buffer_sections, Queues.cpu_of_queue_event, Queues.event_of};
-ghost use Rattle.layer_traits.specs.{Queues.moves_in, Scheds.SchedPolled, SleepLaw.done_if};
-ghost use Rattle.event_log.specs.{declared.ids.LockId.TheVariants.Buffer, declared.ids.LockId.TheVariants.Pending, declared.ids.TheConstants.THREADS};
-ghost use Rattle.event_log.specs.{Sections.sections_in};
+ghost use Rattle.layer_traits.specs.{CvLaw.{Waiting, waiting_at_start, CvPolled, MayCallCond, MustStay, cv_plan, cv_pass_plan}, Conditions.cv_rules};
+ghost use Rattle.layer_traits.specs.{QLockLaw.{LockAgrees, lock_kernel, slept_for, is_handed}, QLocking.{AreAtRest, lock_after, lock_caller, lock_moves}};
+ghost use Rattle.layer_traits.specs.{QLocking.lock_rules, Owned.wait_list_under, Payloads.{cv_meant, cv_told, lock_meant, lock_told, outcome_told}};
+ghost use Rattle.layer_traits.specs.{Places.{AreMoves, pending_by}, Plans.table_of, QueueBlocks.{StartsWell, homes_in, inner}, QueueRules.AreProper};
+ghost use Rattle.layer_traits.specs.{QueueRules.queue_rules, Queues.{QueueAllowed, buffer_sections, cpu_of_queue_event, event_of, moves_in}};
+ghost use Rattle.{layer_traits.specs.{Scheds.SchedPolled, SleepLaw.done_if}, event_log.specs.declared.ids.LockId.TheVariants.{Buffer, Pending}};
+ghost use Rattle.event_log.specs.{declared.ids.TheConstants.THREADS, Sections.sections_in};
 ghost use Rattle.layer_traits.specs.declared.scheds.SchedCall.TheVariants as sched;
 
 use crate::conditions::{CvEdit, CvLeave, CvOut, Guarded};

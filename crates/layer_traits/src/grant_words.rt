@@ -14,11 +14,10 @@ use event_log::{CpuId, GrantEvent, LockId};
 ///
 /// No call takes memory, and each succeeds.
 pub trait GrantWords {
-    ghost use Rattle.event_log.specs.{declared.ids.CpuId.CpuId, declared.ids.LockId.LockId, Grants.cpu_of_grant, Grants.grant_lock_phase, History.Adds};
-    ghost use Rattle.event_log.specs.{History.IsLawful, WordsLog.Idle, WordsLog.Waiting, WordsLog.Holding, Sections.block_after};
-    ghost use Rattle.event_log.specs.declared.grants.GrantEvent.{GrantEvent, TheVariants.Take, TheVariants.Peek, TheVariants.Give};
-    ghost use Rattle.layer_traits.specs.{declared.edits.Mark.Mark, GrantProtocol.grant_sections, GrantProtocol.GrantMayCome, Protocol.section};
-    ghost use Rattle.layer_traits.specs.{Protocol.StaysAllowed, WordsProtocol.mark_of, Spins.BeginWith};
+    ghost use Rattle.event_log.specs.declared.{ids.{CpuId.CpuId, LockId.LockId}, grants.GrantEvent.{GrantEvent, TheVariants.{Take, Peek, Give}}};
+    ghost use Rattle.event_log.specs.{Grants.{cpu_of_grant, grant_lock_phase}, History.{Adds, IsLawful}, WordsLog.{Idle, Waiting, Holding}};
+    ghost use Rattle.{event_log.specs.Sections.block_after, layer_traits.specs.{declared.edits.Mark.Mark, GrantProtocol.{grant_sections, GrantMayCome}}};
+    ghost use Rattle.layer_traits.specs.{Protocol.{section, StaysAllowed}, WordsProtocol.mark_of, Spins.BeginWith};
 
     /// The edits of the sections.
     type Edit: SplitEdit;

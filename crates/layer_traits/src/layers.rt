@@ -3,10 +3,9 @@
 //! No call takes memory, and none waits.
 
 ghost use Rattle.std.specs.Prelude.{◌≡◌, ℕ, ◌<◌, ◌≤◌, length, true, false, Bool, List, [], Option, None, Some, OnSome, if◌then◌else◌};
-ghost use Rattle.event_log.specs.{declared.ids.CpuId.CpuId, declared.ids.LockId.LockId, Actions.Action, Actions.AreLegal, Actions.phase};
-ghost use Rattle.event_log.specs.{declared.ids.TheConstants.CPUS, History.IsLawful, History.Grows};
-ghost use Rattle.layer_traits.specs.{declared.payloads.Payload.Payload, Payloads.told_by, Plans.Plan, Plans.Table, Plans.Follows, Plans.is_in_section};
-ghost use Rattle.layer_traits.specs.{Framed.Framed, Looks.Tries, Spins.BeginWith, Spins.Spun, Spins.Misses};
+ghost use Rattle.event_log.specs.{declared.ids.{CpuId.CpuId, LockId.LockId, TheConstants.CPUS}, Actions.{Action, AreLegal, phase}, History.{IsLawful, Grows}};
+ghost use Rattle.layer_traits.specs.{declared.payloads.Payload.Payload, Payloads.told_by, Plans.{Plan, Table, Follows, is_in_section}, Framed.Framed};
+ghost use Rattle.layer_traits.specs.{Looks.Tries, Spins.{BeginWith, Spun, Misses}};
 
 use crate::payloads::Payload;
 use event_log::{CpuId, LockId};

@@ -3,8 +3,8 @@
 //! No call takes memory, and none waits.
 
 ghost use Rattle.std.specs.Prelude.{◌≡◌, IsSome, is_some};
-ghost use Rattle.event_log.specs.Sections.{Section, cpu_of_section, sections_in};
-ghost use Rattle.layer_traits.specs.{Protocol.section, Plans.section_plan, Plans.table_of, Polls.MayPoll, Polls.Polled, Polls.until_answered};
+ghost use Rattle.{event_log.specs.Sections.{Section, cpu_of_section, sections_in}, layer_traits.specs.{Protocol.section, Plans.{section_plan, table_of}}};
+ghost use Rattle.layer_traits.specs.Polls.{MayPoll, Polled, until_answered};
 
 use crate::edits::SplitEdit;
 use crate::layers::{Law, Layer};

@@ -14,12 +14,10 @@ use std::alloc::Global;
 /// The top of a tower whose machine is opened with its blocks and tells of those that are at home,
 /// and whose parts tell of those in their CPU's hands, and of where a thread stands.
 pub trait Owned: CallLayer<IpcLaw> {
-    ghost use Rattle.std.specs.List.{AllByRecursion};
-    ghost use Rattle.event_log.specs.{declared.ids.BufId.BufId, declared.ids.CpuId.CpuId, declared.ids.Tid.Tid, declared.ids.TheConstants.CPUS};
-    ghost use Rattle.event_log.specs.{Actions.phase, Buffers.items_of, Messages.Message, Runs.is_closed};
-    ghost use Rattle.layer_traits.specs.{declared.calls.Place.Place, Acted.ItemsAre, Acted.owner_after, BufferEffects.contents_of, Openings.AreOpenable};
-    ghost use Rattle.layer_traits.specs.{Openings.Opened, Places.home_of, Places.where_is, Observed.IsOwnPlace, Observed.IsObservedAs, Observed.ReadsPlace};
-    ghost use Rattle.layer_traits.specs.{Observed.queue_place, Plans.is_in_section};
+    ghost use Rattle.{std.specs.List.AllByRecursion, event_log.specs.{declared.ids.{BufId.BufId, CpuId.CpuId, Tid.Tid, TheConstants.CPUS}, Actions.phase}};
+    ghost use Rattle.{event_log.specs.{Buffers.items_of, Messages.Message, Runs.is_closed}, layer_traits.specs.{declared.calls.Place.Place, Acted.ItemsAre}};
+    ghost use Rattle.layer_traits.specs.{Acted.owner_after, BufferEffects.contents_of, Openings.{AreOpenable, Opened}, Places.{home_of, where_is}};
+    ghost use Rattle.layer_traits.specs.{Observed.{IsOwnPlace, IsObservedAs, ReadsPlace, queue_place}, Plans.is_in_section};
 
     /// The owner of the lock of a buffer, as its last section left it.
     ghost owner: { Self.Machine → BufId → Option Tid };

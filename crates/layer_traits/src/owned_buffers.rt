@@ -13,12 +13,10 @@ use event_log::{BufId, CAPACITY, CpuId, Msg, Tid};
 /// A layer of buffers whose machine tells of the blocks that are at home, and whose parts tell of
 /// those in their CPU's hands.
 pub trait OwnedBuffers: CallLayer<BufferLaw> {
-    ghost use Rattle.std.specs.List.{AllByRecursion};
-    ghost use Rattle.event_log.specs.{declared.ids.BufId.BufId, declared.ids.CpuId.CpuId, declared.ids.LockId.TheVariants.Pending, declared.ids.Tid.Tid};
+    ghost use Rattle.{std.specs.List.AllByRecursion, event_log.specs.declared.ids.{BufId.BufId, CpuId.CpuId, LockId.TheVariants.Pending, Tid.Tid}};
     ghost use Rattle.event_log.specs.{declared.ids.TheConstants.CPUS, Actions.phase, Buffers.items_of, Messages.Message, Runs.is_closed};
-    ghost use Rattle.layer_traits.specs.{declared.moves.WaitList.WaitList, Acted.ItemsAre, Acted.owner_after, BufferEffects.contents_of, Owned.wait_list_among};
-    ghost use Rattle.layer_traits.specs.{Places.pending_by, Plans.is_in_section, Observed.IsObservedAs};
-    ghost use Rattle.thread_blocks.specs.Queues.{is_in};
+    ghost use Rattle.layer_traits.specs.{declared.moves.WaitList.WaitList, Acted.{ItemsAre, owner_after}, BufferEffects.contents_of, Owned.wait_list_among};
+    ghost use Rattle.{layer_traits.specs.{Places.pending_by, Plans.is_in_section, Observed.IsObservedAs}, thread_blocks.specs.Queues.is_in};
 
     /// The owner of the lock of a buffer, as its last section left it.
     ghost owner: { Self.Machine → BufId → Option Tid };

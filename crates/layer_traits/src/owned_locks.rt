@@ -13,9 +13,8 @@ use std::alloc::Global;
 /// A layer of critical sections whose machine is opened with its blocks and tells of those that are
 /// at home, and whose parts tell of those in their CPU's hands.
 pub trait OwnedLocks<E: SplitEdit>: Layer<LockLaw<E>> {
-    ghost use Rattle.event_log.specs.{declared.ids.CpuId.CpuId, declared.ids.LockId.LockId, declared.ids.TheConstants.CPUS, Actions.phase};
-    ghost use Rattle.event_log.specs.{Sections.block_after};
-    ghost use Rattle.layer_traits.specs.{OneLock.AreDistinct, OneLock.opened, Owned.IsObserved, Plans.is_in_section};
+    ghost use Rattle.event_log.specs.{declared.ids.{CpuId.CpuId, LockId.LockId, TheConstants.CPUS}, Actions.phase, Sections.block_after};
+    ghost use Rattle.layer_traits.specs.{OneLock.{AreDistinct, opened}, Owned.IsObserved, Plans.is_in_section};
 
     /// The block of a lock where it is at home in the machine.
     ghost block_at: { Self.Machine → LockId → Option E.Block };

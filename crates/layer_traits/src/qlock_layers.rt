@@ -3,15 +3,12 @@
 //! No call takes memory, and none waits.
 
 ghost use Rattle.std.specs.Prelude.{◌≡◌, ◌≤◌, [], IsSome, None, length, map};
-ghost use Rattle.layer_traits.specs.{QLocking.LockState, QLocking.AreAtRest, QLocking.lock_after, QLocking.lock_caller, QLocking.lock_moves, QLocking.lock_rules};
-ghost use Rattle.layer_traits.specs.{QLockLaw.Locking, QLockLaw.at_start, QLockLaw.LockAgrees, QLockLaw.LockPolled, QLockLaw.MayCallLock, QLockLaw.MustWait};
-ghost use Rattle.layer_traits.specs.{QLockLaw.lock_kernel, QLockLaw.lock_plan, QLockLaw.slept_for, QLockLaw.is_handed, QLockLaw.lock_pass_plan};
-ghost use Rattle.layer_traits.specs.{Owned.wait_list_under, Payloads.lock_meant, Payloads.lock_told, Payloads.outcome_told, Places.AreMoves, Places.pending_by};
-ghost use Rattle.layer_traits.specs.{Plans.table_of, QueueBlocks.StartsWell, QueueBlocks.homes_in, QueueBlocks.inner, QueueRules.AreProper};
-ghost use Rattle.layer_traits.specs.{QueueRules.queue_rules, Queues.QueueAllowed, Queues.buffer_sections, Queues.cpu_of_queue_event, Queues.event_of};
-ghost use Rattle.layer_traits.specs.{Queues.moves_in, Scheds.SchedPolled, SleepLaw.done_if};
-ghost use Rattle.event_log.specs.{declared.ids.LockId.TheVariants.Buffer, declared.ids.LockId.TheVariants.Pending, declared.ids.TheConstants.THREADS};
-ghost use Rattle.event_log.specs.{Sections.sections_in};
+ghost use Rattle.layer_traits.specs.{QLocking.{LockState, AreAtRest, lock_after, lock_caller, lock_moves, lock_rules}, QLockLaw.{Locking, at_start}};
+ghost use Rattle.layer_traits.specs.QLockLaw.{LockAgrees, LockPolled, MayCallLock, MustWait, lock_kernel, lock_plan, slept_for, is_handed, lock_pass_plan};
+ghost use Rattle.layer_traits.specs.{Owned.wait_list_under, Payloads.{lock_meant, lock_told, outcome_told}, Places.{AreMoves, pending_by}, Plans.table_of};
+ghost use Rattle.layer_traits.specs.{QueueBlocks.{StartsWell, homes_in, inner}, QueueRules.{AreProper, queue_rules}, Queues.{QueueAllowed, buffer_sections}};
+ghost use Rattle.layer_traits.specs.{Queues.{cpu_of_queue_event, event_of, moves_in}, Scheds.SchedPolled, SleepLaw.done_if};
+ghost use Rattle.event_log.specs.{declared.ids.{LockId.TheVariants.{Buffer, Pending}, TheConstants.THREADS}, Sections.sections_in};
 ghost use Rattle.layer_traits.specs.declared.scheds.SchedCall.TheVariants as sched;
 
 use crate::layers::Law;

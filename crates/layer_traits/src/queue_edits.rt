@@ -51,7 +51,6 @@ impl<E: Moves> SplitEdit for QueueEdit<E> {
 
     ghost told = { queue_told E.told };
 
-    #[inline(always)]
     fn whole(handed: &QueueEdit<E::Handed>, payload: &Payload) -> QueueEdit<E> {
         match handed {
             QueueEdit::Push(t) => QueueEdit::Push(*t),

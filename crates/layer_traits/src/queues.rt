@@ -3,11 +3,10 @@
 //! No call takes memory, and none waits.
 
 ghost use Rattle.std.specs.Prelude.{◌≡◌, IsSome, is_some, map};
-ghost use Rattle.event_log.specs.{declared.ids.LockId.TheVariants.Buffer, Sections.block_after, Sections.sections_in};
-ghost use Rattle.layer_traits.specs.{Payloads.call_meant, Payloads.queue_told, Places.pending_by, Plans.table_of, Polls.until_answered, QueueBlocks.StartsWell};
-ghost use Rattle.layer_traits.specs.{QueueBlocks.inner, QueueRules.AreProper, QueueRules.queue_rules, Queues.MayQueue, Queues.QueueAllowed, Queues.QueuePolled};
-ghost use Rattle.layer_traits.specs.{Queues.buffer_sections, Queues.cpu_of_queue_event, Queues.event, Queues.event_of, Queues.kernel, Queues.lock_of};
-ghost use Rattle.layer_traits.specs.{Queues.moves_in, Queues.queue_plan};
+ghost use Rattle.{event_log.specs.{declared.ids.LockId.TheVariants.Buffer, Sections.{block_after, sections_in}}, layer_traits.specs.Payloads.call_meant};
+ghost use Rattle.layer_traits.specs.{Payloads.queue_told, Places.pending_by, Plans.table_of, Polls.until_answered, QueueBlocks.{StartsWell, inner}};
+ghost use Rattle.layer_traits.specs.{QueueRules.{AreProper, queue_rules}, Queues.{MayQueue, QueueAllowed, QueuePolled, buffer_sections, cpu_of_queue_event}};
+ghost use Rattle.layer_traits.specs.Queues.{event, event_of, kernel, lock_of, moves_in, queue_plan};
 
 use crate::layers::{Law, Layer};
 use crate::moves::Moves;

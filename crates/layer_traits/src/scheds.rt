@@ -1,12 +1,10 @@
 //! The layer of schedulers. No call takes memory or waits.
 
 ghost use Rattle.std.specs.Prelude.{◌≡◌, ◌≢◌, ◌≤◌, true, false, length, [], IsSome, is_some, map};
-ghost use Rattle.layer_traits.specs.{Places.at_boot, Places.pending_by, Places.Stands, Payloads.sched_meant, Payloads.sched_told, Plans.table_of};
-ghost use Rattle.layer_traits.specs.{Polls.until_answered, QueueBlocks.StartsWell, QueueBlocks.homes_in, QueueBlocks.inner, QueueRules.AreProper};
-ghost use Rattle.layer_traits.specs.{QueueRules.queue_rules, Scheds.BufferIsThere, Scheds.IsLocal, Scheds.MaySched, Scheds.SchedPolled, Scheds.sched_plan};
-ghost use Rattle.event_log.specs.{declared.ids.LockId.TheVariants.Buffer, declared.ids.LockId.TheVariants.Pending, declared.ids.TheConstants.THREADS};
-ghost use Rattle.event_log.specs.{Sections.block_after, Sections.sections_in};
-ghost use Rattle.layer_traits.specs.Queues.{QueueAllowed, buffer_sections, cpu_of_queue_event, event_of, kernel, moves_in};
+ghost use Rattle.layer_traits.specs.{Places.{at_boot, pending_by, Stands}, Payloads.{sched_meant, sched_told}, Plans.table_of, Polls.until_answered};
+ghost use Rattle.layer_traits.specs.{QueueBlocks.{StartsWell, homes_in, inner}, QueueRules.{AreProper, queue_rules}, Scheds.{BufferIsThere, IsLocal, MaySched}};
+ghost use Rattle.layer_traits.specs.{Scheds.{SchedPolled, sched_plan}, Queues.{QueueAllowed, buffer_sections, cpu_of_queue_event, event_of, kernel, moves_in}};
+ghost use Rattle.event_log.specs.{declared.ids.{LockId.TheVariants.{Buffer, Pending}, TheConstants.THREADS}, Sections.{block_after, sections_in}};
 
 use crate::layers::{Law, Layer};
 use crate::moves::Moves;

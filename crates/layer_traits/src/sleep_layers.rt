@@ -3,14 +3,12 @@
 //! No call takes memory, and none waits.
 
 ghost use Rattle.std.specs.Prelude.{◌≡◌, ◌≤◌, [], IsSome, None, length, map, false};
-ghost use Rattle.layer_traits.specs.{Sleeping.SleepState, Sleeping.NobodySleeps, Sleeping.sleep_edited, Sleeping.sleep_moves, Sleeping.sleep_rules};
-ghost use Rattle.layer_traits.specs.{Places.at_boot, Places.pending_by, Places.AreMoves, ListsAgree.SleepAgrees, Owned.wait_list_with, Payloads.outcome_told};
-ghost use Rattle.layer_traits.specs.{Plans.table_of, Polls.until_answered, QueueBlocks.StartsWell, QueueBlocks.homes_in, QueueBlocks.inner};
-ghost use Rattle.layer_traits.specs.{QueueRules.AreProper, QueueRules.queue_rules, Queues.QueueAllowed, Queues.buffer_sections, Queues.cpu_of_queue_event};
-ghost use Rattle.layer_traits.specs.{Queues.event_of, Queues.moves_in, Scheds.SchedPolled};
-ghost use Rattle.layer_traits.specs.SleepLaw.{Sleeping, MayCall, MaySleep, MustSend, SleepPolled, sleep_kernel, sleep_plan, done_if, pass_plan};
-ghost use Rattle.event_log.specs.{declared.ids.LockId.TheVariants.Buffer, declared.ids.LockId.TheVariants.Pending, declared.ids.TheConstants.THREADS};
-ghost use Rattle.event_log.specs.{Sections.block_after, Sections.sections_in};
+ghost use Rattle.layer_traits.specs.{Sleeping.{SleepState, NobodySleeps, sleep_edited, sleep_moves, sleep_rules}, Places.{at_boot, pending_by, AreMoves}};
+ghost use Rattle.layer_traits.specs.{ListsAgree.SleepAgrees, Owned.wait_list_with, Payloads.outcome_told, Plans.table_of, Polls.until_answered};
+ghost use Rattle.layer_traits.specs.{QueueBlocks.{StartsWell, homes_in, inner}, QueueRules.{AreProper, queue_rules}, Queues.{QueueAllowed, buffer_sections}};
+ghost use Rattle.layer_traits.specs.{Queues.{cpu_of_queue_event, event_of, moves_in}, Scheds.SchedPolled, SleepLaw.{Sleeping, MayCall, MaySleep, MustSend}};
+ghost use Rattle.layer_traits.specs.SleepLaw.{SleepPolled, sleep_kernel, sleep_plan, done_if, pass_plan};
+ghost use Rattle.event_log.specs.{declared.ids.{LockId.TheVariants.{Buffer, Pending}, TheConstants.THREADS}, Sections.{block_after, sections_in}};
 ghost use Rattle.layer_traits.specs.declared.scheds.SchedCall.TheVariants as sched;
 
 use crate::layers::Law;

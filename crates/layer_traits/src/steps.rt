@@ -2,8 +2,7 @@
 //!
 //! No call takes memory, and none waits.
 
-ghost use Rattle.std.specs.Prelude.{length, IsTrue};
-ghost use Rattle.layer_traits.specs.Spins.{BeginWith};
+ghost use Rattle.{std.specs.Prelude.{length, IsTrue}, layer_traits.specs.Spins.BeginWith};
 
 use event_log::CpuId;
 

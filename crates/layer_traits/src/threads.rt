@@ -7,10 +7,9 @@
 //! No call takes memory, and none waits.
 
 ghost use Rattle.std.specs.Prelude.{◌≡◌, ◌≢◌, ℕ, ◌<◌, ◌≤◌, length, true, false, Bool, List, [], Option, None, Some, IsSome, OnSome, is_some, if◌then◌else◌};
-ghost use Rattle.event_log.specs.{declared.ids.CpuId.CpuId, declared.ids.LockId.LockId, declared.ids.TheConstants.CPUS, Actions.Action, Actions.AreLegal};
-ghost use Rattle.event_log.specs.{Actions.phase, History.IsLawful, History.Grows};
-ghost use Rattle.layer_traits.specs.{declared.passes.Pass.Pass, Places.Threads, Payloads.told_by, Plans.Plan, Plans.Follows, Plans.is_in_section};
-ghost use Rattle.layer_traits.specs.{Framed.Framed, Looks.Tries, Spins.BeginWith, Spins.Spun, Spins.Misses, Passes.IsLocalPass, Passes.MayPass, Polls.until_answered, SleepLaw.MayCall};
+ghost use Rattle.event_log.specs.{declared.ids.{CpuId.CpuId, LockId.LockId, TheConstants.CPUS}, Actions.{Action, AreLegal, phase}, History.{IsLawful, Grows}};
+ghost use Rattle.layer_traits.specs.{declared.passes.Pass.Pass, Places.Threads, Payloads.told_by, Plans.{Plan, Follows, is_in_section}, Framed.Framed};
+ghost use Rattle.layer_traits.specs.{Looks.Tries, Spins.{BeginWith, Spun, Misses}, Passes.{IsLocalPass, MayPass}, Polls.until_answered, SleepLaw.MayCall};
 
 use crate::layers::Law;
 use crate::own_threads::OwnThreads;

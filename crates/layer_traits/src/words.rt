@@ -16,11 +16,10 @@ use event_log::{CpuId, Event, LockId};
 ///
 /// No call takes memory, and each succeeds.
 pub trait Words {
-    ghost use Rattle.event_log.specs.{declared.ids.CpuId.CpuId, declared.ids.LockId.LockId, History.Adds, History.IsLawful, WordsLog.cpu_of_event};
-    ghost use Rattle.event_log.specs.{WordsLog.lock_phase, WordsLog.Idle, WordsLog.Waiting, WordsLog.Holding, Sections.Section, Sections.block_after};
-    ghost use Rattle.event_log.specs.declared.events.Event.{Event, TheVariants.Draw, TheVariants.Look, TheVariants.Free};
-    ghost use Rattle.layer_traits.specs.{declared.edits.Mark.Mark, Protocol.section, Protocol.StaysAllowed, WordsProtocol.mark_of, WordsProtocol.sections};
-    ghost use Rattle.layer_traits.specs.{WordsProtocol.MayCome, Spins.BeginWith};
+    ghost use Rattle.event_log.specs.{declared.{ids.{CpuId.CpuId, LockId.LockId}, events.Event.{Event, TheVariants.{Draw, Look, Free}}}, History.Adds};
+    ghost use Rattle.event_log.specs.{History.IsLawful, WordsLog.{cpu_of_event, lock_phase, Idle, Waiting, Holding}, Sections.{Section, block_after}};
+    ghost use Rattle.layer_traits.specs.{declared.edits.Mark.Mark, Protocol.{section, StaysAllowed}, WordsProtocol.{mark_of, sections, MayCome}};
+    ghost use Rattle.layer_traits.specs.Spins.{BeginWith};
 
     /// The edits of the sections.
     type Edit: SplitEdit;

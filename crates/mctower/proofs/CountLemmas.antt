@@ -1,8 +1,6 @@
 -- Facts on counting.
-use Rattle.std.proofs.Common.{◌≡◌, ◌+◌, List, [], ◌∷◌, ◌++◌, Option, refl, arith, length, inl, inr}
-use Rattle.std.proofs.lemmas.{Bool.cases_lt, List.get_or_append_left, List.get_or_push, List.length-append}
-use Rattle.event_log.specs.declared.ids.CpuId.{CpuId}
-use Rattle.mctower.specs.Count.{AreReady, IsCountReady}
+use Rattle.std.proofs.{Common.{◌≡◌, ◌+◌, List, [], ◌∷◌, ◌++◌, Option, refl, arith, length, inl, inr}, lemmas.{Bool.cases_lt, List.get_or_append_left}}
+use Rattle.{std.proofs.lemmas.List.{get_or_push, length-append}, event_log.specs.declared.ids.CpuId.CpuId, mctower.specs.Count.{AreReady, IsCountReady}}
 
 -- one ready part more
 pub one_part_more : {P M S : Type 0} (cpu_of : P → CpuId) (under_way : P → Option S) (Fits : P → M → Type 0) (parts : List P) (part : P) (m : M)

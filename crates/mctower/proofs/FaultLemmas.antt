@@ -1,11 +1,9 @@
 -- Facts on what is wrong with the words of a command line.
-use Rattle.std.proofs.Common.{◌≡◌, ◌≢◌, ◌∙◌, ◌<◌, [], ℕ, zero, suc, Bool, true, false, List, Option, Some, None, refl, sym, subst, ap, option_map, arith, get_or, length, lit≤}
-use Rattle.std.specs.Prelude.{All, bytes_eq, codes, if◌then◌else◌, nat_le, unwrap_or}
-use Rattle.std.specs.{Borrow.Bor, List.before_first, List.position_or_len}
-use Rattle.std.proofs.lemmas.{Bool.leb-true, List.get_or-take, List.length-take, List.Sums.fails_before_first}
-use Rattle.clap.specs.{Matches.first_value, Walk.Row, Walk.first_of, Walk.rows_of, declared.parser.matches.Found.Found}
-use Rattle.clap.proofs.WalkLemmas.{first_value-rows}
-use Rattle.mctower.specs.{Faults.IsShown, Faults.value_at, Faults.option_name, Print.is_line_feed, Print.shown_line, declared.faults.ValueOption.ValueOption}
+use Rattle.std.proofs.Common.{◌≡◌, ◌≢◌, ◌∙◌, ◌<◌, [], ℕ, zero, suc, Bool, true, false, List, Option, Some, None, refl, sym, subst, ap, option_map, arith}
+use Rattle.std.{proofs.{Common.{get_or, length, lit≤}, lemmas.{Bool.leb-true, List.{get_or-take, length-take, Sums.fails_before_first}}}, specs.Prelude.All}
+use Rattle.std.specs.{Prelude.{codes, if◌then◌else◌, nat_le, unwrap_or}, Borrow.Bor, List.{before_first, position_or_len}}
+use Rattle.clap.{specs.{Matches.first_value, Walk.{first_of, rows_of}, declared.parser.matches.Found.Found}, proofs.WalkLemmas.first_value-rows}
+use Rattle.mctower.specs.{Faults.{IsShown, value_at, option_name}, Print.{is_line_feed, shown_line}, declared.faults.ValueOption.ValueOption}
 
 abbrev pub Text : Type 0
 Text = List ℕ

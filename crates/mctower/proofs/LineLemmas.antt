@@ -1,13 +1,11 @@
 -- Facts on the reading of the command line.
 use Rattle.std.proofs.Common.{◌≡◌, ◌≤◌, ◌<◌, ◌^◌, ◌∙◌, ◌∷◌, [], inl, inr, ℕ, Bool, true, false, List, codes, Option, Some, None, refl, sym, subst, ap, ap₂}
-use Rattle.std.specs.Prelude.{if◌then◌else◌, option_and_then, IfOk, Result, Ok, Err}
-use Rattle.std.specs.Str.Parse.{IsNumeral, digits_value, without_leading_plus}
-use Rattle.clap.specs.{Built.AddsSubcommand, Matches.first_value, Faults.fault_of, Faults.is_simple_and_free, Kinds.FailsBy, Kinds.HasKind, Kinds.Kinds, Simple.App}
-use Rattle.clap.specs.{Simple.HasMatchesOf, Simple.app_of, Simple.is_simple, Simple.subcommand_of, Simple.subcommand_rows_of, Simple.with_subcommand}
-use Rattle.clap.specs.{Values.kind_of, ValueTests.is_unsigned_in, Walk.first_of, Walk.rows_of, declared.builder.command.Command.Command}
-use Rattle.clap.specs.{declared.builder.command.Command.TheViews.out-Command, declared.error.Error.Error, declared.error.kind.ErrorKind.TheVariants.OutOfMemory}
-use Rattle.clap.specs.{declared.parser.matches.ArgMatches.ArgMatches, declared.parser.matches.Found.Found}
-use Rattle.clap.proofs.{OnLiterals.clap_on_literals, ValueTestLemmas.accepts-Accepts, ValueTestLemmas.Accepts-accepts, WalkLemmas.first_value-rows}
+use Rattle.std.specs.{Prelude.{if◌then◌else◌, option_and_then, IfOk, Result, Ok, Err}, Str.Parse.{IsNumeral, digits_value, without_leading_plus}}
+use Rattle.clap.specs.{Built.AddsSubcommand, Matches.first_value, Faults.{fault_of, is_simple_and_free}, Kinds.{FailsBy, HasKind, Kinds}, Simple.App}
+use Rattle.clap.specs.{Simple.{HasMatchesOf, app_of, is_simple, subcommand_of, subcommand_rows_of, with_subcommand}, Values.kind_of, ValueTests.is_unsigned_in}
+use Rattle.clap.specs.{Walk.{first_of, rows_of}, declared.{builder.command.Command.{Command, TheViews.out-Command}, error.Error.Error}}
+use Rattle.clap.specs.declared.{error.kind.ErrorKind.TheVariants.OutOfMemory, parser.matches.{ArgMatches.ArgMatches, Found.Found}}
+use Rattle.clap.proofs.{OnLiterals.clap_on_literals, ValueTestLemmas.{accepts-Accepts, Accepts-accepts}, WalkLemmas.first_value-rows}
 use Rattle.mctower.specs.Line.{Parses, faults_of, found_in, is_faultless, is_taken, lock_asked, run_in, Ghost, run, number_at, number_in, program}
 use Rattle.clap.specs.declared.builder.value_parser.ValueParser.TheVariants as vp
 

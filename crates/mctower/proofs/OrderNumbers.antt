@@ -1,15 +1,10 @@
 -- The order of a system's traces has a spelling: there are few entries, and their numbers are in range.
 use Rattle.std.proofs.Common.{◌≡◌, ℕ, zero, suc, ◌+◌, ◌<◌, ◌≤◌, Bool, List, [], ◌∷◌, ◌++◌, length, set, get_or, Some, refl, sym, ap, ◌∙◌, subst, arith, inl}
-use Rattle.std.proofs.Common.{inr}
-use Rattle.std.specs.Prelude.{slice_get, ◌==◌, ◌&&◌}
-use Rattle.std.specs.List.{AllByRecursion, sum_by}
-use Rattle.std.proofs.lemmas.{List.length-set, List.length_push, List.Sums.sum_by-cons, List.Sums.sum_by-set, List.Sums.count_by-le-length}
-use Rattle.std.proofs.lemmas.{Option.slice_get_within, Option.get_or_from_slice_get}
-use Rattle.event_log.specs.{declared.entries.Entry.Entry, Runs.kind_eq, Runs.IsNext, Runs.IsRunFrom, Runs.after_entry, Traces.IsInterleaving}
-use Rattle.event_log.specs.{Buffers.IsAllowedEffect, Buffers.items_of, Buffers.empty_buffers, Buffers.after_effect, Messages.IsMessage, Messages.Message}
-use Rattle.event_log.specs.declared.entries.Kind.{Kind, TheVariants.Send, TheVariants.Recv, TheVariants.Close, TheVariants.SendClosed, TheVariants.RecvClosed}
-use Rattle.tracer.specs.TraceText.{IsValueOf}
-use Rattle.mctower.proofs.ListLemmas.{get_set}
+use Rattle.std.proofs.{Common.inr, lemmas.{List.{length-set, length_push, Sums.{sum_by-cons, sum_by-set, count_by-le-length}}, Option.slice_get_within}}
+use Rattle.std.{proofs.lemmas.Option.get_or_from_slice_get, specs.{Prelude.{slice_get, ◌==◌, ◌&&◌}, List.{AllByRecursion, sum_by}}}
+use Rattle.event_log.specs.{declared.entries.{Entry.Entry, Kind.{Kind, TheVariants.{Send, Recv, Close, SendClosed, RecvClosed}}}, Runs.{kind_eq, IsNext}}
+use Rattle.event_log.specs.{Runs.{IsRunFrom, after_entry}, Traces.IsInterleaving, Buffers.{IsAllowedEffect, items_of, empty_buffers, after_effect}}
+use Rattle.{event_log.specs.Messages.{IsMessage, Message}, tracer.specs.TraceText.IsValueOf, mctower.proofs.ListLemmas.get_set}
 
 -- where all traces are used up, they hold nothing together
 all_used : (traces : List (List Entry)) → ((k : ℕ) → get_or traces k [] ≡ []) → sum_by length traces ≡ 0

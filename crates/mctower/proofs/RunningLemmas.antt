@@ -1,19 +1,12 @@
 -- What a run of a plan answers, by what its parts answer.
-use Rattle.std.proofs.Common.{◌≡◌, ℕ, true, false, List, length, map, replicate, sym, ap, ◌∙◌, subst}
-use Rattle.std.specs.Prelude.{Result, Ok, Err, IsErrAnd}
-use Rattle.std.proofs.lemmas.{Bool.false≢true, List.length-map}
-use Rattle.event_log.specs.declared.ids.CpuId.{CpuId}
-use Rattle.event_log.proofs.Streams.{taken_put}
-use Rattle.boot.specs.Plan.{BootPlan}
-use Rattle.cpu.specs.{Boots.guests_for, Boots.homes_for, Boots.tables_for, Cpus.programs_of, Claims.CpuShown, Claims.FollowPrograms, Claims.HasOneOrder}
-use Rattle.cpu.specs.{Claims.Shown, Claims.StandsOnce, Claims.StayHome, Claims.traces_of, Sound.BootsByTable, Sound.IsSetupFor, Sound.RanByTable}
-use Rattle.cpu.specs.{Sound.SoundByTable, Sound.after_steps, Sound.setup_for, Systems.Ran, Systems.SamePlan, Systems.whole_of, Table.Steps.Whole}
-use Rattle.cpu.specs.{Table.Steps.whole_at_boot, Observed.ObservedByTable}
-use Rattle.cpu.proofs.{ListReads.listed_length, ListReads.map_twice, ReachedSystems.setup_on}
-use Rattle.mctower.specs.{Output.IsUntouched, Output.Output, Plans.IsOpened, Plans.IsSystemOf, Plans.table_run, Running.AreCpus, Running.IsRunOf}
-use Rattle.mctower.specs.{Running.IsPrinted, Running.RunsPlan, Texts.IsOut, Texts.Writes, declared.run.Fault.Fault}
+use Rattle.std.proofs.{Common.{◌≡◌, ℕ, true, false, List, length, map, replicate, sym, ap, ◌∙◌, subst}, lemmas.{Bool.false≢true, List.length-map}}
+use Rattle.{std.specs.Prelude.{Result, Ok, Err, IsErrAnd}, event_log.{specs.declared.ids.CpuId.CpuId, proofs.Streams.taken_put}, boot.specs.Plan.BootPlan}
+use Rattle.cpu.specs.{Boots.{guests_for, homes_for, tables_for}, Cpus.programs_of, Claims.{CpuShown, FollowPrograms, HasOneOrder, Shown, StandsOnce, StayHome}}
+use Rattle.cpu.specs.{Claims.traces_of, Sound.{BootsByTable, IsSetupFor, RanByTable, SoundByTable, after_steps, setup_for}, Systems.{Ran, SamePlan, whole_of}}
+use Rattle.cpu.{specs.{Table.Steps.{Whole, whole_at_boot}, Observed.ObservedByTable}, proofs.{ListReads.{listed_length, map_twice}, ReachedSystems.setup_on}}
+use Rattle.mctower.specs.{Output.{IsUntouched, Output}, Plans.{IsOpened, IsSystemOf, table_run}, Running.{AreCpus, IsRunOf, IsPrinted, RunsPlan}, Texts.IsOut}
+use Rattle.mctower.specs.{Texts.Writes, declared.run.Fault.{Fault, TheVariants.{NoMemory, Boot, BadCpu, NoOrder, WriteFault}}}
 use Rattle.mctower.proofs.TabledLemmas.{text_of_run}
-use Rattle.mctower.specs.declared.run.Fault.TheVariants.{NoMemory, Boot, BadCpu, NoOrder, WriteFault}
 
 -- a system that opens with a plan's buffers, homes, guests and room for entries is the plan's
 pub opened : (plan : BootPlan) (s : Shown) → s.caps ≡ plan.caps → s.homes ≡ homes_for plan → map (λ p. p.guests) s.cpus ≡ tables_for plan

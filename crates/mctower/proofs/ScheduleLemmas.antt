@@ -1,17 +1,13 @@
 -- Facts on the reading of schedules.
-use Rattle.std.proofs.Common.{◌≡◌, ◌≢◌, ◌≤◌, ◌<◌, ◌+◌, ◌-◌, ◌*◌, ◌==◌, ◌∙◌, ◌++◌, ◌∷◌, [], ℕ, true, false, List, Option, Some, None, refl, sym, ap, arith, length}
-use Rattle.std.proofs.Common.{append_assoc, drop, get_or, inl, inr, option_map, take, zero-add}
-use Rattle.std.specs.Prelude.{nat_lt, option_and_then, replicate}
-use Rattle.std.specs.{Borrow.Bor, Char.is_ascii_digit, List.AllByRecursion, List.position_or_len, List.slice_split, Str.all_ascii_digits}
-use Rattle.std.proofs.lemmas.{Bool.and_parts, Bool.cases_lt, Bool.Decides.nat_tests, List.drop_more, List.Elements.All-from_recursion, List.get_or-take}
-use Rattle.std.proofs.lemmas.{List.length-take, List.Splits.slice_split_at, List.Sums.position_or_len_is, List.take-append-drop}
-use Rattle.std.proofs.lemmas.{Bool.le-leb, Bool.lt-leb, Bool.ne_eqb, List.Elements.All-from_get_or, List.append-nil, List.length-append, List.length-replicate}
-use Rattle.std.proofs.lemmas.{List.Splits.slice_split_first, List.Splits.slice_split_none, Str.Pattern.IsSplitOnceResult, Str.Pattern.split_once_first}
-use Rattle.std.proofs.lemmas.{Str.Pattern.split_parts}
-use Rattle.event_log.specs.{declared.ids.CpuId.CpuId}
-use Rattle.event_log.proofs.DigitsLemmas.{IsSpelled, ReadsUpTo, ascii_digits, number_to-spelled, read_digits, reads_one_more}
-use Rattle.mctower.specs.{Schedule.has_star, Schedule.if_few, Schedule.is_comma, Schedule.is_star, Schedule.item_of, Schedule.steps_in, declared.schedule.Item.Item}
-use Rattle.mctower.specs.{declared.schedule.TheConstants.MOST_STEPS}
+use Rattle.std.proofs.Common.{◌≡◌, ◌≢◌, ◌≤◌, ◌<◌, ◌+◌, ◌-◌, ◌*◌, ◌==◌, ◌∙◌, ◌++◌, ◌∷◌, [], ℕ, true, false, List, Option, Some, None, refl, sym, ap, arith}
+use Rattle.std.proofs.{Common.{length, append_assoc, drop, get_or, inl, inr, option_map, take, zero-add}, lemmas.Bool.{and_parts, cases_lt, le-leb, lt-leb}}
+use Rattle.std.proofs.lemmas.{Bool.{ne_eqb, Decides.nat_tests}, List.{drop_more, get_or-take, length-take, take-append-drop, append-nil, length-append}}
+use Rattle.std.proofs.lemmas.List.{length-replicate, Elements.{All-from_recursion, All-from_get_or}, Splits.{slice_split_at, slice_split_first}}
+use Rattle.std.proofs.lemmas.{List.{Splits.slice_split_none, Sums.position_or_len_is}, Str.Pattern.{IsSplitOnceResult, split_once_first, split_parts}}
+use Rattle.std.specs.{Prelude.{nat_lt, option_and_then, replicate}, Borrow.Bor, Char.is_ascii_digit, List.{AllByRecursion, position_or_len, slice_split}}
+use Rattle.{std.specs.Str.all_ascii_digits, event_log.{specs.declared.ids.CpuId.CpuId, proofs.DigitsLemmas.{IsSpelled, ReadsUpTo, ascii_digits}}}
+use Rattle.{event_log.proofs.DigitsLemmas.{number_to-spelled, read_digits, reads_one_more}, mctower.specs.Schedule.{has_star, if_few, is_comma, is_star}}
+use Rattle.mctower.specs.{Schedule.{item_of, steps_in}, declared.schedule.{Item.Item, TheConstants.MOST_STEPS}}
 
 -- a text with no comma is one item
 pub one_piece : (text : List ℕ) → IsSplitOnceResult 44 text None → slice_split is_comma text ≡ text ∷ []

@@ -1,23 +1,15 @@
 -- The text of the traces of a plan's CPUs has a spelling, and what writing it answers.
 use Rattle.std.proofs.Common.{◌≡◌, ℕ, zero, suc, ◌*◌, ◌<◌, ◌≤◌, List, [], ◌∷◌, length, get_or, replicate, Some, refl, sym, ap, ◌∙◌, subst, arith}
-use Rattle.std.specs.Prelude.{slice_get, All, Result, Ok, Err, IsErrAnd}
-use Rattle.std.specs.List.{AllByRecursion, sum_by}
-use Rattle.std.proofs.lemmas.{List.length-map, List.Sums.sum_by-cons, Option.slice_get_within}
-use Rattle.event_log.specs.{declared.ids.TheConstants.BUFFERS, declared.ids.TheConstants.CPUS, declared.ids.TheConstants.THREADS}
-use Rattle.event_log.specs.{declared.ids.TheConstants.TRACE, declared.ids.TheConstants.ENTRIES, declared.entries.Entry.Entry, Messages.IsMessage}
-use Rattle.event_log.specs.{Messages.Message, Runs.IsRun, Buffers.empty_buffers, Buffers.IsCapacity, Traces.IsInterleaving, declared.ids.CpuId.CpuId}
-use Rattle.boot.specs.Plan.{BootPlan}
-use Rattle.tracer.specs.{declared.gathering.GatherError.GatherError, Gather.IsOrder, Gather.TakesFirstReady, Gather.HasNoOrder, TraceText.AreItemsOf}
-use Rattle.tracer.specs.{TraceText.IsItemOf, TraceText.IsSpellable, TraceText.IsEntryOf, TraceText.IsValueOf, TraceText.spelling, Versions.both}
-use Rattle.tracer.specs.{Versions.version_from, Versions.version_of, Versions.version_of_entry, Versions.version_of_kind, Versions.version_of_message}
-use Rattle.tracer.specs.{declared.versions.Version.Version, declared.versions.Version.TheVariants.One}
-use Rattle.tracer.proofs.{OrderLemmas.runs_have_order, OrderLemmas.run_alike, VersionLemmas.covers_next, VersionLemmas.covers_second}
-use Rattle.cpu.specs.{Boots.homes_for, Cpus.IsOfHome, Calm.TracesFit, Claims.CpuShown, Claims.HasOneOrder, Claims.Shown, Claims.StayHome, Claims.traces_of}
-use Rattle.cpu.proofs.ListReads.{shows_at}
-use Rattle.mctower.specs.{Output.IsPut, Output.IsUntouched, Output.Output, Plans.IsSystemOf, Plans.IsOfPlan, Plans.from_gather, Texts.HaveText, Texts.IsOut}
-use Rattle.mctower.specs.{Texts.Writes, declared.run.Fault.Fault}
-use Rattle.mctower.proofs.{ListLemmas.map_get, OrderNumbers.order_length, OrderNumbers.order_all, OrderNumbers.run_length, OrderNumbers.run_numbers}
-use Rattle.mctower.proofs.{OrderNumbers.run_values, OrderNumbers.empty_length, OrderNumbers.empty_values}
+use Rattle.std.{proofs.lemmas.{List.{length-map, Sums.sum_by-cons}, Option.slice_get_within}, specs.Prelude.{slice_get, All, Result, Ok, Err, IsErrAnd}}
+use Rattle.{std.specs.List.{AllByRecursion, sum_by}, event_log.specs.declared.ids.{TheConstants.{BUFFERS, CPUS, THREADS, TRACE, ENTRIES}, CpuId.CpuId}}
+use Rattle.event_log.specs.{declared.entries.Entry.Entry, Messages.{IsMessage, Message}, Runs.IsRun, Buffers.{empty_buffers, IsCapacity}, Traces.IsInterleaving}
+use Rattle.{boot.specs.Plan.BootPlan, tracer.specs.{declared.{gathering.GatherError.GatherError, versions.Version.{Version, TheVariants.One}}, Gather.IsOrder}}
+use Rattle.tracer.specs.{Gather.{TakesFirstReady, HasNoOrder}, TraceText.{AreItemsOf, IsItemOf, IsSpellable, IsEntryOf, IsValueOf, spelling}, Versions.both}
+use Rattle.tracer.{specs.Versions.{version_from, version_of, version_of_entry, version_of_kind, version_of_message}, proofs.OrderLemmas.runs_have_order}
+use Rattle.{tracer.proofs.{OrderLemmas.run_alike, VersionLemmas.{covers_next, covers_second}}, cpu.specs.{Boots.homes_for, Cpus.IsOfHome, Calm.TracesFit}}
+use Rattle.{cpu.{specs.Claims.{CpuShown, HasOneOrder, Shown, StayHome, traces_of}, proofs.ListReads.shows_at}, mctower.specs.Output.{IsPut, IsUntouched}}
+use Rattle.mctower.specs.{Output.Output, Plans.{IsSystemOf, IsOfPlan, from_gather}, Texts.{HaveText, IsOut, Writes}, declared.run.Fault.Fault}
+use Rattle.mctower.proofs.{ListLemmas.map_get, OrderNumbers.{order_length, order_all, run_length, run_numbers, run_values, empty_length, empty_values}}
 use Rattle.tracer.specs.declared.gathering.GatherError.TheVariants as gathering
 
 all_by : {X : Type 0} (P : X → Type 0) (xs : List X) → All P xs → AllByRecursion P xs

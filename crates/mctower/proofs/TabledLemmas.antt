@@ -1,20 +1,14 @@
 -- A run's system tells what the step table's system of its plan and its steps has.
 use Rattle.std.proofs.Common.{◌≡◌, ◌↔◌, ℕ, zero, suc, ◌+◌, ◌<◌, true, List, [], ◌∷◌, length, map, Option, Some, refl, ap, sym, ◌∙◌, subst, arith}
-use Rattle.std.specs.Prelude.{slice_get, slice_index_or}
-use Rattle.std.proofs.lemmas.{List.length-map, List.length-set, Option.slice_get_within}
-use Rattle.event_log.specs.{declared.entries.Entry.Entry, declared.ids.CpuId.CpuId, declared.ids.LockId.TheVariants.Buffer as AtBuffer, Actions.phase}
-use Rattle.event_log.specs.{Buffers.after_effect, Buffers.empty_buffers, Buffers.items_of, Messages.Message, Runs.after_entry, Runs.contents_from}
-use Rattle.event_log.specs.{Traces.IsInterleaving}
-use Rattle.event_log.proofs.RunLemmas.{left_from}
-use Rattle.boot.specs.Plan.{BootPlan}
-use Rattle.layer_traits.specs.{declared.steps.Reason.Reason, Plans.is_in_section}
-use Rattle.cpu.specs.{Claims.CpuShown, Claims.Shown, Claims.buffer_at, Claims.listed, Claims.traces_of, Cpus.halted_at as own_halted_at, Cpus.reason_in}
-use Rattle.cpu.specs.{Sound.IsSetupFor, Sound.setup_for, Systems.halted_in, Systems.own_reason_in, Systems.whole_of, Table.Setups.Private, Table.Setups.Setup}
-use Rattle.cpu.specs.{Table.Steps.Whole, Table.Steps.block_at, Table.Steps.boots_from, Table.Steps.cpu_numbered, Observed.IsPlaceByTable}
-use Rattle.cpu.specs.{Observed.ObservedByTable, Wakeups.Quiet.IsQuiet}
-use Rattle.cpu.proofs.ListReads.{map_twice, shows_at, there_is}
-use Rattle.mctower.specs.{Plans.table_run, Running.IsRunOf, State.IsStateOf, State.places_in, Texts.IsTextOf, declared.states.State.State}
-use Rattle.mctower.specs.Tabled.{IsStateOfRun, IsTextOfRun, NothingIsPrinted, contents_at, items_held, reason_at, reason_by, traces_at}
+use Rattle.std.{proofs.lemmas.{List.{length-map, length-set}, Option.slice_get_within}, specs.Prelude.{slice_get, slice_index_or}}
+use Rattle.event_log.specs.{declared.{entries.Entry.Entry, ids.{CpuId.CpuId, LockId.TheVariants.Buffer as AtBuffer}}, Actions.phase, Buffers.after_effect}
+use Rattle.event_log.specs.{Buffers.{empty_buffers, items_of}, Messages.Message, Runs.{after_entry, contents_from}, Traces.IsInterleaving}
+use Rattle.{event_log.proofs.RunLemmas.left_from, boot.specs.Plan.BootPlan, layer_traits.specs.{declared.steps.Reason.Reason, Plans.is_in_section}}
+use Rattle.cpu.specs.{Claims.{CpuShown, Shown, buffer_at, listed, traces_of}, Cpus.{halted_at as own_halted_at, reason_in}, Sound.{IsSetupFor, setup_for}}
+use Rattle.cpu.specs.{Systems.{halted_in, own_reason_in, whole_of}, Table.{Setups.{Private, Setup}, Steps.{Whole, block_at, boots_from, cpu_numbered}}}
+use Rattle.cpu.{specs.{Observed.{IsPlaceByTable, ObservedByTable}, Wakeups.Quiet.IsQuiet}, proofs.ListReads.{map_twice, shows_at, there_is}}
+use Rattle.mctower.specs.{Plans.table_run, Running.IsRunOf, State.{IsStateOf, places_in}, Texts.IsTextOf, declared.states.State.State, Tabled.IsStateOfRun}
+use Rattle.mctower.specs.Tabled.{IsTextOfRun, NothingIsPrinted, contents_at, items_held, reason_at, reason_by, traces_at}
 
 -- what two functions make alike of each element
 map_alike : {X Y : Type 0} (f g : X → Y) (xs : List X) → ((k : ℕ) (x : X) → slice_get xs k ≡ Some x → f x ≡ g x) → map f xs ≡ map g xs

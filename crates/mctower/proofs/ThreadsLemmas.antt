@@ -1,20 +1,12 @@
 -- What a run in threads answers, by what its parts answer.
-use Rattle.std.proofs.Common.{◌≡◌, ◌⊎◌, inl, inr, ℕ, ◌<◌, ◌≤◌, Bool, false, List, [], length, Some, refl, sym, ap, ◌∙◌, subst}
-use Rattle.std.specs.Prelude.{Result, Ok, Err, Vec, slice_get, if◌then◌else◌}
-use Rattle.std.specs.{Global.Global, List.AllByRecursion, Io.KnownBytes.Appends}
-use Rattle.std.proofs.lemmas.{List.append-nil, Option.slice_get_within}
-use Rattle.event_log.specs.declared.entries.Entry.{Entry}
-use Rattle.event_log.proofs.Streams.{taken_put}
-use Rattle.layer_traits.specs.OnePlace.{cpu_at}
-use Rattle.boot.specs.{declared.refusals.BootError.BootError, Plan.BootPlan, Plan.IsPlan}
-use Rattle.tracer.specs.Sinks.{Outs}
-use Rattle.tracer.proofs.SinkLemmas.{all_out, outs_then}
-use Rattle.cpu.specs.{Boots.homes_for, Cpus.IsOfHome, Sound.setup_for}
-use Rattle.cpu_workers.specs.{declared.workers.stops.Stop.Stop, Lawful.IsLawfulReport, Lawful.CpuReport, Lawful.Shown, Lawful.ReportsTrue, Lawful.left_in}
-use Rattle.mctower.specs.{declared.refusals.Refusal.Refusal, declared.refusals.Refusal.TheVariants.WriteFault}
-use Rattle.mctower.specs.{declared.run.Fault.Fault, declared.serve.Done.Done, declared.serve.Done.TheVariants.Worked, Output.Output, Refusals.from_fault, Refusals.lacks_memory}
-use Rattle.mctower.specs.{Serve.OfPlan, Serve.RefusedBy, Serve.WorksPlan, Texts.HaveText, Texts.IsOut, Texts.IsTextOf, Texts.Writes, Threads.IsWorked}
-use Rattle.mctower.specs.{Threads.AlwaysOpen}
+use Rattle.std.proofs.{Common.{◌≡◌, ◌⊎◌, inl, inr, ℕ, ◌<◌, ◌≤◌, Bool, false, List, [], length, Some, refl, sym, ap, ◌∙◌, subst}, lemmas.List.append-nil}
+use Rattle.std.{proofs.lemmas.Option.slice_get_within, specs.{Prelude.{Result, Ok, Err, Vec, slice_get, if◌then◌else◌}, Global.Global, List.AllByRecursion}}
+use Rattle.{std.specs.Io.KnownBytes.Appends, event_log.{specs.declared.entries.Entry.Entry, proofs.Streams.taken_put}, layer_traits.specs.OnePlace.cpu_at}
+use Rattle.{boot.specs.{declared.refusals.BootError.BootError, Plan.{BootPlan, IsPlan}}, tracer.{specs.Sinks.Outs, proofs.SinkLemmas.{all_out, outs_then}}}
+use Rattle.{cpu.specs.{Boots.homes_for, Cpus.IsOfHome, Sound.setup_for}, cpu_workers.specs.{declared.workers.stops.Stop.Stop, Lawful.IsLawfulReport}}
+use Rattle.{cpu_workers.specs.Lawful.{CpuReport, Shown, ReportsTrue, left_in}, mctower.specs.declared.refusals.Refusal.{Refusal, TheVariants.WriteFault}}
+use Rattle.mctower.specs.{declared.{run.Fault.Fault, serve.Done.{Done, TheVariants.Worked}}, Output.Output, Refusals.{from_fault, lacks_memory}, Serve.OfPlan}
+use Rattle.mctower.specs.{Serve.{RefusedBy, WorksPlan}, Texts.{HaveText, IsOut, IsTextOf, Writes}, Threads.{IsWorked, AlwaysOpen}}
 use Rattle.mctower.specs.declared.run.Fault.TheVariants as run
 
 -- what is so for a plan that was read

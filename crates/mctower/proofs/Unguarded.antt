@@ -1,13 +1,10 @@
 -- What is said under a condition is so under any that it follows from: so what is said of layers whose polls are single actions holds
 -- without a condition where they are such.
-use Rattle.std.proofs.Common.{◌≡◌, List, refl}
-use Rattle.std.specs.Prelude.{Result, Ok, Err, IsErrAnd}
-use Rattle.event_log.specs.declared.{ids.CpuId.CpuId, refusals.NoMemory.NoMemory as NoMemoryTold}
-use Rattle.boot.specs.{declared.refusals.BootError.BootError, Plan.BootPlan, Plan.Fails}
-use Rattle.cpu.specs.{Claims.Shown, Systems.Ran, Systems.WentOn, Systems.goes, Systems.starts, Systems.stayed, Systems.took}
-use Rattle.mctower.specs.declared.run.Fault.{Fault, TheVariants.NoMemory, TheVariants.Boot, TheVariants.BadCpu, TheVariants.NoOrder, TheVariants.WriteFault}
-use Rattle.mctower.specs.{declared.states.State.State, Output.IsUntouched, Output.Output, Plans.from_boot, Running.IsPrinted, Running.IsRunOf}
-use Rattle.mctower.specs.{Running.NoCondition, Running.Refuses, Running.RunsOverTower, Running.RunsPlan, Running.RunsOn, State.IsStateOf}
+use Rattle.std.{proofs.Common.{◌≡◌, List, refl}, specs.Prelude.{Result, Ok, Err, IsErrAnd}}
+use Rattle.{event_log.specs.declared.{ids.CpuId.CpuId, refusals.NoMemory.NoMemory as NoMemoryTold}, boot.specs.declared.refusals.BootError.BootError}
+use Rattle.{boot.specs.Plan.{BootPlan, Fails}, cpu.specs.{Claims.Shown, Systems.{Ran, WentOn, goes, starts, stayed, took}}}
+use Rattle.mctower.specs.{declared.{run.Fault.{Fault, TheVariants.{NoMemory, Boot, BadCpu, NoOrder, WriteFault}}, states.State.State}, Output.IsUntouched}
+use Rattle.mctower.specs.{Output.Output, Plans.from_boot, Running.{IsPrinted, IsRunOf, NoCondition, RunsOverTower, RunsPlan, RunsOn}, State.IsStateOf}
 use Rattle.boot.specs.declared.refusals.BootError.TheVariants as refused
 
 module _ (If Where : Type 0) (follows : Where → If) where

@@ -1,7 +1,6 @@
 -- Counting: sections that each add 1 to one number.
 use Rattle.std.specs.Prelude.{◌≡◌, ◌<◌, ℕ, zero, suc, true, List, ◌∷◌, Option, None, length, slice_index_or}
-use Rattle.event_log.specs.{Actions.Action, Actions.Take, Actions.Try, Actions.Give, declared.ids.CpuId.CpuId, declared.ids.LockId.LockId}
-use Rattle.cpu_workers.specs.declared.counting.AddOne.{AddOne}
+use Rattle.{event_log.specs.{Actions.{Action, Take, Try, Give}, declared.ids.{CpuId.CpuId, LockId.LockId}}, cpu_workers.specs.declared.counting.AddOne.AddOne}
 pub use Rattle.cpu_workers.specs.Counts.{counting, sections_at}
 
 -- this part is the one of the CPU of this number, rests and agrees with the machine

@@ -1,17 +1,13 @@
 -- Why the words of a command line make no order, and the lines that tell it.
 use Rattle.std.specs.Prelude.{◌≡◌, ◌≢◌, ◌≤◌, ◌++◌, ◌||◌, ℕ, All, Bool, false, true, List, [], ◌∷◌, Option, Some, Result, Ok, Err, IfSome, IsSomeAnd, codes}
-use Rattle.std.specs.Prelude.{bytes_eq, decimal, if◌then◌else◌, length, unwrap_or}
-use Rattle.std.specs.{List.find, Option.is_none}
-use Rattle.clap.specs.{Kinds.IsAmong, Walk.Row, Walk.Text, Walk.first_of, declared.error.kind.ErrorKind.ErrorKind}
-use Rattle.clap.specs.declared.error.kind.ErrorKind.TheVariants.{UnknownArgument, InvalidSubcommand, MissingRequiredArgument, ArgumentConflict, InvalidValue}
-use Rattle.clap.specs.declared.error.kind.ErrorKind.TheVariants.{TooManyValues, DisplayHelp, DisplayVersion, OutOfMemory}
-use Rattle.event_log.specs.declared.{ids.TheConstants.CPUS, refusals.NoMemory.NoMemory}
-use Rattle.mctower.specs.{Help.topic_of, Help.usage_of, Line.faults_of, Line.found_in, Line.is_taken, Line.lock_asked, Line.number_at, Print.shown_line}
-use Rattle.mctower.specs.declared.line.{TheConstants.MOST_TIMES, TheConstants.MOST_TURNS}
-use Rattle.mctower.specs.declared.faults.{NoOrder.NoOrder, NoOrder.TheVariants.AsksHelp, NoOrder.TheVariants.AsksVersion, NoOrder.TheVariants.Faulty}
-use Rattle.mctower.specs.declared.faults.{LineFault.LineFault, LineFault.TheVariants.NotText, LineFault.TheVariants.NoCommand, LineFault.TheVariants.Words}
-use Rattle.mctower.specs.declared.faults.{LineFault.TheVariants.Value, ValueOption.ValueOption, ValueOption.TheVariants.Cpus, ValueOption.TheVariants.Times}
-use Rattle.mctower.specs.declared.faults.{ValueOption.TheVariants.Lock, ValueOption.TheVariants.Turns}
+use Rattle.std.specs.{Prelude.{bytes_eq, decimal, if◌then◌else◌, length, unwrap_or}, List.find, Option.is_none}
+use Rattle.clap.specs.{Kinds.IsAmong, Walk.{Row, Text, first_of}, declared.error.kind.ErrorKind.{ErrorKind, TheVariants.{UnknownArgument, InvalidSubcommand}}}
+use Rattle.clap.specs.declared.error.kind.ErrorKind.TheVariants.{MissingRequiredArgument, ArgumentConflict, InvalidValue, TooManyValues, DisplayHelp}
+use Rattle.{clap.specs.declared.error.kind.ErrorKind.TheVariants.{DisplayVersion, OutOfMemory}, event_log.specs.declared.ids.TheConstants.CPUS}
+use Rattle.{event_log.specs.declared.refusals.NoMemory.NoMemory, mctower.specs.{Help.{topic_of, usage_of}, Line.{faults_of, found_in, is_taken, lock_asked}}}
+use Rattle.mctower.specs.{Line.number_at, Print.shown_line, declared.{line.TheConstants.{MOST_TIMES, MOST_TURNS}, faults.NoOrder.NoOrder}}
+use Rattle.mctower.specs.declared.faults.{NoOrder.TheVariants.{AsksHelp, AsksVersion, Faulty}, LineFault.{LineFault, TheVariants.{NotText, NoCommand, Words}}}
+use Rattle.mctower.specs.declared.faults.{LineFault.TheVariants.Value, ValueOption.{ValueOption, TheVariants.{Cpus, Times, Lock, Turns}}}
 
 -- ---- options with a value to be tested
 

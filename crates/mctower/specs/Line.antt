@@ -1,15 +1,11 @@
 -- The command line: which order the words after the program's name mean, by clap's reading of them.
 use Rattle.std.specs.Prelude.{◌≡◌, ℕ, Bool, true, false, List, [], ◌∷◌, codes, Option, Some, None, Result, Ok, Err, option_map, option_and_then, if◌then◌else◌}
-use Rattle.std.specs.Prelude.{string_bytes}
-use Rattle.std.specs.Str.{bytes_eq, Parse.digits_value, Parse.without_leading_plus}
-use Rattle.clap.specs.{Walk.Row, Walk.Rule, Walk.Text, Walk.first_of, ValueTests.is_unsigned_in, Simple.App, Simple.Shape, Simple.new_app, Simple.new_rule}
-use Rattle.clap.specs.{Simple.on_top, Simple.subcommand_of, Simple.with_rule, Simple.with_subcommand, Simple.subcommand_rows_of}
-use Rattle.clap.specs.{declared.error.Error.Error, declared.parser.matches.ArgMatches.ArgMatches, Faults.fault_of, Kinds.HasKind, Kinds.Kinds}
-use Rattle.boot.specs.{declared.locks.LockKind.LockKind, declared.locks.LockKind.TheVariants.Grant, Locks.lock_named}
-use Rattle.event_log.specs.declared.ids.TheConstants.{CPUS}
-use Rattle.mctower.specs.declared.line.{TheConstants.MOST_TIMES, TheConstants.MOST_TURNS, Order.Order, Order.TheVariants.Count, Order.TheVariants.Run}
-use Rattle.mctower.specs.declared.line.{Order.TheVariants.Threads, Order.TheVariants.Check, LineError.LineError, LineError.TheVariants.NoMemory}
-use Rattle.mctower.specs.declared.line.{LineError.TheVariants.Refused}
+use Rattle.{std.specs.{Prelude.string_bytes, Str.{bytes_eq, Parse.{digits_value, without_leading_plus}}}, clap.specs.Walk.{Row, Rule, Text, first_of}}
+use Rattle.clap.specs.{ValueTests.is_unsigned_in, Simple.{App, Shape, new_app, new_rule, on_top, subcommand_of, with_rule, with_subcommand, subcommand_rows_of}}
+use Rattle.clap.specs.{declared.{error.Error.Error, parser.matches.ArgMatches.ArgMatches}, Faults.fault_of, Kinds.{HasKind, Kinds}}
+use Rattle.{boot.specs.{declared.locks.LockKind.{LockKind, TheVariants.Grant}, Locks.lock_named}, event_log.specs.declared.ids.TheConstants.CPUS}
+use Rattle.mctower.specs.declared.line.{TheConstants.{MOST_TIMES, MOST_TURNS}, Order.{Order, TheVariants.{Count, Run, Threads, Check}}, LineError.LineError}
+use Rattle.mctower.specs.declared.line.LineError.TheVariants.{NoMemory, Refused}
 
 -- ---- the commands and their options
 

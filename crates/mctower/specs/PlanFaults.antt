@@ -1,10 +1,8 @@
 -- The line that tells why a plan is refused: the refusal's name and number, and where in the plan it is.
 use Rattle.std.specs.Prelude.{ℕ, List, [], ◌∷◌, ◌++◌, codes, decimal}
-use Rattle.event_log.specs.declared.ids.Tid.{Tid}
-use Rattle.guest.specs.declared.refusals.GuestFault.{GuestFault}
-use Rattle.guest.specs.declared.refusals.GuestFault.TheVariants.{UnknownWord, BadRegister, BadNumber, BadTarget, TooLong, Empty}
-use Rattle.boot.specs.{Names.key_name, declared.refusals.BootError.BootError, declared.refusals.PlanKey.PlanKey}
-use Rattle.boot.specs.declared.refusals.BootError.TheVariants.{NoMemory, BadToml, MissingKey, OutOfRange, Guest}
+use Rattle.{event_log.specs.declared.ids.Tid.Tid, guest.specs.declared.refusals.GuestFault.{GuestFault, TheVariants.{UnknownWord, BadRegister, BadNumber}}}
+use Rattle.{guest.specs.declared.refusals.GuestFault.TheVariants.{BadTarget, TooLong, Empty}, boot.specs.Names.key_name}
+use Rattle.boot.specs.declared.refusals.{BootError.{BootError, TheVariants.{NoMemory, BadToml, MissingKey, OutOfRange, Guest}}, PlanKey.PlanKey}
 
 -- the name and the number of what is wrong with a line of a program
 abbrev pub fault_name : GuestFault → List ℕ

@@ -1,11 +1,9 @@
 -- The system of a plan, and what its steps leave as the plan has it.
 use Rattle.std.specs.Prelude.{◌≡◌, ℕ, List, length, map, replicate}
-use Rattle.event_log.specs.declared.ids.CpuId.{CpuId}
-use Rattle.boot.specs.{declared.refusals.BootError.BootError, Plan.BootPlan, Plan.IsPlan}
-use Rattle.tracer.specs.declared.gathering.GatherError.{GatherError}
-use Rattle.cpu.specs.{Boots.homes_for, Boots.tables_for, Cpus.programs_of, Claims.Shown, Claims.programs_in, Sound.after_steps, Sound.setup_for}
-use Rattle.cpu.specs.{Table.Steps.Whole, Table.Steps.whole_at_boot}
-use Rattle.mctower.specs.declared.run.Fault.{Fault, TheVariants.NoMemory, TheVariants.Boot, TheVariants.NoOrder}
+use Rattle.{event_log.specs.declared.ids.CpuId.CpuId, boot.specs.{declared.refusals.BootError.BootError, Plan.{BootPlan, IsPlan}}}
+use Rattle.{tracer.specs.declared.gathering.GatherError.GatherError, cpu.specs.{Boots.{homes_for, tables_for}, Cpus.programs_of, Claims.{Shown, programs_in}}}
+use Rattle.{cpu.specs.{Sound.{after_steps, setup_for}, Table.Steps.{Whole, whole_at_boot}}, mctower.specs.declared.run.Fault.{Fault, TheVariants.NoMemory}}
+use Rattle.mctower.specs.declared.run.Fault.TheVariants.{Boot, NoOrder}
 use Rattle.boot.specs.declared.refusals.BootError.TheVariants as refused
 use Rattle.tracer.specs.declared.gathering.GatherError.TheVariants as gathering
 

@@ -1,6 +1,5 @@
 -- How the program shows a text of the caller's in a line.
-use Rattle.std.specs.Prelude.{◌==◌, ℕ, Bool, List, codes, if◌then◌else◌, length, nat_le}
-use Rattle.std.specs.List.{before_first}
+use Rattle.std.specs.{Prelude.{◌==◌, ℕ, Bool, List, codes, if◌then◌else◌, length, nat_le}, List.before_first}
 
 -- the byte ends a line
 abbrev pub is_line_feed : ℕ → Bool

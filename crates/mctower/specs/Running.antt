@@ -1,13 +1,11 @@
 -- Running a plan: the system that a schedule leaves over the lock that the plan names, its trace text, and what a run answers.
 use Rattle.std.specs.Prelude.{◌≡◌, ℕ, ◌<◌, true, false, List, length, All, Result, Ok, Err}
-use Rattle.event_log.specs.{declared.ids.CpuId.CpuId, Streams.IsFirstInFirstOut}
-use Rattle.boot.specs.{declared.locks.LockKind.LockKind, declared.refusals.BootError.BootError, Plan.BootPlan}
-use Rattle.cpu.specs.{Claims.FollowPrograms, Claims.HasOneOrder, Claims.Shown, Claims.StandsOnce, Claims.StayHome, Claims.traces_of, Sound.IsSetupFor}
-use Rattle.cpu.specs.{Sound.SoundByTable, Sound.setup_for, Systems.Ran, Systems.whole_of, Observed.ObservedByTable}
-use Rattle.mctower.specs.{declared.run.Fault.Fault, Output.IsUntouched, Output.Output, Plans.IsOpened, Plans.IsSystemOf, Plans.from_boot, Plans.table_run}
-use Rattle.mctower.specs.{State.IsStateOf, declared.states.State.State, Tabled.IsTextOfRun, Texts.IsOut}
-use Rattle.mctower.specs.declared.run.{Fault.TheVariants.NoMemory, Fault.TheVariants.Boot, Fault.TheVariants.BadCpu, Fault.TheVariants.NoOrder}
-use Rattle.mctower.specs.declared.run.{Fault.TheVariants.WriteFault, Ran.Ran as RanOver, Ran.TheVariants.Ticket, Ran.TheVariants.Grant}
+use Rattle.{event_log.specs.{declared.ids.CpuId.CpuId, Streams.IsFirstInFirstOut}, boot.specs.declared.{locks.LockKind.LockKind, refusals.BootError.BootError}}
+use Rattle.{boot.specs.Plan.BootPlan, cpu.specs.{Claims.{FollowPrograms, HasOneOrder, Shown, StandsOnce, StayHome, traces_of}, Sound.IsSetupFor}}
+use Rattle.{cpu.specs.{Sound.{SoundByTable, setup_for}, Systems.{Ran, whole_of}, Observed.ObservedByTable}, mctower.specs.declared.run.Fault.Fault}
+use Rattle.mctower.specs.declared.run.{Fault.TheVariants.{NoMemory, Boot, BadCpu, NoOrder, WriteFault}, Ran.{Ran as RanOver, TheVariants.{Ticket, Grant}}}
+use Rattle.mctower.specs.{declared.states.State.State, Output.{IsUntouched, Output}, Plans.{IsOpened, IsSystemOf, table_run}, State.IsStateOf}
+use Rattle.mctower.specs.{Tabled.IsTextOfRun, Texts.IsOut}
 use Rattle.boot.specs.declared.locks.LockKind.TheVariants as kind
 
 -- The system of a plan, after a schedule's steps: it was opened with room for just these and took them in their order; the plan says its

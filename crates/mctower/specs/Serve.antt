@@ -1,24 +1,18 @@
 -- What serving an order gives: the answer, what is on standard output and on standard error, and whether the input is read.
 use Rattle.std.specs.Prelude.{◌≡◌, ◌*◌, ◌++◌, ◌⊎◌, ℕ, Bool, true, false, List, [], ◌∷◌, Option, Some, None, Result, Ok, Err, Vec, IfSome, IsUtf8, codes}
-use Rattle.std.specs.Prelude.{decimal, if◌then◌else◌, is_some, map, string_bytes, String}
-use Rattle.std.specs.{Global.Global, declared.io.ErrorKind.ErrorKind, declared.io.ErrorKind.TheVariants.OutOfMemory, declared.io.ErrorKind.TheVariants.InvalidData}
-use Rattle.clap.specs.Walk.{Text}
-use Rattle.event_log.specs.{declared.ids.CpuId.CpuId, Streams.IsFirstInFirstOut}
-use Rattle.boot.specs.{declared.refusals.BootError.BootError, declared.refusals.BootError.TheVariants.BadToml, Plan.BootPlan, Plan.plan_of}
-use Rattle.tracer.specs.{declared.verdicts.Verdict.Verdict, Judging.verdict_of, Verdicts.IsTraceOfRun}
-use Rattle.mctower.specs.{Line.Ghost, Line.count, Line.order_of, Line.run, Line.threads, Line.check, Output.IsPut, Output.IsTold, Output.IsUntouched, Output.Output}
-use Rattle.mctower.specs.{Refusals.PutsRefusal, Refusals.lacks_memory, Refusals.lacks_thread, Refusals.status_of_refusal, declared.refusals.Refusal.Refusal, Running.AreCpus, Running.IsRunOf}
-use Rattle.mctower.specs.{Faults.IsFault, Faults.IsWhy, Help.help_of, Help.topic_of, declared.faults.LineFault.LineFault, declared.faults.LineFault.TheVariants.NotText}
-use Rattle.mctower.specs.{declared.faults.NoOrder.TheVariants.AsksHelp, declared.faults.NoOrder.TheVariants.AsksVersion, declared.help.TheConstants.VERSION}
-use Rattle.mctower.specs.{Running.NoCondition, State.IsStateOf, State.text_of_state, declared.serve.Done.Done, declared.serve.Done.TheVariants.Exit}
-use Rattle.mctower.specs.{declared.serve.Done.TheVariants.Ran, declared.serve.Done.TheVariants.Worked, declared.states.State.State, Schedule.steps_of}
-use Rattle.mctower.specs.{Tabled.IsStateOfRun, Tabled.IsTextOfRun, Texts.IsTextOf, Threads.IsWorked, Threads.stop_text}
-use Rattle.mctower.specs.declared.refusals.Refusal.TheVariants.{BadLine, BadCpu, ReadFault, WriteFault, BadSchedule, Plan as BadPlan}
-use Rattle.cpu.specs.Claims.{Shown, traces_of}
-use Rattle.cpu_workers.specs.declared.workers.stops.Stop.{Stop}
+use Rattle.std.specs.{Prelude.{decimal, if◌then◌else◌, is_some, map, string_bytes, String}, Global.Global, declared.io.ErrorKind.ErrorKind}
+use Rattle.{std.specs.declared.io.ErrorKind.TheVariants.{OutOfMemory, InvalidData}, clap.specs.Walk.Text, event_log.specs.declared.ids.CpuId.CpuId}
+use Rattle.{event_log.specs.Streams.IsFirstInFirstOut, boot.specs.{declared.refusals.BootError.{BootError, TheVariants.BadToml}, Plan.{BootPlan, plan_of}}}
+use Rattle.tracer.specs.{declared.{verdicts.Verdict.Verdict, checking.InputFault.InputFault}, Judging.verdict_of, Verdicts.IsTraceOfRun}
+use Rattle.mctower.specs.{Line.{Ghost, count, order_of, run, threads, check}, Output.{IsPut, IsTold, IsUntouched, Output}, Refusals.{PutsRefusal, lacks_memory}}
+use Rattle.mctower.specs.{Refusals.{lacks_thread, status_of_refusal}, declared.refusals.Refusal.{Refusal, TheVariants.{BadLine, BadCpu, ReadFault, WriteFault}}}
+use Rattle.mctower.specs.declared.{refusals.Refusal.TheVariants.{BadSchedule, Plan as BadPlan}, faults.LineFault.{LineFault, TheVariants.NotText}}
+use Rattle.mctower.specs.declared.{faults.NoOrder.TheVariants.{AsksHelp, AsksVersion}, help.TheConstants.VERSION, serve.Done.{Done, TheVariants.{Exit, Ran}}}
+use Rattle.mctower.specs.{declared.{serve.Done.TheVariants.Worked, states.State.State}, Running.{AreCpus, IsRunOf, NoCondition}, Faults.{IsFault, IsWhy}}
+use Rattle.mctower.specs.{Help.{help_of, topic_of}, State.{IsStateOf, text_of_state}, Schedule.steps_of, Tabled.{IsStateOfRun, IsTextOfRun}, Texts.IsTextOf}
+use Rattle.{mctower.specs.Threads.{IsWorked, stop_text}, cpu.specs.Claims.{Shown, traces_of}, cpu_workers.specs.declared.workers.stops.Stop.Stop}
 use Rattle.tracer.specs.declared.verdicts.Verdict.TheVariants as verdict
 use Rattle.tracer.specs.Reasons as reasons
-use Rattle.tracer.specs.declared.checking.InputFault.{InputFault}
 use Rattle.tracer.specs.declared.checking.InputFault.TheVariants as unjudged
 
 -- the exit status of an answer

@@ -1,9 +1,8 @@
 -- What the state lines tell of a system.
 use Rattle.std.specs.Prelude.{◌≡◌, ◌↔◌, ℕ, true, List, length, take, Some, slice_get}
-use Rattle.layer_traits.specs.declared.calls.Place.{Place}
-use Rattle.cpu.specs.{Calm.IsQuiet, Claims.IsPlaceOf, Claims.Shown, Claims.listed, Sound.IsSetupFor, Systems.halted_in, Systems.whole_of, Table.Setups.Setup}
-use Rattle.cpu.specs.{Observed.IsStill, Wakeups.Quiet.IsQuiet as IsQuietTable}
-use Rattle.mctower.specs.{StateLines.state_text, declared.states.State.State}
+use Rattle.{layer_traits.specs.declared.calls.Place.Place, cpu.specs.{Calm.IsQuiet, Claims.{IsPlaceOf, Shown, listed}, Sound.IsSetupFor, Systems.halted_in}}
+use Rattle.{cpu.specs.{Systems.whole_of, Table.Setups.Setup, Observed.IsStill, Wakeups.Quiet.IsQuiet as IsQuietTable}, mctower.specs.StateLines.state_text}
+use Rattle.mctower.specs.declared.states.State.{State}
 
 -- where each thread is
 abbrev pub places_in : State → List Place

@@ -1,10 +1,8 @@
 -- The state lines: for each CPU why it is halted, for each thread where it is, and whether the system is quiet.
-use Rattle.std.specs.Prelude.{ℕ, Bool, List, [], ◌∷◌, ◌++◌, Option, Some, None, codes, decimal, if◌then◌else◌}
-use Rattle.std.specs.List.{flat_map}
-use Rattle.layer_traits.specs.declared.{steps.Reason.Reason, steps.Reason.TheVariants.AllEnded, steps.Reason.TheVariants.TraceFull}
-use Rattle.layer_traits.specs.declared.{steps.Reason.TheVariants.StepsUsed, calls.Place.Place}
-use Rattle.layer_traits.specs.declared.calls.Place.TheVariants.{Running, Ready, Pending, Hand, LockSleeper, WaitRecv, WaitSend, Ended}
-use Rattle.tracer.specs.TraceText.{text_line, numbered}
+use Rattle.std.specs.{Prelude.{ℕ, Bool, List, [], ◌∷◌, ◌++◌, Option, Some, None, codes, decimal, if◌then◌else◌}, List.flat_map}
+use Rattle.layer_traits.specs.declared.{steps.Reason.{Reason, TheVariants.{AllEnded, TraceFull, StepsUsed}}, calls.Place.{Place, TheVariants.{Running, Ready}}}
+use Rattle.{layer_traits.specs.declared.calls.Place.TheVariants.{Pending, Hand, LockSleeper, WaitRecv, WaitSend, Ended}, tracer.specs.TraceText.text_line}
+use Rattle.tracer.specs.TraceText.{numbered}
 
 -- the word for a CPU: it is live, or why it is halted
 abbrev pub halted_word : Option Reason → List ℕ

@@ -1,13 +1,10 @@
 -- What a run tells, by the step table's system alone: the trace text of a plan after a schedule's steps, and its state lines.
 use Rattle.std.specs.Prelude.{◌≡◌, ◌↔◌, ℕ, true, List, [], length, map, Option, Some, None, slice_get}
-use Rattle.event_log.specs.{declared.entries.Entry.Entry, declared.ids.CpuId.CpuId, declared.ids.LockId.TheVariants.Buffer as AtBuffer, Actions.phase}
-use Rattle.event_log.specs.{Messages.Message}
-use Rattle.boot.specs.Plan.{BootPlan}
-use Rattle.layer_traits.specs.{declared.calls.Place.Place, declared.steps.Reason.Reason, Plans.is_in_section}
-use Rattle.cpu.specs.{Claims.buffer_at, Claims.listed, Cpus.reason_in, Sound.setup_for, Table.Blocks.Block, Table.Blocks.OfBuffer, Table.Blocks.OfPending}
-use Rattle.cpu.specs.{Table.Setups.Private, Table.Setups.Setup, Table.Steps.Whole, Table.Steps.block_at, Table.Steps.cpu_numbered, Table.Steps.halted_at}
-use Rattle.cpu.specs.{Observed.IsPlaceByTable, Wakeups.Quiet.IsQuiet}
-use Rattle.mctower.specs.{Plans.table_run, State.places_in, Texts.IsTextOf, declared.states.State.State}
+use Rattle.event_log.specs.{declared.{entries.Entry.Entry, ids.{CpuId.CpuId, LockId.TheVariants.Buffer as AtBuffer}}, Actions.phase, Messages.Message}
+use Rattle.{boot.specs.Plan.BootPlan, layer_traits.specs.{declared.{calls.Place.Place, steps.Reason.Reason}, Plans.is_in_section}, cpu.specs.Claims.buffer_at}
+use Rattle.cpu.specs.{Claims.listed, Cpus.reason_in, Sound.setup_for, Table.{Blocks.{Block, OfBuffer, OfPending}, Setups.{Private, Setup}, Steps.Whole}}
+use Rattle.{cpu.specs.{Table.Steps.{block_at, cpu_numbered, halted_at}, Observed.IsPlaceByTable, Wakeups.Quiet.IsQuiet}, mctower.specs.Plans.table_run}
+use Rattle.mctower.specs.{State.places_in, Texts.IsTextOf, declared.states.State.State}
 
 -- the traces of the table's CPUs
 abbrev pub traces_at : Whole → List (List Entry)

@@ -1,12 +1,8 @@
 -- The trace text of the traces of a plan's CPUs and of what its buffers hold, and what writing it answers.
-use Rattle.std.specs.Prelude.{◌≡◌, ◌≤◌, ℕ, true, false, List, length, Some, slice_get, Result, Ok, Err}
-use Rattle.std.specs.List.{AllByRecursion}
-use Rattle.event_log.specs.{declared.entries.Entry.Entry, Messages.Message, Runs.IsRun, Traces.IsInterleaving}
-use Rattle.tracer.specs.{Gather.IsOrder, Gather.TakesFirstReady, TraceText.IsTraceText}
-use Rattle.boot.specs.Plan.{BootPlan, IsPlan}
-use Rattle.cpu.specs.{Boots.homes_for, Cpus.IsOfHome}
-use Rattle.mctower.specs.{declared.run.Fault.Fault, Output.IsPut, Output.IsUntouched, Output.Output}
-use Rattle.mctower.specs.declared.run.Fault.TheVariants.{NoMemory, Boot, BadCpu, NoOrder, WriteFault}
+use Rattle.std.specs.{Prelude.{◌≡◌, ◌≤◌, ℕ, true, false, List, length, Some, slice_get, Result, Ok, Err}, List.AllByRecursion}
+use Rattle.{event_log.specs.{declared.entries.Entry.Entry, Messages.Message, Runs.IsRun, Traces.IsInterleaving}, tracer.specs.Gather.{IsOrder, TakesFirstReady}}
+use Rattle.{tracer.specs.TraceText.IsTraceText, boot.specs.Plan.{BootPlan, IsPlan}, cpu.specs.{Boots.homes_for, Cpus.IsOfHome}}
+use Rattle.mctower.specs.{declared.run.Fault.{Fault, TheVariants.{NoMemory, Boot, BadCpu, NoOrder, WriteFault}}, Output.{IsPut, IsUntouched, Output}}
 
 -- These traces have a text with what is left: they are one of each CPU of a plan with these capacities, each within its room and of threads at
 -- home with its CPU; and they have an order that keeps each of them, is a run and ends in what is left.

@@ -1,12 +1,8 @@
 -- A run of a plan in threads: what its workers leave, and the lines that tell why each of them stopped.
-use Rattle.std.specs.Prelude.{◌≡◌, ℕ, List, codes, length}
-use Rattle.std.specs.List.{flat_map}
-use Rattle.event_log.specs.{declared.ids.CpuId.CpuId, Streams.IsFirstInFirstOut}
-use Rattle.tracer.specs.TraceText.{text_line, numbered}
-use Rattle.boot.specs.Plan.{BootPlan}
-use Rattle.cpu.specs.Sound.{setup_for}
-use Rattle.cpu_workers.specs.{declared.workers.gates.Go.Go, declared.workers.gates.Go.TheVariants.Pass, Lawful.IsLawfulReport, Lawful.Shown, Lawful.left_in}
-use Rattle.cpu_workers.specs.declared.workers.stops.Stop.{Stop, TheVariants.AllEnded, TheVariants.TurnsUsed, TheVariants.TraceFull, TheVariants.Held}
+use Rattle.std.specs.{Prelude.{◌≡◌, ℕ, List, codes, length}, List.flat_map}
+use Rattle.{event_log.specs.{declared.ids.CpuId.CpuId, Streams.IsFirstInFirstOut}, tracer.specs.TraceText.{text_line, numbered}, boot.specs.Plan.BootPlan}
+use Rattle.{cpu.specs.Sound.setup_for, cpu_workers.specs.declared.workers.{gates.Go.{Go, TheVariants.Pass}, stops.Stop.{Stop, TheVariants.AllEnded}}}
+use Rattle.cpu_workers.specs.{declared.workers.stops.Stop.TheVariants.{TurnsUsed, TraceFull, Held}, Lawful.{IsLawfulReport, Shown, left_in}}
 use Rattle.mctower.specs.{StateLines.cpu_pieces, Texts.IsTextOf}
 
 -- the word for a stop

@@ -2,8 +2,7 @@
 //! calls take memory. Only `count_table` waits.
 
 ghost use Rattle.std.specs.Prelude.{◌≡◌, ℕ, ◌+◌, ◌*◌, ◌<◌, ◌≤◌, ◌%◌, ◌^◌, Some, None, IsSome, IfOk, [], length};
-ghost use Rattle.event_log.specs.{declared.ids.CpuId.CpuId, declared.ids.TheConstants.CPUS, Actions.gives, Actions.phase, Actions.Rests};
-ghost use Rattle.cpu_workers.specs.Counts.{sections_at};
+ghost use Rattle.{event_log.specs.{declared.ids.{CpuId.CpuId, TheConstants.CPUS}, Actions.{gives, phase, Rests}}, cpu_workers.specs.Counts.sections_at};
 ghost use Rattle.mctower.specs.Count.{AreReady, after_round, after_rounds};
 
 use crate::line::MOST_TIMES;

@@ -2,11 +2,9 @@
 //! `why_no_order` takes memory. No call waits, unless the sink's writer does.
 
 ghost use Rattle.std.specs.Prelude.{◌≡◌, None, codes, false, map};
-ghost use Rattle.clap.specs.{Matches.found_of, Values.kind_of, Walk.rows_of};
-ghost use Rattle.tracer.specs.Sinks.{has_failed};
-ghost use Rattle.mctower.specs.{Line.order_in, Line.order_of, Output.IsTold, Output.between, Print.shown_line};
-ghost use Rattle.mctower.specs.{Faults.IsFaultIn, Faults.TellsWhy, Faults.TellsKind, Faults.fault_lines, Faults.fault_text, Faults.first_bad, Faults.is_bad};
-ghost use Rattle.mctower.specs.{Faults.kind_words, Faults.option_name, Faults.value_at, Faults.value_lines, Faults.wanted_of};
+ghost use Rattle.{clap.specs.{Matches.found_of, Values.kind_of, Walk.rows_of}, tracer.specs.Sinks.has_failed, mctower.specs.Line.{order_in, order_of}};
+ghost use Rattle.mctower.specs.{Output.{IsTold, between}, Print.shown_line, Faults.{IsFaultIn, TellsWhy, TellsKind, fault_lines, fault_text, first_bad}};
+ghost use Rattle.mctower.specs.Faults.{is_bad, kind_words, option_name, value_at, value_lines, wanted_of};
 
 use crate::help::usage_on;
 use crate::line::{MOST_CPUS, MOST_TIMES, MOST_TURNS, lock_given, number_of, parse};

@@ -1,12 +1,10 @@
 //! The command line: which order the words after the program's name make. `read_line` takes memory.
 //! No call waits.
 ghost use Rattle.std.specs.Prelude.{◌≡◌, IfOk, OkIff, codes, map, option_map, true, false};
-ghost use Rattle.clap.specs.{Simple.app_of, Simple.subcommand_rows_of, Matches.found_of, Walk.first_of, Walk.rows_of, Walk.rule_of};
-ghost use Rattle.clap.specs.{declared.builder.command.Command.TheViews.out-Command};
-ghost use Rattle.event_log.specs.Refusals.{no_memory};
-ghost use Rattle.mctower.specs.{declared.line.LineError.TheVariants.NoMemory, Line.Reads, Line.check_app, Line.count_app, Line.count_in, Line.number_in};
-ghost use Rattle.mctower.specs.{Line.number_at, Line.lock_asked, Line.optional, Line.order_of, Line.program, Line.run_app, Line.threads_app};
-ghost use Rattle.mctower.specs.{Line.required_option, Line.threads_in, Line.run_in, Line.order_in, Line.Finds, Line.Parses};
+ghost use Rattle.clap.specs.{Simple.{app_of, subcommand_rows_of}, Matches.found_of, Walk.{first_of, rows_of, rule_of}};
+ghost use Rattle.{clap.specs.declared.builder.command.Command.TheViews.out-Command, event_log.specs.Refusals.no_memory};
+ghost use Rattle.mctower.specs.{declared.line.LineError.TheVariants.NoMemory, Line.{Reads, check_app, count_app, count_in, number_in, number_at, lock_asked}};
+ghost use Rattle.mctower.specs.Line.{optional, order_of, program, run_app, threads_app, required_option, threads_in, run_in, order_in, Finds, Parses};
 
 use crate::help::VERSION;
 use crate::memory::told_by_clap;

@@ -13,10 +13,8 @@
 //! ```
 #![tactic(auto)]
 
-ghost use Rattle.std.specs.Prelude.{◌≡◌, IfOk, false, map, string_bytes};
-ghost use Rattle.std.specs.Process.{exit_status};
-ghost use Rattle.tracer.specs.Sinks.{has_failed};
-ghost use Rattle.mctower.specs.{Output.between, Refusals.PutsRefusal, Refusals.status_of_refusal, Serve.EndsProcess, Serve.words_refused};
+ghost use Rattle.std.specs.{Prelude.{◌≡◌, IfOk, false, map, string_bytes}, Process.exit_status};
+ghost use Rattle.{tracer.specs.Sinks.has_failed, mctower.specs.{Output.between, Refusals.{PutsRefusal, status_of_refusal}, Serve.{EndsProcess, words_refused}}};
 
 pub mod count;
 pub mod faults;

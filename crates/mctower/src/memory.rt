@@ -5,9 +5,7 @@
 //! nowhere else in this crate.
 
 ghost use Rattle.std.specs.Prelude.{◌≡◌, ◌≢◌, MatchOption};
-ghost use Rattle.clap.specs.declared.error.kind.ErrorKind.TheVariants.{OutOfMemory};
-ghost use Rattle.event_log.specs.Refusals.{no_memory};
-ghost use Rattle.mctower.specs.Serve.{kind_refused};
+ghost use Rattle.{clap.specs.declared.error.kind.ErrorKind.TheVariants.OutOfMemory, event_log.specs.Refusals.no_memory, mctower.specs.Serve.kind_refused};
 
 use crate::refusals::Refusal;
 use clap::error::ErrorKind;

@@ -2,9 +2,7 @@
 //! line of a program at which it is. No call takes memory or waits, unless the sink's writer does.
 
 ghost use Rattle.std.specs.Prelude.{◌≡◌, ◌++◌, ◌∷◌, [], codes, decimal, false};
-ghost use Rattle.tracer.specs.Sinks.{has_failed};
-ghost use Rattle.mctower.specs.{Output.IsTold, Output.between, PlanFaults.fault_name, PlanFaults.guest_line, PlanFaults.key_line};
-ghost use Rattle.mctower.specs.PlanFaults.{plan_line};
+ghost use Rattle.{tracer.specs.Sinks.has_failed, mctower.specs.{Output.{IsTold, between}, PlanFaults.{fault_name, guest_line, key_line, plan_line}}};
 
 use crate::print::{tell, tell_text};
 use boot::{BootError, PlanKey};

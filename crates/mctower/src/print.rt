@@ -1,10 +1,8 @@
 //! What the program prints: pieces, all of which go out, and texts that are shown in a line. No call
 //! takes memory or waits, unless the sink's writer does.
 
-ghost use Rattle.std.specs.Prelude.{◌≡◌, IfOk, false, is_err, true};
-ghost use Rattle.std.specs.List.{before_first, flat_map};
-ghost use Rattle.tracer.specs.Sinks.{WentOut, has_failed, is_flushed};
-ghost use Rattle.mctower.specs.{Output.IsTold, Output.between, Print.is_line_feed, Print.shown_line};
+ghost use Rattle.std.specs.{Prelude.{◌≡◌, IfOk, false, is_err, true}, List.{before_first, flat_map}};
+ghost use Rattle.{tracer.specs.Sinks.{WentOut, has_failed, is_flushed}, mctower.specs.{Output.{IsTold, between}, Print.{is_line_feed, shown_line}}};
 
 use arrayvec::ArrayString;
 use std::io::Write;

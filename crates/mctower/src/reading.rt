@@ -1,10 +1,8 @@
 //! What the state lines tell of a system, read off it. No call takes memory or waits.
 
 ghost use Rattle.std.specs.Prelude.{◌≡◌, ◌<◌, ◌≤◌, ℕ, length, slice_index_or};
-ghost use Rattle.event_log.specs.declared.ids.TheConstants.{CPUS, THREADS};
-ghost use Rattle.layer_traits.specs.declared.calls.Place.{Place};
-ghost use Rattle.cpu.specs.{Claims.IsPlaceOf, Claims.listed, Systems.halted_in};
-ghost use Rattle.mctower.specs.State.{IsStateOf};
+ghost use Rattle.{event_log.specs.declared.ids.TheConstants.{CPUS, THREADS}, layer_traits.specs.declared.calls.Place.Place, cpu.specs.Claims.IsPlaceOf};
+ghost use Rattle.{cpu.specs.{Claims.listed, Systems.halted_in}, mctower.specs.State.IsStateOf};
 
 use crate::states::State;
 use arrayvec::ArrayVec;

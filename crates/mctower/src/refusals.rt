@@ -1,9 +1,8 @@
 //! Refusals: why an order was not done, what tells it on standard error, and the exit status.
 
 ghost use Rattle.std.specs.Prelude.{◌≡◌, false, map};
-ghost use Rattle.tracer.specs.Sinks.{has_failed};
-ghost use Rattle.mctower.specs.{Output.between, Refusals.PutsRefusal, Refusals.from_fault, Refusals.from_steps};
-ghost use Rattle.mctower.specs.{Refusals.from_worker, Refusals.status_of_refusal};
+ghost use Rattle.{tracer.specs.Sinks.has_failed, mctower.specs.{Output.between, Refusals.{PutsRefusal, from_fault, from_steps, from_worker}}};
+ghost use Rattle.mctower.specs.Refusals.{status_of_refusal};
 
 use crate::faults::{LineFault, write_fault};
 use crate::plan_faults::write_plan_fault;

@@ -2,13 +2,10 @@
 //! No call waits, unless the sink's writer does.
 
 ghost use Rattle.std.specs.Prelude.{◌≡◌, ◌≤◌, false, length, map, IfOk};
-ghost use Rattle.event_log.specs.{declared.ids.TheConstants.BUFFERS, Refusals.no_memory};
-ghost use Rattle.boot.specs.Plan.{plan_of};
-ghost use Rattle.tracer.specs.{Gather.traces_in, Sinks.has_failed};
-ghost use Rattle.cpu.specs.Claims.{traces_of};
-ghost use Rattle.mctower.specs.{Output.between, Plans.IsOfPlan, Plans.from_boot, Running.RunsPlan, Running.RunsText, Running.on_lock};
-ghost use Rattle.mctower.specs.Texts.{Writes};
-ghost use Rattle.mctower.specs.declared.run.Fault.TheVariants.{NoMemory, NoOrder, BadCpu as BadCpuFault, WriteFault as WriteFailed};
+ghost use Rattle.{event_log.specs.{declared.ids.TheConstants.BUFFERS, Refusals.no_memory}, boot.specs.Plan.plan_of, tracer.specs.Gather.traces_in};
+ghost use Rattle.{tracer.specs.Sinks.has_failed, cpu.specs.Claims.traces_of, mctower.specs.{Output.between, Plans.{IsOfPlan, from_boot}, Running.RunsPlan}};
+ghost use Rattle.mctower.specs.{Running.{RunsText, on_lock}, Texts.Writes, declared.run.Fault.TheVariants.{NoMemory, NoOrder, BadCpu as BadCpuFault}};
+ghost use Rattle.mctower.specs.declared.run.Fault.TheVariants.{WriteFault as WriteFailed};
 
 use crate::schedule::MOST_STEPS;
 use crate::texts::write_text;

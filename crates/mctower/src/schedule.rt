@@ -1,10 +1,9 @@
 //! Schedules: which CPU takes each step of a run, read from a text such as `0*10,1,0*3`.
 //! `read_steps` takes memory. No call waits.
 ghost use Rattle.std.specs.Prelude.{◌≡◌, ◌+◌, ◌-◌, ◌<◌, ◌≤◌, ◌∷◌, ◌++◌, [], true, length, replicate, slice_index, take, option_map, IfSome, OnOk, vec_len};
-ghost use Rattle.std.specs.{Char.is_ascii_digit, List.slice_split, Str.all_ascii_digits};
-ghost use Rattle.mctower.specs.{Schedule.cpu_of, Schedule.item_of, Schedule.is_comma, Schedule.schedule_pieces, Schedule.ReadsSteps, Schedule.steps_of, Schedule.steps_in};
+ghost use Rattle.{std.specs.{Char.is_ascii_digit, List.slice_split, Str.all_ascii_digits}, mctower.specs.Schedule.{cpu_of, item_of, is_comma, schedule_pieces}};
+ghost use Rattle.mctower.specs.{Schedule.{ReadsSteps, steps_of, steps_in}, declared.schedule.StepsError.TheVariants.NoMemory};
 ghost use Rattle.event_log.specs.Refusals.{no_memory};
-ghost use Rattle.mctower.specs.{declared.schedule.StepsError.TheVariants.NoMemory};
 
 use event_log::{CpuId, NoMemory, number_to};
 use std::alloc::{AllocError, AllocFailed, Global};

@@ -1,13 +1,10 @@
 //! Serving a command line: reads the order, does it, prints, and gives the exit status. `serve`
 //! takes memory. It may wait: for its worker threads, and for the streams.
 
-ghost use Rattle.std.specs.Prelude.{◌≡◌, ◌≤◌, ◌*◌, ◌⊎◌, IfOk, None, false, true, length, map, option_map, string_bytes};
-ghost use Rattle.std.specs.List.{flat_map};
-ghost use Rattle.event_log.specs.declared.ids.TheConstants.{CPUS};
-ghost use Rattle.tracer.specs.Sinks.{has_failed, is_flushed};
-ghost use Rattle.mctower.specs.{Output.between, Line.order_of, Schedule.ReadsSteps, Serve.Checks, Serve.Counts, Serve.Ends, Serve.OfBytes, Serve.OfInput};
-ghost use Rattle.mctower.specs.{Serve.Puts, Serve.PutsAnswer, Serve.ReadsAll, Serve.RunsPlan, Serve.Serves, Serve.PrintsVerdict, Serve.fault_refused, Serve.reads_input};
-ghost use Rattle.mctower.specs.{Serve.steps_asked};
+ghost use Rattle.std.specs.{Prelude.{◌≡◌, ◌≤◌, ◌*◌, ◌⊎◌, IfOk, None, false, true, length, map, option_map, string_bytes}, List.flat_map};
+ghost use Rattle.{event_log.specs.declared.ids.TheConstants.CPUS, tracer.specs.Sinks.{has_failed, is_flushed}, mctower.specs.{Output.between, Line.order_of}};
+ghost use Rattle.mctower.specs.{Schedule.ReadsSteps, Serve.{Checks, Counts, Ends, OfBytes, OfInput, Puts, PutsAnswer, ReadsAll, RunsPlan, Serves}};
+ghost use Rattle.mctower.specs.Serve.{PrintsVerdict, fault_refused, reads_input, steps_asked};
 
 use crate::count::{count_plain, count_table};
 use crate::faults::{NoOrder, why_no_order};

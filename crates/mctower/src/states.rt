@@ -1,10 +1,8 @@
 //! The state lines: what `run` tells of the system that a schedule's steps left. No call takes
 //! memory or waits, unless the sink's writer does.
 
-ghost use Rattle.std.specs.Prelude.{◌≡◌, ℕ, IfOk, List, Some, None, false, true, is_err, map, ◌≤◌};
-ghost use Rattle.tracer.specs.{Sinks.WentOut, Sinks.has_failed, Sinks.is_flushed, TraceText.text_line, TraceText.numbered};
-ghost use Rattle.std.specs.List.{flat_map};
-ghost use Rattle.event_log.specs.declared.ids.TheConstants.{THREADS};
+ghost use Rattle.std.specs.{Prelude.{◌≡◌, ℕ, IfOk, List, Some, None, false, true, is_err, map, ◌≤◌}, List.flat_map};
+ghost use Rattle.{tracer.specs.{Sinks.{WentOut, has_failed, is_flushed}, TraceText.{text_line, numbered}}, event_log.specs.declared.ids.TheConstants.THREADS};
 ghost use Rattle.mctower.specs.StateLines.{cpu_pieces, halted_pieces, halted_word, place_name, place_number, quiet_pieces, state_text, thread_pieces};
 
 use crate::print::put_all;

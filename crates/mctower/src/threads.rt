@@ -2,15 +2,11 @@
 //! out, and why each worker stopped is told. `serve_threads` takes memory and waits for the
 //! workers.
 
-ghost use Rattle.std.specs.Prelude.{◌≡◌, ◌≤◌, ◌⊎◌, IfOk, false, is_err, map, true};
-ghost use Rattle.std.specs.List.{flat_map};
-ghost use Rattle.event_log.specs.declared.ids.TheConstants.{BUFFERS};
-ghost use Rattle.boot.specs.Plan.{plan_of};
-ghost use Rattle.tracer.specs.{Sinks.WentOut, Sinks.has_failed, Sinks.is_flushed, TraceText.text_line, TraceText.numbered};
-ghost use Rattle.cpu.specs.Claims.{buffer_at, listed};
-ghost use Rattle.cpu_workers.specs.Seating.{items_of_block};
-ghost use Rattle.mctower.specs.{Output.IsTold, Output.between, Serve.OfBytes, Serve.OfInput, Serve.OfPlan, Serve.RefusedBy, Serve.WorksPlan, Threads.stop_pieces};
-ghost use Rattle.mctower.specs.{Threads.stop_text, Threads.stop_word, Refusals.lacks_memory};
+ghost use Rattle.std.specs.{Prelude.{◌≡◌, ◌≤◌, ◌⊎◌, IfOk, false, is_err, map, true}, List.flat_map};
+ghost use Rattle.{event_log.specs.declared.ids.TheConstants.BUFFERS, boot.specs.Plan.plan_of, tracer.specs.Sinks.{WentOut, has_failed, is_flushed}};
+ghost use Rattle.{tracer.specs.TraceText.{text_line, numbered}, cpu.specs.Claims.{buffer_at, listed}, cpu_workers.specs.Seating.items_of_block};
+ghost use Rattle.mctower.specs.{Output.{IsTold, between}, Serve.{OfBytes, OfInput, OfPlan, RefusedBy, WorksPlan}, Threads.{stop_pieces, stop_text, stop_word}};
+ghost use Rattle.mctower.specs.Refusals.{lacks_memory};
 
 use crate::refusals::{Refusal, run_refused, worker_refused};
 use crate::run::Fault;

@@ -5,9 +5,7 @@
 //! `locks.rt`. `run_plan` takes memory. No call waits, unless the sink's writer does.
 
 ghost use Rattle.std.specs.Prelude.{◌≡◌, ◌≤◌, false, length};
-ghost use Rattle.boot.specs.Plan.{plan_of};
-ghost use Rattle.tracer.specs.Sinks.{has_failed};
-ghost use Rattle.mctower.specs.{Output.between, Running.RunsOverTower};
+ghost use Rattle.{boot.specs.Plan.plan_of, tracer.specs.Sinks.has_failed, mctower.specs.{Output.between, Running.RunsOverTower}};
 
 use crate::locks::{OnLock, over_lock};
 use crate::reading::state_of;
@@ -99,8 +97,7 @@ pub struct PlanRun<'p, 's, 'o, O: Write> {
 
 impl<O: Write> OverTower for PlanRun<'_, '_, '_, O> {
     ghost use Rattle.std.specs.Prelude.{◌≡◌, ◌≤◌, false, length, Ok};
-    ghost use Rattle.tracer.specs.Sinks.{has_failed};
-    ghost use Rattle.mctower.specs.{Output.between, Running.RunsOverTower, declared.schedule.TheConstants.MOST_STEPS};
+    ghost use Rattle.{tracer.specs.Sinks.has_failed, mctower.specs.{Output.between, Running.RunsOverTower, declared.schedule.TheConstants.MOST_STEPS}};
 
     type Done = Result<State, Fault>;
 

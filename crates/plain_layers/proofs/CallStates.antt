@@ -1,10 +1,7 @@
 -- Which call a thread may poll.
-use Rattle.std.proofs.Common.{◌≡◌, List, replicate, Some, refl, ap, sym, ◌∙◌, subst}
-use Rattle.event_log.specs.declared.ids.{Tid.Tid, TheConstants.THREADS}
-use Rattle.layer_traits.specs.{declared.calls.Call.Call, declared.call_states.Stage.Stage, declared.call_states.CallState.CallState, BufferLaw.MayPollCall}
-use Rattle.layer_traits.specs.{BufferLaw.begun_at, BufferLaw.begun_of, BufferLaw.going_at, BufferLaw.no_call, BufferLaw.call_state_of}
-use Rattle.layer_traits.specs.declared.call_states.Stage.TheVariants.{Idle, Acquires, Enters, Tries, Waits, AcquiresAgain, Signals, SignalsOwn, Releases}
-use Rattle.fifo_buffer.proofs.Starting.{same_default}
+use Rattle.std.proofs.Common.{◌≡◌, List, replicate, refl, ap, sym, ◌∙◌, subst}
+use Rattle.{event_log.specs.declared.ids.{Tid.Tid, TheConstants.THREADS}, layer_traits.specs.declared.{calls.Call.Call, call_states.CallState.CallState}}
+use Rattle.{layer_traits.specs.BufferLaw.{MayPollCall, no_call, call_state_of}, fifo_buffer.proofs.Starting.same_default}
 
 -- who never called may begin any call
 pub may_begin : (call_states : List CallState) (t : Tid) (call : Call) → call_states ≡ replicate THREADS no_call

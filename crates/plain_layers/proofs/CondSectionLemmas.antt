@@ -1,22 +1,17 @@
 -- How a thread stands after a poll of its call on a lock with conditions, by the law of the layer alone.
 use Rattle.std.proofs.Common.{◌≡◌, ◌⊎◌, inl, inr, true, false, List, Option, Some, None, IsSome, is_some, slice_set, length, option_map, ◌<◌, refl, ap, sym}
-use Rattle.std.proofs.Common.{◌∙◌, subst}
-use Rattle.std.proofs.lemmas.{Option.same_Some, List.get_or-set_same, List.length-replicate, List.length-set}
-use Rattle.event_log.specs.declared.ids.{BufId.BufId, CpuId.CpuId, LockId.LockId, LockId.TheVariants.Buffer, Tid.Tid, TheConstants.THREADS}
-use Rattle.layer_traits.specs.declared.{conditions.CvEdit.CvEdit, conditions.CvLeave.CvLeave, conditions.CvOut.CvOut, locked.QEdit.QEdit, locked.QOut.QOut}
-use Rattle.layer_traits.specs.declared.{locked.QOut.TheVariants.Acquired, locked.QOut.TheVariants.Queued, locked.QOut.TheVariants.Did}
-use Rattle.layer_traits.specs.declared.{locked.QOut.TheVariants.Released, locked.Side.Side, locked.Side.TheVariants.Receivers, locked.Side.TheVariants.Senders}
+use Rattle.std.proofs.{Common.{◌∙◌, subst}, lemmas.{Option.same_Some, List.{get_or-set_same, length-replicate, length-set}}}
+use Rattle.event_log.specs.declared.ids.{BufId.BufId, CpuId.CpuId, LockId.{LockId, TheVariants.Buffer}, Tid.Tid, TheConstants.THREADS}
+use Rattle.layer_traits.specs.declared.{conditions.{CvEdit.CvEdit, CvLeave.CvLeave, CvOut.CvOut}, locked.{QEdit.QEdit, QOut.{QOut, TheVariants.Acquired}}}
+use Rattle.layer_traits.specs.declared.locked.{QOut.TheVariants.{Queued, Did, Released}, Side.{Side, TheVariants.{Receivers, Senders}}}
 use Rattle.layer_traits.specs.declared.{moves.WaitList.WaitList, payloads.Parcel.Parcel, queue_edits.QueueBlock.QueueBlock, queues.QueueEvent.QueueEvent}
-use Rattle.layer_traits.specs.declared.{scheds.SchedCall.SchedCall, scheds.SchedCall.TheVariants.OnBuffer, sleeps.Outcome.Outcome}
-use Rattle.layer_traits.specs.{Conditions.CvCall, Conditions.MonitorRules, Conditions.cv_rules, CvLaw.CvPolled, CvLaw.MayWait, CvLaw.WaitOver, CvLaw.Waiting}
-use Rattle.layer_traits.specs.{CvLaw.left_reported, CvLaw.left_waiting, CvLaw.waiting_at_start, CvLaw.waiting_with, QLocking.LockState, QLocking.wait_list_for}
-use Rattle.layer_traits.specs.{QLocking.wait_list_slept, QLocking.lock_caller, QLocking.owner_in, QLocking.owner_of, QLockLaw.IsAcquire, QLockLaw.Locking}
-use Rattle.layer_traits.specs.{QLockLaw.MayGo, QLockLaw.MayLock, QLockLaw.lock_kernel, QLockLaw.slept_for, Payloads.cv_meant, Payloads.lock_meant, Plans.Left}
-use Rattle.layer_traits.specs.{QueueBlocks.inner, Queues.Kernel, Queues.buffer_sections, SleepLaw.MayCall}
-use Rattle.queuing_lock.proofs.SleptLemmas.{none_at}
-use Rattle.plain_layers.proofs.LockSectionLemmas.{After, after_polled}
-use Rattle.plain_layers.specs.{CondSections.CondHasEnded, CondSections.IsCondReady, CondSections.MayPollCondSection, CondSections.WaitsAt}
-use Rattle.plain_layers.specs.{LockSections.call_alone, LockSections.no_parcel}
+use Rattle.layer_traits.specs.{declared.{scheds.SchedCall.{SchedCall, TheVariants.OnBuffer}, sleeps.Outcome.Outcome}, Conditions.{CvCall, MonitorRules}}
+use Rattle.layer_traits.specs.{Conditions.cv_rules, CvLaw.{CvPolled, MayWait, WaitOver, Waiting, left_reported, left_waiting, waiting_at_start, waiting_with}}
+use Rattle.layer_traits.specs.{QLocking.{LockState, wait_list_for, wait_list_slept, lock_caller, owner_in, owner_of}, QLockLaw.{IsAcquire, Locking, MayGo}}
+use Rattle.layer_traits.specs.{QLockLaw.{MayLock, lock_kernel, slept_for}, Payloads.{cv_meant, lock_meant}, Plans.Left, QueueBlocks.inner, Queues.Kernel}
+use Rattle.{layer_traits.specs.{Queues.buffer_sections, SleepLaw.MayCall}, queuing_lock.proofs.SleptLemmas.none_at, plain_layers.proofs.LockSectionLemmas.After}
+use Rattle.plain_layers.{proofs.LockSectionLemmas.after_polled, specs.CondSections.{CondHasEnded, IsCondReady, MayPollCondSection, WaitsAt}}
+use Rattle.plain_layers.specs.LockSections.{call_alone, no_parcel}
 use Rattle.layer_traits.specs.declared.conditions.CvOut.TheVariants as answer
 use Rattle.layer_traits.specs.declared.moves.WaitList.TheVariants as wait_list
 

@@ -1,36 +1,26 @@
 -- Polls of buffers in one section a call: what they add to the effects and to the moves, and what they leave of the parts.
 use Rattle.std.proofs.Common.{◌≡◌, ◌≢◌, ℕ, ◌<◌, inl, inr, Bool, true, false, List, [], ◌∷◌, ◌++◌, length, Option, Some, None, IsSome, is_some, option_map}
 use Rattle.std.proofs.Common.{if◌then◌else◌, refl, ap, sym, ◌∙◌, subst, slice_get, option_to_list, ◌≤◌, ◌==◌, get_or, replicate, slice_set, arith, subst₂}
-use Rattle.std.proofs.Common.{unwrap_or}
-use Rattle.std.specs.Prelude.{nat_lt}
-use Rattle.std.proofs.lemmas.{Bool.eqb-true, Bool.eqb-false, Bool.lt-ltb, Bool.or_parts, List.get_or-set_same, List.get_or-set_other, Option.slice_get-get_or}
-use Rattle.std.proofs.lemmas.{Option.slice_get_within}
-use Rattle.event_log.specs.{Runs.group_of, declared.ids.Tid.Tid, declared.ids.TheConstants.THREADS, Messages.Message, declared.entries.Entry.Entry}
-use Rattle.event_log.specs.{declared.ids.BufId.BufId, declared.ids.CpuId.CpuId, declared.ids.LockId.LockId, declared.ids.LockId.TheVariants.Pending}
-use Rattle.event_log.specs.{declared.ids.LockId.TheVariants.Buffer, declared.ids.TheConstants.CPUS, History.IsLawful}
-use Rattle.layer_traits.specs.declared.{calls.Call.Call, calls.Call.TheVariants.Send, calls.Call.TheVariants.Recv, calls.Call.TheVariants.Close}
-use Rattle.layer_traits.specs.declared.{calls.Effect.Effect, calls.Reply.Reply, calls.ReplyKind.ReplyKind, locked.Side.TheVariants.Receivers}
-use Rattle.layer_traits.specs.declared.{locked.Side.TheVariants.Senders, queues.QueueCall.TheVariants.OnBuffer, call_states.Stage.Stage}
-use Rattle.layer_traits.specs.declared.{call_states.CallState.CallState, moves.WaitList.WaitList, passes.Pass.Pass, passes.Pass.TheVariants.Switch}
-use Rattle.layer_traits.specs.declared.{passes.Pass.TheVariants.YieldNow, passes.Pass.TheVariants.Drain, passes.Pass.TheVariants.MakeReady}
-use Rattle.layer_traits.specs.declared.{passes.Pass.TheVariants.End, queue_edits.QueueBlock.QueueBlock, queues.QueueEvent.QueueEvent, sleeps.Outcome.Outcome}
-use Rattle.layer_traits.specs.declared.call_states.Stage.TheVariants.{Idle, Acquires, Enters, Tries, Waits, AcquiresAgain, Signals, SignalsOwn, Releases}
-use Rattle.layer_traits.specs.{BufferLaw.Answered, BufferLaw.Called, BufferLaw.IsEffectOf, BufferLaw.IsRefused, BufferLaw.MayPollCall, BufferLaw.answer_in}
-use Rattle.layer_traits.specs.{BufferLaw.buffer_of, BufferLaw.entry_of, BufferLaw.going, BufferLaw.going_at, BufferLaw.no_call, BufferLaw.call_state_of}
-use Rattle.layer_traits.specs.{BufferLaw.reply_with, Passes.own_slept, Passes.queue_for, Places.AreMoves, Places.Pushed, Places.Stands, Places.Step}
-use Rattle.layer_traits.specs.{Places.step, Protocol.section, Queues.call_move, Queues.out_at, Sleeping.sleep_answer, Sleeping.sleep_moves, SleepLaw.Sleeping}
-use Rattle.layer_traits.specs.{BufferLaw.MovesGrow, BufferLaw.OthersSeen, Passes.PassPolled, Places.Threads, QueueBlocks.homes_in, QueueBlocks.inner}
-use Rattle.layer_traits.specs.{Queues.IsKnownEvent, Queues.Kernel, Queues.buffer_sections, Queues.moves_in, Scheds.SchedPolled, Scheds.events_of}
-use Rattle.layer_traits.specs.{Scheds.own_answered, Scheds.pass_call, Sleeping.NobodySleeps, Sleeping.wait_list_at, SleepLaw.done_if, SleepLaw.sleep_kernel}
-use Rattle.layer_traits.proofs.{PlaceLemmas.current_at, CallLemmas.pass_polled, SleepLemmas.done_same, PlaceLemmas.woken_current, Seen.lawful_rest}
-use Rattle.sleep_wakeup.proofs.BootLemmas.{there_inside}
-use Rattle.plain_layers.specs.declared.attempts.{Tried.TheVariants.Acted, Tried.TheVariants.Refused, Attempt.Attempt, Tried.Tried}
-use Rattle.plain_layers.specs.{Attempts.PlainState, Attempts.allows, Attempts.effect_at, Attempts.effect_in, Attempts.wait_list_by, Attempts.told, Fifos.ask_of}
-use Rattle.plain_layers.specs.{Fifos.attempt_of, Fifos.effect_by, Fifos.locked_after, Fifos.reply_to, Fifos.call_state_after, FifoTallies.FifoTally}
-use Rattle.plain_layers.specs.{FifoTallies.reported_if, Laws.FifoTallies.kind_asked, Laws.FifoTallies.plain_tally, Wholes.IsDoneWhole, Wholes.asked}
-use Rattle.plain_layers.specs.{Attempts.attempts, Fifos.IsOwned, Fifos.PlainLocked, Fifos.caps_in, Fifos.entries_in, Fifos.fresh_buffer, Fifos.fresh_buffers}
-use Rattle.event_log.proofs.ListLemmas.{alike_at}
-use Rattle.plain_layers.proofs.WholeLemmas.{no_foreign_events}
+use Rattle.std.proofs.{Common.unwrap_or, lemmas.{Bool.{eqb-true, eqb-false, lt-ltb, or_parts}, List.{get_or-set_same, get_or-set_other}}}
+use Rattle.{std.{proofs.lemmas.Option.{slice_get-get_or, slice_get_within}, specs.Prelude.nat_lt}, event_log.specs.{Runs.group_of, declared.ids.Tid.Tid}}
+use Rattle.event_log.specs.declared.ids.{TheConstants.{THREADS, CPUS}, BufId.BufId, CpuId.CpuId, LockId.{LockId, TheVariants.{Pending, Buffer}}}
+use Rattle.event_log.{specs.{declared.entries.Entry.Entry, Messages.Message, History.IsLawful}, proofs.ListLemmas.alike_at}
+use Rattle.layer_traits.specs.declared.calls.{Call.{Call, TheVariants.{Send, Recv, Close}}, Effect.Effect, Reply.Reply, ReplyKind.ReplyKind}
+use Rattle.layer_traits.specs.declared.{locked.Side.TheVariants.{Receivers, Senders}, queues.{QueueCall.TheVariants.OnBuffer, QueueEvent.QueueEvent}}
+use Rattle.layer_traits.specs.declared.call_states.Stage.{Stage, TheVariants.{Idle, Acquires, Enters, Tries, Waits, AcquiresAgain, Signals, SignalsOwn}}
+use Rattle.layer_traits.specs.declared.{call_states.{Stage.TheVariants.Releases, CallState.CallState}, moves.WaitList.WaitList, passes.Pass.Pass}
+use Rattle.layer_traits.specs.declared.{passes.Pass.TheVariants.{Switch, YieldNow, Drain, MakeReady, End}, queue_edits.QueueBlock.QueueBlock}
+use Rattle.layer_traits.specs.{declared.sleeps.Outcome.Outcome, BufferLaw.{Answered, Called, IsEffectOf, IsRefused, MayPollCall, answer_in, buffer_of}}
+use Rattle.layer_traits.specs.{BufferLaw.{entry_of, going, going_at, no_call, call_state_of, reply_with, MovesGrow, OthersSeen}, Passes.{own_slept, queue_for}}
+use Rattle.layer_traits.specs.{Passes.PassPolled, Places.{AreMoves, Pushed, Stands, Step, step, Threads}, Protocol.section, Queues.{call_move, out_at}}
+use Rattle.layer_traits.specs.{Queues.{IsKnownEvent, Kernel, buffer_sections, moves_in}, Sleeping.{sleep_answer, sleep_moves, NobodySleeps, wait_list_at}}
+use Rattle.layer_traits.specs.{SleepLaw.{Sleeping, done_if, sleep_kernel}, QueueBlocks.{homes_in, inner}, Scheds.{SchedPolled, events_of, own_answered}}
+use Rattle.layer_traits.{specs.Scheds.pass_call, proofs.{PlaceLemmas.{current_at, woken_current}, CallLemmas.pass_polled, SleepLemmas.done_same}}
+use Rattle.{layer_traits.proofs.Seen.lawful_rest, sleep_wakeup.proofs.BootLemmas.there_inside, plain_layers.specs.declared.attempts.Tried.TheVariants.Acted}
+use Rattle.plain_layers.specs.{declared.attempts.{Tried.{TheVariants.Refused, Tried}, Attempt.Attempt}, Attempts.{PlainState, allows, effect_at, effect_in}}
+use Rattle.plain_layers.specs.{Attempts.{wait_list_by, told, attempts}, Fifos.{ask_of, attempt_of, effect_by, locked_after, reply_to, call_state_after}}
+use Rattle.plain_layers.specs.{Fifos.{IsOwned, PlainLocked, caps_in, entries_in, fresh_buffer, fresh_buffers}, FifoTallies.{FifoTally, reported_if}}
+use Rattle.plain_layers.{specs.{Laws.FifoTallies.{kind_asked, plain_tally}, Wholes.{IsDoneWhole, asked}}, proofs.WholeLemmas.no_foreign_events}
 use Rattle.plain_layers.specs.declared.attempts.Ask.TheVariants as ask
 use Rattle.layer_traits.specs.declared.moves.WaitList.TheVariants as wait_list
 use Rattle.layer_traits.specs.declared.scheds.SchedCall.TheVariants as sched

@@ -1,22 +1,17 @@
 -- How a thread stands after a poll of its call on a queuing lock, by the law of the layer alone.
 use Rattle.std.proofs.Common.{◌≡◌, ◌⊎◌, inl, inr, Bool, true, false, ◌&&◌, not, List, ◌∷◌, ◌++◌, Option, Some, None, IsSome, is_some, option_map, if◌then◌else◌}
-use Rattle.std.proofs.Common.{◌<◌, refl, ap, sym, ◌∙◌, subst}
-use Rattle.std.proofs.lemmas.List.{get_or-set_same, length-replicate, length-set}
-use Rattle.event_log.specs.declared.ids.{BufId.BufId, CpuId.CpuId, LockId.LockId, LockId.TheVariants.Buffer, Tid.Tid, TheConstants.THREADS}
-use Rattle.event_log.proofs.{Same.same_lock_self, BoolLemmas.none_of}
-use Rattle.layer_traits.specs.declared.locked.{QEdit.QEdit, QEdit.TheVariants.Acquire, QEdit.TheVariants.Inside, QEdit.TheVariants.Release, QOut.QOut}
-use Rattle.layer_traits.specs.declared.locked.{QOut.TheVariants.Acquired, QOut.TheVariants.Queued, QOut.TheVariants.Did, QOut.TheVariants.Released}
-use Rattle.layer_traits.specs.declared.{moves.WaitList.WaitList, moves.WaitList.TheVariants.Sleepers, payloads.Parcel.Parcel, queue_edits.QueueBlock.QueueBlock}
-use Rattle.layer_traits.specs.declared.{queues.QueueCall.TheVariants.OnBuffer, queues.QueueEvent.QueueEvent, scheds.SchedCall.SchedCall, sleeps.Outcome.Outcome}
+use Rattle.std.proofs.{Common.{◌<◌, refl, ap, sym, ◌∙◌, subst}, lemmas.List.{get_or-set_same, length-replicate, length-set}}
+use Rattle.event_log.specs.declared.ids.{BufId.BufId, CpuId.CpuId, LockId.{LockId, TheVariants.Buffer}, Tid.Tid, TheConstants.THREADS}
+use Rattle.{event_log.proofs.{Same.same_lock_self, BoolLemmas.none_of}, layer_traits.specs.declared.locked.QEdit.{QEdit, TheVariants.{Acquire, Inside}}}
+use Rattle.layer_traits.specs.declared.{locked.{QEdit.TheVariants.Release, QOut.{QOut, TheVariants.{Acquired, Queued, Did, Released}}}, moves.WaitList.WaitList}
+use Rattle.layer_traits.specs.declared.{moves.WaitList.TheVariants.Sleepers, payloads.Parcel.Parcel, queue_edits.QueueBlock.QueueBlock}
+use Rattle.layer_traits.specs.declared.{queues.{QueueCall.TheVariants.OnBuffer, QueueEvent.QueueEvent}, scheds.SchedCall.SchedCall, sleeps.Outcome.Outcome}
 use Rattle.layer_traits.specs.QLocking.{LockRules, LockState, asked, wait_list_asked, wait_list_slept, lock_after, lock_answer, lock_caller, lock_edited}
-use Rattle.layer_traits.specs.QLocking.{lock_moves, lock_out, lock_slept, owner_in, owner_of, asker_report}
-use Rattle.layer_traits.specs.{QLockLaw.at_start, QLockLaw.Handed, QLockLaw.IsAcquire, QLockLaw.LockPolled, QLockLaw.Locking, QLockLaw.Locks, QLockLaw.MayGo}
-use Rattle.layer_traits.specs.{QLockLaw.MayLock, QLockLaw.left_after, QLockLaw.left_locked, QLockLaw.lock_kernel, QLockLaw.locking, QLockLaw.slept_for}
-use Rattle.layer_traits.specs.{Passes.own_slept, Passes.passed_on, Payloads.lock_meant, Places.Threads, Plans.Left, QueueBlocks.homes_in, QueueBlocks.inner}
-use Rattle.layer_traits.specs.{Queues.Kernel, Queues.buffer_sections, Queues.event, Scheds.own_answered, SleepLaw.MayCall, SleepLaw.PollResult, SleepLaw.Does}
-use Rattle.layer_traits.specs.{SleepLaw.MayDo, SleepLaw.Sends, SleepLaw.Sleeping, SleepLaw.Waits, SleepLaw.left_with, SleepLaw.must_send, SleepLaw.seen_with}
-use Rattle.layer_traits.proofs.PlaceLemmas.{woken_current}
-use Rattle.queuing_lock.proofs.SleptLemmas.{none_at}
+use Rattle.layer_traits.specs.{QLocking.{lock_moves, lock_out, lock_slept, owner_in, owner_of, asker_report}, QLockLaw.{at_start, Handed, IsAcquire}}
+use Rattle.layer_traits.specs.QLockLaw.{LockPolled, Locking, Locks, MayGo, MayLock, left_after, left_locked, lock_kernel, locking, slept_for}
+use Rattle.layer_traits.specs.{Passes.{own_slept, passed_on}, Payloads.lock_meant, Places.Threads, Plans.Left, QueueBlocks.{homes_in, inner}, Queues.Kernel}
+use Rattle.layer_traits.specs.{Queues.{buffer_sections, event}, Scheds.own_answered, SleepLaw.{MayCall, PollResult, Does, MayDo, Sends, Sleeping, Waits}}
+use Rattle.{layer_traits.{specs.SleepLaw.{left_with, must_send, seen_with}, proofs.PlaceLemmas.woken_current}, queuing_lock.proofs.SleptLemmas.none_at}
 use Rattle.plain_layers.specs.LockSections.{LockHasEnded, IsSteady, MayPollLockSection, SleepsFor, call_alone, no_parcel}
 use Rattle.layer_traits.specs.declared.scheds.SchedCall.TheVariants as call
 

@@ -1,13 +1,11 @@
 -- A machine that opens with empty buffers, as one-step buffers read it and as their layer's trait shows it.
 use Rattle.std.proofs.Common.{◌≡◌, ℕ, ◌≤◌, List, length, map, Option, Some, None, option_map, slice_get, refl, ap, sym, ◌∙◌, ◌*◌, ◌/◌, lit<}
-use Rattle.std.proofs.{Math.Nat.le-div_iff_mul-le, Math.Path.fun_ext, lemmas.Option.slice_get-map}
-use Rattle.event_log.specs.declared.ids.{BufId.BufId, LockId.LockId, LockId.TheVariants.Pending, LockId.TheVariants.Buffer, Tid.Tid}
-use Rattle.layer_traits.specs.{declared.queue_edits.QueueBlock.QueueBlock, declared.queue_edits.QueueBlock.TheVariants.Queue, BufferEffects.fresh_lock}
-use Rattle.layer_traits.specs.{BufferEffects.opening_locks, QueueBlocks.above_of, QueueBlocks.inner, Renaming.viewed, Capacities.caps_from}
-use Rattle.layer_traits.proofs.{KernelRenaming.inner_viewed, CapacityLemmas.caps_observed as caps_read}
-use Rattle.sleep_wakeup.specs.{declared.edits.SleepBlock.SleepBlock, Nested.resting, Nested.state_of}
-use Rattle.plain_layers.specs.{declared.kernel.Opening.Opening, Attempts.PlainState, Attempts.empty_buffer, Fifos.PlainLocked, Fifos.caps_in}
-use Rattle.plain_layers.specs.{Fifos.fresh_buffer, Fifos.fresh_buffers, Fifos.shown, Kernels.opening_of}
+use Rattle.{std.proofs.{Math.{Nat.le-div_iff_mul-le, Path.fun_ext}, lemmas.Option.slice_get-map}, event_log.specs.declared.ids.{BufId.BufId, LockId.LockId}}
+use Rattle.{event_log.specs.declared.ids.{LockId.TheVariants.{Pending, Buffer}, Tid.Tid}, layer_traits.specs.declared.queue_edits.QueueBlock.QueueBlock}
+use Rattle.layer_traits.specs.{declared.queue_edits.QueueBlock.TheVariants.Queue, BufferEffects.{fresh_lock, opening_locks}, QueueBlocks.{above_of, inner}}
+use Rattle.layer_traits.{specs.{Renaming.viewed, Capacities.caps_from}, proofs.{KernelRenaming.inner_viewed, CapacityLemmas.caps_observed as caps_read}}
+use Rattle.{sleep_wakeup.specs.{declared.edits.SleepBlock.SleepBlock, Nested.{resting, state_of}}, plain_layers.specs.declared.kernel.Opening.Opening}
+use Rattle.plain_layers.specs.{Attempts.{PlainState, empty_buffer}, Fifos.{PlainLocked, caps_in, fresh_buffer, fresh_buffers, shown}, Kernels.opening_of}
 
 -- the buffers of a machine of lists that opened with these blocks
 module _ (start : Opening (SleepBlock PlainState)) (caps : List ℕ) (buffers : List PlainState) (blocks : List (SleepBlock PlainState))

@@ -1,24 +1,18 @@
 -- Calls at shared queues without a scheduler above them: that a CPU may edit for a thread that stands at home with it, push who is in its hand, and
 -- take its own queue, whatever others do; and where the threads of the tests stand after each of their calls.
 use Rattle.std.proofs.Common.{◌≡◌, Bool, true, false, ◌<◌, List, [], ◌∷◌, ◌++◌, Option, Some, None, IsSome, is_some, option_map, if◌then◌else◌, refl, ap, sym}
-use Rattle.std.proofs.Common.{◌∙◌, subst}
-use Rattle.std.proofs.{Math.Path.transport, lemmas.Bool.and_parts}
-use Rattle.event_log.specs.{declared.ids.BufId.BufId, declared.ids.CpuId.CpuId, declared.ids.LockId.LockId, declared.ids.LockId.TheVariants.Buffer}
-use Rattle.event_log.specs.{declared.ids.Tid.Tid, declared.ids.TheConstants.CPUS, History.AreOthers, History.IsLawful}
-use Rattle.event_log.proofs.Same.{same_cpu_self}
-use Rattle.thread_blocks.specs.Queues.{same_tid}
-use Rattle.layer_traits.specs.{declared.moves.WaitList.TheVariants.Sleepers, declared.queue_edits.QueueBlock.QueueBlock}
-use Rattle.layer_traits.specs.{declared.queues.QueueAnswer.QueueAnswer, declared.queues.QueueEvent.QueueEvent, MoveRules.MoveRules, MoveRules.WakesSleepers}
-use Rattle.layer_traits.specs.{MoveRules.edit_move, Protocol.Rules, Protocol.section, QueueBlocks.above_of, QueueBlocks.homes_in, QueueBlocks.inner}
-use Rattle.layer_traits.specs.{Queues.IsKnownEvent, Queues.Kernel, Queues.MayQueue, Queues.QueueAllowed, Queues.QueuePolled, Queues.StaysCallable}
-use Rattle.layer_traits.specs.{Queues.buffer_sections, Queues.event, Queues.cpu_of_queue_event, Queues.kernel, Queues.moves_in}
-use Rattle.layer_traits.specs.declared.queues.QueueCall.{QueueCall, TheVariants.Push, TheVariants.TakeAll, TheVariants.OnBuffer}
+use Rattle.std.proofs.{Common.{◌∙◌, subst}, Math.Path.transport, lemmas.Bool.and_parts}
+use Rattle.event_log.specs.{declared.ids.{BufId.BufId, CpuId.CpuId, LockId.{LockId, TheVariants.Buffer}, Tid.Tid, TheConstants.CPUS}, History.AreOthers}
+use Rattle.{event_log.{specs.History.IsLawful, proofs.Same.same_cpu_self}, thread_blocks.specs.Queues.same_tid}
+use Rattle.layer_traits.specs.declared.{moves.WaitList.TheVariants.Sleepers, queue_edits.QueueBlock.QueueBlock, queues.QueueAnswer.QueueAnswer}
+use Rattle.layer_traits.specs.{declared.queues.{QueueEvent.QueueEvent, QueueCall.{QueueCall, TheVariants.{Push, TakeAll, OnBuffer}}}, MoveRules.MoveRules}
+use Rattle.layer_traits.specs.{MoveRules.{WakesSleepers, edit_move}, Protocol.{Rules, section}, QueueBlocks.{above_of, homes_in, inner}, Queues.IsKnownEvent}
+use Rattle.layer_traits.specs.Queues.{Kernel, MayQueue, QueueAllowed, QueuePolled, StaysCallable, buffer_sections, event, cpu_of_queue_event, kernel, moves_in}
 use Rattle.layer_traits.specs.Places.{AreMoves, Hand, Home, Moved, Step, home_of, is_cpu, is_hand, is_here, is_home, step, where_is, where_slept}
-use Rattle.layer_traits.proofs.{CallLemmas.moves_append, CallLemmas.moves_lawful, CallLemmas.moves_others, CallLemmas.moves_over, CountLemmas.is_cpu_true}
-use Rattle.layer_traits.proofs.{PlaceLemmas.others_keep, PlaceLemmas.is_hand_true, PlaceLemmas.is_home_true}
-use Rattle.plain_layers.proofs.WholeLemmas.{no_foreign_events}
-use Rattle.plain_layers.specs.{Laws.Naps.naps_wake_sleepers, Naps.waiters_of, Naps.nap_answer, Naps.nap_edited, Naps.nap_moves, Naps.nap_rules}
-use Rattle.plain_layers.specs.{QueueSections.buffer_zero, QueueSections.cpu_one, QueueSections.cpu_zero, QueueSections.thread_one, QueueSections.thread_zero}
+use Rattle.layer_traits.proofs.{CallLemmas.{moves_append, moves_lawful, moves_others, moves_over}, CountLemmas.is_cpu_true, PlaceLemmas.others_keep}
+use Rattle.{layer_traits.proofs.PlaceLemmas.{is_hand_true, is_home_true}, plain_layers.proofs.WholeLemmas.no_foreign_events}
+use Rattle.plain_layers.specs.{Laws.Naps.naps_wake_sleepers, Naps.{waiters_of, nap_answer, nap_edited, nap_moves, nap_rules}, QueueSections.buffer_zero}
+use Rattle.plain_layers.specs.QueueSections.{cpu_one, cpu_zero, thread_one, thread_zero}
 
 module _ {E B O : Type 0} (rules : Rules E B O) (mv : MoveRules E O) (opening : LockId → Option (QueueBlock B)) (wakes : WakesSleepers rules mv)
     (c : CpuId) (past : List (QueueEvent E)) where

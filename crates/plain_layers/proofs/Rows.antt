@@ -1,7 +1,6 @@
 -- What holds between the polls of a call.
 use Rattle.std.proofs.Common.{◌≡◌, Option, Some, None}
-use Rattle.event_log.specs.declared.ids.Tid.{Tid}
-use Rattle.layer_traits.specs.{BufferLaw.Calling, BufferLaw.UnderWay, BufferLaw.MayGoOn, Places.Threads}
+use Rattle.{event_log.specs.declared.ids.Tid.Tid, layer_traits.specs.{BufferLaw.{Calling, UnderWay, MayGoOn}, Places.Threads}}
 
 -- what holds of the hand and of what the CPU is at, after a poll without an answer
 pub record GoesOn (t : Tid) (own : Threads) (under_way : Option UnderWay) : Type 0 where

@@ -1,11 +1,9 @@
 -- The list of blocks: the slot of a lock in it, what an edit at that slot leaves, and that a section keeps the list in agreement.
 use Rattle.std.proofs.Common.{◌≡◌, ℕ, zero, suc, ◌+◌, ◌<◌, Bool, true, false, List, [], ◌∷◌, length, get_or, drop, slice_set, if◌then◌else◌, Option, Some}
 use Rattle.std.proofs.Common.{IsSome, option_map, refl, ap, sym, ◌∙◌, subst, arith}
-use Rattle.event_log.specs.{declared.ids.CpuId.CpuId, declared.ids.LockId.LockId, declared.ids.TheConstants.CPUS, History.same_lock, Sections.Section}
-use Rattle.event_log.proofs.{Same.same_lock_self, Same.same_lock_true, ListLemmas.from_index}
-use Rattle.layer_traits.proofs.Alone.{block_there}
-use Rattle.layer_traits.specs.{OneLock.opened, Protocol.Rules, Protocol.section, Polls.Answers}
-use Rattle.plain_layers.specs.Tables.{IsSlot, IsTable}
+use Rattle.event_log.{specs.{declared.ids.{CpuId.CpuId, LockId.LockId, TheConstants.CPUS}, History.same_lock, Sections.Section}, proofs.Same.same_lock_self}
+use Rattle.{event_log.proofs.{Same.same_lock_true, ListLemmas.from_index}, layer_traits.{proofs.Alone.block_there, specs.{OneLock.opened, Protocol.Rules}}}
+use Rattle.{layer_traits.specs.{Protocol.section, Polls.Answers}, plain_layers.specs.Tables.{IsSlot, IsTable}}
 
 -- whether an entry that names the lock names another one too
 names : (lock m l : LockId) → same_lock m lock ≡ true → (b : Bool) → same_lock l lock ≡ b → same_lock m l ≡ b

@@ -1,13 +1,9 @@
 -- Entries of one buffer, and messages of one word, that may stand in a trace text.
-use Rattle.std.specs.Prelude.{◌≡◌, ◌<◌, ◌≤◌, ◌==◌, Bool, true, ◌&&◌, length, if◌then◌else◌}
-use Rattle.std.specs.Str.{bytes_eq}
-use Rattle.std.proofs.Common.{arith, refl, subst, sym, ◌∙◌}
-use Rattle.std.proofs.lemmas.{Bool.le-ltb, Slice.Eq.bytes_eq-Decides}
-use Rattle.event_log.specs.{Messages.IsMessage, Messages.Message, Messages.no_message, Messages.padded, declared.entries.Entry.Entry}
-use Rattle.event_log.specs.{declared.ids.TheConstants.CPUS, declared.ids.TheConstants.ENTRIES, declared.ids.TheConstants.THREADS}
-use Rattle.event_log.proofs.MessageLemmas.{padded_eq}
-use Rattle.tracer.specs.declared.versions.Version.{Version, TheVariants.One, TheVariants.Two, TheVariants.Three}
-use Rattle.tracer.specs.{TraceText.IsEntryOf, TraceText.IsItemOf, TraceText.IsValueOf, Versions.covers, Versions.version_of_message}
+use Rattle.std.{specs.{Prelude.{◌≡◌, ◌<◌, ◌≤◌, ◌==◌, Bool, true, ◌&&◌, length, if◌then◌else◌}, Str.bytes_eq}, proofs.Common.{arith, refl, subst, sym, ◌∙◌}}
+use Rattle.{std.proofs.lemmas.{Bool.le-ltb, Slice.Eq.bytes_eq-Decides}, event_log.specs.Messages.{IsMessage, Message, no_message, padded}}
+use Rattle.event_log.{specs.declared.{entries.Entry.Entry, ids.TheConstants.{CPUS, ENTRIES, THREADS}}, proofs.MessageLemmas.padded_eq}
+use Rattle.tracer.specs.{declared.versions.Version.{Version, TheVariants.{One, Two, Three}}, TraceText.{IsEntryOf, IsItemOf, IsValueOf}, Versions.covers}
+use Rattle.tracer.specs.Versions.{version_of_message}
 
 -- an entry whose numbers are in range, with a message that its effect may tell
 pub entry_spelled : (e : Entry) → e.cpu.0 < CPUS → e.thread.0 < THREADS → e.buffer.0 ≤ 0 → e.op < ENTRIES → e.pos < ENTRIES → IsValueOf e.kind e.value

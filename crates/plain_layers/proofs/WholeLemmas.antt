@@ -1,11 +1,8 @@
 -- The polls of a whole section: the first does it, and answers unless the woken thread is still to be sent home; the second does that.
 use Rattle.std.proofs.Common.{◌≡◌, ◌<◌, Bool, true, false, List, [], ◌∷◌, ◌++◌, Option, Some, None, IsSome, if◌then◌else◌, refl, ap, sym, ◌∙◌, subst, unwrap_or}
-use Rattle.event_log.specs.{declared.ids.CpuId.CpuId, declared.ids.Tid.Tid, declared.ids.TheConstants.CPUS, History.AreForeign, History.IsLawful}
-use Rattle.event_log.specs.{History.same_cpu}
-use Rattle.event_log.proofs.Same.{same_cpu_self}
-use Rattle.layer_traits.specs.{declared.queues.QueueCall.TheVariants.Push, declared.queues.QueueCall.TheVariants.OnBuffer}
-use Rattle.layer_traits.specs.{declared.queues.QueueEvent.QueueEvent, declared.sleeps.Outcome.Outcome, Passes.passed_on, Passes.queue_for, Places.Threads}
-use Rattle.layer_traits.specs.{Plans.Left, Queues.IsKnownEvent, Queues.event, Queues.cpu_of_queue_event, Queues.out_at, Scheds.own_answered}
+use Rattle.event_log.{specs.{declared.ids.{CpuId.CpuId, Tid.Tid, TheConstants.CPUS}, History.{AreForeign, IsLawful, same_cpu}}, proofs.Same.same_cpu_self}
+use Rattle.layer_traits.specs.{declared.{queues.{QueueCall.TheVariants.{Push, OnBuffer}, QueueEvent.QueueEvent}, sleeps.Outcome.Outcome}, Passes.passed_on}
+use Rattle.layer_traits.specs.{Passes.queue_for, Places.Threads, Plans.Left, Queues.{IsKnownEvent, event, cpu_of_queue_event, out_at}, Scheds.own_answered}
 use Rattle.layer_traits.specs.SleepLaw.{PollResult, Does, MayDo, Sends, SleepPolled, Sleeping, Waits, left_with, must_send, seen_with}
 use Rattle.plain_layers.specs.Wholes.{Asked, DoneAlone, DoneSending}
 

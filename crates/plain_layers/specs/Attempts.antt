@@ -2,14 +2,10 @@
 -- on its own side. A close cannot wake both sides at once, so those who wait at a closed buffer are let go one after the other: a close
 -- wakes the first of them, and each that goes wakes the next.
 use Rattle.std.specs.Prelude.{ℕ, Bool, true, false, ◌&&◌, ◌||◌, List, [], length, nat_lt, Option, Some, None, is_some, if◌then◌else◌}
-use Rattle.event_log.specs.{declared.ids.Tid.Tid, Messages.Message, Messages.no_message}
-use Rattle.thread_blocks.specs.Queues.{first, rest}
-use Rattle.layer_traits.specs.{declared.calls.Effect.Effect, declared.locked.Side.Side, declared.locked.Side.TheVariants.Receivers}
-use Rattle.layer_traits.specs.{declared.locked.Side.TheVariants.Senders, declared.moves.WaitList.WaitList, declared.sleeps.Wake.Wake, BufferBlocks.counted}
-use Rattle.layer_traits.specs.{BufferBlocks.first_item, BufferBlocks.items_put, BufferBlocks.other_items, QLocking.wait_list_for, Sleeping.SleepRules}
-use Rattle.layer_traits.specs.{Sleeping.joined}
-use Rattle.plain_layers.specs.declared.attempts.{Ask.Ask, Ask.TheVariants.Send, Ask.TheVariants.Receive, Ask.TheVariants.Close, Attempt.Attempt, Tried.Tried}
-use Rattle.plain_layers.specs.declared.attempts.{Tried.TheVariants.Acted, Tried.TheVariants.Refused}
+use Rattle.{event_log.specs.{declared.ids.Tid.Tid, Messages.{Message, no_message}}, thread_blocks.specs.Queues.{first, rest}}
+use Rattle.layer_traits.specs.declared.{calls.Effect.Effect, locked.Side.{Side, TheVariants.{Receivers, Senders}}, moves.WaitList.WaitList, sleeps.Wake.Wake}
+use Rattle.layer_traits.specs.{BufferBlocks.{counted, first_item, items_put, other_items}, QLocking.wait_list_for, Sleeping.{SleepRules, joined}}
+use Rattle.plain_layers.specs.declared.attempts.{Ask.{Ask, TheVariants.{Send, Receive, Close}}, Attempt.Attempt, Tried.{Tried, TheVariants.{Acted, Refused}}}
 use Rattle.event_log.specs.declared.entries.Kind.TheVariants as kind
 use Rattle.layer_traits.specs.declared.sleeps.Wake.TheVariants as leave
 

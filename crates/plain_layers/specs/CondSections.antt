@@ -1,9 +1,8 @@
 -- A thread's calls on a lock with conditions, poll after poll: what it may poll, and how it stands after that.
 use Rattle.std.specs.Prelude.{◌≡◌, ◌<◌, List, length, Option, Some, None, IsSome}
-use Rattle.event_log.specs.declared.ids.{BufId.BufId, CpuId.CpuId, Tid.Tid}
-use Rattle.layer_traits.specs.{declared.conditions.CvOut.CvOut, declared.locked.QOut.QOut, declared.queues.QueueEvent.QueueEvent}
-use Rattle.layer_traits.specs.{declared.scheds.SchedCall.SchedCall, declared.sleeps.Outcome.Outcome, Conditions.CvCall, Conditions.MonitorRules}
-use Rattle.layer_traits.specs.{Conditions.cv_rules, CvLaw.MayCallCond, CvLaw.Waiting, QLocking.LockState, QLocking.lock_caller, QLockLaw.slept_for, Queues.Kernel}
+use Rattle.{event_log.specs.declared.ids.{BufId.BufId, CpuId.CpuId, Tid.Tid}, layer_traits.specs.declared.{conditions.CvOut.CvOut, locked.QOut.QOut}}
+use Rattle.layer_traits.specs.{declared.{queues.QueueEvent.QueueEvent, scheds.SchedCall.SchedCall, sleeps.Outcome.Outcome}, Conditions.{CvCall, MonitorRules}}
+use Rattle.layer_traits.specs.{Conditions.cv_rules, CvLaw.{MayCallCond, Waiting}, QLocking.{LockState, lock_caller}, QLockLaw.slept_for, Queues.Kernel}
 use Rattle.plain_layers.specs.LockSections.{IsSteady}
 
 -- the part has a place for the thread, and keeps no outcome of a call by which its caller fell asleep

@@ -1,10 +1,8 @@
 -- What a buffer tells of its effects.
 use Rattle.std.specs.Prelude.{◌≡◌, ℕ, ◌<◌, ◌%◌, ◌^◌, Bool, List, length, slice_index, if◌then◌else◌}
-use Rattle.event_log.specs.{declared.entries.Entry.Entry, declared.entries.Kind.Kind, Buffers.items_of, Runs.Closes, Runs.Group, Runs.Receives, Runs.Sends}
-use Rattle.event_log.specs.{Runs.count_of, Runs.count_of_kind, Runs.group_of, Runs.is_closed}
-use Rattle.layer_traits.specs.BufferEffects.{contents_of}
-use Rattle.plain_layers.specs.declared.attempts.{Ask.Ask, Ask.TheVariants.Send, Ask.TheVariants.Receive, Ask.TheVariants.Close, Attempt.Attempt, Tried.Tried}
-use Rattle.plain_layers.specs.declared.attempts.{Tried.TheVariants.Acted, Tried.TheVariants.Refused}
+use Rattle.event_log.specs.{declared.entries.{Entry.Entry, Kind.Kind}, Buffers.items_of, Runs.{Closes, Group, Receives, Sends, count_of, count_of_kind}}
+use Rattle.{event_log.specs.Runs.{group_of, is_closed}, layer_traits.specs.BufferEffects.contents_of, plain_layers.specs.declared.attempts.Ask.Ask}
+use Rattle.plain_layers.specs.declared.attempts.{Ask.TheVariants.{Send, Receive, Close}, Attempt.Attempt, Tried.{Tried, TheVariants.{Acted, Refused}}}
 use Rattle.plain_layers.specs.Attempts.{PlainState, effect_at, attempt_side, wakes}
 
 -- how many effects of a group a buffer had, modulo 2^64

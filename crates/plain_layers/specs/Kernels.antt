@@ -1,16 +1,12 @@
 -- The lists that all CPUs share, and the list of the calls that were done, newest first.
 use Rattle.std.specs.Prelude.{◌≡◌, ◌<◌, ℕ, ◌-◌, false, List, [], ◌∷◌, ◌++◌, length, reverse, Option, IfSome, option_map, slice_get, slice_index_or, slice_set}
-use Rattle.event_log.specs.{declared.ids.BufId.BufId, declared.ids.CpuId.CpuId, declared.ids.LockId.LockId, declared.ids.LockId.TheVariants.Pending}
-use Rattle.event_log.specs.{declared.ids.LockId.TheVariants.Buffer, declared.ids.Tid.Tid, declared.ids.TheConstants.CPUS, declared.ids.TheConstants.THREADS}
-use Rattle.event_log.specs.{History.IsLawful, Log.events_in, Log.room_of, Sections.block_after}
-use Rattle.thread_blocks.specs.Queues.{is_in}
-use Rattle.layer_traits.specs.declared.{queue_edits.QueueBlock.QueueBlock, queue_edits.QueueBlock.TheVariants.Queue, queue_edits.QueueBlock.TheVariants.Above}
-use Rattle.layer_traits.specs.declared.{queues.QueueAnswer.QueueAnswer, queues.QueueAnswer.TheVariants.Done, queues.QueueAnswer.TheVariants.Taken}
-use Rattle.layer_traits.specs.declared.{queues.QueueAnswer.TheVariants.Answer, queues.QueueCall.QueueCall, queues.QueueCall.TheVariants.Push}
-use Rattle.layer_traits.specs.declared.{queues.QueueCall.TheVariants.TakeAll, queues.QueueCall.TheVariants.OnBuffer, queues.QueueEvent.QueueEvent}
-use Rattle.layer_traits.specs.{MoveRules.MoveRules, Places.pending_by, Protocol.Rules, QueueBlocks.StartsWell, QueueBlocks.inner, Queues.IsKnownEvent}
-use Rattle.layer_traits.specs.{Queues.QueueAllowed, Queues.buffer_sections, Queues.kernel, Queues.moves_in}
-use Rattle.plain_layers.specs.declared.kernel.{Lists.Lists, Opening.Opening, PlainKernel.PlainKernel}
+use Rattle.event_log.specs.declared.ids.{BufId.BufId, CpuId.CpuId, LockId.{LockId, TheVariants.{Pending, Buffer}}, Tid.Tid, TheConstants.{CPUS, THREADS}}
+use Rattle.{event_log.specs.{History.IsLawful, Log.{events_in, room_of}, Sections.block_after}, thread_blocks.specs.Queues.is_in}
+use Rattle.layer_traits.specs.declared.{queue_edits.QueueBlock.{QueueBlock, TheVariants.{Queue, Above}}, queues.QueueAnswer.{QueueAnswer, TheVariants.Done}}
+use Rattle.layer_traits.specs.declared.queues.{QueueAnswer.TheVariants.{Taken, Answer}, QueueCall.{QueueCall, TheVariants.{Push, TakeAll, OnBuffer}}}
+use Rattle.layer_traits.specs.{declared.queues.QueueEvent.QueueEvent, MoveRules.MoveRules, Places.pending_by, Protocol.Rules, QueueBlocks.{StartsWell, inner}}
+use Rattle.{layer_traits.specs.Queues.{IsKnownEvent, QueueAllowed, buffer_sections, kernel, moves_in}, plain_layers.specs.declared.kernel.Lists.Lists}
+use Rattle.plain_layers.specs.declared.kernel.{Opening.Opening, PlainKernel.PlainKernel}
 
 -- the calls that were done, newest first
 abbrev pub calls_in : {E B O H A : Type 0} → PlainKernel E B O H A → List (QueueEvent E)

@@ -1,10 +1,9 @@
 -- A thread's calls on a queuing lock, poll after poll: what it may poll, and how it stands after that.
 use Rattle.std.specs.Prelude.{◌≡◌, ◌<◌, List, length, Option, Some, None}
-use Rattle.event_log.specs.{declared.ids.BufId.BufId, declared.ids.CpuId.CpuId, declared.ids.Tid.Tid, Messages.no_message}
-use Rattle.layer_traits.specs.{declared.locked.QEdit.QEdit, declared.locked.QOut.QOut, declared.payloads.Parcel.Parcel, declared.queues.QueueEvent.QueueEvent}
-use Rattle.layer_traits.specs.{declared.scheds.SchedCall.SchedCall, declared.sleeps.Outcome.Outcome, QLocking.LockRules, QLocking.LockState}
-use Rattle.layer_traits.specs.{QLocking.wait_list_slept, QLocking.lock_caller, QLockLaw.Locking, QLockLaw.MayCallLock, QLockLaw.slept_for, Payloads.lock_meant}
-use Rattle.layer_traits.specs.{Queues.Kernel}
+use Rattle.{event_log.specs.{declared.ids.{BufId.BufId, CpuId.CpuId, Tid.Tid}, Messages.no_message}, layer_traits.specs.declared.locked.QEdit.QEdit}
+use Rattle.layer_traits.specs.declared.{locked.QOut.QOut, payloads.Parcel.Parcel, queues.QueueEvent.QueueEvent, scheds.SchedCall.SchedCall}
+use Rattle.layer_traits.specs.{declared.sleeps.Outcome.Outcome, QLocking.{LockRules, LockState, wait_list_slept, lock_caller}, QLockLaw.{Locking, MayCallLock}}
+use Rattle.layer_traits.specs.{QLockLaw.slept_for, Payloads.lock_meant, Queues.Kernel}
 
 -- a parcel with no message, and with zeros
 abbrev pub no_parcel : Parcel

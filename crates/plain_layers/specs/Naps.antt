@@ -1,7 +1,7 @@
 -- Naps: a small edit of one buffer's block, in whose only wait channel a thread may sleep. The tests run over it.
 use Rattle.std.specs.Prelude.{◌≡◌, Bool, true, false, Option, Some, None}
-use Rattle.event_log.specs.declared.ids.{LockId.LockId, LockId.TheVariants.Buffer, Tid.Tid}
-use Rattle.layer_traits.specs.{declared.moves.WaitList.WaitList, declared.moves.WaitList.TheVariants.Sleepers, MoveRules.MoveRules, Protocol.Rules}
+use Rattle.{event_log.specs.declared.ids.{LockId.{LockId, TheVariants.Buffer}, Tid.Tid}, layer_traits.specs.declared.moves.WaitList.WaitList}
+use Rattle.layer_traits.specs.{declared.moves.WaitList.TheVariants.Sleepers, MoveRules.MoveRules, Protocol.Rules}
 
 -- the lock of buffer 0
 abbrev pub waiters_of : LockId

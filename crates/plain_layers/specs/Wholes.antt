@@ -1,10 +1,9 @@
 -- A whole section of a whole machine: the section itself, and where it woke a thread of another CPU while its caller goes on, that
 -- thread's way home.
 use Rattle.std.specs.Prelude.{◌≡◌, ◌⊎◌, true, false, List, ◌∷◌, Some, None}
-use Rattle.event_log.specs.declared.ids.{BufId.BufId, CpuId.CpuId, Tid.Tid}
-use Rattle.layer_traits.specs.{declared.queues.QueueCall.TheVariants.Push, declared.queues.QueueCall.TheVariants.OnBuffer}
-use Rattle.layer_traits.specs.{declared.queues.QueueEvent.QueueEvent, declared.sleeps.Outcome.Outcome, Passes.passed_on, Passes.queue_for, Places.Threads}
-use Rattle.layer_traits.specs.{Queues.Kernel, Queues.event, Queues.out_at, Scheds.own_answered, SleepLaw.Sleeping, SleepLaw.must_send}
+use Rattle.{event_log.specs.declared.ids.{BufId.BufId, CpuId.CpuId, Tid.Tid}, layer_traits.specs.declared.queues.QueueCall.TheVariants.{Push, OnBuffer}}
+use Rattle.layer_traits.specs.{declared.{queues.QueueEvent.QueueEvent, sleeps.Outcome.Outcome}, Passes.{passed_on, queue_for}, Places.Threads, Queues.Kernel}
+use Rattle.layer_traits.specs.{Queues.{event, out_at}, Scheds.own_answered, SleepLaw.{Sleeping, must_send}}
 
 -- a machine of which one poll is one call, and not one action
 abbrev pub IsCoarse : Type 0 → Type 0 → Type 0

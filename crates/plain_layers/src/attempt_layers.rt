@@ -2,8 +2,7 @@
 //! waits.
 
 ghost use Rattle.std.specs.Prelude.{◌≡◌, ◌<◌, ◌≤◌, [], All, IfOk, IsSome, map};
-ghost use Rattle.event_log.specs.Buffers.{IsCapacity};
-ghost use Rattle.plain_layers.specs.Attempts.{empty_buffer};
+ghost use Rattle.{event_log.specs.Buffers.IsCapacity, plain_layers.specs.Attempts.empty_buffer};
 
 use crate::attempts::{Attempt, PlainBuffer};
 use crate::kernel::PlainKernel;
@@ -16,9 +15,8 @@ use std::alloc::Global;
 /// A layer of sleep and wakeup for attempts, whose machine is opened with empty buffers, and of which
 /// each poll does a whole section where it may.
 pub trait OpensAttempts: OwnedThreadLayer<SleepLaw<Attempt>> {
-    ghost use Rattle.event_log.specs.declared.ids.{CpuId.CpuId, LockId.TheVariants.Pending, TheConstants.CPUS};
-    ghost use Rattle.layer_traits.specs.{Openings.AreOpenable, QueueBlocks.homes_in, QueueBlocks.inner};
-    ghost use Rattle.plain_layers.specs.{Fifos.fresh_buffers, Wholes.IsCoarse};
+    ghost use Rattle.{event_log.specs.declared.ids.{CpuId.CpuId, LockId.TheVariants.Pending, TheConstants.CPUS}, layer_traits.specs.Openings.AreOpenable};
+    ghost use Rattle.{layer_traits.specs.QueueBlocks.{homes_in, inner}, plain_layers.specs.{Fifos.fresh_buffers, Wholes.IsCoarse}};
 
     /// A machine of so many CPUs, with an empty buffer of each of these capacities and a thread of
     /// each of these homes, and with room for `room` events. All memory is taken here.

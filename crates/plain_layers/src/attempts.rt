@@ -1,12 +1,10 @@
 //! A message call as one section: the attempts on one buffer. No call takes memory or waits.
 
 ghost use Rattle.std.specs.Prelude.{◌≡◌, ◌≤◌, true, [], is_some};
-ghost use Rattle.event_log.specs.declared.ids.TheConstants.{CAPACITY};
-ghost use Rattle.layer_traits.specs.{Sleeping.joined, declared.sleeps.Wake.TheVariants.Nobody};
+ghost use Rattle.{event_log.specs.declared.ids.TheConstants.CAPACITY, layer_traits.specs.{Sleeping.joined, declared.sleeps.Wake.TheVariants.Nobody}};
 ghost use Rattle.plain_layers.specs.Attempts.{PlainState, allows, closed_after, done, effect_at, effect_in, empty_buffer, leaving, attempt_side, waiting_on};
-ghost use Rattle.plain_layers.specs.Attempts.{waits, waking_by, wakes, attempt_woken};
-ghost use Rattle.plain_layers.specs.declared.attempts.{Ask.Ask, Ask.TheVariants.Close, Ask.TheVariants.Receive, Ask.TheVariants.Send, Tried.TheVariants.Acted};
-ghost use Rattle.thread_blocks.specs.Queues.{first};
+ghost use Rattle.plain_layers.specs.{Attempts.{waits, waking_by, wakes, attempt_woken}, declared.attempts.Ask.{Ask, TheVariants.{Close, Receive, Send}}};
+ghost use Rattle.{plain_layers.specs.declared.attempts.Tried.TheVariants.Acted, thread_blocks.specs.Queues.first};
 
 use arrayvec::ArrayVec;
 use event_log::{CAPACITY, Kind, Msg, Ring, THREADS, Tid};
@@ -72,8 +70,7 @@ pub struct PlainBuffer {
 
 impl Model for PlainBuffer {
     ghost use Rattle.std.specs.Prelude.{◌≤◌, length};
-    ghost use Rattle.event_log.specs.declared.ids.TheConstants.{CAPACITY};
-    ghost use Rattle.plain_layers.specs.Attempts.{PlainState};
+    ghost use Rattle.{event_log.specs.declared.ids.TheConstants.CAPACITY, plain_layers.specs.Attempts.PlainState};
 
     ghost Value = { PlainState };
 

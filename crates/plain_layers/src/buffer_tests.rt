@@ -1,9 +1,8 @@
 //! Message calls over a layer of buffers, on an owned machine: what each takes, poll by poll.
 
 ghost use Rattle.std.specs.Prelude.{◌≡◌, ◌≢◌, ◌+◌, ◌<◌, ◌≤◌, [], ◌∷◌, true, Some, None, IsSome, IfOk, length};
-ghost use Rattle.event_log.specs.declared.ids.{LockId.TheVariants.Pending, TheConstants.CPUS};
-ghost use Rattle.layer_traits.specs.{declared.passes.Pass.TheVariants.Drain, BufferLaw.Calling, BufferLaw.MayGoOn, BufferLaw.MayPollCall, BufferLaw.Passing};
-ghost use Rattle.layer_traits.specs.{BufferLaw.buffer_of, BufferLaw.call_state_of};
+ghost use Rattle.{event_log.specs.declared.ids.{LockId.TheVariants.Pending, TheConstants.CPUS}, layer_traits.specs.declared.passes.Pass.TheVariants.Drain};
+ghost use Rattle.layer_traits.specs.BufferLaw.{Calling, MayGoOn, MayPollCall, Passing, buffer_of, call_state_of};
 
 use event_log::{BufId, CpuId, Kind, Msg, NoMemory, Tid};
 use ipc_calls::OpensBuffers;

@@ -2,11 +2,10 @@
 //! memory or waits.
 
 ghost use Rattle.std.specs.Prelude.{◌≡◌, ◌≢◌, ◌+◌, ◌<◌, ◌≤◌, true, Some, None, IsSome, OnSome};
-ghost use Rattle.event_log.specs.declared.ids.LockId.TheVariants.{Buffer};
-ghost use Rattle.layer_traits.specs.{Conditions.cv_rules, QLockLaw.IsAcquire, QLockLaw.lock_kernel, QLocking.IsOwners, QLocking.lock_caller, QLocking.owner_of};
-ghost use Rattle.layer_traits.specs.{QueueBlocks.inner, Queues.buffer_sections, Payloads.cv_meant};
-ghost use Rattle.plain_layers.specs.declared.cond_sections.PollSection.TheVariants.{Answered, GoesOn, Sleeps};
-ghost use Rattle.plain_layers.specs.{CondSections.CondHasEnded, CondSections.MayPollCondSection, CondSections.WaitsAt, LockSections.call_alone};
+ghost use Rattle.{event_log.specs.declared.ids.LockId.TheVariants.Buffer, layer_traits.specs.{Conditions.cv_rules, QLockLaw.{IsAcquire, lock_kernel}}};
+ghost use Rattle.layer_traits.specs.{QLocking.{IsOwners, lock_caller, owner_of}, QueueBlocks.inner, Queues.buffer_sections, Payloads.cv_meant};
+ghost use Rattle.plain_layers.specs.{declared.cond_sections.PollSection.TheVariants.{Answered, GoesOn, Sleeps}, CondSections.CondHasEnded};
+ghost use Rattle.plain_layers.specs.{CondSections.{MayPollCondSection, WaitsAt}, LockSections.call_alone};
 
 use event_log::{BufId, Tid};
 use layer_traits::{

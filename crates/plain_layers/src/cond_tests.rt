@@ -2,12 +2,9 @@
 //! thread was woken.
 
 ghost use Rattle.std.specs.Prelude.{◌≡◌, ◌≢◌, ◌+◌, ◌*◌, ◌<◌, ◌≤◌, [], ◌∷◌, true, IsSome, IfOk};
-ghost use Rattle.event_log.specs.declared.ids.{CpuId.CpuId, LockId.TheVariants.Buffer, LockId.TheVariants.Pending, Tid.Tid, TheConstants.CPUS};
-ghost use Rattle.event_log.specs.declared.ids.{TheConstants.THREADS};
-ghost use Rattle.layer_traits.specs.{QLocking.AreAtRest, QueueBlocks.homes_in, QueueBlocks.inner, Renaming.viewed};
-ghost use Rattle.queuing_lock.specs.Nested.{nested_lock_of};
-ghost use Rattle.plain_layers.specs.CondSections.{CondHasEnded, WaitsAt};
-ghost use Rattle.sleep_wakeup.specs.Nested.{state_of};
+ghost use Rattle.event_log.specs.declared.ids.{CpuId.CpuId, LockId.TheVariants.{Buffer, Pending}, Tid.Tid, TheConstants.{CPUS, THREADS}};
+ghost use Rattle.{layer_traits.specs.{QLocking.AreAtRest, QueueBlocks.{homes_in, inner}, Renaming.viewed}, queuing_lock.specs.Nested.nested_lock_of};
+ghost use Rattle.{plain_layers.specs.CondSections.{CondHasEnded, WaitsAt}, sleep_wakeup.specs.Nested.state_of};
 
 use crate::PlainSched;
 use crate::cond_sections::{PollSection, calls, drains, is_woken, section_polls, switches};
@@ -74,6 +71,33 @@ impl Guarded for Reads {
     }
 }
 
+/// Whether thread `t` acquires in so many polls.
+fn acquires<G: Guarded, C: OwnedThreadLayer<CvLaw<G>>>(
+    part: &mut C,
+    m: &mut C::Machine,
+    t: Tid,
+    polls: usize,
+) -> bool
+where
+    G::Handed: Copy,
+    requires granted { (opening : _) (past : _) (s : _) → G.monitor_rules.allowed opening past s }
+    requires fits { C.Fits part.old m.old }
+    requires buffer { IsSome (C.opening m.old (Buffer (record { 0 = 0 }))) }
+    requires room { polls ≤ C.room m.old }
+    requires ended { CondHasEnded G.monitor_rules (C.own part.old) (C.under_way part.old) t }
+    ensures fits { C.Fits part.new m.new }
+    ensures cpu { C.cpu_of part.new ≡ C.cpu_of part.old }
+    ensures opening { C.opening m.new ≡ C.opening m.old }
+    ensures room { C.room m.old ≤ C.room m.new + polls }
+    ensures others { (p : C) → C.cpu_of p ≢ C.cpu_of part.old → C.Fits p m.old → C.Fits p m.new }
+    ensures ended { result ≡ true → CondHasEnded G.monitor_rules (C.own part.new) (C.under_way part.new) t }
+{
+    match calls::<G, C>(part, m, BufId(0), &QEdit::Acquire(t), polls) {
+        Some(PollSection::Answered(acquired)) => matches!(acquired.out, QOut::Acquired),
+        _ => false,
+    }
+}
+
 /// Thread 0 acquires in the polls of a section; after those of its Wait it waits among the receivers
 /// and the lock has no owner; and thread 1 then acquires in those of another.
 fn waits_and_frees<G: Guarded, C: OwnedThreadLayer<CvLaw<G>>>(
@@ -103,15 +127,9 @@ where
 {
     let at = BufId(0);
     let wait = QEdit::Release(CvLeave::Wait(Tid(0), Side::Receivers));
-    let Some(PollSection::Answered(first)) = calls::<G, C>(
-        zero,
-        m,
-        at,
-        &QEdit::Acquire(Tid(0)),
-        section,
-    ) else {
+    if !acquires::<G, C>(zero, m, Tid(0), section) {
         return false;
-    };
+    }
     let Some(PollSection::Sleeps) = calls::<G, C>(zero, m, at, &wait, section) else {
         return false;
     };
@@ -121,16 +139,7 @@ where
     if zero.current().is_some() || C::owner_in(m, at) != Some(None) {
         return false;
     }
-    let Some(PollSection::Answered(second)) = calls::<G, C>(
-        one,
-        m,
-        at,
-        &QEdit::Acquire(Tid(1)),
-        section,
-    ) else {
-        return false;
-    };
-    matches!(first.out, QOut::Acquired) && matches!(second.out, QOut::Acquired)
+    acquires::<G, C>(one, m, Tid(1), section)
 }
 
 /// Thread 1 signals the front of the receivers, by which thread 0 comes into CPU 1's hand and is then
@@ -219,6 +228,33 @@ where
         && is_over::<G, C>(zero, m, section)
 }
 
+/// Thread 0 runs, acquires and reads the block.
+fn acquires_and_reads<C: OwnedThreadLayer<CvLaw<Reads>>>(zero: &mut C, m: &mut C::Machine) -> bool
+    requires fits { C.Fits zero.old m.old }
+    requires buffer { IsSome (C.opening m.old (Buffer (record { 0 = 0 }))) }
+    requires room { 7 ≤ C.room m.old }
+    requires ended { CondHasEnded ⟦<Reads as Guarded>⟧.monitor_rules (C.own zero.old) (C.under_way zero.old) (record { 0 = 0 }) }
+    ensures fits { C.Fits zero.new m.new }
+    ensures opening { C.opening m.new ≡ C.opening m.old }
+    ensures room { C.room m.old ≤ C.room m.new + 7 }
+    ensures ended { result ≡ true → CondHasEnded ⟦<Reads as Guarded>⟧.monitor_rules (C.own zero.new) (C.under_way zero.new) (record { 0 = 0 }) }
+{
+    let reads = QEdit::Inside(CvEdit::Edit(Reads { caller: Tid(0) }));
+    if !switches::<Reads, C>(zero, m)
+        || zero.own_threads().is_ready(Tid(0))
+        || zero.own_threads().has_ended(Tid(0))
+    {
+        return false;
+    }
+    if !acquires::<Reads, C>(zero, m, Tid(0), 3) {
+        return false;
+    }
+    let Some(PollSection::Answered(read)) = calls::<Reads, C>(zero, m, BufId(0), &reads, 3) else {
+        return false;
+    };
+    matches!(read.out, QOut::Did(CvOut::Did(Tid(0))))
+}
+
 /// Thread 0 acquires and reads the block: the machine tells of the lock, and the part has no block in
 /// its hands; then it begins to leave, and looks again.
 fn is_observed<C: OwnedThreadLayer<CvLaw<Reads>>>(zero: &mut C, m: &mut C::Machine) -> bool
@@ -229,25 +265,11 @@ fn is_observed<C: OwnedThreadLayer<CvLaw<Reads>>>(zero: &mut C, m: &mut C::Machi
     requires ended { CondHasEnded ⟦<Reads as Guarded>⟧.monitor_rules (C.own zero.old) (C.under_way zero.old) (record { 0 = 0 }) }
 {
     let at = BufId(0);
-    let reads = QEdit::Inside(CvEdit::Edit(Reads { caller: Tid(0) }));
-    let leave = QEdit::Release(CvLeave::Leave(Tid(0)));
-    if !switches::<Reads, C>(zero, m)
-        || zero.own_threads().is_ready(Tid(0))
-        || zero.own_threads().has_ended(Tid(0))
-    {
+    if !acquires_and_reads(zero, m) || C::block_in(m, at) != Some(&Tid(0)) {
         return false;
     }
-    let Some(PollSection::Answered(_)) = calls::<Reads, C>(zero, m, at, &QEdit::Acquire(Tid(0)), 3)
-    else {
-        return false;
-    };
-    let Some(PollSection::Answered(read)) = calls::<Reads, C>(zero, m, at, &reads, 3) else {
-        return false;
-    };
-    if C::block_in(m, at) != Some(&Tid(0)) || zero.block_here(at).is_some() {
-        return false;
-    }
-    if zero.owner_here(at).is_some()
+    if zero.block_here(at).is_some()
+        || zero.owner_here(at).is_some()
         || zero.wait_list_here(at, Tid(0)).is_some()
         || zero.at_once()
     {
@@ -258,10 +280,11 @@ fn is_observed<C: OwnedThreadLayer<CvLaw<Reads>>>(zero: &mut C, m: &mut C::Machi
     {
         return false;
     }
+    let leave = QEdit::Release(CvLeave::Leave(Tid(0)));
     let Some(PollSection::GoesOn) = calls::<Reads, C>(zero, m, at, &leave, 1) else {
         return false;
     };
-    matches!(read.out, QOut::Did(CvOut::Did(Tid(0)))) && zero.is_busy() && zero.look(m)
+    zero.is_busy() && zero.look(m)
 }
 
 /// One block.
@@ -315,50 +338,84 @@ fn part<G: Guarded, C: ThreadLayer<CvLaw<G>>>(m: &C::Machine, cpu: CpuId) -> C
     C::part(cpu, &[CpuId(0), CpuId(1)], 1)
 }
 
-/// A wait is over once its thread was woken, over a machine of these schedulers, on which a section
-/// takes so many polls.
-fn is_woken_at_last<S: Opens<Edits> + Drop>(alloc: Global, polls: usize) -> Result<bool, NoMemory>
+/// What conditions are seen to do.
+#[derive(Clone, Copy)]
+enum Row {
+    /// A wait is over once its thread was woken.
+    Woken,
+    /// A machine on which a section takes three polls tells of its lock.
+    Observed,
+}
+
+/// Whether a row goes as it has to on this machine, on which a section takes so many polls. It is over any
+/// conditions, since the proof of each call that names their nest is dear.
+fn goes<C: OwnedThreadLayer<CvLaw<Reads>> + Drop>(
+    m: &mut C::Machine,
+    polls: usize,
+    row: Row,
+) -> bool
+    requires few { polls ≤ 3 }
+    requires acts { (c : CpuId) → c.0 < CPUS → C.ActsFor m.old c }
+    requires outside { (c : CpuId) → C.IsOutside m.old c }
+    requires seen { C.seen m.old ≡ [] }
+    requires room { C.room m.old ≡ 30 }
+    requires homes { homes_in (C.opening m.old) ≡ record { 0 = 0 } ∷ record { 0 = 1 } ∷ [] }
+    requires queues { (c : CpuId) → c.0 < 2 → IsSome (C.opening m.old (Pending c)) }
+    requires rest { AreAtRest (inner (C.opening m.old)) }
+    requires buffer { IsSome (C.opening m.old (Buffer (record { 0 = 0 }))) }
+{
+    let mut zero = part::<Reads, C>(m, CpuId(0));
+    match row {
+        Row::Woken => {
+            let mut one = part::<Reads, C>(m, CpuId(1));
+            is_waited_for::<Reads, C>(&mut zero, &mut one, m, polls)
+        }
+        Row::Observed => is_observed::<C>(&mut zero, m),
+    }
+}
+
+/// The same over a machine of these schedulers.
+fn scheds_go<S: Opens<Edits> + Drop>(
+    alloc: Global,
+    polls: usize,
+    row: Row,
+) -> Result<bool, NoMemory>
 where
     S::Machine: Drop,
     requires { polls ≤ 3 }
 {
     let mut m = machine::<S>(alloc)?;
-    let mut zero = part::<Reads, Conds<S>>(&m, CpuId(0));
-    let mut one = part::<Reads, Conds<S>>(&m, CpuId(1));
-    Ok(is_waited_for::<Reads, Conds<S>>(&mut zero, &mut one, &mut m, polls))
+    Ok(goes::<Conds<S>>(&mut m, polls, row))
 }
 
-/// A machine of ticket locks tells of its lock.
-fn reads_true<S: Opens<Edits> + Drop>(alloc: Global) -> Result<bool, NoMemory>
-where
-    S::Machine: Drop,
-{
-    let mut m = machine::<S>(alloc)?;
-    let mut zero = part::<Reads, Conds<S>>(&m, CpuId(0));
-    Ok(is_observed::<Conds<S>>(&mut zero, &mut m))
-}
-
-/// Both over schedulers on these critical sections, which take three polls.
-fn sections_go<L: OwnedLocks<QueueEdit<Edits>> + Drop>(alloc: Global) -> Result<bool, NoMemory>
+/// The same over schedulers on these critical sections, which take three polls.
+fn sections_go<L: OwnedLocks<QueueEdit<Edits>> + Drop>(
+    alloc: Global,
+    row: Row,
+) -> Result<bool, NoMemory>
 where
     L::Machine: Drop,
 {
     let _laws: SchedLaws<Edits> = PhantomData;
-    if !is_woken_at_last::<Sched<SharedQueues<L>>>(alloc, 3)? {
-        return Ok(false);
-    }
-    reads_true::<Sched<SharedQueues<L>>>(alloc)
+    scheds_go::<Sched<SharedQueues<L>>>(alloc, 3, row)
+}
+
+/// The same over ticket locks.
+fn tickets_go(alloc: Global, row: Row) -> Result<bool, NoMemory> {
+    let _laws: SchedLaws<Edits> = PhantomData;
+    sections_go::<Ticket<Plain<QueueEdit<Edits>>>>(alloc, row)
 }
 
 #[test]
 fn a_wait_is_over_once_woken_over_ticket_locks(rt: HostRuntime) -> Result<(), Fail> {
-    let _laws: SchedLaws<Edits> = PhantomData;
-    assert!(rt; sections_go::<Ticket<Plain<QueueEdit<Edits>>>>(rt.alloc())?);
+    for row in [Row::Woken, Row::Observed] {
+        assert!(rt; tickets_go(rt.alloc(), row)?);
+    }
     Ok(())
 }
 
 #[test]
 fn a_wait_is_over_once_woken_in_one_step(rt: HostRuntime) -> Result<(), Fail> {
-    assert!(rt; is_woken_at_last::<PlainSched<Edits>>(rt.alloc(), 1)?);
+    assert!(rt; scheds_go::<PlainSched<Edits>>(rt.alloc(), 1, Row::Woken)?);
     Ok(())
 }

@@ -1,8 +1,7 @@
 //! First-in first-out buffers in one section.
 
 ghost use Rattle.std.specs.Prelude.{◌≡◌, ◌<◌, [], None, Some, false, option_map, replicate, slice_set};
-ghost use Rattle.event_log.specs.declared.ids.TheConstants.{THREADS};
-ghost use Rattle.layer_traits.specs.BufferLaw.{buffer_of, no_call, reply_of, reply_with, call_state_of};
+ghost use Rattle.{event_log.specs.declared.ids.TheConstants.THREADS, layer_traits.specs.BufferLaw.{buffer_of, no_call, reply_of, reply_with, call_state_of}};
 ghost use Rattle.plain_layers.specs.Fifos.{ask_of, attempt_of, reply_to, call_state_after};
 
 use crate::attempts::{Ask, Attempt, Tried};
@@ -94,12 +93,10 @@ fn reply(call: &Call, effect: &Option<Effect>) -> Option<ReplyKind>
 
 impl<S: ThreadLayer<SleepLaw<Attempt>>> CallLayer<BufferLaw> for PlainFifo<S> {
     ghost use Rattle.std.specs.Prelude.{◌/◌, IsSome, refl};
-    ghost use Rattle.event_log.specs.declared.ids.LockId.TheVariants.{Pending};
-    ghost use Rattle.plain_layers.specs.{Laws.FifoLaws.plain_wait_lists, Laws.FifoTallies.plain_lawful, Attempts.attempts, Fifos.IsOwned, Fifos.Rests};
-    ghost use Rattle.plain_layers.specs.{Fifos.caps_in, Fifos.entries_in, Fifos.wait_lists_in, Fifos.own_of, Fifos.shown};
-    ghost use Rattle.layer_traits.proofs.KernelRenaming.{homes_viewed, starts_viewed};
-    ghost use Rattle.layer_traits.specs.{QueueBlocks.homes_in, QueueBlocks.inner, Queues.buffer_sections, Queues.moves_in, Renaming.viewed};
-    ghost use Rattle.layer_traits.specs.{SleepLaw.sleep_kernel};
+    ghost use Rattle.{event_log.specs.declared.ids.LockId.TheVariants.Pending, plain_layers.specs.Laws.{FifoLaws.plain_wait_lists, FifoTallies.plain_lawful}};
+    ghost use Rattle.plain_layers.specs.{Attempts.attempts, Fifos.{IsOwned, Rests, caps_in, entries_in, wait_lists_in, own_of, shown}};
+    ghost use Rattle.layer_traits.{proofs.KernelRenaming.{homes_viewed, starts_viewed}, specs.{QueueBlocks.{homes_in, inner}, Queues.buffer_sections}};
+    ghost use Rattle.layer_traits.specs.{Queues.moves_in, Renaming.viewed, SleepLaw.sleep_kernel};
 
     type Machine = S::Machine;
 
@@ -225,15 +222,12 @@ impl<S: ThreadLayer<SleepLaw<Attempt>>> CallLayer<BufferLaw> for PlainFifo<S> {
 }
 
 impl<S: OwnedThreadLayer<SleepLaw<Attempt>>> OwnedBuffers for PlainFifo<S> {
-    ghost use Rattle.std.specs.Prelude.{option_map};
-    ghost use Rattle.std.proofs.Common.{sym};
-    ghost use Rattle.event_log.specs.{declared.ids.LockId.TheVariants.Buffer, declared.ids.LockId.TheVariants.Pending, Buffers.items_of, Runs.is_closed};
-    ghost use Rattle.layer_traits.specs.{BufferEffects.contents_of, Places.pending_by, QueueBlocks.inner, Queues.buffer_sections, Queues.moves_in};
-    ghost use Rattle.layer_traits.specs.{Renaming.viewed_block, SleepLaw.sleep_kernel};
-    ghost use Rattle.plain_layers.specs.{Attempts.attempts, Fifos.caps_in, Fifos.entries_in, Fifos.wait_lists_in, Fifos.locked_after, Fifos.shown};
-    ghost use Rattle.plain_layers.specs.{FifoOwned.closed_of, FifoOwned.items_in, FifoOwned.wait_lists_of, FifoOwned.nobody, FifoOwned.nothing_read};
-    ghost use Rattle.plain_layers.specs.Laws.FifoOwned.{buffer_there, closed_read, entries_known, items_read, wait_lists_read, nobody_owns, pending_read};
-    ghost use Rattle.plain_layers.specs.Laws.FifoOwned.{there_viewed, view_read};
+    ghost use Rattle.{std.{specs.Prelude.option_map, proofs.Common.sym}, event_log.specs.{declared.ids.LockId.TheVariants.{Buffer, Pending}, Buffers.items_of}};
+    ghost use Rattle.{event_log.specs.Runs.is_closed, layer_traits.specs.{BufferEffects.contents_of, Places.pending_by, QueueBlocks.inner}};
+    ghost use Rattle.layer_traits.specs.{Queues.{buffer_sections, moves_in}, Renaming.viewed_block, SleepLaw.sleep_kernel};
+    ghost use Rattle.plain_layers.specs.{Attempts.attempts, Fifos.{caps_in, entries_in, wait_lists_in, locked_after, shown}, FifoOwned.{closed_of, items_in}};
+    ghost use Rattle.plain_layers.specs.{FifoOwned.{wait_lists_of, nobody, nothing_read}, Laws.FifoOwned.{buffer_there, closed_read, entries_known}};
+    ghost use Rattle.plain_layers.specs.Laws.FifoOwned.{items_read, wait_lists_read, nobody_owns, pending_read, there_viewed, view_read};
 
     ghost owner = { λ m b. nobody };
 

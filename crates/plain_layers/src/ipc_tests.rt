@@ -1,8 +1,8 @@
 //! Message calls over a whole tower of locks, run. One chain of functions climbs the tower for every row.
 
 ghost use Rattle.std.specs.Prelude.{◌≡◌, ◌+◌, ◌<◌, ◌≤◌, None, Some, length, replicate};
-ghost use Rattle.event_log.specs.declared.ids.TheConstants.{THREADS};
-ghost use Rattle.layer_traits.specs.BufferLaw.{Calling, MayGoOn, MayPollCall, buffer_of, no_call, call_state_of};
+ghost use Rattle.{event_log.specs.declared.ids.TheConstants.THREADS, layer_traits.specs.BufferLaw.{Calling, MayGoOn, MayPollCall, buffer_of, no_call}};
+ghost use Rattle.layer_traits.specs.BufferLaw.{call_state_of};
 
 use crate::backoff_tests;
 use crate::buffer_tests::{BufferRow, goes};
@@ -207,24 +207,45 @@ where
     Ok(())
 }
 
-/// The rows that a tower runs.
+/// What message calls are seen to do.
 #[derive(Clone, Copy)]
-pub(crate) enum Row {
-    /// A part at boot.
-    Boots,
+pub(crate) enum CallRow {
     /// A machine tells of its plan, and a message is sent.
     Sends,
     /// A message is sent by runs of polls.
     SendsByRuns,
     /// A buffer is closed.
     Closes,
-    /// What its layer of buffers is seen to do.
-    OfBuffers(BufferRow),
     /// Systems of worked plans.
     Systems,
 }
 
-/// Runs a row over a layer of buffers.
+/// The rows that a tower runs.
+#[derive(Clone, Copy)]
+pub(crate) enum Row {
+    /// A part at boot.
+    Boots,
+    /// What message calls over it are seen to do.
+    OfCalls(CallRow),
+    /// What its layer of buffers is seen to do.
+    OfBuffers(BufferRow),
+}
+
+/// Runs a row over message calls.
+fn call_goes<I: Owned + Drop>(rt: &impl Abort, alloc: Global, row: CallRow) -> Result<(), NoMemory>
+where
+    I::Machine: Drop,
+{
+    match row {
+        CallRow::Sends => runs::<I>(rt, alloc),
+        CallRow::SendsByRuns => runs_on::<I>(rt, alloc),
+        CallRow::Closes => closes::<I>(rt, alloc),
+        CallRow::Systems => rows_go::<I>(rt, alloc, backoff_tests::ROWS),
+    }
+}
+
+/// Runs a row over a layer of buffers. Message calls over it are named once: each call that names them is
+/// dear to prove.
 fn calls_go<B: OpensBuffers + Drop>(
     rt: &impl Abort,
     alloc: Global,
@@ -233,17 +254,16 @@ fn calls_go<B: OpensBuffers + Drop>(
 where
     B::Machine: Drop,
 {
-    match row {
-        Row::Boots | Row::Sends => runs::<Ipc<B>>(rt, alloc),
-        Row::SendsByRuns => runs_on::<Ipc<B>>(rt, alloc),
-        Row::Closes => closes::<Ipc<B>>(rt, alloc),
-        Row::Systems => rows_go::<Ipc<B>>(rt, alloc, backoff_tests::ROWS),
+    let row = match row {
         Row::OfBuffers(row) => {
             let went = goes::<B>(alloc, row)?;
             assert!(rt; went);
-            Ok(())
+            return Ok(());
         }
-    }
+        Row::Boots => CallRow::Sends,
+        Row::OfCalls(row) => row,
+    };
+    call_goes::<Ipc<B>>(rt, alloc, row)
 }
 
 /// The same over a layer of sections that put to sleep or wake.
@@ -308,9 +328,9 @@ fn tower_goes(rt: &impl Abort, alloc: Global, row: Row) -> Result<(), NoMemory> 
 /// Each row, by what it shows.
 const ROWS: [Row; 11] = [
     Row::Boots,
-    Row::Sends,
-    Row::SendsByRuns,
-    Row::Closes,
+    Row::OfCalls(CallRow::Sends),
+    Row::OfCalls(CallRow::SendsByRuns),
+    Row::OfCalls(CallRow::Closes),
     Row::OfBuffers(BufferRow::Alone),
     Row::OfBuffers(BufferRow::ReceiverWaits),
     Row::OfBuffers(BufferRow::SenderWaits),

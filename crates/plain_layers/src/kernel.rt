@@ -2,12 +2,9 @@
 //! `PlainKernel::open` takes memory. No call waits.
 
 ghost use Rattle.std.specs.Prelude.{◌≡◌, ◌+◌, ◌<◌, ◌∷◌, [], Some, IsSome, IfOk, length, option_map, replicate, slice_get};
-ghost use Rattle.event_log.specs.declared.ids.{LockId.TheVariants.Buffer, LockId.TheVariants.Pending, TheConstants.CPUS};
-ghost use Rattle.thread_blocks.specs.Queues.{is_in};
-ghost use Rattle.layer_traits.specs.{QueueBlocks.homes_in, QueueBlocks.inner, Queues.CallAllowed, Queues.answer_of, Queues.event, Queues.kernel};
-ghost use Rattle.layer_traits.specs.{Queues.lock_of, Payloads.call_meant, Payloads.queue_told};
-ghost use Rattle.plain_layers.specs.Kernels.{CanDo, IsDone, IsKernel, calls_in, call_room, opening_of};
-ghost use Rattle.shared_queue.specs.Opening.{AreQueues};
+ghost use Rattle.{event_log.specs.declared.ids.{LockId.TheVariants.{Buffer, Pending}, TheConstants.CPUS}, thread_blocks.specs.Queues.is_in};
+ghost use Rattle.layer_traits.specs.{QueueBlocks.{homes_in, inner}, Queues.{CallAllowed, answer_of, event, kernel, lock_of}, Payloads.{call_meant, queue_told}};
+ghost use Rattle.{plain_layers.specs.Kernels.{CanDo, IsDone, IsKernel, calls_in, call_room, opening_of}, shared_queue.specs.Opening.AreQueues};
 
 use arrayvec::ArrayVec;
 use event_log::{BufId, CpuId, EventLog, NoMemory, THREADS, Tid};

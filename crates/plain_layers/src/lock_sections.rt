@@ -2,11 +2,10 @@
 //! or waits.
 
 ghost use Rattle.std.specs.Prelude.{◌≡◌, ◌≢◌, ◌+◌, ◌<◌, ◌≤◌, true, Some, None, IsSome, OnSome};
-ghost use Rattle.event_log.specs.declared.ids.LockId.TheVariants.{Buffer};
-ghost use Rattle.layer_traits.specs.{QLockLaw.IsAcquire, QLockLaw.lock_kernel, QLocking.lock_caller, QLocking.owner_of, QueueBlocks.inner, Queues.buffer_sections};
-ghost use Rattle.layer_traits.specs.{declared.locked.QEdit.TheVariants.Release};
-ghost use Rattle.plain_layers.specs.declared.lock_sections.PollSection.TheVariants.{Answered, GoesOn, Sleeps};
-ghost use Rattle.plain_layers.specs.LockSections.{LockHasEnded, MayPollLockSection, SleepsFor, call_alone};
+ghost use Rattle.{event_log.specs.declared.ids.LockId.TheVariants.Buffer, layer_traits.specs.{QLockLaw.{IsAcquire, lock_kernel}, QLocking.lock_caller}};
+ghost use Rattle.layer_traits.specs.{QLocking.owner_of, QueueBlocks.inner, Queues.buffer_sections, declared.locked.QEdit.TheVariants.Release};
+ghost use Rattle.plain_layers.specs.{declared.lock_sections.PollSection.TheVariants.{Answered, GoesOn, Sleeps}, LockSections.LockHasEnded};
+ghost use Rattle.plain_layers.specs.LockSections.{MayPollLockSection, SleepsFor, call_alone};
 
 use event_log::{BufId, Tid};
 use layer_traits::{

@@ -1,12 +1,9 @@
 //! Queuing locks over ticket locks and over one-step schedulers: a lock is handed from owner to owner.
 
 ghost use Rattle.std.specs.Prelude.{◌≡◌, ◌≢◌, ◌+◌, ◌*◌, ◌<◌, ◌≤◌, [], ◌∷◌, true, IsSome, IfOk};
-ghost use Rattle.event_log.specs.declared.ids.{CpuId.CpuId, Tid.Tid, LockId.TheVariants.Buffer, LockId.TheVariants.Pending, TheConstants.CPUS};
-ghost use Rattle.event_log.specs.declared.ids.{TheConstants.THREADS};
-ghost use Rattle.layer_traits.specs.{QLocking.AreAtRest, QueueBlocks.homes_in, QueueBlocks.inner, Renaming.viewed};
-ghost use Rattle.queuing_lock.specs.Nested.{nested_lock_of};
-ghost use Rattle.plain_layers.specs.LockSections.{LockHasEnded, SleepsFor};
-ghost use Rattle.sleep_wakeup.specs.Nested.{state_of};
+ghost use Rattle.event_log.specs.declared.ids.{CpuId.CpuId, Tid.Tid, LockId.TheVariants.{Buffer, Pending}, TheConstants.{CPUS, THREADS}};
+ghost use Rattle.{layer_traits.specs.{QLocking.AreAtRest, QueueBlocks.{homes_in, inner}, Renaming.viewed}, queuing_lock.specs.Nested.nested_lock_of};
+ghost use Rattle.{plain_layers.specs.LockSections.{LockHasEnded, SleepsFor}, sleep_wakeup.specs.Nested.state_of};
 
 use crate::PlainSched;
 use crate::lock_sections::{
@@ -35,8 +32,7 @@ struct Reads {
 }
 
 impl Locked for Reads {
-    ghost use Rattle.std.specs.Prelude.{None};
-    ghost use Rattle.layer_traits.specs.declared.locked.WakeWaiter.TheVariants.{Nobody};
+    ghost use Rattle.{std.specs.Prelude.None, layer_traits.specs.declared.locked.WakeWaiter.TheVariants.Nobody};
 
     type Block = u8;
 
@@ -314,50 +310,85 @@ fn part<F: Locked, Q: ThreadLayer<QLockLaw<F>>>(m: &Q::Machine, cpu: CpuId) -> Q
     Q::part(cpu, &[CpuId(0), CpuId(1), CpuId(2)], 1)
 }
 
-/// A lock is handed on over a machine of these schedulers, on which a section takes so many polls.
-fn is_handed_on<S: Opens<Edits> + Drop>(alloc: Global, polls: usize) -> Result<bool, NoMemory>
+/// What queuing locks are seen to do.
+#[derive(Clone, Copy)]
+enum Row {
+    /// A lock is handed on.
+    HandedOn,
+    /// A machine on which a section takes three polls tells of its lock.
+    Observed,
+}
+
+/// Whether a row goes as it has to on this machine, on which a section takes so many polls. It is over any
+/// queuing locks, since the proof of each call that names their nest is dear.
+fn goes<Q: OwnedThreadLayer<QLockLaw<Reads>> + Drop>(
+    m: &mut Q::Machine,
+    polls: usize,
+    row: Row,
+) -> bool
+    requires few { polls ≤ 3 }
+    requires acts { (c : CpuId) → c.0 < CPUS → Q.ActsFor m.old c }
+    requires outside { (c : CpuId) → Q.IsOutside m.old c }
+    requires seen { Q.seen m.old ≡ [] }
+    requires room { Q.room m.old ≡ 30 }
+    requires homes { homes_in (Q.opening m.old) ≡ record { 0 = 0 } ∷ record { 0 = 1 } ∷ record { 0 = 2 } ∷ [] }
+    requires queues { (c : CpuId) → c.0 < 3 → IsSome (Q.opening m.old (Pending c)) }
+    requires rest { AreAtRest (inner (Q.opening m.old)) }
+    requires buffer { IsSome (Q.opening m.old (Buffer (record { 0 = 0 }))) }
+{
+    let mut zero = part::<Reads, Q>(m, CpuId(0));
+    match row {
+        Row::HandedOn => {
+            let mut one = part::<Reads, Q>(m, CpuId(1));
+            let mut two = part::<Reads, Q>(m, CpuId(2));
+            is_handed_over::<Reads, Q>(&mut zero, &mut one, &mut two, m, Tid(0), polls)
+        }
+        Row::Observed => is_observed::<Q>(&mut zero, m),
+    }
+}
+
+/// The same over a machine of these schedulers.
+fn scheds_go<S: Opens<Edits> + Drop>(
+    alloc: Global,
+    polls: usize,
+    row: Row,
+) -> Result<bool, NoMemory>
 where
     S::Machine: Drop,
     requires { polls ≤ 3 }
 {
     let mut m = machine::<S>(alloc)?;
-    let mut zero = part::<Reads, Locks<S>>(&m, CpuId(0));
-    let mut one = part::<Reads, Locks<S>>(&m, CpuId(1));
-    let mut two = part::<Reads, Locks<S>>(&m, CpuId(2));
-    Ok(is_handed_over::<Reads, Locks<S>>(&mut zero, &mut one, &mut two, &mut m, Tid(0), polls))
+    Ok(goes::<Locks<S>>(&mut m, polls, row))
 }
 
-/// A machine of ticket locks tells of its lock.
-fn reads_true<S: Opens<Edits> + Drop>(alloc: Global) -> Result<bool, NoMemory>
-where
-    S::Machine: Drop,
-{
-    let mut m = machine::<S>(alloc)?;
-    let mut zero = part::<Reads, Locks<S>>(&m, CpuId(0));
-    Ok(is_observed::<Locks<S>>(&mut zero, &mut m))
-}
-
-/// Both over schedulers on these critical sections, which take three polls.
-fn sections_go<L: OwnedLocks<QueueEdit<Edits>> + Drop>(alloc: Global) -> Result<bool, NoMemory>
+/// The same over schedulers on these critical sections, which take three polls.
+fn sections_go<L: OwnedLocks<QueueEdit<Edits>> + Drop>(
+    alloc: Global,
+    row: Row,
+) -> Result<bool, NoMemory>
 where
     L::Machine: Drop,
 {
     let _laws: SchedLaws<Edits> = PhantomData;
-    if !is_handed_on::<Sched<SharedQueues<L>>>(alloc, 3)? {
-        return Ok(false);
-    }
-    reads_true::<Sched<SharedQueues<L>>>(alloc)
+    scheds_go::<Sched<SharedQueues<L>>>(alloc, 3, row)
+}
+
+/// The same over ticket locks.
+fn tickets_go(alloc: Global, row: Row) -> Result<bool, NoMemory> {
+    let _laws: SchedLaws<Edits> = PhantomData;
+    sections_go::<Ticket<Plain<QueueEdit<Edits>>>>(alloc, row)
 }
 
 #[test]
 fn a_lock_is_handed_on_over_ticket_locks(rt: HostRuntime) -> Result<(), Fail> {
-    let _laws: SchedLaws<Edits> = PhantomData;
-    assert!(rt; sections_go::<Ticket<Plain<QueueEdit<Edits>>>>(rt.alloc())?);
+    for row in [Row::HandedOn, Row::Observed] {
+        assert!(rt; tickets_go(rt.alloc(), row)?);
+    }
     Ok(())
 }
 
 #[test]
 fn a_lock_is_handed_on_in_one_step(rt: HostRuntime) -> Result<(), Fail> {
-    assert!(rt; is_handed_on::<PlainSched<Edits>>(rt.alloc(), 1)?);
+    assert!(rt; scheds_go::<PlainSched<Edits>>(rt.alloc(), 1, Row::HandedOn)?);
     Ok(())
 }

@@ -18,8 +18,7 @@ pub struct PlainLock<E> {
 
 impl<E: SplitEdit> Layer<LockLaw<E>> for PlainLock<E> {
     ghost use Rattle.std.specs.Prelude.{◌<◌};
-    ghost use Rattle.event_log.specs.declared.ids.TheConstants.{CPUS};
-    ghost use Rattle.plain_layers.specs.Tables.{IsTable, opening_in, room_in, sections_noted};
+    ghost use Rattle.{event_log.specs.declared.ids.TheConstants.CPUS, plain_layers.specs.Tables.{IsTable, opening_in, room_in, sections_noted}};
 
     type Machine = LockTable<E>;
 
@@ -105,9 +104,8 @@ impl<E: SplitEdit> Layer<LockLaw<E>> for PlainLock<E> {
 }
 
 impl<E: SplitEdit> OwnedLocks<E> for PlainLock<E> {
-    ghost use Rattle.layer_traits.specs.OneLock.{AreDistinct, opened};
-    ghost use Rattle.plain_layers.specs.{Laws.ShownLaws.table_shown, Tables.opening_in, Tables.sections_noted};
     ghost use Rattle.std.specs.Prelude.{◌<◌, IfOk};
+    ghost use Rattle.{layer_traits.specs.OneLock.{AreDistinct, opened}, plain_layers.specs.{Laws.ShownLaws.table_shown, Tables.{opening_in, sections_noted}}};
     ghost use Rattle.event_log.specs.declared.ids.TheConstants.{CPUS};
 
     ghost block_at = { λ m lock. opened m.blocks.items lock };

@@ -1,8 +1,7 @@
 //! Native threads that send to one buffer and receive from it.
 
 ghost use Rattle.std.specs.Prelude.{◌≡◌, ◌+◌, ◌<◌, ◌≤◌, [], length};
-ghost use Rattle.event_log.specs.Streams.{sent_to, taken_from};
-ghost use Rattle.cpu_workers.specs.Callers.{IsSameCaller};
+ghost use Rattle.{event_log.specs.Streams.{sent_to, taken_from}, cpu_workers.specs.Callers.IsSameCaller};
 
 use arrayvec::ArrayVec;
 use cpu_workers::{Caller, Native, NativeReport, run_native};

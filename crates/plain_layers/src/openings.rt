@@ -2,9 +2,8 @@
 //! beneath queues alone, and lists beneath a scheduler. Only `open` takes memory. No call waits.
 
 ghost use Rattle.std.specs.Prelude.{◌≡◌, ◌<◌, [], IsSome, IfOk, length, slice_get};
-ghost use Rattle.event_log.specs.declared.ids.{BufId.BufId, CpuId.CpuId, LockId.TheVariants.Buffer, LockId.TheVariants.Pending, TheConstants.CPUS};
-ghost use Rattle.layer_traits.specs.QueueBlocks.{homes_in, inner};
-ghost use Rattle.shared_queue.specs.Opening.{AreQueues};
+ghost use Rattle.event_log.specs.declared.ids.{BufId.BufId, CpuId.CpuId, LockId.TheVariants.{Buffer, Pending}, TheConstants.CPUS};
+ghost use Rattle.{layer_traits.specs.QueueBlocks.{homes_in, inner}, shared_queue.specs.Opening.AreQueues};
 
 use crate::kernel::PlainKernel;
 use crate::queues::PlainQueues;

@@ -1,10 +1,9 @@
 //! Shared queues in one step, run without a scheduler above them: two CPUs at one queue.
 
 ghost use Rattle.std.specs.Prelude.{◌≡◌, ◌≢◌, ◌+◌, ◌<◌, ◌≤◌, [], ◌∷◌, IsSome, None, Some};
-ghost use Rattle.event_log.specs.declared.ids.{CpuId.CpuId, LockId.TheVariants.Pending, TheConstants.CPUS};
-ghost use Rattle.layer_traits.specs.{QueueBlocks.homes_in, QueueBlocks.inner, Queues.QueueAllowed, Queues.StaysCallable, Queues.event, Queues.kernel};
-ghost use Rattle.layer_traits.specs.{Queues.lock_of, Payloads.call_meant};
-ghost use Rattle.plain_layers.specs.{Naps.waiters_of, QueueSections.cpu_one, QueueSections.cpu_zero};
+ghost use Rattle.{event_log.specs.declared.ids.{CpuId.CpuId, LockId.TheVariants.Pending, TheConstants.CPUS}, layer_traits.specs.QueueBlocks.{homes_in, inner}};
+ghost use Rattle.{layer_traits.specs.{Queues.{QueueAllowed, StaysCallable, event, kernel, lock_of}, Payloads.call_meant}, plain_layers.specs.Naps.waiters_of};
+ghost use Rattle.plain_layers.specs.QueueSections.{cpu_one, cpu_zero};
 
 use crate::PlainQueues;
 use crate::kernel::PlainKernel;

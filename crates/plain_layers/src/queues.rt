@@ -104,8 +104,7 @@ impl<E: Moves> Layer<QueueLaw<E>> for PlainQueues<E> {
 }
 
 impl<E: Moves> OwnedLayer<QueueLaw<E>> for PlainQueues<E> {
-    ghost use Rattle.std.specs.Prelude.{slice_get};
-    ghost use Rattle.plain_layers.specs.{Kernels.calls_in, Laws.ShownLaws.block_shown, Laws.ShownLaws.queue_shown};
+    ghost use Rattle.{std.specs.Prelude.slice_get, plain_layers.specs.{Kernels.calls_in, Laws.ShownLaws.{block_shown, queue_shown}}};
 
     ghost block_at = { λ m b. slice_get m.lists.buffers.items b.0 };
 

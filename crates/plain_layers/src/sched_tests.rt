@@ -1,11 +1,9 @@
 //! Schedulers, run over ticket locks and over each one-step machine in its layer's place.
 
 ghost use Rattle.std.specs.Prelude.{◌≡◌, ◌≢◌, ◌+◌, ◌<◌, ◌≤◌, [], IsSome, IfOk, MatchOption, None, Some, is_some, true, length};
-ghost use Rattle.event_log.specs.declared.ids.{CpuId.CpuId, LockId.TheVariants.Buffer, LockId.TheVariants.Pending, TheConstants.CPUS, TheConstants.THREADS};
-ghost use Rattle.layer_traits.specs.{declared.scheds.SchedCall.TheVariants.Pass as ThePass, Passes.MayPass, QueueBlocks.StartsWell, QueueBlocks.homes_in};
-ghost use Rattle.layer_traits.specs.{QueueBlocks.inner};
-ghost use Rattle.plain_layers.specs.Naps.{waiters_of};
-ghost use Rattle.shared_queue.specs.Opening.{AreQueues};
+ghost use Rattle.event_log.specs.declared.ids.{CpuId.CpuId, LockId.TheVariants.{Buffer, Pending}, TheConstants.{CPUS, THREADS}};
+ghost use Rattle.layer_traits.specs.{declared.scheds.SchedCall.TheVariants.Pass as ThePass, Passes.MayPass, QueueBlocks.{StartsWell, homes_in, inner}};
+ghost use Rattle.{plain_layers.specs.{Naps.waiters_of, QueueSections.cpu_zero}, shared_queue.specs.Opening.AreQueues};
 
 use crate::openings::{Opens, SchedLaws};
 use crate::{PlainLock, PlainQueues, PlainSched};
@@ -226,13 +224,10 @@ fn looks_again<S: OwnedLayer<SchedLaw<Nap>>>(rt: &impl Abort, part: &mut S, m: &
     requires fits { S.Fits part.old m.old }
     requires room { 4 ≤ S.room m.old }
 {
-    assert!(rt; !has_begun(part));
-    assert!(rt; !polled(part, m, Pass::Drain));
+    assert!(rt; !has_begun(part) && !polled(part, m, Pass::Drain));
     assert!(rt; has_begun(part) && part.pends_here(CpuId(0), Tid(0)).is_none());
-    assert!(rt; part.look(m));
-    assert!(rt; part.pends_here(CpuId(0), Tid(0)) == Some(false));
-    assert!(rt; polled(part, m, Pass::Drain));
-    assert!(rt; !part.look(m));
+    assert!(rt; part.look(m) && part.pends_here(CpuId(0), Tid(0)) == Some(false));
+    assert!(rt; polled(part, m, Pass::Drain) && !part.look(m));
 }
 
 /// The part of `cpu` at boot.
@@ -257,14 +252,14 @@ fn take_turns<S: Layer<SchedLaw<Nap>>>(rt: &impl Abort, part: &mut S, m: &mut S:
     requires room { 12 ≤ S.room m.old }
     requires free { inner (S.opening m.old) waiters_of ≡ Some None }
 {
-    assert_eq!(rt; passed_at(part, m, Pass::Switch), 1);
+    assert!(rt; passed_at(part, m, Pass::Switch) == 1);
     assert!(rt; part.own_here().current() == Some(Tid(0)));
-    assert_eq!(rt; passed_at(part, m, Pass::YieldNow), polls);
+    assert!(rt; passed_at(part, m, Pass::YieldNow) == polls);
     assert!(rt; part.own_here().current().is_none());
     assert!(rt; part.own_here().is_ready(Tid(1)) && part.own_here().is_ready(Tid(0)));
-    assert_eq!(rt; passed_at(part, m, Pass::Switch), 1);
+    assert!(rt; passed_at(part, m, Pass::Switch) == 1);
     assert!(rt; part.own_here().current() == Some(Tid(1)));
-    assert_eq!(rt; passed_at(part, m, Pass::End), 1);
+    assert!(rt; passed_at(part, m, Pass::End) == 1);
     assert!(rt; part.own_here().has_ended(Tid(1)) && !has_begun(part));
 }
 
@@ -285,12 +280,12 @@ fn falls_asleep<S: Layer<SchedLaw<Nap>>>(
     ensures cpu { S.cpu_of part.new ≡ S.cpu_of part.old }
     ensures others { (p : S) → S.cpu_of p ≢ S.cpu_of part.old → S.Fits p m.old → S.Fits p m.new }
 {
-    assert_eq!(rt; passed_at(part, m, Pass::Switch), 1);
+    assert!(rt; passed_at(part, m, Pass::Switch) == 1);
     let nap = Nap {
         by: t,
         wakes: false,
     };
-    assert_eq!(rt; napped_at(part, m, nap), polls);
+    assert!(rt; napped_at(part, m, nap) == polls);
     assert!(rt; part.own_here().current().is_none());
 }
 
@@ -312,9 +307,9 @@ fn wakes<S: Layer<SchedLaw<Nap>>>(
     ensures cpu { S.cpu_of part.new ≡ S.cpu_of part.old }
     ensures others { (p : S) → S.cpu_of p ≢ S.cpu_of part.old → S.Fits p m.old → S.Fits p m.new }
 {
-    assert_eq!(rt; passed_at(part, m, Pass::Switch), 1);
+    assert!(rt; passed_at(part, m, Pass::Switch) == 1);
     let nap = Nap { by: t, wakes: true };
-    assert_eq!(rt; napped_at(part, m, nap), polls);
+    assert!(rt; napped_at(part, m, nap) == polls);
     assert!(rt; part.own_here().hand() == Some(sleeper));
 }
 
@@ -333,7 +328,7 @@ fn sends_home<S: Layer<SchedLaw<Nap>>>(
     ensures opening { S.opening m.new ≡ S.opening m.old }
     ensures others { (p : S) → S.cpu_of p ≢ S.cpu_of part.old → S.Fits p m.old → S.Fits p m.new }
 {
-    assert_eq!(rt; passed_at(part, m, Pass::MakeReady(t)), polls);
+    assert!(rt; passed_at(part, m, Pass::MakeReady(t)) == polls);
     assert!(rt; part.own_here().hand().is_none());
 }
 
@@ -349,9 +344,9 @@ fn runs_again<S: Layer<SchedLaw<Nap>>>(
     requires room { 6 ≤ S.room m.old }
     requires free { inner (S.opening m.old) waiters_of ≡ Some None }
 {
-    assert_eq!(rt; passed_at(part, m, Pass::Drain), polls);
+    assert!(rt; passed_at(part, m, Pass::Drain) == polls);
     assert!(rt; part.own_here().is_ready(t));
-    assert_eq!(rt; passed_at(part, m, Pass::Switch), 1);
+    assert!(rt; passed_at(part, m, Pass::Switch) == 1);
     assert!(rt; part.own_here().current() == Some(t));
 }
 
@@ -389,14 +384,10 @@ fn meet_at_one_queue<S: Layer<SchedLaw<Nap>>>(
 {
     assert!(rt; !has_begun(first) && !has_begun(second));
     let push = Pass::MakeReady(Tid(1));
-    assert!(rt; !polled(second, m, push));
-    assert!(rt; !polled(first, m, Pass::Drain));
-    assert!(rt; !polled(first, m, Pass::Drain));
-    assert!(rt; !polled(second, m, push));
-    assert!(rt; polled(second, m, push));
-    assert!(rt; second.own_here().hand().is_none());
-    assert!(rt; !polled(first, m, Pass::Drain));
-    assert!(rt; polled(first, m, Pass::Drain));
+    assert!(rt; !polled(second, m, push) && !polled(first, m, Pass::Drain));
+    assert!(rt; !polled(first, m, Pass::Drain) && !polled(second, m, push));
+    assert!(rt; polled(second, m, push) && second.own_here().hand().is_none());
+    assert!(rt; !polled(first, m, Pass::Drain) && polled(first, m, Pass::Drain));
     assert!(rt; first.own_here().is_ready(Tid(1)));
 }
 
@@ -521,9 +512,6 @@ fn one_step_schedulers_do_a_call_in_one_poll(rt: HostRuntime) -> Result<(), Fail
     Ok(())
 }
 
-/// A scheduler over locks with a grant word for each waiter.
-type TowerOverGrants = Sched<SharedQueues<Grant<GrantPlain<QueueEdit<Nap>>>>>;
-
 /// Whether two drains of a CPU's empty queue each answer at their third poll.
 fn drains_twice<S: Layer<SchedLaw<Nap>>>(part: &mut S, m: &mut S::Machine) -> bool
     requires fits { S.Fits part.old m.old }
@@ -538,17 +526,43 @@ fn drains_twice<S: Layer<SchedLaw<Nap>>>(part: &mut S, m: &mut S::Machine) -> bo
     first == 3 && second == 3
 }
 
-/// The words of CPU 0's pending lock behind two drains of its empty queue, each in its third poll;
-/// `None` where one took other polls.
-fn words_behind_two_drains(alloc: Global) -> Result<Option<GrantLockWords>, NoMemory> {
-    let _laws: SchedLaws<Nap> = PhantomData;
+/// A machine behind two drains of CPU 0's empty queue, each in its third poll; `None` where one took
+/// other polls.
+fn behind_two_drains<S: Opens<Nap> + Drop>(alloc: Global) -> Result<Option<S::Machine>, NoMemory>
+where
+    S::Machine: Drop,
+    ensures acts { IfOk result (λ left. MatchOption left (Unit {0}) (λ m. S.ActsFor m cpu_zero)) }
+    ensures lock { IfOk result (λ left. MatchOption left (Unit {0}) (λ m. IsSome (S.opening m (Pending cpu_zero)))) }
+{
     let homes = [CpuId(1)];
-    let mut m = machine::<TowerOverGrants>(alloc, 2, &homes)?;
-    let mut drains: TowerOverGrants = part(&m, CpuId(0), &homes);
+    let mut m = machine::<S>(alloc, 2, &homes)?;
+    let mut drains: S = part(&m, CpuId(0), &homes);
     if !drains_twice(&mut drains, &mut m) {
         return Ok(None);
     }
-    Ok(Some(m.words(LockId::Pending(CpuId(0)))))
+    Ok(Some(m))
+}
+
+/// The same of schedulers over these critical sections, whose machine it is.
+fn sections_behind_two_drains<L: OwnedLocks<QueueEdit<Nap>> + Drop>(
+    alloc: Global,
+) -> Result<Option<L::Machine>, NoMemory>
+where
+    L::Machine: Drop,
+    ensures acts { IfOk result (λ left. MatchOption left (Unit {0}) (λ m. L.ActsFor m cpu_zero)) }
+    ensures lock { IfOk result (λ left. MatchOption left (Unit {0}) (λ m. IsSome (L.opening m (Pending cpu_zero)))) }
+{
+    let _laws: SchedLaws<Nap> = PhantomData;
+    behind_two_drains::<Sched<SharedQueues<L>>>(alloc)
+}
+
+/// The words of CPU 0's pending lock there, which has a grant word for each waiter.
+fn words_behind_two_drains(alloc: Global) -> Result<Option<GrantLockWords>, NoMemory> {
+    let _laws: SchedLaws<Nap> = PhantomData;
+    match sections_behind_two_drains::<Grant<GrantPlain<QueueEdit<Nap>>>>(alloc)? {
+        None => Ok(None),
+        Some(m) => Ok(Some(m.words(LockId::Pending(CpuId(0))))),
+    }
 }
 
 #[test]

@@ -1,9 +1,8 @@
 //! Threads that sleep and are woken, run over ticket locks and over one-step schedulers.
 
 ghost use Rattle.std.specs.Prelude.{◌≡◌, ◌≢◌, ◌+◌, ◌<◌, ◌≤◌, [], ◌∷◌, true, Some, None, IsSome, IfOk, is_some};
-ghost use Rattle.event_log.specs.declared.ids.{CpuId.CpuId, LockId.TheVariants.Buffer, LockId.TheVariants.Pending, TheConstants.CPUS};
-ghost use Rattle.layer_traits.specs.{declared.scheds.SchedCall.TheVariants.OnBuffer, QueueBlocks.homes_in, QueueBlocks.inner, Renaming.viewed};
-ghost use Rattle.layer_traits.specs.{Sleeping.NobodySleeps};
+ghost use Rattle.event_log.specs.declared.ids.{CpuId.CpuId, LockId.TheVariants.{Buffer, Pending}, TheConstants.CPUS};
+ghost use Rattle.layer_traits.specs.{declared.scheds.SchedCall.TheVariants.OnBuffer, QueueBlocks.{homes_in, inner}, Renaming.viewed, Sleeping.NobodySleeps};
 ghost use Rattle.sleep_wakeup.specs.Nested.{state_of};
 
 use crate::PlainSched;
@@ -361,51 +360,87 @@ fn part<S: ThreadLayer<SleepLaw<Nap>>>(m: &S::Machine, cpu: CpuId) -> S
     S::part(cpu, &[CpuId(0), CpuId(1), CpuId(0)], 1)
 }
 
-/// All this over a machine of these schedulers, on which a section takes so many polls.
-fn sleeps_and_wakes<S: Opens<SleepEdit<Nap>> + Drop>(
+/// What sleep and wakeup are seen to do.
+#[derive(Clone, Copy)]
+enum Row {
+    /// A thread of one CPU is woken by another CPU.
+    Across,
+    /// A thread is woken at home.
+    AtHome,
+    /// A machine tells of a thread that sleeps.
+    Observed,
+}
+
+/// Each row.
+const ROWS: [Row; 3] = [Row::Across, Row::AtHome, Row::Observed];
+
+/// Whether a row goes as it has to on this machine, on which a section takes so many polls. It is over any
+/// sleep and wakeup, since the proof of each call that names the nest of layers is dear.
+fn goes<S: OwnedThreadLayer<SleepLaw<Nap>> + Drop>(m: &mut S::Machine, polls: u8, row: Row) -> bool
+    requires acts { (c : CpuId) → c.0 < CPUS → S.ActsFor m.old c }
+    requires outside { (c : CpuId) → S.IsOutside m.old c }
+    requires seen { S.seen m.old ≡ [] }
+    requires room { S.room m.old ≡ 20 }
+    requires homes { homes_in (S.opening m.old) ≡ record { 0 = 0 } ∷ record { 0 = 1 } ∷ record { 0 = 0 } ∷ [] }
+    requires queues { (c : CpuId) → c.0 < 2 → IsSome (S.opening m.old (Pending c)) }
+    requires nobody { NobodySleeps (inner (S.opening m.old)) }
+    requires buffer { IsSome (S.opening m.old (Buffer (record { 0 = 0 }))) }
+{
+    let mut home: S = part(m, CpuId(0));
+    match row {
+        Row::Across => {
+            let mut away: S = part(m, CpuId(1));
+            across(&mut home, &mut away, m, polls)
+        }
+        Row::AtHome => at_home(&mut home, m, polls),
+        Row::Observed => is_observed(&mut home, m),
+    }
+}
+
+/// The same over a machine of these schedulers.
+fn scheds_go<S: Opens<SleepEdit<Nap>> + Drop>(
     alloc: Global,
     polls: u8,
+    row: Row,
 ) -> Result<bool, NoMemory>
 where
     S::Machine: Drop,
 {
     let mut m = machine::<S>(alloc)?;
-    let mut home: Sleeper<Nap, S> = part(&m, CpuId(0));
-    let mut away: Sleeper<Nap, S> = part(&m, CpuId(1));
-    if !across(&mut home, &mut away, &mut m, polls) {
-        return Ok(false);
-    }
-    let mut m = machine::<S>(alloc)?;
-    let mut home: Sleeper<Nap, S> = part(&m, CpuId(0));
-    if !at_home(&mut home, &mut m, polls) {
-        return Ok(false);
-    }
-    let mut m = machine::<S>(alloc)?;
-    let mut home: Sleeper<Nap, S> = part(&m, CpuId(0));
-    Ok(is_observed(&mut home, &mut m))
+    Ok(goes::<Sleeper<Nap, S>>(&mut m, polls, row))
 }
 
-/// All this over schedulers on these critical sections, which take so many polls.
+/// The same over schedulers on these critical sections, which take so many polls.
 fn sections_go<L: OwnedLocks<QueueEdit<SleepEdit<Nap>>> + Drop>(
     alloc: Global,
     polls: u8,
+    row: Row,
 ) -> Result<bool, NoMemory>
 where
     L::Machine: Drop,
 {
     let _laws: SchedLaws<SleepEdit<Nap>> = PhantomData;
-    sleeps_and_wakes::<Sched<SharedQueues<L>>>(alloc, polls)
+    scheds_go::<Sched<SharedQueues<L>>>(alloc, polls, row)
+}
+
+/// The same over ticket locks, on which a section takes three polls.
+fn tickets_go(alloc: Global, row: Row) -> Result<bool, NoMemory> {
+    let _laws: SchedLaws<SleepEdit<Nap>> = PhantomData;
+    sections_go::<Ticket<Plain<QueueEdit<SleepEdit<Nap>>>>>(alloc, 3, row)
 }
 
 #[test]
 fn threads_sleep_and_wake_over_ticket_locks(rt: HostRuntime) -> Result<(), Fail> {
-    let _laws: SchedLaws<SleepEdit<Nap>> = PhantomData;
-    assert!(rt; sections_go::<Ticket<Plain<QueueEdit<SleepEdit<Nap>>>>>(rt.alloc(), 3)?);
+    for row in ROWS {
+        assert!(rt; tickets_go(rt.alloc(), row)?);
+    }
     Ok(())
 }
 
 #[test]
 fn threads_sleep_and_wake_in_one_step(rt: HostRuntime) -> Result<(), Fail> {
-    assert!(rt; sleeps_and_wakes::<PlainSched<SleepEdit<Nap>>>(rt.alloc(), 1)?);
+    for row in ROWS {
+        assert!(rt; scheds_go::<PlainSched<SleepEdit<Nap>>>(rt.alloc(), 1, row)?);
+    }
     Ok(())
 }

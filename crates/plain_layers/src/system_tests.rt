@@ -1,7 +1,7 @@
 //! Whole systems over one-step message calls, run: worked plans end as they do over the tower of
 //! ticket locks, with a step where the tower takes one for each action of a call.
 
-ghost use Rattle.std.specs.Prelude.{◌≡◌, IfOk, length};
+ghost use Rattle.std.specs.Prelude.{◌≡◌, ◌<◌, IfOk, length};
 
 use crate::texts::text_of;
 use crate::{Attempt, OpensAttempts, PlainFifo, PlainSleep, ipc_is_whole};
@@ -324,6 +324,34 @@ fn place_text(place: Place) -> (&'static str, Option<u8>) {
     }
 }
 
+/// The line of a number: where this CPU is halted and where this thread stands.
+fn line_of<I: Owned + Drop>(
+    alloc: Global,
+    system: &System<I>,
+    number: u8,
+) -> Result<String, NoMemory>
+where
+    I::Machine: Drop,
+    requires cpu { number < length system.now.cpus }
+    requires thread { number < length system.now.homes }
+{
+    let halted = reason_text(system.halted(CpuId(number)));
+    let (place, at) = place_text(system.place(Tid(number)));
+    Ok(format!(in alloc; "{halted}; {place} {at:?}")?)
+}
+
+/// The line of the whole system, which has one buffer.
+fn last_line<I: Owned + Drop>(alloc: Global, system: &System<I>) -> Result<String, NoMemory>
+where
+    I::Machine: Drop,
+    requires { length system.now.caps ≡ 1 }
+{
+    let quiet = system.is_quiet();
+    let closed = system.is_closed(BufId(0));
+    let busy = system.busy(BufId(0));
+    Ok(format!(in alloc; "quiet {quiet}, closed {closed}, busy {busy:?}\n")?)
+}
+
 /// Whether the system stands as these lines say: a line for each number, and one for all.
 fn stands<I: Owned + Drop>(
     alloc: Global,
@@ -342,19 +370,12 @@ where
         let Some((line, after)) = rest.split_once('\n') else {
             return Ok(false);
         };
-        let halted = reason_text(system.halted(CpuId(number)));
-        let (place, at) = place_text(system.place(Tid(number)));
-        let told = format!(in alloc; "{halted}; {place} {at:?}")?;
-        if told.as_str() != line {
+        if line_of(alloc, system, number)?.as_str() != line {
             return Ok(false);
         }
         rest = after;
     }
-    let quiet = system.is_quiet();
-    let closed = system.is_closed(BufId(0));
-    let busy = system.busy(BufId(0));
-    let told = format!(in alloc; "quiet {quiet}, closed {closed}, busy {busy:?}\n")?;
-    Ok(told.as_str() == rest)
+    Ok(last_line(alloc, system)?.as_str() == rest)
 }
 
 /// Runs a row: the system's text and where it stands are the row's.
@@ -413,6 +434,7 @@ where
     I::Machine: Drop,
 {
     calls_are_whole::<I>();
+    calls_refuse_room::<I>(rt, alloc);
     rows_go::<I>(rt, alloc, ROWS)
 }
 
@@ -447,7 +469,6 @@ where
     B::Machine: Drop,
 {
     buffers_refuse_room::<B>(rt, alloc);
-    calls_refuse_room::<Ipc<B>>(rt, alloc);
     run_whole::<Ipc<B>>(rt, alloc)
 }
 

@@ -1,8 +1,8 @@
 //! The trace text of a system with one buffer, which has room for one message.
 
 ghost use Rattle.std.specs.Prelude.{◌≡◌, ◌≤◌, ◌∷◌, [], All, true, length};
-ghost use Rattle.event_log.specs.{declared.ids.TheConstants.ENTRIES, Messages.no_message};
-ghost use Rattle.tracer.specs.{declared.versions.Version.TheVariants.One, TraceText.IsEntryOf, TraceText.IsItemOf, TraceText.IsSpellable, TraceText.IsValueOf};
+ghost use Rattle.{event_log.specs.{declared.ids.TheConstants.ENTRIES, Messages.no_message}, tracer.specs.declared.versions.Version.TheVariants.One};
+ghost use Rattle.tracer.specs.TraceText.{IsEntryOf, IsItemOf, IsSpellable, IsValueOf};
 
 use arrayvec::ArrayVec;
 use cpu::System;

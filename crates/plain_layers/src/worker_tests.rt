@@ -1,11 +1,10 @@
-//! Plans run with a worker thread for each CPU. One function for each gate calls what names the tower
-//! over seats.
+//! Plans run with a worker thread for each CPU. One function calls what names the tower over seats.
 
 ghost use Rattle.std.specs.Prelude.{◌≡◌, ℕ};
 
 use boot::{Boot, BootError};
 use cpu_workers::{
-    Gate, Go, OpenGate, Report, Stop, reports_are_lawful, run_workers, stops_are_true,
+    Gate, Go, OpenGate, Report, Stop, WorkerError, reports_are_lawful, run_workers, stops_are_true,
     workers_lose_no_wake_up,
 };
 use event_log::{BufId, CpuId, Msg};
@@ -80,6 +79,16 @@ program = ["set r0 2", "send 1 r0"]
 /// The first line of a plan that names its lock; a plan without one has a lock with grant words.
 const TICKET: &str = "lock = \"ticket\"\n";
 
+/// Runs the booted plan. Its contract says nothing, so what calls it names no tower.
+fn run_behind<G: Gate + Sync, T: AllocGlobal + Threads + Wait + Sync>(
+    rt: &T,
+    boot: &Boot,
+    turns: u64,
+    gate: &G,
+) -> Result<Report, WorkerError> {
+    run_workers(rt, rt.alloc(), boot, turns, gate)
+}
+
 /// Runs the plan, behind this first line.
 fn ran<G: Gate + Sync, T: AllocGlobal + Threads + Wait + Sync>(
     rt: &T,
@@ -90,7 +99,7 @@ fn ran<G: Gate + Sync, T: AllocGlobal + Threads + Wait + Sync>(
 ) -> Result<Report, Fail> {
     let text = format!(in rt.alloc(); "{first}{plan}")?;
     let boot = Boot::read(rt.alloc(), text.as_str())?;
-    Ok(run_workers(rt, rt.alloc(), &boot, turns, gate)?)
+    Ok(run_behind(rt, &boot, turns, gate)?)
 }
 
 /// A gate that is open, or limits each CPU before its first turn.
@@ -169,6 +178,32 @@ impl Gate for Together {
     }
 }
 
+/// Whether the threads of each CPU ended.
+fn all_ended(report: &Report) -> bool {
+    for stop in &report.stops {
+        if *stop != Stop::AllEnded {
+            return false;
+        }
+    }
+    true
+}
+
+/// Whether a CPU ended after so many turns, and has a trace if it took any.
+fn has_ended(report: &Report, cpu: u8, turns: u64) -> bool {
+    let at = usize::from(cpu);
+    let traced = match report.traces.get(at) {
+        Some(trace) => trace.is_empty() == (turns == 0),
+        None => false,
+    };
+    traced && report.stops.get(at) == Some(&Stop::AllEnded) && report.taken.get(at) == Some(&turns)
+}
+
+/// Whether buffer 0 was left with 1 in it, and buffer 1 with 2.
+fn holds_one_and_two(report: &Report) -> bool {
+    report.items(BufId(0)).as_slice() == [Msg::one(1)].as_slice()
+        && report.items(BufId(1)).as_slice() == [Msg::one(2)].as_slice()
+}
+
 /// Whether CPU 0 and the other one both ran to their ends while each waited for the other.
 fn run_together<T: AllocGlobal + Threads + Wait + Sync>(
     rt: &T,
@@ -178,20 +213,11 @@ fn run_together<T: AllocGlobal + Threads + Wait + Sync>(
 ) -> Result<bool, Fail> {
     let gate = Together::new(other, PATIENCE);
     let report = ran(rt, first, plan, 1_000_000_000, &gate)?;
-    let mut good = true;
+    let mut good = holds_one_and_two(&report);
     for cpu in 0..=other {
-        let at = usize::from(cpu);
         let turns = if cpu == 0 || cpu == other { 21 } else { 0 };
-        good = good && report.stops.get(at) == Some(&Stop::AllEnded);
-        good = good && report.taken.get(at) == Some(&turns);
-        good = good
-            && report
-                .traces
-                .get(at)
-                .is_some_and(|trace| trace.is_empty() == (turns == 0));
+        good = good && has_ended(&report, cpu, turns);
     }
-    good = good && report.items(BufId(0)).as_slice() == [Msg::one(1)].as_slice();
-    good = good && report.items(BufId(1)).as_slice() == [Msg::one(2)].as_slice();
     Ok(good)
 }
 
@@ -286,7 +312,7 @@ fn a_worker_of_one_cpu_stops_as_its_row_says(rt: HostRuntime) -> Result<(), Fail
 /// Whether the two CPUs ended, and the hundred messages came in order.
 fn all_came<T: AllocGlobal + Threads + Wait + Sync>(rt: &T, first: &str) -> Result<bool, Fail> {
     let report = ran(rt, first, A_HUNDRED, 1_000_000_000, &OpenGate)?;
-    let mut good = report.stops.iter().all(|stop| *stop == Stop::AllEnded)
+    let mut good = all_ended(&report)
         && report.traces.len() == 2
         && report.items(BufId(0)).is_empty();
     for trace in &report.traces {
@@ -362,16 +388,10 @@ fn ends_or_never_asks<T: AllocGlobal + Threads + Wait + Sync>(rt: &T, first: &st
         Err(error) => return matches!(error, BootError::NoMemory(_)),
     };
     let gate = Counting::new(u64::MAX);
-    let ran = run_workers(rt, rt.alloc(), &boot, 1_000_000, &gate);
+    let ran = run_behind(rt, &boot, 1_000_000, &gate);
     let asked = gate.asked.load(Ordering::SeqCst);
     match ran {
-        Ok(report) => {
-            let items = (report.items(BufId(0)), report.items(BufId(1)));
-            asked == 42
-                && report.stops.iter().all(|stop| *stop == Stop::AllEnded)
-                && items.0.as_slice() == [Msg::one(1)].as_slice()
-                && items.1.as_slice() == [Msg::one(2)].as_slice()
-        }
+        Ok(report) => { asked == 42 && all_ended(&report) && holds_one_and_two(&report) }
         Err(_) => asked == 0,
     }
 }

@@ -1,9 +1,7 @@
 -- The grant words: what a give leaves in them.
-use Rattle.std.proofs.Common.{◌≡◌, ℕ, ◌+◌, ◌%◌, ◌^◌, ◌<◌, ◌==◌, Bool, true, false, List, arith, if◌then◌else◌, length, slice_index, slice_set, ap, sym, subst}
-use Rattle.std.proofs.Common.{◌∙◌, refl}
-use Rattle.std.proofs.lemmas.{Bool.eqb-true, Bool.eqb-false, List.get_or-set_same, List.get_or-set_other}
-use Rattle.event_log.specs.{declared.ids.TheConstants.CPUS, Grants.WordFits, Grants.after_give}
-use Rattle.event_log.proofs.GrantWords.{fits_after}
+use Rattle.std.proofs.Common.{◌≡◌, ℕ, ◌+◌, ◌%◌, ◌^◌, ◌<◌, ◌==◌, Bool, true, false, List, arith, if◌then◌else◌, length, slice_index, slice_set, sym}
+use Rattle.std.proofs.{Common.{◌∙◌, refl}, lemmas.{Bool.{eqb-true, eqb-false}, Grind.get_or-set_at, List.get_or-set_other}}
+use Rattle.event_log.{specs.{declared.ids.TheConstants.CPUS, Grants.{WordFits, after_give}}, proofs.GrantWords.fits_after}
 
 next_word : (served : ℕ) → (served + 1) % 2 ^ 64 % CPUS ≡ (served + 1) % CPUS
 next_word served = omega arith
@@ -16,27 +14,18 @@ stored : (words : List ℕ) → length words ≡ CPUS → (served at : ℕ) → 
     → slice_index (slice_set words at (((served + 1) % 2 ^ 64 + 1) % 2 ^ 64)) k ≡ after_give served k (slice_index words k)
 stored words long served at is k within = go (k == (served + 1) % CPUS) refl
   where
-    value : ℕ
-    value = ((served + 1) % 2 ^ 64 + 1) % 2 ^ 64
-
     here : at ≡ (served + 1) % CPUS
     here = is ∙ next_word served
 
     go : (b : Bool) → (k == (served + 1) % CPUS) ≡ b
         → slice_index (slice_set words at (((served + 1) % 2 ^ 64 + 1) % 2 ^ 64)) k ≡ (if b then (served + 2) % 2 ^ 64 else slice_index words k)
-    go true same =
-        let one : k ≡ at = eqb-true k ((served + 1) % CPUS) same ∙ sym here in
-        let inside : at < length words = subst (λ n. at < n) (sym long) (subst (λ i. i < CPUS) one within) in
-        ap (slice_index (slice_set words at (((served + 1) % 2 ^ 64 + 1) % 2 ^ 64))) one
-        ∙ (get_or-set_same words at (((served + 1) % 2 ^ 64 + 1) % 2 ^ 64) 0 inside ∙ next_number served)
-    go false other =
-        let differs : k ≡ at → ⊥ = λ e. eqb-false k ((served + 1) % CPUS) other (e ∙ here) in
-        get_or-set_other words at k (((served + 1) % 2 ^ 64 + 1) % 2 ^ 64) 0 differs
+    go true same = get_or-set_at words at k (((served + 1) % 2 ^ 64 + 1) % 2 ^ 64) 0 (eqb-true k ((served + 1) % CPUS) same ∙ sym here)
+        (let below : at < CPUS = rw here (omega arith) in omega arith) ∙ next_number served
+    go false other = get_or-set_other words at k (((served + 1) % 2 ^ 64 + 1) % 2 ^ 64) 0 (λ e. eqb-false k ((served + 1) % CPUS) other (e ∙ here))
 
 -- after it each word is what came to it last
 pub granted : (words : List ℕ) → length words ≡ CPUS → (given served at : ℕ) → served ≡ given % 2 ^ 64 → at ≡ (served + 1) % 2 ^ 64 % CPUS
     → ((k : ℕ) → k < CPUS → WordFits k given (slice_index words k))
     → (k : ℕ) → k < CPUS → WordFits k (given + 1) (slice_index (slice_set words at (((served + 1) % 2 ^ 64 + 1) % 2 ^ 64)) k)
 granted words long given served at is here fits k within =
-    subst (λ held. WordFits k (given + 1) held) (sym (stored words long served at here k within))
-    (fits_after k given served (slice_index words k) within is (fits k within))
+    rw (stored words long served at here k within) (fits_after k given served (slice_index words k) within is (fits k within))

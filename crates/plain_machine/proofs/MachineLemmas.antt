@@ -1,44 +1,25 @@
 -- Each action keeps the table of the owned machine in agreement with its log.
 use Rattle.std.proofs.Common.{◌≡◌, ℕ, ◌+◌, ◌%◌, ◌^◌, ◌<◌, ◌≤◌, Bool, true, false, List, [], ◌∷◌, ◌==◌, Option, Some, None, IsSome, IfSome, MatchOption}
-use Rattle.std.proofs.Common.{if◌then◌else◌, option_map, refl, ap, sym, ◌∙◌, subst}
-use Rattle.event_log.specs.{declared.ids.CpuId.CpuId, declared.ids.LockId.LockId, declared.ids.TheConstants.CPUS, declared.events.Event.Event}
-use Rattle.event_log.specs.{declared.events.Event.TheVariants.Draw, declared.events.Event.TheVariants.Look, declared.events.Event.TheVariants.Free}
-use Rattle.event_log.specs.{Grants.ticket_in, History.same_lock, WordsLog.IsLegalWords, WordsLog.Idle, WordsLog.Waiting, WordsLog.Holding, WordsLog.draws}
-use Rattle.event_log.specs.{WordsLog.frees, WordsLog.lock_phase, Sections.block_after}
-use Rattle.event_log.proofs.Same.{same_lock_self, same_lock_true}
-use Rattle.layer_traits.proofs.{OneLockLemmas.counts_elsewhere, OneLockLemmas.event_lock, OneLockLemmas.lock_phase_own, OneLockLemmas.elsewhere}
-use Rattle.layer_traits.proofs.{OneLockLemmas.drew, OneLockLemmas.missed, OneLockLemmas.hit, OneLockLemmas.freed, OneLockLemmas.hit_finds, OneLockLemmas.fresh}
-use Rattle.layer_traits.proofs.{OneLockLemmas.serves_exactly, Seen.words_legal, Seen.sections_allowed}
-use Rattle.layer_traits.specs.{declared.edits.Mark.Mark, OneLock.HomeFits, OneLock.opened, Protocol.Rules, Protocol.StaysAllowed, Protocol.section}
-use Rattle.layer_traits.specs.{WordsProtocol.MayCome, WordsProtocol.sections}
-use Rattle.plain_machine.proofs.TableLemmas.{cell_within, cell_put, cell_other}
-use Rattle.plain_machine.specs.{declared.cells.Cell.Cell, Machine.HasCell, Machine.IsSound, Machine.looked, Table.cell_at, Table.with_cell, Table.worded_cell}
-use Rattle.plain_machine.specs.{Table.looked_cell, Table.given_cell, Table.HasFresh, Table.AreFresh}
+use Rattle.std.proofs.Common.{if◌then◌else◌, option_map, refl, ap, sym, ◌∙◌}
+use Rattle.event_log.specs.declared.{ids.{CpuId.CpuId, LockId.LockId, TheConstants.CPUS}, events.Event.{Event, TheVariants.{Draw, Look, Free}}}
+use Rattle.event_log.specs.{Grants.ticket_in, History.same_lock, WordsLog.{IsLegalWords, Idle, Waiting, Holding, draws, frees, lock_phase}}
+use Rattle.{event_log.{specs.Sections.block_after, proofs.Same.{same_lock_self, same_lock_true}}, layer_traits.proofs.OneLockLemmas.counts_elsewhere}
+use Rattle.layer_traits.proofs.OneLockLemmas.{event_lock, lock_phase_own, elsewhere, drew, missed, hit, freed, hit_finds, fresh, serves_exactly}
+use Rattle.layer_traits.{proofs.Seen.{words_legal, sections_allowed}, specs.{declared.edits.Mark.Mark, OneLock.{HomeFits, opened}, Protocol.Rules}}
+use Rattle.{layer_traits.specs.{Protocol.{StaysAllowed, section}, WordsProtocol.{MayCome, sections}}, plain_machine.proofs.TableLemmas.{cell_within, cell_put}}
+use Rattle.plain_machine.{proofs.TableLemmas.cell_other, specs.{declared.cells.Cell.Cell, Machine.{HasCell, IsSound, looked}, Table.{cell_at, with_cell}}}
+use Rattle.plain_machine.specs.Table.{worded_cell, looked_cell, given_cell, HasFresh, AreFresh}
 
--- what a filled table has for each lock that opens
-record Opens {K B : Type 0} (IsNew : K → Type 0) (blocks : List (LockId × B)) (cells : List (Option (Cell K B))) (lock : LockId) : Type 0 where
-  block : B
-  opens : opened blocks lock ≡ Some block
-  has : HasFresh IsNew block (cell_at cells lock)
-
-opens_here : {K B : Type 0} (IsNew : K → Type 0) (o : LockId × B) (rest : List (LockId × B)) (cells : List (Option (Cell K B))) (lock : LockId)
-    → AreFresh IsNew (o ∷ rest) cells → (IsSome (opened rest lock) → Opens IsNew rest cells lock) → IsSome (opened (o ∷ rest) lock)
-    → (b : Bool) → same_lock o.0 lock ≡ b → Opens IsNew (o ∷ rest) cells lock
-opens_here IsNew o rest cells lock all later some true same = record {
-  block = o.1;
-  opens = ap (λ b. if b then Some o.1 else opened rest lock) same;
-  has = subst (λ l. HasFresh IsNew o.1 (cell_at cells l)) (same_lock_true o.0 lock same) all.0;
-}
-opens_here IsNew o rest cells lock all later some false other =
-    let skips : opened (o ∷ rest) lock ≡ opened rest lock = ap (λ b. if b then Some o.1 else opened rest lock) other in
-    let found : Opens IsNew rest cells lock = later (subst (λ x. IsSome x) skips some) in
-    record { block = found.block; opens = skips ∙ found.opens; has = found.has }
-
+-- a filled table has a fresh cell for each lock that opens
 opens_at : {K B : Type 0} (IsNew : K → Type 0) (blocks : List (LockId × B)) (cells : List (Option (Cell K B))) (lock : LockId)
-    → AreFresh IsNew blocks cells → IsSome (opened blocks lock) → Opens IsNew blocks cells lock
+    → AreFresh IsNew blocks cells → IsSome (opened blocks lock) → (block : B) × (opened blocks lock ≡ Some block) × HasFresh IsNew block (cell_at cells lock)
 opens_at IsNew [] cells lock all some = absurd (cc some)
-opens_at IsNew (o ∷ rest) cells lock all some =
-    opens_here IsNew o rest cells lock all (opens_at IsNew rest cells lock all.1) some (same_lock o.0 lock) refl
+opens_at {B = B} IsNew (o ∷ rest) cells lock all some = go (opens_at IsNew rest cells lock all.1) (same_lock o.0 lock) refl
+  where
+    go : (IsSome (opened rest lock) → (block : B) × (opened rest lock ≡ Some block) × HasFresh IsNew block (cell_at cells lock))
+        → (b : Bool) → same_lock o.0 lock ≡ b → (block : B) × (opened (o ∷ rest) lock ≡ Some block) × HasFresh IsNew block (cell_at cells lock)
+    go later true same = (o.1, rw same refl, rw (same_lock_true o.0 lock same) at all.0)
+    go later false other = let found = later (rw other at some) in (found.0, rw other found.1, found.2)
 
 -- a filled table agrees with an empty log
 pub fresh_sound : {E B O K : Type 0} (Fit : ℕ → ℕ → K → Type 0) (rules : Rules E B O) (blocks : List (LockId × B)) (cells : List (Option (Cell K B)))
@@ -48,63 +29,24 @@ fresh_sound Fit rules blocks cells all = record {
   fits = λ lock some.
       let found = opens_at (Fit 0 0) blocks cells lock all some in
       record {
-        cell = given_cell found.has.words found.block;
-        is = found.has.is;
-        words = found.has.new;
-        home_is = fresh rules.edited (opened blocks) lock found.block found.opens;
+        cell = given_cell found.2.words found.0;
+        is = found.2.is;
+        words = found.2.new;
+        home_is = fresh rules.edited (opened blocks) lock found.0 found.1;
       };
 }
 
 -- a machine that is sound, and one of its locks
-pub record AtLock (E B O K : Type 0) : Type 1 where
-  pub Fit : ℕ → ℕ → K → Type 0
-  pub rules : Rules E B O
-  pub opening : LockId → Option B
-  pub log : List (Event (Mark E))
-  pub cells : List (Option (Cell K B))
-  pub sound : IsSound Fit rules opening log cells
-  pub lock : LockId
-  pub exists : IsSome (opening lock)
-
-abbrev pub at_lock : {E B O K : Type 0} (Fit : ℕ → ℕ → K → Type 0) (rules : Rules E B O) (opening : LockId → Option B) (log : List (Event (Mark E)))
-    (cells : List (Option (Cell K B))) → IsSound Fit rules opening log cells → (lock : LockId) → IsSome (opening lock) → AtLock E B O K
-at_lock Fit rules opening log cells sound lock exists = record {
-  Fit = Fit;
-  rules = rules;
-  opening = opening;
-  log = log;
-  cells = cells;
-  sound = sound;
-  lock = lock;
-  exists = exists;
-}
-
-module _ {E B O K : Type 0} (m : AtLock E B O K) where
-  open m use {Fit, rules, opening, log, cells, sound, lock, exists}
+module _ {E B O K : Type 0} {Fit : ℕ → ℕ → K → Type 0} {rules : Rules E B O} {opening : LockId → Option B} {log : List (Event (Mark E))}
+    {cells : List (Option (Cell K B))} (sound : IsSound Fit rules opening log cells) (lock : LockId) (exists : IsSome (opening lock)) where
+  open sound.fits lock exists use {cell, is as cell_is, words as cell_words, home_is as cell_home}
 
   legal : IsLegalWords log
   legal = words_legal (rules.allowed opening) log sound.legal
 
-  -- the cell of the lock
-  cell : Cell K B
-  cell = (sound.fits lock exists).cell
-
-  cell_is : cell_at cells lock ≡ Some cell
-  unfolding cell
-  cell_is = (sound.fits lock exists).is
-
-  cell_words : Fit (draws lock log) (frees lock log) cell.words
-  unfolding cell
-  cell_words = (sound.fits lock exists).words
-
-  cell_home : HomeFits rules.edited opening log lock cell.home
-  unfolding cell
-  cell_home = (sound.fits lock exists).home_is
-
   -- the words that the table shows are those of the counts
   pub shown_words : (found : K) → IfSome (cell_at cells lock) (λ c. found ≡ c.words) → Fit (draws lock log) (frees lock log) found
-  shown_words found shows =
-      subst (λ w. Fit (draws lock log) (frees lock log) w) (sym (subst (λ o. IfSome o (λ c. found ≡ c.words)) cell_is shows)) cell_words
+  shown_words found shows = let same = rw cell_is at shows in rw same cell_words
 
   -- one event at one lock, and its cell as the event leaves it
   step_sound : (e : Event (Mark E)) → event_lock e ≡ lock → MayCome (rules.allowed opening) log e → (after : Cell K B)
@@ -118,12 +60,11 @@ module _ {E B O K : Type 0} (m : AtLock E B O K) where
       go : (l : LockId) → IsSome (opening l) → (b : Bool) → same_lock l lock ≡ b
           → HasCell Fit rules.edited opening (e ∷ log) (with_cell cells lock after) l
       go l some true same =
-          let within = cell_within cells lock (subst (λ o. IsSome o) (sym cell_is) refl) in
-          subst (λ k. HasCell Fit rules.edited opening (e ∷ log) (with_cell cells lock after) k) (sym (same_lock_true l lock same))
-          (record { cell = after; is = cell_put cells lock after within; words = words; home_is = home })
+          rw (same_lock_true l lock same)
+          (record { cell = after; is = cell_put cells lock after (cell_within cells lock (rw cell_is refl)); words = words; home_is = home })
       go l some false other =
           let had = sound.fits l some in
-          let there : same_lock l (event_lock e) ≡ false = subst (λ k. same_lock l k ≡ false) (sym at) other in
+          let there : same_lock l (event_lock e) ≡ false = rw at other in
           record {
             cell = had.cell;
             is = cell_other cells lock after l other ∙ had.is;
@@ -139,16 +80,12 @@ module _ {E B O K : Type 0} (m : AtLock E B O K) where
       → (log' : List (Event (Mark E))) → log' ≡ Draw cpu lock (draws lock log % 2 ^ 64) ∷ log
       → (log' ≡ Draw cpu lock ticket ∷ log) × IsSound Fit rules opening log' cells'
   took cpu known outside ticket cells' did log' grew =
-      let here = subst (λ o. IfSome o (λ c. (words : K)
-      × ((taken given : ℕ) → Fit taken given c.words → (ticket ≡ taken % 2 ^ 64) × Fit (taken + 1) given words)
-      × (cells' ≡ with_cell cells lock (worded_cell c words)))) cell_is did in
+      let here = rw cell_is at did in
       let law = here.1 (draws lock log) (frees lock log) cell_words in
       let is : log' ≡ Draw cpu lock ticket ∷ log = grew ∙ ap (λ t. Draw cpu lock t ∷ log) (sym law.0) in (
         is,
-        subst (λ l. IsSound Fit rules opening l cells') (sym is) (subst (λ cs. IsSound Fit rules opening (Draw cpu lock ticket ∷ log) cs) (sym here.2)
-            (step_sound (Draw cpu lock ticket) refl ((known, outside, law.0), tt) (worded_cell cell here.0)
-            (subst (λ b. Fit (if b then draws lock log + 1 else draws lock log) (frees lock log) here.0) (sym (same_lock_self lock)) law.1)
-            (drew rules.edited opening lock cpu ticket log outside cell.home cell_home))),
+        rw (is, here.2) (step_sound (Draw cpu lock ticket) refl ((known, outside, law.0), tt) (worded_cell cell here.0) (rw (same_lock_self lock) law.1)
+            (drew rules.edited opening lock cpu ticket log outside cell.home cell_home)),
       )
 
   module _ (cpu : CpuId) (ticket : ℕ) (waiting : lock_phase cpu log ≡ Waiting lock ticket) where
@@ -168,20 +105,17 @@ module _ {E B O K : Type 0} (m : AtLock E B O K) where
         → MatchOption (if served then cell.home else None)
         (lock_phase cpu (looked cpu lock ticket log) ≡ Waiting lock ticket)
         (λ block. (lock_phase cpu (looked cpu lock ticket log) ≡ Holding lock ticket) × (block_after rules.edited opening lock (sections log) ≡ Some block))
-    look_finds true is =
-        let entered : lock_phase cpu (looked cpu lock ticket log) ≡ Holding lock ticket
-        = lock_phase_own (Look cpu lock ticket (frees lock log % 2 ^ 64)) log ∙ ap (λ b. if b then Holding lock ticket else Waiting lock ticket) (sym is) in
-        found cell.home cell_home
-        (hit_finds rules.edited opening lock cpu ticket (frees lock log % 2 ^ 64) log (look_may.0, legal) (sym is) cell.home cell_home) entered
+    look_finds served is = go served cell.home cell_home
+        (λ hits. hit_finds rules.edited opening lock cpu ticket (frees lock log % 2 ^ 64) log (look_may.0, legal) (sym is ∙ hits) cell.home cell_home)
+        (lock_phase_own (Look cpu lock ticket (frees lock log % 2 ^ 64)) log ∙ ap (λ b. if b then Holding lock ticket else Waiting lock ticket) (sym is))
       where
-        found : (home : Option B) → HomeFits rules.edited opening log lock home → IsSome home
-            → lock_phase cpu (looked cpu lock ticket log) ≡ Holding lock ticket
-            → MatchOption home (lock_phase cpu (looked cpu lock ticket log) ≡ Waiting lock ticket)
+        go : (b : Bool) (home : Option B) → HomeFits rules.edited opening log lock home → (b ≡ true → IsSome home)
+            → lock_phase cpu (looked cpu lock ticket log) ≡ (if b then Holding lock ticket else Waiting lock ticket)
+            → MatchOption (if b then home else None) (lock_phase cpu (looked cpu lock ticket log) ≡ Waiting lock ticket)
             (λ block. (lock_phase cpu (looked cpu lock ticket log) ≡ Holding lock ticket) × (block_after rules.edited opening lock (sections log) ≡ Some block))
-        found None fits some entered = absurd (cc some)
-        found (Some block) fits some entered = (entered, fits.1)
-    look_finds false is =
-        lock_phase_own (Look cpu lock ticket (frees lock log % 2 ^ 64)) log ∙ ap (λ b. if b then Holding lock ticket else Waiting lock ticket) (sym is)
+        go false home fits there left = left
+        go true None fits there left = absurd (let some = there refl in cc some)
+        go true (Some block) fits there left = (left, fits.1)
 
     pub tried : (found : Option B) (cells' : List (Option (Cell K B)))
         → IfSome (cell_at cells lock) (λ c. (served : Bool)
@@ -193,20 +127,13 @@ module _ {E B O K : Type 0} (m : AtLock E B O K) where
         (λ block. (lock_phase cpu log' ≡ Holding lock ticket) × (block_after rules.edited opening lock (sections log') ≡ Some block))
         × IsSound Fit rules opening log' cells'
     tried found cells' did log' grew =
-        let here = subst (λ o. IfSome o (λ c. (served : Bool)
-        × ((taken given spot : ℕ) → Fit taken given c.words → given ≤ spot → spot < given + CPUS → ticket ≡ spot % 2 ^ 64 → served ≡ (given == spot))
-        × (found ≡ (if served then c.home else None)) × (cells' ≡ with_cell cells lock (looked_cell c served)))) cell_is did in
+        let here = rw cell_is at did in
         let is : here.0 ≡ (frees lock log % 2 ^ 64 == ticket)
         = serves_exactly log legal cpu lock ticket waiting here.0 (λ spot. here.1 (draws lock log) (frees lock log) spot cell_words) in
         let same : log' ≡ looked cpu lock ticket log = grew ∙ ap (λ s. Look cpu lock (ticket_in s) (frees lock log % 2 ^ 64) ∷ log) waiting in (
           same,
-          subst (λ l. MatchOption found (lock_phase cpu l ≡ Waiting lock ticket)
-              (λ block. (lock_phase cpu l ≡ Holding lock ticket) × (block_after rules.edited opening lock (sections l) ≡ Some block))) (sym same)
-              (subst (λ f. MatchOption f (lock_phase cpu (looked cpu lock ticket log) ≡ Waiting lock ticket)
-              (λ block. (lock_phase cpu (looked cpu lock ticket log) ≡ Holding lock ticket)
-              × (block_after rules.edited opening lock (sections log) ≡ Some block))) (sym here.2) (look_finds here.0 is)),
-          subst (λ l. IsSound Fit rules opening l cells') (sym same)
-              (subst (λ cs. IsSound Fit rules opening (looked cpu lock ticket log) cs) (sym here.3) (look_sound here.0 is)),
+          rw (same, here.2) (look_finds here.0 is),
+          rw (same, here.3) (look_sound here.0 is),
         )
 
   -- a free brings the edited block home
@@ -217,11 +144,7 @@ module _ {E B O K : Type 0} (m : AtLock E B O K) where
       × (cells' ≡ with_cell cells lock (given_cell words block)))
       → (log' : List (Event (Mark E))) → log' ≡ Free cpu lock mark ∷ log → IsSound Fit rules opening log' cells'
   gave cpu ticket mark block inside edited stays cells' did log' grew =
-      let here = subst (λ o. IfSome o (λ c. (words : K) × ((taken given : ℕ) → Fit taken given c.words → Fit taken (given + 1) words)
-      × (cells' ≡ with_cell cells lock (given_cell words block)))) cell_is did in
+      let here = rw cell_is at did in
       let law = here.1 (draws lock log) (frees lock log) cell_words in
-      subst (λ l. IsSound Fit rules opening l cells') (sym grew) (subst (λ cs. IsSound Fit rules opening (Free cpu lock mark ∷ log) cs) (sym here.2)
-      (step_sound (Free cpu lock mark) refl ((ticket, inside), stays [] tt (sections_allowed (rules.allowed opening) log sound.legal))
-      (given_cell here.0 block)
-      (subst (λ b. Fit (draws lock log) (if b then frees lock log + 1 else frees lock log) here.0) (sym (same_lock_self lock)) law)
-      (freed rules.edited opening lock cpu ticket mark log legal inside block edited)))
+      rw (grew, here.2) (step_sound (Free cpu lock mark) refl ((ticket, inside), stays [] tt (sections_allowed (rules.allowed opening) log sound.legal))
+      (given_cell here.0 block) (rw (same_lock_self lock) law) (freed rules.edited opening lock cpu ticket mark log legal inside block edited))

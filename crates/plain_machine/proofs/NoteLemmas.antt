@@ -1,10 +1,8 @@
 -- What equal notes of looks tell.
 use Rattle.std.proofs.Common.{◌≡◌, ℕ, zero, suc, ◌+◌, ◌%◌, ◌^◌, List, [], ◌∷◌, ◌++◌, replicate, reverse, refl, ap, sym, ◌∙◌, arith}
-use Rattle.std.proofs.lemmas.Grind.{replicate_next}
-use Rattle.std.proofs.lemmas.List.{reverse-append}
-use Rattle.event_log.specs.{declared.ids.CpuId.CpuId, declared.ids.LockId.LockId, Grants.ticket_in, WordsLog.frees, WordsLog.lock_phase}
-use Rattle.plain_machine.proofs.SpinLemmas.{looks_more, noted}
-use Rattle.plain_machine.specs.{declared.notes.Note.Note, declared.notes.Atom.TheVariants.Look, Machine.told}
+use Rattle.{std.proofs.lemmas.{Grind.replicate_next, List.reverse-append}, event_log.specs.{declared.ids.{CpuId.CpuId, LockId.LockId}, Grants.ticket_in}}
+use Rattle.{event_log.specs.WordsLog.{frees, lock_phase}, plain_machine.{proofs.SpinLemmas.{looks_more, noted}, specs.declared.notes.Note.Note}}
+use Rattle.plain_machine.specs.{declared.notes.Atom.TheVariants.Look, Machine.told}
 
 -- copies read the same from behind
 reverse_copies : {A : Type 0} (copies : ℕ) (x : A) → reverse (replicate copies x) ≡ replicate copies x
@@ -32,6 +30,4 @@ module _ {M : Type 0} (cpu : CpuId) (lock : LockId) (marks : List M) where
   pub told_looks : (notes : List Note) (looks : ℕ) → told (reverse (notes ++ replicate looks noted_look)) marks
       ≡ noted cpu lock (ticket_in (lock_phase cpu (told (reverse notes) marks))) (frees lock (told (reverse notes) marks) % 2 ^ 64)
       (told (reverse notes) marks) looks
-  told_looks notes looks =
-      ap (λ ns. told ns marks) (reverse-append notes (replicate looks noted_look) ∙ ap (λ ns. ns ++ reverse notes) (reverse_copies looks noted_look))
-      ∙ in_front (reverse notes) looks
+  told_looks notes looks = grind (arith, reverse-append, reverse_copies, in_front)

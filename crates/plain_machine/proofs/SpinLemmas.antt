@@ -1,33 +1,24 @@
 -- Looks that all miss: they read what the first one reads, and the table agrees with the log that has them.
-use Rattle.std.proofs.Common.{◌≡◌, ℕ, zero, suc, ◌+◌, ◌%◌, ◌^◌, ◌<◌, ◌≤◌, Bool, true, false, List, ◌∷◌, ◌++◌, ◌==◌, Option, IsSome, IfSome, replicate}
-use Rattle.std.proofs.Common.{if◌then◌else◌, refl, ap, sym, ◌∙◌, subst}
-use Rattle.event_log.specs.{declared.ids.CpuId.CpuId, declared.ids.LockId.LockId, declared.ids.TheConstants.CPUS, declared.events.Event.Event}
-use Rattle.event_log.specs.{declared.events.Event.TheVariants.Look, Grants.ticket_in, History.same_lock, WordsLog.Waiting}
-use Rattle.event_log.specs.{WordsLog.Holding, WordsLog.frees, WordsLog.draws, WordsLog.lock_phase}
-use Rattle.event_log.proofs.Same.{same_lock_true}
-use Rattle.layer_traits.proofs.{OneLockLemmas.lock_phase_own, OneLockLemmas.elsewhere, OneLockLemmas.missed, OneLockLemmas.serves_exactly, Seen.words_legal}
-use Rattle.layer_traits.specs.{declared.edits.Mark.Mark, OneLock.HomeFits, Protocol.Rules}
-use Rattle.plain_machine.specs.{declared.cells.Cell.Cell, Machine.IsSound, Table.cell_at}
+use Rattle.std.proofs.Common.{arith, ◌≡◌, ℕ, zero, suc, ◌+◌, ◌%◌, ◌^◌, ◌<◌, ◌≤◌, Bool, true, false, List, ◌∷◌, ◌++◌, ◌==◌, Option, IsSome, IfSome, replicate}
+use Rattle.std.proofs.Common.{if◌then◌else◌, refl, ap, sym, ◌∙◌}
+use Rattle.event_log.specs.{declared.{ids.{CpuId.CpuId, LockId.LockId, TheConstants.CPUS}, events.Event.{Event, TheVariants.Look}}, Grants.ticket_in}
+use Rattle.event_log.{specs.{History.same_lock, WordsLog.{Waiting, Holding, frees, draws, lock_phase}}, proofs.Same.same_lock_true}
+use Rattle.layer_traits.{proofs.{OneLockLemmas.{lock_phase_own, elsewhere, missed, serves_exactly}, Seen.words_legal}, specs.declared.edits.Mark.Mark}
+use Rattle.{layer_traits.specs.{OneLock.HomeFits, Protocol.Rules}, plain_machine.specs.{declared.cells.Cell.Cell, Machine.IsSound, Table.cell_at}}
 
 module _ {M : Type 0} (cpu : CpuId) (lock : LockId) (ticket read : ℕ) (old : List (Event M)) where
   abbrev pub noted : ℕ → List (Event M)
   noted looks = replicate looks (Look cpu lock ticket read) ++ old
 
   keeps_ticket : (hit : Bool) → ticket_in (if hit then Holding lock ticket else Waiting lock ticket) ≡ ticket
-  keeps_ticket true = refl
-  keeps_ticket false = refl
+  keeps_ticket hit = grind arith
 
   ticket_stays : (looks : ℕ) → ticket ≡ ticket_in (lock_phase cpu old) → ticket_in (lock_phase cpu (noted looks)) ≡ ticket
-  ticket_stays zero is = sym is
-  ticket_stays (suc looks) is = ap ticket_in (lock_phase_own (Look cpu lock ticket read) (noted looks)) ∙ keeps_ticket (read == ticket)
+  ticket_stays looks is = grind (arith, lock_phase_own, keeps_ticket)
 
   frees_stay : (at : LockId) (looks : ℕ) → frees at (noted looks) ≡ frees at old
   frees_stay at zero = refl
   frees_stay at (suc looks) = frees_stay at looks
-
-  draws_stay : (at : LockId) (looks : ℕ) → draws at (noted looks) ≡ draws at old
-  draws_stay at zero = refl
-  draws_stay at (suc looks) = draws_stay at looks
 
   -- one look more
   pub looks_more : (looks : ℕ) (now : List (Event M)) → ticket ≡ ticket_in (lock_phase cpu old) → read ≡ frees lock old % 2 ^ 64 → now ≡ noted looks
@@ -46,9 +37,7 @@ module _ {M : Type 0} (cpu : CpuId) (lock : LockId) (ticket read : ℕ) (old : L
   module _ (waiting : lock_phase cpu old ≡ Waiting lock ticket) (misses : (read == ticket) ≡ false) where
     -- the CPU waits on
     pub waits_on : (looks : ℕ) → lock_phase cpu (noted looks) ≡ Waiting lock ticket
-    waits_on zero = waiting
-    waits_on (suc looks) =
-        lock_phase_own (Look cpu lock ticket read) (noted looks) ∙ ap (λ b. if b then Holding lock ticket else Waiting lock ticket) misses
+    waits_on looks = grind (arith, lock_phase_own)
 
 module _ {E B O K : Type 0} (Fit : ℕ → ℕ → K → Type 0) (rules : Rules E B O) (opening : LockId → Option B) (cells : List (Option (Cell K B)))
     (cpu : CpuId) (lock : LockId) (ticket read : ℕ) where
@@ -67,10 +56,8 @@ module _ {E B O K : Type 0} (Fit : ℕ → ℕ → K → Type 0) (rules : Rules 
     where
       go : (l : LockId) (b : Bool) → same_lock l lock ≡ b → (home : Option B) → HomeFits rules.edited opening log l home
           → HomeFits rules.edited opening (Look cpu lock ticket read ∷ log) l home
-      go l true same home fits =
-          subst (λ k. HomeFits rules.edited opening (Look cpu lock ticket read ∷ log) k home) (sym (same_lock_true l lock same))
-          (missed rules.edited opening lock cpu ticket read log waiting misses home
-          (subst (λ k. HomeFits rules.edited opening log k home) (same_lock_true l lock same) fits))
+      go l true same home fits = rw (same_lock_true l lock same)
+          (missed rules.edited opening lock cpu ticket read log waiting misses home (rw (same_lock_true l lock same) at fits))
       go l false other home fits = elsewhere rules.edited opening l (Look cpu lock ticket read) log (waiting, reads) other home fits
 
   pub spun_sound : (log : List (Event (Mark E))) → lock_phase cpu log ≡ Waiting lock ticket → read ≡ frees lock log % 2 ^ 64 → (read == ticket) ≡ false
@@ -89,7 +76,6 @@ module _ {E B O K : Type 0} (Fit : ℕ → ℕ → K → Type 0) (rules : Rules 
       → (frees lock log % 2 ^ 64 == ticket) ≡ false
   misses_by log sound there waiting served not_served tells =
       let had = sound.fits lock there in
-      let law = subst (λ o. IfSome o (λ c. (taken given spot : ℕ) → Fit taken given c.words → given ≤ spot → spot < given + CPUS → ticket ≡ spot % 2 ^ 64
-      → served ≡ (given == spot))) had.is tells in
+      let law = rw had.is at tells in
       sym (serves_exactly log (words_legal (rules.allowed opening) log sound.legal) cpu lock ticket waiting served
       (λ spot. law (draws lock log) (frees lock log) spot had.words)) ∙ not_served

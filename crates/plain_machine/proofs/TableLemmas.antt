@@ -1,28 +1,13 @@
 -- A table of cells: what a write leaves, and that a table filled with fresh cells has them all.
-use Rattle.std.proofs.Common.{◌≡◌, ℕ, zero, suc, ◌⊎◌, inl, inr, ◌<◌, ◌≤◌, false, List, [], ◌∷◌, ◌++◌, length, get_or, Option, Some, None, IsSome, is_some, refl}
-use Rattle.std.proofs.Common.{ap, sym, ◌∙◌, subst, All, arith}
-use Rattle.std.proofs.lemmas.List.{get_or-set_same, get_or-set_other, Elements.All-head, Elements.All-tail}
-use Rattle.event_log.specs.{declared.ids.LockId.LockId, History.same_lock, Locks.lock_number}
-use Rattle.layer_traits.specs.OneLock.{AreDistinct, IsMissing}
-use Rattle.plain_machine.specs.{declared.cells.Cell.Cell, Table.cell_at, Table.with_cell, Table.given_cell, Table.AreFresh}
-use Rattle.event_log.proofs.Same.{lock_number_other}
-
-get_or_past : {X : Type 0} (xs : List X) (i : ℕ) (d : X) → length xs ≤ i → get_or xs i d ≡ d
-get_or_past [] i d past = refl
-get_or_past (x ∷ xs) zero d past = absurd (omega arith)
-get_or_past (x ∷ xs) (suc i) d past = get_or_past xs i d (omega arith)
-
-within_or_past : (i n : ℕ) → (i < n) ⊎ (n ≤ i)
-within_or_past i n = grind arith
+use Rattle.std.proofs.Common.{◌≡◌, ℕ, ◌⊎◌, ◌<◌, ◌≤◌, false, List, [], ◌∷◌, ◌++◌, length, get_or, Option, Some, None, IsSome, ◌∙◌, All, arith}
+use Rattle.{std.proofs.lemmas.List.{get_or_past, get_or-set_same, get_or-set_other, Elements.{All-head, All-tail}}, event_log.specs.declared.ids.LockId.LockId}
+use Rattle.{event_log.{specs.{History.same_lock, Locks.lock_number}, proofs.Same.lock_number_other}, layer_traits.specs.OneLock.{AreDistinct, IsMissing}}
+use Rattle.plain_machine.specs.{declared.cells.Cell.Cell, Table.{cell_at, with_cell, given_cell, AreFresh}}
 
 module _ {K B : Type 0} (cells : List (Option (Cell K B))) (lock : LockId) where
   -- a lock that has a cell has its slot within the table
   pub cell_within : IsSome (cell_at cells lock) → lock_number lock < length cells
-  cell_within has = elim (within_or_past (lock_number lock) (length cells)) [
-    | inl within ↦ within
-    | inr past ↦ absurd (let empty : cell_at cells lock ≡ None = get_or_past cells (lock_number lock) None past in
-        let gone : is_some (cell_at cells lock) ≡ false = ap is_some empty in cc)
-  ]
+  cell_within has = grind (arith, get_or_past)
 
   -- the cell that was put is there
   pub cell_put : (cell : Cell K B) → lock_number lock < length cells → cell_at (with_cell cells lock cell) lock ≡ Some cell
@@ -52,17 +37,7 @@ fresh_more IsNew (x ∷ xs) o ys cells distinct within words new fresh = (
   fresh_more IsNew xs o ys cells distinct.1 within words new fresh.1,
 )
 
-all_mid : {X : Type 0} (P : X → Type 0) (xs : List X) (o : X) (ys : List X) → All P (xs ++ o ∷ ys) → P o
+-- what holds of all holds of one in the middle
+pub all_mid : {X : Type 0} (P : X → Type 0) (xs : List X) (o : X) (ys : List X) → All P (xs ++ o ∷ ys) → P o
 all_mid P [] o ys all = All-head P o ys all
 all_mid P (x ∷ xs) o ys all = all_mid P xs o ys (All-tail P x (xs ++ o ∷ ys) all)
-
--- one pass of the loop that fills the table
-pub fresh_pass : {K B : Type 0} (IsNew : K → Type 0) (blocks xs : List (LockId × B)) (o : LockId × B) (ys : List (LockId × B))
-    (cells : List (Option (Cell K B))) → xs ++ o ∷ ys ≡ blocks → AreDistinct blocks
-    → All (λ entry. lock_number entry.0 < length cells) blocks → (words : K) → IsNew words → AreFresh IsNew xs cells
-    → AreFresh IsNew (xs ++ o ∷ []) (with_cell cells o.0 (given_cell words o.1))
-fresh_pass IsNew blocks xs o ys cells is distinct within words new fresh =
-    let reaches : All (λ entry. lock_number entry.0 < length cells) (xs ++ o ∷ ys) =
-    subst (λ l. All (λ entry. lock_number entry.0 < length cells) l) (sym is) within in
-    fresh_more IsNew xs o ys cells (subst (λ l. AreDistinct l) (sym is) distinct) (all_mid (λ entry. lock_number entry.0 < length cells) xs o ys reaches)
-    words new fresh

@@ -1,10 +1,9 @@
 -- What the owned machine shows, and when its table agrees with its log.
 use Rattle.std.specs.Prelude.{◌≡◌, ℕ, ◌-◌, ◌%◌, ◌^◌, ◌<◌, List, [], ◌∷◌, length, reverse, Option, Some, IsSome}
-use Rattle.event_log.specs.{declared.ids.CpuId.CpuId, declared.ids.LockId.LockId, declared.ids.TheConstants.CPUS, declared.events.Event.Event, Grants.ticket_in}
-use Rattle.event_log.specs.{History.IsLawful, Log.events_in, Log.room_of, WordsLog.lock_phase, WordsLog.draws, WordsLog.frees}
-use Rattle.layer_traits.specs.{declared.edits.Mark.Mark, OneLock.HomeFits, Protocol.Rules, WordsProtocol.MayCome}
-use Rattle.plain_machine.specs.{declared.cells.Cell.Cell, declared.notes.Atom.Atom, declared.notes.Atom.TheVariants.Draw, declared.notes.Atom.TheVariants.Look}
-use Rattle.plain_machine.specs.{declared.notes.Atom.TheVariants.Free, declared.notes.Note.Note, declared.notes.Notes.Notes, Table.cell_at}
+use Rattle.event_log.specs.{declared.{ids.{CpuId.CpuId, LockId.LockId, TheConstants.CPUS}, events.Event.Event}, Grants.ticket_in, History.IsLawful}
+use Rattle.{event_log.specs.{Log.{events_in, room_of}, WordsLog.{lock_phase, draws, frees}}, layer_traits.specs.{declared.edits.Mark.Mark, OneLock.HomeFits}}
+use Rattle.{layer_traits.specs.{Protocol.Rules, WordsProtocol.MayCome}, plain_machine.specs.declared.{cells.Cell.Cell, notes.Atom.{Atom, TheVariants.Draw}}}
+use Rattle.plain_machine.specs.{declared.notes.{Atom.TheVariants.{Look, Free}, Note.Note, Notes.Notes}, Table.cell_at}
 use Rattle.event_log.specs.declared.events.Event.TheVariants as event
 
 -- the past with the event of what was done at a lock, where these marks, newest first, are not yet told. A draw gives the number of

@@ -1,7 +1,6 @@
 -- The table of lock cells, by the locks' numbers, and what the actions make of a cell.
 use Rattle.std.specs.Prelude.{◌≡◌, Bool, List, [], ◌∷◌, Option, Some, None, if◌then◌else◌, slice_index_or, slice_set}
-use Rattle.event_log.specs.{declared.ids.LockId.LockId, Locks.lock_number}
-use Rattle.plain_machine.specs.declared.cells.Cell.{Cell}
+use Rattle.{event_log.specs.{declared.ids.LockId.LockId, Locks.lock_number}, plain_machine.specs.declared.cells.Cell.Cell}
 
 -- the cell of a lock, None where the table has none
 abbrev pub cell_at : {K B : Type 0} → List (Option (Cell K B)) → LockId → Option (Cell K B)

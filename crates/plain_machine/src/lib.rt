@@ -14,7 +14,7 @@
 
 mod cells;
 mod line_words;
-mod meant;
+mod logged_edits;
 mod notes;
 mod plain;
 #[cfg(test)]
@@ -23,5 +23,5 @@ mod stored_words;
 mod tests;
 
 pub use line_words::{GrantLockWords, Granting, LineWords, LockWords};
-pub use meant::Meant;
+pub use logged_edits::LoggedEdit;
 pub use plain::{GrantPlain, Plain};

@@ -4,7 +4,7 @@ ghost use Rattle.std.specs.Prelude.{◌≡◌, ℕ, ◌%◌, ◌^◌, ◌<◌, [
 
 use crate::cells::{self, Cell};
 use crate::line_words::{GrantLockWords, Granting, LineWords, LockWords};
-use crate::meant::Meant;
+use crate::logged_edits::LoggedEdit;
 use crate::notes::Notes;
 use event_log::{CPUS, CpuId, LockId, NoMemory};
 use layer_traits::{GrantWords, Mark, OwnedWords, SplitEdit, UsesGrantWords, Words, steps_of};
@@ -16,7 +16,7 @@ use std::snapshot::Snapshot;
 /// are ticket locks, if no other words are named.
 #[derive(Drop)]
 pub struct Plain<E: SplitEdit, K: LineWords = LockWords> {
-    log: Notes<Mark<Meant<E, E::Handed>>>,
+    log: Notes<Mark<LoggedEdit<E, E::Handed>>>,
     cells: Vec<Option<Cell<K, E::Block>>>,
     // The blocks that the locks opened with, for clauses alone.
     opening: Snapshot<Vec<(LockId, E::Block)>>,
@@ -93,8 +93,7 @@ impl<E: SplitEdit> Plain<E, LockWords> {
 }
 
 impl<E: SplitEdit> Plain<E, Granting> {
-    ghost use Rattle.std.specs.Prelude.{slice_index};
-    ghost use Rattle.event_log.specs.{declared.ids.TheConstants.CPUS, Grants.tickets, Grants.grant_word};
+    ghost use Rattle.{std.specs.Prelude.slice_index, event_log.specs.{declared.ids.TheConstants.CPUS, Grants.{tickets, grant_word}}};
 
     /// The words of `lock`: how many tickets were taken, modulo 2^64, and what the gives left in
     /// each grant word.
@@ -112,13 +111,12 @@ impl<E: SplitEdit> Plain<E, Granting> {
 }
 
 impl<E: SplitEdit, K: LineWords> Words for Plain<E, K> {
-    ghost use Rattle.event_log.specs.declared.ids.TheConstants.{CPUS};
-    ghost use Rattle.layer_traits.specs.OneLock.{opened};
-    ghost use Rattle.plain_machine.specs.Machine.{IsServed, history, room_left};
+    ghost use Rattle.{event_log.specs.declared.ids.TheConstants.CPUS, layer_traits.specs.OneLock.opened, plain_machine.specs.Machine.{IsServed, history}};
+    ghost use Rattle.plain_machine.specs.Machine.{room_left};
 
     type Edit = E;
 
-    type Mark = Mark<Meant<E, E::Handed>>;
+    type Mark = Mark<LoggedEdit<E, E::Handed>>;
 
     ghost edit_in = { λ mark. mark.edit };
 
@@ -131,9 +129,9 @@ impl<E: SplitEdit, K: LineWords> Words for Plain<E, K> {
     ghost room = { λ w. room_left w.log };
 
     #[inline(always)]
-    fn mark(handed: E::Handed, edit: E) -> Mark<Meant<E, E::Handed>> {
+    fn mark(handed: E::Handed, edit: E) -> Mark<LoggedEdit<E, E::Handed>> {
         Mark {
-            edit: Meant::of(handed, &edit),
+            edit: LoggedEdit::of(handed, &edit),
         }
     }
 
@@ -161,7 +159,13 @@ impl<E: SplitEdit, K: LineWords> Words for Plain<E, K> {
     }
 
     #[inline(always)]
-    fn free(&mut self, cpu: CpuId, lock: LockId, block: E::Block, mark: Mark<Meant<E, E::Handed>>) {
+    fn free(
+        &mut self,
+        cpu: CpuId,
+        lock: LockId,
+        block: E::Block,
+        mark: Mark<LoggedEdit<E, E::Handed>>,
+    ) {
         cells::give(&mut self.cells, lock, block);
         self.log.free(cpu, lock, mark);
     }
@@ -170,8 +174,7 @@ impl<E: SplitEdit, K: LineWords> Words for Plain<E, K> {
 }
 
 impl<E: SplitEdit, K: LineWords> OwnedWords for Plain<E, K> {
-    ghost use Rattle.event_log.specs.declared.ids.TheConstants.{CPUS};
-    ghost use Rattle.layer_traits.specs.OneLock.{AreDistinct, opened};
+    ghost use Rattle.{event_log.specs.declared.ids.TheConstants.CPUS, layer_traits.specs.OneLock.{AreDistinct, opened}};
     ghost use Rattle.plain_machine.specs.{Laws.HomeLaws.home_reads, Machine.history, Table.home_at};
 
     ghost block_at = { λ w lock. home_at w.cells.items lock };

@@ -1,12 +1,9 @@
 -- The locks of a machine at boot: nobody owns one, and nobody sleeps.
-use Rattle.std.proofs.Common.{◌≡◌, List, Option, Some, None, map, option_map, refl, ap, sym, ◌∙◌, subst, slice_get}
-use Rattle.event_log.specs.declared.ids.{BufId.BufId, CpuId.CpuId, LockId.LockId, LockId.TheVariants.Pending, LockId.TheVariants.Buffer}
-use Rattle.layer_traits.specs.{declared.queue_edits.QueueBlock.QueueBlock, QLocking.AreAtRest, QLocking.IsAtRest, QueueBlocks.StartsAs, QueueBlocks.StartsWell}
-use Rattle.layer_traits.specs.{QueueBlocks.above_of, QueueBlocks.inner, Renaming.viewed}
-use Rattle.layer_traits.proofs.KernelRenaming.{inner_viewed}
-use Rattle.sleep_wakeup.specs.{declared.edits.SleepBlock.SleepBlock, Nested.resting, Nested.state_of}
-use Rattle.std.proofs.lemmas.Option.{slice_get-map}
-use Rattle.queuing_lock.specs.{declared.edits.QBlock.QBlock, Nested.nested_lock_of, Nested.unowned}
+use Rattle.std.proofs.{Common.{◌≡◌, List, Option, Some, None, map, option_map, refl, ap, sym, ◌∙◌, subst, slice_get}, lemmas.Option.slice_get-map}
+use Rattle.event_log.specs.declared.ids.{BufId.BufId, CpuId.CpuId, LockId.{LockId, TheVariants.{Pending, Buffer}}}
+use Rattle.layer_traits.specs.{declared.queue_edits.QueueBlock.QueueBlock, QLocking.{AreAtRest, IsAtRest}, QueueBlocks.{StartsAs, StartsWell, above_of, inner}}
+use Rattle.{layer_traits.{specs.Renaming.viewed, proofs.KernelRenaming.inner_viewed}, sleep_wakeup.specs.{declared.edits.SleepBlock.SleepBlock, Nested.resting}}
+use Rattle.{sleep_wakeup.specs.Nested.state_of, queuing_lock.specs.{declared.edits.QBlock.QBlock, Nested.{nested_lock_of, unowned}}}
 use Rattle.layer_traits.specs.declared.queue_edits.QueueBlock.TheVariants as block
 
 at_rest : {B : Type 0} (o : Option B) → IsAtRest (option_map nested_lock_of (option_map state_of (option_map resting (option_map unowned o))))

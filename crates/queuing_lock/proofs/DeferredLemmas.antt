@@ -1,27 +1,20 @@
 -- What is kept agrees with the call under way and the hand: an outcome is kept of a call inside or of a release alone.
 use Rattle.std.proofs.Common.{◌≡◌, Bool, true, false, ◌&&◌, not, if◌then◌else◌, List, [], Option, Some, None, option_map, is_some, IsSome, refl, ap, sym, ◌∙◌}
-use Rattle.std.proofs.Common.{subst}
-use Rattle.event_log.specs.{declared.ids.BufId.BufId, declared.ids.CpuId.CpuId, declared.ids.LockId.LockId, declared.ids.LockId.TheVariants.Buffer}
-use Rattle.event_log.specs.{declared.ids.Tid.Tid, Sections.block_after}
-use Rattle.layer_traits.specs.declared.{locked.QEdit.QEdit, locked.QEdit.TheVariants.Acquire, locked.QEdit.TheVariants.Inside, locked.QEdit.TheVariants.Release}
-use Rattle.layer_traits.specs.declared.{locked.QOut.QOut, moves.WaitList.WaitList, moves.WaitList.TheVariants.Sleepers, moves.WaitList.TheVariants.Receivers}
-use Rattle.layer_traits.specs.declared.{moves.WaitList.TheVariants.Senders, queue_edits.QueueBlock.QueueBlock, queues.QueueEvent.QueueEvent}
-use Rattle.layer_traits.specs.declared.{scheds.SchedCall.SchedCall, scheds.SchedCall.TheVariants.Pass, scheds.SchedCall.TheVariants.OnBuffer}
-use Rattle.layer_traits.specs.declared.{passes.Pass.Pass as PassCall, sleeps.Outcome.Outcome}
-use Rattle.layer_traits.specs.{QLocking.AreAtRest, QLocking.IsAtRest, QLocking.LockRules, QLocking.LockState, QLocking.wait_list_asked, QLocking.wait_list_slept}
-use Rattle.layer_traits.specs.{QLocking.lock_answer, QLocking.lock_edited, QLocking.lock_moves, QLocking.lock_out, QLocking.asker_report, QLockLaw.IsAcquire}
-use Rattle.layer_traits.specs.{QLockLaw.lock_kernel, Places.Threads, QueueBlocks.inner, Queues.buffer_sections, Renaming.renamed_sched, Renaming.viewed}
-use Rattle.layer_traits.specs.{Passes.own_slept, Passes.passed_on, Plans.Left, Scheds.own_answered, SleepLaw.PollResult, SleepLaw.MayCall, SleepLaw.MayDo}
-use Rattle.layer_traits.specs.{SleepLaw.Sleeping, SleepLaw.Waits, SleepLaw.Does, SleepLaw.Sends, SleepLaw.left_with, SleepLaw.must_send, Sleeping.NobodySleeps}
-use Rattle.layer_traits.specs.{Sleeping.SleepState, Sleeping.wait_list_at}
-use Rattle.layer_traits.proofs.KernelRenaming.{inner_viewed}
-use Rattle.queuing_lock.specs.{declared.edits.QBlock.QBlock, declared.edits.QLockEdit.QLockEdit, Nested.as_section, Nested.edit_in, Nested.nested_lock_of}
-use Rattle.queuing_lock.specs.{Parts.DeferredFits, Parts.is_queued}
+use Rattle.{std.proofs.Common.subst, event_log.specs.declared.ids.{BufId.BufId, CpuId.CpuId, LockId.{LockId, TheVariants.Buffer}, Tid.Tid}}
+use Rattle.{event_log.specs.Sections.block_after, layer_traits.specs.declared.locked.{QEdit.{QEdit, TheVariants.{Acquire, Inside, Release}}, QOut.QOut}}
+use Rattle.layer_traits.specs.declared.{moves.WaitList.{WaitList, TheVariants.{Sleepers, Receivers, Senders}}, queue_edits.QueueBlock.QueueBlock}
+use Rattle.layer_traits.specs.declared.{queues.QueueEvent.QueueEvent, scheds.SchedCall.{SchedCall, TheVariants.{Pass, OnBuffer}}, passes.Pass.Pass as PassCall}
+use Rattle.layer_traits.specs.{declared.sleeps.Outcome.Outcome, QLocking.{AreAtRest, IsAtRest, LockRules, LockState, wait_list_asked, wait_list_slept}}
+use Rattle.layer_traits.specs.{QLocking.{lock_answer, lock_edited, lock_moves, lock_out, asker_report}, QLockLaw.{IsAcquire, lock_kernel}, Places.Threads}
+use Rattle.layer_traits.specs.{QueueBlocks.inner, Queues.buffer_sections, Renaming.{renamed_sched, viewed}, Passes.{own_slept, passed_on}, Plans.Left}
+use Rattle.layer_traits.specs.{Scheds.own_answered, SleepLaw.{PollResult, MayCall, MayDo, Sleeping, Waits, Does, Sends, left_with, must_send}}
+use Rattle.layer_traits.{specs.Sleeping.{NobodySleeps, SleepState, wait_list_at}, proofs.KernelRenaming.inner_viewed}
+use Rattle.queuing_lock.specs.{declared.edits.{QBlock.QBlock, QLockEdit.QLockEdit}, Nested.{as_section, edit_in, nested_lock_of}, Parts.DeferredFits}
+use Rattle.queuing_lock.specs.Parts.{is_queued}
 
 nobody_in : {B : Type 0} (line : WaitList) (o : Option (SleepState (QBlock B))) → IsAtRest (option_map nested_lock_of o) → wait_list_at line o ≡ []
 nobody_in Sleepers None rest = refl
-nobody_in Receivers None rest = refl
-nobody_in Senders None rest = refl
+nobody_in line None rest = refl
 nobody_in Sleepers (Some state) rest = rest.1
 nobody_in Receivers (Some state) rest = rest.2
 nobody_in Senders (Some state) rest = rest.3
@@ -45,11 +38,7 @@ pub may_beneath : {F R : Type 0} (under : Option (SchedCall (QLockEdit F R))) (b
     → MayCall (option_map (renamed_sched edit_in) under) (OnBuffer b e) duty → MayCall under (OnBuffer b (as_section e)) owed
 may_beneath None b e duty owed gives may = gives may
 may_beneath (Some (Pass p)) b e duty owed gives may = absurd cc
-may_beneath (Some (OnBuffer at d)) b e duty owed gives may =
-    let one : OnBuffer at (edit_in d) ≡ OnBuffer b e = may in
-    let where_it_is : at ≡ b = cc in
-    let what_it_is : edit_in d ≡ e = cc in
-    λ i. OnBuffer (where_it_is i) (record { edit = what_it_is i })
+may_beneath (Some (OnBuffer at d)) b e duty owed gives may = ap (renamed_sched as_section) may
 
 -- a call goes on, and what is kept agrees with it
 pub deferred_goes : {F R O : Type 0} (under : Option (SchedCall (QEdit F R))) (deferred : Option (Outcome (QOut O))) (hand : Option Tid) (b : BufId)

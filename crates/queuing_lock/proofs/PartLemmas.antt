@@ -1,54 +1,32 @@
 -- A part and its polls, from what the part beneath says of its own: what is owed beneath, and what was done here.
-use Rattle.std.proofs.Common.{◌≡◌, ◌≢◌, true, false, if◌then◌else◌, List, ◌++◌, length, ◌≤◌, Option, Some, None, option_map, is_some, map, refl, ap, sym, ◌∙◌}
-use Rattle.std.proofs.Common.{subst, ◌<◌, arith}
-use Rattle.std.proofs.{Math.Path.transport, lemmas.Option.slice_get_within}
-use Rattle.event_log.specs.{declared.ids.BufId.BufId, declared.ids.CpuId.CpuId, declared.ids.LockId.LockId, declared.ids.LockId.TheVariants.Buffer}
-use Rattle.event_log.specs.{declared.ids.TheConstants.THREADS, declared.ids.Tid.Tid, Actions.Action, Actions.renamed, History.IsLawful}
-use Rattle.event_log.proofs.BoolLemmas.{none_of}
-use Rattle.layer_traits.specs.{declared.locked.QEdit.QEdit, declared.locked.QEdit.TheVariants.Acquire, declared.locked.QEdit.TheVariants.Inside}
-use Rattle.layer_traits.specs.{declared.locked.QEdit.TheVariants.Release, declared.locked.QOut.QOut, declared.passes.Pass.Pass, declared.payloads.Parcel.Parcel}
-use Rattle.layer_traits.specs.{declared.queue_edits.QueueBlock.QueueBlock, declared.queue_edits.QueueEdit.QueueEdit, declared.queues.QueueEvent.QueueEvent}
-use Rattle.layer_traits.specs.{declared.scheds.SchedAnswer.SchedAnswer, declared.scheds.SchedCall.SchedCall, declared.sleeps.Outcome.Outcome}
-use Rattle.layer_traits.specs.{ListsAgree.ListsAgree, QLocking.LockRules, QLocking.lock_after, QLocking.lock_caller, QLocking.lock_moves, QLocking.lock_rules}
-use Rattle.layer_traits.specs.{QLockLaw.LockPolled, QLockLaw.Locking, QLockLaw.MayGo, QLockLaw.MayLock, QLockLaw.left_after, QLockLaw.left_handed}
-use Rattle.layer_traits.specs.{QLockLaw.lock_pass_plan, QLockLaw.lock_plan, QLockLaw.locks_passed, QLockLaw.HasOrAwaits, QLockLaw.plan_for, QLockLaw.slept_for}
-use Rattle.layer_traits.specs.{Payloads.lock_meant, Places.AreMoves, Places.Home, Places.Stands, Places.Threads, Places.home_of, Places.where_is, Plans.Follows}
-use Rattle.layer_traits.specs.{Plans.Left, Plans.table_of, QueueBlocks.StartsWell, QueueBlocks.homes_in, QueueBlocks.inner, QueueRules.queue_rules}
-use Rattle.layer_traits.specs.{Queues.QueueAllowed, Queues.buffer_sections, Queues.moves_in, Renaming.renamed_edit, Renaming.renamed_events}
-use Rattle.layer_traits.specs.{Renaming.renamed_sched, Renaming.viewed, Scheds.SchedPolled, SleepLaw.MayCall, SleepLaw.MaySleep, SleepLaw.SleepPolled}
-use Rattle.layer_traits.specs.{SleepLaw.Sleeping, SleepLaw.pass_plan, SleepLaw.sleep_plan, Sleeping.SleepState, Sleeping.sleep_moves, Sleeping.sleep_rules}
-use Rattle.layer_traits.proofs.{CallLemmas.follows_raised, KernelRenaming.follows_named, KernelRenaming.homes_viewed, KernelRenaming.polled_renamed}
-use Rattle.layer_traits.proofs.{PlaceLemmas.current_at, SleepRenaming.pass_plan_renamed, SleepRenaming.sleep_plan_renamed, SleepRenaming.sleeps_renamed}
-use Rattle.queuing_lock.specs.{declared.edits.QBlock.QBlock, declared.edits.QLockEdit.QLockEdit, Nested.as_section, Nested.busy_rules, Nested.edit_in}
-use Rattle.queuing_lock.specs.{Nested.nested_lock_of, Parts.DeferredFits, Parts.SleptFits, Parts.asks_again, Parts.slept_left_by}
-use Rattle.queuing_lock.specs.Laws.NestedLaws.{beneath, here, locks_lawful, locks_lists, locks_moves_legal, locks_stand, locks_wrap}
-use Rattle.queuing_lock.proofs.{DeferredLemmas.DeferredIn, DeferredLemmas.asks_none, DeferredLemmas.deferred_result, DeferredLemmas.deferred_goes}
-use Rattle.queuing_lock.proofs.{DeferredLemmas.may_beneath, OwnerLemmas.locks_may, OwnerLemmas.runs_awake, PollLemmas.SectionPoll, PollLemmas.awaits_owner}
-use Rattle.queuing_lock.proofs.{PollLemmas.slept_of_others, PollLemmas.slept_polled, PollLemmas.slept_queued}
+use Rattle.std.proofs.Common.{◌≡◌, ◌≢◌, true, false, if◌then◌else◌, List, ◌++◌, Option, Some, None, option_map, is_some, map, refl, ap, sym, ◌∙◌, subst, ◌<◌}
+use Rattle.{std.proofs.{Common.arith, Math.Path.transport, lemmas.Option.slice_get_within}, event_log.specs.declared.ids.{BufId.BufId, CpuId.CpuId}}
+use Rattle.event_log.specs.{declared.ids.{LockId.{LockId, TheVariants.Buffer}, TheConstants.THREADS, Tid.Tid}, Actions.{Action, renamed}, History.IsLawful}
+use Rattle.{event_log.{specs.Sections.renamed_section, proofs.BoolLemmas.none_of}, layer_traits.specs.declared.locked.QEdit.{QEdit, TheVariants.Acquire}}
+use Rattle.layer_traits.specs.declared.{locked.{QEdit.TheVariants.{Inside, Release}, QOut.QOut}, passes.Pass.Pass, payloads.Parcel.Parcel}
+use Rattle.layer_traits.specs.declared.{queue_edits.{QueueBlock.QueueBlock, QueueEdit.QueueEdit}, queues.{QueueEvent.QueueEvent, QueueAnswer.QueueAnswer}}
+use Rattle.layer_traits.specs.{declared.{scheds.SchedCall.SchedCall, moves.WaitList.TheVariants.Sleepers, sleeps.Outcome.Outcome}, ListsAgree.ListsAgree}
+use Rattle.layer_traits.specs.{ListsAgree.is_at, QLocking.{LockAllowed, LockRules, LockState, wait_list_in, lock_after, lock_caller, lock_moves, lock_rules}}
+use Rattle.layer_traits.specs.QLockLaw.{LockPolled, Locking, MayGo, MayLock, left_after, left_handed, lock_pass_plan, lock_plan, locks_passed, HasOrAwaits}
+use Rattle.layer_traits.specs.{QLockLaw.{plan_for, slept_for}, Payloads.lock_meant, Places.{AreMoves, Stands, home_of, one_if, wait_channel_of}, Plans.Follows}
+use Rattle.layer_traits.specs.{Plans.{Left, Plan, raised, table_of}, QueueBlocks.{StartsWell, homes_in, inner}, QueueRules.queue_rules, Queues.QueueAllowed}
+use Rattle.layer_traits.specs.{Queues.{buffer_sections, moves_in}, Renaming.{named, renamed_edit, renamed_events, renamed_sched, viewed}, Scheds.EditStays}
+use Rattle.layer_traits.specs.{SleepLaw.{MayCall, MaySleep, SleepPolled, Sleeping, pass_plan, sleep_plan}, Sleeping.{SleepState, sleep_moves, sleep_rules}}
+use Rattle.layer_traits.proofs.{CallLemmas.follows_raised, KernelRenaming.{follows_named, homes_viewed, stays_renamed}, CountLemmas.not_counted}
+use Rattle.layer_traits.proofs.{PlaceLemmas.current_at, SleepRenaming.{pass_plan_renamed, sleep_plan_renamed, sleeps_renamed}}
+use Rattle.queuing_lock.specs.{declared.edits.{QBlock.QBlock, QLockEdit.QLockEdit}, Nested.{as_section, busy_rules, edit_in, nested_lock_of}}
+use Rattle.queuing_lock.specs.{Parts.{DeferredFits, SleptFits, asks_again, slept_left_by}, Laws.NestedLaws.{beneath, here, inner_locks, locks_lawful}}
+use Rattle.queuing_lock.{specs.Laws.NestedLaws.{locks_lists, locks_moves_legal, locks_stand, locks_wrap}, proofs.DeferredLemmas.{DeferredIn, asks_none}}
+use Rattle.queuing_lock.proofs.{DeferredLemmas.{deferred_result, deferred_goes, may_beneath}, OwnerLemmas.owners_stay, PollLemmas.awaits_owner}
+use Rattle.{queuing_lock.proofs.PollLemmas.{slept_of_others, slept_polled, slept_queued}, thread_blocks.specs.Queues.is_in}
 use Rattle.layer_traits.specs.declared.scheds.SchedCall.TheVariants as call
 
 -- the call under way beneath is the one under way here, whatever the answer tells
-pub under_is : {F R A T : Type 0} (told : A → T) (under : Option (SchedCall (QLockEdit F R))) (answer : Option A) (b : BufId) (e : QEdit F R)
-    → under ≡ (if is_some answer then None else Some (call.OnBuffer b (as_section e)))
-    → option_map (renamed_sched edit_in) under ≡ (if is_some (option_map told answer) then None else Some (call.OnBuffer b e))
-under_is told under None b e is = ap (option_map (renamed_sched edit_in)) is
-under_is told under (Some a) b e is = ap (option_map (renamed_sched edit_in)) is
-
--- and so is a pass
-pub pass_is : {F R A : Type 0} (under : Option (SchedCall (QLockEdit F R))) (answer : Option A) (p : Pass)
-    → under ≡ (if is_some answer then None else Some (call.Pass p))
-    → option_map (renamed_sched edit_in) under ≡ (if is_some answer then None else Some (call.Pass p))
-pass_is under None p is = ap (option_map (renamed_sched edit_in)) is
-pass_is under (Some a) p is = ap (option_map (renamed_sched edit_in)) is
-
--- a pass beneath is a pass here
-pub pass_here : {F R B O : Type 0} (rules : LockRules F R B O) (opening : LockId → Option (QueueBlock (SleepState (QBlock B)))) (ActsFor : CpuId → Type 0)
-    (c : CpuId) (p : Pass) (answer : Option (SchedAnswer (Outcome (QOut O)))) (old new : List (QueueEvent (QLockEdit F R))) (own own' : Threads)
-    → SchedPolled (beneath rules opening) ActsFor c (call.Pass p) answer old new own own'
-    → SchedPolled (here rules opening) ActsFor c (call.Pass p) answer (renamed_events edit_in old) (renamed_events edit_in new) own own'
-pass_here rules opening ActsFor c p answer old new own own' polled =
-    polled_renamed (beneath rules opening) (here rules opening) edit_in nested_lock_of (locks_wrap rules opening) ActsFor c (call.Pass p) answer old new own own'
-    polled
+pub under_is : {F R A T : Type 0} (told : A → T) (under : Option (SchedCall (QLockEdit F R))) (answer : Option A) (s : SchedCall (QLockEdit F R))
+    → under ≡ (if is_some answer then None else Some s)
+    → option_map (renamed_sched edit_in) under ≡ (if is_some (option_map told answer) then None else Some (renamed_sched edit_in s))
+under_is told under None s is = ap (option_map (renamed_sched edit_in)) is
+under_is told under (Some a) s is = ap (option_map (renamed_sched edit_in)) is
 
 -- who calls something else than its Acquire did not sleep for a lock
 nobody_slept : {F R : Type 0} (x : Option BufId) (under : Option (SchedCall (QEdit F R))) (b : BufId) (e : QEdit F R) (t : Tid) (duty : Type 0)
@@ -91,183 +69,163 @@ module _ {F R B O : Type 0} {rules : LockRules F R B O} {opening : LockId → Op
     (before : Before rules opening) where
   open before use {c, b, e, past, own, under, slept}
 
-  legal_here : AreMoves (homes_in (viewed nested_lock_of opening)) (moves_in (here rules opening) (renamed_events edit_in past))
+  -- the history and the opening here, the call under way here, who calls, and what the first poll of the call owes
+  abbrev seen : List (QueueEvent (QEdit F R))
+  seen = renamed_events edit_in past
+
+  abbrev locks_here : LockId → Option (QueueBlock (LockState B))
+  locks_here = viewed nested_lock_of opening
+
+  abbrev under_here : Option (SchedCall (QEdit F R))
+  under_here = option_map (renamed_sched edit_in) under
+
+  abbrev t : Tid
+  t = lock_caller rules e
+
+  abbrev duty : Type 0
+  duty = MayLock rules (here rules opening) c seen own.threads.hand b e
+
+  legal_here : AreMoves (homes_in locks_here) (moves_in (here rules opening) seen)
   legal_here = locks_moves_legal rules opening past before.moves_legal
 
-  stands_here : Stands (homes_in (viewed nested_lock_of opening)) c (moves_in (here rules opening) (renamed_events edit_in past)) own.threads
+  stands_here : Stands (homes_in locks_here) c (moves_in (here rules opening) seen) own.threads
   stands_here = locks_stand rules opening c past own.threads before.stands
 
-  at_home : home_of (homes_in (viewed nested_lock_of opening)) (lock_caller rules e) ≡ Some c
-  at_home = (current_at (homes_in (viewed nested_lock_of opening)) c
-      (moves_in (here rules opening) (renamed_events edit_in past)) own.threads legal_here stands_here (lock_caller rules e) before.caller).0
+  at_home : home_of (homes_in locks_here) t ≡ Some c
+  at_home = (current_at _ c _ own.threads legal_here stands_here t before.caller).0
 
-  runs : where_is (homes_in (viewed nested_lock_of opening)) (moves_in (here rules opening) (renamed_events edit_in past)) (lock_caller rules e) ≡ Home
-  runs = (current_at (homes_in (viewed nested_lock_of opening)) c (moves_in (here rules opening) (renamed_events edit_in past)) own.threads legal_here stands_here
-      (lock_caller rules e) before.caller).1
+  -- the caller sleeps for no lock
+  awake_here : (lock : LockId) → is_in t (wait_list_in Sleepers (lock_after rules (inner locks_here) lock (buffer_sections seen))) ≡ false
+  awake_here lock = not_counted t (wait_list_in Sleepers (lock_after rules (inner locks_here) lock (buffer_sections seen)))
+      (locks_lists rules opening past before.lists lock Sleepers t
+      ∙ ap (λ w. one_if (is_at lock Sleepers (wait_channel_of w))) (current_at _ c _ own.threads legal_here stands_here t before.caller).1)
 
-  -- the caller is a thread of the machine
-  pub caller_small : (lock_caller rules e).0 < THREADS
-  caller_small = let within = slice_get_within (homes_in opening) (lock_caller rules e).0 c
-      (subst (λ h. home_of h (lock_caller rules e) ≡ Some c) (homes_viewed nested_lock_of opening) at_home) in
-      let room = before.starts.room in omega (arith, within, room)
+  -- and is a thread of the machine
+  pub caller_small : t.0 < THREADS
+  caller_small = let home : home_of (homes_in opening) t ≡ Some c = subst (λ h. home_of h t ≡ Some c) (homes_viewed nested_lock_of opening) at_home in
+      omega (arith, slice_get_within (homes_in opening) t.0 c home, before.starts.room)
 
   -- so its call tells whether it slept
   pub slept_asks : {H : Type 0} (meant : H → Parcel → F) (parcel : Parcel) (call : QEdit H R) → lock_meant meant call parcel ≡ e
-      → is_some (slept_for slept (lock_caller rules e)) ≡ asks_again slept call
+      → is_some (slept_for slept t) ≡ asks_again slept call
   slept_asks meant parcel call is =
-      let duty = MayLock rules (here rules opening) c (renamed_events edit_in past) own.threads.hand b e in
-      subst (λ (d : QEdit F R). MayGo (slept_for slept (lock_caller rules d)) (option_map (renamed_sched edit_in) under) b d (lock_caller rules d) duty
-      → is_some (slept_for slept (lock_caller rules d)) ≡ asks_again slept call) is
-      (slept_alone rules meant parcel call slept (option_map (renamed_sched edit_in) under) b duty) before.may
-
-  handed_by : (ActsFor : CpuId → Type 0) (x : Option BufId) → slept_for slept (lock_caller rules e) ≡ x → is_some x ≡ true
-      → MayGo x (option_map (renamed_sched edit_in) under) b e (lock_caller rules e)
-      (MayLock rules (here rules opening) c (renamed_events edit_in past) own.threads.hand b e)
-      → LockPolled rules (here rules opening) ActsFor c b e x (renamed_events edit_in past) (renamed_events edit_in past)
-      (record { sleep = own; slept = slept }) (option_map (renamed_sched edit_in) under) (left_handed (lock_caller rules e) slept own)
-  handed_by ActsFor None is some may = absurd cc
-  handed_by ActsFor (Some at) is some may =
-      let one = subst (λ x. HasOrAwaits (lock_caller rules e)
-      (lock_after rules (inner (viewed nested_lock_of opening)) (Buffer x) (buffer_sections (renamed_events edit_in past)))) may.1
-      (before.fits (lock_caller rules e) at is).awaits in
-      record {
-        owns = awaits_owner (lock_caller rules e)
-            (lock_after rules (inner (viewed nested_lock_of opening)) (Buffer b) (buffer_sections (renamed_events edit_in past))) one
-            (runs_awake rules (viewed nested_lock_of opening) (renamed_events edit_in past) (locks_lists rules opening past before.lists) (lock_caller rules e) runs
-            (Buffer b));
-        ends = may.0;
-        leaves = refl;
-      }
+      subst (λ (d : QEdit F R). MayGo (slept_for slept (lock_caller rules d)) under_here b d (lock_caller rules d) duty
+      → is_some (slept_for slept (lock_caller rules d)) ≡ asks_again slept call) is (slept_alone rules meant parcel call slept under_here b duty) before.may
 
   -- whoever slept for the lock owns it now
-  pub handed : (ActsFor : CpuId → Type 0) → is_some (slept_for slept (lock_caller rules e)) ≡ true
-      → LockPolled rules (here rules opening) ActsFor c b e (slept_for slept (lock_caller rules e)) (renamed_events edit_in past) (renamed_events edit_in past)
-      (record { sleep = own; slept = slept }) (option_map (renamed_sched edit_in) under) (left_handed (lock_caller rules e) slept own)
-  handed ActsFor some = handed_by ActsFor (slept_for slept (lock_caller rules e)) refl some before.may
+  pub handed : (ActsFor : CpuId → Type 0) (x : Option BufId) → slept_for slept t ≡ x → is_some x ≡ true → MayGo x under_here b e t duty
+      → LockPolled rules (here rules opening) ActsFor c b e x seen seen (record { sleep = own; slept = slept }) under_here (left_handed t slept own)
+  handed ActsFor None is some may = absurd cc
+  handed ActsFor (Some at) is some may = record {
+    owns = awaits_owner t (lock_after rules (inner locks_here) (Buffer b) (buffer_sections seen))
+        (subst (λ x. HasOrAwaits t (lock_after rules (inner locks_here) (Buffer x) (buffer_sections seen))) may.1 (before.fits t at is).awaits)
+        (awake_here (Buffer b));
+    ends = may.0;
+    leaves = refl;
+  }
 
-  module _ (awake : is_some (slept_for slept (lock_caller rules e)) ≡ false) where
-    pub none : slept_for slept (lock_caller rules e) ≡ None
-    none = none_of (slept_for slept (lock_caller rules e)) awake
+  module _ (awake : is_some (slept_for slept t) ≡ false) where
+    pub none : slept_for slept t ≡ None
+    none = none_of (slept_for slept t) awake
 
-    goes : MayCall (option_map (renamed_sched edit_in) under) (call.OnBuffer b e)
-        (MayLock rules (here rules opening) c (renamed_events edit_in past) own.threads.hand b e)
-    goes = subst (λ x. MayGo x (option_map (renamed_sched edit_in) under) b e (lock_caller rules e)
-        (MayLock rules (here rules opening) c (renamed_events edit_in past) own.threads.hand b e)) none before.may
+    goes : MayCall under_here (call.OnBuffer b e) duty
+    goes = subst (λ x. MayGo x under_here b e t duty) none before.may
 
-    -- the section may be polled beneath
+    -- the call stays allowed whatever others do
+    stays : duty → EditStays (here rules opening) c seen (call.OnBuffer b e)
+    stays may more others lawful = record {
+      owners = owners_stay rules locks_here c b e seen at_home (awake_here (Buffer b)) may.owners more others lawful;
+      granted = may.stays more others lawful;
+    }
+
+    -- so the section may be polled beneath
     pub owed : MayCall under (call.OnBuffer b (as_section e)) (MaySleep (beneath rules opening) c past own.threads b (as_section e))
-    owed = may_beneath under b e (MayLock rules (here rules opening) c (renamed_events edit_in past) own.threads.hand b e)
-        (MaySleep (beneath rules opening) c past own.threads b (as_section e))
-        (λ may. locks_may rules opening c b e past own.threads legal_here stands_here (locks_lists rules opening past before.lists) before.caller may) goes
+    owed = may_beneath under b e duty (MaySleep (beneath rules opening) c past own.threads b (as_section e)) (λ may. record {
+      current = before.caller;
+      hand = may.empty;
+      stays = λ more others lawful.
+          subst (λ (o : LockId → Option (LockState B)). LockAllowed rules o (map (renamed_section edit_in) (buffer_sections (more ++ past)))
+          (record { cpu = c; lock = Buffer b; edit = e })) (inner_locks rules opening)
+          (stays_renamed _ _ _ _ (locks_wrap rules opening) c past b (as_section e) (stays may) more others lawful);
+    }) goes
 
     deferred_now : DeferredFits (Some (call.OnBuffer b e)) own.deferred own.threads.hand
-    deferred_now = deferred_goes (option_map (renamed_sched edit_in) under) own.deferred own.threads.hand b e
-        (MayLock rules (here rules opening) c (renamed_events edit_in past) own.threads.hand b e)
-        before.deferred goes (λ may. may.empty)
+    deferred_now = deferred_goes under_here own.deferred own.threads.hand b e duty before.deferred goes (λ may. may.empty)
 
     module _ {ActsFor : CpuId → Type 0} {new : List (QueueEvent (QLockEdit F R))} {got : Left (Sleeping (QOut O)) (Outcome (QOut O))}
         (polled : SleepPolled (beneath rules opening) ActsFor c b (as_section e) past new own got) where
       -- the poll beneath is a poll here
-      polled_here : SleepPolled (here rules opening) ActsFor c b e (renamed_events edit_in past) (renamed_events edit_in new) own got
-      polled_here =
-          sleeps_renamed (beneath rules opening) (here rules opening) edit_in nested_lock_of (locks_wrap rules opening) ActsFor c b (as_section e) past new own got
-          polled
+      polled_here : SleepPolled (here rules opening) ActsFor c b e seen (renamed_events edit_in new) own got
+      polled_here = sleeps_renamed _ _ _ _ (locks_wrap rules opening) _ _ _ _ _ _ _ _ polled
 
       pub locks : (under' : Option (SchedCall (QEdit F R))) (got' : Left (Locking O) (Outcome (QOut O)))
-          → under' ≡ (if is_some got.answer then None else Some (call.OnBuffer b e))
-          → got' ≡ left_after (lock_caller rules e) b slept got.own got.answer
-          → LockPolled rules (here rules opening) ActsFor c b e (slept_for slept (lock_caller rules e)) (renamed_events edit_in past)
-          (renamed_events edit_in new) (record { sleep = own; slept = slept }) under' got'
-      locks under' got' ends leaves =
-          subst (λ x. LockPolled rules (here rules opening) ActsFor c b e x (renamed_events edit_in past) (renamed_events edit_in new)
+          → under' ≡ (if is_some got.answer then None else Some (call.OnBuffer b e)) → got' ≡ left_after t b slept got.own got.answer
+          → LockPolled rules (here rules opening) ActsFor c b e (slept_for slept t) seen (renamed_events edit_in new)
+          (record { sleep = own; slept = slept }) under' got'
+      locks under' got' ends leaves = subst (λ x. LockPolled rules (here rules opening) ActsFor c b e x seen (renamed_events edit_in new)
           (record { sleep = own; slept = slept }) under' got') (sym none)
           (record { left = got; polled = polled_here; ends = ends; asks = asks_none own.deferred own.threads.hand b e deferred_now; leaves = leaves })
 
       -- what is kept agrees with the call that goes on
-      pub deferred_after : DeferredIn rules (viewed nested_lock_of opening) c b e got
-      deferred_after = deferred_result rules (viewed nested_lock_of opening) c b e polled_here.poll_result
-          (polled_here.others ++ renamed_events edit_in past) own got polled_here.may polled_here.leaves deferred_now
+      pub deferred_after : DeferredIn rules locks_here c b e got
+      deferred_after = deferred_result rules locks_here c b e polled_here.poll_result (polled_here.others ++ seen) own got polled_here.may polled_here.leaves
+          deferred_now
 
       module _ (acts : ActsFor c) (lawful : IsLawful (QueueAllowed (beneath rules opening)) new) where
-        abbrev section_poll : SectionPoll rules (viewed nested_lock_of opening) c
-        section_poll = record {
-          ActsFor = ActsFor;
-          acts = acts;
-          b = b;
-          e = e;
-          old = renamed_events edit_in past;
-          new = renamed_events edit_in new;
-          own = own;
-          got = got;
-          polled = polled_here;
-          lawful = locks_lawful rules opening new lawful;
-          slept = slept;
-          none = none;
-          fits = before.fits;
-        }
-
         -- who slept owns or sleeps still
-        pub slept_after : SleptFits rules (viewed nested_lock_of opening) c (renamed_events edit_in new) slept
-        slept_after = slept_polled rules (viewed nested_lock_of opening) c section_poll
+        pub slept_after : SleptFits rules locks_here c (renamed_events edit_in new) slept
+        slept_after = slept_polled rules locks_here c polled_here acts (locks_lawful rules opening new lawful) slept none before.fits
 
         pub slept_reported : (outcome : Outcome (QOut O)) → got.answer ≡ Some outcome
-            → SleptFits rules (viewed nested_lock_of opening) c (renamed_events edit_in new) (slept_left_by (lock_caller rules e) b slept outcome)
-        slept_reported outcome answer =
-            slept_queued rules (viewed nested_lock_of opening) c section_poll outcome at_home
-            (subst (λ h. length h ≤ THREADS) (sym (homes_viewed nested_lock_of opening)) before.starts.room) answer deferred_now
+            → SleptFits rules locks_here c (renamed_events edit_in new) (slept_left_by t b slept outcome)
+        slept_reported outcome answer = slept_queued rules locks_here c polled_here acts (locks_lawful rules opening new lawful) slept none before.fits outcome
+            at_home caller_small answer deferred_now
 
 -- the part of another CPU agrees still
 pub others_after : {F R B O : Type 0} (rules : LockRules F R B O) (opening : LockId → Option (QueueBlock (SleepState (QBlock B)))) (c d : CpuId) → c ≢ d
-    → (ActsFor : CpuId → Type 0) → ActsFor c
-    → (b : BufId) (e : QEdit F R) (past new : List (QueueEvent (QLockEdit F R))) (own : Sleeping (QOut O)) (got : Left (Sleeping (QOut O)) (Outcome (QOut O)))
-    → SleepPolled (beneath rules opening) ActsFor d b (as_section e) past new own got → IsLawful (QueueAllowed (beneath rules opening)) new
+    → {ActsFor : CpuId → Type 0} {b : BufId} {e : QEdit F R} {past new : List (QueueEvent (QLockEdit F R))} {own : Sleeping (QOut O)}
+    {got : Left (Sleeping (QOut O)) (Outcome (QOut O))}
+    → SleepPolled (beneath rules opening) ActsFor d b (as_section e) past new own got → ActsFor c → IsLawful (QueueAllowed (beneath rules opening)) new
     → (slept : List (Option BufId)) → SleptFits rules (viewed nested_lock_of opening) c (renamed_events edit_in past) slept
     → SleptFits rules (viewed nested_lock_of opening) c (renamed_events edit_in new) slept
-others_after rules opening c d apart ActsFor acts b e past new own got polled lawful slept fits =
-    slept_of_others rules (viewed nested_lock_of opening) c ActsFor d apart acts slept b e (renamed_events edit_in past) (renamed_events edit_in new) own got
-    (sleeps_renamed (beneath rules opening) (here rules opening) edit_in nested_lock_of (locks_wrap rules opening) ActsFor d b (as_section e) past new own
-    got polled) (locks_lawful rules opening new lawful) fits
+others_after rules opening c d apart polled acts lawful slept fits = slept_of_others rules (viewed nested_lock_of opening) c d apart acts slept
+    (sleeps_renamed _ _ _ _ (locks_wrap rules opening) _ _ _ _ _ _ _ _ polled) (locks_lawful rules opening _ lawful) fits
 
 -- A poll that followed its plan beneath followed it here.
 
 module _ {F R B O : Type 0} (rules : LockRules F R B O) (opening : LockId → Option (QueueBlock (SleepState (QBlock B)))) (ActsFor : CpuId → Type 0) (c : CpuId)
     (acts acts' : List (Action (QueueEdit (QLockEdit F R)))) where
-  pub locks_follow : (b : BufId) (e : QEdit F R) (own : Sleeping (QOut O)) (slept : List (Option BufId)) (got : Left (Sleeping (QOut O)) (Outcome (QOut O)))
-      → slept_for slept (lock_caller rules e) ≡ None
-      → (got' : Left (Locking O) (Outcome (QOut O))) → got' ≡ left_after (lock_caller rules e) b slept got.own got.answer
-      → Follows ActsFor (table_of (queue_rules (sleep_rules (busy_rules rules)) (sleep_moves (busy_rules rules)))) opening c
-      (sleep_plan (sleep_moves (busy_rules rules)) (homes_in opening) c b (as_section e) own) acts acts' got
-      → Follows ActsFor (table_of (queue_rules (lock_rules rules) (lock_moves rules))) (viewed nested_lock_of opening) c
-      (lock_plan (lock_moves rules) (homes_in (viewed nested_lock_of opening)) c b e (record { sleep = own; slept = slept }))
-      (map (renamed (renamed_edit edit_in)) acts) (map (renamed (renamed_edit edit_in)) acts') got'
-  locks_follow b e own slept got none got' leaves follows =
-      transport (λ i. Follows ActsFor (table_of (queue_rules (lock_rules rules) (lock_moves rules))) (viewed nested_lock_of opening) c
-      (plan_for (lock_moves rules) (homes_in (viewed nested_lock_of opening)) c b e (record { sleep = own; slept = slept }) (sym none i))
-      (map (renamed (renamed_edit edit_in)) acts) (map (renamed (renamed_edit edit_in)) acts') (sym leaves i))
-      (follows_raised ActsFor (table_of (queue_rules (lock_rules rules) (lock_moves rules))) (viewed nested_lock_of opening) c
-      (λ l. left_after (lock_caller rules e) b slept l.own l.answer)
-      (sleep_plan (lock_moves rules) (homes_in (viewed nested_lock_of opening)) c b e own)
-      (map (renamed (renamed_edit edit_in)) acts) (map (renamed (renamed_edit edit_in)) acts') got
-      (subst (λ plan. Follows ActsFor (table_of (queue_rules (lock_rules rules) (lock_moves rules))) (viewed nested_lock_of opening) c plan
-      (map (renamed (renamed_edit edit_in)) acts) (map (renamed (renamed_edit edit_in)) acts') got)
-      (sleep_plan_renamed (beneath rules opening) (here rules opening) edit_in nested_lock_of (locks_wrap rules opening) (homes_in opening) c b (as_section e) own
-      ∙ ap (λ h. sleep_plan (lock_moves rules) h c b e own) (sym (homes_viewed nested_lock_of opening)))
-      (follows_named (beneath rules opening) (here rules opening) edit_in nested_lock_of (locks_wrap rules opening) ActsFor opening c
-      (sleep_plan (sleep_moves (busy_rules rules)) (homes_in opening) c b (as_section e) own) acts acts' got follows)))
+  -- a poll followed a plan beneath
+  abbrev pub FollowsBeneath : {S A : Type 0} → Plan (QueueEdit (QLockEdit F R)) (QueueAnswer (Outcome (QOut O))) S A → Left S A → Type 0
+  FollowsBeneath plan got = Follows ActsFor (table_of (queue_rules (sleep_rules (busy_rules rules)) (sleep_moves (busy_rules rules)))) opening c plan acts acts' got
 
-  pub locks_pass_follow : (p : Pass) (own : Sleeping (QOut O)) (slept : List (Option BufId)) (got : Left (Sleeping (QOut O)) (Unit {0}))
-      → Follows ActsFor (table_of (queue_rules (sleep_rules (busy_rules rules)) (sleep_moves (busy_rules rules)))) opening c
-      (pass_plan (sleep_moves (busy_rules rules)) (homes_in opening) c p own) acts acts' got
-      → Follows ActsFor (table_of (queue_rules (lock_rules rules) (lock_moves rules))) (viewed nested_lock_of opening) c
-      (lock_pass_plan (lock_moves rules) (homes_in (viewed nested_lock_of opening)) c p (record { sleep = own; slept = slept }))
-      (map (renamed (renamed_edit edit_in)) acts) (map (renamed (renamed_edit edit_in)) acts') (locks_passed slept got)
-  locks_pass_follow p own slept got follows =
-      follows_raised ActsFor (table_of (queue_rules (lock_rules rules) (lock_moves rules))) (viewed nested_lock_of opening) c (locks_passed slept)
-      (pass_plan (lock_moves rules) (homes_in (viewed nested_lock_of opening)) c p own)
+  -- a poll followed a plan here
+  abbrev pub FollowsHere : {S A : Type 0} → Plan (QueueEdit (QEdit F R)) (QueueAnswer (Outcome (QOut O))) S A → Left S A → Type 0
+  FollowsHere plan got = Follows ActsFor (table_of (queue_rules (lock_rules rules) (lock_moves rules))) (viewed nested_lock_of opening) c plan
       (map (renamed (renamed_edit edit_in)) acts) (map (renamed (renamed_edit edit_in)) acts') got
-      (subst (λ plan. Follows ActsFor (table_of (queue_rules (lock_rules rules) (lock_moves rules))) (viewed nested_lock_of opening) c plan
-      (map (renamed (renamed_edit edit_in)) acts) (map (renamed (renamed_edit edit_in)) acts') got)
-      (pass_plan_renamed (beneath rules opening) (here rules opening) edit_in nested_lock_of (locks_wrap rules opening) (homes_in opening) c p own
-      ∙ ap (λ h. pass_plan (lock_moves rules) h c p own) (sym (homes_viewed nested_lock_of opening)))
-      (follows_named (beneath rules opening) (here rules opening) edit_in nested_lock_of (locks_wrap rules opening) ActsFor opening c
-      (pass_plan (sleep_moves (busy_rules rules)) (homes_in opening) c p own) acts acts' got follows))
+
+  -- so a plan beneath that is this one here, raised, was followed here
+  raised_here : {S T A C : Type 0} (f : Left S A → Left T C) (plan : Plan (QueueEdit (QLockEdit F R)) (QueueAnswer (Outcome (QOut O))) S A)
+      (plan' : Plan (QueueEdit (QEdit F R)) (QueueAnswer (Outcome (QOut O))) S A) → named (renamed_edit edit_in) plan ≡ plan' → (got : Left S A)
+      → FollowsBeneath plan got → FollowsHere (raised f plan') (f got)
+  raised_here f plan plan' is got follows = follows_raised _ _ _ _ f plan' _ _ got (subst (λ plan. FollowsHere plan got) is
+      (follows_named _ _ _ _ (locks_wrap rules opening) ActsFor opening c plan acts acts' got follows))
+
+  module _ (own : Sleeping (QOut O)) (slept : List (Option BufId)) where
+    pub locks_follow : (b : BufId) (e : QEdit F R) (got : Left (Sleeping (QOut O)) (Outcome (QOut O))) → slept_for slept (lock_caller rules e) ≡ None
+        → (got' : Left (Locking O) (Outcome (QOut O))) → got' ≡ left_after (lock_caller rules e) b slept got.own got.answer
+        → FollowsBeneath (sleep_plan (sleep_moves (busy_rules rules)) (homes_in opening) c b (as_section e) own) got
+        → FollowsHere (lock_plan (lock_moves rules) (homes_in (viewed nested_lock_of opening)) c b e (record { sleep = own; slept = slept })) got'
+    locks_follow b e got none got' leaves follows =
+        transport (λ i. FollowsHere (plan_for (lock_moves rules) (homes_in (viewed nested_lock_of opening)) c b e (record { sleep = own; slept = slept })
+        (sym none i)) (sym leaves i)) (raised_here (λ l. left_after (lock_caller rules e) b slept l.own l.answer) _ _
+        (sleep_plan_renamed _ _ _ _ (locks_wrap rules opening) (homes_in opening) c b (as_section e) own
+        ∙ ap (λ h. sleep_plan (lock_moves rules) h c b e own) (sym (homes_viewed nested_lock_of opening))) got follows)
+
+    pub locks_pass_follow : (p : Pass) (got : Left (Sleeping (QOut O)) (Unit {0}))
+        → FollowsBeneath (pass_plan (sleep_moves (busy_rules rules)) (homes_in opening) c p own) got
+        → FollowsHere (lock_pass_plan (lock_moves rules) (homes_in (viewed nested_lock_of opening)) c p (record { sleep = own; slept = slept }))
+        (locks_passed slept got)
+    locks_pass_follow p got follows = raised_here (locks_passed slept) _ _
+        (pass_plan_renamed _ _ _ _ (locks_wrap rules opening) (homes_in opening) c p own
+        ∙ ap (λ h. pass_plan (lock_moves rules) h c p own) (sym (homes_viewed nested_lock_of opening))) got follows

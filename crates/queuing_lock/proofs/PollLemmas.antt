@@ -1,26 +1,20 @@
 -- One poll of a part: what it leaves of who slept, and that it is the poll which the law of the layer asks for.
-use Rattle.std.proofs.Common.{◌≡◌, ◌≢◌, inl, inr, ◌<◌, ◌≤◌, Bool, true, false, ◌&&◌, ◌||◌, not, nat_lt, if◌then◌else◌, List, [], ◌∷◌, ◌++◌, length, Option}
-use Rattle.std.proofs.Common.{Some, None, option_map, is_some, refl, ap, sym, ◌∙◌, subst, arith}
-use Rattle.std.proofs.{lemmas.Bool.lt-ltb, lemmas.Option.slice_get_within, Math.Bool.or-true}
-use Rattle.event_log.specs.{declared.ids.BufId.BufId, declared.ids.CpuId.CpuId, declared.ids.LockId.LockId, declared.ids.LockId.TheVariants.Buffer}
-use Rattle.event_log.specs.{declared.ids.TheConstants.THREADS, declared.ids.Tid.Tid, History.IsLawful, History.same_cpu}
-use Rattle.event_log.proofs.{Foreign.lawful_before, Same.same_cpu_true, Same.same_lock_self}
-use Rattle.layer_traits.specs.declared.locked.{QEdit.QEdit, QEdit.TheVariants.Acquire, QEdit.TheVariants.Inside, QEdit.TheVariants.Release, QOut.QOut}
-use Rattle.layer_traits.specs.declared.locked.{QOut.TheVariants.Acquired, QOut.TheVariants.Queued, QOut.TheVariants.Did, QOut.TheVariants.Released}
-use Rattle.layer_traits.specs.{declared.moves.WaitList.TheVariants.Sleepers, declared.passes.Pass.Pass as PassCall, declared.payloads.Parcel.Parcel}
-use Rattle.layer_traits.specs.{declared.queue_edits.QueueBlock.QueueBlock, declared.queues.QueueCall.TheVariants.Push}
-use Rattle.layer_traits.specs.{declared.queues.QueueCall.TheVariants.OnBuffer, declared.queues.QueueEvent.QueueEvent, declared.scheds.SchedAnswer.SchedAnswer}
-use Rattle.layer_traits.specs.{declared.sleeps.Outcome.Outcome, QLocking.LockRules, QLocking.LockState, QLocking.asked, QLocking.wait_list_in, QLocking.lock_after}
-use Rattle.layer_traits.specs.{QLocking.lock_answer, QLocking.lock_caller, QLocking.lock_edited, QLocking.lock_moves, QLocking.owner_in, QLocking.asker_report}
-use Rattle.layer_traits.specs.{QLockLaw.HasOrAwaits, QLockLaw.left_locked, QLockLaw.locking, QLockLaw.lock_kernel, QLockLaw.slept_for, Passes.queue_for}
-use Rattle.layer_traits.specs.{Payloads.lock_told, Payloads.outcome_told, Places.Threads, Places.home_of, QueueBlocks.homes_in, QueueBlocks.inner}
-use Rattle.layer_traits.specs.{Queues.QueueAllowed, Queues.buffer_sections, Queues.event, Plans.Left, Scheds.SchedPolled, Scheds.events_of, Scheds.own_answered}
-use Rattle.layer_traits.specs.{Scheds.queue_call, SleepLaw.PollResult, SleepLaw.MayDo, SleepLaw.SleepPolled, SleepLaw.Sleeping, SleepLaw.Waits, SleepLaw.Does}
-use Rattle.layer_traits.specs.{SleepLaw.Sends, SleepLaw.left_done, SleepLaw.left_with, SleepLaw.must_send, SleepLaw.seen_with, Sleeping.joined}
-use Rattle.thread_blocks.specs.Queues.{is_in}
-use Rattle.thread_blocks.proofs.{Distinct.pushed_in, Members.same_tid_self}
-use Rattle.queuing_lock.specs.Parts.{DeferredFits, SleptFits, is_queued, slept_left_by, slept_left_with, reported_with}
-use Rattle.queuing_lock.proofs.{DeferredLemmas.deferred_is, SleptLemmas.slept_result, SleptLemmas.slept_more, SleptLemmas.slept_others}
+use Rattle.std.proofs.Common.{◌≡◌, ◌≢◌, inl, inr, ◌<◌, Bool, true, false, ◌&&◌, ◌||◌, not, nat_lt, if◌then◌else◌, List, [], ◌∷◌, ◌++◌, Option, Some, None}
+use Rattle.std.proofs.{Common.{option_map, is_some, refl, ap, sym, ◌∙◌, subst}, lemmas.Bool.{lt-ltb, ne_eqb}, Math.Bool.or-true}
+use Rattle.event_log.specs.{declared.ids.{BufId.BufId, CpuId.CpuId, LockId.{LockId, TheVariants.Buffer}, TheConstants.THREADS, Tid.Tid}, History.IsLawful}
+use Rattle.event_log.{specs.History.same_cpu, proofs.{Foreign.lawful_before, Same.{cpu_numbered, same_lock_self}}}
+use Rattle.layer_traits.specs.declared.locked.{QEdit.{QEdit, TheVariants.{Acquire, Inside, Release}}, QOut.{QOut, TheVariants.{Acquired, Queued}}}
+use Rattle.layer_traits.specs.declared.{moves.WaitList.TheVariants.Sleepers, passes.Pass.Pass as PassCall, payloads.Parcel.Parcel}
+use Rattle.layer_traits.specs.declared.{queue_edits.QueueBlock.QueueBlock, queues.{QueueCall.TheVariants.{Push, OnBuffer}, QueueEvent.QueueEvent}}
+use Rattle.layer_traits.specs.{declared.{scheds.SchedAnswer.SchedAnswer, sleeps.Outcome.Outcome}, QLocking.{LockRules, LockState, asked, wait_list_in}}
+use Rattle.layer_traits.specs.{QLocking.{lock_after, lock_answer, lock_caller, lock_edited, lock_moves, owner_in, asker_report}, QLockLaw.HasOrAwaits}
+use Rattle.layer_traits.specs.{QLockLaw.{left_locked, locking, lock_kernel, slept_for}, Passes.queue_for, Payloads.{lock_told, outcome_told}, Places.Threads}
+use Rattle.layer_traits.specs.{Places.home_of, QueueBlocks.{homes_in, inner}, Queues.{Kernel, QueueAllowed, buffer_sections, event}, Plans.Left}
+use Rattle.layer_traits.specs.{Scheds.{SchedPolled, events_of, own_answered, queue_call}, SleepLaw.{PollResult, MayDo, SleepPolled, Sleeping, Waits, Does}}
+use Rattle.{layer_traits.specs.{SleepLaw.{Sends, left_done, left_with, must_send, seen_with}, Sleeping.joined}, thread_blocks.specs.Queues.is_in}
+use Rattle.{thread_blocks.proofs.{Distinct.pushed_in, Members.same_tid_self}, queuing_lock.specs.Parts.{DeferredFits, SleptFits, is_queued, slept_left_by}}
+use Rattle.queuing_lock.{specs.Parts.{slept_left_with, reported_with}, proofs.{DeferredLemmas.deferred_is, SleptLemmas.{slept_result, slept_more}}}
+use Rattle.queuing_lock.proofs.SleptLemmas.{slept_others}
 use Rattle.layer_traits.specs.declared.passes.Pass.TheVariants as pass
 use Rattle.layer_traits.specs.declared.scheds.SchedCall.TheVariants as call
 
@@ -95,34 +89,23 @@ module _ {F R B O : Type 0} (rules : LockRules F R B O) where
       let one : lock_answer rules e state ≡ outcome = cc in
       queued_by e state small (ap (λ o. o.out) one ∙ queued)
 
--- a poll of a section by a part of the CPU c, whose caller does not sleep for a lock, and those who did before it
-pub record SectionPoll {F R B O : Type 0} (rules : LockRules F R B O) (opening : LockId → Option (QueueBlock (LockState B))) (c : CpuId) : Type 1 where
-  pub ActsFor : CpuId → Type 0
-  pub acts : ActsFor c
-  pub b : BufId
-  pub e : QEdit F R
-  pub old : List (QueueEvent (QEdit F R))
-  pub new : List (QueueEvent (QEdit F R))
-  pub own : Sleeping (QOut O)
-  pub got : Left (Sleeping (QOut O)) (Outcome (QOut O))
-  pub polled : SleepPolled (lock_kernel rules opening) ActsFor c b e old new own got
-  pub lawful : IsLawful (QueueAllowed (lock_kernel rules opening)) new
-  pub slept : List (Option BufId)
-  pub none : slept_for slept (lock_caller rules e) ≡ None
-  pub fits : SleptFits rules opening c old slept
-
 module _ {F R B O : Type 0} (rules : LockRules F R B O) (opening : LockId → Option (QueueBlock (LockState B))) (c : CpuId) where
-  -- A poll of a section, seen by the part that did it.
+  abbrev K : Kernel (QEdit F R) (LockState B) (Outcome (QOut O))
+  K = lock_kernel rules opening
 
-  module _ (poll : SectionPoll rules opening c) where
-    open poll use {ActsFor, acts, b, e, old, new, own, got, polled, lawful, slept, none, fits}
+  abbrev Lawful : List (QueueEvent (QEdit F R)) → Type 0
+  Lawful log = IsLawful (QueueAllowed K) log
 
-    after : IsLawful (QueueAllowed (lock_kernel rules opening)) (seen_with (lock_kernel rules opening) c b e polled.poll_result (polled.others ++ old))
-    after = subst (λ l. IsLawful (QueueAllowed (lock_kernel rules opening)) l) polled.is lawful
+  -- A poll of a section by a part of the CPU c, whose caller does not sleep for a lock, and those who did before it.
 
-    before : (poll_result : PollResult (QOut O)) (past : List (QueueEvent (QEdit F R)))
-        → IsLawful (QueueAllowed (lock_kernel rules opening)) (seen_with (lock_kernel rules opening) c b e poll_result past)
-        → IsLawful (QueueAllowed (lock_kernel rules opening)) past
+  module _ {ActsFor : CpuId → Type 0} {b : BufId} {e : QEdit F R} {old new : List (QueueEvent (QEdit F R))} {own : Sleeping (QOut O)}
+      {got : Left (Sleeping (QOut O)) (Outcome (QOut O))} (polled : SleepPolled K ActsFor c b e old new own got) (acts : ActsFor c) (lawful : Lawful new)
+      (slept : List (Option BufId)) (none : slept_for slept (lock_caller rules e) ≡ None) (fits : SleptFits rules opening c old slept) where
+    -- the caller owns the lock or sleeps for it
+    abbrev Awaits : List (QueueEvent (QEdit F R)) → Type 0
+    Awaits past = HasOrAwaits (lock_caller rules e) (lock_after rules (inner opening) (Buffer b) (buffer_sections past))
+
+    before : (poll_result : PollResult (QOut O)) (past : List (QueueEvent (QEdit F R))) → Lawful (seen_with K c b e poll_result past) → Lawful past
     before Waits past lawful = lawful
     before (Does outcome) past lawful = lawful.1
     before (Sends t) past lawful = lawful.1
@@ -130,71 +113,52 @@ module _ {F R B O : Type 0} (rules : LockRules F R B O) (opening : LockId → Op
     -- who slept owns or sleeps still
     pub slept_polled : SleptFits rules opening c new slept
     slept_polled =
+        let after = subst Lawful polled.is lawful in
         subst (λ l. SleptFits rules opening c l slept) (sym polled.is)
         (slept_result rules opening c b e polled.poll_result (polled.others ++ old) slept after none
         (slept_others rules opening c polled.others old (polled.foreign c acts) (before polled.poll_result (polled.others ++ old) after) slept fits))
 
     queued_result : (poll_result : PollResult (QOut O)) (past : List (QueueEvent (QEdit F R))) (outcome : Outcome (QOut O)) → (lock_caller rules e).0 < THREADS
-        → MayDo (lock_kernel rules opening) c b e poll_result past own → (left_with (lock_kernel rules opening) c b e poll_result own).answer ≡ Some outcome
-        → outcome.out ≡ Queued
-        → DeferredFits (Some (call.OnBuffer b e)) own.deferred own.threads.hand
-        → HasOrAwaits (lock_caller rules e) (lock_after rules (inner opening) (Buffer b)
-        (buffer_sections (seen_with (lock_kernel rules opening) c b e poll_result past)))
+        → MayDo K c b e poll_result past own → (left_with K c b e poll_result own).answer ≡ Some outcome → outcome.out ≡ Queued
+        → DeferredFits (Some (call.OnBuffer b e)) own.deferred own.threads.hand → Awaits (seen_with K c b e poll_result past)
     queued_result Waits past outcome small may answers queued deferred = absurd cc
     queued_result (Does done) past outcome small may answers queued deferred =
-        subst (λ same. HasOrAwaits (lock_caller rules e)
-        (if same then option_map (lock_edited rules e) (lock_after rules (inner opening) (Buffer b) (buffer_sections past))
-        else lock_after rules (inner opening) (Buffer b) (buffer_sections past))) (sym (same_lock_self (Buffer b)))
-        (queued_awaits rules e (lock_after rules (inner opening) (Buffer b) (buffer_sections past)) outcome small
-        (may.1 ∙ answered_with done (own_answered (lock_moves rules) (lock_kernel rules opening).homes c (Some done) own.threads) outcome answers) queued)
+        let before = lock_after rules (inner opening) (Buffer b) (buffer_sections past) in
+        subst (λ same. HasOrAwaits (lock_caller rules e) (if same then option_map (lock_edited rules e) before else before)) (sym (same_lock_self (Buffer b)))
+        (queued_awaits rules e before outcome small
+        (may.1 ∙ answered_with done (own_answered (lock_moves rules) K.homes c (Some done) own.threads) outcome answers) queued)
     queued_result (Sends t) past outcome small may answers queued deferred =
         let told = deferred_is own.deferred own.threads.hand b e outcome deferred answers in
         let is = ap is_queued queued in
         absurd cc
 
     -- and who is queued sleeps for the lock
-    pub slept_queued : (outcome : Outcome (QOut O)) → home_of (homes_in opening) (lock_caller rules e) ≡ Some c → length (homes_in opening) ≤ THREADS
-        → got.answer ≡ Some outcome
-        → DeferredFits (Some (call.OnBuffer b e)) own.deferred own.threads.hand
+    pub slept_queued : (outcome : Outcome (QOut O)) → home_of (homes_in opening) (lock_caller rules e) ≡ Some c → (lock_caller rules e).0 < THREADS
+        → got.answer ≡ Some outcome → DeferredFits (Some (call.OnBuffer b e)) own.deferred own.threads.hand
         → SleptFits rules opening c new (slept_left_by (lock_caller rules e) b slept outcome)
-    slept_queued outcome here room answers deferred = go outcome.out refl
+    slept_queued outcome here small answers deferred = go outcome.out refl
       where
         go : (out : QOut O) → outcome.out ≡ out → SleptFits rules opening c new (slept_left_with (lock_caller rules e) b slept out)
-        go Acquired is = slept_polled
-        go (Did out) is = slept_polled
-        go (Released out) is = slept_polled
         go Queued is =
-            slept_more rules opening c (lock_caller rules e) b new slept
-            (record {
-              here = here;
-              awaits = subst (λ l. HasOrAwaits (lock_caller rules e) (lock_after rules (inner opening) (Buffer b) (buffer_sections l))) (sym polled.is)
-                  (queued_result polled.poll_result (polled.others ++ old) outcome
-                  (let small = slice_get_within (homes_in opening) (lock_caller rules e).0 c here in omega (arith, small, room))
-                  polled.may (ap (λ (l : Left (Sleeping (QOut O)) (Outcome (QOut O))). l.answer) (sym polled.leaves) ∙ answers) is deferred);
-            })
-            slept_polled
+            let answered = ap (λ (l : Left (Sleeping (QOut O)) (Outcome (QOut O))). l.answer) (sym polled.leaves) ∙ answers in
+            let awaits = queued_result polled.poll_result (polled.others ++ old) outcome small polled.may answered is deferred in
+            slept_more rules opening c (lock_caller rules e) b new slept (record { here = here; awaits = subst Awaits (sym polled.is) awaits }) slept_polled
+        go other is = slept_polled
 
   -- A poll of a section, seen by the part of another CPU.
 
-  module _ (ActsFor : CpuId → Type 0) (by : CpuId) (apart : c ≢ by) (acts : ActsFor c) (slept : List (Option BufId)) where
-    not_by : same_cpu by c ≡ false
-    not_by = go (same_cpu by c) refl
-      where
-        go : (same : Bool) → same_cpu by c ≡ same → same_cpu by c ≡ false
-        go true is = absurd (apart (sym (same_cpu_true by c is)))
-        go false is = is
-
-    pub slept_of_others : (b : BufId) (e : QEdit F R) (old new : List (QueueEvent (QEdit F R))) (own : Sleeping (QOut O))
-        (got : Left (Sleeping (QOut O)) (Outcome (QOut O)))
-        → SleepPolled (lock_kernel rules opening) ActsFor by b e old new own got → IsLawful (QueueAllowed (lock_kernel rules opening)) new
+  module _ {ActsFor : CpuId → Type 0} (by : CpuId) (apart : c ≢ by) (acts : ActsFor c) (slept : List (Option BufId)) where
+    pub slept_of_others : {b : BufId} {e : QEdit F R} {old new : List (QueueEvent (QEdit F R))} {own : Sleeping (QOut O)}
+        {got : Left (Sleeping (QOut O)) (Outcome (QOut O))} → SleepPolled K ActsFor by b e old new own got → Lawful new
         → SleptFits rules opening c old slept → SleptFits rules opening c new slept
-    slept_of_others b e old new own got polled lawful fits =
-        subst (λ l. SleptFits rules opening c l slept) (sym polled.is)
-        (go polled.poll_result (subst (λ l. IsLawful (QueueAllowed (lock_kernel rules opening)) l) polled.is lawful))
+    slept_of_others {b} {e} {old} polled lawful fits =
+        subst (λ l. SleptFits rules opening c l slept) (sym polled.is) (go polled.poll_result (subst Lawful polled.is lawful))
       where
-        go : (poll_result : PollResult (QOut O)) → IsLawful (QueueAllowed (lock_kernel rules opening))
-            (seen_with (lock_kernel rules opening) by b e poll_result (polled.others ++ old))
-            → SleptFits rules opening c (seen_with (lock_kernel rules opening) by b e poll_result (polled.others ++ old)) slept
+        not_by : same_cpu by c ≡ false
+        not_by = ne_eqb by.0 c.0 (λ e. apart (sym (ap cpu_numbered e)))
+
+        go : (poll_result : PollResult (QOut O)) → Lawful (seen_with K by b e poll_result (polled.others ++ old))
+            → SleptFits rules opening c (seen_with K by b e poll_result (polled.others ++ old)) slept
         go Waits lawful = slept_others rules opening c polled.others old (polled.foreign c acts) lawful slept fits
         go (Does outcome) lawful =
             slept_others rules opening c (event by (OnBuffer b e) ∷ polled.others) old (not_by, polled.foreign c acts) lawful slept fits
@@ -204,35 +168,33 @@ module _ {F R B O : Type 0} (rules : LockRules F R B O) (opening : LockId → Op
 
 -- A pass does no section, so nothing changes of who owns and who sleeps.
 
-module _ {F R B O : Type 0} (rules : LockRules F R B O) (opening : LockId → Option (QueueBlock (LockState B))) (by : CpuId) (p : PassCall) where
-  same_sections : (done : Bool) (past : List (QueueEvent (QEdit F R)))
-      → buffer_sections (if done then events_of by (queue_call (homes_in opening) by (call.Pass p)) ++ past else past) ≡ buffer_sections past
-  same_sections false past = refl
-  same_sections true past = go p
-    where
-      go : (p : PassCall) → buffer_sections (events_of by (queue_call {E = QEdit F R} (homes_in opening) by (call.Pass p)) ++ past) ≡ buffer_sections past
-      go pass.Switch = refl
-      go other = refl
+module _ {F R B O : Type 0} (rules : LockRules F R B O) (opening : LockId → Option (QueueBlock (LockState B))) (by : CpuId) (past : List (QueueEvent (QEdit F R))) where
+  -- the history with the pass, if it is done
+  abbrev with_pass : Bool → PassCall → List (QueueEvent (QEdit F R))
+  with_pass done p = if done then events_of by (queue_call (homes_in opening) by (call.Pass p)) ++ past else past
 
-  before_pass : (done : Bool) (past : List (QueueEvent (QEdit F R)))
-      → IsLawful (QueueAllowed (lock_kernel rules opening)) (if done then events_of by (queue_call (homes_in opening) by (call.Pass p)) ++ past else past)
+  same_sections : (done : Bool) (p : PassCall) → buffer_sections (with_pass done p) ≡ buffer_sections past
+  same_sections false p = refl
+  same_sections true pass.Switch = refl
+  same_sections true other = refl
+
+  before_pass : (done : Bool) (p : PassCall) → IsLawful (QueueAllowed (lock_kernel rules opening)) (with_pass done p)
       → IsLawful (QueueAllowed (lock_kernel rules opening)) past
-  before_pass false past lawful = lawful
-  before_pass true past lawful = lawful_before (QueueAllowed (lock_kernel rules opening))
-      (events_of by (queue_call (homes_in opening) by (call.Pass p))) past lawful
+  before_pass false p lawful = lawful
+  before_pass true p lawful =
+      lawful_before (QueueAllowed (lock_kernel rules opening)) (events_of by (queue_call (homes_in opening) by (call.Pass p))) past lawful
 
 -- who slept owns or sleeps still after a pass, seen by any part
-pub slept_passed : {F R B O : Type 0} (rules : LockRules F R B O) (opening : LockId → Option (QueueBlock (LockState B))) (ActsFor : CpuId → Type 0)
-    (by : CpuId) (p : PassCall)
-    (answer : Option (SchedAnswer (Outcome (QOut O)))) (c : CpuId) → ActsFor c → (old new : List (QueueEvent (QEdit F R))) (own own' : Threads)
-    → SchedPolled (lock_kernel rules opening) ActsFor by (call.Pass p) answer old new own own' → IsLawful (QueueAllowed (lock_kernel rules opening)) new
+pub slept_passed : {F R B O : Type 0} (rules : LockRules F R B O) (opening : LockId → Option (QueueBlock (LockState B))) {ActsFor : CpuId → Type 0}
+    {by : CpuId} (p : PassCall) (answer : Option (SchedAnswer (Outcome (QOut O)))) {old new : List (QueueEvent (QEdit F R))} {own own' : Threads}
+    → SchedPolled (lock_kernel rules opening) ActsFor by (call.Pass p) answer old new own own' → (c : CpuId) → ActsFor c
+    → IsLawful (QueueAllowed (lock_kernel rules opening)) new
     → (slept : List (Option BufId)) → SleptFits rules opening c old slept → SleptFits rules opening c new slept
-slept_passed rules opening ActsFor by p answer c acts old new own own' polled lawful slept fits t b is =
-    let one = slept_others rules opening c polled.others old (polled.foreign c acts)
-    (before_pass rules opening by p (is_some answer) (polled.others ++ old)
+slept_passed rules opening {by} p answer {old} polled c acts lawful slept fits t b is =
+    let one = slept_others rules opening c polled.others old (polled.foreign c acts) (before_pass rules opening by (polled.others ++ old) (is_some answer) p
     (subst (λ l. IsLawful (QueueAllowed (lock_kernel rules opening)) l) polled.is lawful)) slept fits t b is in
     record {
       here = one.here;
       awaits = subst (λ s. HasOrAwaits t (lock_after rules (inner opening) (Buffer b) s))
-          (sym (ap buffer_sections polled.is ∙ same_sections rules opening by p (is_some answer) (polled.others ++ old))) one.awaits;
+          (sym (ap buffer_sections polled.is ∙ same_sections rules opening by (polled.others ++ old) (is_some answer) p)) one.awaits;
     }

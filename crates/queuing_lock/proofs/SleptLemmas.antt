@@ -1,13 +1,11 @@
 -- Whoever slept for a lock owns it or sleeps for it still, whatever is called.
 use Rattle.std.proofs.Common.{◌≡◌, ◌⊎◌, inl, inr, ℕ, zero, suc, List, [], ◌∷◌, ◌++◌, Option, Some, None, slice_index_or, slice_set, replicate, refl, ap, sym}
-use Rattle.std.proofs.Common.{◌∙◌, subst}
-use Rattle.event_log.specs.{declared.ids.BufId.BufId, declared.ids.CpuId.CpuId, declared.ids.LockId.LockId, declared.ids.LockId.TheVariants.Buffer}
-use Rattle.event_log.specs.{declared.ids.Tid.Tid, History.AreOthers, History.IsLawful}
-use Rattle.layer_traits.specs.{declared.locked.QEdit.QEdit, declared.locked.QOut.QOut, declared.queue_edits.QueueBlock.QueueBlock}
-use Rattle.layer_traits.specs.{declared.queues.QueueEvent.QueueEvent, QLocking.LockRules, QLocking.LockState, QLocking.lock_caller, QLockLaw.HasOrAwaits}
-use Rattle.layer_traits.specs.{QLockLaw.lock_kernel, QLockLaw.slept_for, Queues.QueueAllowed, Queues.cpu_of_queue_event, SleepLaw.PollResult, SleepLaw.Waits}
-use Rattle.layer_traits.specs.{SleepLaw.Does, SleepLaw.Sends, SleepLaw.seen_with}
-use Rattle.queuing_lock.specs.{Laws.Steady.keeps_awaits, Laws.Steady.preserved_by, Laws.Steady.preserved_by_others, Parts.SleptFits, Parts.SleptOne}
+use Rattle.std.proofs.{Common.{◌∙◌, subst}, Math.Path.transport, lemmas.Option.same_Some}
+use Rattle.event_log.specs.{declared.ids.{BufId.BufId, CpuId.CpuId, LockId.{LockId, TheVariants.Buffer}, Tid.Tid}, History.{AreOthers, IsLawful}}
+use Rattle.layer_traits.specs.{declared.{locked.{QEdit.QEdit, QOut.QOut}, queue_edits.QueueBlock.QueueBlock, queues.QueueEvent.QueueEvent}, QLocking.LockRules}
+use Rattle.layer_traits.specs.{QLocking.{LockState, lock_caller}, QLockLaw.{HasOrAwaits, lock_kernel, slept_for}, Queues.{QueueAllowed, cpu_of_queue_event}}
+use Rattle.{layer_traits.specs.SleepLaw.{PollResult, Waits, Does, Sends, seen_with}, queuing_lock.specs.Laws.Steady.{keeps_awaits, preserved_by}}
+use Rattle.queuing_lock.specs.{Laws.Steady.preserved_by_others, Parts.{SleptFits, SleptOne}}
 
 -- what stands in a list in which one was set stands there because it was set, or stood there before
 pub set_reads : {A : Type 0} (xs : List (Option A)) (i j : ℕ) (v : Option A) (a : A) → slice_index_or (slice_set xs i v) j None ≡ Some a
@@ -16,11 +14,7 @@ set_reads [] i j v a is = inr is
 set_reads (x ∷ xs) zero zero v a is = inl (refl, is)
 set_reads (x ∷ xs) zero (suc j) v a is = inr is
 set_reads (x ∷ xs) (suc i) zero v a is = inr is
-set_reads (x ∷ xs) (suc i) (suc j) v a is = further (set_reads xs i j v a is)
-  where
-    further : ((i ≡ j) × (v ≡ Some a)) ⊎ (slice_index_or xs j None ≡ Some a) → ((suc i ≡ suc j) × (v ≡ Some a)) ⊎ (slice_index_or xs j None ≡ Some a)
-    further (inl both) = inl (ap suc both.0, both.1)
-    further (inr was) = inr was
+set_reads (x ∷ xs) (suc i) (suc j) v a is = elim (set_reads xs i j v a is) [ inl both ↦ inl (ap suc both.0, both.1) | inr was ↦ inr was ]
 
 -- a list of nothing tells nothing
 pub none_at : {A : Type 0} (n j : ℕ) (x : Option A) → x ≡ None → slice_index_or (replicate n x) j None ≡ None
@@ -44,15 +38,11 @@ module _ {F R B O : Type 0} (rules : LockRules F R B O) (opening : LockId → Op
   pub slept_goes : (more past new : List (QueueEvent (QEdit F R))) → AreOthers cpu_of_queue_event c more → new ≡ more ++ past
       → IsLawful (QueueAllowed (lock_kernel rules opening)) new
       → (slept : List (Option BufId)) → SleptFits rules opening c past slept → SleptFits rules opening c new slept
-  slept_goes more past new others is lawful slept fits =
-      subst (λ l. SleptFits rules opening c l slept) (sym is)
+  slept_goes more past new others is lawful slept fits = subst (λ l. SleptFits rules opening c l slept) (sym is)
       (slept_others more past others (subst (λ l. IsLawful (QueueAllowed (lock_kernel rules opening)) l) is lawful) slept fits)
 
   apart : (slept : List (Option BufId)) (u t : Tid) (b : BufId) → slept_for slept u ≡ None → slept_for slept t ≡ Some b → u ≡ t → ⊥
-  apart slept u t b none some is = absurd (clash (subst (λ x. slept_for slept x ≡ None) is none) some)
-    where
-      clash : slept_for slept t ≡ None → slept_for slept t ≡ Some b → ⊥
-      clash none some = absurd cc
+  apart slept u t b none some is = let one = subst (λ x. slept_for slept x ≡ None) is none in absurd cc
 
   -- a thread that slept for no lock calls
   pub slept_result : (b : BufId) (e : QEdit F R) (poll_result : PollResult (QOut O)) (past : List (QueueEvent (QEdit F R))) (slept : List (Option BufId))
@@ -72,25 +62,16 @@ module _ {F R B O : Type 0} (rules : LockRules F R B O) (opening : LockId → Op
   -- whose call was handed its lock has slept
   pub slept_less : (t : Tid) (past : List (QueueEvent (QEdit F R))) (slept : List (Option BufId)) → SleptFits rules opening c past slept
       → SleptFits rules opening c past (slice_set slept t.0 None)
-  slept_less t past slept fits u b is = go (set_reads slept t.0 u.0 None b is)
-    where
-      go : ((t.0 ≡ u.0) × (None ≡ Some b)) ⊎ (slept_for slept u ≡ Some b) → SleptOne rules opening c past u b
-      go (inl both) = let none = both.1 in absurd cc
-      go (inr was) = fits u b was
+  slept_less t past slept fits u b is =
+      elim (set_reads slept t.0 u.0 None b is) [ inl both ↦ (let none = both.1 in absurd cc) | inr was ↦ fits u b was ]
 
   -- who is queued now sleeps
   pub slept_more : (t : Tid) (b : BufId) (past : List (QueueEvent (QEdit F R))) (slept : List (Option BufId)) → SleptOne rules opening c past t b
       → SleptFits rules opening c past slept → SleptFits rules opening c past (slice_set slept t.0 (Some b))
-  slept_more t b past slept one fits u at is = go (set_reads slept t.0 u.0 (Some b) at is)
-    where
-      go : ((t.0 ≡ u.0) × (Some b ≡ Some at)) ⊎ (slept_for slept u ≡ Some at) → SleptOne rules opening c past u at
-      go (inl both) =
-          let same_thread = both.0 in
-          let same_buffer = both.1 in
-          let who : t ≡ u = λ i. record { 0 = same_thread i } in
-          let what : b ≡ at = cc in
-          subst (λ x. SleptOne rules opening c past u x) what (subst (λ x. SleptOne rules opening c past x b) who one)
-      go (inr was) = fits u at was
+  slept_more t b past slept one fits u at is = elim (set_reads slept t.0 u.0 (Some b) at is) [
+    | inl both ↦ transport (λ i. SleptOne rules opening c past (record { 0 = both.0 i }) (same_Some b at both.1 i)) one
+    | inr was ↦ fits u at was
+  ]
 
   -- at boot nobody has slept
   pub slept_none : (past : List (QueueEvent (QEdit F R))) (slept : List (Option BufId)) (n : ℕ) → slept ≡ replicate n None

@@ -1,12 +1,9 @@
 -- The calls on a queuing lock as sections of the layer that lets threads sleep: what they do to the busy word and to what lies above.
-use Rattle.std.specs.Prelude.{map, Option, Some, None, option_map}
-use Rattle.event_log.specs.{declared.ids.LockId.LockId, declared.ids.Tid.Tid, Sections.renamed_section}
-use Rattle.layer_traits.specs.declared.locked.{QEdit.QEdit, QEdit.TheVariants.Acquire, QEdit.TheVariants.Inside, QEdit.TheVariants.Release, QOut.QOut}
-use Rattle.layer_traits.specs.declared.locked.{QOut.TheVariants.Acquired, QOut.TheVariants.Queued, QOut.TheVariants.Did, QOut.TheVariants.Released}
-use Rattle.layer_traits.specs.declared.locked.{WakeWaiter.WakeWaiter}
-use Rattle.layer_traits.specs.{declared.payloads.Parcel.Parcel, QLocking.LockAllowed, QLocking.LockRules, QLocking.LockState, QLocking.wait_list_slept}
-use Rattle.layer_traits.specs.{QLocking.lock_caller, QLocking.asker_report, Payloads.lock_meant, Sleeping.SleepRules, Sleeping.SleepState}
-use Rattle.layer_traits.specs.declared.sleeps.Wake.{Wake, TheVariants.Nobody, TheVariants.FirstSleeper, TheVariants.Receiver, TheVariants.Sender}
+use Rattle.{std.specs.Prelude.{map, Option, Some, None, option_map}, event_log.specs.{declared.ids.{LockId.LockId, Tid.Tid}, Sections.renamed_section}}
+use Rattle.layer_traits.specs.declared.locked.{QEdit.{QEdit, TheVariants.{Acquire, Inside, Release}}, QOut.{QOut, TheVariants.{Acquired, Queued, Did}}}
+use Rattle.layer_traits.specs.declared.{locked.{QOut.TheVariants.Released, WakeWaiter.WakeWaiter}, payloads.Parcel.Parcel, sleeps.Wake.Wake}
+use Rattle.layer_traits.specs.{declared.sleeps.Wake.TheVariants.{Nobody, FirstSleeper, Receiver, Sender}, QLocking.{LockAllowed, LockRules, LockState}}
+use Rattle.layer_traits.specs.{QLocking.{wait_list_slept, lock_caller, asker_report}, Payloads.lock_meant, Sleeping.{SleepRules, SleepState}}
 use Rattle.queuing_lock.specs.declared.edits.{QBlock.QBlock, QLockEdit.QLockEdit}
 use Rattle.layer_traits.specs.declared.locked.WakeWaiter.TheVariants as signal
 

@@ -1,12 +1,11 @@
 -- What a part of queuing locks keeps of its own: who slept for which lock, and why that agrees with the locks.
 use Rattle.std.specs.Prelude.{◌≡◌, Bool, true, false, List, Option, Some, None, is_some, slice_set}
-use Rattle.event_log.specs.declared.ids.{BufId.BufId, CpuId.CpuId, LockId.LockId, LockId.TheVariants.Buffer, Tid.Tid}
-use Rattle.layer_traits.specs.declared.locked.{QEdit.QEdit, QEdit.TheVariants.Acquire, QEdit.TheVariants.Inside, QEdit.TheVariants.Release, QOut.QOut}
-use Rattle.layer_traits.specs.declared.locked.{QOut.TheVariants.Acquired, QOut.TheVariants.Queued, QOut.TheVariants.Did, QOut.TheVariants.Released}
-use Rattle.layer_traits.specs.{declared.queue_edits.QueueBlock.QueueBlock, declared.queues.QueueEvent.QueueEvent, declared.scheds.SchedCall.SchedCall}
-use Rattle.layer_traits.specs.{declared.scheds.SchedCall.TheVariants.Pass, declared.scheds.SchedCall.TheVariants.OnBuffer, declared.sleeps.Outcome.Outcome}
-use Rattle.layer_traits.specs.{QLocking.LockRules, QLocking.LockState, QLocking.lock_after, QLockLaw.HasOrAwaits, QLockLaw.IsAcquire, QLockLaw.slept_for}
-use Rattle.layer_traits.specs.{Places.home_of, QueueBlocks.homes_in, QueueBlocks.inner, Queues.buffer_sections}
+use Rattle.event_log.specs.declared.ids.{BufId.BufId, CpuId.CpuId, LockId.{LockId, TheVariants.Buffer}, Tid.Tid}
+use Rattle.layer_traits.specs.declared.locked.{QEdit.{QEdit, TheVariants.{Acquire, Inside, Release}}, QOut.{QOut, TheVariants.{Acquired, Queued, Did}}}
+use Rattle.layer_traits.specs.declared.{locked.QOut.TheVariants.Released, queue_edits.QueueBlock.QueueBlock, queues.QueueEvent.QueueEvent}
+use Rattle.layer_traits.specs.{declared.{scheds.SchedCall.{SchedCall, TheVariants.{Pass, OnBuffer}}, sleeps.Outcome.Outcome}, QLocking.{LockRules, LockState}}
+use Rattle.layer_traits.specs.{QLocking.lock_after, QLockLaw.{HasOrAwaits, IsAcquire, slept_for}, Places.home_of, QueueBlocks.{homes_in, inner}}
+use Rattle.layer_traits.specs.Queues.{buffer_sections}
 
 -- who slept for which lock after a call of t was told this: who is queued sleeps
 abbrev pub slept_left_with : {O : Type 0} → Tid → BufId → List (Option BufId) → QOut O → List (Option BufId)

@@ -1,8 +1,7 @@
 //! What the calls on a queuing lock do to its block.
 
 ghost use Rattle.std.specs.Prelude.{◌≡◌};
-ghost use Rattle.layer_traits.specs.{QLocking.wait_list_for, Payloads.lock_told};
-ghost use Rattle.queuing_lock.specs.Nested.{busy_rules, leaving, section_meant};
+ghost use Rattle.{layer_traits.specs.{QLocking.wait_list_for, Payloads.lock_told}, queuing_lock.specs.Nested.{busy_rules, leaving, section_meant}};
 
 use event_log::Tid;
 use layer_traits::{
@@ -50,7 +49,6 @@ impl<F: Locked> Sleeps for QLockEdit<F, F::Release> {
         }
     }
 
-    #[inline(always)]
     fn whole(
         handed: &QLockEdit<F::Handed, F::Release>,
         parcel: &Parcel,

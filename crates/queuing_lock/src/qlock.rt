@@ -19,12 +19,10 @@ pub struct QLock<S> {
 impl<F: Locked, S: ThreadLayer<SleepLaw<QLockEdit<F, F::Release>>>> ThreadLayer<QLockLaw<F>>
     for QLock<S> {
     ghost use Rattle.std.proofs.Common.{map, option_map, ap, ◌∙◌};
-    ghost use Rattle.event_log.specs.Actions.{renamed};
-    ghost use Rattle.event_log.proofs.Renaming.{legal_renamed};
-    ghost use Rattle.layer_traits.specs.Renaming.{renamed_edit, renamed_events, renamed_sched, viewed};
-    ghost use Rattle.layer_traits.proofs.KernelRenaming.{known_renamed, proper_renamed, seen_renamed, starts_viewed};
-    ghost use Rattle.queuing_lock.specs.Laws.NestedLaws.{locks_busy, locks_lawful, locks_lists, locks_moves_legal, locks_stand, none_beneath};
-    ghost use Rattle.queuing_lock.specs.{Nested.edit_in, Nested.nested_lock_of, Parts.DeferredFits, Parts.SleptFits};
+    ghost use Rattle.{event_log.{specs.Actions.renamed, proofs.Renaming.legal_renamed}, layer_traits.specs.Renaming.{renamed_edit, renamed_events}};
+    ghost use Rattle.layer_traits.{specs.Renaming.{renamed_sched, viewed}, proofs.KernelRenaming.{known_renamed, proper_renamed, seen_renamed, starts_viewed}};
+    ghost use Rattle.queuing_lock.specs.{Laws.NestedLaws.{locks_busy, locks_lawful, locks_lists, locks_moves_legal, locks_stand, none_beneath}, Nested.edit_in};
+    ghost use Rattle.queuing_lock.specs.{Nested.nested_lock_of, Parts.{DeferredFits, SleptFits}};
 
     type Machine = S::Machine;
 
@@ -160,11 +158,9 @@ impl<F: Locked, S: ThreadLayer<SleepLaw<QLockEdit<F, F::Release>>>> ThreadLayer<
 impl<F: Locked, S: OwnedThreadLayer<SleepLaw<QLockEdit<F, F::Release>>>> OwnedThreadLayer<
     QLockLaw<F>,
 > for QLock<S> {
-    ghost use Rattle.std.proofs.Common.{sym};
-    ghost use Rattle.std.specs.Prelude.{true, option_map};
-    ghost use Rattle.event_log.specs.declared.ids.LockId.TheVariants.{Buffer, Pending};
-    ghost use Rattle.layer_traits.proofs.{KernelRenaming.there_viewed, OwnedLemmas.parts_on};
-    ghost use Rattle.queuing_lock.specs.{Laws.NestedLaws.locks_busy, Laws.OwnedLaws.locks_queues, Laws.OwnedLaws.locks_shown, Nested.nested_lock_of};
+    ghost use Rattle.{std.{proofs.Common.sym, specs.Prelude.{true, option_map}}, event_log.specs.declared.ids.LockId.TheVariants.{Buffer, Pending}};
+    ghost use Rattle.{layer_traits.proofs.{KernelRenaming.there_viewed, OwnedLemmas.parts_on}, queuing_lock.specs.Laws.NestedLaws.locks_busy};
+    ghost use Rattle.queuing_lock.specs.{Laws.OwnedLaws.{locks_queues, locks_shown}, Nested.nested_lock_of};
 
     ghost block_at = { λ m b. option_map nested_lock_of (S.block_at m b) };
 

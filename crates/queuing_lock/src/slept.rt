@@ -1,9 +1,8 @@
 //! Who sleeps for which lock. No call takes memory or waits.
 
 ghost use Rattle.std.specs.Prelude.{◌≡◌, ◌<◌, Some, None, is_some, replicate, slice_set, if◌then◌else◌};
-ghost use Rattle.event_log.specs.declared.ids.TheConstants.{THREADS};
-ghost use Rattle.layer_traits.specs.QLockLaw.{slept_for};
-ghost use Rattle.queuing_lock.specs.Parts.{asks_again, slept_left_by, reported_by};
+ghost use Rattle.{event_log.specs.declared.ids.TheConstants.THREADS, layer_traits.specs.QLockLaw.slept_for, queuing_lock.specs.Parts.asks_again};
+ghost use Rattle.queuing_lock.specs.Parts.{slept_left_by, reported_by};
 
 use event_log::{BufId, THREADS, Tid};
 use layer_traits::{Outcome, QEdit, QOut};
@@ -65,7 +64,6 @@ impl Slept {
     /// `t` sleeps for the lock of `buffer` from now on.
     ///
     /// Requires: the thread is below `THREADS`.
-    #[inline(always)]
     pub fn put(&mut self, t: Tid, buffer: BufId)
         requires { t.0 < THREADS }
         ensures { self.new.buffers ≡ slice_set self.old.buffers t.0 (Some buffer) }

@@ -1,11 +1,7 @@
 -- The threads at home on a CPU, home by home.
-use Rattle.std.proofs.Common.{◌≡◌, ℕ, ◌+◌, ◌<◌, ◌≤◌, min, Bool, true, false, ◌||◌, List, [], ◌∷◌, ◌++◌, length, take, get_or, if◌then◌else◌, refl, ap, ◌∙◌}
-use Rattle.std.proofs.Common.{arith}
-use Rattle.std.proofs.lemmas.{Bool.eq-eqb, Bool.ne_eqb, List.take_more, List.length-take}
-use Rattle.event_log.specs.{declared.ids.CpuId.CpuId, declared.ids.Tid.Tid, History.same_cpu}
-use Rattle.thread_blocks.specs.Queues.{is_in}
-use Rattle.thread_blocks.proofs.Members.{tid_numbered}
-use Rattle.layer_traits.specs.Places.{homed}
+use Rattle.std.proofs.Common.{◌≡◌, ℕ, ◌+◌, ◌<◌, ◌≤◌, min, Bool, true, false, List, [], ◌∷◌, ◌++◌, length, take, get_or, if◌then◌else◌, refl, ap, ◌∙◌, arith}
+use Rattle.{std.proofs.lemmas.{Bool.{eq-eqb, ne_eqb}, List.{take_more, length-take}}, event_log.specs.{declared.ids.{CpuId.CpuId, Tid.Tid}, History.same_cpu}}
+use Rattle.{thread_blocks.{specs.Queues.is_in, proofs.Members.tid_numbered}, layer_traits.specs.Places.homed}
 
 -- one home more: its thread stands last, if it is at home here
 homed_more : (c : CpuId) (n : ℕ) (homes : List CpuId) (home : CpuId)
@@ -21,10 +17,7 @@ homed_more c n (x ∷ homes) home = go (same_cpu c x) (same_cpu c home) (homed_m
         → (if here then tid_numbered n ∷ homed c (n + 1) (homes ++ home ∷ []) else homed c (n + 1) (homes ++ home ∷ []))
         ≡ (if last then (if here then tid_numbered n ∷ homed c (n + 1) homes else homed c (n + 1) homes) ++ tid_numbered (n + length (x ∷ homes)) ∷ []
         else (if here then tid_numbered n ∷ homed c (n + 1) homes else homed c (n + 1) homes))
-    go true true is = ap (λ q. tid_numbered n ∷ q) is ∙ ap (λ k. tid_numbered n ∷ (homed c (n + 1) homes ++ tid_numbered k ∷ [])) later
-    go true false is = ap (λ q. tid_numbered n ∷ q) is
-    go false true is = is ∙ ap (λ k. homed c (n + 1) homes ++ tid_numbered k ∷ []) later
-    go false false is = is
+    go here last is = grind (arith, later)
 
 -- no thread beyond the homes is among them
 homed_beyond : (c : CpuId) (n : ℕ) (homes : List CpuId) (t : Tid) → n + length homes ≤ t.0 → is_in t (homed c n homes) ≡ false
@@ -33,13 +26,11 @@ homed_beyond c n (x ∷ homes) t beyond = go (same_cpu c x) (homed_beyond c (n +
   where
     go : (here : Bool) → is_in t (homed c (n + 1) homes) ≡ false
         → is_in t (if here then tid_numbered n ∷ homed c (n + 1) homes else homed c (n + 1) homes) ≡ false
-    go true rest = ap (λ b. b || is_in t (homed c (n + 1) homes)) (ne_eqb t.0 n (λ e. omega arith)) ∙ rest
-    go false rest = rest
+    go here rest = grind (arith, ne_eqb)
 
 -- the loop over the homes: the next thread is not among those before it
 pub next_new : (c : CpuId) (homes : List CpuId) (i : ℕ) → is_in (tid_numbered i) (homed c 0 (take i homes)) ≡ false
-next_new c homes i = let most : length (take i homes) ≡ min i (length homes) = length-take i homes in
-    homed_beyond c 0 (take i homes) (tid_numbered i) (omega (arith, most))
+next_new c homes i = grind (arith, length-take, homed_beyond)
 
 next : (c : CpuId) (homes : List CpuId) (i : ℕ) (d : CpuId) → i < length homes → (b : Bool) → same_cpu c (get_or homes i d) ≡ b
     → homed c 0 (take (i + 1) homes) ≡ (if b then homed c 0 (take i homes) ++ tid_numbered i ∷ [] else homed c 0 (take i homes))

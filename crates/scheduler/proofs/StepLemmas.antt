@@ -1,30 +1,20 @@
 -- One poll of a scheduler's part: a call that touches nothing shared, a poll that waits, and one that answers. In each what the CPU has of
 -- its own goes on agreeing with the places.
 use Rattle.std.proofs.Common.{◌≡◌, ℕ, zero, suc, ◌<◌, true, false, List, [], ◌∷◌, ◌++◌, Option, Some, None, IsSome, option_map, length, slice_get, refl, ap}
-use Rattle.std.proofs.Common.{sym, ◌∙◌, subst, subst₂, arith}
-use Rattle.event_log.specs.{declared.ids.BufId.BufId, declared.ids.CpuId.CpuId, declared.ids.LockId.LockId, declared.ids.LockId.TheVariants.Pending}
-use Rattle.event_log.specs.{declared.ids.LockId.TheVariants.Buffer, declared.ids.Tid.Tid, declared.ids.TheConstants.THREADS, History.AreOthers}
-use Rattle.event_log.specs.{History.Grows, History.IsLawful, History.same_cpu}
-use Rattle.layer_traits.specs.declared.passes.Pass.TheVariants.{Switch, YieldNow, Drain, MakeReady, End}
-use Rattle.layer_traits.specs.{declared.queue_edits.QueueBlock.QueueBlock, declared.queues.QueueAnswer.QueueAnswer}
-use Rattle.layer_traits.specs.{declared.queues.QueueCall.QueueCall, declared.queues.QueueCall.TheVariants.Push, declared.queues.QueueCall.TheVariants.TakeAll}
-use Rattle.layer_traits.specs.{declared.queues.QueueCall.TheVariants.OnBuffer, declared.queues.QueueEvent.QueueEvent}
-use Rattle.layer_traits.specs.{declared.scheds.SchedAnswer.TheVariants.Done, declared.scheds.SchedAnswer.TheVariants.Answer}
-use Rattle.layer_traits.specs.{declared.scheds.SchedCall.SchedCall, MoveRules.MoveRules, MoveRules.WakesSleepers, MoveRules.edit_move, Passes.or_else}
-use Rattle.layer_traits.specs.{Passes.queue_for, Places.AreMoves, Places.Where, Places.Asleep, Places.MayEdit}
-use Rattle.layer_traits.specs.{Places.MayMove, Places.Stands, Places.Threads, Places.home_of, Places.is_asleep, Places.is_home, Places.pending_by, Places.step}
-use Rattle.layer_traits.specs.{Places.where_is, Plans.answered, Protocol.Rules, Protocol.section, QueueBlocks.StartsWell}
-use Rattle.layer_traits.specs.{QueueBlocks.homes_in, Queues.CallAllowed, Queues.Kernel, Queues.buffer_sections, Queues.MayQueue, Queues.QueueAllowed}
-use Rattle.layer_traits.specs.{Queues.QueuePolled, Queues.answer_of, Queues.call_move, Queues.event, Queues.cpu_of_queue_event, Queues.kernel, Queues.lock_of}
-use Rattle.layer_traits.specs.{Queues.moves_in, Queues.out_at, Scheds.BufferIsThere, Scheds.EditStays, Scheds.IsLocal, Scheds.MaySched}
-use Rattle.layer_traits.specs.{Scheds.SchedPolled, Scheds.StateFor, Scheds.answer_by, Scheds.answer_to, Scheds.events_of}
-use Rattle.layer_traits.specs.{Scheds.own_after, Scheds.own_answered, Scheds.own_by, Scheds.queue_call}
-use Rattle.layer_traits.proofs.{CallLemmas.moves_append, CallLemmas.moves_lawful, CallLemmas.moves_others, CallLemmas.moves_over}
-use Rattle.layer_traits.proofs.{CallLemmas.woken_sleeps, CountLemmas.not_counted}
-use Rattle.layer_traits.proofs.PlaceLemmas.{away_from, away_known, current_at, current_new, hand_free, hand_at, pending_at, stands_finished, stands_moved}
-use Rattle.layer_traits.proofs.PlaceLemmas.{stands_others, stands_pushed, stands_switched, stands_taken, home_there}
-use Rattle.scheduler.specs.{Owns.MayFinish, Owns.MayJoin, Owns.MaySettle, Owns.MayTake, Owns.local_after, Parts.IsCalling, Parts.PartFits, Parts.UnderFits}
-use Rattle.scheduler.specs.{Parts.sched_call, Parts.sched_under}
+use Rattle.std.proofs.{Common.{sym, ◌∙◌, subst, subst₂, arith}, lemmas.Option.same_Some}
+use Rattle.event_log.specs.{declared.ids.{BufId.BufId, CpuId.CpuId, LockId.{LockId, TheVariants.Buffer}, Tid.Tid, TheConstants.THREADS}, History.AreOthers}
+use Rattle.{event_log.specs.History.{Grows, IsLawful, same_cpu}, layer_traits.specs.declared.passes.Pass.TheVariants.{Switch, MakeReady, End}}
+use Rattle.layer_traits.specs.declared.{queue_edits.QueueBlock.QueueBlock, queues.{QueueAnswer.QueueAnswer, QueueCall.{QueueCall, TheVariants.{Push, TakeAll}}}}
+use Rattle.layer_traits.specs.declared.{queues.{QueueCall.TheVariants.OnBuffer, QueueEvent.QueueEvent}, scheds.SchedAnswer.TheVariants.Done}
+use Rattle.layer_traits.specs.{declared.scheds.SchedCall.SchedCall, MoveRules.{MoveRules, WakesSleepers, edit_move}, Passes.{or_else, queue_for}}
+use Rattle.layer_traits.specs.Places.{AreMoves, Where, MayEdit, MayMove, Stands, Threads, home_of, is_asleep, is_home, pending_by, step, where_is}
+use Rattle.layer_traits.specs.{Plans.answered, Protocol.{Rules, section}, QueueBlocks.{StartsWell, homes_in}, Queues.{CallAllowed, Kernel, buffer_sections}}
+use Rattle.layer_traits.specs.Queues.{MayQueue, QueueAllowed, QueuePolled, answer_of, call_move, event, cpu_of_queue_event, kernel, lock_of, moves_in, out_at}
+use Rattle.layer_traits.specs.Scheds.{BufferIsThere, EditStays, IsLocal, MaySched, SchedPolled, StateFor, answer_by, answer_to, events_of, own_after, own_by}
+use Rattle.layer_traits.{specs.Scheds.queue_call, proofs.CallLemmas.{moves_append, moves_lawful, moves_others, moves_over, woken_sleeps}}
+use Rattle.layer_traits.proofs.{CountLemmas.not_counted, PlaceLemmas.{away_from, away_known, current_at, current_new, hand_free, hand_at, pending_at}}
+use Rattle.layer_traits.proofs.PlaceLemmas.{stands_finished, stands_moved, stands_others, stands_pushed, stands_switched, stands_taken, home_there}
+use Rattle.scheduler.specs.{Owns.{MayFinish, MayJoin, MaySettle, MayTake, local_after}, Parts.{IsCalling, PartFits, UnderFits, sched_call, sched_under}}
 use Rattle.layer_traits.specs.declared.queues.QueueAnswer.TheVariants as told
 use Rattle.layer_traits.specs.declared.scheds.SchedCall.TheVariants as call
 
@@ -36,36 +26,19 @@ known_within (x ∷ homes) (suc n) c is = let below = known_within homes n c is 
 
 -- who sleeps is away from home
 asleep_away : (w : Where) → is_asleep w ≡ true → is_home w ≡ false
-asleep_away (Asleep p) asleep = refl
-asleep_away other asleep = absurd cc
+asleep_away w asleep = grind arith
 
 -- Which call it is.
 
 module _ {E : Type 0} (homes : List CpuId) (c : CpuId) where
   -- and one that is none touches nothing shared
   pub is_local : (s : SchedCall E) → queue_call homes c s ≡ None → IsLocal s
-  is_local (call.Pass Switch) is = tt
-  is_local (call.Pass End) is = tt
-  is_local other is = absurd cc
+  is_local s is = grind arith
 
   -- what the CPU has of its own tells which scheduler's call it is
   same_call : {O : Type 0} (mv : MoveRules E O) (s : SchedCall E) (q : QueueCall E) (own : Threads) → StateFor mv s own → queue_call homes c s ≡ Some q
       → sched_call q own.current ≡ s
-  same_call mv (call.Pass Switch) q own state is = absurd cc
-  same_call mv (call.Pass YieldNow) q own state is = go own.current state.0
-    where
-      taken : q ≡ TakeAll c
-      taken = cc
-
-      go : (current : Option Tid) → IsSome current → sched_call q current ≡ call.Pass YieldNow
-      go None runs = absurd cc
-      go (Some t) runs = ap (λ x. sched_call x (Some t)) taken
-  same_call mv (call.Pass Drain) q own state is =
-      let taken : q ≡ TakeAll c = cc in
-      ap (λ x. sched_call x own.current) taken ∙ ap (sched_call (TakeAll c)) state.0
-  same_call mv (call.Pass (MakeReady t)) q own state is = let pushed : q ≡ Push (queue_for homes c t) t = cc in ap (λ x. sched_call x own.current) pushed
-  same_call mv (call.Pass End) q own state is = absurd cc
-  same_call mv (call.OnBuffer b e) q own state is = let edits : q ≡ OnBuffer b e = cc in ap (λ x. sched_call x own.current) edits
+  same_call mv s q own state is = grind arith
 
 module _ {E B O : Type 0} (rules : Rules E B O) (mv : MoveRules E O) (opening : LockId → Option (QueueBlock B)) (wakes : WakesSleepers rules mv)
     (opens : StartsWell opening) where
@@ -79,10 +52,7 @@ module _ {E B O : Type 0} (rules : Rules E B O) (mv : MoveRules E O) (opening : 
   Lawful log = IsLawful (QueueAllowed K) log
 
   known : (t : Tid) (c : CpuId) → home_of H t ≡ Some c → t.0 < THREADS
-  known t c home =
-      let within = known_within H t.0 c home in
-      let room = opens.room in
-      omega (arith, within, room)
+  known t c home = grind (arith, known_within)
 
   -- the layer above allows the edit of a call, if it is one
   abbrev pub UpperNow : CpuId → List (QueueEvent E) → SchedCall E → Type 0
@@ -107,21 +77,18 @@ module _ {E B O : Type 0} (rules : Rules E B O) (mv : MoveRules E O) (opening : 
 
     -- what the CPU has of its own and the layer above let a call come at the shared queues
     allowed_now : (s : SchedCall E) (q : QueueCall E) → StateFor mv s own → queue_call H c s ≡ Some q → UpperNow c past s → CallAllowed K past c q
-    allowed_now (call.Pass Switch) q state is upper = absurd cc
-    allowed_now (call.Pass YieldNow) q state is upper = let taken : TakeAll c ≡ q = cc in subst (CallAllowed K past c) taken refl
-    allowed_now (call.Pass Drain) q state is upper = let taken : TakeAll c ≡ q = cc in subst (CallAllowed K past c) taken refl
     allowed_now (call.Pass (MakeReady t)) q state is upper =
         let pushed : Push (queue_for H c t) t ≡ q = cc in
         let held = hand_at H c (moves_in K past) own moves stands t state in
         let home = home_there c (home_of H t) (away_known H (moves_in K past) t moves (ap is_home held)) in
         subst (CallAllowed K past c) pushed (record { held = held; home = home })
-    allowed_now (call.Pass End) q state is upper = absurd cc
     allowed_now (call.OnBuffer b e) q state is upper =
         let edits : OnBuffer b e ≡ q = cc in
         let at = current_at H c (moves_in K past) own moves stands (mv.caller e) state.0 in
         let caller : MayEdit H (moves_in K past) c (mv.caller e) =
         record { at_home = at.1; home = at.0; empty = hand_free H c (moves_in K past) own moves stands state.1 } in
         subst (CallAllowed K past c) edits (record { caller = caller; upper = upper })
+    allowed_now other q state is upper = let taken : TakeAll c ≡ q = cc in subst (CallAllowed K past c) taken refl
 
     -- a call that touches nothing shared keeps the agreement
     local_stands : (s : SchedCall E) → StateFor mv s own → queue_call H c s ≡ None → Stands H c (moves_in K past) (local_after s own)
@@ -150,47 +117,24 @@ module _ {E B O : Type 0} (rules : Rules E B O) (mv : MoveRules E O) (opening : 
 
     -- the lock of the call is there
     pub lock_is_there : (q : QueueCall E) → queue_call H c s ≡ Some q → BufferIsThere opening s → IsSome (opening (lock_of q))
-    lock_is_there q is there = go s is there
-      where
-        queue_there : (t : Tid) (home : Option CpuId) → home_of H t ≡ home → IsSome (opening (Pending (or_else c home)))
-        queue_there t None is = fits.queue
-        queue_there t (Some home) is = opens.queues t home is
-
-        go : (s : SchedCall E) → queue_call H c s ≡ Some q → BufferIsThere opening s → IsSome (opening (lock_of q))
-        go (call.Pass Switch) is there = absurd cc
-        go (call.Pass YieldNow) is there = let taken : TakeAll c ≡ q = cc in subst (λ x. IsSome (opening (lock_of x))) taken fits.queue
-        go (call.Pass Drain) is there = let taken : TakeAll c ≡ q = cc in subst (λ x. IsSome (opening (lock_of x))) taken fits.queue
-        go (call.Pass (MakeReady t)) is there =
-            let pushed : Push (queue_for H c t) t ≡ q = cc in
-            subst (λ x. IsSome (opening (lock_of x))) pushed (queue_there t (home_of H t) refl)
-        go (call.Pass End) is there = absurd cc
-        go (call.OnBuffer b e) is there = let edits : OnBuffer b e ≡ q = cc in subst (λ x. IsSome (opening (lock_of x))) edits there
+    lock_is_there q is there = grind arith
 
     -- the call may be polled at the shared queues
     pub call_may : (q : QueueCall E) → queue_call H c s ≡ Some q → MayQueue (QueueAllowed K) past under (event below q)
     call_may q is = subst (λ d. MayQueue (QueueAllowed K) past under (event d q)) (sym fits.cpu) (go under fits.calls may)
       where
-        some_same : (a b : QueueCall E) → Some a ≡ Some b → a ≡ b
-        some_same a b same = cc
-
         go : (o : Option (QueueEvent E)) → UnderFits mv H c o own → MaySched K c past own (sched_under o own.current) s
             → MayQueue (QueueAllowed K) past o (event c q)
         go None calls may = λ more others legal.
             allowed_now c (more ++ past) own legal (stands_on c more past own others legal fits.stands) s q may.0 is
             (upper_stays c past more s may.1 others legal)
-        go (Some e) calls may =
-            let same : e.call ≡ q = some_same e.call q (sym calls.step ∙ (ap (queue_call H c) may ∙ is)) in
-            λ i. event (calls.cpu i) (same i)
+        go (Some e) calls may = grind (arith, same_Some)
 
     -- A call that touches nothing shared.
 
     module _ (none : queue_call H c s ≡ None) where
       pub local_idle : under ≡ None
-      local_idle = go under fits.calls may
-        where
-          go : (o : Option (QueueEvent E)) → UnderFits mv H c o own → MaySched K c past own (sched_under o own.current) s → o ≡ None
-          go None calls may = refl
-          go (Some e) calls may = let shared : None ≡ Some e.call = sym none ∙ (sym (ap (queue_call H c) may) ∙ calls.step) in absurd cc
+      local_idle = grind arith
 
       pub local_fits : PartFits rules mv opening c below table under past (local_after s own)
       local_fits = record {
@@ -217,12 +161,8 @@ module _ {E B O : Type 0} (rules : Rules E B O) (mv : MoveRules E O) (opening : 
           after other none = absurd cc
 
           answers : (s : SchedCall E) → queue_call H c s ≡ None → answer_to K past s ≡ Some Done
-          answers (call.Pass Switch) none = refl
-          answers (call.Pass YieldNow) none = refl
-          answers (call.Pass Drain) none = refl
-          answers (call.Pass (MakeReady t)) none = refl
-          answers (call.Pass End) none = refl
           answers (call.OnBuffer b e) none = absurd cc
+          answers other none = refl
 
     -- A call that is one at the shared queues.
 
@@ -248,9 +188,6 @@ module _ {E B O : Type 0} (rules : Rules E B O) (mv : MoveRules E O) (opening : 
       -- A poll that answers, after these calls of others.
       module _ (answer : QueueAnswer O) (before : List (QueueEvent E)) (legal : Lawful (event c q ∷ before)) (stands_so : Stands H c (moves_in K before) own)
           (answers : answer_of K before q ≡ Some answer) where
-        just : {A : Type 0} (a b : A) → Some a ≡ Some b → a ≡ b
-        just a b same = cc
-
         legal_moves : AreMoves H (moves_in K before)
         legal_moves = moves_lawful K wakes before legal.1
 
@@ -261,7 +198,7 @@ module _ {E B O : Type 0} (rules : Rules E B O) (mv : MoveRules E O) (opening : 
             go : (out : Option O) → out_at K before b e ≡ out → option_map told.Answer out ≡ Some answer
                 → (o : O) × (out_at K before b e ≡ Some o) × (answer ≡ told.Answer o)
             go None is answered = absurd cc
-            go (Some o) is answered = (o, is, sym (just (told.Answer o) answer answered))
+            go (Some o) is answered = (o, is, sym (same_Some (told.Answer o) answer answered))
 
         -- who was woken is away from home, and one of the threads that a machine may have
         settles : (b : BufId) (e : E) → q ≡ OnBuffer b e → (o : O) → out_at K before b e ≡ Some o → MaySettle (mv.woke o) own
@@ -272,12 +209,11 @@ module _ {E B O : Type 0} (rules : Rules E B O) (mv : MoveRules E O) (opening : 
             (known u (or_else c (home_of H u)) home, not_counted u own.ready (away_from H c (moves_in K before) own legal_moves stands_so u away))
 
         may_take_by : (x : QueueCall E) → q ≡ x → MayTake mv answer own
-        may_take_by (Push d t) pushes = subst (λ a. MayTake mv a own) (just told.Done answer (subst (λ x. answer_of K before x ≡ Some answer) pushes answers))
-            tt
+        may_take_by (Push d t) pushes = grind (arith, same_Some)
         may_take_by (TakeAll d) takes =
             let mine : d ≡ c = subst (CallAllowed K before c) takes legal.0 in
             let all : told.Taken (pending_by (moves_in K before) d) ≡ answer =
-            just (told.Taken (pending_by (moves_in K before) d)) answer (subst (λ x. answer_of K before x ≡ Some answer) takes answers) in
+            same_Some (told.Taken (pending_by (moves_in K before) d)) answer (subst (λ x. answer_of K before x ≡ Some answer) takes answers) in
             let joins : MayJoin (pending_by (moves_in K before) c) own = (
               λ t there. (pending_at H c (moves_in K before) own legal_moves stands_so t there).1,
               λ t runs. (
@@ -292,10 +228,10 @@ module _ {E B O : Type 0} (rules : Rules E B O) (mv : MoveRules E O) (opening : 
 
         -- a taking answers the pending queue
         all_taken : q ≡ TakeAll c → told.Taken (pending_by (moves_in K before) c) ≡ answer
-        all_taken takes = just (told.Taken (pending_by (moves_in K before) c)) answer (subst (λ x. answer_of K before x ≡ Some answer) takes answers)
+        all_taken takes = same_Some (told.Taken (pending_by (moves_in K before) c)) answer (subst (λ x. answer_of K before x ≡ Some answer) takes answers)
 
         pushed_done : (d : CpuId) (t : Tid) → q ≡ Push d t → told.Done ≡ answer
-        pushed_done d t pushes = just told.Done answer (subst (λ x. answer_of K before x ≡ Some answer) pushes answers)
+        pushed_done d t pushes = same_Some told.Done answer (subst (λ x. answer_of K before x ≡ Some answer) pushes answers)
 
         -- what the answer leaves agrees with the places after the call
         taken_stands : q ≡ TakeAll c → Stands H c (moves_in K (event c q ∷ before)) (own_by mv H c answer own)
@@ -322,34 +258,17 @@ module _ {E B O : Type 0} (rules : Rules E B O) (mv : MoveRules E O) (opening : 
 
         done_stands : (s : SchedCall E) → StateFor mv s own → queue_call H c s ≡ Some q
             → Stands H c (moves_in K (event c q ∷ before)) (own_by mv H c answer own)
-        done_stands (call.Pass Switch) state is = absurd cc
-        done_stands (call.Pass YieldNow) state is = taken_stands (cc)
-        done_stands (call.Pass Drain) state is = taken_stands (cc)
         done_stands (call.Pass (MakeReady t)) state is = pushed_stands (queue_for H c t) t state (cc)
-        done_stands (call.Pass End) state is = absurd cc
         done_stands (call.OnBuffer b e) state is = edited_stands b e state.0 state.1 (cc)
+        done_stands other state is = taken_stands (cc)
 
         -- it is what the call is to leave
         done_after : (s : SchedCall E) → queue_call H c s ≡ Some q → own_by mv H c answer own ≡ own_after K c before s own
-        done_after (call.Pass Switch) is = absurd cc
-        done_after (call.Pass YieldNow) is = sym (ap (λ a. own_by mv H c a own) (all_taken (cc)))
-        done_after (call.Pass Drain) is = sym (ap (λ a. own_by mv H c a own) (all_taken (cc)))
-        done_after (call.Pass (MakeReady t)) is = sym (ap (λ a. own_by mv H c a own) (pushed_done (queue_for H c t) t (cc)))
-        done_after (call.Pass End) is = absurd cc
-        done_after (call.OnBuffer b e) is =
-            let out = edit_out b e (cc) in
-            ap (λ a. own_by mv H c a own) out.2 ∙ sym (ap (λ o. own_answered mv H c o own) out.1)
+        done_after s is = grind (arith, all_taken, pushed_done)
 
         -- and so is the answer
         done_answer : (s : SchedCall E) → queue_call H c s ≡ Some q → answer_to K before s ≡ Some (answer_by answer)
-        done_answer (call.Pass Switch) is = absurd cc
-        done_answer (call.Pass YieldNow) is = ap (λ a. Some (answer_by a)) (all_taken (cc))
-        done_answer (call.Pass Drain) is = ap (λ a. Some (answer_by a)) (all_taken (cc))
-        done_answer (call.Pass (MakeReady t)) is = ap (λ a. Some (answer_by a)) (pushed_done (queue_for H c t) t (cc))
-        done_answer (call.Pass End) is = absurd cc
-        done_answer (call.OnBuffer b e) is =
-            let out = edit_out b e (cc) in
-            ap (option_map Answer) out.1 ∙ sym (ap (λ a. Some (answer_by a)) out.2)
+        done_answer s is = grind (arith, all_taken, pushed_done)
 
       module _ {ActsFor : CpuId → Type 0} (acts : ActsFor c) {new : List (QueueEvent E)} {answer : QueueAnswer O}
           (polled : QueuePolled K ActsFor (event below q) (Some answer) past new)
@@ -394,11 +313,10 @@ module _ {E B O : Type 0} (rules : Rules E B O) (mv : MoveRules E O) (opening : 
   -- Other CPUs' parts.
 
   -- what others do keeps a part in agreement with the machine
-  pub grown_fits : (d below : CpuId) (table : List CpuId) (under : Option (QueueEvent E)) (past : List (QueueEvent E)) (own : Threads)
-      (more new : List (QueueEvent E))
+  grown_fits : {d below : CpuId} {table : List CpuId} {under : Option (QueueEvent E)} {past : List (QueueEvent E)} {own : Threads} (more new : List (QueueEvent E))
       → AreOthers cpu_of_queue_event d more → new ≡ more ++ past → Lawful new → PartFits rules mv opening d below table under past own
       → PartFits rules mv opening d below table under new own
-  grown_fits d below table under past own more new others is legal fits = record {
+  grown_fits {d} {past = past} {own = own} more new others is legal fits = record {
     cpu = fits.cpu;
     homes = fits.homes;
     queue = fits.queue;
@@ -412,15 +330,13 @@ module _ {E B O : Type 0} (rules : Rules E B O) (mv : MoveRules E O) (opening : 
       (past new : List (QueueEvent E)) (own : Threads) → ActsFor d → same_cpu c d ≡ false → QueuePolled K ActsFor (event c q) result past new → Lawful new
       → PartFits rules mv opening d below table under past own → PartFits rules mv opening d below table under new own
   other_fits ActsFor c d below table under q None past new own acts other polled legal fits =
-      grown_fits d below table under past own polled.others new (polled.foreign d acts) polled.is legal fits
+      grown_fits polled.others new (polled.foreign d acts) polled.is legal fits
   other_fits ActsFor c d below table under q (Some answer) past new own acts other polled legal fits =
-      grown_fits d below table under past own (event c q ∷ polled.others) new (other, polled.foreign d acts) polled.is legal fits
+      grown_fits (event c q ∷ polled.others) new (other, polled.foreign d acts) polled.is legal fits
 
   -- and one more look at a section that waits
-  pub looked_fits : (ActsFor : CpuId → Type 0) (d below below' : CpuId) (table : List CpuId) (under under' : Option (QueueEvent E))
-      (past new : List (QueueEvent E)) (own : Threads)
-      → ActsFor d → Grows ActsFor cpu_of_queue_event past new → Lawful new → below' ≡ below → under' ≡ under
+  pub looked_fits : {ActsFor : CpuId → Type 0} {d below below' : CpuId} {table : List CpuId} {under under' : Option (QueueEvent E)}
+      {past new : List (QueueEvent E)} {own : Threads} → Grows ActsFor cpu_of_queue_event past new → ActsFor d → Lawful new → below' ≡ below → under' ≡ under
       → PartFits rules mv opening d below table under past own → PartFits rules mv opening d below' table under' new own
-  looked_fits ActsFor d below below' table under under' past new own acts grows legal same goes fits =
-      subst₂ (λ x u. PartFits rules mv opening d x table u new own) (sym same) (sym goes)
-      (grown_fits d below table under past own grows.others new (grows.foreign d acts) grows.is legal fits)
+  looked_fits {d = d} {table = table} {new = new} {own = own} grows acts legal same goes fits =
+      subst₂ (λ x u. PartFits rules mv opening d x table u new own) (sym same) (sym goes) (grown_fits grows.others new (grows.foreign d acts) grows.is legal fits)

@@ -1,11 +1,9 @@
 -- What a CPU's own threads must be like for a change of them to be one, and what a call leaves that touches nothing shared.
 use Rattle.std.specs.Prelude.{◌≡◌, ◌<◌, false, List, ◌++◌, Option, Some}
-use Rattle.event_log.specs.declared.ids.{Tid.Tid, TheConstants.THREADS}
-use Rattle.thread_blocks.specs.Queues.{is_in, AreApart}
-use Rattle.layer_traits.specs.{declared.passes.Pass.Pass, declared.queues.QueueAnswer.QueueAnswer, declared.queues.QueueAnswer.TheVariants.Done}
-use Rattle.layer_traits.specs.{declared.queues.QueueAnswer.TheVariants.Taken, declared.queues.QueueAnswer.TheVariants.Answer}
-use Rattle.layer_traits.specs.{declared.scheds.SchedCall.SchedCall, MoveRules.MoveRules, Passes.switched, Passes.finished, Places.Threads}
-use Rattle.layer_traits.specs.declared.passes.Pass.TheVariants.{Switch, YieldNow, Drain, MakeReady, End}
+use Rattle.{event_log.specs.declared.ids.{Tid.Tid, TheConstants.THREADS}, thread_blocks.specs.Queues.{is_in, AreApart}}
+use Rattle.layer_traits.specs.declared.{passes.Pass.{Pass, TheVariants.{Switch, YieldNow, Drain, MakeReady, End}}, queues.QueueAnswer.QueueAnswer}
+use Rattle.layer_traits.specs.{declared.{queues.QueueAnswer.TheVariants.{Done, Taken, Answer}, scheds.SchedCall.SchedCall}, MoveRules.MoveRules}
+use Rattle.layer_traits.specs.{Passes.{switched, finished}, Places.Threads}
 use Rattle.layer_traits.specs.declared.scheds.SchedCall.TheVariants as call
 
 -- the thread that runs may end: it has not ended yet

@@ -1,12 +1,11 @@
 -- A CPU's part of a scheduler: which scheduler's call is under way by the call at the shared queues, and how the part agrees with the
 -- machine.
 use Rattle.std.specs.Prelude.{◌≡◌, List, Option, Some, None, IsSome}
-use Rattle.event_log.specs.declared.ids.{CpuId.CpuId, LockId.LockId, LockId.TheVariants.Pending, Tid.Tid}
-use Rattle.layer_traits.specs.{declared.passes.Pass.TheVariants.YieldNow, declared.passes.Pass.TheVariants.Drain, declared.passes.Pass.TheVariants.MakeReady}
-use Rattle.layer_traits.specs.{declared.queue_edits.QueueBlock.QueueBlock, declared.queues.QueueCall.QueueCall, declared.queues.QueueCall.TheVariants.Push}
-use Rattle.layer_traits.specs.{declared.queues.QueueCall.TheVariants.TakeAll, declared.queues.QueueCall.TheVariants.OnBuffer}
-use Rattle.layer_traits.specs.{declared.queues.QueueEvent.QueueEvent, declared.scheds.SchedCall.SchedCall, MoveRules.MoveRules, Places.Threads, Places.Stands}
-use Rattle.layer_traits.specs.{Protocol.Rules, QueueBlocks.homes_in, Queues.kernel, Queues.moves_in, Scheds.StateFor, Scheds.queue_call}
+use Rattle.event_log.specs.declared.ids.{CpuId.CpuId, LockId.{LockId, TheVariants.Pending}, Tid.Tid}
+use Rattle.layer_traits.specs.declared.{passes.Pass.TheVariants.{YieldNow, Drain, MakeReady}, queue_edits.QueueBlock.QueueBlock, queues.QueueCall.QueueCall}
+use Rattle.layer_traits.specs.declared.{queues.{QueueCall.TheVariants.{Push, TakeAll, OnBuffer}, QueueEvent.QueueEvent}, scheds.SchedCall.SchedCall}
+use Rattle.layer_traits.specs.{MoveRules.MoveRules, Places.{Threads, Stands}, Protocol.Rules, QueueBlocks.homes_in, Queues.{kernel, moves_in}, Scheds.StateFor}
+use Rattle.layer_traits.specs.Scheds.{queue_call}
 use Rattle.layer_traits.specs.declared.scheds.SchedCall.TheVariants as call
 
 -- the scheduler's call that is at the shared queues with this call: a taking is a yield where a thread runs, and else a drain

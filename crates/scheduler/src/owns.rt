@@ -3,9 +3,8 @@
 //! No call takes memory, and none waits.
 
 ghost use Rattle.std.specs.Prelude.{◌≡◌, ◌≤◌, length};
-ghost use Rattle.event_log.specs.declared.ids.TheConstants.{THREADS};
-ghost use Rattle.layer_traits.specs.{Places.at_boot, Places.home_of, Places.is_cpu, Passes.switched, Passes.took, Passes.passed_on, Passes.finished};
-ghost use Rattle.layer_traits.specs.{Passes.own_slept, Passes.own_woken, Scheds.own_by, Scheds.answer_by, Payloads.queue_told, Payloads.sched_told};
+ghost use Rattle.{event_log.specs.declared.ids.TheConstants.THREADS, layer_traits.specs.{Places.{at_boot, home_of, is_cpu}, Passes.{switched, took}}};
+ghost use Rattle.layer_traits.specs.{Passes.{passed_on, finished, own_slept, own_woken}, Scheds.{own_by, answer_by}, Payloads.{queue_told, sched_told}};
 ghost use Rattle.scheduler.specs.Owns.{MayFinish, MayJoin, MaySettle, MayTake, passed_by};
 
 use event_log::{CpuId, Tid};

@@ -24,7 +24,7 @@ pub struct Sched<Q> {
 
 impl<E: Moves, Q: Layer<QueueLaw<E>>> Layer<SchedLaw<E>> for Sched<Q> {
     ghost use Rattle.std.proofs.Common.{◌∙◌, subst, sym};
-    ghost use Rattle.scheduler.specs.{Laws.Parts.busy_under, Laws.Parts.none_under, Laws.Parts.under_is_some, Parts.PartFits, Parts.sched_under};
+    ghost use Rattle.scheduler.specs.{Laws.Parts.{busy_under, none_under, under_is_some}, Parts.{PartFits, sched_under}};
 
     type Machine = Q::Machine;
 
@@ -137,10 +137,8 @@ impl<E: Moves, Q: Layer<QueueLaw<E>>> Layer<SchedLaw<E>> for Sched<Q> {
 }
 
 impl<E: Moves, Q: OwnedLayer<QueueLaw<E>>> OwnedLayer<SchedLaw<E>> for Sched<Q> {
-    ghost use Rattle.layer_traits.proofs.OwnedLemmas.{shown_under};
-    ghost use Rattle.std.specs.Prelude.{Some};
-    ghost use Rattle.event_log.specs.{Sections.block_after, declared.ids.LockId.TheVariants.Buffer};
-    ghost use Rattle.layer_traits.specs.{Places.pending_by, QueueBlocks.inner, Queues.buffer_sections, Queues.kernel, Queues.moves_in};
+    ghost use Rattle.layer_traits.{proofs.OwnedLemmas.shown_under, specs.{Places.pending_by, QueueBlocks.inner, Queues.{buffer_sections, kernel, moves_in}}};
+    ghost use Rattle.{std.specs.Prelude.Some, event_log.specs.{Sections.block_after, declared.ids.LockId.TheVariants.Buffer}};
 
     ghost block_at = { λ m b. Q.block_at m b };
 

@@ -1,13 +1,10 @@
 -- The locks with which shared queues open are distinct, and each opens with its block.
 use Rattle.std.proofs.Common.{◌≡◌, ◌≢◌, ◌≤◌, ◌<◌, ℕ, zero, suc, ◌+◌, Bool, true, false, All, List, [], ◌∷◌, ◌++◌, length, Option, Some, None, IsSome}
-use Rattle.std.proofs.Common.{if◌then◌else◌, refl, ap, sym, ◌∙◌, subst, arith, append-nil, slice_get, ◌==◌}
-use Rattle.std.proofs.lemmas.{Bool.eq-eqb, Bool.eqb-false, Bool.ne_eqb, Option.get_or_from_slice_get, Option.slice_get_within}
-use Rattle.event_log.specs.{declared.ids.BufId.BufId, declared.ids.CpuId.CpuId, declared.ids.LockId.LockId, declared.ids.LockId.TheVariants.Pending}
-use Rattle.event_log.specs.{declared.ids.LockId.TheVariants.Buffer, declared.ids.TheConstants.THREADS, History.same_lock}
-use Rattle.event_log.proofs.Same.{same_lock_true}
-use Rattle.layer_traits.specs.declared.queue_edits.QueueBlock.{QueueBlock, TheVariants.Queue, TheVariants.Above}
-use Rattle.layer_traits.specs.{OneLock.AreDistinct, OneLock.IsMissing, OneLock.opened, Places.home_of, QueueBlocks.StartsAs, QueueBlocks.StartsWell}
-use Rattle.layer_traits.specs.{QueueBlocks.above_of, QueueBlocks.homes_in, QueueBlocks.homes_of, QueueBlocks.inner}
+use Rattle.std.proofs.{Common.{if◌then◌else◌, refl, ap, sym, ◌∙◌, subst, arith, append-nil, slice_get, ◌==◌}, lemmas.Bool.{eq-eqb, eqb-false, ne_eqb}}
+use Rattle.{std.proofs.lemmas.Option.{get_or_from_slice_get, slice_get_within}, event_log.specs.declared.ids.{BufId.BufId, CpuId.CpuId, LockId.LockId}}
+use Rattle.event_log.{specs.{declared.ids.{LockId.TheVariants.{Pending, Buffer}, TheConstants.THREADS}, History.same_lock}, proofs.Same.same_lock_true}
+use Rattle.layer_traits.specs.{declared.queue_edits.QueueBlock.{QueueBlock, TheVariants.{Queue, Above}}, OneLock.{AreDistinct, IsMissing, opened}}
+use Rattle.layer_traits.specs.{Places.home_of, QueueBlocks.{StartsAs, StartsWell, above_of, homes_in, homes_of, inner}}
 use Rattle.shared_queue.specs.Opening.{AreEmptyQueues, AreQueues, IsEmptyQueue, buffers_from}
 
 each_within : (n : ℕ) (homes : List CpuId) (i : ℕ) (home : CpuId) → All (λ h. h.0 < n) homes → slice_get homes i ≡ Some home → home.0 < n
@@ -18,10 +15,7 @@ module _ {B : Type 0} (homes : List CpuId) where
   -- one queue more
   pub queues_more : (n k : ℕ) (locks : List (LockId × QueueBlock B)) (block : QueueBlock B) → AreEmptyQueues homes n locks → n + length locks ≡ k
       → IsEmptyQueue homes block → AreEmptyQueues homes n (locks ++ (Pending (record { 0 = k }), block) ∷ [])
-  queues_more n k [] block are count empty = (ap (λ m. Pending (record { 0 = m })) (sym (go count)), empty, tt)
-    where
-      go : n + 0 ≡ k → n ≡ k
-      go is = omega (arith, is)
+  queues_more n k [] block are count empty = let here : k ≡ n = omega (arith, count) in (ap (λ m. Pending (record { 0 = m })) here, empty, tt)
   queues_more n k (o ∷ locks) block are count empty = (are.0, are.1, queues_more (n + 1) k locks block are.2 (omega (arith, count)) empty)
 
   -- once no block is left, all locks are there
@@ -144,9 +138,7 @@ module _ {B : Type 0} (homes : List CpuId) where
     queues_there c less = is_there (opened (locks ++ buffers_from 0 blocks) (Pending c)) (queue_there c less)
 
     pub homes_read : homes_in (opened (locks ++ buffers_from 0 blocks)) ≡ homes
-    homes_read =
-        let some = queues.some in
-        tells (opened (locks ++ buffers_from 0 blocks) (Pending (record { 0 = 0 }))) (queue_there (record { 0 = 0 }) (omega (arith, some)))
+    homes_read = tells (opened (locks ++ buffers_from 0 blocks) (Pending (record { 0 = 0 }))) (queue_there (record { 0 = 0 }) (omega (arith, queues.some)))
 
     pub starts_well : StartsWell (opened (locks ++ buffers_from 0 blocks))
     starts_well = record {

@@ -1,8 +1,7 @@
 -- The locks with which shared queues open: an empty pending queue for each CPU, and a block for each buffer.
 use Rattle.std.specs.Prelude.{◌≡◌, ◌<◌, ◌≤◌, ℕ, ◌+◌, All, List, [], ◌∷◌, length}
-use Rattle.event_log.specs.declared.ids.{CpuId.CpuId, LockId.LockId, LockId.TheVariants.Pending, LockId.TheVariants.Buffer, TheConstants.BUFFERS}
-use Rattle.event_log.specs.declared.ids.{TheConstants.CPUS, TheConstants.THREADS}
-use Rattle.layer_traits.specs.declared.queue_edits.QueueBlock.{QueueBlock, TheVariants.Queue, TheVariants.Above}
+use Rattle.event_log.specs.declared.ids.{CpuId.CpuId, LockId.{LockId, TheVariants.{Pending, Buffer}}, TheConstants.{BUFFERS, CPUS, THREADS}}
+use Rattle.layer_traits.specs.declared.queue_edits.QueueBlock.{QueueBlock, TheVariants.{Queue, Above}}
 
 -- so many CPUs, these homes and so many buffers make a machine: it has a CPU, each home is one of its CPUs, and no limit is passed
 pub record AreQueues (cpus : ℕ) (homes : List CpuId) (buffers : ℕ) : Type 0 where

@@ -3,10 +3,9 @@
 //! `queue_blocks` takes all memory that the blocks need, and does not wait.
 
 ghost use Rattle.std.specs.Prelude.{◌≡◌, ◌+◌, ◌≤◌, ◌<◌, ◌++◌, IsSome, IfOk, length, slice_get, vec_len, vec_capacity};
-ghost use Rattle.event_log.specs.declared.ids.{LockId.TheVariants.Pending, LockId.TheVariants.Buffer, TheConstants.BUFFERS, TheConstants.CPUS};
-ghost use Rattle.event_log.specs.declared.ids.{TheConstants.THREADS};
-ghost use Rattle.layer_traits.specs.{OneLock.AreDistinct, OneLock.opened, QueueBlocks.StartsWell, QueueBlocks.homes_in, QueueBlocks.inner};
-ghost use Rattle.shared_queue.specs.Opening.{AreEmptyQueues, AreQueues, buffers_from};
+ghost use Rattle.event_log.specs.declared.ids.{LockId.TheVariants.{Pending, Buffer}, TheConstants.{BUFFERS, CPUS, THREADS}};
+ghost use Rattle.{layer_traits.specs.{OneLock.{AreDistinct, opened}, QueueBlocks.{StartsWell, homes_in, inner}}, shared_queue.specs.Opening.AreEmptyQueues};
+ghost use Rattle.shared_queue.specs.Opening.{AreQueues, buffers_from};
 
 use event_log::{BufId, CpuId, LockId, NoMemory};
 use layer_traits::{BlockBox, QueueBlock, kept_homes};

@@ -33,11 +33,9 @@ pub struct SharedQueues<L> {
 }
 
 impl<E: Moves, L: Layer<LockLaw<QueueEdit<E>>>> Layer<QueueLaw<E>> for SharedQueues<L> {
-    ghost use Rattle.std.specs.Prelude.{map, option_map};
-    ghost use Rattle.std.proofs.Common.{ap, ◌∙◌, subst, sym};
-    ghost use Rattle.layer_traits.specs.{QueueBlocks.StartsWell, QueueRules.AreProper, QueueRules.IsProperCall, Queues.event_of};
-    ghost use Rattle.layer_traits.proofs.NestedLemmas.{known_events, lawful_events, lawful_proper};
-    ghost use Rattle.shared_queue.specs.Laws.SharedLaws.{none_beneath, same_busy};
+    ghost use Rattle.std.{specs.Prelude.{map, option_map}, proofs.Common.{ap, ◌∙◌, subst, sym}};
+    ghost use Rattle.layer_traits.{specs.{QueueBlocks.StartsWell, QueueRules.{AreProper, IsProperCall}, Queues.event_of}, proofs.NestedLemmas.known_events};
+    ghost use Rattle.{layer_traits.proofs.NestedLemmas.{lawful_events, lawful_proper}, shared_queue.specs.Laws.SharedLaws.{none_beneath, same_busy}};
 
     type Machine = L::Machine;
 
@@ -133,11 +131,9 @@ impl<E: Moves, L: Layer<LockLaw<QueueEdit<E>>>> Layer<QueueLaw<E>> for SharedQue
 }
 
 impl<E: Moves, L: OwnedLocks<QueueEdit<E>>> OwnedLayer<QueueLaw<E>> for SharedQueues<L> {
-    ghost use Rattle.std.specs.Option.{option_and_then};
-    ghost use Rattle.event_log.specs.{declared.ids.LockId.TheVariants.Buffer, declared.ids.LockId.TheVariants.Pending, Sections.block_after};
-    ghost use Rattle.layer_traits.proofs.OwnedLemmas.{shown_under};
-    ghost use Rattle.layer_traits.specs.{QueueBlocks.StartsWell, QueueRules.IsProperCall, QueueRules.queue_edited};
-    ghost use Rattle.shared_queue.specs.{Laws.OwnedLaws.buffer_shown, Laws.OwnedLaws.queue_shown, OwnedLaws.above_in, OwnedLaws.queue_in, OwnedLaws.observers};
+    ghost use Rattle.{std.specs.Option.option_and_then, event_log.specs.{declared.ids.LockId.TheVariants.{Buffer, Pending}, Sections.block_after}};
+    ghost use Rattle.layer_traits.{proofs.OwnedLemmas.shown_under, specs.{QueueBlocks.StartsWell, QueueRules.{IsProperCall, queue_edited}}};
+    ghost use Rattle.shared_queue.specs.{Laws.OwnedLaws.{buffer_shown, queue_shown}, OwnedLaws.{above_in, queue_in, observers}};
 
     ghost block_at = { λ m b. option_and_then above_in (L.block_at m (Buffer b)) };
 

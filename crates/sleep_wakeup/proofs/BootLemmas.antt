@@ -1,12 +1,9 @@
 -- The blocks of a machine at boot: nobody sleeps, and each buffer is there.
 use Rattle.std.proofs.Common.{◌≡◌, List, [], Option, Some, None, IsSome, Result, Ok, Err, IfOk, map, option_map, refl, ap, ◌∙◌, slice_get}
-use Rattle.event_log.specs.declared.ids.{CpuId.CpuId, BufId.BufId, LockId.LockId, LockId.TheVariants.Pending, LockId.TheVariants.Buffer}
-use Rattle.layer_traits.specs.{declared.moves.WaitList.WaitList, declared.moves.WaitList.TheVariants.Sleepers, declared.moves.WaitList.TheVariants.Receivers}
-use Rattle.layer_traits.specs.{declared.moves.WaitList.TheVariants.Senders, declared.queue_edits.QueueBlock.QueueBlock, QueueBlocks.StartsAs}
-use Rattle.layer_traits.specs.{QueueBlocks.StartsWell, QueueBlocks.above_of, QueueBlocks.inner, Renaming.viewed, Sleeping.NobodySleeps, Sleeping.wait_list_at}
-use Rattle.layer_traits.proofs.KernelRenaming.{inner_viewed}
-use Rattle.std.proofs.lemmas.Option.{slice_get-map}
-use Rattle.sleep_wakeup.specs.{declared.edits.SleepBlock.SleepBlock, Nested.resting, Nested.state_of}
+use Rattle.{std.proofs.lemmas.Option.slice_get-map, event_log.specs.declared.ids.{CpuId.CpuId, BufId.BufId, LockId.{LockId, TheVariants.{Pending, Buffer}}}}
+use Rattle.layer_traits.specs.{declared.{moves.WaitList.{WaitList, TheVariants.Sleepers}, queue_edits.QueueBlock.QueueBlock}, QueueBlocks.StartsAs}
+use Rattle.layer_traits.specs.{QueueBlocks.{StartsWell, above_of, inner}, Renaming.viewed, Sleeping.{NobodySleeps, wait_list_at}}
+use Rattle.{layer_traits.proofs.KernelRenaming.inner_viewed, sleep_wakeup.specs.{declared.edits.SleepBlock.SleepBlock, Nested.{resting, state_of}}}
 use Rattle.layer_traits.specs.declared.queue_edits.QueueBlock.TheVariants as block
 
 -- what follows from what an Ok value is
@@ -22,8 +19,7 @@ there_inside (Some b) some = refl
 no_wait_list : {B : Type 0} (line : WaitList) (o : Option B) → wait_list_at line (option_map state_of (option_map resting o)) ≡ []
 no_wait_list line None = refl
 no_wait_list Sleepers (Some above) = refl
-no_wait_list Receivers (Some above) = refl
-no_wait_list Senders (Some above) = refl
+no_wait_list line (Some above) = refl
 
 -- nobody sleeps where each buffer has a block at rest
 pub nobody_at_boot : {B : Type 0} (opening : LockId → Option (QueueBlock (SleepBlock B))) (above : List B) → StartsWell opening

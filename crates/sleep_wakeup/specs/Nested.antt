@@ -1,12 +1,9 @@
 -- A section's edit with the waiting lists of its lock, as an edit of what the lock guards.
-use Rattle.std.specs.Prelude.{List, [], Option, map, option_map}
-use Rattle.event_log.specs.{declared.ids.LockId.LockId, Sections.Section, Sections.renamed_section}
-use Rattle.layer_traits.specs.{declared.moves.WaitList.TheVariants.Sleepers, declared.moves.WaitList.TheVariants.Receivers}
-use Rattle.layer_traits.specs.{declared.moves.WaitList.TheVariants.Senders, declared.payloads.Parcel.Parcel, declared.payloads.Payload.Payload}
-use Rattle.layer_traits.specs.{declared.sleeps.Outcome.Outcome, MoveRules.MoveRules, Payloads.outcome_told, Protocol.Rules, Sleeping.IsAwake}
-use Rattle.layer_traits.specs.{Sleeping.NobodySleeps, Sleeping.SleepRules, Sleeping.SleepState, Sleeping.wait_list_after, Sleeping.sleep_answer}
-use Rattle.sleep_wakeup.specs.declared.edits.{SleepBlock.SleepBlock, SleepEdit.SleepEdit}
-use Rattle.thread_blocks.specs.Queues.{first}
+use Rattle.{std.specs.Prelude.{List, [], Option, map, option_map}, event_log.specs.{declared.ids.LockId.LockId, Sections.{Section, renamed_section}}}
+use Rattle.layer_traits.specs.declared.{moves.WaitList.TheVariants.{Sleepers, Receivers, Senders}, payloads.{Parcel.Parcel, Payload.Payload}}
+use Rattle.layer_traits.specs.{declared.sleeps.Outcome.Outcome, MoveRules.MoveRules, Payloads.outcome_told, Protocol.Rules, Sleeping.{IsAwake, NobodySleeps}}
+use Rattle.{layer_traits.specs.Sleeping.{SleepRules, SleepState, wait_list_after, sleep_answer}, sleep_wakeup.specs.declared.edits.SleepBlock.SleepBlock}
+use Rattle.{sleep_wakeup.specs.declared.edits.SleepEdit.SleepEdit, thread_blocks.specs.Queues.first}
 
 -- the edit of the layer above
 abbrev pub edit_in : {E : Type 0} → SleepEdit E → E

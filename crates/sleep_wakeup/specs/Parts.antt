@@ -1,10 +1,9 @@
 -- A part of the layer: the call under way, its own state, and what the scheduler's answer leaves.
 use Rattle.std.specs.Prelude.{◌≡◌, Bool, not, ◌&&◌, Option, Some, None, is_some, option_map, if◌then◌else◌}
-use Rattle.event_log.specs.declared.ids.{BufId.BufId, Tid.Tid}
-use Rattle.layer_traits.specs.{declared.passes.Pass.TheVariants.MakeReady, declared.payloads.Parcel.Parcel, declared.scheds.SchedCall.SchedCall}
-use Rattle.layer_traits.specs.{declared.sleeps.Outcome.Outcome, Payloads.outcome_told, Places.Threads, Renaming.renamed_sched, SleepLaw.Sleeping}
-use Rattle.layer_traits.specs.declared.scheds.SchedAnswer.{SchedAnswer, TheVariants.Done, TheVariants.Answer}
-use Rattle.sleep_wakeup.specs.{declared.edits.SleepEdit.SleepEdit, declared.deferred.DeferredOutcome.DeferredOutcome, Nested.edit_in}
+use Rattle.{event_log.specs.declared.ids.{BufId.BufId, Tid.Tid}, layer_traits.specs.declared.{passes.Pass.TheVariants.MakeReady, payloads.Parcel.Parcel}}
+use Rattle.layer_traits.specs.declared.{scheds.{SchedCall.SchedCall, SchedAnswer.{SchedAnswer, TheVariants.{Done, Answer}}}, sleeps.Outcome.Outcome}
+use Rattle.layer_traits.specs.{Payloads.outcome_told, Places.Threads, Renaming.renamed_sched, SleepLaw.Sleeping}
+use Rattle.sleep_wakeup.specs.{declared.{edits.SleepEdit.SleepEdit, deferred.DeferredOutcome.DeferredOutcome}, Nested.edit_in}
 use Rattle.layer_traits.specs.declared.scheds.SchedCall.TheVariants as call
 
 -- an edit of the layer above as an edit here

@@ -1,8 +1,8 @@
 //! The outcome of a section whose answer waits until the thread that it woke has left the hand.
 
 ghost use Rattle.std.specs.Prelude.{◌≡◌, Some, None, option_map};
-ghost use Rattle.layer_traits.specs.{declared.scheds.SchedAnswer.TheVariants.Done, SleepLaw.due};
-ghost use Rattle.sleep_wakeup.specs.Parts.{answer_reported, as_edit, deferred_of_answer, done_of, parcel_reported};
+ghost use Rattle.{layer_traits.specs.{declared.scheds.SchedAnswer.TheVariants.Done, SleepLaw.due}, sleep_wakeup.specs.Parts.{answer_reported, as_edit}};
+ghost use Rattle.sleep_wakeup.specs.Parts.{deferred_of_answer, done_of, parcel_reported};
 
 use crate::edits::SleepEdit;
 use event_log::{BufId, Tid};
@@ -24,7 +24,6 @@ pub struct DeferredOutcome<E, B> {
 
 /// The edit that is meant, for clauses alone. It is made before the poll beneath, which writes the
 /// payload.
-#[inline(always)]
 pub(crate) fn kept_edit<E: Sleeps>(handed: &E::Handed, payload: &Payload) -> Ghost<E>
     ensures { result ≡ E.meant handed.now payload.now.parcel }
 {
@@ -68,6 +67,24 @@ pub(crate) fn complete<E, B: Drop>(
             Some(outcome)
         }
     }
+}
+
+/// Does as [`complete`] after a pass that sent the thread in the hand home. It stands out of line, as
+/// few polls do so.
+#[inline(never)]
+pub(crate) fn complete_home<E, B: Drop>(
+    deferred: &mut Option<DeferredOutcome<E, B>>,
+    hand: Option<Tid>,
+    buffer: BufId,
+    edit: Ghost<E>,
+    answer: SchedAnswer<Outcome<B>>,
+    payload: &mut Payload,
+) -> Option<Outcome<B>>
+    ensures deferred { deferred.new ≡ deferred_of_answer hand buffer edit answer payload.old.parcel }
+    ensures answer { result ≡ answer_reported deferred.old hand answer }
+    ensures parcel { payload.new.parcel ≡ parcel_reported deferred.old answer payload.old.parcel }
+{
+    complete(deferred, hand, buffer, edit, answer, payload)
 }
 
 /// Gives the outcome that is kept, if one is, with its parcel in the payload. It stands out of line, as

@@ -1,9 +1,8 @@
 //! A section's edit with the waiting lists of its lock. No call takes memory or waits.
 
 ghost use Rattle.std.specs.Prelude.{◌≡◌};
-ghost use Rattle.layer_traits.specs.declared.moves.WaitList.TheVariants.{Sleepers, Receivers, Senders};
-ghost use Rattle.layer_traits.specs.{Owned.wait_list_with, Sleeping.joined, Sleeping.left, Sleeping.wait_list_joined, Sleeping.woken};
-ghost use Rattle.sleep_wakeup.specs.Nested.{state_of};
+ghost use Rattle.layer_traits.specs.{declared.moves.WaitList.TheVariants.{Sleepers, Receivers, Senders}, Owned.wait_list_with, Sleeping.{joined, left}};
+ghost use Rattle.{layer_traits.specs.Sleeping.{wait_list_joined, woken}, sleep_wakeup.specs.Nested.state_of};
 
 use event_log::{THREADS, Tid};
 use layer_traits::{Edit, Moves, Outcome, Payload, Sleeps, SplitEdit, WaitList, Wake, WholeSleeps};
@@ -31,7 +30,6 @@ pub struct SleepBlock<B> {
 
 /// Puts `t` at the end of a waiting list, if it is a thread that a machine may have and does not
 /// stand there yet.
-#[inline(always)]
 fn join(queue: &mut ThreadQueue, t: Tid)
     ensures { queue.new ≡ joined t queue.old }
 {
@@ -125,7 +123,6 @@ impl<E: Sleeps> SplitEdit for SleepEdit<E> {
 
     ghost told = { nested_told E.told };
 
-    #[inline(always)]
     fn whole(handed: &SleepEdit<E::Handed>, payload: &Payload) -> SleepEdit<E> {
         SleepEdit {
             edit: E::whole(&handed.edit, &payload.parcel),

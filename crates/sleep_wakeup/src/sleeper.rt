@@ -1,13 +1,13 @@
 //! The layer of sections that put threads to sleep and wake them.
 
 ghost use Rattle.std.specs.Prelude.{◌≡◌, ◌<◌, IsSome, OnSome};
-ghost use Rattle.layer_traits.specs.{declared.passes.Pass.TheVariants.MakeReady, Framed.Framed, Payloads.sched_told, Payloads.told_by, Plans.Follows};
-ghost use Rattle.layer_traits.specs.{Plans.table_of, Polls.until_answered, QueueBlocks.homes_in, QueueRules.queue_rules, Scheds.MaySched, Scheds.SchedPolled};
-ghost use Rattle.layer_traits.specs.{Queues.kernel, Scheds.sched_plan};
+ghost use Rattle.layer_traits.specs.{declared.passes.Pass.TheVariants.MakeReady, Framed.Framed, Payloads.{sched_told, told_by}, Plans.{Follows, table_of}};
+ghost use Rattle.layer_traits.specs.{Polls.until_answered, QueueBlocks.homes_in, QueueRules.queue_rules, Scheds.{MaySched, SchedPolled, sched_plan}};
+ghost use Rattle.layer_traits.specs.Queues.{kernel};
 ghost use Rattle.layer_traits.specs.declared.scheds.SchedCall.TheVariants as call;
 ghost use Rattle.sleep_wakeup.specs.Nested.{nested_moves, nested_rules, nested_told};
 
-use crate::deferred::{DeferredOutcome, complete, done, kept_edit, section};
+use crate::deferred::{DeferredOutcome, complete, complete_home, done, kept_edit, section};
 use crate::edits::{SleepEdit, wait_list_in_block};
 use event_log::{BufId, CpuId, Tid};
 use layer_traits::{
@@ -52,12 +52,11 @@ fn send_home<E: Sleeps, S: Layer<SchedLaw<SleepEdit<E>>>>(
 
 impl<E: Sleeps, S: Layer<SchedLaw<SleepEdit<E>>>> ThreadLayer<SleepLaw<E>> for Sleeper<E, S> {
     ghost use Rattle.std.proofs.Common.{map, option_map, ap, ◌∙◌};
-    ghost use Rattle.event_log.specs.Actions.{renamed};
-    ghost use Rattle.event_log.proofs.Renaming.{legal_renamed};
-    ghost use Rattle.layer_traits.specs.{QueueBlocks.inner, Renaming.renamed_edit, Renaming.renamed_events, Renaming.viewed, Sleeping.NobodySleeps};
-    ghost use Rattle.layer_traits.proofs.KernelRenaming.{known_renamed, proper_renamed, seen_renamed, starts_viewed};
-    ghost use Rattle.sleep_wakeup.specs.Laws.NestedLaws.{nested_busy, nested_idle, nested_lawful, nested_lists, nested_moves_legal, nested_stands};
-    ghost use Rattle.sleep_wakeup.specs.{Nested.edit_in, Nested.state_of, Nested.states, Parts.DeferredFits, Parts.deferred_told, Parts.own_of, Parts.under_of};
+    ghost use Rattle.{event_log.{specs.Actions.renamed, proofs.Renaming.legal_renamed}, layer_traits.specs.{QueueBlocks.inner, Renaming.renamed_edit}};
+    ghost use Rattle.layer_traits.{specs.{Renaming.{renamed_events, viewed}, Sleeping.NobodySleeps}, proofs.KernelRenaming.{known_renamed, proper_renamed}};
+    ghost use Rattle.{layer_traits.proofs.KernelRenaming.{seen_renamed, starts_viewed}, sleep_wakeup.specs.Laws.NestedLaws.{nested_busy, nested_idle}};
+    ghost use Rattle.sleep_wakeup.specs.{Laws.NestedLaws.{nested_lawful, nested_lists, nested_moves_legal, nested_stands}, Nested.{edit_in, state_of, states}};
+    ghost use Rattle.sleep_wakeup.specs.Parts.{DeferredFits, deferred_told, own_of, under_of};
 
     type Machine = S::Machine;
 
@@ -132,28 +131,22 @@ impl<E: Sleeps, S: Layer<SchedLaw<SleepEdit<E>>>> ThreadLayer<SleepLaw<E>> for S
         payload: &mut Payload,
     ) -> Option<Outcome<E::Brought>> {
         let BufferCall { buffer, edit } = call;
-        // Two arms in full, as one that polls either call would copy the edit with the other's bytes.
+        let kept = kept_edit::<E>(&edit, payload);
         match self.lower.own_here().hand() {
-            None => {
-                let kept = kept_edit::<E>(&edit, payload);
-                match self.lower.poll(m, section(buffer, edit), payload) {
-                    None => None,
-                    Some(answer) => {
-                        let hand = self.lower.own_here().hand();
-                        complete(&mut self.deferred, hand, buffer, kept, answer, payload)
-                    }
+            None => match self.lower.poll(m, section(buffer, edit), payload) {
+                None => None,
+                Some(answer) => {
+                    let hand = self.lower.own_here().hand();
+                    complete(&mut self.deferred, hand, buffer, kept, answer, payload)
                 }
-            }
-            Some(t) => {
-                let kept = kept_edit::<E>(&edit, payload);
-                match send_home::<E, S>(&mut self.lower, m, t, payload) {
-                    None => None,
-                    Some(answer) => {
-                        let hand = self.lower.own_here().hand();
-                        complete(&mut self.deferred, hand, buffer, kept, answer, payload)
-                    }
+            },
+            Some(t) => match send_home::<E, S>(&mut self.lower, m, t, payload) {
+                None => None,
+                Some(answer) => {
+                    let hand = self.lower.own_here().hand();
+                    complete_home(&mut self.deferred, hand, buffer, kept, answer, payload)
                 }
-            }
+            },
         }
     }
 
@@ -193,11 +186,9 @@ impl<E: Sleeps, S: Layer<SchedLaw<SleepEdit<E>>>> ThreadLayer<SleepLaw<E>> for S
 
 impl<E: Sleeps, S: OwnedLayer<SchedLaw<SleepEdit<E>>>> OwnedThreadLayer<SleepLaw<E>>
     for Sleeper<E, S> {
-    ghost use Rattle.std.proofs.Common.{sym};
-    ghost use Rattle.std.specs.Prelude.{true, option_map};
-    ghost use Rattle.event_log.specs.declared.ids.LockId.TheVariants.{Buffer, Pending};
-    ghost use Rattle.layer_traits.proofs.{KernelRenaming.there_viewed, OwnedLemmas.parts_on};
-    ghost use Rattle.sleep_wakeup.specs.{Laws.NestedLaws.nested_busy, Laws.OwnedLaws.nested_queues, Laws.OwnedLaws.nested_shown, Nested.state_of};
+    ghost use Rattle.{std.{proofs.Common.sym, specs.Prelude.{true, option_map}}, event_log.specs.declared.ids.LockId.TheVariants.{Buffer, Pending}};
+    ghost use Rattle.{layer_traits.proofs.{KernelRenaming.there_viewed, OwnedLemmas.parts_on}, sleep_wakeup.specs.Laws.NestedLaws.nested_busy};
+    ghost use Rattle.sleep_wakeup.specs.{Laws.OwnedLaws.{nested_queues, nested_shown}, Nested.state_of};
 
     ghost block_at = { λ m b. option_map state_of (S.block_at m b) };
 

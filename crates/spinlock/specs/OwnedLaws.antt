@@ -1,6 +1,6 @@
 -- Who holds a lock.
 use Rattle.std.specs.Prelude.{◌≡◌, List}
-use Rattle.event_log.specs.{declared.ids.CpuId.CpuId, declared.ids.LockId.LockId, Actions.Action, Actions.Holds, Actions.phase}
+use Rattle.event_log.specs.{declared.ids.{CpuId.CpuId, LockId.LockId}, Actions.{Action, Holds, phase}}
 
 -- some CPU holds this lock
 abbrev pub SomeoneHolds : {N : Type 0} → LockId → List (Action N) → Type 0

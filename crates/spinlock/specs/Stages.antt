@@ -1,9 +1,8 @@
 -- How far a section has come, read against the actions at the locks.
 use Rattle.std.specs.Prelude.{◌≡◌, ◌%◌, ◌^◌, List, Option, Some, None, IsSome, if◌then◌else◌}
-use Rattle.event_log.specs.{declared.ids.CpuId.CpuId, declared.ids.LockId.LockId, Actions.Action, Actions.Rests, Actions.Waits, Actions.Holds, Actions.phase}
-use Rattle.event_log.specs.{Actions.spot_of, History.same_lock, Sections.Section, Sections.block_after, Sections.sections_in}
-use Rattle.layer_traits.specs.Protocol.{Rules, StaysAllowed, section}
-use Rattle.spinlock.specs.declared.stages.TicketPhase.{TicketPhase, TheVariants.Out, TheVariants.Waiting, TheVariants.Holding}
+use Rattle.event_log.specs.{declared.ids.{CpuId.CpuId, LockId.LockId}, Actions.{Action, Rests, Waits, Holds, phase, spot_of}, History.same_lock}
+use Rattle.{event_log.specs.Sections.{Section, block_after, sections_in}, layer_traits.specs.Protocol.{Rules, StaysAllowed, section}}
+use Rattle.spinlock.specs.declared.stages.TicketPhase.{TicketPhase, TheVariants.{Out, Waiting, Holding}}
 
 -- the section that is under way at a stage
 abbrev pub stage_section : {E B : Type 0} → CpuId → TicketPhase E B → Option (Section E)

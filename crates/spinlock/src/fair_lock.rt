@@ -18,10 +18,9 @@ pub struct UsesGrants;
 /// lock on. `LockProtocol` is the way in which the machine's words say so; no word is named here. Of a
 /// spot the ticket tells the rest modulo 2^64.
 pub trait FairLock<LockProtocol> {
-    ghost use Rattle.event_log.specs.{declared.ids.CpuId.CpuId, declared.ids.LockId.LockId, Actions.Action, Actions.Take, Actions.Try, Actions.Give};
-    ghost use Rattle.event_log.specs.{Actions.Rests, Actions.Waits, Actions.Holds, Actions.AreLegal, Actions.cpu_of_action, Actions.phase, Actions.spot_of};
-    ghost use Rattle.event_log.specs.{History.Adds, History.IsLawful, Sections.block_after, Sections.sections_in};
-    ghost use Rattle.layer_traits.specs.{Protocol.section, Protocol.StaysAllowed, Spins.BeginWith, Spins.Misses};
+    ghost use Rattle.event_log.specs.{declared.ids.{CpuId.CpuId, LockId.LockId}, Actions.{Action, Take, Try, Give, Rests, Waits, Holds, AreLegal}};
+    ghost use Rattle.event_log.specs.{Actions.{cpu_of_action, phase, spot_of}, History.{Adds, IsLawful}, Sections.{block_after, sections_in}};
+    ghost use Rattle.layer_traits.specs.{Protocol.{section, StaysAllowed}, Spins.{BeginWith, Misses}};
 
     /// The edits of the sections.
     type Edit: SplitEdit;
@@ -155,11 +154,8 @@ pub trait FairLock<LockProtocol> {
 }
 
 impl<W: Words> FairLock<UsesTickets> for W {
-    ghost use Rattle.event_log.specs.{Actions.acts_of, WordsLog.lock_phase, WordsLog.Idle};
-    ghost use Rattle.event_log.proofs.Tickets.{legal_acts};
-    ghost use Rattle.layer_traits.specs.WordsProtocol.{edit_of};
-    ghost use Rattle.layer_traits.proofs.Seen.{words_legal};
-    ghost use Rattle.spinlock.specs.Laws.LineLaws.{acts_lawful, rests_outside};
+    ghost use Rattle.{event_log.{specs.{Actions.acts_of, WordsLog.{lock_phase, Idle}}, proofs.Tickets.legal_acts}, layer_traits.specs.WordsProtocol.edit_of};
+    ghost use Rattle.{layer_traits.proofs.Seen.words_legal, spinlock.specs.Laws.LineLaws.{acts_lawful, rests_outside}};
 
     type Edit = W::Edit;
 
@@ -223,10 +219,8 @@ impl<W: Words> FairLock<UsesTickets> for W {
 }
 
 impl<W: GrantWords> FairLock<UsesGrants> for W {
-    ghost use Rattle.event_log.specs.{Grants.acts_of_grants, Grants.grant_lock_phase, WordsLog.Idle};
-    ghost use Rattle.event_log.proofs.GrantWords.{legal_grants};
-    ghost use Rattle.layer_traits.specs.WordsProtocol.{edit_of};
-    ghost use Rattle.spinlock.specs.Laws.LineLaws.{grants_legal, grants_lawful, rests_outside_grants};
+    ghost use Rattle.event_log.{specs.{Grants.{acts_of_grants, grant_lock_phase}, WordsLog.Idle}, proofs.GrantWords.legal_grants};
+    ghost use Rattle.{layer_traits.specs.WordsProtocol.edit_of, spinlock.specs.Laws.LineLaws.{grants_legal, grants_lawful, rests_outside_grants}};
 
     type Edit = W::Edit;
 

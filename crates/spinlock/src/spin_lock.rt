@@ -1,6 +1,8 @@
 //! The lock: one body for every machine at whose locks CPUs stand in line.
 
-ghost use Rattle.std.specs.Prelude.{◌≡◌};
+ghost use Rattle.std.specs.Prelude.{◌≡◌, ◌+◌, ◌%◌, ◌^◌, ◌<◌, ◌≤◌, Bool, Option, Some, IsSome, MatchOption};
+ghost use Rattle.event_log.specs.{declared.ids.CpuId.CpuId, Actions.{Try, Waits, Holds, cpu_of_action, phase, spot_of}, History.Adds, Sections.block_after};
+ghost use Rattle.{event_log.specs.Sections.sections_in, spinlock.specs.Stages.hit_by};
 
 use crate::fair_lock::{FairLock, UsesGrants, UsesTickets};
 use crate::owned_fair_lock::OwnedFairLock;
@@ -32,12 +34,42 @@ pub type Ticket<W> = SpinLock<W, UsesTickets>;
 /// that ticket's word until it is granted, and gives on to the next ticket's with its edit done.
 pub type Grant<W> = SpinLock<W, UsesGrants>;
 
+/// Tries to enter `lock` for `cpu`, which waits there with this ticket, and keeps the block if it
+/// enters. It stands out of line, so that a poll of all layers is small enough to be put into its
+/// caller.
+///
+/// Requires: as [`FairLock::enter`].
+#[inline(never)]
+fn enters<M: FairLock<LockProtocol>, LockProtocol>(
+    m: &mut M,
+    cpu: CpuId,
+    lock: LockId,
+    ticket: u64,
+    stage: &mut TicketPhase<Ghost<M::Edit>, <M::Edit as SplitEdit>::Block>,
+)
+    requires cpu { M.ActsFor m.old cpu }
+    requires lock { IsSome (M.opening m.old lock) }
+    requires room { 0 < M.room m.old }
+    requires waits { phase cpu (M.acts m.old) ≡ Waits lock }
+    requires ticket { ticket ≡ spot_of cpu (M.acts m.old) % 2 ^ 64 }
+    ensures adds { (hit : Bool) × Adds (M.ActsFor m.old) cpu_of_action (Try cpu lock hit) (M.acts m.old) (M.acts m.new) }
+    ensures hits { (found : Option M.Edit.Block) × (stage.new ≡ hit_by found stage.old) × MatchOption found
+        (phase cpu (M.acts m.new) ≡ Waits lock)
+        (λ block. (phase cpu (M.acts m.new) ≡ Holds lock)
+        × (block_after M.Edit.rules.edited (M.opening m.new) lock (sections_in (M.acts m.new)) ≡ Some block)) }
+    ensures opening { M.opening m.new ≡ M.opening m.old }
+    ensures site { M.site m.new ≡ M.site m.old }
+    ensures room { M.room m.old ≤ M.room m.new + 1 }
+    ensures acts { (c : CpuId) → M.ActsFor m.old c → M.ActsFor m.new c }
+{
+    let found = m.enter(cpu, lock, ticket);
+    stage.hit(found);
+}
+
 impl<M: FairLock<LockProtocol>, LockProtocol> Layer<LockLaw<M::Edit>>
     for SpinLock<M, LockProtocol> {
-    ghost use Rattle.event_log.specs.{Actions.phase, Sections.sections_in};
-    ghost use Rattle.layer_traits.specs.Plans.{is_in_section};
-    ghost use Rattle.spinlock.specs.{Stages.stage_section, Stages.StageFits, Laws.StageLaws.sections_known, Laws.StageLaws.stage_busy};
-    ghost use Rattle.std.specs.Prelude.{is_some, refl, true};
+    ghost use Rattle.{event_log.specs.{Actions.phase, Sections.sections_in}, layer_traits.specs.Plans.is_in_section, spinlock.specs.Stages.stage_section};
+    ghost use Rattle.{spinlock.specs.{Stages.StageFits, Laws.StageLaws.{sections_known, stage_busy}}, std.specs.Prelude.{is_some, refl, true}};
     ghost use Rattle.std.proofs.Common.{ap};
 
     type Machine = M;
@@ -95,8 +127,15 @@ impl<M: FairLock<LockProtocol>, LockProtocol> Layer<LockLaw<M::Edit>>
     fn look(&mut self, m: &mut M) -> bool {
         match self.stage {
             TicketPhase::Waiting { lock, ticket, .. } => {
-                let again = m.enter(self.cpu, lock, ticket);
-                self.stage.hit(again);
+                if let Some(block) = m.enter(self.cpu, lock, ticket) {
+                    let TicketPhase::Waiting { edit, .. } = mem::replace(
+                        &mut self.stage,
+                        TicketPhase::Out,
+                    ) else {
+                        unreachable!()
+                    };
+                    self.stage = TicketPhase::Holding { lock, edit, block };
+                }
                 true
             }
             TicketPhase::Out => false,
@@ -129,8 +168,7 @@ impl<M: FairLock<LockProtocol>, LockProtocol> Layer<LockLaw<M::Edit>>
                 None
             }
             TicketPhase::Waiting { lock, ticket, .. } => {
-                let found = m.enter(self.cpu, lock, ticket);
-                self.stage.hit(found);
+                enters::<M, LockProtocol>(m, self.cpu, lock, ticket, &mut self.stage);
                 None
             }
             TicketPhase::Holding { .. } => {
@@ -180,8 +218,7 @@ impl<M: FairLock<LockProtocol>, LockProtocol> Layer<LockLaw<M::Edit>>
 impl<M: OwnedFairLock<LockProtocol>, LockProtocol> OwnedLocks<M::Edit>
     for SpinLock<M, LockProtocol> {
     ghost use Rattle.std.specs.Prelude.{◌<◌, [], IfOk};
-    ghost use Rattle.event_log.specs.declared.ids.TheConstants.{CPUS};
-    ghost use Rattle.layer_traits.specs.OneLock.{AreDistinct, opened};
+    ghost use Rattle.{event_log.specs.declared.ids.TheConstants.CPUS, layer_traits.specs.OneLock.{AreDistinct, opened}};
     ghost use Rattle.spinlock.specs.{Laws.OwnedLaws.spin_lock_shows, Stages.held_block};
 
     ghost block_at = { λ m lock. M.block_at m lock };

@@ -1,21 +1,21 @@
 -- What events of others leave alone.
-use Rattle.std.proofs.Common.{◌≡◌, ℕ, Bool, true, false, if◌then◌else◌, List, [], ◌∷◌, ◌++◌, Option, option_map, refl, ap, sym, ◌∙◌, subst, append_assoc}
-use Rattle.std.proofs.Common.{append-nil, eq-eqb}
-use Rattle.event_log.specs.{declared.ids.CpuId.CpuId, declared.ids.LockId.LockId, History.same_cpu, History.same_lock, History.AreOthers, History.own_events}
-use Rattle.event_log.specs.{WordsLog.cpu_of_event, WordsLog.lock_phase, WordsLog.IsLegalWords, WordsLog.Holding, Sections.block_after}
-use Rattle.event_log.specs.declared.events.Event.{Event, TheVariants.Draw, TheVariants.Look, TheVariants.Free}
-use Rattle.event_log.proofs.{Same.same_lock_true, Foreign.others_both, Foreign.lock_phase_others, Foreign.own_others, Tickets.one_inside}
-use Rattle.layer_traits.specs.{declared.edits.Mark.Mark, WordsProtocol.sections}
-use Rattle.table_machine.specs.Views.{EndsWith, IsSince}
+use Rattle.std.proofs.Common.{◌≡◌, ℕ, Bool, true, false, if◌then◌else◌, List, [], ◌∷◌, ◌++◌, Option, refl, ap, sym, ◌∙◌, append_assoc, append-nil, eq-eqb}
+use Rattle.event_log.specs.{declared.{ids.{CpuId.CpuId, LockId.LockId}, events.Event.{Event, TheVariants.{Draw, Look, Free}}}, History.{same_cpu, same_lock}}
+use Rattle.event_log.specs.{History.{AreOthers, own_events}, WordsLog.{cpu_of_event, lock_phase, IsLegalWords, Holding}, Sections.block_after}
+use Rattle.event_log.proofs.{Same.same_lock_true, Foreign.{others_both, lock_phase_others, own_others}, Tickets.one_inside}
+use Rattle.{layer_traits.specs.{declared.edits.Mark.Mark, WordsProtocol.sections}, table_machine.specs.Views.{EndsWith, IsSince}}
 
 module _ {M : Type 0} where
+  pub since_trans : (c : CpuId) (a b d : List (Event M)) → IsSince a b c → IsSince b d c → IsSince a d c
+  since_trans c a b d s t = record {
+    more = s.more ++ t.more;
+    is = s.is ∙ (ap (λ l. s.more ++ l) t.is ∙ sym (append_assoc s.more t.more d));
+    others = others_both cpu_of_event c s.more t.more s.others t.others;
+  }
+
   -- events of others put on top of what stood since
   pub since_more : (c : CpuId) (es log seen : List (Event M)) → AreOthers cpu_of_event c es → IsSince log seen c → IsSince (es ++ log) seen c
-  since_more c es log seen h s = record {
-    more = es ++ s.more;
-    is = ap (λ l. es ++ l) s.is ∙ sym (append_assoc es s.more seen);
-    others = others_both cpu_of_event c es s.more h s.others;
-  }
+  since_more c es log seen h s = since_trans c (es ++ log) log seen (record { more = es; is = refl; others = h }) s
 
   pub since_all : (c : CpuId) (log : List (Event M)) → IsSince log log c
   since_all c log = record { more = []; is = refl; others = tt }
@@ -36,9 +36,6 @@ module _ {M : Type 0} where
   pub ends_all : (log : List (Event M)) → EndsWith log log
   ends_all log = record { more = []; is = refl }
 
-  pub ends_trans : (a b c : List (Event M)) → EndsWith a b → EndsWith b c → EndsWith a c
-  ends_trans a b c s t = record { more = s.more ++ t.more; is = s.is ∙ (ap (λ l. s.more ++ l) t.is ∙ sym (append_assoc s.more t.more c)) }
-
 module _ {E B : Type 0} (edited : E → B → B) (opening : LockId → Option B) where
   -- what a Free by another CPU does to a lock that this CPU is inside: nothing, since it is not of that lock
   inside_step : (c d : CpuId) (lock at : LockId) (mark : Mark E) (s t : ℕ) (log : List (Event (Mark E))) → IsLegalWords log
@@ -49,10 +46,9 @@ module _ {E B : Type 0} (edited : E → B → B) (opening : LockId → Option B)
       go : (b : Bool) → same_lock lock at ≡ b → block_after edited opening lock (sections (Free d at mark ∷ log))
           ≡ block_after edited opening lock (sections log)
       go true same = absurd (
-          let here : lock_phase d log ≡ Holding lock s = subst (λ l. lock_phase d log ≡ Holding l s) (sym (same_lock_true lock at same)) di in
+          let here : lock_phase d log ≡ Holding lock s = rw (same_lock_true lock at same) di in
           let one : same_cpu d c ≡ true = eq-eqb d.0 c.0 (ap (λ x. x.0) (one_inside log legal d c lock s t here ci)) in cc)
-      go false same = ap (λ b. if b then option_map (edited mark.edit) (block_after edited opening lock (sections log))
-          else block_after edited opening lock (sections log)) same
+      go false same = rw same refl
 
   -- while a CPU is inside, nobody else edits the block
   pub inside_keeps : (c : CpuId) (lock : LockId) (t : ℕ) (more log : List (Event (Mark E))) → IsLegalWords (more ++ log) → AreOthers cpu_of_event c more

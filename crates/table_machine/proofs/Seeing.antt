@@ -1,36 +1,34 @@
 -- How the views change with a step.
-use Rattle.std.proofs.Common.{◌≡◌, ◌≢◌, ◌==◌, ℕ, zero, suc, ◌<◌, ◌⊎◌, inl, inr, ⊎_elim, if◌then◌else◌, List, [], ◌∷◌, ◌++◌, length, set, refl, ap, sym, ◌∙◌}
-use Rattle.std.proofs.Common.{subst, eq-eqb, ne_eqb}
-use Rattle.atomic_table.proofs.Lists.{at_set, set_else}
-use Rattle.event_log.specs.{declared.ids.CpuId.CpuId, declared.ids.LockId.LockId, declared.events.Event.Event, History.AreOthers, WordsLog.cpu_of_event}
-use Rattle.layer_traits.specs.declared.edits.Mark.{Mark}
-use Rattle.table_machine.specs.{declared.views.View.View, Views.viewed, Views.Has, Views.Owns, Views.Fits, Views.Sees}
-use Rattle.table_machine.proofs.Logs.{since_more, since_all, ends_nil, ends_more, ends_all}
+use Rattle.std.proofs.Common.{◌≡◌, ◌≢◌, ◌==◌, ℕ, zero, suc, ◌<◌, ◌⊎◌, inl, inr, ⊎_elim, if◌then◌else◌, List, [], ◌∷◌, ◌++◌, length, set, ap, sym, ◌∙◌}
+use Rattle.{std.proofs.Common.{subst, eq-eqb, ne_eqb}, atomic_table.proofs.Lists.{at_set, set_else}, event_log.specs.declared.ids.{CpuId.CpuId, LockId.LockId}}
+use Rattle.{event_log.specs.{declared.events.Event.Event, History.AreOthers, WordsLog.cpu_of_event}, layer_traits.specs.declared.edits.Mark.Mark}
+use Rattle.table_machine.{specs.{declared.views.View.View, Views.{viewed, Has, EndsWith, IsSince, Owns, Fits, Sees}}, proofs.Logs.{since_more, since_all}}
+use Rattle.table_machine.proofs.Logs.{ends_nil, ends_more, ends_all}
 use mathlib.Core.Option.{some, some-injective, some-ne-none}
 use lib.ListN.{get_elem?}
 
--- one element more, with its rank
-pub at_end : {A : Type 0} (l : List A) (a b : A) (j : ℕ) → get_elem? (l ++ a ∷ []) j ≡ some b → (get_elem? l j ≡ some b) ⊎ ((j ≡ length l) × (a ≡ b))
-at_end [] a b zero e = inr (refl, some-injective a b e)
-at_end [] a b (suc j) e = absurd (some-ne-none b (sym e))
-at_end (x ∷ xs) a b zero e = inl e
-at_end (x ∷ xs) a b (suc j) e = ⊎_elim inl (λ t. inr (ap suc t.0, t.1)) (at_end xs a b j e)
+-- what holds of the element that was put, and of each other, holds of all
+pub all_set : {A : Type 0} (P : ℕ → A → Type 0) (l : List A) (id : ℕ) (a : A) → P id a → ((i : ℕ) (b : A) → i ≢ id → get_elem? l i ≡ some b → P i b)
+    → (i : ℕ) (b : A) → get_elem? (set l id a) i ≡ some b → P i b
+all_set P l id a here others i b at = elim (at_set l id i a b at) [ inl t ↦ rw (t.0, ← t.1) here | inr t ↦ others i b t.0 t.1 ]
 
--- a seat that changed hands
-abbrev pub moved_seat : ℕ → ℕ → ℕ → ℕ
-moved_seat from to seat = if seat == from then to else seat
-
-moved_yes : (from to seat : ℕ) → seat ≡ from → moved_seat from to seat ≡ to
-moved_yes from to seat e = ap (λ b. if b then to else seat) (eq-eqb seat from e)
-
-moved_no : (from to seat : ℕ) → seat ≢ from → moved_seat from to seat ≡ seat
-moved_no from to seat ne = ap (λ b. if b then to else seat) (ne_eqb seat from ne)
+-- what holds of the last element, and of each before it, holds of all
+pub all_end : {A : Type 0} (P : ℕ → A → Type 0) (l : List A) (a : A) → P (length l) a → ((i : ℕ) (b : A) → get_elem? l i ≡ some b → P i b)
+    → (i : ℕ) (b : A) → get_elem? (l ++ a ∷ []) i ≡ some b → P i b
+all_end P [] a last before zero b at = subst (P 0) (some-injective a b at) last
+all_end P [] a last before (suc i) b at = absurd (some-ne-none b (sym at))
+all_end P (x ∷ xs) a last before zero b at = before 0 b at
+all_end P (x ∷ xs) a last before (suc i) b at = all_end (λ j. P (suc j)) xs a last (λ j. before (suc j)) i b at
 
 module _ {E B : Type 0} where
-  pub fits_viewed : (start : List (LockId × B)) (cpus : List CpuId) (log : List (Event (Mark E))) → Fits log (viewed start cpus log)
-  fits_viewed start cpus log = record { front = ends_all log; told = ends_nil log; cpus = λ c has. since_all c log; lent = λ c has. absurd has }
+  pub fits_of : (start : List (LockId × B)) (cpus : List CpuId) (log seen : List (Event (Mark E))) → EndsWith log seen
+      → ((c : CpuId) → Has c cpus → IsSince log seen c) → Fits log (viewed start cpus seen)
+  fits_of start cpus log seen ends since = record { front = ends; told = ends_nil log; cpus = since; lent = λ c has. absurd has }
 
-  pub fits_more : (es log : List (Event (Mark E))) (v : View E B) → ((c : CpuId) → Owns c v → AreOthers cpu_of_event c es) → Fits log v → Fits (es ++ log) v
+  pub fits_viewed : (start : List (LockId × B)) (cpus : List CpuId) (log : List (Event (Mark E))) → Fits log (viewed start cpus log)
+  fits_viewed start cpus log = fits_of start cpus log log (ends_all log) (λ c has. since_all c log)
+
+  fits_more : (es log : List (Event (Mark E))) (v : View E B) → ((c : CpuId) → Owns c v → AreOthers cpu_of_event c es) → Fits log v → Fits (es ++ log) v
   fits_more es log v h f = record {
     front = ends_more es log v.seen f.front;
     told = ends_more es log v.told f.told;
@@ -43,129 +41,74 @@ module _ {E B : Type 0} where
   owns_viewed start cpus log c (inl has) = has
   owns_viewed start cpus log c (inr nothing) = absurd nothing
 
+  -- a view that was told what another has seen
+  abbrev pub joined : View E B → View E B → View E B
+  joined v w = record { start = v.start; cpus = v.cpus; seen = v.seen; told = w.seen; lent = w.cpus }
+
+-- a view that sees the log from its seat, which is that of each CPU that it owns
+abbrev pub FitsAt : {E B : Type 0} → ℕ → List (Event (Mark E)) → (ℕ → ℕ) → ℕ → View E B → Type 0
+FitsAt n log seat_of i v = Fits log v × ((c : CpuId) → Owns c v → (i ≡ seat_of c.0) × (c.0 < n))
+
+module _ {E B : Type 0} (n : ℕ) (views : List (View E B)) (log : List (Event (Mark E))) where
+  pub each_sees : (seat_of : ℕ → ℕ) → ((i : ℕ) (v : View E B) → get_elem? views i ≡ some v → FitsAt n log seat_of i v) → Sees n views log
+  each_sees seat_of each = record {
+    fits = λ i v at. (each i v at).0;
+    seat_of = seat_of;
+    apart = λ i v c at o. ((each i v at).1 c o).0;
+    known = λ i v c at o. ((each i v at).1 c o).1;
+  }
+
+  pub fits_at : (s : Sees n views log) (i : ℕ) (v : View E B) → get_elem? views i ≡ some v → FitsAt n log s.seat_of i v
+  fits_at s i v at = (s.fits i v at, λ c o. (s.apart i v c at o, s.known i v c at o))
+
 module _ {E B : Type 0} (n : ℕ) (views : List (View E B)) (log : List (Event (Mark E))) (s : Sees n views log) (id : ℕ) (v : View E B)
     (here : get_elem? views id ≡ some v) where
   -- an event of a CPU of this seat is no other seat's
   pub one_event : (e : Event (Mark E)) → Owns (cpu_of_event e) v → (c : CpuId) → s.seat_of c.0 ≢ id → AreOthers cpu_of_event c (e ∷ [])
   one_event e owns c away = (ne_eqb (cpu_of_event e).0 c.0 (λ same. away (ap s.seat_of (sym same) ∙ sym (s.apart id v (cpu_of_event e) here owns))), tt)
 
-  -- the seat sees the log with these events of its own CPUs, and owns no more than it did
-  pub sees_moved : (es : List (Event (Mark E))) → ((c : CpuId) → s.seat_of c.0 ≢ id → AreOthers cpu_of_event c es)
-      → (start : List (LockId × B)) (cpus : List CpuId) → ((c : CpuId) → Has c cpus → Owns c v)
-      → Sees n (set views id (viewed start cpus (es ++ log))) (es ++ log)
-  sees_moved es others start cpus less =
-      let w : View E B = viewed start cpus (es ++ log) in
-      let owned : (c : CpuId) (u : View E B) → w ≡ u → Owns c u → Owns c v =
-      λ c u same o. less c (owns_viewed start cpus (es ++ log) c (subst (λ (u : View E B). Owns c u) (sym same) o)) in
-      record {
-        fits = λ i u at. ⊎_elim
-            (λ (t : (i ≡ id) × (w ≡ u)). subst (λ (u : View E B). Fits (es ++ log) u) t.1 (fits_viewed start cpus (es ++ log)))
-            (λ (t : (i ≢ id) × (get_elem? views i ≡ some u)). fits_more es log u (λ c o. others c (λ same. t.0 (s.apart i u c t.1 o ∙ same))) (s.fits i u t.1))
-            (at_set views id i w u at);
-        seat_of = s.seat_of;
-        apart = λ i u c at o. ⊎_elim
-            (λ (t : (i ≡ id) × (w ≡ u)). t.0 ∙ s.apart id v c here (owned c u t.1 o))
-            (λ (t : (i ≢ id) × (get_elem? views i ≡ some u)). s.apart i u c t.1 o)
-            (at_set views id i w u at);
-        known = λ i u c at o. ⊎_elim
-            (λ (t : (i ≡ id) × (w ≡ u)). s.known id v c here (owned c u t.1 o))
-            (λ (t : (i ≢ id) × (get_elem? views i ≡ some u)). s.known i u c t.1 o)
-            (at_set views id i w u at);
-      }
-
-  -- the seat knows no more, and owns no more than it did
-  pub sees_less : (w : View E B) → Fits log w → ((c : CpuId) → Owns c w → Owns c v) → Sees n (set views id w) log
-  sees_less w fit less =
-      let owned : (c : CpuId) (u : View E B) → w ≡ u → Owns c u → Owns c v = λ c u same o. less c (subst (λ (u : View E B). Owns c u) (sym same) o) in
-      record {
-        fits = λ i u at. ⊎_elim
-            (λ (t : (i ≡ id) × (w ≡ u)). subst (λ (u : View E B). Fits log u) t.1 fit)
-            (λ (t : (i ≢ id) × (get_elem? views i ≡ some u)). s.fits i u t.1)
-            (at_set views id i w u at);
-        seat_of = s.seat_of;
-        apart = λ i u c at o. ⊎_elim
-            (λ (t : (i ≡ id) × (w ≡ u)). t.0 ∙ s.apart id v c here (owned c u t.1 o))
-            (λ (t : (i ≢ id) × (get_elem? views i ≡ some u)). s.apart i u c t.1 o)
-            (at_set views id i w u at);
-        known = λ i u c at o. ⊎_elim
-            (λ (t : (i ≡ id) × (w ≡ u)). s.known id v c here (owned c u t.1 o))
-            (λ (t : (i ≢ id) × (get_elem? views i ≡ some u)). s.known i u c t.1 o)
-            (at_set views id i w u at);
-      }
+  -- the seat has another view of the log with these events of its own CPUs, and owns no more than it did
+  pub sees_set : (es : List (Event (Mark E))) → ((c : CpuId) → s.seat_of c.0 ≢ id → AreOthers cpu_of_event c es) → (w : View E B) → Fits (es ++ log) w
+      → ((c : CpuId) → Owns c w → Owns c v) → Sees n (set views id w) (es ++ log)
+  sees_set es others w fits less = each_sees n (set views id w) (es ++ log) s.seat_of (all_set (FitsAt n (es ++ log) s.seat_of) views id w
+      (fits, λ c o. (fits_at n views log s id v here).1 c (less c o))
+      (λ i u away at. let old = fits_at n views log s i u at in
+      (fits_more es log u (λ c o. others c (λ same. away ((old.1 c o).0 ∙ same))) old.0, old.1)))
 
   -- another seat gives what it has seen, and its CPUs, to this one
-  pub sees_join : (other : ℕ) (w both spent : View E B) → (other ≡ id → ⊥) → get_elem? (set views id both) other ≡ some w
-      → both ≡ record { start = v.start; cpus = v.cpus; seen = v.seen; told = w.seen; lent = w.cpus } → spent ≡ viewed [] [] []
-      → Sees n (set (set views id both) other spent) log
-  sees_join other w both spent apart there both_is spent_is =
-      let there' : get_elem? views other ≡ some w = sym (set_else views id other both apart) ∙ there in
-      let none : (c : CpuId) (u : View E B) → spent ≡ u → Owns c u
-      → ⊥ = λ c u same o. owns_viewed {E = E} {B = B} [] [] [] c (subst (λ (u : View E B). Owns c u) (sym same ∙ spent_is) o) in
-      let some_of : (c : CpuId) (u : View E B) → both ≡ u → Owns c u → Has c v.cpus ⊎ Has c w.cpus =
-      λ c u same o. subst (λ (u : View E B). Owns c u) (sym same ∙ both_is) o in
-      let seat : ℕ → ℕ = λ k. moved_seat other id (s.seat_of k) in
-      let from_v : (c : CpuId) → Has c v.cpus → id ≡ seat c.0 = λ c has. let e = s.apart id v c here (inl has) in e
-      ∙ sym (moved_no other id (s.seat_of c.0) (λ same. apart (sym (e ∙ same)))) in
-      let from_w : (c : CpuId) → Has c w.cpus → id ≡ seat c.0 = λ c has. let e = s.apart other w c there' (inl has) in
-      sym (moved_yes other id (s.seat_of c.0) (sym e)) in
-      record {
-        fits = λ i u at. ⊎_elim
-            (λ (t : (i ≡ other) × (spent ≡ u)). subst (λ (u : View E B). Fits log u) (sym spent_is ∙ t.1)
-            (record { front = ends_nil log; told = ends_nil log; cpus = λ c has. absurd has; lent = λ c has. absurd has }))
-            (λ (t : (i ≢ other) × (get_elem? (set views id both) i ≡ some u)). ⊎_elim
-            (λ (q : (i ≡ id) × (both ≡ u)). subst (λ (u : View E B). Fits log u) (sym both_is ∙ q.1) (record {
-              front = (s.fits id v here).front;
-              told = (s.fits other w there').front;
-              cpus = (s.fits id v here).cpus;
-              lent = (s.fits other w there').cpus;
-            }))
-            (λ (q : (i ≢ id) × (get_elem? views i ≡ some u)). s.fits i u q.1)
-            (at_set views id i both u t.1))
-            (at_set (set views id both) other i spent u at);
-        seat_of = seat;
-        apart = λ i u c at o. ⊎_elim
-            (λ (t : (i ≡ other) × (spent ≡ u)). absurd (none c u t.1 o))
-            (λ (t : (i ≢ other) × (get_elem? (set views id both) i ≡ some u)). ⊎_elim
-            (λ (q : (i ≡ id) × (both ≡ u)). q.0 ∙ ⊎_elim (from_v c) (from_w c) (some_of c u q.1 o))
-            (λ (q : (i ≢ id) × (get_elem? views i ≡ some u)). let e = s.apart i u c q.1 o in e
-            ∙ sym (moved_no other id (s.seat_of c.0) (λ same. t.0 (e ∙ same))))
-            (at_set views id i both u t.1))
-            (at_set (set views id both) other i spent u at);
-        known = λ i u c at o. ⊎_elim
-            (λ (t : (i ≡ other) × (spent ≡ u)). absurd (none c u t.1 o))
-            (λ (t : (i ≢ other) × (get_elem? (set views id both) i ≡ some u)). ⊎_elim
-            (λ (q : (i ≡ id) × (both ≡ u)). ⊎_elim (λ has. s.known id v c here (inl has)) (λ has. s.known other w c there' (inl has)) (some_of c u q.1 o))
-            (λ (q : (i ≢ id) × (get_elem? views i ≡ some u)). s.known i u c q.1 o)
-            (at_set views id i both u t.1))
-            (at_set (set views id both) other i spent u at);
-      }
+  pub sees_join : (other : ℕ) (w : View E B) → other ≢ id → get_elem? (set views id (joined v w)) other ≡ some w
+      → Sees n (set (set views id (joined v w)) other (viewed [] [] [])) log
+  sees_join other w apart there =
+      let mine = fits_at n views log s id v here in
+      let given = fits_at n views log s other w (sym (set_else views id other (joined v w) apart) ∙ there) in
+      let seat : ℕ → ℕ = λ k. if s.seat_of k == other then id else s.seat_of k in
+      let stays : (c : CpuId) (i : ℕ) → i ≢ other → i ≡ s.seat_of c.0 → i ≡ seat c.0 = λ c i away e.
+      rw (ne_eqb (s.seat_of c.0) other (λ same. away (e ∙ same))) e in
+      each_sees n (set (set views id (joined v w)) other (viewed [] [] [])) log seat
+      (all_set (FitsAt n log seat) (set views id (joined v w)) other (viewed [] [] [])
+      (fits_of [] [] log [] (ends_nil log) (λ c has. absurd has), λ c o. absurd (owns_viewed {E = E} {B = B} [] [] [] c o))
+      (λ i u away at. all_set (λ i u. i ≢ other → FitsAt n log seat i u) views id (joined v w)
+      (λ away. (
+        record { front = mine.0.front; told = given.0.front; cpus = mine.0.cpus; lent = given.0.cpus },
+        λ c. ⊎_elim
+            (λ has. let own = mine.1 c (inl has) in (stays c id away own.0, own.1))
+            (λ has. let own = given.1 c (inl has) in (rw (eq-eqb (s.seat_of c.0) other (sym own.0)), own.1)),
+      ))
+      (λ i u not_id at away. let old = fits_at n views log s i u at in (old.0, λ c o. (stays c i away (old.1 c o).0, (old.1 c o).1))) i u at away))
 
 module _ {E B : Type 0} (n : ℕ) (views : List (View E B)) (log : List (Event (Mark E))) (s : Sees n views log) where
   -- a new seat that owns nothing
-  pub sees_new : (w : View E B) → Fits log w → ((c : CpuId) → Owns c w → ⊥) → Sees n (views ++ w ∷ []) log
-  sees_new w fit nothing =
-      let nobody : (c : CpuId) (u : View E B) → w ≡ u → Owns c u → ⊥ = λ c u same o. nothing c (subst (λ (u : View E B). Owns c u) (sym same) o) in
-      record {
-        fits = λ i u at. ⊎_elim (s.fits i u) (λ (t : (i ≡ length views) × (w ≡ u)). subst (λ (u : View E B). Fits log u) t.1 fit) (at_end views w u i at);
-        seat_of = s.seat_of;
-        apart = λ i u c at o. ⊎_elim (λ there. s.apart i u c there o) (λ (t : (i ≡ length views) × (w ≡ u)). absurd (nobody c u t.1 o)) (at_end views w u i at);
-        known = λ i u c at o. ⊎_elim (λ there. s.known i u c there o) (λ (t : (i ≡ length views) × (w ≡ u)). absurd (nobody c u t.1 o)) (at_end views w u i at);
-      }
+  pub sees_new : (start : List (LockId × B)) (seen : List (Event (Mark E))) → EndsWith log seen → Sees n (views ++ viewed start [] seen ∷ []) log
+  sees_new start seen ends = each_sees n (views ++ viewed start [] seen ∷ []) log s.seat_of
+      (all_end (FitsAt n log s.seat_of) views (viewed start [] seen)
+      (fits_of start [] log seen ends (λ c has. absurd has), λ c o. absurd (owns_viewed {E = E} {B = B} start [] seen c o))
+      (fits_at n views log s))
 
   -- a new seat that owns a CPU which no other owns
   pub sees_dealt : (w : View E B) → Fits log w → (k : ℕ) → ((c : CpuId) → Owns c w → c.0 ≡ k) → k < n
-      → ((i : ℕ) (u : View E B) (c : CpuId) → get_elem? views i ≡ some u → Owns c u → c.0 ≢ k)
-      → Sees n (views ++ w ∷ []) log
-  sees_dealt w fit k one below free =
-      let its : (c : CpuId) (u : View E B) → w ≡ u → Owns c u → c.0 ≡ k = λ c u same o. one c (subst (λ (u : View E B). Owns c u) (sym same) o) in
+      → ((i : ℕ) (u : View E B) → get_elem? views i ≡ some u → (c : CpuId) → Owns c u → c.0 ≢ k) → Sees n (views ++ w ∷ []) log
+  sees_dealt w fits k one below free =
       let seat : ℕ → ℕ = λ m. if m == k then length views else s.seat_of m in
-      record {
-        fits = λ i u at. ⊎_elim (s.fits i u) (λ (t : (i ≡ length views) × (w ≡ u)). subst (λ (u : View E B). Fits log u) t.1 fit) (at_end views w u i at);
-        seat_of = seat;
-        apart = λ i u c at o. ⊎_elim
-            (λ there. s.apart i u c there o ∙ sym (ap (λ b. if b then length views else s.seat_of c.0) (ne_eqb c.0 k (free i u c there o))))
-            (λ (t : (i ≡ length views) × (w ≡ u)). t.0 ∙ sym (ap (λ b. if b then length views else s.seat_of c.0) (eq-eqb c.0 k (its c u t.1 o))))
-            (at_end views w u i at);
-        known = λ i u c at o. ⊎_elim (λ there. s.known i u c there o)
-            (λ (t : (i ≡ length views) × (w ≡ u)). subst (λ (m : ℕ). m < n) (sym (its c u t.1 o)) below) (at_end views w u i at);
-      }
+      each_sees n (views ++ w ∷ []) log seat (all_end (FitsAt n log seat) views w
+      (fits, λ c o. (rw (eq-eqb c.0 k (one c o)), rw (one c o) below))
+      (λ i u at. (s.fits i u at, λ c o. (rw (ne_eqb c.0 k (free i u at c o)) (s.apart i u c at o), s.known i u c at o))))

@@ -1,15 +1,11 @@
 -- How the words and the slots change with a step.
-use Rattle.std.proofs.Common.{length-set, ◌≡◌, ◌≢◌, ℕ, zero, suc, ◌+◌, ◌<◌, ◌≤◌, ◌==◌, if◌then◌else◌, Bool, true, false, List, [], ◌∷◌, length, set, get_or}
-use Rattle.std.proofs.Common.{map, replicate, Option, Some, None, IsSome, slice_index, refl, ap, sym, ◌∙◌, subst, arith, get_or-set_same, get_or-set_other}
-use Rattle.std.proofs.lemmas.Bool.{eqb-true, eqb-false}
-use Rattle.event_log.specs.{declared.ids.LockId.LockId, declared.events.Event.Event, History.same_lock, WordsLog.MayFollow, WordsLog.draws, WordsLog.frees}
-use Rattle.event_log.specs.{declared.ids.TheConstants.CPUS}
-use Rattle.event_log.proofs.Same.{same_lock_true, same_lock_self}
-use Rattle.layer_traits.specs.{declared.edits.Mark.Mark, OneLock.opened}
-use Rattle.layer_traits.proofs.OneLockLemmas.{counts_elsewhere, event_lock, elsewhere, fresh}
-use Rattle.table_machine.specs.{declared.views.Home.Home, Kinds.WordKind, Kinds.IsWordKind, Kinds.first_words, Layout.AreFirst, Layout.rank_of, Layout.word_at}
-use Rattle.table_machine.specs.{Layout.words_of, Layout.word_count, Rule.home_block, Rule.fresh_home, Rule.ShowsLock, Rule.Shows}
-use Rattle.table_machine.proofs.Finding.{rank_same, rank_below, opened_there}
+use Rattle.std.proofs.Common.{length-set, ◌≡◌, ◌≢◌, ℕ, ◌+◌, ◌<◌, ◌≤◌, ◌==◌, if◌then◌else◌, Bool, true, false, List, [], ◌∷◌, length, set, get_or}
+use Rattle.std.proofs.Common.{map, replicate, Option, Some, None, IsSome, slice_index, refl, ap, ◌∙◌, arith, get_or-set_same, get_or-set_other}
+use Rattle.{std.proofs.lemmas.{Grind.get_or-set_at, List.get_or-replicate}, event_log.specs.declared.ids.{LockId.LockId, TheConstants.CPUS}}
+use Rattle.event_log.{specs.{declared.events.Event.Event, History.same_lock, WordsLog.{MayFollow, draws, frees}}, proofs.Same.{same_lock_true, same_lock_self}}
+use Rattle.layer_traits.{specs.{declared.edits.Mark.Mark, OneLock.opened}, proofs.OneLockLemmas.{counts_elsewhere, event_lock, elsewhere, fresh}}
+use Rattle.table_machine.specs.{declared.views.Home.Home, Kinds.{WordKind, IsWordKind, first_words}, Layout.{AreFirst, rank_of, word_at, words_of, word_count}}
+use Rattle.table_machine.{specs.Rule.{home_block, fresh_home, ShowsLock, Shows}, proofs.Finding.{rank_same, rank_below, opened_there}}
 use mathlib.Core.Option.{Option as Maybe, none, some}
 use lib.ListN.{get_elem?, length-replicate, length-map}
 
@@ -23,11 +19,6 @@ words_apart k a b other same = other (omega arith)
 -- two locks whose `next` lies at one place have one rank
 pub next_reads : (j k : ℕ) → word_at j 0 ≡ word_at k 0 → j ≡ k
 next_reads j k same = omega arith
-
-pub zeros_at : (n i : ℕ) → ◌≡◌ {A = ℕ} (get_or (replicate n 0) i 0) 0
-zeros_at zero i = refl
-zeros_at (suc n) zero = refl
-zeros_at (suc n) (suc i) = zeros_at n i
 
 -- a word within the table
 pub lies_within : (k n word : ℕ) → k < n → word ≤ CPUS → word_at k word < word_count n
@@ -62,40 +53,25 @@ pub first_zeros : (opens locks : ℕ) (words : List ℕ) → words ≡ replicate
 first_zeros opens locks words are = record {
   count = ap length are ∙ length-replicate (word_count locks) 0;
   done_so = λ rank word none within. absurd (omega arith);
-  zeros = λ rank word from below within. ap (λ l. slice_index l (word_at rank word)) are ∙ zeros_at (word_count locks) (word_at rank word);
+  zeros = λ rank word from below within. ap (λ l. slice_index l (word_at rank word)) are
+      ∙ get_or-replicate (word_count locks) (word_at rank word) 0 0 (omega arith);
 }
 
 -- one lock more
 pub first_more : (opens locks done : ℕ) (words : List ℕ) → done < locks → AreFirst opens locks done words
     → AreFirst opens locks (done + 1) (set words (word_at done 1) opens)
 first_more opens locks done words below first =
-    let lies : word_at done 1 < length words = subst (λ n. word_at done 1 < n) (sym first.count) (lies_within done locks 1 below (omega arith)) in
-    let wrote = written words done 1 opens (omega arith) lies in
+    let lies : word_at done 1 < length words = rw first.count (lies_within done locks 1 below (omega arith)) in
     record {
       count = length-set words (word_at done 1) opens ∙ first.count;
-      done_so = λ rank word more within. here rank word within wrote more (rank == done) refl;
+      done_so = λ rank word more within. here rank word within more lies;
       zeros = λ rank word from under within. get_or-set_other words (word_at done 1) (word_at rank word) opens 0
           (locks_apart rank done word 1 (λ e. omega arith) within (omega arith)) ∙ first.zeros rank word (omega arith) under within;
     }
   where
-    word_here : (word : ℕ) → word ≤ CPUS
-        → (words_of (set words (word_at done 1) opens) done 1 ≡ opens)
-        × ((i : ℕ) → i ≤ CPUS → i ≢ 1 → words_of (set words (word_at done 1) opens) done i ≡ words_of words done i)
-        → (b : Bool) → (word == 1) ≡ b → words_of (set words (word_at done 1) opens) done word ≡ (if b then opens else 0)
-    word_here word within wrote true is = ap (λ i. words_of (set words (word_at done 1) opens) done i) (eqb-true word 1 is) ∙ wrote.0
-    word_here word within wrote false is = wrote.1 word within (eqb-false word 1 is) ∙ first.zeros done word (omega arith) below within
-
-    here : (rank word : ℕ) → word ≤ CPUS
-        → (words_of (set words (word_at done 1) opens) done 1 ≡ opens)
-        × ((i : ℕ) → i ≤ CPUS → i ≢ 1 → words_of (set words (word_at done 1) opens) done i ≡ words_of words done i)
-        → rank < done + 1 → (b : Bool) → (rank == done) ≡ b → words_of (set words (word_at done 1) opens) rank word ≡ first_words opens word
-    here rank word within wrote more true is =
-        subst (λ r. words_of (set words (word_at done 1) opens) r word ≡ first_words opens word) (sym (eqb-true rank done is))
-        (word_here word within wrote (word == 1) refl)
-    here rank word within wrote more false is =
-        let other : rank ≢ done = eqb-false rank done is in
-        get_or-set_other words (word_at done 1) (word_at rank word) opens 0 (locks_apart rank done word 1 other within (omega arith))
-        ∙ first.done_so rank word (omega arith) within
+    here : (rank word : ℕ) → word ≤ CPUS → rank < done + 1 → word_at done 1 < length words
+        → words_of (set words (word_at done 1) opens) rank word ≡ first_words opens word
+    here rank word within more lies = grind (arith, get_or-set_at, get_or-set_other, first.done_so, first.zeros)
 
 module _ (K : WordKind) (law : IsWordKind K) {E B : Type 0} (edited : E → B → B) (start : List (LockId × B)) where
   -- a word of a lock lies within the table
@@ -116,14 +92,13 @@ module _ (K : WordKind) (law : IsWordKind K) {E B : Type 0} (edited : E → B �
     where
       go : (lock : LockId) → IsSome (opened start lock) → (b : Bool) → same_lock lock (event_lock e) ≡ b
           → ShowsLock K edited start (set words (word_at (rank_of start (event_lock e)) word) x) later (e ∷ log) lock
-      go lock exists true one = subst (λ l. ShowsLock K edited start (set words (word_at (rank_of start (event_lock e)) word) x) later (e ∷ log) l)
-          (sym (same_lock_true lock (event_lock e) one)) here
+      go lock exists true one = rw (same_lock_true lock (event_lock e) one) here
       go lock exists false other =
           let old = shows.each lock exists in
           let k : ℕ = rank_of start lock in
           let away : k ≢ rank_of start (event_lock e) = λ e'. (
-          let one : lock ≡ event_lock e = rank_same start lock (event_lock e) exists e' in
-          let yes' : same_lock lock (event_lock e) ≡ true = subst (λ l. same_lock lock l ≡ true) one (same_lock_self lock) in absurd (cc (other, yes'))) in
+          let one : same_lock lock (event_lock e) ≡ true = rw (← (rank_same start lock (event_lock e) exists e')) (same_lock_self lock) in
+          absurd (cc (other, one))) in
           record {
             home = old.home;
             at = same k away ∙ old.at;

@@ -1,12 +1,9 @@
 -- What each atomic step tells the seat that makes it.
 use Rattle.std.specs.Prelude.{◌≡◌, ℕ, true, false, [], ◌∷◌, ◌++◌, ◌⊎◌, IsSome, Some}
-use Rattle.atomic_table.specs.Table.{Step, Me}
-use Rattle.event_log.specs.{declared.ids.LockId.LockId, declared.events.Event.Event, declared.events.Event.TheVariants.Draw}
-use Rattle.event_log.specs.{declared.events.Event.TheVariants.Look, declared.events.Event.TheVariants.Free, History.IsLawful, History.Adds}
-use Rattle.event_log.specs.{WordsLog.cpu_of_event, WordsLog.lock_phase, WordsLog.Waiting, WordsLog.Holding, Sections.block_after}
-use Rattle.layer_traits.specs.{declared.edits.Mark.Mark, Protocol.Rules, WordsProtocol.MayCome, WordsProtocol.sections, WordsProtocol.mark_of, OneLock.opened}
-use Rattle.table_machine.specs.{declared.views.View.View, declared.views.Home.Home, Kinds.WordKind, Layout.rank_of, Layout.word_at, Views.viewed, Views.mine}
-use Rattle.table_machine.specs.{Views.owner, Views.IsCpu, Views.Fits}
+use Rattle.{atomic_table.specs.Table.{Step, Me}, event_log.specs.declared.{ids.LockId.LockId, events.Event.{Event, TheVariants.{Draw, Look, Free}}}}
+use Rattle.event_log.specs.{History.{IsLawful, Adds}, WordsLog.{cpu_of_event, lock_phase, Waiting, Holding}, Sections.block_after}
+use Rattle.layer_traits.specs.{declared.edits.Mark.Mark, Protocol.Rules, WordsProtocol.{MayCome, sections, mark_of}, OneLock.opened}
+use Rattle.table_machine.specs.{declared.views.{View.View, Home.Home}, Kinds.WordKind, Layout.{rank_of, word_at}, Views.{viewed, mine, owner, IsCpu, Fits}}
 
 -- events of others, then this one; the whole is legal
 pub record Moves {E B O : Type 0} (rules : Rules E B O) (v w : View E B) (e : Event (Mark E)) : Type 0 where

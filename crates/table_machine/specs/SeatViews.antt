@@ -1,12 +1,9 @@
 -- What a caller knows of a table, of a key and of a seat, and what `close` says.
 use Rattle.std.specs.Prelude.{◌≡◌, ℕ, zero, suc, ◌<◌, ◌≤◌, List, [], ◌∷◌, ◌++◌, length, slice_get, Some}
-use Rattle.atomic_table.specs.{Seated.TableId, Table.Me}
-use Rattle.event_log.specs.{declared.ids.CpuId.CpuId, declared.ids.LockId.LockId, declared.events.Event.Event, History.IsLawful, History.own_events}
-use Rattle.event_log.specs.{WordsLog.cpu_of_event, WordsLog.LockPhase, WordsLog.Idle, WordsLog.Waiting, WordsLog.Holding, WordsLog.lock_phase}
-use Rattle.event_log.specs.{Sections.block_after}
-use Rattle.layer_traits.specs.{declared.edits.Mark.Mark, Protocol.Rules, WordsProtocol.MayCome, WordsProtocol.sections, OneLock.opened}
-use Rattle.table_machine.specs.{declared.views.Home.Home, Layout.rank_of, declared.views.View.View, Views.viewed, Views.mine, Views.Has, Views.EndsWith}
-use Rattle.table_machine.specs.{Views.IsSince}
+use Rattle.{atomic_table.specs.{Seated.TableId, Table.Me}, event_log.specs.{declared.{ids.{CpuId.CpuId, LockId.LockId}, events.Event.Event}, History.IsLawful}}
+use Rattle.event_log.specs.{History.own_events, WordsLog.{cpu_of_event, LockPhase, Idle, Waiting, Holding, lock_phase}, Sections.block_after}
+use Rattle.layer_traits.specs.{declared.edits.Mark.Mark, Protocol.Rules, WordsProtocol.{MayCome, sections}, OneLock.opened}
+use Rattle.table_machine.specs.{declared.views.{Home.Home, View.View}, Layout.rank_of, Views.{viewed, mine, Has, EndsWith, IsSince}}
 
 -- a table to its callers: which one it is, the blocks that it opened with, and its number of CPUs
 pub record TableView (B : Type 0) : Type 0 where

@@ -1,8 +1,7 @@
 -- What a seat knows of the log, and which CPUs it acts for.
 use Rattle.std.specs.Prelude.{◌≡◌, ℕ, zero, suc, ◌+◌, ◌<◌, List, [], ◌∷◌, ◌++◌, ◌⊎◌}
-use Rattle.event_log.specs.{declared.ids.CpuId.CpuId, declared.ids.LockId.LockId, declared.events.Event.Event, History.AreOthers, WordsLog.cpu_of_event}
-use Rattle.layer_traits.specs.declared.edits.Mark.{Mark}
-use Rattle.table_machine.specs.declared.views.View.{View}
+use Rattle.event_log.specs.{declared.{ids.{CpuId.CpuId, LockId.LockId}, events.Event.Event}, History.AreOthers, WordsLog.cpu_of_event}
+use Rattle.{layer_traits.specs.declared.edits.Mark.Mark, table_machine.specs.declared.views.View.View}
 use mathlib.Core.Option.{some}
 use lib.ListN.{get_elem?}
 

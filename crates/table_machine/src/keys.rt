@@ -1,12 +1,10 @@
 //! The key of a CPU: what lies in it is what the CPU has seen. No call takes memory or waits.
 
 ghost use Rattle.std.specs.Prelude.{◌≡◌, ℕ, List, [], IsSome, Some, MatchOption, option_map};
-ghost use Rattle.event_log.specs.{declared.events.Event.TheVariants.Draw, declared.events.Event.TheVariants.Look, declared.events.Event.TheVariants.Free};
-ghost use Rattle.event_log.specs.{History.Adds, History.Grows, History.IsLawful, WordsLog.cpu_of_event, WordsLog.lock_phase, WordsLog.Idle, WordsLog.Waiting};
-ghost use Rattle.event_log.specs.{WordsLog.Holding, Sections.block_after};
-ghost use Rattle.layer_traits.specs.{Protocol.section, Protocol.StaysAllowed, WordsProtocol.mark_of, WordsProtocol.sections, WordsProtocol.MayCome};
-ghost use Rattle.layer_traits.specs.{OneLock.opened};
-ghost use Rattle.table_machine.specs.{SeatViews.IsOf, Views.viewed, Views.EndsWith, Views.IsCpu};
+ghost use Rattle.event_log.specs.{declared.events.Event.TheVariants.{Draw, Look, Free}, History.{Adds, Grows, IsLawful}, WordsLog.{cpu_of_event, lock_phase}};
+ghost use Rattle.{event_log.specs.{WordsLog.{Idle, Waiting, Holding}, Sections.block_after}, layer_traits.specs.Protocol.{section, StaysAllowed}};
+ghost use Rattle.{layer_traits.specs.{WordsProtocol.{mark_of, sections, MayCome}, OneLock.opened}, table_machine.specs.{SeatViews.IsOf, Views.viewed}};
+ghost use Rattle.table_machine.specs.Views.{EndsWith, IsCpu};
 
 use crate::plays::{Copies, Draws, Frees, Looks, Meets};
 use crate::rule::Token;

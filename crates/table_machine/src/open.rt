@@ -1,10 +1,9 @@
 //! How a table is made, and its keys dealt. `open` takes memory. It does not wait.
 
 ghost use Rattle.std.specs.Prelude.{◌≡◌, ◌+◌, ◌-◌, ◌<◌, ◌≤◌, ◌^◌, [], length, map, replicate, vec_len, vec_capacity, IfOk};
-ghost use Rattle.event_log.specs.declared.ids.{LockId.LockId, TheConstants.CPUS, TheConstants.LOCKS};
-ghost use Rattle.layer_traits.specs.OneLock.{AreDistinct};
-ghost use Rattle.table_machine.specs.{Layout.AreFirst, Layout.word_count, Layout.AreRanks, Layout.IsLaidOut, Rule.fresh_home, Views.viewed, Views.cpus_from};
-ghost use Rattle.table_machine.specs.{SeatViews.new_seat_view, SeatViews.new_seat_views};
+ghost use Rattle.{event_log.specs.declared.ids.{LockId.LockId, TheConstants.{CPUS, LOCKS}}, layer_traits.specs.OneLock.AreDistinct};
+ghost use Rattle.table_machine.specs.{Layout.{AreFirst, word_count, AreRanks, IsLaidOut}, Rule.fresh_home, Views.{viewed, cpus_from}, SeatViews.new_seat_view};
+ghost use Rattle.table_machine.specs.SeatViews.{new_seat_views};
 
 use crate::keys::Key;
 use crate::plays::Deals;

@@ -69,8 +69,7 @@ impl<E, B> Split<View<E, B>> for Deals {
 pub(crate) struct Copies;
 
 impl<E, B> Split<View<E, B>> for Copies {
-    ghost use Rattle.std.specs.Prelude.{[]};
-    ghost use Rattle.table_machine.specs.Views.{viewed};
+    ghost use Rattle.{std.specs.Prelude.{[]}, table_machine.specs.Views.viewed};
 
     ghost left = { λ v. v };
 
@@ -78,8 +77,7 @@ impl<E, B> Split<View<E, B>> for Copies {
 }
 
 impl<E, B> Join<View<E, B>> for Copies {
-    ghost use Rattle.std.specs.Prelude.{[]};
-    ghost use Rattle.table_machine.specs.Views.{viewed};
+    ghost use Rattle.{std.specs.Prelude.{[]}, table_machine.specs.Views.viewed};
 
     ghost both = { λ v w. record { start = v.start; cpus = v.cpus; seen = v.seen; told = w.seen; lent = w.cpus } };
 

@@ -25,8 +25,7 @@ pub(crate) struct LogRule<E, K> {
 
 impl<E: SplitEdit, K: TableWords> TableRule<Slot<E, E::Block>, View<E, E::Block>, Opening<E::Block>>
     for LogRule<E, K> {
-    ghost use Rattle.std.specs.Prelude.{[]};
-    ghost use Rattle.table_machine.specs.{Rule.TableInv, Views.viewed, Views.cpus_from};
+    ghost use Rattle.{std.specs.Prelude.{[]}, table_machine.specs.{Rule.TableInv, Views.{viewed, cpus_from}}};
 
     ghost holds = { λ k. TableInv K.kind E.rules k.cpus k.blocks.value.items };
 

@@ -1,11 +1,9 @@
 //! Seats at one table, which a single thread takes in turn.
 
 ghost use Rattle.std.specs.Prelude.{◌≡◌, ◌+◌, ◌%◌, ◌^◌, ◌<◌, ◌≤◌, [], ◌∷◌, Some, IsSome, IfOk, MatchOption};
-ghost use Rattle.event_log.specs.{WordsLog.lock_phase, WordsLog.Idle, WordsLog.Waiting, WordsLog.Holding, Sections.block_after, Grants.grant_lock_phase};
-ghost use Rattle.layer_traits.specs.{GrantProtocol.grant_sections, OneLock.AreDistinct, WordsProtocol.sections};
-ghost use Rattle.table_machine.specs.{SeatViews.IsOver, SeatViews.new_seat_view, SeatViews.new_seat_views, declared.tests.TheConstants.LOCK};
-ghost use Rattle.table_machine.specs.{declared.tests.TheConstants.A, declared.tests.TheConstants.B, declared.tests.TheConstants.OTHER};
-ghost use Rattle.event_log.specs.{declared.ids.TheConstants.CPUS};
+ghost use Rattle.event_log.specs.{WordsLog.{lock_phase, Idle, Waiting, Holding}, Sections.block_after, Grants.grant_lock_phase, declared.ids.TheConstants.CPUS};
+ghost use Rattle.{layer_traits.specs.{GrantProtocol.grant_sections, OneLock.AreDistinct, WordsProtocol.sections}, table_machine.specs.SeatViews.IsOver};
+ghost use Rattle.table_machine.specs.{SeatViews.{new_seat_view, new_seat_views}, declared.tests.TheConstants.{LOCK, A, B, OTHER}};
 
 use crate::stored_words::StoredWords;
 use crate::{Key, Shared, TableWords, TicketWords, WaiterWords, meet};

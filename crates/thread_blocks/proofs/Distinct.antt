@@ -1,13 +1,11 @@
 -- Queues as lists in which no thread stands twice.
 use Rattle.std.proofs.Common.{◌≡◌, ◌≢◌, ℕ, ◌<◌, ◌≤◌, Bool, true, false, List, [], ◌∷◌, ◌++◌, length, refl, sym, ap, ◌∙◌, arith, subst, eqb, ◌||◌, ◌⊎◌, inl, inr}
-use Rattle.std.proofs.Common.{suc, ◌==◌, slice_index_or, remove, Some, None, if◌then◌else◌}
-use Rattle.std.specs.{Cmp.IsEquivalence, Cmp.nat_eq_equiv, List.IsDistinct, List.AllByRecursion, List.list_any}
-use Rattle.std.proofs.lemmas.{Bool.or_parts, Bool.or_cases, Bool.or_from, Bool.or_left, Bool.or_right, Bool.true≢false, Bool.cond_both}
-use Rattle.std.proofs.lemmas.{List.Folds.list_any-append, Map.Keys.IsDistinct-head, Map.Keys.IsDistinct-tail, Map.Keys.IsDistinct-cons}
-use Rattle.std.proofs.lemmas.{Map.Keys.IsDistinct-push, Map.Steps.length-le_from_distinct_below, Option.same_Some}
-use Rattle.event_log.specs.declared.ids.{Tid.Tid, TheConstants.THREADS}
-use Rattle.thread_blocks.specs.Queues.{same_tid, is_in, first, rest, without, IsQueue}
-use Rattle.thread_blocks.proofs.{Linking.IsOff, Linking.AreDistinct, Linking.AreBelow, Members.tid_numbered, Members.same_tid_self, Members.same_tid_true}
+use Rattle.std.proofs.{Common.{suc, ◌==◌, slice_index_or, remove, Some, None, if◌then◌else◌}, lemmas.Bool.{or_parts, or_cases, or_from, or_left, or_right}}
+use Rattle.std.proofs.lemmas.{Bool.{true≢false, cond_both}, List.Folds.list_any-append, Map.Keys.{IsDistinct-head, IsDistinct-tail, IsDistinct-cons}}
+use Rattle.std.{proofs.lemmas.{Map.{Keys.IsDistinct-push, Steps.length-le_from_distinct_below}, Option.same_Some}, specs.Cmp.{IsEquivalence, nat_eq_equiv}}
+use Rattle.{std.specs.List.{IsDistinct, AllByRecursion, list_any}, event_log.specs.declared.ids.{Tid.Tid, TheConstants.THREADS}}
+use Rattle.thread_blocks.{specs.Queues.{same_tid, is_in, first, rest, without, IsQueue}, proofs.{Linking.{IsOff, AreDistinct, AreBelow}, Members.tid_numbered}}
+use Rattle.thread_blocks.proofs.Members.{same_tid_self, same_tid_true}
 
 laws : IsEquivalence same_tid
 laws = record {

@@ -1,43 +1,80 @@
--- What each step on the tables makes of the queue that they hold.
-use Rattle.std.proofs.Common.{◌≡◌, ℕ, ◌+◌, ◌-◌, ◌<◌, Bool, true, false, List, [], ◌∷◌, ◌++◌, length, refl, sym, ap, ◌∙◌, subst, arith, Option, Some, None}
-use Rattle.std.proofs.Common.{IfSome, slice_index_or, slice_set, ◌⊎◌, inl, inr, ◌||◌, length-append, length-set}
-use Rattle.std.proofs.lemmas.{Bool.cases_Bool, Bool.eqb-false, Grind.get_or-set_at, List.get_or-set_other}
-use Rattle.event_log.specs.declared.ids.{Tid.Tid, TheConstants.THREADS}
-use Rattle.thread_blocks.specs.{declared.links.Links.Links, Queues.same_tid, Queues.is_in, Queues.first, Queues.without, Queues.IsQueue, Links.to, Links.walk}
-use Rattle.thread_blocks.specs.{Links.Relinked, Links.Hold}
-use Rattle.thread_blocks.proofs.{Members.same_tid_self, Members.same_tid_true, Distinct.none, Distinct.has_room, Distinct.pushed, Distinct.taken_out}
-use Rattle.thread_blocks.proofs.{Distinct.without_parted, Distinct.taken_absent, Distinct.others_stay, Distinct.pushed_in, Distinct.parts, Distinct.off}
-use Rattle.thread_blocks.proofs.{Distinct.all_off_end, Distinct.all_distinct, Distinct.all_below, Linking.AreBelow, Linking.walk_is, Linking.before_below}
-use Rattle.thread_blocks.proofs.{Linking.after_below, Linking.last_below, Linking.below_at, Linking.below_behind, Linking.linked_from, Linking.no_end}
-use Rattle.thread_blocks.proofs.{Linking.unlinked, Linking.linked_behind}
+-- What each step on the table makes of the queue that it holds.
+use Rattle.std.proofs.Common.{◌≡◌, ◌≢◌, ℕ, ◌+◌, ◌-◌, ◌<◌, Bool, true, false, List, [], ◌∷◌, ◌++◌, length, refl, sym, ap, ◌∙◌, subst, arith, Option, Some, None}
+use Rattle.std.proofs.{Common.{IfSome, slice_index_or, ◌⊎◌, inl, inr, ◌||◌, length-append}, lemmas.Bool.cases_Bool}
+use Rattle.{event_log.specs.declared.ids.{Tid.Tid, TheConstants.THREADS}, thread_blocks.specs.{declared.nodes.{Node.Node, Nodes.Nodes}, Queues.same_tid}}
+use Rattle.thread_blocks.specs.{Queues.{is_in, first, without, IsQueue}, Links.{untouched, at, next_of, prev_of, member_of, walk, threads_of, Changed, Hold}}
+use Rattle.thread_blocks.proofs.{Members.{same_tid_self, same_tid_true}, Distinct.{none, has_room, pushed, taken_out, without_parted, taken_absent}}
+use Rattle.thread_blocks.proofs.{Distinct.{others_stay, pushed_in, parts, off, all_off_end, all_distinct, all_below}, Linking.{AreBelow, walk_is, before_below}}
+use Rattle.thread_blocks.proofs.Linking.{after_below, last_below, below_at, below_behind, linked_from, no_end, other_node, same_node, unlinked, linked_behind}
 
--- the tables show the queue that they hold
-pub walk_held : {nexts prevs : Links} {members : List Bool} {count : ℕ} {queue : List Tid} → Hold nexts prevs members count queue
-    → walk nexts nexts.end count ≡ queue
-walk_held {nexts} {prevs} {members} {count} {queue} hold =
-    subst (λ n. walk nexts nexts.end n ≡ queue) hold.counted (walk_is nexts (to prevs) None queue hold.linked)
+-- the table shows the queue that it holds
+pub walk_held : {nodes : Nodes} {queue : List Tid} → Hold nodes queue → threads_of nodes ≡ queue
+walk_held {nodes} {queue} hold =
+    subst (λ n. walk (next_of nodes) nodes.end.next n ≡ queue) hold.counted (walk_is (next_of nodes) (prev_of nodes) None queue hold.linked)
 
-pub held_walk : {nexts prevs : Links} {members : List Bool} {count : ℕ} {queue : List Tid} → Hold nexts prevs members count queue
-    → Hold nexts prevs members count (walk nexts nexts.end count)
-held_walk {nexts} {prevs} {members} {count} {queue} hold = subst (Hold nexts prevs members count) (sym (walk_held hold)) hold
+pub held_walk : {nodes : Nodes} {queue : List Tid} → Hold nodes queue → Hold nodes (threads_of nodes)
+held_walk {nodes} {queue} hold = subst (Hold nodes) (sym (walk_held hold)) hold
 
--- empty tables hold the empty queue
-pub none_held : (nexts prevs : Links) (members : List Bool) → nexts.end ≡ None → prevs.end ≡ None → length nexts.cells ≡ THREADS → length prevs.cells ≡ THREADS
-    → length members ≡ THREADS → ((i : ℕ) → i < THREADS → slice_index_or members i false ≡ false) → Hold nexts prevs members 0 []
-none_held nexts prevs members no_first no_last nexts_fit prevs_fit members_fit each = record {
-  next_length = nexts_fit;
-  prev_length = prevs_fit;
-  member_length = members_fit;
-  counted = refl;
+-- the parts of a node
+abbrev next : Node → Option Tid
+next node = node.next
+
+abbrev prev : Node → Option Tid
+prev node = node.prev
+
+abbrev is_member : Node → Bool
+is_member node = node.is_member
+
+-- an untouched table holds the empty queue
+pub empty_held : (nodes : Nodes) → nodes.end ≡ untouched → nodes.count ≡ 0 → length nodes.cells ≡ THREADS
+    → ((i : ℕ) → i < THREADS → slice_index_or nodes.cells i untouched ≡ untouched) → Hold nodes []
+empty_held nodes end count fits each = record {
+  fits = fits;
+  counted = sym count;
   queue_is = none;
-  linked = (no_first, no_last);
-  members_are = λ t below. each t.0 below;
+  linked = (ap next end, ap prev end);
+  members_are = λ t below. ap is_member (each t.0 below);
 }
 
-relinked_at : {old new : Option Tid → Option Tid} {at at' leads leads' : Option Tid} → at ≡ at' → leads ≡ leads'
-    → Relinked old new at leads → Relinked old new at' leads'
-relinked_at {old} {new} {at} {at'} {leads} {leads'} is goes relinked =
-    subst (λ (node : Option Tid). Relinked old new node leads') is (subst (λ (node : Option Tid). Relinked old new at node) goes relinked)
+-- where a node is changed, so is each part of it
+part_changed : {A : Type 0} (part : Node → A) {old new : Option Tid → Node} {node : Option Tid} {value : Node} → Changed old new node value
+    → Changed (λ n. part (old n)) (λ n. part (new n)) node (part value)
+part_changed part changed = record { here = ap part changed.here; there = λ other differ. ap part (changed.there other differ) }
+
+-- a part that the node keeps is kept everywhere
+part_kept : {A : Type 0} (part : Node → A) {old new : Option Tid → Node} {node : Option Tid} {value : Node} → Changed old new node value
+    → part value ≡ part (old node) → (other : Option Tid) → part (new other) ≡ part (old other)
+part_kept part {old} {new} {node} {value} changed same other = one_by_one (same_node other node)
+  where
+    one_by_one : (other ≡ node) ⊎ (other ≢ node) → part (new other) ≡ part (old other)
+    one_by_one (inl is) = ap (λ (n : Option Tid). part (new n)) is ∙ ap part changed.here ∙ same ∙ ap (λ (n : Option Tid). part (old n)) (sym is)
+    one_by_one (inr differ) = ap part (changed.there other differ)
+
+-- what stays before and behind a change leaves that change
+changed_within : {A : Type 0} {old old' new new' : Option Tid → A} {node : Option Tid} {value : A} → ((n : Option Tid) → old' n ≡ old n)
+    → Changed old' new' node value → ((n : Option Tid) → new n ≡ new' n) → Changed old new node value
+changed_within {node = node} before changed behind = record {
+  here = behind node ∙ changed.here;
+  there = λ other differ. behind other ∙ changed.there other differ ∙ before other;
+}
+
+changed_at : {old new : Option Tid → Option Tid} {node node' value value' : Option Tid} → node ≡ node' → value ≡ value'
+    → Changed old new node value → Changed old new node' value'
+changed_at {old} {new} {node} {node'} {value} {value'} is goes changed =
+    subst (λ (n : Option Tid). Changed old new n value') is (subst (λ (v : Option Tid). Changed old new node v) goes changed)
+
+-- the count is no part of a node
+at_counted : (nodes : Nodes) (count : ℕ) (node : Option Tid) → at (record nodes { count = count }) node ≡ at nodes node
+at_counted nodes count None = refl
+at_counted nodes count (Some t) = refl
+
+-- the end's node alone is changed
+end_changed : (nodes : Nodes) (end : Node) (count : ℕ) → Changed (at nodes) (at (record nodes { end = end; count = count })) None end
+end_changed nodes end count = record { here = refl; there = others }
+  where
+    others : (other : Option Tid) → other ≢ None → at (record nodes { end = end; count = count }) other ≡ at nodes other
+    others None differ = absurd (differ refl)
+    others (Some t) differ = refl
 
 -- the last thread stands in the queue, and each other one where it stood
 last_in : (t : Tid) (queue : List Tid) → (is_in t queue || (same_tid t t || false)) ≡ true
@@ -54,95 +91,105 @@ not_last_in u t queue other = either (is_in u queue) (same_tid u t) other
     either true b is = refl
     either false b is = ap (λ c. c || false) is
 
--- the table of members after one thread came or went
-members_after : (members : List Bool) (i : ℕ) (b : Bool) (t : Tid) (old new : List Tid) → length members ≡ THREADS → t.0 < THREADS → i ≡ t.0
-    → ((u : Tid) → u.0 < THREADS → slice_index_or members u.0 false ≡ is_in u old) → is_in t new ≡ b
-    → ((u : Tid) → same_tid u t ≡ false → is_in u new ≡ is_in u old)
-    → (u : Tid) → u.0 < THREADS → slice_index_or (slice_set members i b) u.0 false ≡ is_in u new
-members_after members i b t old new fits known at are here others u below = one_by_one (cases_Bool (same_tid u t))
+-- which threads are members after one came or went
+members_after : {old new : Option Tid → Bool} {b : Bool} (t : Tid) (before after : List Tid) → Changed old new (Some t) b
+    → ((u : Tid) → u.0 < THREADS → old (Some u) ≡ is_in u before) → is_in t after ≡ b
+    → ((u : Tid) → same_tid u t ≡ false → is_in u after ≡ is_in u before)
+    → (u : Tid) → u.0 < THREADS → new (Some u) ≡ is_in u after
+members_after {old} {new} t before after changed are here others u below = one_by_one (cases_Bool (same_tid u t))
   where
-    one_by_one : (same_tid u t ≡ true) ⊎ (same_tid u t ≡ false) → slice_index_or (slice_set members i b) u.0 false ≡ is_in u new
+    one_by_one : (same_tid u t ≡ true) ⊎ (same_tid u t ≡ false) → new (Some u) ≡ is_in u after
     one_by_one (inl same) =
         let is = same_tid_true u t same in
-        get_or-set_at members i u.0 b false (ap (λ (x : Tid). x.0) is ∙ sym at) (omega arith) ∙ sym here ∙ ap (λ (x : Tid). is_in x new) (sym is)
-    one_by_one (inr other) =
-        get_or-set_other members i u.0 b false (λ same. eqb-false u.0 t.0 other (same ∙ at)) ∙ are u below ∙ sym (others u other)
+        ap (λ (x : Tid). new (Some x)) is ∙ changed.here ∙ sym here ∙ ap (λ (x : Tid). is_in x after) (sym is)
+    one_by_one (inr other) = changed.there (Some u) (other_node u t other) ∙ are u below ∙ sym (others u other)
 
-module _ {nexts prevs : Links} {members : List Bool} {count : ℕ} where
-  are_below : (queue : List Tid) → Hold nexts prevs members count queue → AreBelow THREADS queue
+module _ {nodes : Nodes} where
+  are_below : (queue : List Tid) → Hold nodes queue → AreBelow THREADS queue
   are_below queue hold = all_below THREADS queue hold.queue_is.1
 
-  -- a thread of the queue, the node before it and the one behind it have a place in the tables
-  pub known_there : (before : List Tid) (t : Tid) (after : List Tid) → Hold nexts prevs members count (before ++ t ∷ after) → t.0 < THREADS
+  -- a thread of the queue, the node before it and the one behind it have a place in the table
+  pub known_there : (before : List Tid) (t : Tid) (after : List Tid) → Hold nodes (before ++ t ∷ after) → t.0 < THREADS
   known_there before t after hold = below_at THREADS before t after (are_below _ hold)
 
-  pub before_there : (before : List Tid) (t : Tid) (after : List Tid) → Hold nexts prevs members count (before ++ t ∷ after)
-      → IfSome (to prevs (Some t)) (λ u. u.0 < THREADS)
-  before_there before t after hold = before_below (to nexts) (to prevs) THREADS None before t after hold.linked tt (are_below _ hold)
+  pub before_there : (before : List Tid) (t : Tid) (after : List Tid) → Hold nodes (before ++ t ∷ after)
+      → IfSome (prev_of nodes (Some t)) (λ u. u.0 < THREADS)
+  before_there before t after hold = before_below (next_of nodes) (prev_of nodes) THREADS None before t after hold.linked tt (are_below _ hold)
 
-  pub after_there : (before : List Tid) (t : Tid) (after : List Tid) → Hold nexts prevs members count (before ++ t ∷ after)
-      → IfSome (to nexts (Some t)) (λ u. u.0 < THREADS)
-  after_there before t after hold = after_below (to nexts) (to prevs) THREADS (Some t) after
-      (linked_from (to nexts) (to prevs) None before t after hold.linked) (below_behind THREADS before t after (are_below _ hold))
+  pub after_there : (before : List Tid) (t : Tid) (after : List Tid) → Hold nodes (before ++ t ∷ after)
+      → IfSome (next_of nodes (Some t)) (λ u. u.0 < THREADS)
+  after_there before t after hold = after_below (next_of nodes) (prev_of nodes) THREADS (Some t) after
+      (linked_from (next_of nodes) (prev_of nodes) None before t after hold.linked) (below_behind THREADS before t after (are_below _ hold))
 
   -- so has the last thread
-  pub last_there : (queue : List Tid) → Hold nexts prevs members count queue → IfSome (to prevs None) (λ u. u.0 < THREADS)
-  last_there queue hold = last_below (to nexts) (to prevs) THREADS None queue hold.linked tt (are_below queue hold)
+  pub last_there : (queue : List Tid) → Hold nodes queue → IfSome (prev_of nodes None) (λ u. u.0 < THREADS)
+  last_there queue hold = last_below (next_of nodes) (prev_of nodes) THREADS None queue hold.linked tt (are_below queue hold)
 
   -- a queue that lacks a thread is not full
-  pub room_there : (queue : List Tid) (t : Tid) → Hold nexts prevs members count queue → t.0 < THREADS → is_in t queue ≡ false → count < THREADS
+  pub room_there : (queue : List Tid) (t : Tid) → Hold nodes queue → t.0 < THREADS → is_in t queue ≡ false → nodes.count < THREADS
   room_there queue t hold known new = subst (λ n. n < THREADS) hold.counted (has_room queue t hold.queue_is known new)
 
   -- the queue begins with the thread that the end leads to
-  pub fronted : (queue : List Tid) → Hold nexts prevs members count queue → nexts.end ≡ first queue
+  pub fronted : (queue : List Tid) → Hold nodes queue → nodes.end.next ≡ first queue
   fronted [] hold = hold.linked.0
   fronted (t ∷ queue) hold = hold.linked.0
 
   -- t is taken out from between the others
-  pub taken_held : {nexts' prevs' : Links} {before_t after_t : Option Tid} (before : List Tid) (t : Tid) (after : List Tid)
-      → before_t ≡ to prevs (Some t) → after_t ≡ to nexts (Some t)
-      → Relinked (to nexts) (to nexts') before_t after_t → Relinked (to prevs) (to prevs') after_t before_t
-      → length nexts'.cells ≡ THREADS → length prevs'.cells ≡ THREADS → (i : ℕ) → i ≡ t.0 → (members' : List Bool) → members' ≡ slice_set members i false
-      → Hold nexts prevs members count (before ++ t ∷ after) → Hold nexts' prevs' members' (count - 1) (before ++ after)
-  taken_held {nexts'} {prevs'} {before_t} {after_t} before t after before_is after_is ahead back nexts_fit prevs_fit i at members' wrote hold =
+  pub taken_held : (nodes1 nodes2 nodes3 : Nodes) {out ahead back : Node} (before : List Tid) (t : Tid) (after : List Tid)
+      → out ≡ at nodes (Some t) → Changed (at nodes) (at nodes1) (Some t) (record out { is_member = false })
+      → ahead ≡ at nodes1 out.prev → Changed (at nodes1) (at nodes2) out.prev (record ahead { next = out.next })
+      → back ≡ at nodes2 out.next → Changed (at nodes2) (at nodes3) out.next (record back { prev = out.prev })
+      → length nodes3.cells ≡ THREADS → nodes3.count ≡ nodes.count
+      → Hold nodes (before ++ t ∷ after) → Hold (record nodes3 { count = nodes3.count - 1 }) (before ++ after)
+  taken_held nodes1 nodes2 nodes3 {out} {ahead} {back} before t after out_is one ahead_is two back_is three fits count hold =
       let queue : List Tid = before ++ t ∷ after in
       let apart = parts t before after hold.queue_is.0 in
       let left : without t queue ≡ before ++ after = without_parted t before after apart.0 apart.1 in
-      let known = known_there before t after hold in
+      let nodes' : Nodes = record nodes3 { count = nodes3.count - 1 } in
+      let last : Changed (at nodes2) (at nodes') out.next (record back { prev = out.prev }) =
+      changed_within (λ n. refl) three (at_counted nodes3 (nodes3.count - 1)) in
+      let nexts : Changed (next_of nodes) (next_of nodes') out.prev out.next = changed_within
+      (part_kept next one (ap next out_is)) (part_changed next two) (part_kept next last (ap next back_is)) in
+      let prevs : Changed (prev_of nodes) (prev_of nodes') out.next out.prev = changed_within
+      (λ n. part_kept prev two (ap prev ahead_is) n ∙ part_kept prev one (ap prev out_is) n) (part_changed prev last) (λ n. refl) in
+      let members : Changed (member_of nodes) (member_of nodes') (Some t) false = changed_within
+      (λ n. refl) (part_changed is_member one) (λ n. part_kept is_member last (ap is_member back_is) n ∙ part_kept is_member two (ap is_member ahead_is) n) in
       record {
-        next_length = nexts_fit;
-        prev_length = prevs_fit;
-        member_length = ap length wrote ∙ length-set members i false ∙ hold.member_length;
-        counted = omega (arith, length-append before after, length-append before (t ∷ after), hold.counted);
+        fits = fits;
+        counted = omega (arith, length-append before after, length-append before (t ∷ after), hold.counted, count);
         queue_is = subst IsQueue left (taken_out t queue hold.queue_is);
-        linked = unlinked (to nexts) (to prevs) t
-            (relinked_at before_is after_is ahead)
-            (relinked_at after_is before_is back)
+        linked = unlinked (next_of nodes) (prev_of nodes) t
+            (changed_at (ap prev out_is) (ap next out_is) nexts)
+            (changed_at (ap next out_is) (ap prev out_is) prevs)
             None before after (all_off_end queue) (all_distinct queue hold.queue_is.0) hold.linked;
-        members_are = λ u below. ap (λ (ms : List Bool). slice_index_or ms u.0 false) wrote
-            ∙ members_after members i false t queue (before ++ after) hold.member_length known at hold.members_are
+        members_are = members_after t queue (before ++ after) members hold.members_are
             (subst (λ (q : List Tid). is_in t q ≡ false) left (taken_absent t queue))
-            (λ x other. subst (λ (q : List Tid). is_in x q ≡ is_in x queue) left (others_stay x t queue other)) u below;
+            (λ x other. subst (λ (q : List Tid). is_in x q ≡ is_in x queue) left (others_stay x t queue other));
       }
 
   -- t is put behind the others
-  pub behind_held : (nexts1 nexts' prevs1 prevs' : Links) {last : Option Tid} (t : Tid) (queue : List Tid) → t.0 < THREADS → last ≡ to prevs None
-      → Relinked (to nexts) (to nexts1) last (Some t) → Relinked (to nexts1) (to nexts') (Some t) None
-      → Relinked (to prevs) (to prevs1) (Some t) last → Relinked (to prevs1) (to prevs') None (Some t)
-      → length nexts'.cells ≡ THREADS → length prevs'.cells ≡ THREADS → (i : ℕ) → i ≡ t.0 → (members' : List Bool) → members' ≡ slice_set members i true
-      → Hold nexts prevs members count queue → is_in t queue ≡ false → Hold nexts' prevs' members' (count + 1) (queue ++ t ∷ [])
-  behind_held nexts1 nexts' prevs1 prevs' t queue known last_is to_new new_to_end new_back end_back nexts_fit prevs_fit i at members' wrote hold new = record {
-    next_length = nexts_fit;
-    prev_length = prevs_fit;
-    member_length = ap length wrote ∙ length-set members i true ∙ hold.member_length;
-    counted = omega (arith, length-append queue (t ∷ []), hold.counted);
-    queue_is = pushed queue t hold.queue_is known new;
-    linked = linked_behind (to nexts) (to prevs) t
-        (relinked_at last_is refl to_new) new_to_end
-        (relinked_at refl last_is new_back) end_back
-        None queue no_end (off t queue new) (all_off_end queue) (all_distinct queue hold.queue_is.0) hold.linked;
-    members_are = λ u below. ap (λ (ms : List Bool). slice_index_or ms u.0 false) wrote
-        ∙ members_after members i true t queue (queue ++ t ∷ []) hold.member_length known at hold.members_are
-        (pushed_in t t queue ∙ last_in t queue)
-        (λ x other. pushed_in x t queue ∙ not_last_in x t queue other) u below;
-  }
+  pub behind_held : (nodes1 nodes2 : Nodes) {before : Node} (t : Tid) (queue : List Tid) → t.0 < THREADS → before ≡ at nodes nodes.end.prev
+      → Changed (at nodes) (at nodes1) nodes.end.prev (record before { next = Some t })
+      → Changed (at nodes1) (at nodes2) (Some t) (record { next = None; prev = nodes.end.prev; is_member = true })
+      → length nodes2.cells ≡ THREADS → nodes2.count ≡ nodes.count → Hold nodes queue → is_in t queue ≡ false
+      → Hold (record nodes2 { end = record nodes2.end { prev = Some t }; count = nodes2.count + 1 }) (queue ++ t ∷ [])
+  behind_held nodes1 nodes2 {before} t queue known before_is one two fits count hold new =
+      let nodes' : Nodes = record nodes2 { end = record nodes2.end { prev = Some t }; count = nodes2.count + 1 } in
+      let end : Changed (at nodes2) (at nodes') None (record nodes2.end { prev = Some t }) = end_changed nodes2 _ (nodes2.count + 1) in
+      let new_to_end : Changed (next_of nodes1) (next_of nodes') (Some t) None = changed_within
+      (λ n. refl) (part_changed next two) (part_kept next end refl) in
+      let new_back : Changed (prev_of nodes) (prev_of nodes2) (Some t) nodes.end.prev = changed_within
+      (part_kept prev one (ap prev before_is)) (part_changed prev two) (λ n. refl) in
+      let members : Changed (member_of nodes) (member_of nodes') (Some t) true = changed_within
+      (part_kept is_member one (ap is_member before_is)) (part_changed is_member two) (part_kept is_member end refl) in
+      record {
+        fits = fits;
+        counted = omega (arith, length-append queue (t ∷ []), hold.counted, count);
+        queue_is = pushed queue t hold.queue_is known new;
+        linked = linked_behind (next_of nodes) (prev_of nodes) t
+            (part_changed next one) new_to_end new_back (part_changed prev end)
+            None queue no_end (off t queue new) (all_off_end queue) (all_distinct queue hold.queue_is.0) hold.linked;
+        members_are = members_after t queue (queue ++ t ∷ []) members hold.members_are
+            (pushed_in t t queue ∙ last_in t queue)
+            (λ x other. pushed_in x t queue ∙ not_last_in x t queue other);
+      }

@@ -1,7 +1,7 @@
--- What a changed link leaves of a queue in two tables of links.
-use Rattle.std.proofs.Common.{◌≡◌, ◌≢◌, ℕ, ◌<◌, List, [], ◌∷◌, ◌++◌, length, sym, ap, ◌∙◌, subst, Option, Some, None, IfSome}
-use Rattle.event_log.specs.declared.ids.Tid.{Tid}
-use Rattle.thread_blocks.specs.{declared.links.Links.Links, Links.to, Links.walk, Links.AreLinked, Links.Relinked}
+-- What a changed node leaves of a queue that lies in a table of nodes.
+use Rattle.std.proofs.Common.{◌≡◌, ◌≢◌, ℕ, ◌<◌, true, false, List, [], ◌∷◌, ◌++◌, length, refl, sym, ap, ◌∙◌, subst, ◌⊎◌, inl, inr, Option, Some, None, IfSome}
+use Rattle.{std.proofs.lemmas.{Bool.{cases_Bool, true≢false}, Option.same_Some}, event_log.specs.declared.ids.Tid.Tid, thread_blocks.specs.Queues.same_tid}
+use Rattle.thread_blocks.{specs.Links.{walk, AreLinked, Changed}, proofs.Members.{same_tid_self, same_tid_true}}
 
 -- the node is none of these threads
 abbrev pub IsOff : Option Tid → List Tid → Type 0
@@ -24,6 +24,20 @@ other_way differ same = differ (sym same)
 pub no_end : {t : Tid} → None ≢ Some t
 no_end same = absurd cc
 
+-- two threads are two nodes
+pub other_node : (a b : Tid) → same_tid a b ≡ false → Some a ≢ Some b
+other_node a b differ same = true≢false (sym (same_tid_self a) ∙ ap (same_tid a) (same_Some a b same) ∙ differ)
+
+pub same_node : (a b : Option Tid) → (a ≡ b) ⊎ (a ≢ b)
+same_node None None = inl refl
+same_node None (Some b) = inr no_end
+same_node (Some a) None = inr (other_way no_end)
+same_node (Some a) (Some b) = one_by_one (cases_Bool (same_tid a b))
+  where
+    one_by_one : (same_tid a b ≡ true) ⊎ (same_tid a b ≡ false) → (Some a ≡ Some b) ⊎ (Some a ≢ Some b)
+    one_by_one (inl same) = inl (ap (λ (t : Tid). Some t) (same_tid_true a b same))
+    one_by_one (inr differ) = inr (other_node a b differ)
+
 off_left : (at : Option Tid) (ys zs : List Tid) → IsOff at (ys ++ zs) → IsOff at ys
 off_left at [] zs off = tt
 off_left at (y ∷ ys) zs off = (off.0, off_left at ys zs off.1)
@@ -41,11 +55,10 @@ below_behind n [] t zs all = all.1
 below_behind n (y ∷ ys) t zs all = below_behind n ys t zs all.1
 
 -- walking as many links as there are threads meets exactly these threads
-pub walk_is : (nexts : Links) (prev : Option Tid → Option Tid) (at : Option Tid) (xs : List Tid) → AreLinked (to nexts) prev at xs
-    → walk nexts (to nexts at) (length xs) ≡ xs
-walk_is nexts prev at [] linked = ap (λ node. walk nexts node 0) linked.0
-walk_is nexts prev at (x ∷ xs) linked = ap (λ node. walk nexts node (length (x ∷ xs))) linked.0
-    ∙ ap (λ (ys : List Tid). x ∷ ys) (walk_is nexts prev (Some x) xs linked.2)
+pub walk_is : (next prev : Option Tid → Option Tid) (at : Option Tid) (xs : List Tid) → AreLinked next prev at xs → walk next (next at) (length xs) ≡ xs
+walk_is next prev at [] linked = ap (λ node. walk next node 0) linked.0
+walk_is next prev at (x ∷ xs) linked = ap (λ node. walk next node (length (x ∷ xs))) linked.0
+    ∙ ap (λ (ys : List Tid). x ∷ ys) (walk_is next prev (Some x) xs linked.2)
 
 module _ (next prev : Option Tid → Option Tid) where
   -- the links behind a thread
@@ -85,7 +98,7 @@ module _ (next prev : Option Tid → Option Tid) where
 
   -- links that are no others than these stay
   module _ {next' prev' : Option Tid → Option Tid} where
-    stay : {p n p_leads n_leads : Option Tid} → Relinked next next' p p_leads → Relinked prev prev' n n_leads → (at : Option Tid) (xs : List Tid)
+    stay : {p n p_leads n_leads : Option Tid} → Changed next next' p p_leads → Changed prev prev' n n_leads → (at : Option Tid) (xs : List Tid)
         → at ≢ p → IsOff p xs → None ≢ n → IsOff n xs → AreLinked next prev at xs → AreLinked next' prev' at xs
     stay nexts prevs at [] at_off xs_off end_off back_off linked = (nexts.there at at_off ∙ linked.0, prevs.there None end_off ∙ linked.1)
     stay nexts prevs at (x ∷ xs) at_off xs_off end_off back_off linked = (
@@ -94,7 +107,7 @@ module _ (next prev : Option Tid → Option Tid) where
       stay nexts prevs (Some x) xs xs_off.0 xs_off.1 end_off back_off.1 linked.2,
     )
 
-    module _ (t : Tid) (nexts : Relinked next next' (prev (Some t)) (next (Some t))) (prevs : Relinked prev prev' (next (Some t)) (prev (Some t))) where
+    module _ (t : Tid) (nexts : Changed next next' (prev (Some t)) (next (Some t))) (prevs : Changed prev prev' (next (Some t)) (prev (Some t))) where
       unlinked_here : (at : Option Tid) (zs : List Tid) → IsOff at zs → AreDistinct zs → AreLinked next prev at (t ∷ zs) → AreLinked next' prev' at zs
       unlinked_here at [] off distinct linked = (
         ap next' (sym linked.1) ∙ nexts.here ∙ linked.2.0,
@@ -126,8 +139,8 @@ module _ (next prev : Option Tid → Option Tid) where
 
   -- where the last node leads to t and t to the end, and back, t is behind the others
   module _ {next1 next' prev1 prev' : Option Tid → Option Tid} (t : Tid)
-      (to_new : Relinked next next1 (prev None) (Some t)) (new_to_end : Relinked next1 next' (Some t) None)
-      (new_back : Relinked prev prev1 (Some t) (prev None)) (end_back : Relinked prev1 prev' None (Some t)) where
+      (to_new : Changed next next1 (prev None) (Some t)) (new_to_end : Changed next1 next' (Some t) None)
+      (new_back : Changed prev prev1 (Some t) (prev None)) (end_back : Changed prev1 prev' None (Some t)) where
     pub linked_behind : (at : Option Tid) (xs : List Tid) → at ≢ Some t → IsOff (Some t) xs → IsOff at xs → AreDistinct xs → AreLinked next prev at xs
         → AreLinked next' prev' at (xs ++ t ∷ [])
     linked_behind at [] differ new off distinct linked = (

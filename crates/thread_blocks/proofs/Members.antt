@@ -1,8 +1,6 @@
 -- Which threads stand in a list.
-use Rattle.std.proofs.Common.{◌≡◌, ℕ, true, refl, ap}
-use Rattle.std.proofs.lemmas.Bool.{eq-eqb, eqb-true}
-use Rattle.event_log.specs.declared.ids.Tid.{Tid}
-use Rattle.thread_blocks.specs.Queues.{same_tid}
+use Rattle.std.proofs.{Common.{◌≡◌, ℕ, true, refl, ap}, lemmas.Bool.{eq-eqb, eqb-true}}
+use Rattle.{event_log.specs.declared.ids.Tid.Tid, thread_blocks.specs.Queues.same_tid}
 
 abbrev pub tid_numbered : ℕ → Tid
 tid_numbered n = record { 0 = n }

@@ -1,4 +1,4 @@
-//! Queues of threads, over tables of links.
+//! Queues of threads, each over a table of linked nodes.
 //!
 //! ```rust
 //! use event_log::Tid;
@@ -12,8 +12,8 @@
 //! ```
 #![tactic(auto)]
 
-mod links;
 mod lists;
+mod nodes;
 mod queues;
 
 pub use lists::ThreadList;

@@ -1,8 +1,7 @@
 //! The threads that were taken out of a queue at once. No call takes memory or waits.
 
 ghost use Rattle.std.specs.Prelude.{◌≡◌, ◌<◌, ◌++◌, ◌∷◌, [], false, length, MatchOption};
-ghost use Rattle.event_log.specs.declared.ids.TheConstants.{THREADS};
-ghost use Rattle.thread_blocks.specs.Queues.{is_in, AreApart};
+ghost use Rattle.{event_log.specs.declared.ids.TheConstants.THREADS, thread_blocks.specs.Queues.{is_in, AreApart}};
 
 use crate::queues::ThreadQueue;
 use arrayvec::ArrayVec;
@@ -18,9 +17,7 @@ pub struct ThreadList {
 }
 
 impl Model for ThreadList {
-    ghost use Rattle.std.specs.Prelude.{List};
-    ghost use Rattle.event_log.specs.declared.ids.Tid.{Tid};
-    ghost use Rattle.thread_blocks.specs.Queues.{IsQueue};
+    ghost use Rattle.{std.specs.Prelude.List, event_log.specs.declared.ids.Tid.Tid, thread_blocks.specs.Queues.IsQueue};
 
     ghost Value = { List Tid };
 

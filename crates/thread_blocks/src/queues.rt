@@ -1,40 +1,34 @@
 //! A queue of threads. No call takes memory or waits.
 
-ghost use Rattle.std.specs.Prelude.{◌≡◌, ◌+◌, ◌*◌, ◌<◌, ◌≤◌, ◌++◌, ◌∷◌, [], ℕ, List, false, length, MatchOption};
-ghost use Rattle.event_log.specs.declared.ids.TheConstants.{THREADS};
-ghost use Rattle.thread_blocks.specs.{Queues.is_in, Queues.first, Queues.rest, Queues.without, Queues.AreApart, Links.Hold};
+ghost use Rattle.std.specs.Prelude.{◌≡◌, ◌+◌, ◌*◌, ◌<◌, ◌≤◌, ◌++◌, ◌∷◌, [], List, false, length, MatchOption};
+ghost use Rattle.{event_log.specs.declared.ids.TheConstants.THREADS, thread_blocks.specs.{Queues.{is_in, first, rest, without, AreApart}, Links.Hold}};
 
-use crate::links::Links;
 use crate::lists::ThreadList;
-use event_log::{Cells, THREADS, Ticks, Tid};
+use crate::nodes::{Node, Nodes};
+use event_log::{THREADS, Ticks, Tid};
 use std::marker::{Brand, Model};
 use std::sync::ledger::{Blank, Ledger};
 
 /// A queue of threads, the first one first. No thread stands in it twice, so it has room for all
 /// [`THREADS`] threads, and no call takes memory.
 ///
-/// It lies in tables by thread number: for each thread the one behind it, the one before it, and
+/// It lies in one table by thread number: for each thread the one behind it, the one before it, and
 /// whether it stands in the queue. So each call touches few cells, wherever its thread stands: at
 /// most 8, and 16 for each thread that [`drain_into`](ThreadQueue::drain_into) moves. A
 /// [`take`](ThreadQueue::take) pops one thread after another.
 #[derive(Drop)]
 pub struct ThreadQueue {
-    nexts: Links,
-    prevs: Links,
-    members: Cells<bool, THREADS>,
-    count: usize,
+    nodes: Nodes,
 }
 
 impl Model for ThreadQueue {
-    ghost use Rattle.std.specs.Prelude.{List};
-    ghost use Rattle.event_log.specs.declared.ids.Tid.{Tid};
-    ghost use Rattle.thread_blocks.specs.Links.{walk, Hold};
+    ghost use Rattle.{std.specs.Prelude.List, event_log.specs.declared.ids.Tid.Tid, thread_blocks.specs.Links.{threads_of, Hold}};
 
     ghost Value = { List Tid };
 
-    ghost view = { λ q. walk q.nexts q.nexts.end q.count };
+    ghost view = { λ q. threads_of q.nodes };
 
-    ghost invariant = { λ q. Hold q.nexts q.prevs q.members q.count (walk q.nexts q.nexts.end q.count) };
+    ghost invariant = { λ q. Hold q.nodes (threads_of q.nodes) };
 }
 
 impl ThreadQueue {
@@ -43,10 +37,7 @@ impl ThreadQueue {
         ensures { result ≡ [] }
     {
         ThreadQueue {
-            nexts: Links::to_end(),
-            prevs: Links::to_end(),
-            members: Cells::filled(false),
-            count: 0,
+            nodes: Nodes::empty(),
         }
     }
 
@@ -54,21 +45,21 @@ impl ThreadQueue {
     pub fn len(&self) -> usize
         ensures { result ≡ length self.now }
     {
-        self.count
+        self.nodes.count
     }
 
     /// The thread at the front, which stays there; `None` where the queue is empty.
     pub fn front(&self) -> Option<Tid>
         ensures { result ≡ first self.now }
     {
-        self.nexts.end
+        self.nodes.end.next
     }
     /// Whether `t` stands in the queue. At most 8 ticks.
     pub fn contains_in<L: Ledger>(&self, t: Tid, ticks: &mut Ticks<L>) -> bool
         ensures found { result ≡ is_in t self.now }
         ensures ticks { ticks.new ≤ ticks.old + 8 }
     {
-        is_member(&self.members, t, ticks)
+        is_member(&self.nodes, t, ticks)
     }
 
     /// Puts `t` behind the others. At most 8 ticks.
@@ -80,14 +71,7 @@ impl ThreadQueue {
         ensures pushed { self.new ≡ self.old ++ t ∷ [] }
         ensures ticks { ticks.new ≤ ticks.old + 8 }
     {
-        link_behind(
-            &mut self.nexts,
-            &mut self.prevs,
-            &mut self.members,
-            &mut self.count,
-            t,
-            ticks,
-        );
+        link_behind(&mut self.nodes, t, ticks);
     }
 
     /// Takes the thread at the front out; `None` where the queue is empty. At most 8 ticks, and none
@@ -98,18 +82,11 @@ impl ThreadQueue {
         ensures apart { MatchOption result (self.old ≡ []) (λ t. (t.0 < THREADS) × (is_in t self.new ≡ false) × (self.old ≡ t ∷ self.new)) }
         ensures ticks { MatchOption result (ticks.new ≡ ticks.old) (λ _. ticks.new ≤ ticks.old + 8) }
     {
-        let first = self.nexts.end;
+        let first = self.nodes.end.next;
         let Some(t) = first else {
             return None;
         };
-        unlink(
-            &mut self.nexts,
-            &mut self.prevs,
-            &mut self.members,
-            &mut self.count,
-            t,
-            ticks,
-        );
+        unlink(&mut self.nodes, t, ticks);
         Some(t)
     }
 
@@ -119,17 +96,10 @@ impl ThreadQueue {
         ensures rest { self.new ≡ without t self.old }
         ensures ticks { ticks.new ≤ ticks.old + 8 }
     {
-        if !is_member(&self.members, t, ticks) {
+        if !is_member(&self.nodes, t, ticks) {
             return false;
         }
-        unlink(
-            &mut self.nexts,
-            &mut self.prevs,
-            &mut self.members,
-            &mut self.count,
-            t,
-            ticks,
-        );
+        unlink(&mut self.nodes, t, ticks);
         true
     }
     /// Moves all threads behind those of `to`, and keeps their order. At most 16 ticks for each
@@ -274,62 +244,55 @@ fn drain_from<L: Ledger>(queue: &mut ThreadQueue, to: &mut ThreadQueue, blank: B
     queue.drain_in(to, &mut ticks);
 }
 
-/// Whether `t` is a member, for each queue that these tables hold.
-fn is_member<L: Ledger>(members: &Cells<bool, THREADS>, t: Tid, ticks: &mut Ticks<L>) -> bool
-    requires { length members.now ≡ THREADS }
-    ensures found { (nexts prevs : Links) (count : ℕ) (queue : List Tid) → Hold nexts prevs members.now count queue → result ≡ is_in t queue }
+/// Whether `t` is a member, for each queue that this table holds.
+fn is_member<L: Ledger>(nodes: &Nodes, t: Tid, ticks: &mut Ticks<L>) -> bool
+    requires { length nodes.now.cells ≡ THREADS }
+    ensures found { (queue : List Tid) → Hold nodes.now queue → result ≡ is_in t queue }
     ensures ticks { ticks.new ≤ ticks.old + 1 }
 {
-    let index = usize::from(t.0);
-    if index < THREADS {
-        members.get(index, ticks)
+    if usize::from(t.0) < THREADS {
+        nodes.get(Some(t), ticks).is_member
     } else {
         false
     }
 }
 
-/// Has the node before `t` lead to the one behind it, and that one back to it.
-fn unlink<L: Ledger>(
-    nexts: &mut Links,
-    prevs: &mut Links,
-    members: &mut Cells<bool, THREADS>,
-    count: &mut usize,
-    t: Tid,
-    ticks: &mut Ticks<L>,
-)
-    requires there { (before after : List Tid) × Hold nexts.old prevs.old members.old count.old (before ++ t ∷ after) }
-    ensures held { (before after : List Tid) → Hold nexts.old prevs.old members.old count.old (before ++ t ∷ after)
-        → Hold nexts.new prevs.new members.new count.new (before ++ after) }
-    ensures ticks { ticks.new ≤ ticks.old + 5 }
-{
-    let before = prevs.get(Some(t), ticks);
-    let after = nexts.get(Some(t), ticks);
-    nexts.set(before, after, ticks);
-    prevs.set(after, before, ticks);
-    members.set(usize::from(t.0), false, ticks);
-    *count -= 1;
-}
-
-/// Has the last node lead to `t`, and `t` to the end, and back.
-fn link_behind<L: Ledger>(
-    nexts: &mut Links,
-    prevs: &mut Links,
-    members: &mut Cells<bool, THREADS>,
-    count: &mut usize,
-    t: Tid,
-    ticks: &mut Ticks<L>,
-)
-    requires known { t.0 < THREADS }
-    requires new { (queue : List Tid) × Hold nexts.old prevs.old members.old count.old queue × (is_in t queue ≡ false) }
-    ensures held { (queue : List Tid) → Hold nexts.old prevs.old members.old count.old queue → is_in t queue ≡ false
-        → Hold nexts.new prevs.new members.new count.new (queue ++ t ∷ []) }
+/// Has the node before `t` lead to the one behind it, and that one back to it. `t` is no member any
+/// more.
+fn unlink<L: Ledger>(nodes: &mut Nodes, t: Tid, ticks: &mut Ticks<L>)
+    requires there { (before after : List Tid) × Hold nodes.old (before ++ t ∷ after) }
+    ensures held { (before after : List Tid) → Hold nodes.old (before ++ t ∷ after) → Hold nodes.new (before ++ after) }
     ensures ticks { ticks.new ≤ ticks.old + 6 }
 {
-    let last = prevs.get(None, ticks);
-    nexts.set(last, Some(t), ticks);
-    nexts.set(Some(t), None, ticks);
-    prevs.set(Some(t), last, ticks);
-    prevs.set(None, Some(t), ticks);
-    members.set(usize::from(t.0), true, ticks);
-    *count += 1;
+    let mut out = nodes.get(Some(t), ticks);
+    out.is_member = false;
+    nodes.set(Some(t), out, ticks);
+    let mut before = nodes.get(out.prev, ticks);
+    before.next = out.next;
+    nodes.set(out.prev, before, ticks);
+    let mut after = nodes.get(out.next, ticks);
+    after.prev = out.prev;
+    nodes.set(out.next, after, ticks);
+    nodes.count -= 1;
+}
+
+/// Has the last node lead to `t`, and `t` to the end, and back. `t` is a member then.
+fn link_behind<L: Ledger>(nodes: &mut Nodes, t: Tid, ticks: &mut Ticks<L>)
+    requires known { t.0 < THREADS }
+    requires new { (queue : List Tid) × Hold nodes.old queue × (is_in t queue ≡ false) }
+    ensures held { (queue : List Tid) → Hold nodes.old queue → is_in t queue ≡ false → Hold nodes.new (queue ++ t ∷ []) }
+    ensures ticks { ticks.new ≤ ticks.old + 3 }
+{
+    let last = nodes.end.prev;
+    let mut before = nodes.get(last, ticks);
+    before.next = Some(t);
+    nodes.set(last, before, ticks);
+    let behind = Node {
+        next: None,
+        prev: last,
+        is_member: true,
+    };
+    nodes.set(Some(t), behind, ticks);
+    nodes.end.prev = Some(t);
+    nodes.count += 1;
 }

@@ -1,26 +1,20 @@
 -- The trace text of a run, and of where it ends, gets yes.
 use Rattle.std.proofs.Common.{◌≡◌, ℕ, ◌+◌, ◌<◌, ◌≤◌, ◌^◌, true, false, List, [], ◌∷◌, ◌++◌, length, get_or, drop, map, Ok, refl, sym, ap, subst, ◌∙◌}
-use Rattle.std.proofs.Common.{append_assoc, lt-ltb, le-ltb, arith}
-use Rattle.std.specs.Prelude.{codes, nat_lt}
-use Rattle.std.specs.List.{AllByRecursion, flat_map, join_with_byte}
-use Rattle.std.proofs.lemmas.List.{length_push, length-drop, length-set, length-map, get_or-drop, drop-drop}
-use Rattle.event_log.specs.{Messages.Message, declared.ids.TheConstants.BUFFERS, declared.ids.TheConstants.ENTRIES, declared.entries.Entry.Entry}
-use Rattle.event_log.specs.{Buffers.items_of, Buffers.empty_buffers, Buffers.after_effect, Buffers.IsCapacity, Runs.after_entry, Runs.IsRunFrom, Runs.IsRun}
-use Rattle.tracer.specs.{declared.verdicts.Verdict.TheVariants.Yes, TraceText.text_line, TraceText.version_word, TraceText.head_pieces, TraceText.count_pieces}
-use Rattle.tracer.specs.{TraceText.cap_pieces, TraceText.entry_pieces, TraceText.left_pieces, TraceText.end_pieces, TraceText.numbered, TraceText.lines_of}
-use Rattle.tracer.specs.{TraceText.spelling, TraceText.IsEntryOf, TraceText.IsSpellable, TraceText.IsTraceText, TraceText.AreItemsOf, Judging.Progress}
-use Rattle.tracer.specs.{Judging.opening, Judging.step, Judging.lines_in, Judging.verdict_from, Judging.verdict_of, declared.versions.Version.Version}
-use Rattle.tracer.specs.{declared.versions.Version.TheVariants.One, declared.versions.Version.TheVariants.Two, declared.versions.Version.TheVariants.Three}
-use Rattle.tracer.specs.{Versions.covers, Versions.version_from, Versions.version_of}
-use Rattle.tracer.proofs.{VersionLemmas.covers_itself, VersionLemmas.covers_next, VersionLemmas.version_more, SplitLemmas.IsLine, SplitLemmas.line_read}
-use Rattle.tracer.proofs.{KnownLemmas.known_fresh_from, EntryLemmas.progress, EntryLemmas.behind_e, StepLemmas.entry_is_line, StepLemmas.step_entry}
-use Rattle.tracer.proofs.{StepLemmas.behind_left, StepLemmas.left_is_line, StepLemmas.step_first_left, StepLemmas.step_left}
+use Rattle.std.proofs.{Common.{append_assoc, lt-ltb, le-ltb, arith}, lemmas.List.{length_push, length-drop, length-set, length-map, get_or-drop, drop-drop}}
+use Rattle.{std.specs.{Prelude.{codes, nat_lt}, List.{AllByRecursion, flat_map, join_with_byte}}, event_log.specs.Messages.Message}
+use Rattle.event_log.specs.{declared.{ids.TheConstants.{BUFFERS, ENTRIES}, entries.Entry.Entry}, Buffers.{items_of, empty_buffers, after_effect, IsCapacity}}
+use Rattle.{event_log.specs.Runs.{after_entry, IsRunFrom, IsRun}, tracer.specs.declared.{verdicts.Verdict.TheVariants.Yes, versions.Version.Version}}
+use Rattle.tracer.specs.{declared.versions.Version.TheVariants.One, TraceText.{text_line, version_word, head_pieces, count_pieces, cap_pieces, entry_pieces}}
+use Rattle.tracer.specs.{TraceText.{left_pieces, end_pieces, numbered, lines_of, spelling, IsEntryOf, IsSpellable, IsTraceText, AreItemsOf}, Judging.Progress}
+use Rattle.tracer.specs.{Judging.{opening, step, lines_in, verdict_from, verdict_of}, Versions.{covers, version_from, version_of}}
+use Rattle.tracer.proofs.{VersionLemmas.{covers_itself, covers_next, version_more}, SplitLemmas.{IsLine, line_read}, KnownLemmas.known_fresh_from}
+use Rattle.tracer.proofs.{EntryLemmas.{progress, behind_e}, StepLemmas.{entry_is_line, step_entry, behind_left, left_is_line, step_first_left, step_left}}
 use Rattle.tracer.proofs.OpeningLemmas.{step_head, step_end, count_is_line_of, step_count, opened, cap_is_line, step_cap}
 use Rattle.tracer.specs.declared.next_lines.NextLine.TheVariants as wants
 
 -- the last line
 end_is_line : IsLine end_pieces
-end_is_line = record { spaces = ((refl, (refl, (refl, tt))), tt); feeds = ((refl, (refl, (refl, tt))), tt) }
+end_is_line = grind arith
 
 complete_end : (s : Progress) (n : ℕ) → s.at ≡ wants.End → covers s.lowest s.version ≡ true
     → verdict_from s n (lines_in (flat_map text_line (end_pieces ∷ []))) ≡ Yes
@@ -123,18 +117,7 @@ complete_caps v count caps (k ∷ j ∷ ks) tail n some all few small behind =
     (complete_caps v count (caps ++ k ∷ []) (j ∷ ks) tail (n + 1) others counted few small.1 rest)
 
 head_is_line : (v : Version) → IsLine (head_pieces v)
-head_is_line One = record {
-  spaces = ((refl, (refl, (refl, (refl, (refl, (refl, (refl, (refl, (refl, (refl, (refl, (refl, (refl, tt))))))))))))), ((refl, tt), tt));
-  feeds = ((refl, (refl, (refl, (refl, (refl, (refl, (refl, (refl, (refl, (refl, (refl, (refl, (refl, tt))))))))))))), ((refl, tt), tt));
-}
-head_is_line Two = record {
-  spaces = ((refl, (refl, (refl, (refl, (refl, (refl, (refl, (refl, (refl, (refl, (refl, (refl, (refl, tt))))))))))))), ((refl, tt), tt));
-  feeds = ((refl, (refl, (refl, (refl, (refl, (refl, (refl, (refl, (refl, (refl, (refl, (refl, (refl, tt))))))))))))), ((refl, tt), tt));
-}
-head_is_line Three = record {
-  spaces = ((refl, (refl, (refl, (refl, (refl, (refl, (refl, (refl, (refl, (refl, (refl, (refl, (refl, tt))))))))))))), ((refl, tt), tt));
-  feeds = ((refl, (refl, (refl, (refl, (refl, (refl, (refl, (refl, (refl, (refl, (refl, (refl, (refl, tt))))))))))))), ((refl, tt), tt));
-}
+head_is_line v = grind arith
 
 complete_lines : (caps : List ℕ) (es : List Entry) (left : List (List Message)) → IsSpellable caps es left → IsRun caps es left
     → verdict_from opening 1 (lines_in (spelling caps es left)) ≡ Yes

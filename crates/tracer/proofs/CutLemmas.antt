@@ -1,19 +1,13 @@
 -- A text cut at the first place of a byte.
 use Rattle.std.proofs.Common.{◌≡◌, ℕ, ◌+◌, ◌-◌, ◌<◌, ◌≤◌, ◌==◌, true, false, ⊎_elim, List, [], ◌∷◌, ◌++◌, length, get_or, take, drop, sym, ap, ◌∙◌, arith}
-use Rattle.std.specs.{Array.IsFirstChunk, List.list_any, List.slice_split}
-use Rattle.tracer.specs.Lines.{IsFirstLine}
-use Rattle.std.proofs.lemmas.Bool.{cases_lt, false_from_ne_true, true≢false}
-use Rattle.std.proofs.lemmas.List.{take-append-drop, take_rest, drop_more, get_or-take, get_or-drop, length-take, length-drop, get_or_default}
-use Rattle.std.proofs.lemmas.List.{Folds.list_any_at, Splits.slice_split_at, Splits.slice_split_none}
+use Rattle.std.proofs.lemmas.{Bool.{cases_lt, false_from_ne_true, true≢false}, List.{take-append-drop, take_rest, drop_more, get_or-take, get_or-drop}}
+use Rattle.std.proofs.lemmas.List.{length-take, length-drop, get_or_default, Folds.list_any_at, Splits.{slice_split_at, slice_split_none}}
+use Rattle.{std.specs.{Array.IsFirstChunk, List.{list_any, slice_split}}, tracer.specs.Lines.IsFirstLine}
 
 -- before the first place the byte does not stand
 before_first : (at : ℕ) (text : List ℕ) (i : ℕ) → i < length text → ((k : ℕ) → k < i → (get_or text k 0 == at) ≡ false)
     → (k d : ℕ) → k < length (take i text) → (get_or (take i text) k d == at) ≡ false
-before_first at text i lt before k d inside =
-    let below : k < i = omega (arith, length-take i text) in
-    let within : k < length text = omega arith in
-    let same : get_or (take i text) k d ≡ get_or text k 0 = get_or-take i text k d below ∙ get_or_default text k d 0 within in
-    rw same (before k below)
+before_first at text i lt before k d inside = grind (arith, length-take i text, get_or-take i text k d, get_or_default text k d 0, before k)
 
 cut_whole : (text : List ℕ) (i : ℕ) → i < length text → take i text ++ get_or text i 0 ∷ drop (i + 1) text ≡ text
 cut_whole text i lt = rw (← drop_more text i 0 lt) (take-append-drop i text)

@@ -1,21 +1,13 @@
 -- Each line of a trace text is taken where it may stand, and a line that is taken is spelled so.
-use Rattle.std.proofs.Common.{◌-◌, ◌≡◌, ℕ, ◌<◌, ◌≤◌, ◌^◌, Bool, true, false, cond, List, [], ◌∷◌, length, Result, Ok, Err, refl, sym, ap, ◌∙◌, subst, lit<}
-use Rattle.std.proofs.Common.{arith}
-use Rattle.std.specs.Prelude.{decimal, codes}
-use Rattle.std.specs.Str.{bytes_eq}
-use Rattle.std.proofs.lemmas.Slice.Eq.{bytes_eq-Decides}
-use Rattle.event_log.specs.declared.ids.TheConstants.{CPUS, THREADS, BUFFERS, ENTRIES}
-use Rattle.event_log.specs.{declared.entries.Kind.Kind, declared.entries.Entry.Entry, Messages.Message, Messages.no_message, Digits.is_number, Reading.◌>>=◌}
-use Rattle.event_log.specs.declared.entries.Kind.TheVariants.{Send, Recv, Close, SendClosed, RecvClosed}
-use Rattle.event_log.proofs.DigitsLemmas.{number_to-decimal}
-use Rattle.tracer.specs.{declared.verdicts.Reason.Reason, declared.verdicts.Reason.TheVariants.Spelling, declared.next_lines.NextLine.NextLine}
-use Rattle.tracer.specs.{declared.versions.Version.Version, Versions.covers, Versions.version_of_kind, Versions.version_of_message, Versions.version_of_entry}
-use Rattle.tracer.specs.{Versions.version_of, TraceText.kind_word, TraceText.value_piece, TraceText.IsValueOf, Judging.Digits, Judging.Progress}
-use Rattle.tracer.specs.{Judging.or_reason, Judging.piece_at, Judging.digits_at, Judging.ended, Judging.in_range, Judging.kind_in, Judging.spells_value}
-use Rattle.tracer.specs.{Judging.value_in, Judging.is_of_version, Judging.entry_digits, Judging.entry_in}
-use Rattle.tracer.proofs.{ReadLemmas.bind_ok, ReadLemmas.fine, ReadLemmas.same_ok, ReadLemmas.in_range_taken, ReadLemmas.decimal_is_number}
-use Rattle.tracer.proofs.{KnownLemmas.known_from, VersionLemmas.covers_first_one, VersionLemmas.covers_first, VersionLemmas.covers_second}
-use Rattle.tracer.proofs.{MessageLemmas.message_again, MessageLemmas.spells_message_again, MessageLemmas.item_taken}
+use Rattle.std.proofs.Common.{◌-◌, ◌≡◌, ℕ, ◌<◌, ◌≤◌, ◌^◌, true, List, [], ◌∷◌, length, Ok, refl, ap, ◌∙◌, subst, lit<, arith}
+use Rattle.{std.{proofs.lemmas.Slice.Eq.bytes_eq-Decides, specs.{Prelude.{decimal, codes}, Str.bytes_eq}}, event_log.specs.declared.ids.TheConstants.CPUS}
+use Rattle.event_log.specs.declared.{ids.TheConstants.{THREADS, BUFFERS, ENTRIES}, entries.{Kind.{Kind, TheVariants.{Close, RecvClosed}}, Entry.Entry}}
+use Rattle.{event_log.{specs.Messages.{Message, no_message}, proofs.DigitsLemmas.number_to-decimal}, tracer.specs.declared.next_lines.NextLine.NextLine}
+use Rattle.tracer.specs.{declared.versions.Version.Version, Versions.{covers, version_of_kind, version_of_message, version_of_entry, version_of}}
+use Rattle.tracer.specs.{TraceText.{kind_word, value_piece, IsValueOf}, Judging.{Digits, Progress, piece_at, digits_at, ended, in_range, kind_in, spells_value}}
+use Rattle.tracer.{specs.Judging.{value_in, is_of_version, entry_digits, entry_in}, proofs.ReadLemmas.{bind_ok, fine, same_ok, in_range_taken}}
+use Rattle.tracer.proofs.{ReadLemmas.{decimal_is_number, piece_taken, digits_taken, ended_taken}, KnownLemmas.known_from, VersionLemmas.covers_first_one}
+use Rattle.tracer.proofs.{VersionLemmas.{covers_first, covers_second}, MessageLemmas.{message_again, spells_message_again, item_taken}}
 
 -- behind the earlier entries, in a text of this version
 abbrev pub progress : Version → NextLine → List ℕ → List Entry → List (List Message) → Progress
@@ -44,27 +36,10 @@ digits_in e = record {
 }
 
 kind_again : (kind : Kind) → kind_in (kind_word kind) ≡ Ok kind
-kind_again Send = refl
-kind_again other = refl
-
--- one word of a choice of words
-word_or : (word : List ℕ) (is : Bool) (here kind : Kind) (others : Result Kind Reason) → bytes_eq word (kind_word here) ≡ is
-    → (others ≡ Ok kind → word ≡ kind_word kind) → cond is (Ok here) others ≡ Ok kind → word ≡ kind_word kind
-word_or word true here kind others is behind e =
-    let same : here ≡ kind = same_ok here kind e in
-    subst (λ (k : Kind). word ≡ kind_word k) same ((bytes_eq-Decides word (kind_word here)).0 is)
-word_or word false here kind others is behind e = behind e
-
-no_word : (word : List ℕ) (kind : Kind) → Err Spelling ≡ Ok kind → word ≡ kind_word kind
-no_word word kind e = absurd (cc)
+kind_again kind = grind arith
 
 kind_taken : (word : List ℕ) (kind : Kind) → kind_in word ≡ Ok kind → word ≡ kind_word kind
-kind_taken word kind e =
-    word_or word (bytes_eq word (codes "send")) Send kind _ refl
-    (word_or word (bytes_eq word (codes "recv")) Recv kind _ refl
-    (word_or word (bytes_eq word (codes "close")) Close kind _ refl
-    (word_or word (bytes_eq word (codes "sendc")) SendClosed kind _ refl
-    (word_or word (bytes_eq word (codes "recvc")) RecvClosed kind _ refl (no_word word kind))))) e
+kind_taken word kind e = grind (arith, bytes_eq-Decides)
 
 -- ---- the message of an entry
 
@@ -76,35 +51,20 @@ pub record ValueTaken (v : Version) (kind : Kind) (piece : List ℕ) (value : Me
 
 dash_taken : (v : Version) (piece : List ℕ) (value : Message) → bytes_eq piece (codes "-") ≡ true → fine no_message ≡ Ok value
     → (piece ≡ codes "-") × (value ≡ no_message) × (covers v (version_of_message value) ≡ true)
-dash_taken v piece value dash e =
-    let none = sym (same_ok no_message value e) in
-    ((bytes_eq-Decides piece (codes "-")).0 dash, none, ap (λ (m : Message). covers v (version_of_message m)) none ∙ covers_first_one v)
+dash_taken v piece value dash e = grind (arith, bytes_eq-Decides, covers_first_one)
 
 value_taken : (v : Version) (kind : Kind) (piece : List ℕ) (value : Message) → spells_value v kind piece ≡ true → value_in kind piece ≡ Ok value
     → ValueTaken v kind piece value
-value_taken v Send piece value spells e =
-    let taken = item_taken v piece value spells e in record { spelled = taken.spelled; fits = taken.is.small; version = taken.is.version }
-value_taken v Recv piece value spells e =
-    let taken = item_taken v piece value spells e in record { spelled = taken.spelled; fits = taken.is.small; version = taken.is.version }
-value_taken v Close piece value spells e = let taken = dash_taken v piece value spells e in record { spelled = taken.0; fits = taken.1; version = taken.2 }
-value_taken v SendClosed piece value spells e =
-    let taken = item_taken v piece value spells e in record { spelled = taken.spelled; fits = taken.is.small; version = taken.is.version }
-value_taken v RecvClosed piece value spells e = let taken = dash_taken v piece value spells e in record { spelled = taken.0; fits = taken.1; version = taken.2 }
+value_taken v Close piece value spells e = grind (arith, dash_taken v piece value spells e)
+value_taken v RecvClosed piece value spells e = grind (arith, dash_taken v piece value spells e)
+value_taken v kind piece value spells e = grind (arith, item_taken v piece value)
 
 value_again : (kind : Kind) (value : Message) → IsValueOf kind value → value_in kind (value_piece kind value) ≡ Ok value
-value_again Send value fits = message_again value fits
-value_again Recv value fits = message_again value fits
-value_again Close value fits = ap Ok (sym fits)
-value_again SendClosed value fits = message_again value fits
-value_again RecvClosed value fits = ap Ok (sym fits)
+value_again kind value fits = grind (arith, message_again)
 
 spells_again : (v : Version) (kind : Kind) (value : Message) → IsValueOf kind value → covers v (version_of_message value) ≡ true
     → spells_value v kind (value_piece kind value) ≡ true
-spells_again v Send value fits high = spells_message_again v value (record { small = fits; version = high })
-spells_again v Recv value fits high = spells_message_again v value (record { small = fits; version = high })
-spells_again v Close value fits high = refl
-spells_again v SendClosed value fits high = spells_message_again v value (record { small = fits; version = high })
-spells_again v RecvClosed value fits high = refl
+spells_again v kind value fits high = grind (arith, spells_message_again)
 
 -- the entry's line is one of this version
 pub of_version_again : (v : Version) (e : Entry) → covers v (version_of_entry e) ≡ true → IsValueOf e.kind e.value
@@ -122,86 +82,27 @@ spelled_as cpu thread kind buffer value op pos = record { cpu = cpu; thread = th
 abbrev pub shape_of : Digits → List (List ℕ)
 shape_of d = d.cpu ∷ d.thread ∷ kind_word d.kind ∷ d.buffer ∷ d.value ∷ d.op ∷ d.pos ∷ []
 
-digits_test : {B : Type 0} (test : Bool) (x : List ℕ × List (List ℕ)) (f : List ℕ × List (List ℕ) → Result B Reason) (y : B)
-    → (or_reason test Spelling (Ok x) >>= f) ≡ Ok y → f x ≡ Ok y
-digits_test true x f y e = e
-digits_test false x f y e = absurd (cc)
-
--- a piece of digits, and what is read behind it
-digits_then : {B : Type 0} (p : List ℕ) (ps : List (List ℕ)) (f : List ℕ × List (List ℕ) → Result B Reason) (y : B) → (digits_at (p ∷ ps) >>= f) ≡ Ok y
-    → f (p, ps) ≡ Ok y
-digits_then p ps f y e = digits_test (is_number p) (p, ps) f y e
-
-six : (cpu thread buffer value op pos cpu' thread' buffer' value' op' pos' : List ℕ) (kind : Kind) → cpu ≡ cpu' → thread ≡ thread' → buffer ≡ buffer'
-    → value ≡ value' → op ≡ op' → pos ≡ pos' → spelled_as cpu thread kind buffer value op pos ≡ spelled_as cpu' thread' kind buffer' value' op' pos'
-six cpu thread buffer value op pos cpu' thread' buffer' value' op' pos' kind e1 e2 e3 e4 e5 e6 = rw (e1, e2, e3, e4, e5, e6) refl
-
-entry_7 : (cpu : List ℕ) (thread : List ℕ) (kind : Kind) (buffer : List ℕ) (value : List ℕ) (op : List ℕ) (pos : List ℕ) (ps : List (List ℕ)) (d : Digits)
-    → (ended ps >>= λ _. Ok (spelled_as cpu thread kind buffer value op pos)) ≡ Ok d
-    → cpu ∷ thread ∷ kind_word kind ∷ buffer ∷ value ∷ op ∷ pos ∷ ps ≡ shape_of d
-entry_7 cpu thread kind buffer value op pos [] d e = ap shape_of (same_ok (spelled_as cpu thread kind buffer value op pos) d e)
-entry_7 cpu thread kind buffer value op pos (p ∷ ps) d e = absurd (cc)
-
-entry_6 : (cpu : List ℕ) (thread : List ℕ) (kind : Kind) (buffer : List ℕ) (value : List ℕ) (op : List ℕ) (ps : List (List ℕ)) (d : Digits)
-    → (digits_at ps >>= λ pos. ended pos.1 >>= λ _. Ok (spelled_as cpu thread kind buffer value op pos.0)) ≡ Ok d
-    → cpu ∷ thread ∷ kind_word kind ∷ buffer ∷ value ∷ op ∷ ps ≡ shape_of d
-entry_6 cpu thread kind buffer value op [] d e = absurd (cc)
-entry_6 cpu thread kind buffer value op (p ∷ ps) d e =
-    entry_7 cpu thread kind buffer value op p ps d (digits_then p ps (λ pos. ended pos.1 >>= λ _. Ok (spelled_as cpu thread kind buffer value op pos.0)) d e)
-
-entry_5 : (cpu : List ℕ) (thread : List ℕ) (kind : Kind) (buffer : List ℕ) (value : List ℕ) (ps : List (List ℕ)) (d : Digits)
-    → (digits_at ps >>= λ op. digits_at op.1 >>= λ pos. ended pos.1 >>= λ _. Ok (spelled_as cpu thread kind buffer value op.0 pos.0)) ≡ Ok d
-    → cpu ∷ thread ∷ kind_word kind ∷ buffer ∷ value ∷ ps ≡ shape_of d
-entry_5 cpu thread kind buffer value [] d e = absurd (cc)
-entry_5 cpu thread kind buffer value (p ∷ ps) d e = entry_6 cpu thread kind buffer value p ps d
-    (digits_then p ps (λ op. digits_at op.1 >>= λ pos. ended pos.1 >>= λ _. Ok (spelled_as cpu thread kind buffer value op.0 pos.0)) d e)
-
-entry_4 : (cpu : List ℕ) (thread : List ℕ) (kind : Kind) (buffer : List ℕ) (ps : List (List ℕ)) (d : Digits)
-    → (piece_at ps >>= λ value. digits_at value.1 >>= λ op. digits_at op.1 >>= λ pos. ended pos.1 >>= λ _.
-    Ok (spelled_as cpu thread kind buffer value.0 op.0 pos.0)) ≡ Ok d → cpu ∷ thread ∷ kind_word kind ∷ buffer ∷ ps ≡ shape_of d
-entry_4 cpu thread kind buffer [] d e = absurd (cc)
-entry_4 cpu thread kind buffer (p ∷ ps) d e = entry_5 cpu thread kind buffer p ps d e
-
-entry_3 : (cpu : List ℕ) (thread : List ℕ) (kind : Kind) (ps : List (List ℕ)) (d : Digits)
-    → (digits_at ps >>= λ buffer. piece_at buffer.1 >>= λ value. digits_at value.1 >>= λ op. digits_at op.1 >>= λ pos. ended pos.1 >>= λ _.
-    Ok (spelled_as cpu thread kind buffer.0 value.0 op.0 pos.0)) ≡ Ok d → cpu ∷ thread ∷ kind_word kind ∷ ps ≡ shape_of d
-entry_3 cpu thread kind [] d e = absurd (cc)
-entry_3 cpu thread kind (p ∷ ps) d e =
-    entry_4 cpu thread kind p ps d
-    (digits_then p ps (λ buffer. piece_at buffer.1 >>= λ value. digits_at value.1 >>= λ op. digits_at op.1 >>= λ pos. ended pos.1 >>= λ _.
-    Ok (spelled_as cpu thread kind buffer.0 value.0 op.0 pos.0)) d e)
-
-entry_2 : (cpu : List ℕ) (thread : List ℕ) (ps : List (List ℕ)) (d : Digits)
-    → (piece_at ps >>= λ word. kind_in word.0 >>= λ kind. digits_at word.1 >>= λ buffer. piece_at buffer.1 >>= λ value. digits_at value.1 >>= λ op.
-    digits_at op.1 >>= λ pos. ended pos.1 >>= λ _. Ok (spelled_as cpu thread kind buffer.0 value.0 op.0 pos.0)) ≡ Ok d → cpu ∷ thread ∷ ps ≡ shape_of d
-entry_2 cpu thread [] d e = absurd (cc)
-entry_2 cpu thread (p ∷ ps) d e =
-    let read = bind_ok (kind_in p) _ d e in
-    rw (kind_taken p read.0 read.1) (entry_3 cpu thread read.0 ps d read.2)
-
-entry_1 : (cpu : List ℕ) (ps : List (List ℕ)) (d : Digits)
-    → (digits_at ps >>= λ thread. piece_at thread.1 >>= λ word. kind_in word.0 >>= λ kind. digits_at word.1 >>= λ buffer. piece_at buffer.1 >>= λ value.
-    digits_at value.1 >>= λ op. digits_at op.1 >>= λ pos. ended pos.1 >>= λ _. Ok (spelled_as cpu thread.0 kind buffer.0 value.0 op.0 pos.0)) ≡ Ok d
-    → cpu ∷ ps ≡ shape_of d
-entry_1 cpu [] d e = absurd (cc)
-entry_1 cpu (p ∷ ps) d e =
-    entry_2 cpu p ps d (digits_then p ps (λ thread. piece_at thread.1 >>= λ word. kind_in word.0 >>= λ kind. digits_at word.1 >>= λ buffer.
-    piece_at buffer.1 >>= λ value. digits_at value.1 >>= λ op. digits_at op.1 >>= λ pos. ended pos.1 >>= λ _.
-    Ok (spelled_as cpu thread.0 kind buffer.0 value.0 op.0 pos.0)) d e)
-
-entry_0 : (ps : List (List ℕ)) (d : Digits)
-    → (digits_at ps >>= λ cpu. digits_at cpu.1 >>= λ thread. piece_at thread.1 >>= λ word. kind_in word.0 >>= λ kind. digits_at word.1 >>= λ buffer.
-    piece_at buffer.1 >>= λ value. digits_at value.1 >>= λ op. digits_at op.1 >>= λ pos. ended pos.1 >>= λ _.
-    Ok (spelled_as cpu.0 thread.0 kind buffer.0 value.0 op.0 pos.0)) ≡ Ok d → ps ≡ shape_of d
-entry_0 [] d e = absurd (cc)
-entry_0 (p ∷ ps) d e = entry_1 p ps d
-    (digits_then p ps (λ cpu. digits_at cpu.1 >>= λ thread. piece_at thread.1 >>= λ word. kind_in word.0 >>= λ kind. digits_at word.1 >>= λ buffer.
-    piece_at buffer.1 >>= λ value. digits_at value.1 >>= λ op. digits_at op.1 >>= λ pos. ended pos.1 >>= λ _.
-    Ok (spelled_as cpu.0 thread.0 kind buffer.0 value.0 op.0 pos.0)) d e)
-
 pub entry_digits_taken : (pieces : List (List ℕ)) (d : Digits) → entry_digits pieces ≡ Ok d → pieces ≡ shape_of d
 unfolding entry_digits
-entry_digits_taken pieces d e = entry_0 pieces d e
+entry_digits_taken pieces d e =
+    let cpu = bind_ok (digits_at pieces) _ d e in
+    let thread = bind_ok (digits_at cpu.0.1) _ d cpu.2 in
+    let word = bind_ok (piece_at thread.0.1) _ d thread.2 in
+    let kind = bind_ok (kind_in word.0.0) _ d word.2 in
+    let buffer = bind_ok (digits_at word.0.1) _ d kind.2 in
+    let value = bind_ok (piece_at buffer.0.1) _ d buffer.2 in
+    let op = bind_ok (digits_at value.0.1) _ d value.2 in
+    let pos = bind_ok (digits_at op.0.1) _ d op.2 in
+    let last = bind_ok (ended pos.0.1) _ d pos.2 in
+    let shape = ap shape_of (same_ok (spelled_as cpu.0.0 thread.0.0 kind.0 buffer.0.0 value.0.0 op.0.0 pos.0.0) d last.2) in
+    digits_taken pieces cpu.0 cpu.1 ∙ ap (λ (t : List (List ℕ)). cpu.0.0 ∷ t)
+    (digits_taken cpu.0.1 thread.0 thread.1 ∙ ap (λ (t : List (List ℕ)). thread.0.0 ∷ t)
+    (piece_taken thread.0.1 word.0 word.1 ∙ ap (λ (w : List ℕ). w ∷ word.0.1) (kind_taken word.0.0 kind.0 kind.1) ∙ ap (λ (t : List (List ℕ)). kind_word kind.0 ∷ t)
+    (digits_taken word.0.1 buffer.0 buffer.1 ∙ ap (λ (t : List (List ℕ)). buffer.0.0 ∷ t)
+    (piece_taken buffer.0.1 value.0 value.1 ∙ ap (λ (t : List (List ℕ)). value.0.0 ∷ t)
+    (digits_taken value.0.1 op.0 op.1 ∙ ap (λ (t : List (List ℕ)). op.0.0 ∷ t)
+    (digits_taken op.0.1 pos.0 pos.1 ∙ ap (λ (t : List (List ℕ)). pos.0.0 ∷ t) (ended_taken pos.0.1 last.0 last.1)))))))
+    ∙ shape
 
 pub entry_digits_again : (e : Entry) → e.cpu.0 < 2 ^ 64 → e.thread.0 < 2 ^ 64 → e.buffer.0 < 2 ^ 64 → e.op < 2 ^ 64 → e.pos < 2 ^ 64
     → entry_digits (behind_e e) ≡ Ok (digits_in e)
@@ -251,8 +152,7 @@ entry_in_taken v digits e spells taken =
       op = a4.0;
       pos = a5.0;
     } in
-    let shape : digits ≡ digits_in made = six digits.cpu digits.thread digits.buffer digits.value digits.op digits.pos (decimal a0.0) (decimal a1.0)
-    (decimal a2.0) (value_piece digits.kind a3.0) (decimal a4.0) (decimal a5.0) digits.kind r0.spelled r1.spelled r2.spelled r3.spelled r4.spelled r5.spelled in
+    let shape : digits ≡ digits_in made = rw (← r0.spelled, ← r1.spelled, ← r2.spelled, ← r3.spelled, ← r4.spelled, ← r5.spelled) refl in
     subst (λ (x : Entry). IsSmall v digits x) (same_ok made e a5.2)
     (record { spelled = shape; cpu = r0.within; thread = r1.within; value = r3.fits; version = r3.version; op = r4.within; pos = r5.within })
 

@@ -1,11 +1,9 @@
 -- What a gathering keeps: the entries taken so far, and what is left of each trace.
-use Rattle.std.proofs.Common.{◌≡◌, ◌≢◌, ℕ, zero, suc, ◌+◌, ◌<◌, List, [], ◌∷◌, ◌++◌, length, get_or, set, drop, replicate, sum_by, Some, None, refl, sym, ap}
-use Rattle.std.proofs.Common.{◌∙◌, subst, inl, inr, arith, add-one, append_assoc, Vec, Global}
-use Rattle.std.proofs.lemmas.List.{drop_more, drop_all, drop-drop, get_or-set_other, get_or-set_same, get_or_past, nil_from_length, length-replicate}
-use Rattle.std.proofs.lemmas.List.{length-set, length-append, append-nil, Sums.sum_by-cons, Sums.sum_by-set, Sums.get_or-le-sum_by}
-use Rattle.std.proofs.lemmas.{Bool.cases_eq, Bool.cases_lt, Option.get_or_from_slice_get, Option.slice_get_within}
-use Rattle.std.specs.Prelude.{slice_get}
-use Rattle.event_log.specs.{declared.entries.Entry.Entry, Runs.count_of, Traces.IsInterleaving, Traces.HasOpOrderFrom, Traces.HasOpOrder}
+use Rattle.std.proofs.Common.{◌≡◌, ◌≢◌, ℕ, zero, suc, ◌+◌, ◌<◌, List, [], ◌∷◌, ◌++◌, length, get_or, set, drop, replicate, sum_by, Some, refl, sym, ap, ◌∙◌}
+use Rattle.std.proofs.{Common.{subst, inl, inr, arith, add-one, append_assoc, Vec, Global}, lemmas.List.{drop_more, drop_all, drop-drop, get_or-set_other}}
+use Rattle.std.proofs.lemmas.List.{get_or-set_same, get_or_past, nil_from_length, length-replicate, length-set, length-append, append-nil, Sums.sum_by-cons}
+use Rattle.std.proofs.lemmas.{List.Sums.{sum_by-set, get_or-le-sum_by}, Bool.cases_eq, Option.{get_or_from_slice_get, slice_get_within}}
+use Rattle.{std.specs.Prelude.slice_get, event_log.specs.{declared.entries.Entry.Entry, Runs.count_of, Traces.{IsInterleaving, HasOpOrderFrom, HasOpOrder}}}
 use Rattle.tracer.specs.Gather.{traces_in, IsOrder, IsFrontReady, TakesFirstReadyFrom, TakesFirstReady, HasNoOrder, next_entry, IsDue, NoneDueBelow}
 use Rattle.tracer.proofs.OrderLemmas.{at_head, head_at, head_within, count_more_same, count_more_other, CameFirst, may_come_first}
 
@@ -61,20 +59,15 @@ left_of traces = sum_by length traces
 pub left_of_vectors : (vectors : List (Vec Entry Global)) → left_of (traces_in vectors) ≡ sum_by (λ trace. length trace.items) vectors
 left_of_vectors [] = refl
 left_of_vectors (v ∷ vectors) =
-    sum_by-cons length v.items (traces_in vectors)
-    ∙ (ap (λ n. length v.items + n) (left_of_vectors vectors) ∙ sym (sum_by-cons (λ trace. length trace.items) v vectors))
+    omega (arith, left_of_vectors vectors, sum_by-cons length v.items (traces_in vectors), sum_by-cons (λ trace. length trace.items) v vectors)
 
 -- nothing is left where each trace is used up, and only there
 none_left : (traces : List (List Entry)) → left_of traces ≡ 0 → (k : ℕ) → get_or traces k [] ≡ []
-none_left traces none k = elim (cases_lt k (length traces)) [
-  | inl within ↦ nil_from_length (get_or traces k []) (omega (arith, none, get_or-le-sum_by length traces k [] within))
-  | inr past ↦ get_or_past traces k [] past
-]
+none_left traces none k = grind (arith, nil_from_length, get_or-le-sum_by, get_or_past)
 
 all_used : (traces : List (List Entry)) → ((k : ℕ) → get_or traces k [] ≡ []) → left_of traces ≡ 0
 all_used [] used = refl
-all_used (trace ∷ traces) used = sum_by-cons length trace traces
-    ∙ (ap (λ t. length t + left_of traces) (used 0) ∙ omega (arith, all_used traces (λ k. used (suc k))))
+all_used (trace ∷ traces) used = omega (arith, sum_by-cons length trace traces, all_used traces (λ k. used (suc k)), ap length (used 0))
 
 left_of_more : (traces : List (List Entry)) (k : ℕ) (e : Entry) (rest : List Entry) → get_or traces k [] ≡ e ∷ rest
     → left_of (set traces k rest) + 1 ≡ left_of traces
@@ -135,23 +128,14 @@ none_ready traces total taken counts done k g below j under ready =
 -- a trace that has a next entry is one of the traces
 pub next_within : (traces : List (List Entry)) (taken : List ℕ) (k : ℕ) (e : Entry) → length taken ≡ length traces → next_entry traces taken k ≡ Some e
     → k < length taken
-next_within traces taken k e same next = elim (cases_lt k (length taken)) [
-  | inl within ↦ within
-  | inr past ↦
-      let nothing : get_or traces k [] ≡ [] = get_or_past traces k [] (omega (arith, same, past)) in
-      let bad : None ≡ Some e = sym (ap (λ t. slice_get t (get_or taken k 0)) nothing) ∙ next in absurd (cc)
-]
+next_within traces taken k e same next = grind (arith, get_or_past)
 
 -- the counts with one entry more
 counted_more : (counts : List ℕ) (done : List Entry) (e : Entry) → ((b : ℕ) → get_or counts b 0 ≡ count_of done b) → e.buffer.0 < length counts → (b : ℕ)
     → get_or (set counts e.buffer.0 (get_or counts e.buffer.0 0 + 1)) b 0 ≡ count_of (done ++ e ∷ []) b
 counted_more counts done e counted within b = elim (cases_eq b e.buffer.0) [
-  | inl same ↦
-      ap (λ n. get_or (set counts e.buffer.0 (get_or counts e.buffer.0 0 + 1)) n 0) same
-      ∙ (get_or-set_same counts e.buffer.0 (get_or counts e.buffer.0 0 + 1) 0 within
-      ∙ (ap (λ n. n + 1) (counted e.buffer.0 ∙ ap (count_of done) (sym same)) ∙ sym (count_more_same done e b (sym same))))
-  | inr differ ↦
-      get_or-set_other counts e.buffer.0 b (get_or counts e.buffer.0 0 + 1) 0 differ ∙ (counted b ∙ sym (count_more_other done e b (λ same. differ (sym same))))
+  | inl same ↦ grind (arith, same, get_or-set_same, count_more_same done e b)
+  | inr differ ↦ grind (arith, get_or-set_other, count_more_other done e b)
 ]
 
 -- where a trace has a next entry, fewer than all are taken
@@ -163,13 +147,7 @@ some_left traces total taken counts done k e g next =
 
 pub some_left_in : (traces : List (List Entry)) (total : ℕ) (taken counts : List ℕ) (done : List Entry) (k : ℕ) (e : Entry)
     → Gathers traces total taken counts done → next_entry traces taken k ≡ Some e → get_or taken k 0 < total
-some_left_in traces total taken counts done k e g next =
-    omega (
-      arith,
-      g.whole,
-      slice_get_within (get_or traces k []) (get_or taken k 0) e next,
-      get_or-le-sum_by length traces k [] (omega (arith, next_within traces taken k e g.slots next, g.slots)),
-    )
+some_left_in traces total taken counts done k e g next = grind (arith, slice_get_within, get_or-le-sum_by length traces k [], next_within)
 
 -- one entry more
 gathers_more : (traces : List (List Entry)) (total : ℕ) (taken counts : List ℕ) (done : List Entry) (k : ℕ) (e : Entry) → Gathers traces total taken counts done

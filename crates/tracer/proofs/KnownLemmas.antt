@@ -1,18 +1,13 @@
 -- What the judge knows of the buffers is what the earlier entries and the contents say.
-use Rattle.std.proofs.Common.{◌≡◌, ◌≢◌, ℕ, zero, suc, ◌+◌, ◌<◌, ◌==◌, Bool, true, false, cond, List, [], ◌∷◌, ◌++◌, length, get_or, set, map, drop, Option}
-use Rattle.std.proofs.Common.{Some, None, Ok, refl, sym, ap, ◌∙◌, eq-eqb, ne_eqb, eqb-true, ltb-true, lt-ltb, add-zero, inl, inr, arith}
-use Rattle.std.specs.Prelude.{slice_get, slice_set, nat_lt}
-use Rattle.std.specs.Str.{bytes_eq}
-use Rattle.std.proofs.lemmas.{Bool.cases_eq, Slice.Eq.bytes_eq-Decides, List.get_or-set_same, List.get_or-set_other, List.length-set, List.nil_from_length}
-use Rattle.std.proofs.lemmas.{List.same_lists, Option.slice_get-get_or, Option.slice_get_within}
-use Rattle.event_log.specs.{Messages.Message, Messages.no_message, declared.entries.Kind.Kind, declared.entries.Entry.Entry, Buffers.items_of}
-use Rattle.event_log.specs.{Buffers.empty_buffers, Buffers.IsAllowedEffect, Buffers.after_effect, Runs.kind_eq, Runs.group_of, Runs.count_of}
-use Rattle.event_log.specs.{Runs.count_of_kind, Runs.IsNext, Runs.after_entry, Reading.◌>>=◌}
-use Rattle.event_log.specs.declared.entries.Kind.TheVariants.{Send, Recv, Close, SendClosed, RecvClosed}
-use Rattle.event_log.proofs.RunLemmas.{count_more, count_kind_more, items_none}
-use Rattle.tracer.specs.declared.verdicts.Reason.TheVariants.{Op, Pos, Full, WrongValue, CloseState, NotEmpty}
-use Rattle.tracer.specs.Judging.{Seen, fresh, or_reason, or_range, was_closed, next_pos, bumped, counted, take_first, item_effect, entry_on, entry_among}
-use Rattle.tracer.proofs.ReadLemmas.{bind_ok, wanted_ok, same_ok}
+use Rattle.std.proofs.Common.{◌≡◌, ◌≢◌, ℕ, zero, suc, ◌+◌, ◌<◌, ◌==◌, Bool, true, false, cond, List, [], ◌∷◌, ◌++◌, length, get_or, set, map, drop, Some, Ok}
+use Rattle.std.proofs.{Common.{refl, sym, ap, ◌∙◌, eq-eqb, ne_eqb, eqb-true, add-zero, inl, inr, arith}, lemmas.{Bool.cases_eq, Slice.Eq.bytes_eq-Decides}}
+use Rattle.std.proofs.lemmas.{List.{get_or-set_same, get_or-set_other, length-set, nil_from_length, same_lists}, Option.{slice_get-get_or, slice_get_within}}
+use Rattle.{std.specs.Prelude.{slice_get, slice_set}, event_log.specs.{Messages.Message, declared.entries.Kind.{Kind, TheVariants.{Send, Recv, Close}}}}
+use Rattle.event_log.specs.{declared.entries.Entry.Entry, Buffers.{items_of, empty_buffers, IsAllowedEffect, after_effect}, Runs.{kind_eq, group_of, count_of}}
+use Rattle.event_log.{specs.{Runs.{count_of_kind, IsNext, after_entry}, Reading.{◌>>=◌}}, proofs.RunLemmas.{count_more, count_kind_more, items_none}}
+use Rattle.tracer.specs.{TraceText.IsValueOf, declared.verdicts.Reason.TheVariants.{Op, Pos}, Judging.{Seen, fresh, or_reason, or_range, was_closed, next_pos}}
+use Rattle.tracer.{specs.Judging.{bumped, counted, take_first, item_effect, entry_on, entry_among}, proofs.ReadLemmas.{or_range_taken, bind_ok, wanted_ok}}
+use Rattle.tracer.proofs.ReadLemmas.{same_ok}
 
 -- what is known of buffer b, behind the earlier entries
 abbrev pub seen_of : List Entry → List (List Message) → ℕ → ℕ → Seen
@@ -58,8 +53,7 @@ slice_get-known earlier contents caps i lt =
 -- ---- the numbers behind one entry more
 
 bumped_by : (counts : Bool) (n : ℕ) → n + cond counts 1 0 ≡ bumped counts n
-bumped_by true n = refl
-bumped_by false n = add-zero n
+bumped_by counts n = grind arith
 
 -- a buffer after an effect on it
 abbrev after_seen : Kind → Message → Seen → Seen
@@ -112,53 +106,19 @@ known_after caps earlier contents e long known =
 -- ---- an effect
 
 take_again : (value : Message) (items : List Message) → slice_get items 0 ≡ Some value → take_first value items ≡ Ok (drop 1 items)
-take_again value [] first = absurd (cc)
-take_again value (x ∷ xs) first =
-    let same : x ≡ value = cc in
-    rw ((bytes_eq-Decides x value).1 same) refl
+take_again value items first = grind (arith, bytes_eq-Decides)
 
 take_taken : (value : Message) (items after : List Message) → take_first value items ≡ Ok after → (slice_get items 0 ≡ Some value) × (after ≡ drop 1 items)
-take_taken value [] after e = absurd (cc)
-take_taken value (x ∷ xs) after e =
-    let test = wanted_ok (bytes_eq x value) WrongValue (Ok xs) after e in
-    (ap Some ((bytes_eq-Decides x value).0 test.0), sym (same_ok xs after test.1))
+take_taken value items after e = grind (arith, bytes_eq-Decides)
 
 effect_again : (kind : Kind) (value : Message) (closed : Bool) (capacity : ℕ) (items : List Message) → IsAllowedEffect kind closed capacity items value
     → item_effect kind value closed capacity items ≡ Ok (after_effect kind items value)
-effect_again Send value closed capacity items may = rw (may.0, lt-ltb (length items) capacity may.1) refl
-effect_again Recv value closed capacity items may = take_again value items may
-effect_again Close value closed capacity items may = refl
-effect_again SendClosed value closed capacity items may = rw may refl
-effect_again RecvClosed value closed capacity items may = rw (may.0, may.1) refl
+effect_again kind value closed capacity items may = grind (arith, take_again)
 
--- an effect that has no message has no other
-abbrev pub HasNone : Kind → Message → Type 0
-HasNone Send value = Unit {0}
-HasNone Recv value = Unit {0}
-HasNone Close value = value ≡ no_message
-HasNone SendClosed value = Unit {0}
-HasNone RecvClosed value = value ≡ no_message
-
-put_taken : (value : Message) (closed : Bool) (capacity : ℕ) (items after : List Message) → item_effect Send value closed capacity items ≡ Ok after
-    → IsAllowedEffect Send closed capacity items value × (after ≡ items ++ value ∷ [])
-put_taken value true capacity items after e = absurd (cc)
-put_taken value false capacity items after e =
-    let test = wanted_ok (nat_lt (length items) capacity) Full (Ok (items ++ value ∷ [])) after e in
-    ((refl, ltb-true (length items) capacity test.0), sym (same_ok (items ++ value ∷ []) after test.1))
-
-effect_taken : (kind : Kind) (value : Message) (closed : Bool) (capacity : ℕ) (items after : List Message) → HasNone kind value
+effect_taken : (kind : Kind) (value : Message) (closed : Bool) (capacity : ℕ) (items after : List Message) → IsValueOf kind value
     → item_effect kind value closed capacity items ≡ Ok after
     → IsAllowedEffect kind closed capacity items value × (after ≡ after_effect kind items value)
-effect_taken Send value closed capacity items after none e = put_taken value closed capacity items after e
-effect_taken Recv value closed capacity items after none e = take_taken value items after e
-effect_taken Close value closed capacity items after none e = (none, sym (same_ok items after e))
-effect_taken SendClosed value closed capacity items after none e =
-    let test = wanted_ok closed CloseState (Ok items) after e in
-    (test.0, sym (same_ok items after test.1))
-effect_taken RecvClosed value closed capacity items after none e =
-    let shut = wanted_ok closed CloseState (or_reason (length items == 0) NotEmpty (Ok items)) after e in
-    let test = wanted_ok (length items == 0) NotEmpty (Ok items) after shut.1 in
-    ((shut.0, nil_from_length items (eqb-true (length items) 0 test.0), none), sym (same_ok items after test.1))
+effect_taken kind value closed capacity items after none e = grind (arith, take_taken, nil_from_length)
 
 pos_of : (earlier : List Entry) (contents : List (List Message)) (b capacity : ℕ) (kind : Kind)
     → next_pos (group_of kind) (seen_of earlier contents b capacity) ≡ count_of_kind earlier b kind
@@ -177,21 +137,17 @@ among_again caps earlier contents e long next =
     let effect = effect_again e.kind e.value (was_closed seen) seen.capacity seen.items next.allowed in
     rw (slice_get-known earlier contents caps e.buffer.0 next.known, op, pos, effect) (ap Ok (known_after caps earlier contents e long next.known))
 
-some_range : {A : Type 0} (found : Option A) (x : A) → or_range found ≡ Ok x → found ≡ Some x
-some_range None x e = absurd (cc)
-some_range (Some y) x e = ap Some (same_ok y x e)
-
 pub same_some : (x y : Seen) → Some x ≡ Some y → x ≡ y
 same_some x y e = cc
 
 -- an entry that is taken may come
 pub among_taken : (caps : List ℕ) (earlier : List Entry) (contents : List (List Message)) (e : Entry) (after : List Seen) → length contents ≡ length caps
-    → HasNone e.kind e.value → entry_among e (known_from earlier contents 0 caps) ≡ Ok after → IsNext caps earlier contents e
+    → IsValueOf e.kind e.value → entry_among e (known_from earlier contents 0 caps) ≡ Ok after → IsNext caps earlier contents e
     × (after ≡ known_from (earlier ++ e ∷ []) (after_entry contents e) 0 caps)
 unfolding entry_among entry_on
 among_taken caps earlier contents e after long none taken =
     let found = bind_ok (or_range (slice_get (known_from earlier contents 0 caps) e.buffer.0)) _ after taken in
-    let at = some_range (slice_get (known_from earlier contents 0 caps) e.buffer.0) found.0 found.1 in
+    let at = or_range_taken (slice_get (known_from earlier contents 0 caps) e.buffer.0) found.0 found.1 in
     let inside : e.buffer.0 < length caps =
     omega (arith, slice_get_within (known_from earlier contents 0 caps) e.buffer.0 found.0 at, length-known_from earlier contents 0 caps) in
     let seen = seen_of earlier contents e.buffer.0 (get_or caps e.buffer.0 0) in

@@ -1,14 +1,10 @@
 -- A line's text as it is written, and lines that have the number of their item.
 use Rattle.std.proofs.Common.{◌-◌, ◌≡◌, ℕ, zero, suc, ◌+◌, ◌<◌, ◌≤◌, Bool, true, List, [], ◌∷◌, ◌++◌, Option, length, get_or, take, drop, map, refl, sym, ap}
-use Rattle.std.proofs.Common.{◌∙◌, append_assoc, add-zero, zero-add, arith}
-use Rattle.std.specs.{Io.KnownBytes.Appends, List.flat_map, List.join_with_byte}
-use Rattle.tracer.specs.{Sinks.Outs, declared.writing.Piece.Piece, Pieces.text_of, Pieces.spaced, Pieces.behind_comma, Versions.version_of, TraceText.text_line}
-use Rattle.tracer.specs.{TraceText.numbered, TraceText.message_text, TraceText.head_pieces, TraceText.count_pieces, TraceText.cap_pieces}
-use Rattle.tracer.specs.{TraceText.entry_pieces, TraceText.left_pieces, TraceText.end_pieces, TraceText.spelling, TraceText.lines_of}
-use Rattle.tracer.proofs.SinkLemmas.{appends_then, outs_then, outs_before}
-use Rattle.std.proofs.lemmas.List.{append-nil, take_all, Concat.flat_map-append}
-use Rattle.std.specs.Prelude.{decimal}
-use Rattle.event_log.specs.{Messages.Message, Messages.first_word, declared.entries.Entry.Entry}
+use Rattle.std.proofs.{Common.{◌∙◌, append_assoc, add-zero, zero-add, arith}, lemmas.List.{append-nil, take_all, Concat.flat_map-append}}
+use Rattle.{std.specs.{Io.KnownBytes.Appends, List.{flat_map, join_with_byte}, Prelude.decimal}, tracer.specs.{Sinks.Outs, declared.writing.Piece.Piece}}
+use Rattle.tracer.specs.{Pieces.{text_of, spaced, behind_comma}, Versions.version_of, TraceText.{text_line, numbered, message_text, head_pieces, count_pieces}}
+use Rattle.tracer.{specs.TraceText.{cap_pieces, entry_pieces, left_pieces, end_pieces, spelling, lines_of}, proofs.SinkLemmas.{appends_then, outs_then}}
+use Rattle.{tracer.proofs.SinkLemmas.outs_before, event_log.specs.{Messages.{Message, first_word}, declared.entries.Entry.Entry}}
 
 -- pieces with a space between each two: the first, and each other behind a space
 pub join_spaced : (w : List ℕ) (ps : List (List ℕ)) → join_with_byte 32 (w ∷ ps) ≡ w ++ flat_map spaced ps
@@ -51,26 +47,15 @@ message_parts (w ∷ ws) count is some =
 pub numbered_at : {X : Type 0} (line : ℕ → X → List (List ℕ)) (b : ℕ) (xs : List X) (i : ℕ) (d : X) → i < length xs
     → numbered line b xs ≡ numbered line b (take i xs) ++ (line (b + i) (get_or xs i d) ∷ numbered line (b + i + 1) (drop (i + 1) xs))
 numbered_at line b [] i d lt = absurd (omega arith)
-numbered_at line b (x ∷ xs) zero d lt =
-    rw (add-zero b) refl
-numbered_at line b (x ∷ xs) (suc i) d lt =
-    let shift : b + 1 + i ≡ b + suc i = omega arith in
-    let below : numbered line (b + 1) xs ≡ numbered line (b + 1) (take i xs)
-    ++ (line (b + 1 + i) (get_or xs i d) ∷ numbered line (b + 1 + i + 1) (drop (i + 1) xs)) = numbered_at line (b + 1) xs i d (omega arith) in
-    let next : suc i + 1 ≡ suc (i + 1) = omega arith in
-    rw next (ap (λ (t : List (List (List ℕ))). line b x ∷ t) (rw (← shift) below))
+numbered_at line b (x ∷ xs) zero d lt = rw (add-zero b) refl
+numbered_at line b (x ∷ xs) (suc i) d lt = grind (arith, numbered_at line (b + 1) xs i d)
 
 -- one item more
 pub numbered_more : {X : Type 0} (line : ℕ → X → List (List ℕ)) (b : ℕ) (xs : List X) (i : ℕ) (d : X) → i < length xs
     → numbered line b (take (i + 1) xs) ≡ numbered line b (take i xs) ++ line (b + i) (get_or xs i d) ∷ []
 numbered_more line b [] i d lt = absurd (omega arith)
 numbered_more line b (x ∷ xs) zero d lt = rw (add-zero b) refl
-numbered_more line b (x ∷ xs) (suc i) d lt =
-    let shift : b + 1 + i ≡ b + suc i = omega arith in
-    let below : numbered line (b + 1) (take (i + 1) xs) ≡ numbered line (b + 1) (take i xs) ++ line (b + 1 + i) (get_or xs i d) ∷ [] =
-    numbered_more line (b + 1) xs i d (omega arith) in
-    let next : suc i + 1 ≡ suc (i + 1) = omega arith in
-    rw next (ap (λ (t : List (List (List ℕ))). line b x ∷ t) (rw (← shift) below))
+numbered_more line b (x ∷ xs) (suc i) d lt = grind (arith, numbered_more line (b + 1) xs i d)
 
 pub numbered-map : {X Y : Type 0} (line : ℕ → Y → List (List ℕ)) (f : X → Y) (b : ℕ) (xs : List X)
     → numbered line b (map f xs) ≡ numbered (λ k x. line k (f x)) b xs

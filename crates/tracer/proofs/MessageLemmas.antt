@@ -1,20 +1,13 @@
 -- A message is spelled and read again, and what is read as a message is spelled so.
-use Rattle.std.proofs.Common.{◌≡◌, ℕ, ◌<◌, ◌≤◌, ◌^◌, ◌==◌, Bool, true, false, not, ◌&&◌, List, [], ◌∷◌, length, map, Result, Ok, Err, Some, refl, sym, ap}
-use Rattle.std.proofs.Common.{subst, ◌∙◌, lt-ltb, lit<, arith}
-use Rattle.std.specs.Prelude.{decimal, nat_lt, nat_le}
-use Rattle.std.specs.{Str.bytes_eq, List.AllByRecursion, List.list_all, List.join_with_byte}
-use Rattle.std.proofs.lemmas.{Bool.and_parts, List.length-map, List.Splits.length-slice_split, List.Splits.join_with_byte-slice_split}
-use Rattle.std.proofs.lemmas.{Slice.Eq.bytes_eq-Decides}
-use Rattle.event_log.specs.{declared.messages.TheConstants.WORDS, Messages.Message, Messages.IsMessage, Messages.padded, Digits.is_number, Digits.number_to}
-use Rattle.event_log.specs.{Rings.first, Rings.rest}
-use Rattle.event_log.proofs.{DigitsLemmas.IsSpelled, DigitsLemmas.number_to-Some, DigitsLemmas.number_to-decimal, DigitsLemmas.spelled_number}
-use Rattle.event_log.proofs.{MessageLemmas.padded_eq}
-use Rattle.tracer.specs.{declared.verdicts.Reason.Reason, declared.verdicts.Reason.TheVariants.Range, Versions.covers, Versions.version_of_count}
-use Rattle.tracer.specs.{TraceText.message_text, TraceText.IsItemOf, Judging.take_first, Judging.in_range, Judging.words_of, Judging.spells_message}
-use Rattle.tracer.specs.{Judging.numbers_in, Judging.message_in, Judging.is_same, Judging.is_message, Judging.is_within}
-use Rattle.tracer.specs.declared.versions.Version.{Version, TheVariants.Three}
-use Rattle.tracer.proofs.{VersionLemmas.covers_first_one, ReadLemmas.bind_ok, ReadLemmas.wanted_ok, ReadLemmas.same_ok, ReadLemmas.in_range_taken, ReadLemmas.decimal_is_number}
-use Rattle.tracer.proofs.{SplitLemmas.Lacks, SplitLemmas.digits_alone, SplitLemmas.split_join, SplitLemmas.join_lacks, SplitLemmas.decimal_lacks}
+use Rattle.std.proofs.Common.{◌≡◌, ℕ, ◌<◌, ◌^◌, ◌==◌, Bool, true, false, not, ◌&&◌, List, [], ◌∷◌, length, map, Result, Ok, Some, refl, sym, ap, subst, ◌∙◌}
+use Rattle.std.proofs.{Common.{lit<, arith}, lemmas.{Bool.and_parts, List.{length-map, Splits.{length-slice_split, join_with_byte-slice_split}}}}
+use Rattle.std.{proofs.lemmas.Slice.Eq.bytes_eq-Decides, specs.{Prelude.{decimal, nat_le}, Str.bytes_eq, List.{AllByRecursion, list_all, join_with_byte}}}
+use Rattle.event_log.specs.{declared.messages.TheConstants.WORDS, Messages.{Message, IsMessage, padded}, Digits.{is_number, number_to}, Rings.{first, rest}}
+use Rattle.event_log.proofs.{DigitsLemmas.{IsSpelled, number_to-Some, number_to-decimal, spelled_number}, MessageLemmas.padded_eq}
+use Rattle.tracer.specs.{declared.{verdicts.Reason.{Reason, TheVariants.Range}, versions.Version.{Version, TheVariants.Three}}, Versions.covers}
+use Rattle.tracer.specs.{Versions.version_of_count, TraceText.{message_text, IsItemOf}, Judging.{take_first, words_of, spells_message, numbers_in, message_in}}
+use Rattle.tracer.{specs.Judging.{is_same, is_message, is_within}, proofs.{VersionLemmas.covers_first_one, ReadLemmas.{wanted_ok, same_ok, in_range_taken}}}
+use Rattle.tracer.proofs.{ReadLemmas.decimal_is_number, SplitLemmas.{Lacks, digits_alone, split_join, join_lacks, decimal_lacks}}
 
 -- words of 64 bits
 abbrev pub AreWords : List ℕ → Type 0
@@ -26,18 +19,10 @@ words_lack at (n ∷ ns) lt small = (decimal_lacks at n lt small.0, words_lack a
 
 -- ---- equal
 
-not_other : (differs test same : Bool) → differs ≡ not test → differs ≡ false → test ≡ same → same ≡ true
-not_other differs true same is equal e = sym e
-not_other differs false same is equal e = absurd (cc)
-
 -- the first message is the wanted one
 pub takes_first : (x m : Message) (items : List Message) (differs : Bool) → first items ≡ Some x
     → differs ≡ not (bytes_eq (padded x) (padded m) && (length x == length m)) → differs ≡ false → take_first m items ≡ Ok (rest items)
-takes_first x m [] differs is test equal = absurd (cc)
-takes_first x m (y ∷ ys) differs is test equal =
-    let same : bytes_eq x m ≡ true = not_other differs _ (bytes_eq x m) test equal (padded_eq x m) in
-    let head : y ≡ x = cc in
-    rw (head, same) refl
+takes_first x m items differs is test equal = grind (arith, padded_eq)
 
 -- a message that was read is this one
 pub is_read : (read : Result Message Reason) (x m : Message) (same : Bool) → read ≡ Ok x
@@ -59,17 +44,12 @@ reads_number piece n is = rw (alone piece (number_to-Some 18446744073709551615 p
 
 several : (v : Version) (piece front behind : List ℕ) → words_of piece ≡ front ∷ words_of behind
     → covers v (version_of_count (length (words_of piece))) ≡ covers v Three
-several v piece front behind cut =
-    let more : nat_lt 1 (length (words_of piece)) ≡ true =
-    lt-ltb 1 (length (words_of piece)) (omega (arith, ap length cut, length-slice_split (λ b. b == 44) behind)) in
-    rw more refl
+several v piece front behind cut = grind (arith, ap length cut, length-slice_split (λ b. b == 44) behind)
 
 -- a text of a version that has no messages of several words
 pub not_spelled : (v : Version) (piece front behind : List ℕ) (high : Bool) → words_of piece ≡ front ∷ words_of behind → high ≡ covers v Three → high ≡ false
     → high ≡ spells_message v piece
-not_spelled v piece front behind high cut is low =
-    let not_covered : covers v (version_of_count (length (words_of piece))) ≡ false = several v piece front behind cut ∙ sym is ∙ low in
-    rw not_covered low
+not_spelled v piece front behind high cut is low = grind (arith, several v piece front behind cut)
 
 -- ---- spelled, and read again
 
@@ -122,16 +102,7 @@ same_pieces p w ps qs e1 e2 = rw (e1, e2) refl
 
 numbers_taken : (words : List (List ℕ)) (ns : List ℕ) → numbers_in words ≡ Ok ns → NumbersTaken words ns
 numbers_taken [] ns e = subst (NumbersTaken []) (same_ok [] ns e) (record { spelled = refl; small = tt; each = refl })
-numbers_taken (w ∷ ws) ns e =
-    let first = bind_ok (in_range 18446744073709551615 w) _ ns e in
-    let others = bind_ok (numbers_in ws) _ ns first.2 in
-    let range = in_range_taken 18446744073709551615 w first.0 (lit< tt) first.1 in
-    let rest = numbers_taken ws others.0 others.1 in
-    subst (NumbersTaken (w ∷ ws)) (same_ok (first.0 ∷ others.0) ns others.2) (record {
-      spelled = same_pieces w (decimal first.0) ws (map decimal others.0) range.spelled rest.spelled;
-      small = ((let h = range.within in omega arith), rest.small);
-      each = (let h = rest.each in omega arith);
-    })
+numbers_taken (w ∷ ws) ns e = grind (arith, in_range_taken 18446744073709551615 w, numbers_taken ws)
 
 -- what it says that a piece was read as a message
 pub record MessageTaken (piece : List ℕ) (m : Message) : Type 0 where
@@ -143,14 +114,8 @@ pub message_taken : (piece : List ℕ) (m : Message) → message_in piece ≡ Ok
 message_taken piece m e =
     let few = wanted_ok (nat_le (length (words_of piece)) WORDS) Range (numbers_in (words_of piece)) m e in
     let read = numbers_taken (words_of piece) m few.1 in
-    let some : 0 < length (words_of piece) = omega (arith, length-slice_split (λ b. b == 44) piece) in
-    let most : length (words_of piece) ≤ WORDS = grind (arith, few.0) in
-    let each = read.each in
-    record {
-      spelled = sym (join_with_byte-slice_split 44 piece) ∙ ap (join_with_byte 44) read.spelled;
-      small = record { some = omega arith; most = omega arith; words = read.small };
-      count = sym each;
-    }
+    let spelled : piece ≡ message_text m = sym (join_with_byte-slice_split 44 piece) ∙ ap (join_with_byte 44) read.spelled in
+    grind (arith, spelled, read, few.0, length-slice_split (λ b. b == 44) piece)
 
 -- a message in a text of this version
 pub record ItemTaken (v : Version) (piece : List ℕ) (m : Message) : Type 0 where
@@ -159,16 +124,10 @@ pub record ItemTaken (v : Version) (piece : List ℕ) (m : Message) : Type 0 whe
 
 pub item_taken : (v : Version) (piece : List ℕ) (m : Message) → spells_message v piece ≡ true → message_in piece ≡ Ok m → ItemTaken v piece m
 item_taken v piece m spells e =
-    let taken = message_taken piece m e in
-    let parts = and_parts (covers v (version_of_count (length (words_of piece)))) (list_all is_number (words_of piece)) spells in
-    record {
-      spelled = taken.spelled;
-      is = record { small = taken.small; version = ap (λ (n : ℕ). covers v (version_of_count n)) (sym taken.count) ∙ parts.0 };
-    }
+    grind (arith, message_taken piece m e, and_parts (covers v (version_of_count (length (words_of piece)))) (list_all is_number (words_of piece)) spells)
 
 same_taken : (read : Result Message Reason) (m : Message) → is_same read m ≡ true → read ≡ Ok m
-same_taken (Err reason) m e = absurd (cc)
-same_taken (Ok x) m e = ap Ok ((bytes_eq-Decides x m).0 e)
+same_taken read m e = grind (arith, bytes_eq-Decides)
 
 pub is_message_taken : (piece : List ℕ) (m : Message) → is_message piece m ≡ true → message_in piece ≡ Ok m
 is_message_taken piece m e = same_taken (message_in piece) m e

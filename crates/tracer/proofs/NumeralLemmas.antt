@@ -1,10 +1,9 @@
 -- What a piece's number of 64 bits tells: whether the piece spells a number, and the number in a range.
 use Rattle.std.proofs.Common.{◌≡◌, ◌≢◌, ℕ, ◌^◌, ◌<◌, ◌≤◌, true, List, Some, None, Ok, Err, length, get_or, take, ap, sym, ◌∙◌, arith, inl, inr}
-use Rattle.std.specs.{Str.all_ascii_digits, Str.Parse.digits_value}
-use Rattle.std.proofs.lemmas.{Bool.cases_Bool, Bool.cases_lt, List.get_or-take, List.length-take, Str.Parse.digits_value_short}
-use Rattle.event_log.specs.Digits.{is_number, number_to}
-use Rattle.event_log.proofs.DigitsLemmas.{IsSpelled, ascii_digits, is_number-spelled, number_to-beyond, number_to-not, number_to-Some, number_to-spelled, spelled_number}
-use Rattle.tracer.specs.{declared.verdicts.Reason.TheVariants.Range, Judging.in_range, Judging.or_range}
+use Rattle.std.{proofs.lemmas.{Bool.{cases_Bool, cases_lt}, List.{get_or-take, length-take}, Str.Parse.digits_value_short}, specs.Str.all_ascii_digits}
+use Rattle.{std.specs.Str.Parse.digits_value, event_log.{specs.Digits.{is_number, number_to}, proofs.DigitsLemmas.{IsSpelled, ascii_digits, is_number-spelled}}}
+use Rattle.event_log.proofs.DigitsLemmas.{number_to-beyond, number_to-not, number_to-Some, number_to-spelled, spelled_number}
+use Rattle.tracer.specs.{declared.verdicts.Reason.TheVariants.Range, Judging.{in_range, or_range}}
 
 pub is_number_read : (text : List ℕ) (n : ℕ) → number_to 18446744073709551615 text ≡ Some n → is_number text ≡ true
 is_number_read text n is = is_number-spelled text (number_to-Some 18446744073709551615 text n is).spelled

@@ -1,41 +1,19 @@
 -- The lines before the entries, and the last line: each is taken where it may stand, and what is taken is spelled so.
-use Rattle.std.proofs.Common.{◌≡◌, ℕ, ◌+◌, ◌<◌, ◌≤◌, ◌^◌, Bool, true, false, cond, List, [], ◌∷◌, ◌++◌, length, map, Result, Ok, Err, refl, sym, ap, subst, ◌∙◌}
-use Rattle.std.proofs.Common.{lt-ltb, ltb-true, lit<, arith}
-use Rattle.std.specs.Prelude.{decimal, codes, nat_lt}
-use Rattle.std.specs.{Str.bytes_eq, List.join_with_byte}
-use Rattle.std.proofs.lemmas.{List.length-map, List.map_push, Slice.Eq.bytes_eq-Decides}
-use Rattle.event_log.specs.{Buffers.IsCapacity, declared.ids.TheConstants.BUFFERS, declared.ids.TheConstants.CAPACITY}
-use Rattle.event_log.proofs.DigitsLemmas.{number_to-decimal}
-use Rattle.tracer.specs.{declared.verdicts.Reason.Reason, declared.verdicts.Reason.TheVariants.Spelling, declared.verdicts.Reason.TheVariants.Range}
-use Rattle.tracer.specs.{declared.verdicts.Reason.TheVariants.OfVersion, declared.next_lines.NextLine.NextLine, declared.versions.Version.Version}
-use Rattle.tracer.specs.{declared.versions.Version.TheVariants.One, declared.versions.Version.TheVariants.Two, declared.versions.Version.TheVariants.Three}
-use Rattle.tracer.specs.{Versions.covers, TraceText.head_pieces, TraceText.cap_pieces, TraceText.count_pieces}
-use Rattle.tracer.specs.Judging.{Progress, fresh, or_reason, piece_at, word_at, digits_at, ended, in_range, is_value, count_digits, count_line, capacity_digits}
-use Rattle.tracer.specs.Judging.{capacity_line, version_in, head_line, end_line, step}
-use Rattle.tracer.proofs.{SplitLemmas.IsLine, SplitLemmas.decimal_lacks, SplitLemmas.pieces_again, ReadLemmas.bind_ok, ReadLemmas.wanted_ok, ReadLemmas.same_ok}
-use Rattle.tracer.proofs.{ReadLemmas.piece_taken, ReadLemmas.word_taken, ReadLemmas.digits_taken, ReadLemmas.ended_taken, ReadLemmas.IsInRange}
-use Rattle.tracer.proofs.{ReadLemmas.in_range_taken, ReadLemmas.is_value_taken, ReadLemmas.decimal_is_number, ReadLemmas.is_value_again}
+use Rattle.std.proofs.Common.{◌≡◌, ℕ, ◌+◌, ◌<◌, ◌≤◌, ◌^◌, true, cond, List, [], ◌∷◌, ◌++◌, length, map, Ok, refl, sym, ap, ◌∙◌, lt-ltb, ltb-true, lit<, arith}
+use Rattle.std.{proofs.lemmas.{List.{length-map, map_push}, Slice.Eq.bytes_eq-Decides}, specs.{Prelude.{decimal, codes, nat_lt}, Str.bytes_eq}}
+use Rattle.{std.specs.List.join_with_byte, event_log.specs.{Buffers.IsCapacity, declared.ids.TheConstants.{BUFFERS, CAPACITY}}}
+use Rattle.{event_log.proofs.DigitsLemmas.number_to-decimal, tracer.specs.declared.verdicts.Reason.TheVariants.{Spelling, Range, OfVersion}}
+use Rattle.tracer.specs.{declared.{next_lines.NextLine.NextLine, versions.Version.{Version, TheVariants.{One, Two, Three}}}, Versions.covers}
+use Rattle.tracer.specs.{TraceText.{head_pieces, cap_pieces, count_pieces}, Judging.{Progress, fresh, or_reason, piece_at, word_at, digits_at, ended, in_range}}
+use Rattle.tracer.specs.Judging.{is_value, count_digits, count_line, capacity_digits, capacity_line, version_in, head_line, end_line, step}
+use Rattle.tracer.proofs.{SplitLemmas.{IsLine, decimal_lacks, pieces_again}, ReadLemmas.{bind_ok, wanted_ok, same_ok, piece_taken, word_taken, digits_taken}}
+use Rattle.tracer.proofs.ReadLemmas.{ended_taken, IsInRange, in_range_taken, is_value_taken, decimal_is_number, is_value_again}
 use Rattle.tracer.specs.declared.next_lines.NextLine.TheVariants as wants
 
 -- ---- the head and the last line
 
--- one head of a choice of heads
-head_or : (line : List ℕ) (is : Bool) (here v : Version) (others : Result Version Reason)
-    → bytes_eq line (join_with_byte 32 (head_pieces here)) ≡ is → (others ≡ Ok v → line ≡ join_with_byte 32 (head_pieces v))
-    → cond is (Ok here) others ≡ Ok v → line ≡ join_with_byte 32 (head_pieces v)
-head_or line true here v others is behind e =
-    let same : here ≡ v = same_ok here v e in
-    subst (λ (u : Version). line ≡ join_with_byte 32 (head_pieces u)) same ((bytes_eq-Decides line (join_with_byte 32 (head_pieces here))).0 is)
-head_or line false here v others is behind e = behind e
-
-no_head : (line : List ℕ) (v : Version) → Err Spelling ≡ Ok v → line ≡ join_with_byte 32 (head_pieces v)
-no_head line v e = absurd (cc)
-
 version_taken : (line : List ℕ) (v : Version) → version_in line ≡ Ok v → line ≡ join_with_byte 32 (head_pieces v)
-version_taken line v e =
-    head_or line (bytes_eq line (codes "mctower-trace 1")) One v _ refl
-    (head_or line (bytes_eq line (codes "mctower-trace 2")) Two v _ refl
-    (head_or line (bytes_eq line (codes "mctower-trace 3")) Three v _ refl (no_head line v))) e
+version_taken line v e = grind (arith, bytes_eq-Decides)
 
 -- a head that is taken names its version
 pub head_taken : (line : List ℕ) (s after : Progress) → head_line line s ≡ Ok after
@@ -76,18 +54,13 @@ pub count_line_again : (n : ℕ) (s : Progress) → 1 ≤ n → n ≤ BUFFERS �
 unfolding count_line
 count_line_again n s some few = rw (count_digits_again n (omega arith), number_to-decimal BUFFERS n (omega arith) few, lt-ltb 0 n (omega arith)) refl
 
-two_shape : (word : List ℕ) (ps rest : List (List ℕ)) (p q : List ℕ) (behind : List (List ℕ)) → ps ≡ word ∷ rest → rest ≡ p ∷ behind → behind ≡ [] → p ≡ q
-    → ps ≡ word ∷ q ∷ []
-two_shape word ps rest p q behind e1 e2 e3 e4 = e1 ∙ ap (λ (t : List (List ℕ)). word ∷ t) (e2 ∙ rw (e3, e4) refl)
-
 count_digits_taken : (ps : List (List ℕ)) (digits : List ℕ) → count_digits ps ≡ Ok digits → ps ≡ codes "buffers" ∷ digits ∷ []
 unfolding count_digits
 count_digits_taken ps digits taken =
     let word = bind_ok (word_at (codes "buffers") ps) _ digits taken in
     let number = bind_ok (digits_at word.0) _ digits word.2 in
     let last = bind_ok (ended number.0.1) _ digits number.2 in
-    two_shape (codes "buffers") ps word.0 number.0.0 digits number.0.1 (word_taken (codes "buffers") ps word.0 word.1) (digits_taken word.0 number.0 number.1)
-    (ended_taken number.0.1 last.0 last.1) (same_ok number.0.0 digits last.2)
+    cc (word_taken (codes "buffers") ps word.0 word.1, digits_taken word.0 number.0 number.1, ended_taken number.0.1 last.0 last.1, last.2)
 
 -- what it says that the number of buffers was taken
 pub record CountTaken (ps : List (List ℕ)) (s after : Progress) (n : ℕ) : Type 0 where
@@ -113,14 +86,11 @@ count_line_taken ps s after taken =
           (ltb-true 0 count.0 some.0) (same_ok _ after some.1),
     )
 
-count_is_line : (n : ℕ) → n < 2 ^ 64 → IsLine (count_pieces n)
-count_is_line n small = record {
-  spaces = ((refl, (refl, (refl, (refl, (refl, (refl, (refl, tt))))))), (decimal_lacks 32 n (lit< tt) small, tt));
-  feeds = ((refl, (refl, (refl, (refl, (refl, (refl, (refl, tt))))))), (decimal_lacks 10 n (lit< tt) small, tt));
-}
-
 pub count_is_line_of : (n : ℕ) → n ≤ BUFFERS → IsLine (count_pieces n)
-count_is_line_of n few = count_is_line n (omega arith)
+count_is_line_of n few = record {
+  spaces = ((refl, (refl, (refl, (refl, (refl, (refl, (refl, tt))))))), (decimal_lacks 32 n (lit< tt) (omega arith), tt));
+  feeds = ((refl, (refl, (refl, (refl, (refl, (refl, (refl, tt))))))), (decimal_lacks 10 n (lit< tt) (omega arith), tt));
+}
 
 pub step_count : (n : ℕ) (s : Progress) → s.at ≡ wants.Count → 1 ≤ n → n ≤ BUFFERS
     → step s (join_with_byte 32 (count_pieces n)) ≡ Ok (record s { at = wants.Capacities n; buffers = [] })
@@ -157,10 +127,6 @@ capacity_line_again v at count caps capacity small few =
       map_push fresh caps capacity,
     ) refl
 
-three_shape : (word : List ℕ) (ps rest behind last : List (List ℕ)) (p p' q q' : List ℕ) → ps ≡ word ∷ rest → rest ≡ p ∷ behind → p ≡ p' → behind ≡ q ∷ last
-    → last ≡ [] → q ≡ q' → ps ≡ word ∷ p' ∷ q' ∷ []
-three_shape word ps rest behind last p p' q q' e1 e2 e3 e4 e5 e6 = e1 ∙ ap (λ (t : List (List ℕ)). word ∷ t) (e2 ∙ rw (e3, e4, e5, e6) refl)
-
 capacity_digits_taken : (b : ℕ) (ps : List (List ℕ)) (digits : List ℕ) → capacity_digits b ps ≡ Ok digits → ps ≡ codes "cap" ∷ decimal b ∷ digits ∷ []
 unfolding capacity_digits
 capacity_digits_taken b ps digits taken =
@@ -170,9 +136,14 @@ capacity_digits_taken b ps digits taken =
     number.2 in
     let value = wanted_ok (is_value number.0.0 b) Spelling (digits_at number.0.1) capacity.0 capacity.1 in
     let last = bind_ok (ended capacity.0.1) _ digits capacity.2 in
-    three_shape (codes "cap") ps word.0 number.0.1 capacity.0.1 number.0.0 (decimal b) capacity.0.0 digits (word_taken (codes "cap") ps word.0 word.1)
-    (piece_taken word.0 number.0 number.1) (is_value_taken number.0.0 b value.0) (digits_taken number.0.1 capacity.0 value.1)
-    (ended_taken capacity.0.1 last.0 last.1) (same_ok capacity.0.0 digits last.2)
+    cc (
+      word_taken (codes "cap") ps word.0 word.1,
+      piece_taken word.0 number.0 number.1,
+      is_value_taken number.0.0 b value.0,
+      digits_taken number.0.1 capacity.0 value.1,
+      ended_taken capacity.0.1 last.0 last.1,
+      last.2,
+    )
 
 -- what it says that a capacity was taken
 pub record CapacityTaken (v : Version) (count : ℕ) (caps : List ℕ) (ps : List (List ℕ)) (after : Progress) (capacity : ℕ) : Type 0 where
@@ -190,11 +161,7 @@ capacity_found : (v : Version) (count : ℕ) (caps : List ℕ) (ps : List (List 
       entries = 0;
     } ≡ after
     → CapacityTaken v count caps ps after capacity
-capacity_found v count caps ps digits capacity after shape range some is = record {
-  spelled = shape ∙ rw (length-map caps fresh, range.spelled) refl;
-  small = (omega arith, range.within);
-  is = sym is ∙ rw (length-map caps fresh, map_push fresh caps capacity) refl;
-}
+capacity_found v count caps ps digits capacity after shape range some is = grind (arith, length-map, map_push)
 
 pub capacity_line_taken : (v : Version) (at : NextLine) (count : ℕ) (caps : List ℕ) (ps : List (List ℕ)) (after : Progress)
     → capacity_line count ps (opened v at caps) ≡ Ok after

@@ -1,25 +1,17 @@
 -- Orders of traces: an entry that is due at the head of its trace may come first.
 use Rattle.std.proofs.Common.{◌≡◌, ◌≢◌, ℕ, ◌+◌, ◌<◌, ◌≤◌, Bool, cond, eqb, ◌&&◌, List, [], ◌∷◌, ◌++◌, length, get_or, set, Some, sym, ap, ◌∙◌, subst, inl, inr}
-use Rattle.std.proofs.Common.{arith, count_by}
-use Rattle.std.proofs.lemmas.{List.set_comm, List.get_or-set_other, List.Sums.sum_by_push, Bool.cases_eq, Bool.cases_lt, Bool.Decides.nat_tests}
-use Rattle.std.proofs.lemmas.{Option.get_or_from_slice_get, Option.slice_get-get_or, List.get_or_past}
-use Rattle.std.specs.Prelude.{nat_lt, slice_get, slice_index}
-use Rattle.event_log.specs.{Messages.Message, declared.entries.Entry.Entry, declared.entries.Kind.Kind, declared.entries.Kind.TheVariants.Close}
-use Rattle.event_log.specs.{Buffers.items_of, Buffers.IsAllowedEffect, Buffers.after_effect, Buffers.empty_buffers, Runs.count_of, Runs.count_of_kind}
-use Rattle.event_log.specs.{Runs.is_closed, Runs.kind_eq, Runs.IsNext, Runs.IsRunFrom, Runs.after_entry, Traces.IsInterleaving, Traces.HasOpOrderFrom}
-use Rattle.event_log.proofs.RunLemmas.{op_order_from, count_more, count_kind_more}
-use Rattle.tracer.specs.Gather.{RunsHaveOrder, OrdersRunAlike}
+use Rattle.std.proofs.{Common.{arith, count_by}, lemmas.{List.{set_comm, get_or-set_other, get_or_past, Sums.sum_by_push}, Bool.{cases_eq, Decides.nat_tests}}}
+use Rattle.{std.{proofs.lemmas.Option.{get_or_from_slice_get, slice_get-get_or}, specs.Prelude.{nat_lt, slice_get}}, event_log.specs.Messages.Message}
+use Rattle.event_log.specs.{declared.entries.{Entry.Entry, Kind.{Kind, TheVariants.Close}}, Buffers.{items_of, after_effect, empty_buffers}, Runs.count_of}
+use Rattle.event_log.specs.{Runs.{count_of_kind, is_closed, kind_eq, IsNext, IsRunFrom, after_entry}, Traces.{IsInterleaving, HasOpOrderFrom}}
+use Rattle.{event_log.proofs.RunLemmas.{op_order_from, count_more, count_kind_more}, tracer.specs.Gather.{RunsHaveOrder, OrdersRunAlike}}
 
 -- the entries of a trace, from a look at its head and back
 pub at_head : (traces : List (List Entry)) (k : ℕ) (e : Entry) (rest : List Entry) → slice_get traces k ≡ Some (e ∷ rest) → get_or traces k [] ≡ e ∷ rest
 at_head traces k e rest at = get_or_from_slice_get traces k (e ∷ rest) [] at
 
 pub head_within : (traces : List (List Entry)) (k : ℕ) (e : Entry) (rest : List Entry) → get_or traces k [] ≡ e ∷ rest → k < length traces
-head_within traces k e rest at =
-    elim (cases_lt k (length traces)) [
-      | inl within ↦ within
-      | inr past ↦ let bad : [] ≡ e ∷ rest = sym (get_or_past traces k [] past) ∙ at in absurd (cc)
-    ]
+head_within traces k e rest at = grind (arith, get_or_past)
 
 pub head_at : (traces : List (List Entry)) (k : ℕ) (e : Entry) (rest : List Entry) → get_or traces k [] ≡ e ∷ rest → slice_get traces k ≡ Some (e ∷ rest)
 head_at traces k e rest at = slice_get-get_or traces k [] (head_within traces k e rest at) ∙ ap Some at
@@ -61,22 +53,10 @@ record SameCounts (a b : List Entry) : Type 0 where
   pub same : (p : Entry → Bool) → count_by p a ≡ count_by p b
 
 counts_more : (a b : List Entry) (e : Entry) → SameCounts a b → SameCounts (a ++ e ∷ []) (b ++ e ∷ [])
-counts_more a b e s = record {
-  same = λ p. sum_by_push (λ x. cond (p x) 1 0) a e
-      ∙ (ap (λ n. n + cond (p e) 1 0) (s.same p) ∙ sym (sum_by_push (λ x. cond (p x) 1 0) b e));
-}
+counts_more a b e s = record { same = λ p. omega (arith, s.same p, sum_by_push (λ x. cond (p x) 1 0)) }
 
 counts_swap : (a : List Entry) (e f : Entry) → SameCounts ((a ++ f ∷ []) ++ e ∷ []) ((a ++ e ∷ []) ++ f ∷ [])
-counts_swap a e f = record {
-  same = λ p.
-      omega (
-        arith,
-        sum_by_push (λ x. cond (p x) 1 0) a e,
-        sum_by_push (λ x. cond (p x) 1 0) a f,
-        sum_by_push (λ x. cond (p x) 1 0) (a ++ f ∷ []) e,
-        sum_by_push (λ x. cond (p x) 1 0) (a ++ e ∷ []) f,
-      );
-}
+counts_swap a e f = record { same = λ p. omega (arith, sum_by_push (λ x. cond (p x) 1 0)) }
 
 ops_like : (a b order : List Entry) → SameCounts a b → HasOpOrderFrom a order → HasOpOrderFrom b order
 ops_like a b [] s ops = tt
@@ -84,13 +64,14 @@ ops_like a b (e ∷ order) s ops = (ops.0 ∙ s.same (λ x. eqb x.buffer.0 e.buf
 
 next_like : (caps : List ℕ) (a b : List Entry) (contents : List (List Message)) (e : Entry) → SameCounts a b → IsNext caps a contents e
     → IsNext caps b contents e
-next_like caps a b contents e s n = record {
-  known = n.known;
-  allowed = subst (λ closed. IsAllowedEffect e.kind closed (slice_index caps e.buffer.0) (items_of contents e.buffer.0) e.value)
-      (ap (nat_lt 0) (s.same (λ x. eqb x.buffer.0 e.buffer.0 && kind_eq x.kind Close))) n.allowed;
-  op = n.op ∙ s.same (λ x. eqb x.buffer.0 e.buffer.0);
-  pos = n.pos ∙ s.same (λ x. eqb x.buffer.0 e.buffer.0 && kind_eq x.kind e.kind);
-}
+next_like caps a b contents e s n =
+    grind (
+      arith,
+      n,
+      s.same (λ x. eqb x.buffer.0 e.buffer.0),
+      s.same (λ x. eqb x.buffer.0 e.buffer.0 && kind_eq x.kind Close),
+      s.same (λ x. eqb x.buffer.0 e.buffer.0 && kind_eq x.kind e.kind),
+    )
 
 run_like : (caps : List ℕ) (a b : List Entry) (contents : List (List Message)) (order : List Entry) (left : List (List Message)) → SameCounts a b
     → IsRunFrom caps a contents order left → IsRunFrom caps b contents order left
@@ -107,10 +88,7 @@ next_before : (caps : List ℕ) (earlier : List Entry) (contents : List (List Me
     → IsNext caps (earlier ++ f ∷ []) (after_entry contents f) e → IsNext caps earlier contents e
 next_before caps earlier contents e f differ n = record {
   known = n.known;
-  allowed = subst (λ closed. IsAllowedEffect e.kind closed (slice_index caps e.buffer.0) (items_of contents e.buffer.0) e.value)
-      (closed_more_other earlier f e.buffer.0 differ)
-      (subst (λ items. IsAllowedEffect e.kind (is_closed (earlier ++ f ∷ []) e.buffer.0) (slice_index caps e.buffer.0) items e.value)
-      (items_other contents f e.buffer.0 (λ same. differ (sym same))) n.allowed);
+  allowed = rw (closed_more_other earlier f e.buffer.0 differ, items_other contents f e.buffer.0 (λ same. differ (sym same))) at n.allowed;
   op = n.op ∙ count_more_other earlier f e.buffer.0 differ;
   pos = n.pos ∙ kind_more_other earlier f e.buffer.0 e.kind differ;
 }
@@ -119,10 +97,7 @@ next_behind : (caps : List ℕ) (earlier : List Entry) (contents : List (List Me
     → IsNext caps (earlier ++ f ∷ []) (after_entry contents f) e
 next_behind caps earlier contents e f differ n = record {
   known = n.known;
-  allowed = subst (λ closed. IsAllowedEffect e.kind closed (slice_index caps e.buffer.0) (items_of (after_entry contents f) e.buffer.0) e.value)
-      (sym (closed_more_other earlier f e.buffer.0 differ))
-      (subst (λ items. IsAllowedEffect e.kind (is_closed earlier e.buffer.0) (slice_index caps e.buffer.0) items e.value)
-      (sym (items_other contents f e.buffer.0 (λ same. differ (sym same)))) n.allowed);
+  allowed = rw (closed_more_other earlier f e.buffer.0 differ, items_other contents f e.buffer.0 (λ same. differ (sym same))) n.allowed;
   op = n.op ∙ sym (count_more_other earlier f e.buffer.0 differ);
   pos = n.pos ∙ sym (kind_more_other earlier f e.buffer.0 e.kind differ);
 }

@@ -1,41 +1,23 @@
 -- A text that is read and judged in parts has the verdict of the whole.
 use Rattle.std.proofs.Common.{◌≡◌, ℕ, ◌+◌, ◌-◌, ◌≤◌, ◌==◌, List, [], ◌∷◌, ◌++◌, length, take, drop, Option, Some, None, Ok, Err, IfSome, refl, sym, ap, ◌∙◌}
-use Rattle.std.proofs.Common.{append_assoc, append-nil, eq-eqb, arith, length-append, drop_at}
-use Rattle.std.proofs.lemmas.List.{drop-take, length-drop, length-take, Edits.take-paste, Splits.slice_split_at}
-use lib.Seq.{paste, take-add}
-use Rattle.std.specs.Io.KnownBytes.{Consumes, IsAtEnd, Keeps}
-use Rattle.tracer.specs.{declared.checking.TextJudge.TextJudge, declared.verdicts.Reason.Reason, declared.verdicts.Verdict.Verdict}
-use Rattle.tracer.specs.{declared.verdicts.Verdict.TheVariants.No, declared.verdicts.Verdict.TheVariants.Yes, Judging.lines_in, Judging.step}
-use Rattle.tracer.specs.{Judging.verdict_from, Judging.verdict_of, Inputs.IsReadBehind, Lines.IsFirstLine, Parts.verdict_behind, Tallies.progress_of}
-use Rattle.tracer.specs.Verdicts.{IsTraceOfRun, IsVerdictOn}
+use Rattle.std.proofs.{Common.{append_assoc, append-nil, eq-eqb, arith, length-append}, lemmas.List.{drop-take, length-drop, length-take, Edits.take-paste}}
+use Rattle.{std.{proofs.lemmas.List.Splits.slice_split_at, specs.Io.KnownBytes.{Consumes, IsAtEnd, Keeps}}, tracer.specs.declared.checking.TextJudge.TextJudge}
+use Rattle.tracer.specs.{declared.verdicts.{Reason.Reason, Verdict.{Verdict, TheVariants.{No, Yes}}}, Judging.{lines_in, step, verdict_from, verdict_of}}
+use Rattle.tracer.specs.{Inputs.IsReadBehind, Lines.IsFirstLine, Parts.verdict_behind, Tallies.progress_of, Verdicts.{IsTraceOfRun, IsVerdictOn}}
 use Rattle.tracer.proofs.VerdictLemmas.{line_taken, line_refused}
+use lib.Seq.{paste, take-add}
 
 -- ---- the bytes of a reader
 
-pub consumes_none : (from : Option (List ℕ)) → Consumes from from []
-consumes_none None = tt
-consumes_none (Some xs) = refl
-
 pub consumes_then : (from mid now : Option (List ℕ)) (xs ys : List ℕ) → Consumes from mid xs → Consumes mid now ys → Consumes from now (xs ++ ys)
-consumes_then None mid now xs ys first second = tt
-consumes_then (Some a) None now xs ys first second = absurd first
-consumes_then (Some a) (Some b) None xs ys first second = absurd second
-consumes_then (Some a) (Some b) (Some c) xs ys first second = first ∙ ap (λ (t : List ℕ). xs ++ t) second ∙ sym (append_assoc xs ys c)
+consumes_then from mid now xs ys first second = grind (arith, append_assoc)
 
 pub consumes_kept : (from mid now : Option (List ℕ)) (xs : List ℕ) → Consumes from mid xs → Keeps mid now → Consumes from now xs
-consumes_kept None mid now xs first kept = tt
-consumes_kept (Some a) None now xs first kept = absurd first
-consumes_kept (Some a) (Some b) None xs first kept = absurd kept
-consumes_kept (Some a) (Some b) (Some c) xs first kept = first ∙ ap (λ (t : List ℕ). xs ++ t) (sym kept)
+consumes_kept from mid now xs first kept = grind arith
 
 -- a reader that is at its end gave all that it had
 all_consumed : (from now : Option (List ℕ)) (seen : List ℕ) → Consumes from now seen → IsAtEnd now → IfSome from (λ known. seen ≡ known)
-all_consumed None now seen read end = tt
-all_consumed (Some a) None seen read end = absurd read
-all_consumed (Some a) (Some b) seen read end = sym (read ∙ ap (λ (t : List ℕ). seen ++ t) end ∙ append-nil seen)
-
-pub read_none : (old : List ℕ) (from : Option (List ℕ)) → IsReadBehind old old from from
-read_none old from = record { more = []; read = consumes_none from; grown = sym (append-nil old) }
+all_consumed from now seen read end = grind (arith, append-nil)
 
 pub read_then : (old mid new : List ℕ) (from between now : Option (List ℕ)) → IsReadBehind old mid from between → IsReadBehind mid new between now
     → IsReadBehind old new from now
@@ -88,9 +70,6 @@ pub record IsTakenTo (old : TextJudge) (part : List ℕ) (now : TextJudge) (rest
   pub live : now.fault ≡ None
   pub counted : now.line + length rest ≤ old.line + length part
 
-pub none_taken : (old : TextJudge) (part : List ℕ) → old.fault ≡ None → IsTakenTo old part old part
-none_taken old part none = record { front = []; whole = refl; judged = (λ more. refl); live = none; counted = omega arith }
-
 -- one line more
 pub one_taken : (old : TextJudge) (part : List ℕ) (now new : TextJudge) (rest line behind : List ℕ) → IsTakenTo old part now rest → IsFirstLine rest line behind
     → step (progress_of now.judge) line ≡ Ok (progress_of new.judge) → new.line ≡ now.line + 1 → new.fault ≡ now.fault → IsTakenTo old part new behind
@@ -124,27 +103,12 @@ refused old part now new rest line behind reason taken is stepped same fault mor
 pub passed : (judge : TextJudge) (reason : Reason) (xs ys : List ℕ) → judge.fault ≡ Some reason → verdict_behind judge xs ≡ verdict_behind judge ys
 passed judge reason xs ys fault = rw fault refl
 
--- what is left of the part, by how much of it was taken
-pub rest_of : (old : TextJudge) (part : List ℕ) (now : TextJudge) (rest : List ℕ) → IsTakenTo old part now rest → drop (length part - length rest) part ≡ rest
-rest_of old part now rest taken =
-    let long = ap length taken.whole ∙ length-append taken.front rest in
-    let count : length taken.front ≡ length part - length rest = omega arith in
-    ap (drop (length part - length rest)) taken.whole ∙ drop_at taken.front rest (length part - length rest) count
-
 -- ---- an input that is judged as far as it was read
 
 pub record IsJudgedTo (from now : Option (List ℕ)) (judge : TextJudge) (held : List ℕ) : Type 0 where
   pub seen : List ℕ
   pub read : Consumes from now seen
   pub judged : (more : List ℕ) → verdict_of (seen ++ more) ≡ verdict_behind judge (held ++ more)
-
-pub none_judged : (from : Option (List ℕ)) (judge : TextJudge) (held : List ℕ) → ((text : List ℕ) → verdict_behind judge text ≡ verdict_of text) → held ≡ []
-    → IsJudgedTo from from judge held
-none_judged from judge held opening none = record {
-  seen = [];
-  read = consumes_none from;
-  judged = (λ more. rw none (sym (opening more)));
-}
 
 pub judged_read : (from mid now : Option (List ℕ)) (judge : TextJudge) (held longer : List ℕ) → IsJudgedTo from mid judge held → IsReadBehind held longer mid now
     → IsJudgedTo from now judge longer

@@ -1,15 +1,11 @@
 -- What it says of the pieces of a line that one was read, or that none was left.
-use Rattle.std.proofs.Common.{◌≡◌, ℕ, ◌<◌, ◌≤◌, ◌==◌, Bool, true, false, not, List, [], ◌∷◌, length, drop, Option, Some, None, Err, refl, sym, ap, ◌∙◌, arith}
-use Rattle.std.specs.Prelude.{is_none, is_some}
-use Rattle.std.proofs.lemmas.List.{drop_more, drop_all, Splits.length-slice_split}
-use Rattle.event_log.specs.Messages.{Message}
-use Rattle.tracer.specs.{declared.verdicts.Reason.Reason, declared.pieces.Pieces.Pieces, Judging.piece_at, Judging.line_pieces, Judging.are_values}
-use Rattle.tracer.specs.{Lines.left_of}
+use Rattle.std.proofs.Common.{◌≡◌, ℕ, ◌<◌, ◌≤◌, ◌==◌, Bool, false, not, List, [], ◌∷◌, length, drop, Option, Some, None, Err, refl, sym, ap, ◌∙◌, arith}
+use Rattle.{std.{proofs.lemmas.List.{drop_more, drop_all, Splits.length-slice_split}, specs.Prelude.{is_none, is_some}}, event_log.specs.Messages.Message}
+use Rattle.tracer.specs.{declared.{verdicts.Reason.Reason, pieces.Pieces.Pieces}, Judging.{piece_at, line_pieces, are_values}, Lines.left_of}
 use denote.Ref.{Bor}
 
 pub no_piece : (ps : List (List ℕ)) (reason : Reason) → piece_at ps ≡ Err reason → ps ≡ []
-no_piece [] reason e = refl
-no_piece (p ∷ ps) reason e = absurd (cc)
+no_piece ps reason e = grind arith
 
 -- a number is wanted, and no piece is left
 pub piece_missing : (ps : List (List ℕ)) (reason : Reason) (ns : List Message) (i : ℕ) → piece_at ps ≡ Err reason → i < length ns
@@ -30,10 +26,7 @@ pieces_end pieces ns i le =
     ])
 
 same_none : (line : Option (Bor (List ℕ))) (b : Bool) → is_some line ≡ not b → b ≡ is_none line
-same_none None true e = refl
-same_none None false e = absurd (cc)
-same_none (Some line) true e = absurd (cc)
-same_none (Some line) false e = refl
+same_none line b e = grind arith
 
 pub none_left : (pieces : Pieces) (ns : List Message) (i : ℕ) (b : Bool) → length ns ≤ i → is_some pieces.rest ≡ not b
     → b ≡ are_values (left_of pieces) (drop i ns)

@@ -1,15 +1,10 @@
 -- One write after another.
-use Rattle.std.proofs.Common.{◌≡◌, ℕ, ◌+◌, ◌<◌, Bool, true, false, List, ◌∷◌, ◌++◌, length, get_or, take, drop, Option, Some, None, sym, ap, subst, ◌∙◌}
-use Rattle.std.proofs.Common.{append_assoc}
-use Rattle.std.proofs.lemmas.List.{take-append-drop, drop_more, Concat.flat_map-append}
-use Rattle.std.specs.{List.flat_map, Io.KnownBytes.Appends}
+use Rattle.std.proofs.Common.{◌≡◌, ℕ, ◌+◌, ◌<◌, Bool, true, false, List, ◌∷◌, ◌++◌, length, get_or, take, drop, Option, sym, ap, subst, ◌∙◌, arith}
+use Rattle.std.{proofs.{Common.append_assoc, lemmas.List.{take-append-drop, drop_more, Concat.flat_map-append}}, specs.{List.flat_map, Io.KnownBytes.Appends}}
 use Rattle.tracer.specs.Sinks.{Outs}
 
 pub appends_then : (old mid new : Option (List ℕ)) (a b : List ℕ) → Appends old mid a → Appends mid new b → Appends old new (a ++ b)
-appends_then None mid new a b first second = tt
-appends_then (Some xs) None new a b first second = absurd first
-appends_then (Some xs) (Some ys) None a b first second = absurd second
-appends_then (Some xs) (Some ys) (Some zs) a b first second = second ∙ ap (λ (t : List ℕ). t ++ b) first ∙ append_assoc xs a b
+appends_then old mid new a b first second = grind (arith, append_assoc)
 
 -- a text whose front is out, and then what comes of the next
 pub outs_then : (failed : Bool) (old mid new : Option (List ℕ)) (a b : List ℕ) → Appends old mid a → Outs failed mid new b → Outs failed old new (a ++ b)
@@ -24,8 +19,7 @@ outs_before true old new a b e out = (out.0, out.1 ++ b, ap (λ (t : List ℕ). 
 
 -- a write without fault is all out
 pub all_out : (failed : Bool) (old new : Option (List ℕ)) (a : List ℕ) → failed ≡ false → Outs failed old new a → Appends old new a
-all_out false old new a e out = out
-all_out true old new a e out = absurd cc
+all_out failed old new a e out = grind arith
 
 -- a text of pieces, cut round the piece at i
 pub flat_map_at : {X : Type 0} (f : X → List ℕ) (xs : List X) (i : ℕ) (d : X) → i < length xs

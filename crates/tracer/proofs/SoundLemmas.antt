@@ -1,23 +1,17 @@
 -- A text that gets yes is the trace text of a run, and of where it ends.
 use Rattle.std.proofs.Common.{◌≡◌, inl, inr, ℕ, ◌+◌, ◌<◌, ◌≤◌, ◌==◌, ◌&&◌, Bool, true, false, cond, List, [], ◌∷◌, ◌++◌, length, drop, map, Result, Ok, Err}
-use Rattle.std.proofs.Common.{refl, sym, ap, subst, ◌∙◌, append_assoc, eqb-true, ltb-true, ltb-false, arith}
-use Rattle.std.specs.Prelude.{nat_lt}
-use Rattle.std.specs.List.{AllByRecursion, flat_map, join_with_byte}
-use Rattle.std.proofs.lemmas.List.{append-nil, length_push, length-set, length-map, drop_more, drop_all, nil_from_length, Concat.flat_map-append}
-use Rattle.std.proofs.lemmas.List.{Splits.join_with_byte-slice_split}
-use Rattle.event_log.specs.{Messages.Message, declared.ids.TheConstants.BUFFERS, declared.ids.TheConstants.ENTRIES, declared.entries.Entry.Entry}
-use Rattle.event_log.specs.{Buffers.items_of, Buffers.empty_buffers, Buffers.IsCapacity, Runs.IsNext, Runs.after_entry, Runs.IsRunFrom, Runs.IsRun}
-use Rattle.event_log.proofs.Streams.{taken_put}
-use Rattle.tracer.specs.{declared.verdicts.Reason.Reason, declared.verdicts.Verdict.Verdict, declared.verdicts.Verdict.TheVariants.Yes}
-use Rattle.tracer.specs.{declared.verdicts.Verdict.TheVariants.No, declared.versions.Version.Version, declared.versions.Version.TheVariants.One}
-use Rattle.tracer.specs.{Versions.covers, Versions.version_of_entry, Versions.version_from, Versions.version_of, Verdicts.IsTraceOfRun, Judging.Progress}
-use Rattle.tracer.specs.{Judging.opening, Judging.step, Judging.after_line, Judging.line_pieces, Judging.lines_in, Judging.verdict_from, Judging.verdict_of}
-use Rattle.tracer.specs.{Judging.head_line, Judging.end_line, Judging.count_line, Judging.capacity_line, Judging.entries_line, Judging.left_line}
-use Rattle.tracer.specs.TraceText.{text_line, head_pieces, count_pieces, cap_pieces, entry_pieces, left_pieces, end_pieces, numbered, lines_of, spelling}
-use Rattle.tracer.specs.TraceText.{IsEntryOf, IsSpellable, AreItemsOf}
-use Rattle.tracer.proofs.{KnownLemmas.known_fresh_from, EntryLemmas.progress, StepLemmas.left_line_taken, StepLemmas.entries_taken}
-use Rattle.tracer.proofs.{VersionLemmas.covers_first_one, VersionLemmas.covers_same, VersionLemmas.covers_both, VersionLemmas.version_more}
-use Rattle.tracer.proofs.OpeningLemmas.{head_taken, end_taken, count_line_taken, opened, behind_cap, capacity_line_taken}
+use Rattle.std.proofs.{Common.{refl, sym, ap, subst, ◌∙◌, append_assoc, eqb-true, ltb-true, ltb-false, arith}, lemmas.List.{append-nil, length_push}}
+use Rattle.std.proofs.lemmas.List.{length-set, length-map, drop_more, drop_all, nil_from_length, Concat.flat_map-append, Splits.join_with_byte-slice_split}
+use Rattle.{std.specs.{Prelude.nat_lt, List.{AllByRecursion, flat_map, join_with_byte}}, event_log.specs.{Messages.Message, declared.ids.TheConstants.BUFFERS}}
+use Rattle.event_log.specs.{declared.{ids.TheConstants.ENTRIES, entries.Entry.Entry}, Buffers.{items_of, empty_buffers, IsCapacity}, Runs.{IsNext, after_entry}}
+use Rattle.{event_log.{specs.Runs.{IsRunFrom, IsRun}, proofs.Streams.taken_put}, tracer.specs.declared.verdicts.{Reason.Reason, Verdict.Verdict}}
+use Rattle.tracer.specs.{declared.{verdicts.Verdict.TheVariants.{Yes, No}, versions.Version.{Version, TheVariants.One}}, Versions.{covers, version_of_entry}}
+use Rattle.tracer.specs.{Versions.{version_from, version_of}, Verdicts.IsTraceOfRun, Judging.{Progress, opening, step, after_line, line_pieces, lines_in}}
+use Rattle.tracer.specs.{Judging.{verdict_from, verdict_of, head_line, end_line, count_line, capacity_line, entries_line, left_line}, TraceText.text_line}
+use Rattle.tracer.specs.TraceText.{head_pieces, count_pieces, cap_pieces, entry_pieces, left_pieces, end_pieces, numbered, lines_of, spelling, IsEntryOf}
+use Rattle.tracer.{specs.TraceText.{IsSpellable, AreItemsOf}, proofs.{KnownLemmas.known_fresh_from, EntryLemmas.progress, StepLemmas.left_line_taken}}
+use Rattle.tracer.proofs.{StepLemmas.entries_taken, VersionLemmas.{covers_first_one, covers_same, covers_both, version_more}, OpeningLemmas.head_taken}
+use Rattle.tracer.proofs.OpeningLemmas.{end_taken, count_line_taken, opened, behind_cap, capacity_line_taken}
 use Rattle.tracer.specs.declared.next_lines.NextLine.TheVariants as wants
 
 -- ---- one line
@@ -35,9 +29,7 @@ line_spelled line ps rest e =
 -- ---- the end
 
 done_test : (done empty : Bool) (n : ℕ) (reason : Reason) → cond (done && empty) Yes (No n reason) ≡ Yes → empty ≡ true
-done_test true true n reason e = refl
-done_test true false n reason e = absurd (cc)
-done_test false empty n reason e = absurd (cc)
+done_test done empty n reason e = grind arith
 
 done_end : (v low : Version) (buffers : _) (entries n : ℕ) (lines : List (List ℕ))
     → verdict_from (record { at = wants.Done; version = v; lowest = low; buffers = buffers; entries = entries }) n lines ≡ Yes
@@ -129,36 +121,15 @@ judged_more : (v : Version) (caps : List ℕ) (earlier : List Entry) (contents :
     → line_pieces line ≡ entry_pieces e → IsEntryOf (length caps) e → IsNext caps earlier contents e
     → IsJudged v caps (earlier ++ e ∷ []) (after_entry contents e) (next ∷ more) → IsJudged v caps earlier contents (line ∷ next ∷ more)
 judged_more v caps earlier contents line next more e spelled small can behind =
-    let rest = behind.2 in (
-      e ∷ behind.0,
-      behind.1,
-      record {
-        run = (can, rest.run);
-        small = (small, rest.small);
-        few = (let h = rest.few in omega (arith, length_push earlier e));
-        each = rest.each;
-        values = rest.values;
-        lowest = rest.lowest ∙ ap (λ (u : Version). version_from u behind.0) (version_more earlier e);
-        text = line_spelled line (entry_pieces e) (join_with_byte 10 (next ∷ more)) spelled ∙ ap (λ (t : List ℕ). text_line (entry_pieces e) ++ t) rest.text;
-      },
-    )
+    let rest = behind.2 in
+    let text : line ++ 10 ∷ join_with_byte 10 (next ∷ more) ≡ text_line (entry_pieces e) ++ _ =
+    line_spelled line (entry_pieces e) (join_with_byte 10 (next ∷ more)) spelled ∙ ap (λ (t : List ℕ). text_line (entry_pieces e) ++ t) rest.text in
+    (e ∷ behind.0, behind.1, grind (arith, text, length_push earlier e, version_more earlier e))
 
 judged_left : (v : Version) (caps : List ℕ) (earlier : List Entry) (contents : List (List Message)) (lines : List (List ℕ)) → length earlier ≤ ENTRIES
     → length contents ≡ length caps → covers v (version_of earlier) ≡ true → LeftText v (version_of earlier) 0 contents lines
     → IsJudged v caps earlier contents lines
-judged_left v caps earlier contents lines few long high left = (
-  [],
-  contents,
-  record {
-    run = refl;
-    small = tt;
-    few = omega arith;
-    each = long;
-    values = left.1;
-    lowest = covers_same v (version_of earlier) high left.2;
-    text = left.0;
-  },
-)
+judged_left v caps earlier contents lines few long high left = ([], contents, grind (arith, covers_same))
 
 sound_entries : (v : Version) (caps : List ℕ) (earlier : List Entry) (contents : List (List Message)) (n : ℕ) (lines : List (List ℕ)) → length earlier ≤ ENTRIES
     → length contents ≡ length caps → covers v (version_of earlier) ≡ true → verdict_from (progress v wants.Entries caps earlier contents) n lines ≡ Yes
@@ -260,15 +231,7 @@ tail_of v line next more n caps rest es left spelled some few counted small text
   caps,
   es,
   left,
-  record {
-    some_buffer = omega arith;
-    few_buffers = omega arith;
-    capacities = small;
-    few_entries = (let h = judged.few in omega arith);
-    entries = judged.small;
-    each_left = judged.each;
-    values = subst (λ (u : Version). AllByRecursion (AreItemsOf u) left) judged.lowest judged.values;
-  },
+  grind (arith, judged),
   judged.run,
   judged.lowest,
   line_spelled line (count_pieces n) (join_with_byte 10 (next ∷ more)) spelled

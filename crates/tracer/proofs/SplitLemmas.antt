@@ -1,13 +1,9 @@
 -- What is joined by a byte that no piece has is cut again into its pieces.
-use Rattle.std.proofs.Common.{◌≡◌, ℕ, ◌+◌, ◌<◌, ◌≤◌, ◌^◌, ◌==◌, true, false, List, [], ◌∷◌, ◌++◌, Ok, length, get_or, take, drop, refl, ap, sym, ◌∙◌, append_assoc, eq-eqb, arith}
-use Rattle.std.proofs.Common.{take_all}
-use Rattle.std.specs.Prelude.{decimal}
-use Rattle.std.specs.{Char.is_ascii_digit, Str.all_ascii_digits, List.AllByRecursion, List.slice_split, List.join_with_byte}
-use Rattle.std.proofs.lemmas.{Bool.Decides.nat_tests, List.Elements.All-from_recursion, List.Splits.slice_split_at, List.Splits.slice_split_none}
-use Rattle.std.proofs.lemmas.{Bool.and_parts, List.drop_more, List.take-append-drop}
-use Rattle.event_log.proofs.DigitsLemmas.{decimal-spelled}
-use Rattle.tracer.specs.{TraceText.text_line, Judging.Progress, Judging.line_pieces, Judging.lines_in, Judging.step, Judging.verdict_from}
-use Rattle.tracer.proofs.VerdictLemmas.{line_taken}
+use Rattle.std.proofs.Common.{◌≡◌, ℕ, ◌+◌, ◌<◌, ◌≤◌, ◌^◌, ◌==◌, true, false, List, [], ◌∷◌, ◌++◌, Ok, length, get_or, take, drop, refl, ap, sym, ◌∙◌}
+use Rattle.std.proofs.{Common.{append_assoc, eq-eqb, arith, take_all}, lemmas.{Bool.{Decides.nat_tests, and_parts}, List.Elements.All-from_recursion}}
+use Rattle.std.{proofs.lemmas.List.{Splits.{slice_split_at, slice_split_none}, drop_more, take-append-drop}, specs.{Prelude.decimal, Char.is_ascii_digit}}
+use Rattle.{std.specs.{Str.all_ascii_digits, List.{AllByRecursion, slice_split, join_with_byte}}, event_log.proofs.DigitsLemmas.decimal-spelled}
+use Rattle.tracer.{specs.{TraceText.text_line, Judging.{Progress, line_pieces, lines_in, step, verdict_from}}, proofs.VerdictLemmas.line_taken}
 
 -- no byte of the text is this one
 abbrev pub Lacks : ℕ → List ℕ → Type 0

@@ -1,94 +1,48 @@
 -- Each line behind the capacities is taken where it may stand, and a line that is taken is spelled so.
-use Rattle.std.proofs.Common.{◌-◌, ◌≡◌, ℕ, ◌+◌, ◌<◌, ◌≤◌, ◌^◌, Bool, true, false, cond, List, [], ◌∷◌, ◌++◌, length, get_or, map, Option, Some, None, Ok, refl}
-use Rattle.std.proofs.Common.{sym, ap, ◌∙◌, inl, inr, ◌⊎◌, lt-ltb, ltb-true, lit<, arith}
-use Rattle.std.specs.Prelude.{decimal, codes, nat_lt, slice_get}
-use Rattle.std.specs.{Str.bytes_eq, List.AllByRecursion, List.list_all, List.join_with_byte}
-use Rattle.std.proofs.lemmas.{List.length_push, Slice.Eq.bytes_eq-Decides, Option.slice_get_within, Bool.and_parts}
-use Rattle.event_log.specs.{Messages.Message, declared.ids.TheConstants.CPUS, declared.ids.TheConstants.THREADS, declared.ids.TheConstants.BUFFERS}
-use Rattle.event_log.specs.{declared.ids.TheConstants.ENTRIES, declared.entries.Entry.Entry, Buffers.items_of, Runs.IsNext, Runs.after_entry}
-use Rattle.event_log.specs.declared.entries.Kind.{Kind, TheVariants.Send, TheVariants.Recv, TheVariants.Close, TheVariants.SendClosed, TheVariants.RecvClosed}
-use Rattle.tracer.specs.{declared.verdicts.Reason.TheVariants.Spelling, declared.verdicts.Reason.TheVariants.Range, declared.verdicts.Reason.TheVariants.Left}
-use Rattle.tracer.specs.{declared.next_lines.NextLine.NextLine, TraceText.kind_word, TraceText.message_text, TraceText.value_piece, TraceText.entry_pieces}
-use Rattle.tracer.specs.{TraceText.left_pieces, TraceText.IsValueOf, TraceText.IsEntryOf, TraceText.AreItemsOf, declared.versions.Version.Version}
-use Rattle.tracer.specs.{Versions.covers, Versions.both, Versions.version_of_kind, Versions.version_of_message, Versions.version_of_entry, Versions.version_of}
-use Rattle.tracer.specs.Judging.{Digits, Seen, Progress, or_reason, piece_at, word_at, is_value, is_message, is_within, are_values, is_left, is_of_version}
-use Rattle.tracer.specs.Judging.{spells_message, spells_value, entry_digits, entry_in, entry_among, entry_line, left_digits, left_line, entries_line, step}
-use Rattle.tracer.proofs.{SplitLemmas.Lacks, SplitLemmas.IsLine, SplitLemmas.decimal_lacks, SplitLemmas.pieces_again, ReadLemmas.bind_ok, ReadLemmas.wanted_ok}
-use Rattle.tracer.proofs.{ReadLemmas.same_ok, ReadLemmas.piece_taken, ReadLemmas.word_taken, ReadLemmas.is_value_taken, ReadLemmas.is_value_again}
-use Rattle.tracer.proofs.{VersionLemmas.covers_both, VersionLemmas.version_more, KnownLemmas.HasNone, KnownLemmas.same_some, KnownLemmas.seen_of}
-use Rattle.tracer.proofs.{KnownLemmas.known_from, KnownLemmas.length-known_from, KnownLemmas.slice_get-known, KnownLemmas.among_again, KnownLemmas.among_taken}
-use Rattle.tracer.proofs.{EntryLemmas.progress, EntryLemmas.behind_e, EntryLemmas.shape_of, EntryLemmas.IsSmall, EntryLemmas.of_version_again}
-use Rattle.tracer.proofs.{EntryLemmas.entry_digits_taken, EntryLemmas.entry_digits_again, EntryLemmas.entry_in_taken, EntryLemmas.entry_in_again}
-use Rattle.tracer.proofs.MessageLemmas.{same_pieces, spells_message_again, is_message_again, is_within_again, message_lacks, item_taken, is_message_taken}
+use Rattle.std.proofs.Common.{◌==◌, ◌-◌, ◌≡◌, ℕ, ◌+◌, ◌<◌, ◌≤◌, ◌^◌, Bool, true, false, cond, List, [], ◌∷◌, ◌++◌, length, get_or, map, Option, Some, None, Ok}
+use Rattle.std.proofs.{Common.{refl, sym, ap, ◌∙◌, inl, inr, ◌⊎◌, lt-ltb, ltb-true, lit<, arith}, lemmas.{List.length_push, Slice.Eq.bytes_eq-Decides}}
+use Rattle.std.{proofs.lemmas.{Option.slice_get_within, Bool.and_parts}, specs.{Prelude.{decimal, codes, nat_lt, slice_get}, Str.bytes_eq, List.AllByRecursion}}
+use Rattle.{std.specs.List.{list_all, join_with_byte}, event_log.specs.{Messages.Message, declared.ids.TheConstants.{CPUS, THREADS, BUFFERS, ENTRIES}}}
+use Rattle.event_log.specs.{declared.entries.{Entry.Entry, Kind.{Kind, TheVariants.{Close, RecvClosed}}}, Buffers.items_of, Runs.{IsNext, after_entry}}
+use Rattle.tracer.specs.declared.{verdicts.Reason.TheVariants.{Spelling, Range, Left}, next_lines.NextLine.NextLine, versions.Version.Version}
+use Rattle.tracer.specs.{TraceText.{kind_word, message_text, value_piece, entry_pieces, left_pieces, IsValueOf, IsEntryOf, AreItemsOf}, Versions.{covers, both}}
+use Rattle.tracer.specs.{Versions.{version_of_kind, version_of_message, version_of_entry, version_of}, Judging.{Digits, Seen, Progress, or_reason, piece_at}}
+use Rattle.tracer.specs.Judging.{word_at, is_value, is_message, is_within, are_values, is_left, is_of_version, spells_message, spells_value, entry_digits}
+use Rattle.tracer.{specs.Judging.{entry_in, entry_among, entry_line, left_digits, left_line, entries_line, step}, proofs.SplitLemmas.{Lacks, IsLine}}
+use Rattle.tracer.proofs.{SplitLemmas.{decimal_lacks, pieces_again}, ReadLemmas.{bind_ok, wanted_ok, same_ok, piece_taken, word_taken, is_value_taken}}
+use Rattle.tracer.proofs.{ReadLemmas.is_value_again, VersionLemmas.{covers_both, version_more}, KnownLemmas.{same_some, seen_of, known_from, length-known_from}}
+use Rattle.tracer.proofs.{KnownLemmas.{slice_get-known, among_again, among_taken}, EntryLemmas.{progress, behind_e, shape_of, IsSmall, of_version_again}}
+use Rattle.tracer.proofs.{EntryLemmas.{entry_digits_taken, entry_digits_again, entry_in_taken, entry_in_again}, MessageLemmas.same_pieces}
+use Rattle.tracer.proofs.MessageLemmas.{spells_message_again, is_message_again, is_within_again, message_lacks, item_taken, is_message_taken}
 use Rattle.tracer.specs.declared.next_lines.NextLine.TheVariants as wants
 
 -- ---- an entry
 
-kind_spaces : (kind : Kind) → Lacks 32 (kind_word kind)
-kind_spaces Send = (refl, (refl, (refl, (refl, tt))))
-kind_spaces Recv = (refl, (refl, (refl, (refl, tt))))
-kind_spaces other = (refl, (refl, (refl, (refl, (refl, tt)))))
+kind_lacks : (at : ℕ) (kind : Kind) → at < 44 → Lacks at (kind_word kind)
+kind_lacks at kind lt = grind arith
 
-kind_feeds : (kind : Kind) → Lacks 10 (kind_word kind)
-kind_feeds Send = (refl, (refl, (refl, (refl, tt))))
-kind_feeds Recv = (refl, (refl, (refl, (refl, tt))))
-kind_feeds other = (refl, (refl, (refl, (refl, (refl, tt)))))
+value_lacks : (at : ℕ) (kind : Kind) (value : Message) → at < 44 → IsValueOf kind value → Lacks at (value_piece kind value)
+value_lacks at Close value lt fits = (grind arith, tt)
+value_lacks at RecvClosed value lt fits = (grind arith, tt)
+value_lacks at kind value lt fits = message_lacks at value lt fits
 
-value_spaces : (kind : Kind) (value : Message) → IsValueOf kind value → Lacks 32 (value_piece kind value)
-value_spaces Send value fits = message_lacks 32 value (lit< tt) fits
-value_spaces Recv value fits = message_lacks 32 value (lit< tt) fits
-value_spaces Close value fits = (refl, tt)
-value_spaces SendClosed value fits = message_lacks 32 value (lit< tt) fits
-value_spaces RecvClosed value fits = (refl, tt)
-
-value_feeds : (kind : Kind) (value : Message) → IsValueOf kind value → Lacks 10 (value_piece kind value)
-value_feeds Send value fits = message_lacks 10 value (lit< tt) fits
-value_feeds Recv value fits = message_lacks 10 value (lit< tt) fits
-value_feeds Close value fits = (refl, tt)
-value_feeds SendClosed value fits = message_lacks 10 value (lit< tt) fits
-value_feeds RecvClosed value fits = (refl, tt)
+entry_lacks : (at n : ℕ) (e : Entry) → at < 44 → n ≤ BUFFERS → IsEntryOf n e → AllByRecursion (Lacks at) (entry_pieces e)
+entry_lacks at n e lt few small =
+    let number : (m : ℕ) → m < ENTRIES → Lacks at (decimal m) = λ m small. decimal_lacks at m (omega arith) (omega arith) in
+    let letter : (101 == at) ≡ false = grind arith in
+    let cpu = number e.cpu.0 (let h = small.cpu in omega arith) in
+    let thread = number e.thread.0 (let h = small.thread in omega arith) in
+    let buffer = number e.buffer.0 (let h = small.buffer in omega arith) in
+    let value = value_lacks at e.kind e.value lt small.value in
+    let op = number e.op small.op in
+    let pos = number e.pos small.pos in
+    ((letter, tt), (cpu, (thread, (kind_lacks at e.kind lt, (buffer, (value, (op, (pos, tt))))))))
 
 pub entry_is_line : (n : ℕ) (e : Entry) → n ≤ BUFFERS → IsEntryOf n e → IsLine (entry_pieces e)
-entry_is_line n e few small =
-    let cpu : e.cpu.0 < 2 ^ 64 = (let h = small.cpu in omega arith) in
-    let thread : e.thread.0 < 2 ^ 64 = (let h = small.thread in omega arith) in
-    let buffer : e.buffer.0 < 2 ^ 64 = (let h = small.buffer in omega arith) in
-    let op : e.op < 2 ^ 64 = (let h = small.op in omega arith) in
-    let pos : e.pos < 2 ^ 64 = (let h = small.pos in omega arith) in
-    record {
-      spaces = (
-        (refl, tt),
-        (
-          decimal_lacks 32 e.cpu.0 (lit< tt) cpu,
-          (
-            decimal_lacks 32 e.thread.0 (lit< tt) thread,
-            (
-              kind_spaces e.kind,
-              (
-                decimal_lacks 32 e.buffer.0 (lit< tt) buffer,
-                (value_spaces e.kind e.value small.value, (decimal_lacks 32 e.op (lit< tt) op, (decimal_lacks 32 e.pos (lit< tt) pos, tt))),
-              ),
-            ),
-          ),
-        ),
-      );
-      feeds = (
-        (refl, tt),
-        (
-          decimal_lacks 10 e.cpu.0 (lit< tt) cpu,
-          (
-            decimal_lacks 10 e.thread.0 (lit< tt) thread,
-            (
-              kind_feeds e.kind,
-              (
-                decimal_lacks 10 e.buffer.0 (lit< tt) buffer,
-                (value_feeds e.kind e.value small.value, (decimal_lacks 10 e.op (lit< tt) op, (decimal_lacks 10 e.pos (lit< tt) pos, tt))),
-              ),
-            ),
-          ),
-        ),
-      );
-    }
+entry_is_line n e few small = record {
+  spaces = entry_lacks 32 n e (lit< tt) few small;
+  feeds = entry_lacks 10 n e (lit< tt) few small;
+}
 
 entry_line_again : (v : Version) (at : NextLine) (caps : List ℕ) (earlier : List Entry) (contents : List (List Message)) (e : Entry) → length caps ≤ BUFFERS
     → length earlier < ENTRIES → length contents ≡ length caps → IsEntryOf (length caps) e → covers v (version_of_entry e) ≡ true
@@ -138,14 +92,6 @@ pub record EntryTaken (v : Version) (at : NextLine) (caps : List ℕ) (earlier :
   pub room : length earlier < ENTRIES
   pub is : after ≡ progress v at caps (earlier ++ e ∷ []) (after_entry contents e)
 
--- an effect without a message has none
-none_of : (kind : Kind) (value : Message) → IsValueOf kind value → HasNone kind value
-none_of Send value fits = tt
-none_of Recv value fits = tt
-none_of Close value fits = fits
-none_of SendClosed value fits = tt
-none_of RecvClosed value fits = fits
-
 entry_found : (v : Version) (at : NextLine) (caps : List ℕ) (earlier : List Entry) (contents : List (List Message)) (ps : List (List ℕ)) (digits : Digits)
     (e : Entry) (buffers : List Seen) (after : Progress) → length contents ≡ length caps → ps ≡ shape_of digits → IsSmall v digits e
     → covers v (version_of_kind digits.kind) ≡ true → length earlier < ENTRIES
@@ -153,17 +99,10 @@ entry_found : (v : Version) (at : NextLine) (caps : List ℕ) (earlier : List En
     → record { at = at; version = v; lowest = both (version_of earlier) (version_of_entry e); buffers = buffers; entries = length earlier + 1 } ≡ after
     → EntryTaken v at caps earlier contents ps after e
 entry_found v at caps earlier contents ps digits e buffers after long shape small high room among is =
-    let taken = among_taken caps earlier contents e buffers long (none_of e.kind e.value small.value) among in
+    let taken = among_taken caps earlier contents e buffers long small.value among in
     record {
       spelled = shape ∙ ap shape_of small.spelled;
-      small = record {
-        cpu = (let h = small.cpu in omega arith);
-        thread = (let h = small.thread in omega arith);
-        buffer = taken.0.known;
-        value = small.value;
-        op = (let h = small.op in omega arith);
-        pos = (let h = small.pos in omega arith);
-      };
+      small = grind (arith, taken.0.known);
       high = covers_both v (version_of_kind e.kind) (version_of_message e.value)
           (ap (λ (d : Digits). covers v (version_of_kind d.kind)) (sym small.spelled) ∙ high) small.version;
       next = taken.0;
@@ -238,10 +177,6 @@ values_taken v (p ∷ ps) (m ∷ ms) spells e =
     let rest = values_taken v ps ms spelled.1 parts.1 in
     (same_pieces p (message_text m) ps (map message_text ms) first.spelled rest.0, (first.is, rest.1))
 
-left_shape : (ps rest : List (List ℕ)) (number : List ℕ) (behind values : List (List ℕ)) (b : ℕ) → ps ≡ codes "left" ∷ rest → rest ≡ number ∷ behind
-    → number ≡ decimal b → behind ≡ values → ps ≡ codes "left" ∷ decimal b ∷ values
-left_shape ps rest number behind values b e1 e2 e3 e4 = e1 ∙ ap (λ (t : List (List ℕ)). codes "left" ∷ t) (e2 ∙ rw (e3, e4) refl)
-
 left_digits_taken : (v : Version) (b : ℕ) (ps values : List (List ℕ)) → left_digits v b ps ≡ Ok values
     → (ps ≡ codes "left" ∷ decimal b ∷ values) × (list_all (spells_message v) values ≡ true)
 unfolding left_digits
@@ -251,8 +186,7 @@ left_digits_taken v b ps values taken =
     let value = wanted_ok (is_value number.0.0 b) Spelling (or_reason (list_all (spells_message v) number.0.1) Spelling (Ok number.0.1)) values number.2 in
     let rest = wanted_ok (list_all (spells_message v) number.0.1) Spelling (Ok number.0.1) values value.1 in
     let same = same_ok number.0.1 values rest.1 in (
-      left_shape ps word.0 number.0.0 number.0.1 values b (word_taken (codes "left") ps word.0 word.1) (piece_taken word.0 number.0 number.1)
-          (is_value_taken number.0.0 b value.0) same,
+      cc (word_taken (codes "left") ps word.0 word.1, piece_taken word.0 number.0 number.1, is_value_taken number.0.0 b value.0, same),
       ap (list_all (spells_message v)) (sym same) ∙ rest.0,
     )
 

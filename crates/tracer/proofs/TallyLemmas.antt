@@ -1,10 +1,10 @@
 -- A step on one buffer is a step among the buffers.
 use Rattle.std.proofs.Common.{◌≡◌, ℕ, ◌<◌, ◌≤◌, List, length, get_or, set, map, Option, Some, None, Result, Ok, Err, refl, sym, ap, subst, ◌∙◌, arith}
-use Rattle.std.specs.Prelude.{slice_get, slice_set, option_map}
-use Rattle.std.proofs.lemmas.{List.map-set, List.length-map, Option.slice_get-map, Option.slice_get-get_or, Option.slice_get_past}
-use Rattle.event_log.specs.{declared.entries.Entry.Entry, Reading.◌>>=◌}
-use Rattle.tracer.specs.{declared.verdicts.Reason.Reason, declared.verdicts.Reason.TheVariants.Range, declared.tally.Tally.Tally, Judging.Seen}
-use Rattle.tracer.specs.{Judging.or_range, Judging.entry_on, Judging.entry_among, Tallies.seen_in, Tallies.StepsTo}
+use Rattle.std.{proofs.lemmas.{List.{map-set, length-map}, Option.{slice_get-map, slice_get-get_or, slice_get_past}}, specs.Prelude.{slice_get, slice_set}}
+use Rattle.std.specs.Prelude.{option_map}
+use Rattle.event_log.specs.{declared.entries.Entry.Entry, Reading.{◌>>=◌}}
+use Rattle.tracer.specs.{declared.{verdicts.Reason.{Reason, TheVariants.Range}, tally.Tally.Tally}, Judging.{Seen, or_range, entry_on, entry_among}}
+use Rattle.tracer.specs.Tallies.{seen_in, StepsTo}
 
 -- the buffer as it is seen among the others
 seen_at : (ts : List Tally) (b : ℕ) (d : Tally) → b < length ts → slice_get (map seen_in ts) b ≡ Some (seen_in (get_or ts b d))

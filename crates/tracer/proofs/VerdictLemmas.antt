@@ -1,8 +1,6 @@
 -- One line more of a text that is judged.
-use Rattle.std.proofs.Common.{◌≡◌, ℕ, ◌+◌, ◌<◌, ◌==◌, List, [], ◌∷◌, length, Ok, Err, refl, ap, ◌∙◌, arith}
-use Rattle.std.proofs.lemmas.List.Splits.{length-slice_split}
-use Rattle.tracer.specs.{declared.verdicts.Reason.Reason, declared.verdicts.Verdict.TheVariants.No, Judging.Progress, Judging.lines_in, Judging.step}
-use Rattle.tracer.specs.{Judging.after_line, Judging.verdict_from}
+use Rattle.std.proofs.{Common.{◌≡◌, ℕ, ◌+◌, ◌<◌, ◌==◌, List, [], ◌∷◌, length, Ok, Err, refl, ap, ◌∙◌, arith}, lemmas.List.Splits.length-slice_split}
+use Rattle.tracer.specs.{declared.verdicts.{Reason.Reason, Verdict.TheVariants.No}, Judging.{Progress, lines_in, step, after_line, verdict_from}}
 
 -- a line that is not the last
 more_lines : (s : Progress) (n : ℕ) (line : List ℕ) (parts : List (List ℕ)) → 0 < length parts

@@ -1,7 +1,6 @@
 -- Which order of several traces is gathered.
-use Rattle.std.specs.Prelude.{◌≡◌, ◌<◌, ℕ, List, [], ◌∷◌, ◌++◌, Option, Some, map, Vec, slice_get, slice_index, slice_index_or, slice_set}
-use Rattle.std.specs.Global.{Global}
-use Rattle.event_log.specs.{Messages.Message, declared.entries.Entry.Entry, Runs.count_of, Runs.IsRun, Traces.IsInterleaving, Traces.HasOpOrder}
+use Rattle.std.specs.{Prelude.{◌≡◌, ◌<◌, ℕ, List, [], ◌∷◌, ◌++◌, Option, Some, map, Vec, slice_get, slice_index, slice_index_or, slice_set}, Global.Global}
+use Rattle.event_log.specs.{Messages.Message, declared.entries.Entry.Entry, Runs.{count_of, IsRun}, Traces.{IsInterleaving, HasOpOrder}}
 
 -- the traces that vectors hold
 abbrev pub traces_in : List (Vec Entry Global) → List (List Entry)

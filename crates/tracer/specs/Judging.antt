@@ -1,17 +1,13 @@
 -- How a trace text is judged: line by line, up to the first fault.
 use Rattle.std.specs.Prelude.{◌-◌, ◌≡◌, ℕ, ◌+◌, Bool, true, false, ◌&&◌, ◌==◌, nat_lt, nat_le, List, [], ◌∷◌, ◌++◌, length, codes, is_ok, Option, Some, None}
-use Rattle.std.specs.Prelude.{Result, Ok, Err, slice_get, slice_set, if◌then◌else◌}
-use Rattle.std.specs.{List.list_all, List.slice_split, Str.bytes_eq}
-use Rattle.event_log.specs.{Messages.Message, Messages.no_message, declared.messages.TheConstants.WORDS, declared.ids.TheConstants.CPUS}
-use Rattle.event_log.specs.{declared.ids.TheConstants.THREADS, declared.ids.TheConstants.BUFFERS, declared.ids.TheConstants.CAPACITY}
-use Rattle.event_log.specs.{declared.ids.TheConstants.ENTRIES, declared.entries.Kind.Kind, declared.entries.Entry.Entry, Runs.Group, Runs.Sends, Runs.Receives}
-use Rattle.event_log.specs.{Runs.Closes, Runs.group_of, Runs.same_group, Digits.is_number, Digits.number_to, Reading.◌>>=◌}
-use Rattle.event_log.specs.declared.entries.Kind.TheVariants.{Send, Recv, Close, SendClosed, RecvClosed}
-use Rattle.tracer.specs.{declared.verdicts.Reason.Reason, declared.verdicts.Verdict.Verdict, declared.verdicts.Verdict.TheVariants.Yes}
-use Rattle.tracer.specs.{declared.verdicts.Verdict.TheVariants.No, declared.next_lines.NextLine.NextLine, declared.versions.Version.Version}
-use Rattle.tracer.specs.{declared.versions.Version.TheVariants.One, declared.versions.Version.TheVariants.Two, declared.versions.Version.TheVariants.Three}
-use Rattle.tracer.specs.{Versions.covers, Versions.both, Versions.version_of_kind, Versions.version_of_count, Versions.version_of_entry}
-use Rattle.tracer.specs.declared.verdicts.Reason.TheVariants.{Spelling, Range, Op, Pos, Full, EmptyTake, WrongValue, Left, OfVersion, CloseState, NotEmpty}
+use Rattle.std.specs.{Prelude.{Result, Ok, Err, slice_get, slice_set, if◌then◌else◌}, List.{list_all, slice_split}, Str.bytes_eq}
+use Rattle.event_log.specs.{Messages.{Message, no_message}, declared.{messages.TheConstants.WORDS, ids.TheConstants.{CPUS, THREADS, BUFFERS, CAPACITY}}}
+use Rattle.event_log.specs.declared.{ids.TheConstants.ENTRIES, entries.{Kind.{Kind, TheVariants.{Send, Recv, Close, SendClosed, RecvClosed}}, Entry.Entry}}
+use Rattle.event_log.specs.{Runs.{Group, Sends, Receives, Closes, group_of, same_group}, Digits.{is_number, number_to}, Reading.{◌>>=◌}}
+use Rattle.tracer.specs.declared.verdicts.Reason.{Reason, TheVariants.{Spelling, Range, Op, Pos, Full, EmptyTake, WrongValue, Left, OfVersion, CloseState}}
+use Rattle.tracer.specs.declared.{verdicts.{Reason.TheVariants.NotEmpty, Verdict.{Verdict, TheVariants.{Yes, No}}}, next_lines.NextLine.NextLine}
+use Rattle.tracer.specs.{declared.versions.Version.{Version, TheVariants.{One, Two, Three}}, Versions.{covers, both, version_of_kind, version_of_count}}
+use Rattle.tracer.specs.Versions.{version_of_entry}
 use Rattle.tracer.specs.declared.next_lines.NextLine.TheVariants as wants
 
 -- what a function returned, seen by view, is what reading gives

@@ -1,6 +1,6 @@
 -- The pieces of a line as the writer has them.
 use Rattle.std.specs.Prelude.{ℕ, List, ◌∷◌, decimal}
-use Rattle.tracer.specs.declared.writing.Piece.{Piece, TheVariants.Word, TheVariants.Number}
+use Rattle.tracer.specs.declared.writing.Piece.{Piece, TheVariants.{Word, Number}}
 
 -- how a piece is spelled
 abbrev pub text_of : Piece → List ℕ

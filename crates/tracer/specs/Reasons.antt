@@ -1,6 +1,5 @@
 -- How a reason prints.
-use Rattle.std.specs.Prelude.{ℕ, List, codes}
-use Rattle.tracer.specs.declared.verdicts.Reason.{Reason}
+use Rattle.{std.specs.Prelude.{ℕ, List, codes}, tracer.specs.declared.verdicts.Reason.Reason}
 use Rattle.tracer.specs.declared.verdicts.Reason.TheVariants as reason
 
 -- the name of a reason, and its number

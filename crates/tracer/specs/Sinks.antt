@@ -1,6 +1,5 @@
 -- What a sink shows, and what writing a text to a writer leaves.
-use Rattle.std.specs.Prelude.{◌≡◌, ℕ, Bool, true, false, List, ◌++◌, Option}
-use Rattle.std.specs.Io.KnownBytes.{Appends}
+use Rattle.std.specs.{Prelude.{◌≡◌, ℕ, Bool, true, false, List, ◌++◌, Option}, Io.KnownBytes.Appends}
 use Rattle.tracer.specs.declared.sinks.Sink.{Sink}
 
 -- whether a write failed

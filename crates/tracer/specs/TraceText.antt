@@ -1,13 +1,9 @@
 -- The text of a trace: the one spelling of capacities, entries and what is left.
 -- The capacities are a list by buffer number; what is left is a list by buffer number of the buffer's items, front first.
-use Rattle.std.specs.Prelude.{◌≡◌, ℕ, ◌+◌, ◌<◌, ◌≤◌, true, List, [], ◌∷◌, ◌++◌, length, map, codes, decimal, flat_map}
-use Rattle.std.specs.List.{AllByRecursion, join_with_byte}
-use Rattle.event_log.specs.{Messages.Message, Messages.no_message, Messages.IsMessage, Buffers.IsCapacity, declared.ids.TheConstants.CPUS}
-use Rattle.event_log.specs.{declared.ids.TheConstants.THREADS, declared.ids.TheConstants.BUFFERS, declared.ids.TheConstants.ENTRIES, declared.entries.Kind.Kind}
-use Rattle.event_log.specs.{declared.entries.Kind.TheVariants.Send, declared.entries.Kind.TheVariants.Recv, declared.entries.Kind.TheVariants.Close}
-use Rattle.event_log.specs.{declared.entries.Kind.TheVariants.SendClosed, declared.entries.Kind.TheVariants.RecvClosed, declared.entries.Entry.Entry}
-use Rattle.tracer.specs.{declared.versions.Version.Version, declared.versions.Version.TheVariants.One, declared.versions.Version.TheVariants.Two}
-use Rattle.tracer.specs.{declared.versions.Version.TheVariants.Three, Versions.covers, Versions.version_of_message, Versions.version_of}
+use Rattle.std.specs.{Prelude.{◌≡◌, ℕ, ◌+◌, ◌<◌, ◌≤◌, true, List, [], ◌∷◌, ◌++◌, length, map, codes, decimal, flat_map}, List.{AllByRecursion, join_with_byte}}
+use Rattle.event_log.specs.{Messages.{Message, no_message, IsMessage}, Buffers.IsCapacity, declared.ids.TheConstants.{CPUS, THREADS, BUFFERS, ENTRIES}}
+use Rattle.event_log.specs.declared.entries.{Kind.{Kind, TheVariants.{Send, Recv, Close, SendClosed, RecvClosed}}, Entry.Entry}
+use Rattle.tracer.specs.{declared.versions.Version.{Version, TheVariants.{One, Two, Three}}, Versions.{covers, version_of_message, version_of}}
 
 -- a line: its pieces with one space between each two, and a line feed
 abbrev pub text_line : List (List ℕ) → List ℕ

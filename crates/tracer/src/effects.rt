@@ -1,8 +1,7 @@
 //! What an effect does to the items of a buffer. No call takes memory or waits.
 
 ghost use Rattle.std.specs.Prelude.{◌≡◌, ◌≤◌};
-ghost use Rattle.event_log.specs.declared.ids.TheConstants.{CAPACITY};
-ghost use Rattle.tracer.specs.{Judging.put_in, Judging.take_first, Judging.item_effect, Tallies.StepsTo};
+ghost use Rattle.{event_log.specs.declared.ids.TheConstants.CAPACITY, tracer.specs.{Judging.{put_in, take_first, item_effect}, Tallies.StepsTo}};
 
 use crate::verdicts::Reason;
 use event_log::{CAPACITY, Kind, Msg, Ring};

@@ -1,8 +1,7 @@
 //! An entry among the buffers. No call takes memory or waits.
 
 ghost use Rattle.std.specs.Prelude.{◌≡◌, ◌<◌, map};
-ghost use Rattle.event_log.specs.declared.ids.TheConstants.{ENTRIES};
-ghost use Rattle.tracer.specs.{Judging.entry_among, Tallies.seen_in, Tallies.StepsTo};
+ghost use Rattle.{event_log.specs.declared.ids.TheConstants.ENTRIES, tracer.specs.{Judging.entry_among, Tallies.{seen_in, StepsTo}}};
 
 use crate::tally::Tally;
 use crate::verdicts::Reason;

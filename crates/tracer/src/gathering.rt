@@ -1,8 +1,7 @@
 //! One order of the traces of several CPUs. Only `gather` takes memory. No call waits.
 
-ghost use Rattle.std.specs.Prelude.{◌≡◌, ◌<◌, ◌≤◌, ◌+◌, ℕ, List, length, map, sum_by, slice_get, slice_index, IfOk, IsErrOf, IsTrue, ◌↔◌, IfSome};
-ghost use Rattle.std.specs.Prelude.{[], IfNone, option_map, vec_capacity};
-ghost use Rattle.event_log.specs.{declared.entries.Entry.Entry as AnEntry, Runs.count_of, Refusals.no_memory};
+ghost use Rattle.std.specs.Prelude.{◌≡◌, ◌<◌, ◌≤◌, ◌+◌, ℕ, List, length, map, sum_by, slice_get, slice_index, IfOk, IsErrOf, IsTrue, ◌↔◌, IfSome, [], IfNone};
+ghost use Rattle.{std.specs.Prelude.{option_map, vec_capacity}, event_log.specs.{declared.entries.Entry.Entry as AnEntry, Runs.count_of, Refusals.no_memory}};
 ghost use Rattle.tracer.specs.declared.gathering.GatherError.TheVariants as error;
 ghost use Rattle.tracer.specs.Gather.{IsOrder, TakesFirstReady, HasNoOrder, RunsHaveOrder, OrdersRunAlike, traces_in, next_entry, IsDue, NoneDueBelow};
 

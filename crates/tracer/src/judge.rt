@@ -1,10 +1,9 @@
 //! The judge of a trace text. No call takes memory or waits.
 
 ghost use Rattle.std.specs.Prelude.{◌≡◌, ◌+◌, ◌≤◌, ◌<◌, ◌==◌, ◌&&◌, ℕ, length, map, nat_lt, slice_get, true};
-ghost use Rattle.event_log.specs.declared.ids.TheConstants.{BUFFERS};
-ghost use Rattle.tracer.specs.{Judging.opening, Judging.version_in, Judging.head_line, Judging.end_line, Judging.count_line, Judging.capacity_line};
-ghost use Rattle.tracer.specs.{Judging.entry_line, Judging.entries_line, Judging.left_line, Judging.is_left, Judging.step, Judging.is_done, Lines.left_of};
-ghost use Rattle.tracer.specs.{declared.next_lines.NextLine.TheVariants.Capacities as WantsCapacities};
+ghost use Rattle.{event_log.specs.declared.ids.TheConstants.BUFFERS, tracer.specs.Judging.{opening, version_in, head_line, end_line, count_line}};
+ghost use Rattle.tracer.specs.{Judging.{capacity_line, entry_line, entries_line, left_line, is_left, step, is_done}, Lines.left_of};
+ghost use Rattle.tracer.specs.declared.next_lines.NextLine.TheVariants.{Capacities as WantsCapacities};
 
 use crate::entering::enter_among;
 use crate::lines::{

@@ -1,9 +1,8 @@
 //! The lines of a trace text, read from their pieces. No call takes memory or waits.
 
 ghost use Rattle.std.specs.Prelude.{◌≡◌, ◌≤◌, ◌<◌, IfOk, codes};
-ghost use Rattle.event_log.specs.declared.ids.TheConstants.{ENTRIES};
-ghost use Rattle.tracer.specs.{Judging.GivesOrReason, Judging.kind_in, Judging.has_message, Judging.value_in, Judging.is_of_version, Judging.entry_digits};
-ghost use Rattle.tracer.specs.{Judging.entry_in, Judging.capacity_digits, Judging.left_digits, Judging.count_digits, Lines.left_of, Lines.digits_of};
+ghost use Rattle.{event_log.specs.declared.ids.TheConstants.ENTRIES, tracer.specs.Judging.{GivesOrReason, kind_in, has_message, value_in, is_of_version}};
+ghost use Rattle.tracer.specs.{Judging.{entry_digits, entry_in, capacity_digits, left_digits, count_digits}, Lines.{left_of, digits_of}};
 
 use crate::numerals::Numeral;
 use crate::pieces::{Pieces, digits, ended, is_value, numeral, piece, word};

@@ -1,8 +1,7 @@
 //! Pieces read as numbers. No call takes memory or waits.
 
 ghost use Rattle.std.specs.Prelude.{◌≡◌, ◌≤◌, Some, IfOk};
-ghost use Rattle.event_log.specs.Digits.{is_number, number_to};
-ghost use Rattle.tracer.specs.Judging.{in_range};
+ghost use Rattle.{event_log.specs.Digits.{is_number, number_to}, tracer.specs.Judging.in_range};
 
 use crate::verdicts::Reason;
 use event_log::{is_number, number_to};

@@ -2,8 +2,7 @@
 //! memory; to fill it may wait.
 
 ghost use Rattle.std.specs.Prelude.{◌≡◌, ◌≢◌, ◌+◌, ◌<◌, ◌≤◌, [], Ok, true, length, take, drop, vec_len, IfErr, IfOk, OnErr, OnOk};
-ghost use Rattle.std.specs.{declared.io.ErrorKind.TheVariants.Interrupted, Io.KnownBytes.Consumes, Io.KnownBytes.IsAtEnd, Io.KnownBytes.Keeps};
-ghost use Rattle.tracer.specs.Inputs.{IsReadBehind};
+ghost use Rattle.{std.specs.{declared.io.ErrorKind.TheVariants.Interrupted, Io.KnownBytes.{Consumes, IsAtEnd, Keeps}}, tracer.specs.Inputs.IsReadBehind};
 
 use event_log::NoMemory;
 use std::alloc::Global;

@@ -1,9 +1,7 @@
 //! A text cut at a byte, and the pieces of a line. No call takes memory or waits.
 
-ghost use Rattle.std.specs.Prelude.{◌≡◌, ◌+◌, ◌<◌, ◌≤◌, ◌==◌, ◌∷◌, [], ℕ, false, length, get_or, IfNone, IfSome, IfOk};
-ghost use Rattle.std.specs.List.{list_any, slice_split};
-ghost use Rattle.tracer.specs.{Judging.GivesOrReason, Judging.piece_at, Judging.word_at, Judging.digits_at, Judging.ended, Judging.in_range, Judging.is_value};
-ghost use Rattle.tracer.specs.{Judging.line_pieces, Lines.IsFirstLine, Lines.left_of};
+ghost use Rattle.std.specs.{Prelude.{◌≡◌, ◌+◌, ◌<◌, ◌≤◌, ◌==◌, ◌∷◌, [], ℕ, false, length, get_or, IfNone, IfSome, IfOk}, List.{list_any, slice_split}};
+ghost use Rattle.tracer.specs.{Judging.{GivesOrReason, piece_at, word_at, digits_at, ended, in_range, is_value, line_pieces}, Lines.{IsFirstLine, left_of}};
 
 use crate::numerals::Numeral;
 use crate::verdicts::Reason;

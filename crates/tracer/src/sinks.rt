@@ -1,8 +1,7 @@
 //! A writer that remembers whether it failed and whether it was flushed. No call takes memory or
 //! waits, unless its writer does.
 
-ghost use Rattle.std.specs.Prelude.{◌≡◌, ◌<◌, length, take, is_err, Bool, true, false, if◌then◌else◌};
-ghost use Rattle.std.specs.Io.KnownBytes.{Keeps};
+ghost use Rattle.std.specs.{Prelude.{◌≡◌, ◌<◌, length, take, is_err, Bool, true, false, if◌then◌else◌}, Io.KnownBytes.Keeps};
 ghost use Rattle.tracer.specs.Sinks.{has_failed, is_flushed, writer_of, WentOut};
 
 use std::io::Write;

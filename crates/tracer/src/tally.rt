@@ -1,8 +1,8 @@
 //! What is known of a buffer while the entries are judged. No call takes memory or waits.
 
 ghost use Rattle.std.specs.Prelude.{◌≡◌, ◌+◌, ◌≤◌, ◌<◌};
-ghost use Rattle.event_log.specs.{declared.ids.TheConstants.CAPACITY, declared.ids.TheConstants.ENTRIES, Runs.group_of};
-ghost use Rattle.tracer.specs.{Judging.fresh, Judging.was_closed, Judging.next_pos, Judging.counted, Judging.entry_on, Judging.are_values, Lines.left_of};
+ghost use Rattle.{event_log.specs.{declared.ids.TheConstants.{CAPACITY, ENTRIES}, Runs.group_of}, tracer.specs.Judging.{fresh, was_closed, next_pos, counted}};
+ghost use Rattle.tracer.specs.{Judging.{entry_on, are_values}, Lines.left_of};
 
 use crate::effects::act;
 use crate::pieces::Pieces;

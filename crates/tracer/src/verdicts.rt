@@ -58,8 +58,7 @@ impl Reason {
 }
 
 impl fmt::Display for Reason {
-    ghost use Rattle.std.specs.Prelude.{Some};
-    ghost use Rattle.tracer.specs.Reasons.{reason_name};
+    ghost use Rattle.{std.specs.Prelude.Some, tracer.specs.Reasons.reason_name};
 
     ghost output = { λ reason. Some (reason_name reason) };
 

@@ -1,8 +1,7 @@
 //! The versions of the trace text. No call takes memory or waits.
 
 ghost use Rattle.std.specs.Prelude.{◌≡◌};
-ghost use Rattle.tracer.specs.{TraceText.version_word, Versions.covers, Versions.both, Versions.version_of_kind, Versions.version_of_count};
-ghost use Rattle.tracer.specs.{Versions.version_of_entry, Versions.version_of};
+ghost use Rattle.tracer.specs.{TraceText.version_word, Versions.{covers, both, version_of_kind, version_of_count, version_of_entry, version_of}};
 
 use event_log::{Entry, Kind};
 

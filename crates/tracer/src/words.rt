@@ -1,10 +1,8 @@
 //! Messages, spelled as their words with commas between them. No call takes memory or waits.
 
-ghost use Rattle.std.specs.Prelude.{◌≡◌, length};
-ghost use Rattle.std.specs.List.{list_all};
-ghost use Rattle.event_log.specs.Digits.{is_number};
-ghost use Rattle.tracer.specs.{Judging.words_of, Judging.spells_message, Judging.message_in, Judging.is_within, Judging.is_message, Judging.are_values};
-ghost use Rattle.tracer.specs.{Lines.left_of};
+ghost use Rattle.std.specs.{Prelude.{◌≡◌, length}, List.list_all};
+ghost use Rattle.{event_log.specs.Digits.is_number, tracer.specs.Judging.{words_of, spells_message, message_in, is_within, is_message, are_values}};
+ghost use Rattle.tracer.specs.Lines.{left_of};
 
 use crate::numerals::Numeral;
 use crate::pieces::{Pieces, cut, in_range, piece};

@@ -2,10 +2,9 @@
 //! does.
 
 ghost use Rattle.std.specs.Prelude.{◌≡◌, ◌+◌, ◌*◌, ◌<◌, ◌≤◌, ◌++◌, ◌∷◌, [], length, map, drop, is_err, false, decimal, flat_map, codes};
-ghost use Rattle.event_log.specs.declared.messages.TheConstants.{WORDS};
-ghost use Rattle.tracer.specs.{declared.writing.TheConstants.LINE, Sinks.WentOut, Sinks.has_failed, Pieces.text_of, Pieces.spaced, Pieces.behind_comma};
-ghost use Rattle.tracer.specs.TraceText.{IsSpellable, spelling, text_line, head_pieces, entry_pieces, cap_pieces, left_pieces, numbered, kind_word};
-ghost use Rattle.tracer.specs.TraceText.{value_piece, message_text};
+ghost use Rattle.{event_log.specs.declared.messages.TheConstants.WORDS, tracer.specs.{declared.writing.TheConstants.LINE, Sinks.{WentOut, has_failed}}};
+ghost use Rattle.tracer.specs.{Pieces.{text_of, spaced, behind_comma}, TraceText.{IsSpellable, spelling, text_line, head_pieces, entry_pieces, cap_pieces}};
+ghost use Rattle.tracer.specs.TraceText.{left_pieces, numbered, kind_word, value_piece, message_text};
 
 use crate::sinks::{Sink, WriteFault};
 use crate::versions::{Version, version_of};

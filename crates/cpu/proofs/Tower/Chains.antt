@@ -1,24 +1,16 @@
 -- The plan of a begun call is a line of the table: where its caller neither slept nor waited; and where it did, the poll goes on with the
 -- next section.
-use Rattle.std.proofs.Common.{◌≡◌, ◌≢◌, ℕ, ◌<◌, false, ◌&&◌, List, length, get_or, slice_set, Option, Some, None, is_some, refl, ap, sym, ◌∙◌, subst}
-use Rattle.std.proofs.lemmas.{Bool.ne_eqb, List.get_or-set_same, List.get_or-set_other, List.length-set, List.set-get_or}
-use Rattle.thread_blocks.proofs.Members.{same_tid_self}
-use Rattle.event_log.specs.declared.{entries.Entry.Entry, ids.BufId.BufId, ids.CpuId.CpuId, ids.Tid.Tid}
-use Rattle.guest.specs.State.{State, at_start}
-use Rattle.thread_blocks.specs.Queues.{is_in}
-use Rattle.layer_traits.specs.declared.{calls.Call.Call as TowerCall, calls.Effect.Effect, calls.Reply.Reply, locked.QEdit.TheVariants.Acquire}
-use Rattle.layer_traits.specs.declared.{locked.QEdit.TheVariants.Release, conditions.CvLeave.TheVariants.Wait, buffer_edits.BufferEdit.BufferEdit}
-use Rattle.layer_traits.specs.declared.{buffer_edits.BufferOut.BufferOut, call_states.CallState.CallState, call_states.Stage.Stage}
-use Rattle.layer_traits.specs.{BufferProtocol.buffer_rules, BufferLaw.BufferPlan, BufferLaw.Buffering, BufferLaw.buffer_of, BufferLaw.chained}
-use Rattle.layer_traits.specs.{BufferLaw.fifo_plan, BufferLaw.going, BufferLaw.left_recorded, BufferLaw.plan_at, BufferLaw.plan_of, BufferLaw.plan_on}
-use Rattle.layer_traits.specs.{BufferLaw.no_call, BufferLaw.side_of as tower_side, BufferLaw.call_state_of, Conditions.CvCall, CvLaw.Waiting, CvLaw.cv_plan}
-use Rattle.layer_traits.specs.{CvLaw.cv_plan_for, CvLaw.left_waiting, QLockLaw.plan_for, QLockLaw.slept_for, QLocking.lock_moves, Plans.Plan, Plans.raised}
+use Rattle.std.proofs.Common.{◌≡◌, ◌≢◌, ℕ, ◌<◌, false, ◌&&◌, List, length, get_or, slice_set, Option, Some, None, is_some, refl, ap, sym, ◌∙◌, subst, arith}
+use Rattle.{std.proofs.lemmas.{Bool.ne_eqb, List.{get_or-set_same, get_or-set_other, length-set, set-get_or}}, thread_blocks.proofs.Members.same_tid_self}
+use Rattle.{thread_blocks.specs.Queues.is_in, event_log.specs.declared.{entries.Entry.Entry, ids.{BufId.BufId, CpuId.CpuId, Tid.Tid}}, guest.specs.State.State}
+use Rattle.{guest.specs.State.at_start, layer_traits.specs.declared.calls.{Call.Call as TowerCall, Effect.Effect, Reply.Reply}}
+use Rattle.layer_traits.specs.declared.{buffer_edits.{BufferEdit.BufferEdit, BufferOut.BufferOut}, call_states.{CallState.CallState, Stage.Stage}}
 use Rattle.layer_traits.specs.declared.call_states.Stage.TheVariants.{Acquires, Enters, Tries, Waits, AcquiresAgain, Signals, SignalsOwn, Releases}
-use Rattle.cpu.specs.{Table.Setups.Setup, Tower.Views.TowerAnswer, Tower.Views.TowerName, Tower.Views.TowerOut, Tower.Composed.IsLine, Tower.Composed.IsLined}
-use Rattle.cpu.specs.Tower.Privates.{guest_at, guests_after, private_after, private_of, thread_from, tid, trace_after}
-use Rattle.cpu.proofs.Tower.{Callers.Caller, Callers.Runner, Callers.Site, Callers.at_next, Callers.awake, Callers.call_state_at, ChangedThread.changed}
-use Rattle.cpu.proofs.Tower.{ChangedThread.goes, ChangedThread.own_at, ChangedThread.part_at, ChangedThread.parts, ChangedThread.threads_at, SectionLines.HasHad, SectionLines.after, SectionLines.e}
-use Rattle.cpu.proofs.Tower.{SectionLines.from, SectionLines.g, SectionLines.own, SectionLines.call_state, SectionLines.threads, SectionLines.with_call, SectionLines.k}
+use Rattle.layer_traits.specs.{BufferProtocol.buffer_rules, BufferLaw.{BufferPlan, Buffering, buffer_of, fifo_plan, going, plan_at, no_call, call_state_of}}
+use Rattle.{layer_traits.specs.{Conditions.CvCall, CvLaw.{Waiting, cv_plan}, QLockLaw.slept_for, QLocking.lock_moves, Plans.Plan}, cpu.specs.Table.Setups.Setup}
+use Rattle.cpu.specs.Tower.{Views.{TowerAnswer, TowerName, TowerOut}, Composed.{IsLine, IsLined}, Privates.{guest_at, private_after, private_of, thread_from}}
+use Rattle.cpu.{specs.Tower.Privates.tid, proofs.Tower.{Callers.{Caller, Runner, Site, at_next, awake, call_state_at}, ChangedThread.{changed, goes, own_at}}}
+use Rattle.cpu.proofs.Tower.{ChangedThread.{part_at, parts, threads_at}, SectionLines.{HasHad, after, e, from, g, own, call_state, threads, with_call, k}}
 use Rattle.cpu.proofs.Tower.Composition.{asks_line, asks_again_line, enters_line, tries_line, waits_line, signals_line, own_signals_line, releases_line}
 
 -- the plan of a poll of this call is a line of the table
@@ -142,23 +134,10 @@ module _ (caller : Caller) where
       → (going (so stage) call).effect ≡ None → (going (so next) call).effect ≡ None
       → private_of own2 guests trace ≡ private_of was guests trace → fifo_plan setup.homes c t call was ≡ fifo_plan setup.homes c t call own2
       → LineOf setup c t call own2 guests trace → LineOf setup c t call was guests trace
-  chained_line stage next own2 is is2 none none2 private plan line =
-      let effects : (going (call_state_of own2.call_states t) call).effect ≡ (going (call_state_of call_states t) call).effect
-      = (ap (λ x. (going x call).effect) is2 ∙ none2) ∙ sym (ap (λ x. (going x call).effect) is ∙ none) in
-      subst (λ x. x) (λ i. IsLine setup c (private i) (sym plan i) (λ left. private_of left.own (guests_after setup t left.answer guests)
-      (trace_after c t (buffer_of call) (effects i) (call_state_of left.own.call_states t).effect trace))) line
+  chained_line stage next own2 is is2 none none2 private plan line = grind arith
 
   abbrev beneath : CvCall BufferEdit → Plan TowerName TowerAnswer (Waiting BufferOut) TowerOut
   beneath s = cv_plan (lock_moves buffer_rules) setup.homes c (buffer_of call) s was.cv
-
-  -- the plan beneath of a thread that was handed the lock
-  handed_now : (b : BufId) → slept_for waits t ≡ None → slept_for slept t ≡ Some b
-      → beneath (Acquire t) ≡ raised (λ l. left_waiting t (buffer_of call) waits l.own l.answer)
-      (plan_for (lock_moves buffer_rules) setup.homes c (buffer_of call) (Acquire t) was.cv.lock (Some b))
-  handed_now b w s =
-      ap (cv_plan_for (lock_moves buffer_rules) setup.homes c (buffer_of call) (Acquire t) was.cv) w
-      ∙ ap (λ o. raised (λ l. left_waiting t (buffer_of call) waits l.own l.answer)
-      (plan_for (lock_moves buffer_rules) setup.homes c (buffer_of call) (Acquire t) was.cv.lock o)) s
 
   slept_set : slept_for (slice_set slept t.0 None) t ≡ None
   slept_set = get_or-set_same slept t.0 None None in_slept
@@ -169,20 +148,10 @@ module _ (caller : Caller) where
   slept_long : t.0 < length (slice_set slept t.0 None)
   slept_long = subst (λ n. t.0 < n) (sym (length-set slept t.0 None)) in_slept
 
-  waits_long : t.0 < length (slice_set waits t.0 None)
-  waits_long = subst (λ n. t.0 < n) (sym (length-set waits t.0 None)) in_waits
-
   -- the plan of a thread that was handed the lock is that of its next section
   pub handed_plan : (b : BufId) → call_state_of call_states t ≡ so Acquires → slept_for slept t ≡ Some b → slept_for waits t ≡ None
       → fifo_plan setup.homes c t call was ≡ fifo_plan setup.homes c t call (then_own (slice_set slept t.0 None) waits Enters)
-  handed_plan b is s w =
-      let own2 = then_own (slice_set slept t.0 None) waits Enters in
-      fifo_at setup c t call was (so Acquires) is
-      ∙ (ap (chained (λ left. plan_of setup.homes c t call Enters (call_state_of left.call_states t) left) (left_recorded t call
-      (so Acquires) call_states Acquires))
-      (handed_now b w s)
-      ∙ (ap (λ x. plan_of setup.homes c t call Enters x own2) (now_call_state Enters)
-      ∙ sym (fifo_at setup c t call own2 (so Enters) (now_call_state Enters))))
+  handed_plan b is s w = grind (arith, fifo_at, now_call_state)
 
   pub handed_line : (b : BufId) → call_state_of call_states t ≡ so Acquires → slept_for slept t ≡ Some b → slept_for waits t ≡ None
       → LineOf setup c t call was guests trace
@@ -196,13 +165,7 @@ module _ (caller : Caller) where
 
   pub handed_again_plan : (b : BufId) → call_state_of call_states t ≡ so AcquiresAgain → slept_for slept t ≡ Some b → slept_for waits t ≡ None
       → fifo_plan setup.homes c t call was ≡ fifo_plan setup.homes c t call (then_own (slice_set slept t.0 None) waits Tries)
-  handed_again_plan b is s w =
-      let own2 = then_own (slice_set slept t.0 None) waits Tries in
-      fifo_at setup c t call was (so AcquiresAgain) is
-      ∙ (ap (chained (λ left. plan_of setup.homes c t call Tries (call_state_of left.call_states t) left)
-      (left_recorded t call (so AcquiresAgain) call_states AcquiresAgain)) (handed_now b w s)
-      ∙ (ap (λ x. plan_of setup.homes c t call Tries x own2) (now_call_state Tries)
-      ∙ sym (fifo_at setup c t call own2 (so Tries) (now_call_state Tries))))
+  handed_again_plan b is s w = grind (arith, fifo_at, now_call_state)
 
   pub handed_again_line : (b : BufId) → IsLined call → call_state_of call_states t ≡ so AcquiresAgain → slept_for slept t ≡ Some b → slept_for waits t ≡ None
       → LineOf setup c t call was guests trace
@@ -217,14 +180,7 @@ module _ (caller : Caller) where
   -- the plan of a thread that was woken is to ask for the lock again
   pub woken_plan : (b : BufId) → call_state_of call_states t ≡ so Waits → slept_for slept t ≡ None → slept_for waits t ≡ Some b
       → fifo_plan setup.homes c t call was ≡ fifo_plan setup.homes c t call (then_own slept (slice_set waits t.0 None) AcquiresAgain)
-  woken_plan b is s w =
-      let own2 = then_own slept (slice_set waits t.0 None) AcquiresAgain in
-      fifo_at setup c t call was (so Waits) is
-      ∙ (ap (chained (λ left. plan_on setup.homes c t call AcquiresAgain (plan_of setup.homes c t call Tries) (call_state_of left.call_states t) left)
-      (left_recorded t call (so Waits) call_states Waits))
-      (ap (cv_plan_for (lock_moves buffer_rules) setup.homes c (buffer_of call) (Release (Wait t (tower_side call))) was.cv) w)
-      ∙ (ap (λ x. plan_on setup.homes c t call AcquiresAgain (plan_of setup.homes c t call Tries) x own2) (now_call_state AcquiresAgain)
-      ∙ sym (fifo_at setup c t call own2 (so AcquiresAgain) (now_call_state AcquiresAgain))))
+  woken_plan b is s w = grind (arith, fifo_at, now_call_state)
 
   pub woken_line : (b : BufId) → call_state_of call_states t ≡ so Waits → slept_for slept t ≡ None → slept_for waits t ≡ Some b
       → LineOf setup c t call was guests trace
@@ -234,5 +190,5 @@ module _ (caller : Caller) where
       (same_private Waits AcquiresAgain slept (slice_set waits t.0 None) None (Some b) is s w
       (λ j other. refl) (λ j other. get_or-set_other waits t.0 j None None other) s waits_set refl)
       (woken_plan b is s w)
-      (site_asks_again (awake (at_next caller slept (slice_set waits t.0 None) AcquiresAgain in_slept waits_long) s waits_set)
+      (site_asks_again (awake (at_next caller slept (slice_set waits t.0 None) AcquiresAgain in_slept (subst (λ n. t.0 < n) (sym (length-set waits t.0 None)) in_waits)) s waits_set)
       (now_call_state AcquiresAgain))

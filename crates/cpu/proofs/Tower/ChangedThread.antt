@@ -1,15 +1,10 @@
 -- A CPU's private state in which one thread changed.
 use Rattle.std.proofs.Common.{◌≡◌, ◌≢◌, ℕ, zero, suc, ◌+◌, ◌<◌, ◌≤◌, Bool, false, ◌&&◌, List, [], ◌∷◌, length, get_or, slice_set, Option, Some, None, is_some}
-use Rattle.std.proofs.Common.{refl, ap, sym, ◌∙◌, arith}
-use Rattle.std.proofs.lemmas.{Bool.ne_eqb, List.get_or-set_same, List.get_or-set_other}
-use Rattle.event_log.specs.declared.{entries.Entry.Entry, ids.BufId.BufId, ids.Tid.Tid}
-use Rattle.guest.specs.State.{State}
-use Rattle.thread_blocks.specs.Queues.{is_in}
-use Rattle.thread_blocks.proofs.Members.{same_tid_self}
-use Rattle.layer_traits.specs.{declared.call_states.CallState.CallState, QLockLaw.slept_for, Places.is_thread, BufferLaw.Buffering, BufferLaw.no_call}
-use Rattle.cpu.specs.{Table.Setups.Private, Table.Setups.Thread, Tower.Views.TowerOut, Tower.Privates.numbered, Tower.Privates.private_of}
-use Rattle.cpu.specs.{Tower.Privates.thread_from, Tower.Privates.thread_of, Tower.Privates.tid}
-use Rattle.cpu.proofs.Tower.Callers.{Runner}
+use Rattle.std.proofs.{Common.{refl, ap, sym, ◌∙◌, arith}, lemmas.{Bool.ne_eqb, List.{get_or-set_same, get_or-set_other}}}
+use Rattle.{event_log.specs.declared.{entries.Entry.Entry, ids.{BufId.BufId, Tid.Tid}}, guest.specs.State.State, thread_blocks.specs.Queues.is_in}
+use Rattle.{thread_blocks.proofs.Members.same_tid_self, layer_traits.specs.{declared.call_states.CallState.CallState, QLockLaw.slept_for, Places.is_thread}}
+use Rattle.{layer_traits.specs.BufferLaw.{Buffering, no_call}, cpu.specs.{Table.Setups.{Private, Thread}, Tower.{Views.TowerOut, Privates.numbered}}}
+use Rattle.cpu.{specs.Tower.Privates.{private_of, thread_from, thread_of, tid}, proofs.Tower.Callers.Runner}
 
 pub numbered_long : (f : ℕ → State → Thread) (n : ℕ) (guests : List State) → length (numbered f n guests) ≡ length guests
 numbered_long f n [] = refl
@@ -28,25 +23,20 @@ pub numbered_same : (f g : ℕ → State → Thread) (n : ℕ) (guests : List St
     → numbered g n guests ≡ numbered f n guests
 numbered_same f g n [] same = refl
 numbered_same f g n (x ∷ guests) same =
-    let here : g n x ≡ f n x = same n x (omega arith) in
     let more = numbered_same f g (n + 1) guests (λ j y below. same j y (omega (arith, below))) in
-    λ i. here i ∷ more i
+    λ i. (same n x (omega arith)) i ∷ more i
 
 -- where one guest and its thread changed, the others stay
 pub numbered_changed : (f g : ℕ → State → Thread) (n k m : ℕ) (guests : List State) (s : State) → m ≡ n + k
     → ((j : ℕ) (x : State) → j ≢ m → g j x ≡ f j x) → k < length guests
     → numbered g n (slice_set guests k s) ≡ slice_set (numbered f n guests) k (g m s)
 numbered_changed f g n k m [] s is other within = absurd (omega (arith, within))
-numbered_changed f g n zero m (x ∷ guests) s is other within =
-    let here : n ≡ m = omega (arith, is) in
-    let more = numbered_same f g (n + 1) guests (λ j y below. other j y (λ same. omega (arith, below, same, is))) in
-    λ i. g (here i) s ∷ more i
+numbered_changed f g n zero m (x ∷ guests) s is other within = grind (arith, numbered_same)
 numbered_changed f g n (suc k) m (x ∷ guests) s is other within =
-    let here = other n x (λ same. omega (arith, same, is)) in
     let below : k < length guests = omega (arith, within) in
     let at : m ≡ n + 1 + k = omega (arith, is) in
     let more = numbered_changed f g (n + 1) k m guests s at other below in
-    λ i. here i ∷ more i
+    λ i. (other n x (λ same. omega (arith, same, is))) i ∷ more i
 
 -- a part's own state by its pieces
 abbrev pub own_at : (current hand : Option Tid) (ready ended : List Tid) (deferred : Option TowerOut) (slept waits : List (Option BufId))

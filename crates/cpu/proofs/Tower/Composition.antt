@@ -1,28 +1,19 @@
 -- The plan of each section of a call is a line of the table: its caller asks, enters, tries, waits, signals and releases.
 use Rattle.std.proofs.Common.{◌≡◌, ◌⊎◌, inl, inr, ℕ, Bool, true, false, List, [], ◌∷◌, ◌++◌, slice_set, Option, Some, None, is_some, if◌then◌else◌, refl, ap}
-use Rattle.std.proofs.Common.{sym, ◌∙◌, subst}
-use Rattle.event_log.specs.{declared.ids.Tid.Tid, Messages.Message}
-use Rattle.guest.specs.State.{next_of}
-use Rattle.thread_blocks.specs.Queues.{first}
-use Rattle.layer_traits.specs.declared.{calls.Effect.Effect, calls.Reply.Reply, locked.QEdit.TheVariants.Acquire, locked.QEdit.TheVariants.Inside}
-use Rattle.layer_traits.specs.declared.{locked.QEdit.TheVariants.Release, locked.Side.Side, locked.Side.TheVariants.Receivers, locked.Side.TheVariants.Senders}
-use Rattle.layer_traits.specs.declared.{conditions.CvEdit.TheVariants.Edit, conditions.CvEdit.TheVariants.SignalFront, conditions.CvLeave.TheVariants.Leave}
-use Rattle.layer_traits.specs.declared.{conditions.CvLeave.TheVariants.Wait, conditions.CvOut.CvOut, buffer_edits.BufferOut.BufferOut}
-use Rattle.layer_traits.specs.declared.{call_states.CallState.CallState, call_states.Stage.Stage}
-use Rattle.layer_traits.specs.declared.buffer_edits.BufferOut.TheVariants.{Entered, NotYet, Done, WasShut}
-use Rattle.layer_traits.specs.{BufferBlocks.BufferState, BufferBlocks.buffer_answer, BufferProtocol.buffer_rules, CvLaw.Waiting, QLockLaw.slept_for}
-use Rattle.layer_traits.specs.{QLocking.LockState, QLocking.wait_list_asked, QLocking.lock_answer, QLocking.asker_report, Plans.Left, Plans.Plan, Plans.raised}
-use Rattle.layer_traits.specs.BufferLaw.{BufferPlan, Buffering, at_stage, chained, buffer_of, entry_of, plan_on, first_of, left_recorded, other_side, plan_at}
-use Rattle.layer_traits.specs.BufferLaw.{plan_of, reply_of, side_of as tower_side, call_state_of, try_of}
-use Rattle.cpu.specs.Table.{Blocks.Position, Blocks.effect_of, Setups.Private, Setups.program_of, Choice.after_section, Choice.settled, Choice.slept_if}
-use Rattle.layer_traits.specs.declared.call_states.Stage.TheVariants.{Idle, Acquires, Enters, Tries, Waits, AcquiresAgain, Signals, SignalsOwn, Releases}
-use Rattle.cpu.specs.Tower.{Views.TowerAnswer, Views.TowerName, Views.TowerOut, Views.answer_view, Privates.asks_in, Privates.call_from, Privates.message_of}
-use Rattle.cpu.specs.Tower.{Composed.HandIsKnown, Composed.IsLine, Composed.IsLined}
-use Rattle.cpu.proofs.Tower.{ChangedThread.own_at, ChangedThread.parts, Callers.Site}
-use Rattle.cpu.proofs.Tower.SectionLines.{HasHad, IsShutting, Draws, Shuts, Tried, thread_of_first, first_name, first_answer, thread_of_try, try_name, try_answer}
-use Rattle.cpu.proofs.Tower.SectionLines.{wait_name, signal_name, own_signal_name, reply_guest, entry_recorded, shut_recorded, try_recorded, effect_by, shut_effect}
-use Rattle.cpu.proofs.Tower.SectionLines.{own, g, e, threads, call_state, k, from, after, runs_on, sleeps_now, waits_now, beneath_is, fresh, react, line, lift, waking}
-use Rattle.cpu.proofs.Tower.SectionLines.{by_home, stands, by_table, stays_so, has_returned}
+use Rattle.std.proofs.Common.{sym, ◌∙◌, subst, arith}
+use Rattle.{event_log.specs.{declared.ids.Tid.Tid, Messages.Message}, thread_blocks.specs.Queues.first, layer_traits.specs.declared.calls.Effect.Effect}
+use Rattle.layer_traits.specs.declared.{calls.Reply.Reply, locked.{QEdit.TheVariants.{Acquire, Inside, Release}, Side.{Side, TheVariants.{Receivers, Senders}}}}
+use Rattle.layer_traits.specs.declared.conditions.{CvEdit.TheVariants.{Edit, SignalFront}, CvLeave.TheVariants.{Leave, Wait}, CvOut.CvOut}
+use Rattle.layer_traits.specs.declared.{buffer_edits.BufferOut.{BufferOut, TheVariants.{Entered, NotYet, Done, WasShut}}, call_states.CallState.CallState}
+use Rattle.layer_traits.specs.declared.call_states.Stage.{Stage, TheVariants.{Idle, Acquires, Enters, Tries, Waits, AcquiresAgain, Signals, SignalsOwn}}
+use Rattle.layer_traits.specs.{declared.call_states.Stage.TheVariants.Releases, BufferBlocks.{BufferState, buffer_answer}, QLocking.wait_list_asked}
+use Rattle.layer_traits.specs.{QLocking.asker_report, Plans.Left, BufferLaw.{BufferPlan, Buffering, at_stage, buffer_of, entry_of, first_of, other_side}}
+use Rattle.{layer_traits.specs.BufferLaw.{plan_at, reply_of, side_of as tower_side, try_of}, cpu.specs.Table.{Blocks.effect_of, Setups.Private}}
+use Rattle.cpu.specs.{Table.Choice.{after_section, settled, slept_if}, Tower.{Views.{TowerOut, answer_view}, Privates.{asks_in, call_from, message_of}}}
+use Rattle.cpu.{specs.Tower.Composed.{HandIsKnown, IsLine, IsLined}, proofs.Tower.{ChangedThread.{own_at, parts}, Callers.Site, SectionLines.HasHad}}
+use Rattle.cpu.proofs.Tower.SectionLines.{IsShutting, Draws, Shuts, Tried, first_answer, try_answer, effect_by, shut_effect, own, e, threads, call_state, k}
+use Rattle.cpu.proofs.Tower.SectionLines.{from, after, runs_on, sleeps_now, waits_now, beneath_is, fresh, react, line, lift, waking, by_home, stands, by_table}
+use Rattle.cpu.proofs.Tower.SectionLines.{stays_so, has_returned}
 use Rattle.layer_traits.specs.declared.locked.QOut.TheVariants as lock
 use Rattle.layer_traits.specs.declared.conditions.CvOut.TheVariants as cv
 use Rattle.layer_traits.specs.declared.queues.QueueAnswer.TheVariants as told
@@ -49,9 +40,6 @@ module _ (site : Site) (had : HasHad site None) where
   abbrev pub plan : Stage → BufferPlan Reply
   plan stage = plan_at site.setup.homes site.c site.t site.call stage (call_state site None had stage) (own site None had)
 
-  abbrev at_buf : Stage → (Buffering → BufferPlan Reply) → Plan TowerName TowerAnswer (Waiting BufferOut) TowerOut → BufferPlan Reply
-  at_buf stage next p = chained next (left_recorded site.t site.call (call_state site None had stage) site.call_states stage) p
-
   -- it asks for the lock
   ask : (o : Option Tid) → after site None had (react site None had Acquires (Acquire site.t) (Some (told.Answer (asked_out o))))
       ≡ after_section site.setup site.c (from site None had Acquires) (answer_view (told.Answer (asked_out o)))
@@ -64,9 +52,7 @@ module _ (site : Site) (had : HasHad site None) where
       ∙ sym (by_table site None had Acquires (answer_view (told.Answer (asked_out (Some owner)))) (k site None had Enters) site.trace refl)
 
   pub asks_plan : plan Acquires ≡ fresh site None had Acquires (Acquire site.t)
-  asks_plan =
-      ap (at_buf Acquires (λ l. plan_of site.setup.homes site.c site.t site.call Enters (call_state_of l.call_states site.t) l))
-      (beneath_is site None had (Acquire site.t) site.is_waits site.is_slept)
+  asks_plan = grind (arith, beneath_is)
 
   pub asks_line : IsLine site.setup site.c (from site None had Acquires) (plan Acquires) (after site None had)
   asks_line =
@@ -85,9 +71,7 @@ module _ (site : Site) (had : HasHad site None) where
       ∙ sym (by_table site None had AcquiresAgain (answer_view (told.Answer (asked_out (Some owner)))) (k site None had Tries) site.trace refl)
 
   pub asks_again_plan : plan AcquiresAgain ≡ fresh site None had AcquiresAgain (Acquire site.t)
-  asks_again_plan =
-      ap (at_buf AcquiresAgain (λ l. plan_of site.setup.homes site.c site.t site.call Tries (call_state_of l.call_states site.t) l))
-      (beneath_is site None had (Acquire site.t) site.is_waits site.is_slept)
+  asks_again_plan = grind (arith, beneath_is)
 
   pub asks_again_line : IsLine site.setup site.c (from site None had AcquiresAgain) (plan AcquiresAgain) (after site None had)
   asks_again_line =
@@ -104,7 +88,7 @@ module _ (site : Site) (had : HasHad site None) where
   enter pos lined =
       runs_on site None had None site.ready None (record { stage = Tries; call = Some site.call; position = pos; effect = None }) None
       ∙ sym (by_table site None had Enters (answer_view (told.Answer (did_out (Entered pos)))) (call_from site.call pos None Tries) site.trace
-      (entry_recorded site.c (from site None had Enters) site.t (k site None had Enters) site.call (Position pos) lined)
+      (grind (arith, lined))
       ∙ stays_so site None had (call_from site.call pos None Tries) site.ready site.trace (λ p. refl))
 
   -- what is left of a call whose effect came in this poll
@@ -133,7 +117,7 @@ module _ (site : Site) (had : HasHad site None) where
       effects f
       ∙ sym (by_table site None had Enters (answer_view (told.Answer (did_out (WasShut op pos)))) (call_from site.call site.position (Some f) Signals)
       (site.trace ++ entry_of site.c site.t (buffer_of site.call) f ∷ [])
-      (shut_recorded site.c (from site None had Enters) site.t site.call site.position op pos shuts)
+      (grind (arith, shuts))
       ∙ signals_next f)
 
   first_by : (x : BufferState) → Draws site.t site.call x ⊎ Shuts site.t site.call x → first_fits (buffer_answer (first_of site.t site.call) x)
@@ -141,17 +125,13 @@ module _ (site : Site) (had : HasHad site None) where
   first_by x (inr shuts) = subst first_fits (sym shuts.is) (shut shuts.op shuts.pos shuts.shuts)
 
   pub enters_plan : plan Enters ≡ fresh site None had Enters (Inside (Edit (first_of site.t site.call)))
-  enters_plan =
-      ap (raised (left_recorded site.t site.call (call_state site None had Enters) site.call_states Enters))
-      (beneath_is site None had (Inside (Edit (first_of site.t site.call)))
-      (ap (slept_for site.waits) (thread_of_first site.t site.call) ∙ site.is_waits) (ap (slept_for site.slept) (thread_of_first site.t site.call)
-      ∙ site.is_slept))
+  enters_plan = grind (arith, beneath_is)
 
   pub enters_line : IsLine site.setup site.c (from site None had Enters) (plan Enters) (after site None had)
   enters_line =
       line site None had Enters (Inside (Edit (first_of site.t site.call))) (plan Enters)
       enters_plan
-      (first_name site.t site.call) (runs_on site None had None site.ready None (call_state site None had Enters) None)
+      (grind arith) (runs_on site None had None site.ready None (call_state site None had Enters) None)
       (λ x known. first_by x.above (first_answer site.t site.call x.above))
 
   -- it tries
@@ -169,7 +149,7 @@ module _ (site : Site) (had : HasHad site None) where
       effects f
       ∙ sym (by_table site None had Tries (answer_view (told.Answer (did_out (Done (effect_of (asks_in site.call) closed) op m))))
       (call_from site.call site.position (Some f) Signals) (site.trace ++ entry_of site.c site.t (buffer_of site.call) f ∷ [])
-      (try_recorded site.c (from site None had Tries) site.t site.call site.position op closed m lined same)
+      (grind (arith, lined, same))
       ∙ signals_next f)
 
   tries_vain : try_fits NotYet
@@ -184,16 +164,13 @@ module _ (site : Site) (had : HasHad site None) where
   tries_by x lined (inr tried) = subst try_fits (sym tried.is) (tries_done tried.closed tried.op tried.message lined tried.same)
 
   pub tries_plan : plan Tries ≡ fresh site None had Tries (Inside (Edit (try_of site.t site.call)))
-  tries_plan =
-      ap (raised (left_recorded site.t site.call (call_state site None had Tries) site.call_states Tries))
-      (beneath_is site None had (Inside (Edit (try_of site.t site.call)))
-      (ap (slept_for site.waits) (thread_of_try site.t site.call) ∙ site.is_waits) (ap (slept_for site.slept) (thread_of_try site.t site.call) ∙ site.is_slept))
+  tries_plan = grind (arith, beneath_is)
 
   pub tries_line : IsLined site.call → IsLine site.setup site.c (from site None had Tries) (plan Tries) (after site None had)
   tries_line lined =
       line site None had Tries (Inside (Edit (try_of site.t site.call))) (plan Tries)
       tries_plan
-      (try_name site.t site.call site.position lined) (runs_on site None had None site.ready None (call_state site None had Tries) None)
+      (grind (arith, lined)) (runs_on site None had None site.ready None (call_state site None had Tries) None)
       (λ x known. tries_by x.above lined (try_answer site.t site.call x.above lined))
 
   -- it waits
@@ -209,8 +186,7 @@ module _ (site : Site) (had : HasHad site None) where
 
   waits_by : (side : Side) (u : Tid) (b : Bool)
       → after site None had (lift site None had Waits (wait_out side (Some u)) (waking site None had None u b)) ≡ settled site.setup (woken_to u b)
-  waits_by side u true = waits_now site None had None (site.ready ++ u ∷ []) Waits
-  waits_by side u false = waits_now site None had (Some u) site.ready Waits
+  waits_by side u b = grind (arith, waits_now)
 
   wait_now : (side : Side) (o : Option Tid) → HandIsKnown site.setup (wait_react side o).own
       → after site None had (wait_react side o) ≡ after_section site.setup site.c (from site None had Waits) (answer_view (told.Answer (wait_out side o)))
@@ -229,27 +205,15 @@ module _ (site : Site) (had : HasHad site None) where
       (λ b. settled site.setup (woken_to u b)) (waits_by Senders u) (λ hand. hand u refl) known
       ∙ sym (by_table site None had Waits (answer_view (told.Answer (wait_out Senders (Some u)))) (k site None had AcquiresAgain) site.trace refl)
 
-  waits_at : (side : Side) (x : LockState BufferState)
-      → HandIsKnown site.setup (react site None had Waits (Release (Wait site.t side))
-      (Some (told.Answer (lock_answer buffer_rules (Release (Wait site.t side)) x)))).own
-      → after site None had (react site None had Waits (Release (Wait site.t side))
-      (Some (told.Answer (lock_answer buffer_rules (Release (Wait site.t side)) x))))
-      ≡ after_section site.setup site.c (from site None had Waits) (answer_view (told.Answer (lock_answer buffer_rules (Release (Wait site.t side)) x)))
-  waits_at Receivers x known = wait_now Receivers (first x.sleepers) known
-  waits_at Senders x known = wait_now Senders (first x.sleepers) known
-
   pub waits_plan : plan Waits ≡ fresh site None had Waits (Release (Wait site.t (tower_side site.call)))
-  waits_plan =
-      ap (at_buf Waits (λ l. plan_on site.setup.homes site.c site.t site.call AcquiresAgain
-      (plan_of site.setup.homes site.c site.t site.call Tries) (call_state_of l.call_states site.t) l))
-      (beneath_is site None had (Release (Wait site.t (tower_side site.call))) site.is_waits site.is_slept)
+  waits_plan = grind (arith, beneath_is)
 
   pub waits_line : IsLine site.setup site.c (from site None had Waits) (plan Waits) (after site None had)
   waits_line =
       line site None had Waits (Release (Wait site.t (tower_side site.call))) (plan Waits)
       waits_plan
-      (wait_name site.t site.call site.position) (runs_on site None had None site.ready None (call_state site None had Waits) None)
-      (λ x known. waits_at (tower_side site.call) x known)
+      (grind arith) (runs_on site None had None site.ready None (call_state site None had Waits) None)
+      (λ x known. grind (arith, wait_now, known))
 
 -- After the effect.
 
@@ -261,10 +225,7 @@ module _ (site : Site) (f : Effect) (had : HasHad site (Some f)) where
       → after site (Some f) had (lift site (Some f) had Signals (signal_out v (Some u)) (waking site (Some f) had (Some site.t) u b))
       ≡ settled site.setup (if b then stands site (Some f) had (site.ready ++ u ∷ []) None (k site (Some f) had SignalsOwn) site.trace
       else stands site (Some f) had site.ready (Some u) (k site (Some f) had SignalsOwn) site.trace)
-  signal_by v u true =
-      runs_on site (Some f) had None (site.ready ++ u ∷ []) None (at_stage SignalsOwn (call_state site (Some f) had Signals)) None
-      ∙ sym (stays_so site (Some f) had (k site (Some f) had SignalsOwn) (site.ready ++ u ∷ []) site.trace (λ p. refl))
-  signal_by v u false = runs_on site (Some f) had (Some u) site.ready (Some (signal_out v (Some u))) (call_state site (Some f) had Signals) None
+  signal_by v u b = grind (arith, runs_on, stays_so)
 
   signal : (side : Side) (v : CvOut BufferOut) (o : Option Tid)
       → HandIsKnown site.setup (react site (Some f) had Signals (Inside (SignalFront site.t side)) (Some (told.Answer (signal_out v o)))).own
@@ -282,25 +243,20 @@ module _ (site : Site) (f : Effect) (had : HasHad site (Some f)) where
       ∙ sym (by_table site (Some f) had Signals (answer_view (told.Answer (signal_out v (Some u)))) (k site (Some f) had SignalsOwn) site.trace refl)
 
   pub signals_plan : plan_to Signals ≡ fresh site (Some f) had Signals (Inside (SignalFront site.t (other_side site.call)))
-  signals_plan =
-      ap (raised (left_recorded site.t site.call (call_state site (Some f) had Signals) site.call_states Signals))
-      (beneath_is site (Some f) had (Inside (SignalFront site.t (other_side site.call))) site.is_waits site.is_slept)
+  signals_plan = grind (arith, beneath_is)
 
   pub signals_line : IsLine site.setup site.c (from site (Some f) had Signals) (plan_to Signals) (after site (Some f) had)
   signals_line =
       line site (Some f) had Signals (Inside (SignalFront site.t (other_side site.call))) (plan_to Signals)
       signals_plan
-      (signal_name site.t site.call site.position f) (runs_on site (Some f) had None site.ready None (call_state site (Some f) had Signals) None)
+      (grind arith) (runs_on site (Some f) had None site.ready None (call_state site (Some f) had Signals) None)
       (λ x known. signal (other_side site.call) _ _ known)
 
   own_signal_by : (v : CvOut BufferOut) (u : Tid) (b : Bool)
       → after site (Some f) had (lift site (Some f) had SignalsOwn (signal_out v (Some u)) (waking site (Some f) had (Some site.t) u b))
       ≡ settled site.setup (if b then stands site (Some f) had (site.ready ++ u ∷ []) None (k site (Some f) had Releases) site.trace
       else stands site (Some f) had site.ready (Some u) (k site (Some f) had Releases) site.trace)
-  own_signal_by v u true =
-      runs_on site (Some f) had None (site.ready ++ u ∷ []) None (at_stage Releases (call_state site (Some f) had SignalsOwn)) None
-      ∙ sym (stays_so site (Some f) had (k site (Some f) had Releases) (site.ready ++ u ∷ []) site.trace (λ p. refl))
-  own_signal_by v u false = runs_on site (Some f) had (Some u) site.ready (Some (signal_out v (Some u))) (call_state site (Some f) had SignalsOwn) None
+  own_signal_by v u b = grind (arith, runs_on, stays_so)
 
   own_signal : (side : Side) (v : CvOut BufferOut) (o : Option Tid)
       → HandIsKnown site.setup (react site (Some f) had SignalsOwn (Inside (SignalFront site.t side)) (Some (told.Answer (signal_out v o)))).own
@@ -318,15 +274,13 @@ module _ (site : Site) (f : Effect) (had : HasHad site (Some f)) where
       ∙ sym (by_table site (Some f) had SignalsOwn (answer_view (told.Answer (signal_out v (Some u)))) (k site (Some f) had Releases) site.trace refl)
 
   pub own_signals_plan : plan_to SignalsOwn ≡ fresh site (Some f) had SignalsOwn (Inside (SignalFront site.t (tower_side site.call)))
-  own_signals_plan =
-      ap (raised (left_recorded site.t site.call (call_state site (Some f) had SignalsOwn) site.call_states SignalsOwn))
-      (beneath_is site (Some f) had (Inside (SignalFront site.t (tower_side site.call))) site.is_waits site.is_slept)
+  own_signals_plan = grind (arith, beneath_is)
 
   pub own_signals_line : IsLine site.setup site.c (from site (Some f) had SignalsOwn) (plan_to SignalsOwn) (after site (Some f) had)
   own_signals_line =
       line site (Some f) had SignalsOwn (Inside (SignalFront site.t (tower_side site.call))) (plan_to SignalsOwn)
       own_signals_plan
-      (own_signal_name site.t site.call site.position f) (runs_on site (Some f) had None site.ready None (call_state site (Some f) had SignalsOwn) None)
+      (grind arith) (runs_on site (Some f) had None site.ready None (call_state site (Some f) had SignalsOwn) None)
       (λ x known. own_signal (tower_side site.call) _ _ known)
 
   -- it releases the lock, and its call returns
@@ -343,15 +297,14 @@ module _ (site : Site) (f : Effect) (had : HasHad site (Some f)) where
       runs_on site (Some f) had None ready2 None over (Some (reply_of site.call f))
       ∙ (ap (λ x. parts (Some site.t) ready2 None (slice_set (threads site (Some f) had) site.t.0
       (record { guest = x; call = None; ended = e site (Some f) had })) site.trace)
-      (reply_guest site.call f (next_of (program_of site.setup site.t) (g site (Some f) had)) (g site (Some f) had))
+      (grind arith)
       ∙ sym (has_returned site (Some f) had (k site (Some f) had Releases) ready2 site.trace))
 
   release_by : (u : Tid) (b : Bool)
       → after site (Some f) had (lift site (Some f) had Releases (left_out (Some u)) (waking site (Some f) had (Some site.t) u b))
       ≡ settled site.setup (if b then stands site (Some f) had (site.ready ++ u ∷ []) None (k site (Some f) had Idle) site.trace
       else stands site (Some f) had site.ready (Some u) (k site (Some f) had Idle) site.trace)
-  release_by u true = returned_so (site.ready ++ u ∷ [])
-  release_by u false = runs_on site (Some f) had (Some u) site.ready (Some (left_out (Some u))) (call_state site (Some f) had Releases) None
+  release_by u b = grind (arith, returned_so, runs_on)
 
   release : (o : Option Tid)
       → HandIsKnown site.setup (react site (Some f) had Releases (Release (Leave site.t)) (Some (told.Answer (left_out o)))).own
@@ -368,9 +321,7 @@ module _ (site : Site) (f : Effect) (had : HasHad site (Some f)) where
       ∙ sym (by_table site (Some f) had Releases (answer_view (told.Answer (left_out (Some u)))) (k site (Some f) had Idle) site.trace refl)
 
   pub releases_plan : plan_to Releases ≡ fresh site (Some f) had Releases (Release (Leave site.t))
-  releases_plan =
-      ap (raised (left_recorded site.t site.call (call_state site (Some f) had Releases) site.call_states Releases))
-      (beneath_is site (Some f) had (Release (Leave site.t)) site.is_waits site.is_slept)
+  releases_plan = grind (arith, beneath_is)
 
   pub releases_line : IsLine site.setup site.c (from site (Some f) had Releases) (plan_to Releases) (after site (Some f) had)
   releases_line =

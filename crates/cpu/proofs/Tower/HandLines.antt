@@ -1,35 +1,23 @@
 -- The plan of a begun call is a line of the table, where a thread that its section woke is in the hand: it is put among its home's pending.
 use Rattle.std.proofs.Common.{◌≡◌, inr, ◌<◌, Bool, true, false, List, length, slice_get, slice_set, Option, Some, None, IsSome, refl, ap, sym, ◌∙◌, subst}
-use Rattle.std.proofs.lemmas.List.{set-get_or}
-use Rattle.event_log.specs.declared.ids.{CpuId.CpuId, LockId.TheVariants.Pending, Tid.Tid}
-use Rattle.guest.specs.State.{State, at_start, next_of}
-use Rattle.thread_blocks.specs.Queues.{is_in}
-use Rattle.layer_traits.specs.{declared.calls.Effect.Effect, declared.calls.Reply.Reply, declared.locked.QEdit.TheVariants.Inside}
-use Rattle.layer_traits.specs.{declared.locked.QEdit.TheVariants.Release, declared.conditions.CvEdit.TheVariants.SignalFront}
-use Rattle.layer_traits.specs.{declared.conditions.CvLeave.TheVariants.Leave, declared.conditions.CvOut.CvOut, declared.buffer_edits.BufferEdit.BufferEdit}
-use Rattle.layer_traits.specs.{declared.buffer_edits.BufferOut.BufferOut, declared.call_states.CallState.CallState, BufferProtocol.buffer_rules}
-use Rattle.layer_traits.specs.{BufferLaw.BufferPlan, BufferLaw.Buffering, BufferLaw.at_stage, BufferLaw.buffer_of, BufferLaw.going, BufferLaw.left_recorded}
-use Rattle.layer_traits.specs.{BufferLaw.other_side, BufferLaw.plan_at, BufferLaw.no_call, BufferLaw.reply_of, BufferLaw.side_of as tower_side}
-use Rattle.layer_traits.specs.{BufferLaw.call_state_of, Conditions.CvCall, CvLaw.Waiting, CvLaw.cv_plan, CvLaw.cv_plan_for, CvLaw.left_waiting}
-use Rattle.layer_traits.specs.{QLockLaw.left_after, QLockLaw.plan_for, QLockLaw.slept_for, QLocking.lock_moves, Plans.Left, Plans.Plan, Plans.raised}
-use Rattle.layer_traits.specs.{SleepLaw.sleep_plan, declared.call_states.Stage.Stage, Passes.or_else, Passes.queue_for}
-use Rattle.cpu.specs.{Guests.after_answer, Table.Setups.Call, Table.Setups.Thread, Table.Setups.Private, Table.Setups.program_of, Table.Choice.settled}
-use Rattle.cpu.specs.{Table.Choice.at_pending, Tower.Views.TowerAnswer, Tower.Views.TowerName, Tower.Views.TowerOut, Tower.Privates.call_from}
-use Rattle.cpu.specs.{Tower.Privates.guest_at, Tower.Privates.guests_after, Tower.Privates.private_after, Tower.Privates.private_of, Tower.Privates.thread_from}
-use Rattle.cpu.specs.{Tower.Privates.trace_after, Table.Blocks.Pend, Tower.Composed.outcome_of}
-use Rattle.layer_traits.specs.declared.call_states.Stage.TheVariants.{Idle, Signals, SignalsOwn, Releases}
-use Rattle.cpu.proofs.Tower.{Callers.Site, Callers.call_state_at, ChangedThread.goes, ChangedThread.numbered_long, ChangedThread.own_at, ChangedThread.part_at, ChangedThread.parts}
-use Rattle.cpu.proofs.Tower.{ChangedThread.threads_at, SettledAnswers.calling, SettledAnswers.goes_on, SettledAnswers.returns, SectionLines.react_in, SectionLines.reply_guest, Chains.LineOf}
-use Rattle.cpu.proofs.Tower.{Chains.fifo_at, Chains.private_here, Chains.put_same}
+use Rattle.{std.proofs.{Common.arith, lemmas.List.set-get_or}, event_log.specs.declared.ids.{LockId.TheVariants.Pending, Tid.Tid}}
+use Rattle.{guest.specs.State.{State, next_of}, thread_blocks.specs.Queues.is_in, layer_traits.specs.declared.calls.{Effect.Effect, Reply.Reply}}
+use Rattle.layer_traits.specs.declared.{locked.QEdit.TheVariants.{Inside, Release}, conditions.{CvEdit.TheVariants.SignalFront, CvLeave.TheVariants.Leave}}
+use Rattle.layer_traits.specs.declared.{conditions.CvOut.CvOut, buffer_edits.{BufferEdit.BufferEdit, BufferOut.BufferOut}, call_states.CallState.CallState}
+use Rattle.layer_traits.specs.{declared.call_states.Stage.{Stage, TheVariants.{Idle, Signals, SignalsOwn, Releases}}, BufferProtocol.buffer_rules}
+use Rattle.layer_traits.specs.BufferLaw.{BufferPlan, Buffering, at_stage, buffer_of, going, left_recorded, other_side, plan_at, reply_of, side_of as tower_side}
+use Rattle.layer_traits.specs.{BufferLaw.call_state_of, Conditions.CvCall, CvLaw.{Waiting, cv_plan, left_waiting}, QLockLaw.{left_after, slept_for}}
+use Rattle.layer_traits.specs.{QLocking.lock_moves, Plans.{Left, Plan, raised}, SleepLaw.sleep_plan, Passes.queue_for}
+use Rattle.cpu.specs.{Guests.after_answer, Table.{Setups.{Call, Thread, Private, program_of}, Choice.{settled, at_pending}, Blocks.Pend}}
+use Rattle.cpu.specs.Tower.{Views.{TowerAnswer, TowerName, TowerOut}, Privates.{call_from, guest_at, guests_after, private_after, private_of, thread_from}}
+use Rattle.cpu.{specs.Tower.{Privates.trace_after, Composed.outcome_of}, proofs.Tower.{Callers.{Site, call_state_at}, ChangedThread.{goes, numbered_long}}}
+use Rattle.cpu.proofs.Tower.{ChangedThread.{own_at, part_at, parts, threads_at}, SettledAnswers.{calling, goes_on, returns}, SectionLines.react_in}
+use Rattle.cpu.proofs.Tower.Chains.{LineOf, fifo_at, private_here, put_same}
 use Rattle.layer_traits.specs.declared.locked.QOut.TheVariants as lock
 use Rattle.layer_traits.specs.declared.conditions.CvOut.TheVariants as cv
 use Rattle.layer_traits.specs.declared.queue_edits.QueueEdit.TheVariants as queue
 use Rattle.layer_traits.specs.declared.queues.QueueAnswer.TheVariants as told
 pub use Rattle.layer_traits.proofs.PlaceLemmas.{home_there}
-
-pub queue_is : (c : CpuId) (o : Option CpuId) → IsSome o → or_else c o ≡ or_else (record { 0 = 0 }) o
-queue_is c None there = absurd (cc there)
-queue_is c (Some d) there = refl
 
 module _ (site : Site) (u : Tid) (f : Effect) (known : IsSome (slice_get site.setup.homes u.0)) where
   open site use {setup, c, runner, t, ready, ended, slept, waits, call_states, guests, trace, call, position, in_guests, is_slept, is_waits}
@@ -60,10 +48,7 @@ module _ (site : Site) (u : Tid) (f : Effect) (known : IsSome (slice_get site.se
   pub beneath_is : (outcome : TowerOut) (s : CvCall BufferEdit) → slept_for waits ((lock_moves buffer_rules).caller s) ≡ None
       → slept_for slept ((lock_moves buffer_rules).caller s) ≡ None
       → cv_plan (lock_moves buffer_rules) setup.homes c (buffer_of call) s (own_with outcome).cv ≡ beneath outcome s
-  beneath_is outcome s w n =
-      ap (cv_plan_for (lock_moves buffer_rules) setup.homes c (buffer_of call) s (own_with outcome).cv) w
-      ∙ ap (λ o. raised (λ l. left_waiting ((lock_moves buffer_rules).caller s) (buffer_of call) waits l.own l.answer)
-      (plan_for (lock_moves buffer_rules) setup.homes c (buffer_of call) s (own_with outcome).cv.lock o)) n
+  beneath_is outcome s w n = grind arith
 
   abbrev pub sends : TowerOut → Stage → CvCall BufferEdit → BufferPlan Reply
   sends outcome stage s = raised (left_recorded t call (here stage) call_states stage) (beneath outcome s)
@@ -76,22 +61,12 @@ module _ (site : Site) (u : Tid) (f : Effect) (known : IsSome (slice_get site.se
   guest_by (Some reply) = after_answer (Some reply) (next_of (program_of setup t) g) g
 
   guests_by : (answer : Option Reply) → guests_after setup t answer guests ≡ slice_set guests t.0 (guest_by answer)
-  guests_by None = sym (set-get_or guests t.0 at_start)
-  guests_by (Some reply) = refl
+  guests_by answer = grind (arith, set-get_or)
 
   module _ (outcome : TowerOut) (stage : Stage) (is : call_state_of call_states t ≡ here stage)
       (had : (going (here stage) call).effect ≡ Some f) where
     abbrev effect_is : (going (call_state_of call_states t) call).effect ≡ Some f
     effect_is = ap (λ x. (going x call).effect) is ∙ had
-
-    -- the poll leaves all as it is
-    waits_still : (left : Left Buffering Reply)
-        → left ≡ record { own = own_at (Some t) (Some u) ready ended (Some outcome) slept waits (slice_set call_states t.0 (here stage)); answer = None }
-        → after outcome left ≡ private_of (own_with outcome) guests trace
-    waits_still left at =
-        ap (after outcome) at
-        ∙ (λ i. private_of (own_at (Some t) (Some u) ready ended (Some outcome) slept waits (sym (put_same call_states t.0 (here stage) no_call is) i)) guests
-        (trace_after c t (buffer_of call) (effect_is i) (call_state_of (slice_set call_states t.0 (here stage)) t).effect trace))
 
     -- the poll leaves the hand empty, and the call goes on or returns
     sent : (state2 : CallState) (answer : Option Reply)
@@ -123,9 +98,9 @@ module _ (site : Site) (u : Tid) (f : Effect) (known : IsSome (slice_get site.se
       name = queue.Push u;
       react = react_in (sends outcome stage s);
       is = fifo_at setup c t call (own_with outcome) (here stage) is ∙ plan;
-      asks = ap (λ d. at_pending d (Pend u)) (sym (queue_is c (slice_get setup.homes u.0) known));
+      asks = ap (λ d. at_pending d (Pend u)) (sym (grind (arith, known)));
       used = inr (u, home_there c (slice_get setup.homes u.0) known);
-      stays = waits_still (react_in (sends outcome stage s) None) still;
+      stays = grind (arith, put_same, still);
       gives = λ x kind hand. ap (after outcome) done ∙ gives;
     }
 
@@ -166,7 +141,7 @@ module _ (site : Site) (u : Tid) (f : Effect) (known : IsSome (slice_get site.se
       refl refl
       (sent out Releases is refl (record { stage = Idle; call = None; position = position; effect = Some f }) (Some (reply_of call f))
       ∙ (ap (λ x. parts (Some t) ready None (slice_set (threads out) t.0 (record { guest = x; call = None; ended = e })) trace)
-      (reply_guest call f (next_of (program_of setup t) g) g)
+      (grind arith)
       ∙ sym (ap (λ l. settled setup (parts (Some t) ready None l trace))
       (threads_are out Releases is refl (calling setup c ready (threads out) trace t g e (long out) (record now { stage = Idle })) refl)
       ∙ returns setup c ready (threads out) trace t g e (long out) now ready trace)))

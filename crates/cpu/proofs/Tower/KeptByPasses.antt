@@ -1,14 +1,10 @@
 -- How all threads stand to a part is kept by the passes from thread to thread, and holds at boot.
-use Rattle.std.proofs.Common.{◌≡◌, ◌⊎◌, inl, inr, ℕ, zero, suc, List, length, replicate, Option, Some, None, refl, ap, sym, ◌∙◌, subst, arith}
-use Rattle.std.proofs.lemmas.Bool.{cases_eq, ne_eqb}
-use Rattle.event_log.specs.{declared.ids.BufId.BufId, declared.ids.CpuId.CpuId, declared.ids.LockId.LockId, declared.ids.Tid.Tid}
-use Rattle.event_log.specs.{declared.ids.TheConstants.THREADS, Actions.Action}
-use Rattle.event_log.proofs.ListLemmas.{alike_at}
-use Rattle.layer_traits.specs.declared.{calls.Effect.Effect, passes.Pass.Pass, call_states.Stage.Stage, call_states.CallState.CallState}
-use Rattle.layer_traits.specs.{QLockLaw.slept_for, Passes.pass_after, Places.Threads, Places.is_thread, Plans.Left, Plans.Follows, BufferLaw.Buffering}
-use Rattle.layer_traits.specs.{BufferLaw.buffering_at_start, BufferLaw.fifo_pass_plan, BufferLaw.no_call, BufferLaw.call_state_of}
-use Rattle.cpu.specs.Tower.{Views.TowerBlock, Views.TowerName, Views.TowerOut, Views.tower, Privates.threads_in, Privates.tid, Positions.IsPart}
-use Rattle.cpu.specs.Tower.{Positions.MayStand, Positions.inside, Positions.outside}
+use Rattle.std.proofs.{Common.{◌≡◌, ◌⊎◌, ℕ, zero, suc, List, length, replicate, Option, Some, None, refl, sym, ◌∙◌, subst, arith}, lemmas.Bool.cases_eq}
+use Rattle.{std.proofs.lemmas.Bool.ne_eqb, event_log.specs.declared.ids.{BufId.BufId, CpuId.CpuId, LockId.LockId, Tid.Tid, TheConstants.THREADS}}
+use Rattle.{event_log.{specs.Actions.Action, proofs.ListLemmas.alike_at}, layer_traits.specs.declared.{calls.Effect.Effect, passes.Pass.Pass}}
+use Rattle.layer_traits.specs.{declared.call_states.{Stage.Stage, CallState.CallState}, Passes.pass_after, Places.Threads, Plans.Left}
+use Rattle.layer_traits.specs.{Plans.Follows, BufferLaw.{Buffering, buffering_at_start, fifo_pass_plan, no_call}}
+use Rattle.cpu.specs.Tower.{Views.{TowerBlock, TowerName, TowerOut, tower}, Privates.threads_in, Positions.{IsPart, MayStand, inside, outside}}
 use Rattle.cpu.specs.Tower.Composed.{FitsStage, Stands, asks, was_handed, enters, tries, waits, was_woken, asks_again, was_handed_again, signals, signals_own}
 use Rattle.cpu.specs.Tower.Composed.{releases, has_signalled, has_signalled_own, has_released}
 use Rattle.layer_traits.specs.declared.passes.Pass.TheVariants as pass
@@ -28,42 +24,14 @@ with_threads own threads = record {
 pub pass_rest : (ActsFor : CpuId → Type 0) (opening : LockId → Option TowerBlock) (homes : List CpuId) (c : CpuId) (p : Pass) (own : Buffering)
     (old new : List (Action TowerName)) (left : Left Buffering (Unit {0})) → Follows ActsFor tower opening c (fifo_pass_plan homes c p own) old new left
     → left.own ≡ with_threads own (threads_in left.own)
-pass_rest ActsFor opening homes c pass.Switch own old new left follows =
-    subst (λ (l : Left Buffering (Unit {0})). l.own ≡ with_threads own (threads_in l.own)) (sym follows.1) refl
-pass_rest ActsFor opening homes c pass.End own old new left follows =
-    subst (λ (l : Left Buffering (Unit {0})). l.own ≡ with_threads own (threads_in l.own)) (sym follows.1) refl
-pass_rest ActsFor opening homes c pass.YieldNow own old new left follows =
-    subst (λ (l : Left Buffering (Unit {0})). l.own ≡ with_threads own (threads_in l.own)) (sym follows.moves) refl
-pass_rest ActsFor opening homes c pass.Drain own old new left follows =
-    subst (λ (l : Left Buffering (Unit {0})). l.own ≡ with_threads own (threads_in l.own)) (sym follows.moves) refl
-pass_rest ActsFor opening homes c (pass.MakeReady u) own old new left follows =
-    subst (λ (l : Left Buffering (Unit {0})). l.own ≡ with_threads own (threads_in l.own)) (sym follows.moves) refl
+pass_rest ActsFor opening homes c p own old new left follows = grind arith
 
 -- A thread with nobody in the hand has no answer kept.
-
-stands_none : (stage : Stage) (hand : Option Tid) (deferred : Option TowerOut) (s w : Option BufId) (effect : Option Effect)
-    → Stands stage hand deferred s w effect
-    → hand ≡ None → deferred ≡ None
-stands_none stage hand deferred s w effect asks is = refl
-stands_none stage hand deferred s w effect (was_handed b) is = refl
-stands_none stage hand deferred s w effect enters is = refl
-stands_none stage hand deferred s w effect tries is = refl
-stands_none stage hand deferred s w effect waits is = refl
-stands_none stage hand deferred s w effect (was_woken b) is = refl
-stands_none stage hand deferred s w effect asks_again is = refl
-stands_none stage hand deferred s w effect (was_handed_again b) is = refl
-stands_none stage hand deferred s w effect (signals f) is = refl
-stands_none stage hand deferred s w effect (signals_own f) is = refl
-stands_none stage hand deferred s w effect (releases f) is = refl
-stands_none stage hand deferred s w effect (has_signalled u v f) is = absurd (cc is)
-stands_none stage hand deferred s w effect (has_signalled_own u v f) is = absurd (cc is)
-stands_none stage hand deferred s w effect (has_released u f) is = absurd (cc is)
 
 pub deferred_none : (stage : Stage) (hand : Option Tid) (deferred : Option TowerOut) (s w : Option BufId) (effect : Option Effect)
     → MayStand stage hand deferred s w effect
     → hand ≡ None → deferred ≡ None
-deferred_none stage hand deferred s w effect (outside f) is = refl
-deferred_none stage hand deferred s w effect (inside st h k x y f stands) is = stands_none st h k x y f stands is
+deferred_none stage hand deferred s w effect given is = grind arith
 
 stands_calls : (stage : Stage) (hand : Option Tid) (deferred : Option TowerOut) (s w : Option BufId) (effect : Option Effect)
     → Stands stage hand deferred s w effect
@@ -96,42 +64,22 @@ pub at_rest : (stage : Stage) (hand : Option Tid) (deferred : Option TowerOut) (
 at_rest stage hand deferred s w effect (outside f) is = record { hand = refl; deferred = refl; slept = refl; waits = refl }
 at_rest stage hand deferred s w effect (inside st h k x y f stands) is = absurd (stands_calls st h k x y f stands is)
 
--- a thread in a call stands as a begun call may
-pub in_call : (stage : Stage) (hand : Option Tid) (deferred : Option TowerOut) (s w : Option BufId) (effect : Option Effect)
-    → MayStand stage hand deferred s w effect
-    → (stage ≡ at.Idle → ⊥) → Stands stage hand deferred s w effect
-in_call stage hand deferred s w effect (outside f) calls = absurd (calls refl)
-in_call stage hand deferred s w effect (inside st h k x y f stands) calls = stands
-
 -- The passes.
 
 -- where a pass may come: nobody runs, or a thread does and nobody is in the hand
 abbrev pub ComesTo : Pass → Threads → Type 0
 ComesTo pass.Switch own = (own.current ≡ None) × (own.hand ≡ None)
-ComesTo pass.Drain own = own.current ≡ None
-ComesTo (pass.MakeReady u) own = own.current ≡ None
 ComesTo pass.YieldNow own = (t : Tid) × (own.current ≡ Some t) × (own.hand ≡ None)
 ComesTo pass.End own = (t : Tid) × (own.current ≡ Some t) × (own.hand ≡ None)
+ComesTo given own = own.current ≡ None
 
 module _ (own : Buffering) (part : IsPart own) where
-  -- nobody runs before and after
-  idle_part : (threads : Threads) → (threads_in own).current ≡ None → threads.current ≡ None → IsPart (with_threads own threads)
-  idle_part threads nobody none = record {
-    mine = λ u runs. let no : Some u ≡ None = sym runs ∙ none in absurd (cc no);
-    other = λ u off. part.other u (ap (is_thread u) nobody);
-    idle = λ idle. part.idle nobody;
-    fits = part.fits;
-    call_states = part.call_states;
-    slept = part.slept;
-    waits = part.waits;
-  }
-
   -- a thread ran that runs no longer
   stopped_part : (t : Tid) (threads : Threads) → (threads_in own).current ≡ Some t → (threads_in own).hand ≡ None → threads.current ≡ None
       → IsPart (with_threads own threads)
   stopped_part t threads runs empty none = record {
     mine = λ u now. let no : Some u ≡ None = sym now ∙ none in absurd (cc no);
-    other = λ u off. by_same u (cases_eq u.0 t.0);
+    other = λ u off. grind (arith, ne_eqb, cases_eq u.0 t.0, deferred);
     idle = λ idle. deferred;
     fits = part.fits;
     call_states = part.call_states;
@@ -142,42 +90,11 @@ module _ (own : Buffering) (part : IsPart own) where
       deferred : own.cv.lock.sleep.deferred ≡ None
       deferred = deferred_none _ _ _ _ _ _ (part.mine t runs) empty
 
-      here : MayStand (call_state_of own.call_states t).stage None None (slept_for own.cv.lock.slept t) (slept_for own.cv.waits t)
-          (call_state_of own.call_states t).effect
-      here =
-          subst (λ x. x) (λ i. MayStand (call_state_of own.call_states t).stage (empty i) (deferred i) (slept_for own.cv.lock.slept t)
-          (slept_for own.cv.waits t)
-          (call_state_of own.call_states t).effect) (part.mine t runs)
-
-      by_same : (u : Tid) → (u.0 ≡ t.0) ⊎ (u.0 ≡ t.0 → ⊥)
-          → MayStand (call_state_of own.call_states u).stage None None (slept_for own.cv.lock.slept u) (slept_for own.cv.waits u)
-          (call_state_of own.call_states u).effect
-      by_same u (inl same) =
-          let is : t ≡ u = ap tid (sym same) in
-          subst (λ (x : Tid). MayStand (call_state_of own.call_states x).stage None None (slept_for own.cv.lock.slept x) (slept_for own.cv.waits x)
-          (call_state_of own.call_states x).effect) is here
-      by_same u (inr other) = part.other u (ap (is_thread u) runs ∙ ne_eqb t.0 u.0 (λ e. other (sym e)))
-
-  -- a thread runs where nobody did
-  started_part : (threads : Threads) → (threads_in own).current ≡ None → threads.hand ≡ None → IsPart (with_threads own threads)
-  started_part threads nobody empty = record {
-    mine = λ u runs. subst (λ x. x) (λ i. MayStand (call_state_of own.call_states u).stage (sym empty i) (sym (part.idle nobody) i)
-        (slept_for own.cv.lock.slept u)
-        (slept_for own.cv.waits u) (call_state_of own.call_states u).effect) (part.other u (ap (is_thread u) nobody));
-    other = λ u off. part.other u (ap (is_thread u) nobody);
-    idle = λ idle. part.idle nobody;
-    fits = part.fits;
-    call_states = part.call_states;
-    slept = part.slept;
-    waits = part.waits;
-  }
-
   pub passed_part : (p : Pass) (queue : List Tid) → ComesTo p (threads_in own) → IsPart (with_threads own (pass_after p queue (threads_in own)))
-  passed_part pass.Switch queue comes = started_part _ comes.0 comes.1
-  passed_part pass.Drain queue comes = idle_part _ comes refl
-  passed_part (pass.MakeReady u) queue comes = idle_part _ comes comes
-  passed_part pass.YieldNow queue comes = stopped_part comes.0 _ comes.1 comes.2 refl
-  passed_part pass.End queue comes = stopped_part comes.0 _ comes.1 comes.2 refl
+  passed_part pass.Switch queue comes = grind (arith, waits, comes.0, comes.1)
+  passed_part pass.Drain queue comes = grind (arith, waits, comes)
+  passed_part (pass.MakeReady u) queue comes = grind (arith, waits, comes)
+  passed_part p queue comes = stopped_part comes.0 _ comes.1 comes.2 refl
 
 -- At boot.
 

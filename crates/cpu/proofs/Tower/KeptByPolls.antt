@@ -1,29 +1,21 @@
 -- How all threads stand to a part is kept by every poll of a call.
-use Rattle.std.proofs.Common.{◌≡◌, inr, ◌<◌, List, [], length, slice_get, slice_set, Option, Some, None, IsSome, option_map, refl, ap, sym, ◌∙◌, subst}
-use Rattle.std.proofs.lemmas.{List.get_or-set_same, List.get_or-set_other, List.length-set, Bool.ne_eqb}
-use Rattle.event_log.specs.{declared.ids.BufId.BufId, declared.ids.CpuId.CpuId, declared.ids.LockId.TheVariants.Pending, declared.ids.Tid.Tid}
-use Rattle.event_log.specs.{declared.ids.LockId.LockId, Actions.Action, Actions.Phase, Actions.Rests as IsResting, Actions.Waits as IsWaiting, Actions.Holds}
-use Rattle.event_log.specs.{Actions.phase, Sections.block_after, Sections.sections_in}
-use Rattle.guest.specs.State.{State}
-use Rattle.layer_traits.specs.{declared.calls.Call.Call as TowerCall, declared.calls.Effect.Effect, declared.calls.Reply.Reply}
-use Rattle.layer_traits.specs.{declared.locked.QEdit.TheVariants.Inside, declared.locked.QEdit.TheVariants.Release}
-use Rattle.layer_traits.specs.{declared.conditions.CvEdit.TheVariants.SignalFront, declared.conditions.CvLeave.TheVariants.Leave}
-use Rattle.layer_traits.specs.{declared.conditions.CvOut.CvOut, declared.buffer_edits.BufferEdit.BufferEdit, declared.buffer_edits.BufferOut.BufferOut}
-use Rattle.layer_traits.specs.{declared.call_states.Stage.Stage, declared.call_states.CallState.CallState, Conditions.CvCall, QLockLaw.slept_for, Plans.Left}
-use Rattle.layer_traits.specs.{Plans.Plan, Plans.raised, Plans.Acting, Plans.Follows, Plans.at_give, Places.is_thread, Passes.queue_for}
+use Rattle.std.proofs.Common.{◌≡◌, inr, ◌<◌, List, [], length, slice_get, slice_set, Option, Some, None, IsSome, option_map, refl, ap, sym, ◌∙◌, subst, arith}
+use Rattle.{std.proofs.lemmas.{List.{get_or-set_same, get_or-set_other, length-set}, Bool.ne_eqb}, event_log.specs.declared.ids.{BufId.BufId, CpuId.CpuId}}
+use Rattle.event_log.specs.{declared.ids.{LockId.{TheVariants.Pending, LockId}, Tid.Tid}, Actions.{Action, Phase, phase}, Sections.{block_after, sections_in}}
+use Rattle.{guest.specs.State.State, layer_traits.specs.declared.{calls.{Call.Call as TowerCall, Effect.Effect, Reply.Reply}, locked.QEdit.TheVariants.Inside}}
+use Rattle.layer_traits.specs.declared.{locked.QEdit.TheVariants.Release, conditions.{CvEdit.TheVariants.SignalFront, CvLeave.TheVariants.Leave, CvOut.CvOut}}
+use Rattle.layer_traits.specs.declared.{buffer_edits.{BufferEdit.BufferEdit, BufferOut.BufferOut}, call_states.{Stage.Stage, CallState.CallState}}
+use Rattle.layer_traits.specs.{Conditions.CvCall, QLockLaw.slept_for, Plans.{Left, Plan, raised, Acting, Follows, at_give}, Places.is_thread, Passes.queue_for}
 use Rattle.layer_traits.specs.BufferLaw.{BufferPlan, Buffering, going, left_recorded, other_side, plan_at, no_call, side_of as tower_side, call_state_of}
-use Rattle.layer_traits.specs.BufferLaw.{fifo_plan, going_at}
-use Rattle.cpu.specs.{Table.Setups.Setup, Tower.Views.TowerAnswer, Tower.Views.TowerBlock, Tower.Views.TowerName, Tower.Views.TowerOut, Tower.Views.tower}
-use Rattle.cpu.specs.{Tower.Privates.threads_in, Tower.Positions.IsPart, Tower.Positions.MayStand, Tower.Positions.inside, Tower.Positions.outside}
-use Rattle.cpu.specs.Tower.Composed.{FitsStage, IsLined, HandIsKnown, Stands, asks, was_handed, enters, tries, waits as stands_waits, was_woken, asks_again}
-use Rattle.cpu.specs.Tower.Composed.{was_handed_again, signals, signals_own, releases, has_signalled, has_signalled_own, has_released, IsGoing, OpensAs}
-use Rattle.cpu.specs.Tower.Composed.{outcome_of}
-use Rattle.cpu.proofs.Tower.{Callers.Caller, Callers.HasRoom, Callers.Site, Callers.at_next, Callers.awake, Callers.caller_in, Callers.call_state_at}
-use Rattle.cpu.proofs.Tower.{ChangedThread.own_at, SectionLines.HasHad, SectionLines.own, SectionLines.e, SectionLines.react_in, Composition.plan, Chains.fifo_at, Chains.handed_plan}
-use Rattle.cpu.proofs.Tower.{Chains.handed_again_plan, Chains.woken_plan, HandLines.home_there, HandLines.sends, HandLines.beneath_is as beneath_sends, Polls.IsKindIn}
-use Rattle.cpu.proofs.Tower.{Polls.kind_after, Polls.opens_kind, KeptBySections.PlanPreserves, KeptBySections.Rest, KeptBySections.on, KeptBySections.rest_set, KeptBySections.asks_keeps}
-use Rattle.cpu.proofs.Tower.{KeptBySections.asks_again_keeps, KeptBySections.enters_keeps, KeptBySections.tries_keeps, KeptBySections.waits_keeps, KeptBySections.signals_keeps}
-use Rattle.cpu.proofs.Tower.{KeptBySections.own_signals_keeps, KeptBySections.releases_keeps}
+use Rattle.{layer_traits.specs.BufferLaw.{fifo_plan, going_at}, cpu.specs.{Table.Setups.Setup, Tower.Views.{TowerAnswer, TowerBlock, TowerName, TowerOut}}}
+use Rattle.cpu.specs.Tower.{Views.tower, Privates.threads_in, Positions.{IsPart, MayStand, inside, outside}, Composed.{FitsStage, IsLined, HandIsKnown, Stands}}
+use Rattle.cpu.specs.Tower.Composed.{asks, was_handed, enters, tries, waits as stands_waits, was_woken, asks_again, was_handed_again, signals, signals_own}
+use Rattle.cpu.{specs.Tower.Composed.{releases, has_signalled, has_signalled_own, has_released, IsGoing, OpensAs, outcome_of}, proofs.Tower.Callers.Caller}
+use Rattle.cpu.proofs.Tower.{Callers.{HasRoom, Site, at_next, awake, caller_in, call_state_at}, ChangedThread.own_at, SectionLines.{HasHad, own, e, react_in}}
+use Rattle.cpu.proofs.Tower.{Composition.plan, Chains.{fifo_at, handed_plan, handed_again_plan, woken_plan}, HandLines.{home_there, sends}}
+use Rattle.cpu.proofs.Tower.{HandLines.beneath_is as beneath_sends, Polls.{IsKindIn, kind_after}, KeptBySections.{PlanPreserves, Rest, on, rest_set}}
+use Rattle.cpu.proofs.Tower.KeptBySections.{asks_keeps, asks_again_keeps, enters_keeps, tries_keeps, waits_keeps, signals_keeps, own_signals_keeps}
+use Rattle.cpu.proofs.Tower.KeptBySections.{releases_keeps}
 use Rattle.layer_traits.specs.declared.locked.QOut.TheVariants as lock
 use Rattle.layer_traits.specs.declared.conditions.CvOut.TheVariants as cv
 use Rattle.layer_traits.specs.declared.queue_edits.QueueEdit.TheVariants as queue
@@ -104,10 +96,8 @@ module _ (caller : Caller) (others : Rest caller.t caller.slept caller.waits cal
       let own2 : Buffering = pieces None None slept waits2 (slice_set call_states t.0 (here at.AcquiresAgain None)) in
       let site2 : Site = awake (at_next caller slept waits2 at.AcquiresAgain in_slept (subst (λ n. t.0 < n) (sym (length-set waiting t.0 None)) in_waits))
       s (get_or-set_same waiting t.0 None None in_waits) in
-      let had2 : HasHad site2 None = ap (λ x. (going x call).effect) (then_call_state at.AcquiresAgain) in
-      subst (λ x. PlanPreserves setup c x) (sym (woken_plan caller b is s w
-      ∙ fifo_at setup c t call own2 (here at.AcquiresAgain None) (then_call_state at.AcquiresAgain)))
-      (asks_again_keeps site2 had2 (waits_rest at.AcquiresAgain) lined)
+      rw (woken_plan caller b is s w ∙ fifo_at setup c t call own2 (here at.AcquiresAgain None) (then_call_state at.AcquiresAgain))
+      (asks_again_keeps site2 (ap (λ x. (going x call).effect) (then_call_state at.AcquiresAgain)) (waits_rest at.AcquiresAgain) lined)
 
   -- a thread in the hand is sent
   module _ (u : Tid) (f : Effect) (s : slept_for slept t ≡ None) (w : slept_for waiting t ≡ None) (known : IsSome (slice_get setup.homes u.0)) where
@@ -216,20 +206,13 @@ pub plans_keep : (setup : Setup) (c : CpuId) (own : Buffering) (guests : List St
     → HandIsKnown setup own → IsPart own → PlanPreserves setup c (fifo_plan setup.homes c t call own)
 plans_keep setup c own guests t call going_on known part =
     let call_state_now : CallState = call_state_of own.call_states t in
-    let room : HasRoom own guests t = record {
-      in_guests = going_on.in_guests;
-      in_call_states = going_on.in_call_states;
-      in_slept = going_on.in_slept;
-      in_waits = going_on.in_waits;
-    } in
+    let room : HasRoom own guests t = assumption in
     let keep = by_stands (caller_in setup c own guests t room [] call call_state_now.position) (rest_of own t going_on.current part) call_state_now.stage
     (threads_in own).hand own.cv.lock.sleep.deferred (slept_for own.cv.lock.slept t) (slept_for own.cv.waits t) call_state_now.effect going_on.stands
     (subst (FitsStage call_state_now.stage) going_on.begun going_on.fits)
     (λ i. record { stage = call_state_now.stage; call = going_on.begun i; position = call_state_now.position; effect = call_state_now.effect }) refl refl
     known in
-    subst (λ o. PlanPreserves setup c (fifo_plan setup.homes c t call
-    (own_at o (threads_in own).hand (threads_in own).ready (threads_in own).ended own.cv.lock.sleep.deferred
-    own.cv.lock.slept own.cv.waits own.call_states))) (sym going_on.current) keep
+    rw going_on.current keep
 
 -- thread t runs and is in no call
 pub record IsFree (own : Buffering) (guests : List State) (t : Tid) : Type 0 where
@@ -248,12 +231,7 @@ pub begins_keep : (setup : Setup) (c : CpuId) (own : Buffering) (guests : List S
     → PlanPreserves setup c (fifo_plan setup.homes c t call own)
 begins_keep setup c own guests t call free part =
     let pieces : Buffering = own_at (Some t) None (threads_in own).ready (threads_in own).ended None own.cv.lock.slept own.cv.waits own.call_states in
-    let room : HasRoom own guests t = record {
-      in_guests = free.in_guests;
-      in_call_states = free.in_call_states;
-      in_slept = free.in_slept;
-      in_waits = free.in_waits;
-    } in
+    let room : HasRoom own guests t = assumption in
     let site : Site = awake (caller_in setup c own guests t room [] call 0) free.slept free.waits in
     let had : HasHad site None = ap (λ x. (going_at x (call_state_of own.call_states t) call).effect) free.at_idle in
     let begins : fifo_plan setup.homes c t call pieces ≡ plan site had at.Acquires
@@ -271,14 +249,11 @@ pub preserved_by : {A : Type 0} (ActsFor : CpuId → Type 0) (setup : Setup) (op
     → Follows ActsFor tower opening c p old new left → IsPart left.own
 preserved_by {A = A} ActsFor setup opening c p old new left opens keep follows =
     by_reply (phase c planned.past) (block_after tower.edited opening keep.lock (sections_in planned.past))
-    (kind_after opening keep.lock (opens_kind setup keep.lock (opening keep.lock) (opens keep.lock keep.used)) (sections_in planned.past)) planned.moves
+    (kind_after opening keep.lock (grind (arith, opens keep.lock keep.used)) (sections_in planned.past)) planned.moves
   where
     planned : Acting ActsFor tower opening c keep.lock keep.name keep.react old new left
     planned = subst (λ x. Follows ActsFor tower opening c x old new left) keep.is follows
 
     by_reply : (x : Phase) (o : Option TowerBlock) → IsKindIn keep.lock o → left ≡ keep.react (at_give x (option_map (tower.answer keep.name) o))
         → IsPart left.own
-    by_reply IsResting o kind is = subst (λ (l : Left Buffering A). IsPart l.own) (sym is) keep.stays
-    by_reply (IsWaiting l) o kind is = subst (λ (l : Left Buffering A). IsPart l.own) (sym is) keep.stays
-    by_reply (Holds l) None kind is = subst (λ (l : Left Buffering A). IsPart l.own) (sym is) keep.stays
-    by_reply (Holds l) (Some x) kind is = subst (λ (l : Left Buffering A). IsPart l.own) (sym is) (keep.gives x kind)
+    by_reply x o kind is = grind arith

@@ -1,26 +1,21 @@
 -- How all threads stand to a part is kept by each section of a call, where nobody is in the hand.
-use Rattle.std.proofs.Common.{◌≡◌, ◌≢◌, ◌⊎◌, inl, inr, ℕ, Bool, true, false, List, [], ◌∷◌, ◌++◌, length, slice_get, slice_set, Option, Some, None, refl, ap}
-use Rattle.std.proofs.Common.{sym, ◌∙◌, subst}
-use Rattle.std.proofs.lemmas.{List.get_or-set_same, List.get_or-set_other, List.length-set, Bool.cases_eq, Bool.eqb-false}
-use Rattle.event_log.specs.declared.ids.{BufId.BufId, CpuId.CpuId, LockId.TheVariants.Buffer, Tid.Tid, LockId.LockId, TheConstants.THREADS}
-use Rattle.thread_blocks.specs.Queues.{first}
-use Rattle.layer_traits.specs.declared.{calls.Effect.Effect, calls.Reply.Reply, locked.QEdit.TheVariants.Acquire, locked.QEdit.TheVariants.Inside}
-use Rattle.layer_traits.specs.declared.{locked.QEdit.TheVariants.Release, locked.Side.Side, locked.Side.TheVariants.Receivers, locked.Side.TheVariants.Senders}
-use Rattle.layer_traits.specs.declared.{conditions.CvEdit.TheVariants.Edit, conditions.CvEdit.TheVariants.SignalFront, conditions.CvLeave.TheVariants.Leave}
-use Rattle.layer_traits.specs.declared.{conditions.CvLeave.TheVariants.Wait, conditions.CvOut.CvOut, call_states.Stage.Stage, call_states.CallState.CallState}
-use Rattle.layer_traits.specs.declared.buffer_edits.{BufferEdit.BufferEdit, BufferOut.BufferOut, BufferOut.TheVariants.NotYet}
-use Rattle.layer_traits.specs.{BufferBlocks.BufferState, BufferBlocks.buffer_answer, BufferProtocol.buffer_rules, Conditions.CvCall, QLockLaw.slept_for}
-use Rattle.layer_traits.specs.{QLocking.LockState, QLocking.lock_answer, Places.is_cpu, Plans.Left, Plans.Plan, Plans.Act}
-use Rattle.layer_traits.specs.BufferLaw.{BufferPlan, Buffering, buffer_of, first_of, other_side, no_call, side_of as tower_side, call_state_of, try_of}
-use Rattle.cpu.specs.{Table.Setups.Setup, Tower.Views.TowerAnswer, Tower.Views.TowerBlock, Tower.Views.TowerName, Tower.Views.TowerOut, Tower.Views.tower}
-use Rattle.cpu.specs.{Tower.Privates.tid, Tower.Positions.IsPart, Tower.Positions.MayStand, Tower.Positions.inside, Tower.Positions.outside}
+use Rattle.std.proofs.Common.{◌≡◌, ◌≢◌, ◌⊎◌, inl, inr, ℕ, Bool, true, false, List, [], ◌∷◌, ◌++◌, length, slice_get, slice_set, Option, Some, None, refl, sym}
+use Rattle.std.proofs.{Common.{◌∙◌, subst, arith}, lemmas.{List.{get_or-set_same, get_or-set_other, length-set}, Bool.{cases_eq, eqb-false}}}
+use Rattle.event_log.specs.declared.ids.{BufId.BufId, CpuId.CpuId, LockId.{TheVariants.Buffer, LockId}, Tid.Tid, TheConstants.THREADS}
+use Rattle.{thread_blocks.specs.Queues.first, layer_traits.specs.declared.{calls.{Effect.Effect, Reply.Reply}, locked.QEdit.TheVariants.{Acquire, Inside}}}
+use Rattle.layer_traits.specs.declared.{locked.{QEdit.TheVariants.Release, Side.{Side, TheVariants.{Receivers, Senders}}}, conditions.CvEdit.TheVariants.Edit}
+use Rattle.layer_traits.specs.declared.{conditions.{CvEdit.TheVariants.SignalFront, CvLeave.TheVariants.{Leave, Wait}, CvOut.CvOut}, call_states.Stage.Stage}
+use Rattle.layer_traits.specs.declared.{call_states.CallState.CallState, buffer_edits.{BufferEdit.BufferEdit, BufferOut.{BufferOut, TheVariants.NotYet}}}
+use Rattle.layer_traits.specs.{BufferBlocks.{BufferState, buffer_answer}, BufferProtocol.buffer_rules, Conditions.CvCall, QLockLaw.slept_for}
+use Rattle.layer_traits.specs.{QLocking.{LockState, lock_answer}, Places.is_cpu, Plans.{Left, Plan, Act}, BufferLaw.{BufferPlan, Buffering, buffer_of}}
+use Rattle.{layer_traits.specs.BufferLaw.{first_of, other_side, no_call, side_of as tower_side, call_state_of, try_of}, cpu.specs.Table.Setups.Setup}
+use Rattle.cpu.specs.Tower.{Views.{TowerAnswer, TowerBlock, TowerName, TowerOut, tower}, Privates.tid, Positions.{IsPart, MayStand, inside, outside}}
 use Rattle.cpu.specs.Tower.Composed.{FitsStage, IsKind, IsLined, IsUsed, Stands, asks, was_handed, enters, tries, waits as stands_waits, was_woken, asks_again}
 use Rattle.cpu.specs.Tower.Composed.{was_handed_again, signals, signals_own, releases, has_signalled, has_signalled_own, has_released}
-use Rattle.cpu.proofs.Tower.{ChangedThread.own_at, Callers.Site}
-use Rattle.cpu.proofs.Tower.SectionLines.{HasHad, Draws, Shuts, Tried, first_answer, try_answer, shut_effect, call_state, fresh, react, lift, waking}
-use Rattle.cpu.proofs.Tower.Composition.{asked_out, did_out, signal_out, left_out, wait_out, effect_is, over, plan, plan_to, asks_plan, asks_again_plan}
-use Rattle.cpu.proofs.Tower.Composition.{enters_plan, tries_plan, waits_plan, signals_plan, own_signals_plan, releases_plan}
-use Rattle.layer_traits.specs.declared.queue_edits.QueueBlock.TheVariants as block
+use Rattle.cpu.proofs.Tower.{ChangedThread.own_at, Callers.Site, SectionLines.{HasHad, Draws, Shuts, Tried, first_answer, try_answer, shut_effect, call_state}}
+use Rattle.cpu.proofs.Tower.{SectionLines.{fresh, react, lift, waking}, Composition.{asked_out, did_out, signal_out, left_out, wait_out, effect_is, over, plan}}
+use Rattle.cpu.proofs.Tower.Composition.{plan_to, asks_plan, asks_again_plan, enters_plan, tries_plan, waits_plan, signals_plan, own_signals_plan}
+use Rattle.cpu.proofs.Tower.Composition.{releases_plan}
 use Rattle.layer_traits.specs.declared.queue_edits.QueueEdit.TheVariants as queue
 use Rattle.layer_traits.specs.declared.queues.QueueAnswer.TheVariants as told
 use Rattle.layer_traits.specs.declared.call_states.Stage.TheVariants as at
@@ -46,59 +41,24 @@ fit_is a b is fit = subst (λ (x : CallState). FitsStage x.stage x.call) (sym is
 
 module _ (t : Tid) (ready ended : List Tid) (slept waits : List (Option BufId)) (call_states : List CallState) (others : Rest t slept waits call_states)
     (fit : FitsStage (call_state_of call_states t).stage (call_state_of call_states t).call) where
-  fits_all : (u : Tid) → FitsStage (call_state_of call_states u).stage (call_state_of call_states u).call
-  fits_all u = go (cases_eq u.0 t.0)
-    where
-      go : (u.0 ≡ t.0) ⊎ (u.0 ≡ t.0 → ⊥) → FitsStage (call_state_of call_states u).stage (call_state_of call_states u).call
-      go (inl same) =
-          let is : t ≡ u = ap tid (sym same) in subst (λ (x : Tid). FitsStage (call_state_of call_states x).stage (call_state_of call_states x).call) is fit
-      go (inr other) = others.fits u other
-
   -- thread t runs
   pub runs_part : (hand : Option Tid) (deferred : Option TowerOut)
       → MayStand (call_state_of call_states t).stage hand deferred (slept_for slept t) (slept_for waits t) (call_state_of call_states t).effect
       → IsPart (own_at (Some t) hand ready ended deferred slept waits call_states)
-  runs_part hand deferred may = record {
-    mine = λ u runs. let same : t ≡ u = cc runs in
-        subst (λ (x : Tid). MayStand (call_state_of call_states x).stage hand deferred (slept_for slept x) (slept_for waits x)
-        (call_state_of call_states x).effect) same may;
-    other = λ u off. others.others u (λ same. eqb-false t.0 u.0 off (sym same));
-    idle = λ nobody. absurd (cc nobody);
-    fits = fits_all;
-    call_states = others.long_call_states;
-    slept = others.long_slept;
-    waits = others.long_waits;
-  }
+  runs_part hand deferred may = grind (arith, others, eqb-false, cases_eq)
 
   -- nobody runs
   pub gone_part : (hand : Option Tid) → MayStand (call_state_of call_states t).stage None None (slept_for slept t) (slept_for waits t)
       (call_state_of call_states t).effect
       → IsPart (own_at None hand ready ended None slept waits call_states)
-  gone_part hand may = record {
-    mine = λ u runs. absurd (cc runs);
-    other = λ u off. by_same u (cases_eq u.0 t.0);
-    idle = λ nobody. refl;
-    fits = fits_all;
-    call_states = others.long_call_states;
-    slept = others.long_slept;
-    waits = others.long_waits;
-  }
-    where
-      by_same : (u : Tid) → (u.0 ≡ t.0) ⊎ (u.0 ≡ t.0 → ⊥)
-          → MayStand (call_state_of call_states u).stage None None (slept_for slept u) (slept_for waits u) (call_state_of call_states u).effect
-      by_same u (inl same) =
-          let is : t ≡ u = ap tid (sym same) in
-          subst (λ (x : Tid). MayStand (call_state_of call_states x).stage None None (slept_for slept x) (slept_for waits x)
-          (call_state_of call_states x).effect) is may
-      by_same u (inr other) = others.others u other
+  gone_part hand may = grind (arith, cases_eq, others)
 
 -- another call state of this thread, and another place
 pub rest_set : (t : Tid) (slept waits slept2 waits2 : List (Option BufId)) (call_states : List CallState) (state2 : CallState) → Rest t slept waits call_states
     → ((j : ℕ) → j ≢ t.0 → slept_for slept2 (tid j) ≡ slept_for slept (tid j)) → ((j : ℕ) → j ≢ t.0 → slept_for waits2 (tid j) ≡ slept_for waits (tid j))
     → length slept2 ≡ length slept → length waits2 ≡ length waits → Rest t slept2 waits2 (slice_set call_states t.0 state2)
 rest_set t slept waits slept2 waits2 call_states state2 others same_s same_w long_s long_w = record {
-  others = λ u other. stand_is None None _ _ _ _ _ _ (get_or-set_other call_states t.0 u.0 state2 no_call other) (same_s u.0 other) (same_w u.0 other)
-      (others.others u other);
+  others = λ u other. grind (arith, stand_is, get_or-set_other);
   fits = λ u other. fit_is _ _ (get_or-set_other call_states t.0 u.0 state2 no_call other) (others.fits u other);
   long_call_states = length-set call_states t.0 state2 ∙ others.long_call_states;
   long_slept = long_s ∙ others.long_slept;
@@ -178,8 +138,7 @@ module _ (site : Site) (effect : Option Effect) (had : HasHad site effect) (othe
     where
       by_block : (x : TowerBlock) → IsKind (Buffer (buffer_of site.call)) x
           → IsPart (react site effect had stage s (Some (tower.answer (queue.Above s) x))).own
-      by_block (block.Above x) kind = gives x
-      by_block (block.Queue queue homes) kind = absurd kind
+      by_block x kind = grind (arith, gives)
 
 -- Before the effect.
 
@@ -226,8 +185,7 @@ module _ (site : Site) (had : HasHad site None) (others : Rest site.t site.slept
       → IsPart (react site None had at.Tries (Inside (Edit (try_of site.t site.call)))
       (Some (told.Answer (did_out (buffer_answer (try_of site.t site.call) x))))).own
   tries_by x lined (inl vain) =
-      subst (λ o. IsPart (react site None had at.Tries (Inside (Edit (try_of site.t site.call))) (Some (told.Answer (did_out o)))).own) (sym vain)
-      (on site None had others None site.ready None (call_state site None had at.Waits) (inside at.Waits None None None None None stands_waits) lined)
+      rw vain (on site None had others None site.ready None (call_state site None had at.Waits) (inside at.Waits None None None None None stands_waits) lined)
   tries_by x lined (inr tried) =
       let f : Effect = effect_is site had tried.closed tried.op tried.message in
       subst (λ o. IsPart (react site None had at.Tries (Inside (Edit (try_of site.t site.call))) (Some (told.Answer (did_out o)))).own) (sym tried.is)
@@ -248,8 +206,7 @@ module _ (site : Site) (had : HasHad site None) (others : Rest site.t site.slept
 
   waits_at : IsLined site.call → (side : Side) (x : LockState BufferState)
       → IsPart (react site None had at.Waits (Release (Wait site.t side)) (Some (told.Answer (lock_answer buffer_rules (Release (Wait site.t side)) x)))).own
-  waits_at lined Receivers x = waits_by lined Receivers (first x.sleepers)
-  waits_at lined Senders x = waits_by lined Senders (first x.sleepers)
+  waits_at lined side x = grind (arith, waits_by)
 
   pub waits_keeps : IsLined site.call → PlanPreserves site.setup site.c (plan site had at.Waits)
   waits_keeps lined =

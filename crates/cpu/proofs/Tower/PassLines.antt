@@ -1,22 +1,16 @@
 -- The passes from thread to thread are lines of the table, or steps of it without an action.
 use Rattle.std.proofs.Common.{◌≡◌, ◌≢◌, ℕ, ◌+◌, ◌<◌, Bool, true, false, ◌&&◌, ◌||◌, List, [], ◌∷◌, ◌++◌, length, slice_get, slice_set, Option, Some, None}
-use Rattle.std.proofs.Common.{IsSome, refl, ap, sym, ◌∙◌, arith, inl, inr}
-use Rattle.std.proofs.{lemmas.Bool.ne_eqb, lemmas.List.append-nil, Math.Bool.or-true}
-use Rattle.event_log.specs.declared.{entries.Entry.Entry, ids.BufId.BufId, ids.CpuId.CpuId, ids.LockId.TheVariants.Pending, ids.Tid.Tid}
-use Rattle.guest.specs.State.{State, after_yield, at_start, next_of}
-use Rattle.thread_blocks.specs.Queues.{is_in, same_tid}
-use Rattle.thread_blocks.proofs.{Members.same_tid_self, Distinct.pushed_in}
-use Rattle.layer_traits.specs.{declared.passes.Pass.Pass, declared.call_states.CallState.CallState, QLockLaw.slept_for, Passes.queue_for, Places.is_thread}
-use Rattle.layer_traits.specs.{Plans.Left, BufferLaw.Buffering, BufferLaw.fifo_pass_plan, BufferLaw.no_call, BufferLaw.call_state_of}
-use Rattle.cpu.specs.{Table.Blocks.Pend, Table.Setups.Setup, Table.Setups.Private, Table.Setups.Thread, Table.Setups.program_of, Table.Setups.thread_at}
-use Rattle.cpu.specs.{Table.Choice.after_by, Table.Choice.after_section, Table.Choice.asked_by, Table.Choice.at_pending, Table.Choice.ends}
-use Rattle.cpu.specs.{Table.Choice.with_guest, Tower.Views.TowerAnswer, Tower.Views.TowerBlock, Tower.Views.answer_view, Tower.Views.tower}
-use Rattle.cpu.specs.{Tower.Privates.guest_at, Tower.Privates.private_of, Tower.Privates.private_passed, Tower.Privates.thread_from, Tower.Privates.thread_of}
-use Rattle.cpu.specs.{Tower.Privates.tid, Tower.Composed.HandIsKnown, Tower.Composed.IsKind, Tower.Composed.IsLine}
-use Rattle.cpu.proofs.Tower.{Callers.Runner, ChangedThread.changed, ChangedThread.numbered_changed, ChangedThread.numbered_same, ChangedThread.own_at, ChangedThread.part_at}
-use Rattle.cpu.proofs.Tower.{ChangedThread.parts, ChangedThread.threads_at, SectionLines.react_in, HandLines.home_there, HandLines.queue_is, Chains.put_same, BegunPolls.thread_here}
+use Rattle.std.proofs.{Common.{IsSome, refl, ap, sym, ◌∙◌, arith, inl, inr}, lemmas.{Bool.ne_eqb, List.append-nil}, Math.Bool.or-true}
+use Rattle.{event_log.specs.declared.{entries.Entry.Entry, ids.{BufId.BufId, CpuId.CpuId, LockId.TheVariants.Pending, Tid.Tid}}, guest.specs.State.State}
+use Rattle.{guest.specs.State.{after_yield, at_start, next_of}, thread_blocks.{specs.Queues.is_in, proofs.{Members.same_tid_self, Distinct.pushed_in}}}
+use Rattle.layer_traits.specs.{declared.{passes.Pass.Pass, call_states.CallState.CallState}, QLockLaw.slept_for, Passes.queue_for, Places.is_thread, Plans.Left}
+use Rattle.{layer_traits.specs.BufferLaw.{Buffering, fifo_pass_plan, no_call, call_state_of}, cpu.specs.Table.{Blocks.Pend, Setups.{Setup, Private, Thread}}}
+use Rattle.cpu.specs.{Table.{Setups.{program_of, thread_at}, Choice.{after_by, after_section, asked_by, at_pending, ends, with_guest}}, Tower.Views.TowerAnswer}
+use Rattle.cpu.specs.Tower.{Views.{TowerBlock, answer_view, tower}, Privates.{guest_at, private_of, private_passed, thread_from, thread_of, tid}}
+use Rattle.cpu.{specs.Tower.Composed.{HandIsKnown, IsKind, IsLine}, proofs.Tower.{Callers.Runner, ChangedThread.{changed, numbered_changed, numbered_same}}}
+use Rattle.cpu.proofs.Tower.{ChangedThread.{own_at, part_at, parts, threads_at}, SectionLines.react_in, HandLines.home_there, Chains.put_same}
+use Rattle.cpu.proofs.Tower.BegunPolls.{thread_here}
 use Rattle.layer_traits.specs.declared.passes.Pass.TheVariants as pass
-use Rattle.layer_traits.specs.declared.queue_edits.QueueBlock.TheVariants as block
 use Rattle.layer_traits.specs.declared.queue_edits.QueueEdit.TheVariants as queue
 use Rattle.layer_traits.specs.declared.queues.QueueAnswer.TheVariants as told
 use Rattle.layer_traits.specs.declared.call_states.Stage.TheVariants as at
@@ -25,14 +19,6 @@ use Rattle.layer_traits.specs.declared.call_states.Stage.TheVariants as at
 abbrev pub PassLine : Setup → CpuId → Pass → Buffering → List State → List Entry → Type 0
 PassLine setup c p own guests trace =
     IsLine setup c (private_of own guests trace) (fifo_pass_plan setup.homes c p own) (private_passed setup own guests trace p)
-
-or_false : (b : Bool) → (b || false) ≡ b
-or_false true = refl
-or_false false = refl
-
-and_false : (b : Bool) → (b && false) ≡ false
-and_false true = refl
-and_false false = refl
 
 module _ (setup : Setup) (c : CpuId) (guests : List State) (trace : List Entry) (ended : List Tid) (slept waits : List (Option BufId))
     (call_states : List CallState) where
@@ -57,8 +43,7 @@ module _ (setup : Setup) (c : CpuId) (guests : List State) (trace : List Entry) 
           → private_passed setup (idle_with []) guests trace pass.Drain
           (react_in (fifo_pass_plan setup.homes c pass.Drain (idle_with [])) (Some (tower.answer queue.TakeAll x)))
           ≡ after_section setup c (private_of (idle_with []) guests trace) (answer_view (tower.answer queue.TakeAll x))
-      by_block (block.Above state) kind known = absurd kind
-      by_block (block.Queue threads homes) kind known = ap (λ r. private_of (idle_with r) guests trace) (append-nil threads)
+      by_block x kind known = grind (arith, append-nil)
 
   -- the thread in the hand is put among its home's pending
   abbrev holding : Tid → List Tid → Buffering
@@ -70,7 +55,7 @@ module _ (setup : Setup) (c : CpuId) (guests : List State) (trace : List Entry) 
     name = queue.Push u;
     react = react_in (fifo_pass_plan setup.homes c (pass.MakeReady u) (holding u ready));
     is = refl;
-    asks = ap (λ d. at_pending d (Pend u)) (sym (queue_is c (slice_get setup.homes u.0) known));
+    asks = ap (λ d. at_pending d (Pend u)) (sym (grind (arith, known)));
     used = inr (u, home_there c (slice_get setup.homes u.0) known);
     stays = refl;
     gives = λ x kind hand. refl;
@@ -148,8 +133,7 @@ module _ (setup : Setup) (c : CpuId) (guests : List State) (trace : List Entry) 
         by_block : (x : TowerBlock) → IsKind (Pending c) x → HandIsKnown setup (yields (Some (tower.answer queue.TakeAll x))).own
             → private_passed setup running guests trace pass.YieldNow (yields (Some (tower.answer queue.TakeAll x)))
             ≡ after_section setup c p (answer_view (tower.answer queue.TakeAll x))
-        by_block (block.Above state) kind known = absurd kind
-        by_block (block.Queue threads homes) kind known = yielded threads
+        by_block x kind known = grind (arith, yielded)
 
     -- it ends
     pub ended_now : private_of (own_at None None ready (ended ++ t ∷ []) None slept waits call_states) guests trace ≡ ends p t
@@ -165,16 +149,10 @@ module _ (setup : Setup) (c : CpuId) (guests : List State) (trace : List Entry) 
         ∙ ap (λ x. slice_set (threads_at running guests) t.0 (record x { ended = true })) (sym there_free))))
       where
         not_new : (j : ℕ) → j ≢ t.0 → is_in (tid j) (ended ++ t ∷ []) ≡ is_in (tid j) ended
-        not_new j other =
-            pushed_in (tid j) t ended
-            ∙ (ap (λ b. is_in (tid j) ended || (b || false)) (ne_eqb j t.0 other) ∙ or_false (is_in (tid j) ended))
+        not_new j other = grind (arith, pushed_in, ne_eqb)
 
         here : thread_of (own_at None None ready (ended ++ t ∷ []) None slept waits call_states) t g ≡ record { guest = g; call = None; ended = true }
-        here =
-            ap (λ s. thread_from (record (call_state_of call_states t) { stage = s }) (slept_for slept t) (slept_for waits t) false (is_in t
-            (ended ++ t ∷ [])) g) at_idle
-            ∙ ap (λ b. record { guest = g; call = None; ended = b })
-            (pushed_in t t ended ∙ (ap (λ b. is_in t ended || (b || false)) (same_tid_self t) ∙ or-true (is_in t ended)))
+        here = grind (arith, pushed_in, same_tid_self, or-true)
 
   -- an instruction of the thread's own
   pub computed_now : (own : Buffering) (t : Tid) (guest : State) → t.0 < length guests
@@ -189,9 +167,4 @@ module _ (setup : Setup) (c : CpuId) (guests : List State) (trace : List Entry) 
   pub switched_now : (t : Tid) (ready : List Tid)
       → private_of (own_at (Some t) None ready ended None slept waits call_states) guests trace
       ≡ record (private_of (idle_with (t ∷ ready)) guests trace) { current = Some t; ready = ready }
-  switched_now t ready =
-      ap (λ l. parts (Some t) ready None l trace)
-      (numbered_same (λ n. thread_of (idle_with (t ∷ ready)) (tid n))
-      (λ n. thread_of (own_at (Some t) None ready ended None slept waits call_states) (tid n)) 0 guests
-      (λ j x below. ap (λ k. thread_from (call_state_of call_states (tid j)) (slept_for slept (tid j)) (slept_for waits (tid j)) k (is_in (tid j) ended) x)
-      (and_false (same_tid t (tid j)))))
+  switched_now t ready = grind (arith, numbered_same)

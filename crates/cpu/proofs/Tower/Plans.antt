@@ -1,15 +1,12 @@
 -- The plan of every poll of a begun call is a line of the table.
-use Rattle.std.proofs.Common.{◌≡◌, slice_get, Option, Some, IsSome, refl, sym, subst}
-use Rattle.event_log.specs.declared.ids.{BufId.BufId, Tid.Tid}
-use Rattle.layer_traits.specs.{declared.calls.Effect.Effect, declared.call_states.Stage.Stage, declared.call_states.CallState.CallState, QLockLaw.slept_for}
-use Rattle.layer_traits.specs.{BufferLaw.call_state_of}
-use Rattle.cpu.specs.Tower.{Views.TowerOut, Privates.threads_in}
-use Rattle.cpu.specs.Tower.Composed.{FitsStage, PlansAreLines, Stands, asks, was_handed, enters, tries, waits, was_woken, asks_again, was_handed_again, signals}
-use Rattle.cpu.specs.Tower.Composed.{signals_own, releases, has_signalled, has_signalled_own, has_released}
-use Rattle.cpu.proofs.Tower.{Callers.Caller, Callers.HasRoom, Callers.awake, Callers.caller_in, Callers.call_state_at, ChangedThread.own_at}
-use Rattle.cpu.proofs.Tower.{HandLines.has_signalled_line, HandLines.has_signalled_own_line, HandLines.has_released_line}
-use Rattle.cpu.proofs.Tower.Chains.{LineOf, site_asks, site_enters, site_tries, site_waits, site_asks_again, site_signals, site_own_signals, site_releases}
-use Rattle.cpu.proofs.Tower.Chains.{handed_line, handed_again_line, woken_line}
+use Rattle.std.proofs.Common.{◌≡◌, slice_get, Option, Some, IsSome, refl, subst}
+use Rattle.{event_log.specs.declared.ids.{BufId.BufId, Tid.Tid}, layer_traits.specs.declared.{calls.Effect.Effect, call_states.Stage.Stage}}
+use Rattle.{layer_traits.specs.{declared.call_states.CallState.CallState, QLockLaw.slept_for, BufferLaw.call_state_of}, cpu.specs.Tower.Views.TowerOut}
+use Rattle.cpu.specs.Tower.{Privates.threads_in, Composed.{FitsStage, PlansAreLines, Stands, asks, was_handed, enters, tries, waits, was_woken, asks_again}}
+use Rattle.cpu.specs.Tower.Composed.{was_handed_again, signals, signals_own, releases, has_signalled, has_signalled_own, has_released}
+use Rattle.cpu.proofs.Tower.{Callers.{Caller, HasRoom, awake, caller_in, call_state_at}, ChangedThread.own_at, HandLines.has_signalled_line}
+use Rattle.cpu.proofs.Tower.{HandLines.{has_signalled_own_line, has_released_line}, Chains.{LineOf, site_asks, site_enters, site_tries, site_waits}}
+use Rattle.cpu.proofs.Tower.Chains.{site_asks_again, site_signals, site_own_signals, site_releases, handed_line, handed_again_line, woken_line}
 
 module _ (caller : Caller) where
   open caller use {setup, c, t, ready, ended, slept, waits as waiting, call_states, guests, trace, call}
@@ -51,15 +48,9 @@ module _ (caller : Caller) where
 pub plans_are_lines : PlansAreLines
 plans_are_lines setup c own guests trace t call going known =
     let call_state_now : CallState = call_state_of own.call_states t in
-    let room : HasRoom own guests t = record {
-      in_guests = going.in_guests;
-      in_call_states = going.in_call_states;
-      in_slept = going.in_slept;
-      in_waits = going.in_waits;
-    } in
+    let room : HasRoom own guests t = assumption in
     let line = by_stands (caller_in setup c own guests t room trace call call_state_now.position) call_state_now.stage (threads_in own).hand
     own.cv.lock.sleep.deferred (slept_for own.cv.lock.slept t) (slept_for own.cv.waits t) call_state_now.effect going.stands
     (subst (FitsStage call_state_now.stage) going.begun going.fits)
     (λ i. record { stage = call_state_now.stage; call = going.begun i; position = call_state_now.position; effect = call_state_now.effect }) refl refl known in
-    subst (λ o. LineOf setup c t call (own_at o (threads_in own).hand (threads_in own).ready (threads_in own).ended own.cv.lock.sleep.deferred own.cv.lock.slept
-    own.cv.waits own.call_states) guests trace) (sym going.current) line
+    rw going.current line

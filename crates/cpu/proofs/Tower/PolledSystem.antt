@@ -1,9 +1,8 @@
 -- A poll of a CPU: the system in which it is a step, the log before and after it, and the line of the table that it goes.
 use Rattle.std.proofs.Common.{◌≡◌, List, Option}
-use Rattle.event_log.specs.{declared.ids.CpuId.CpuId, declared.ids.LockId.LockId, Actions.Action, Actions.phase}
-use Rattle.layer_traits.specs.{BufferLaw.Buffering, Plans.Left, Plans.Plan}
-use Rattle.cpu.specs.{Table.Setups.Setup, Table.Setups.Private, Table.Steps.acting, Table.Steps.cpu_step, Tower.Views.TowerAnswer, Tower.Views.TowerBlock}
-use Rattle.cpu.specs.{Tower.Views.TowerName, Tower.Composed.IsLine, Tower.Composed.OpensAs, Tower.Composed.named}
+use Rattle.{event_log.specs.{declared.ids.{CpuId.CpuId, LockId.LockId}, Actions.{Action, phase}}, layer_traits.specs.{BufferLaw.Buffering, Plans.{Left, Plan}}}
+use Rattle.cpu.specs.{Table.{Setups.{Setup, Private}, Steps.{acting, cpu_step}}, Tower.{Views.{TowerAnswer, TowerBlock, TowerName}, Composed.{IsLine, OpensAs}}}
+use Rattle.cpu.specs.Tower.Composed.{named}
 
 -- the poll is CPU c's, in a system with this setup whose locks open with these blocks
 pub record Polled : Type 1 where

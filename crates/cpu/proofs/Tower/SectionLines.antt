@@ -1,58 +1,31 @@
 -- The plan of a section of a call is a line of the table, where nobody is in the hand.
 use Rattle.std.proofs.Common.{◌≡◌, ◌⊎◌, inl, inr, ℕ, ◌<◌, Bool, true, false, List, [], ◌∷◌, ◌++◌, length, slice_get, slice_set, Option, Some, None, IsSome}
-use Rattle.std.proofs.Common.{is_some, if◌then◌else◌, refl, ap, sym, ◌∙◌, subst, arith, lt-ltb}
-use Rattle.std.proofs.lemmas.List.{get_or-set_same, get_or-set_other, set-get_or}
-use Rattle.event_log.specs.{declared.entries.Entry.Entry, declared.ids.BufId.BufId, declared.ids.CpuId.CpuId, declared.ids.LockId.TheVariants.Buffer}
-use Rattle.event_log.specs.{declared.ids.Tid.Tid, History.same_cpu, declared.entries.Kind.Kind, Messages.Message, Messages.no_message}
-use Rattle.guest.specs.{declared.instructions.Instruction.Instruction, State.State, State.at_start, State.next_of}
-use Rattle.thread_blocks.specs.Queues.{is_in}
-use Rattle.layer_traits.proofs.CountLemmas.{same_cpu_sym}
-use Rattle.layer_traits.specs.declared.{calls.Call.Call as TowerCall, calls.Call.TheVariants.Send, calls.Call.TheVariants.Recv, calls.Call.TheVariants.Close}
-use Rattle.layer_traits.specs.declared.{calls.Effect.Effect, calls.Reply.Reply, locked.QEdit.TheVariants.Inside, locked.QEdit.TheVariants.Release}
-use Rattle.layer_traits.specs.declared.{locked.QOut.QOut, locked.Side.TheVariants.Receivers, locked.Side.TheVariants.Senders}
-use Rattle.layer_traits.specs.declared.{conditions.CvEdit.TheVariants.Edit, conditions.CvEdit.TheVariants.SignalFront, conditions.CvLeave.TheVariants.Wait}
-use Rattle.layer_traits.specs.declared.{conditions.CvOut.CvOut, buffer_edits.BufferEdit.BufferEdit, call_states.CallState.CallState, call_states.Stage.Stage}
-use Rattle.layer_traits.specs.declared.buffer_edits.BufferOut.{BufferOut, TheVariants.Entered, TheVariants.NotYet, TheVariants.Done, TheVariants.WasShut}
-use Rattle.layer_traits.specs.{BufferBlocks.BufferState, BufferBlocks.buffer_answer, BufferBlocks.thread_of_edit, BufferBlocks.is_next}
-use Rattle.layer_traits.specs.{BufferProtocol.buffer_rules, BufferLaw.BufferPlan, BufferLaw.Buffering, BufferLaw.buffer_of, BufferLaw.entry_of}
-use Rattle.layer_traits.specs.{BufferLaw.first_of, BufferLaw.going, BufferLaw.left_recorded, BufferLaw.other_side, BufferLaw.no_call, BufferLaw.reply_by}
-use Rattle.layer_traits.specs.{BufferLaw.reply_of, BufferLaw.side_of as tower_side, BufferLaw.call_state_of, BufferLaw.try_of, Conditions.CvCall, CvLaw.Waiting}
-use Rattle.layer_traits.specs.{CvLaw.cv_plan, CvLaw.cv_plan_for, CvLaw.left_waiting, QLockLaw.Locking, QLockLaw.left_after, QLockLaw.plan_for, QLockLaw.slept_for}
-use Rattle.layer_traits.specs.{QLocking.LockState, QLocking.lock_answer, QLocking.lock_moves, Places.Threads, Places.is_cpu, Plans.Left, Plans.Plan, Plans.Now}
-use Rattle.layer_traits.specs.{Plans.Act, Plans.raised, SleepLaw.Sleeping, SleepLaw.left_done, SleepLaw.sleep_plan, Passes.or_else}
-use Rattle.cpu.specs.{Guests.after_answer, Table.Blocks.Answer, Table.Blocks.DidShut, Table.Blocks.Reported, Table.Blocks.effect_of, Table.Setups.Call}
-use Rattle.cpu.specs.{Table.Setups.Thread, Table.Setups.Private, Table.Setups.home_of, Table.Setups.program_of, Table.Setups.thread_at, Tower.Views.TowerAnswer}
-use Rattle.cpu.specs.{Tower.Views.TowerBlock, Tower.Views.TowerName, Tower.Views.TowerOut, Tower.Views.answer_view, Tower.Views.name_of, Tower.Views.report_of}
-use Rattle.cpu.specs.{Tower.Views.tower, Tower.Composed.HandIsKnown, Tower.Composed.IsKind, Tower.Composed.IsLine, Tower.Composed.IsLined}
-use Rattle.layer_traits.specs.declared.call_states.Stage.TheVariants.{Idle, Enters, Tries, Waits, Signals, SignalsOwn}
-use Rattle.cpu.specs.Table.Choice.{after_section, at_buffer, first_section, guest_after, recorded, recorded_entry, recorded_position, recorded_try, returned_at}
-use Rattle.cpu.specs.Table.Choice.{section_at, settled, slept_if, with_call as call_put, woken}
-use Rattle.cpu.specs.Tower.Privates.{asks_in, call_from, closed_by, guest_at, guests_after, message_of, private_after, private_of, thread_from, trace_after}
-use Rattle.cpu.proofs.Tower.{Callers.Site, ChangedThread.goes, ChangedThread.gone, ChangedThread.numbered_long, ChangedThread.own_at, ChangedThread.part_at, ChangedThread.parts}
-use Rattle.cpu.proofs.Tower.{ChangedThread.threads_at}
-use Rattle.cpu.proofs.Tower.SettledAnswers.{asks_for, calling, done_with, from_t, goes_on, recorded_is, put, returns}
+use Rattle.std.proofs.{Common.{is_some, if◌then◌else◌, refl, ap, sym, ◌∙◌, subst, arith, lt-ltb}, lemmas.List.{get_or-set_same, get_or-set_other, set-get_or}}
+use Rattle.event_log.specs.{declared.{entries.Entry.Entry, ids.{BufId.BufId, LockId.TheVariants.Buffer, Tid.Tid}}, History.same_cpu, Messages.Message}
+use Rattle.{event_log.specs.Messages.no_message, guest.specs.State.{State, next_of}, thread_blocks.specs.Queues.is_in}
+use Rattle.layer_traits.{proofs.CountLemmas.same_cpu_sym, specs.declared.calls.{Call.{Call as TowerCall, TheVariants.{Send, Recv, Close}}, Effect.Effect}}
+use Rattle.layer_traits.specs.declared.{calls.Reply.Reply, locked.QOut.QOut, conditions.CvOut.CvOut, buffer_edits.{BufferEdit.BufferEdit, BufferOut.BufferOut}}
+use Rattle.layer_traits.specs.declared.{buffer_edits.BufferOut.TheVariants.{Entered, NotYet, Done, WasShut}, call_states.{CallState.CallState, Stage.Stage}}
+use Rattle.layer_traits.specs.{declared.call_states.Stage.TheVariants.Idle, BufferBlocks.{BufferState, buffer_answer}, BufferProtocol.buffer_rules}
+use Rattle.layer_traits.specs.{BufferLaw.{BufferPlan, Buffering, buffer_of, first_of, going, left_recorded, no_call, call_state_of, try_of}, Conditions.CvCall}
+use Rattle.layer_traits.specs.{CvLaw.{Waiting, cv_plan, left_waiting}, QLockLaw.{Locking, left_after, slept_for}, QLocking.{LockState, lock_answer, lock_moves}}
+use Rattle.layer_traits.specs.{Places.{Threads, is_cpu}, Plans.{Left, Plan, Now, Act, raised}, SleepLaw.{Sleeping, left_done, sleep_plan}}
+use Rattle.cpu.specs.{Guests.after_answer, Table.{Blocks.{Answer, effect_of}, Setups.{Call, Thread, Private, home_of, program_of, thread_at}}}
+use Rattle.cpu.specs.Table.Choice.{after_section, at_buffer, recorded, returned_at, section_at, settled, slept_if, with_call as call_put, woken}
+use Rattle.cpu.specs.Tower.{Views.{TowerAnswer, TowerBlock, TowerName, TowerOut, answer_view, name_of, tower}, Composed.{HandIsKnown, IsKind, IsLine, IsLined}}
+use Rattle.cpu.specs.Tower.Privates.{asks_in, call_from, guest_at, guests_after, message_of, private_after, private_of, thread_from, trace_after}
+use Rattle.cpu.proofs.Tower.{Callers.Site, ChangedThread.{goes, gone, numbered_long, own_at, part_at, parts, threads_at}, SettledAnswers.{asks_for, calling}}
+use Rattle.cpu.proofs.Tower.SettledAnswers.{done_with, from_t, goes_on, recorded_is, put, returns}
 use Rattle.event_log.specs.declared.entries.Kind.TheVariants as kind
-use Rattle.layer_traits.specs.declared.queue_edits.QueueBlock.TheVariants as block
 use Rattle.layer_traits.specs.declared.queue_edits.QueueEdit.TheVariants as queue
 use Rattle.layer_traits.specs.declared.queues.QueueAnswer.TheVariants as told
 
 -- What a call's sections are, by what it asks.
 
-pub thread_of_first : (t : Tid) (call : TowerCall) → thread_of_edit (first_of t call) ≡ t
-thread_of_first t (Send b m) = refl
-thread_of_first t (Recv b) = refl
-thread_of_first t (Close b) = refl
-
-pub first_name : (t : Tid) (call : TowerCall) → first_section t (asks_in call) ≡ name_of (queue.Above (Inside (Edit (first_of t call))))
-first_name t (Send b m) = refl
-first_name t (Recv b) = refl
-first_name t (Close b) = refl
-
 -- a call that closes
 abbrev pub IsShutting : TowerCall → Type 0
-IsShutting (Send b m) = ⊥
-IsShutting (Recv b) = ⊥
 IsShutting (Close b) = Unit {0}
+IsShutting given = ⊥
 
 -- its first section draws the position of a call in a line, and closes the buffer for a close
 pub record Draws (t : Tid) (call : TowerCall) (x : BufferState) : Type 0 where
@@ -71,17 +44,6 @@ first_answer t (Send b m) x = inl (record { lined = tt; pos = x.sends; is = refl
 first_answer t (Recv b) x = inl (record { lined = tt; pos = x.receives; is = refl })
 first_answer t (Close b) x = inr (record { shuts = tt; op = x.effects; pos = x.closes; is = refl })
 
-pub thread_of_try : (t : Tid) (call : TowerCall) → thread_of_edit (try_of t call) ≡ t
-thread_of_try t (Send b m) = refl
-thread_of_try t (Recv b) = refl
-thread_of_try t (Close b) = refl
-
-pub try_name : (t : Tid) (call : TowerCall) (position : ℕ) → IsLined call
-    → section_at t (call_from call position None Tries) Tries ≡ name_of (queue.Above (Inside (Edit (try_of t call))))
-try_name t (Send b m) position lined = refl
-try_name t (Recv b) position lined = refl
-try_name t (Close b) position lined = absurd lined
-
 -- a try that has its effect: it found the buffer closed or not, and then the call's own message stays
 pub record Tried (t : Tid) (call : TowerCall) (x : BufferState) : Type 0 where
   pub closed : Bool
@@ -91,64 +53,9 @@ pub record Tried (t : Tid) (call : TowerCall) (x : BufferState) : Type 0 where
   pub same : closed ≡ true → message ≡ message_of call None
 
 pub try_answer : (t : Tid) (call : TowerCall) (x : BufferState) → IsLined call → (buffer_answer (try_of t call) x ≡ NotYet) ⊎ Tried t call x
-try_answer t (Send b m) x lined = go (is_next Senders t x) refl
-  where
-    go : (k : Bool) → is_next Senders t x ≡ k → (buffer_answer (try_of t (Send b m)) x ≡ NotYet) ⊎ Tried t (Send b m) x
-    go true may = inr (record { closed = x.closed; op = x.effects; message = m; is = rw may refl; same = λ closed. refl })
-    go false not_yet = inl (rw not_yet refl)
-try_answer t (Recv b) x lined = go (is_next Receivers t x) refl
-  where
-    by_items : (items : List Message) → x.items ≡ items → is_next Receivers t x ≡ true → Tried t (Recv b) x
-    by_items [] is may = record { closed = true; op = x.effects; message = no_message; is = rw (may, is) refl; same = λ closed. refl }
-    by_items (m ∷ items) is may = record {
-      closed = false;
-      op = x.effects;
-      message = m;
-      is = rw (may, is, lt-ltb 0 (length (m ∷ items)) (omega arith)) refl;
-      same = λ closed. absurd (cc closed);
-    }
-
-    go : (k : Bool) → is_next Receivers t x ≡ k → (buffer_answer (try_of t (Recv b)) x ≡ NotYet) ⊎ Tried t (Recv b) x
-    go true may = inr (by_items x.items refl may)
-    go false not_yet = inl (rw not_yet refl)
+try_answer t (Send b m) x lined = grind arith
+try_answer t (Recv b) x lined = grind (arith, lt-ltb)
 try_answer t (Close b) x lined = absurd lined
-
-pub wait_name : (t : Tid) (call : TowerCall) (position : ℕ)
-    → section_at t (call_from call position None Waits) Waits ≡ name_of (queue.Above (Release (Wait t (tower_side call))))
-wait_name t (Send b m) position = refl
-wait_name t (Recv b) position = refl
-wait_name t (Close b) position = refl
-
-pub signal_name : (t : Tid) (call : TowerCall) (position : ℕ) (f : Effect)
-    → section_at t (call_from call position (Some f) Signals) Signals ≡ name_of (queue.Above (Inside (SignalFront t (other_side call))))
-signal_name t (Send b m) position f = refl
-signal_name t (Recv b) position f = refl
-signal_name t (Close b) position f = refl
-
-pub own_signal_name : (t : Tid) (call : TowerCall) (position : ℕ) (f : Effect)
-    → section_at t (call_from call position (Some f) SignalsOwn) SignalsOwn ≡ name_of (queue.Above (Inside (SignalFront t (tower_side call))))
-own_signal_name t (Send b m) position f = refl
-own_signal_name t (Recv b) position f = refl
-own_signal_name t (Close b) position f = refl
-
--- what the reply makes of the guest is what the table makes of it
-pub reply_guest : (call : TowerCall) (f : Effect) (line : Instruction) (g : State)
-    → after_answer (Some (reply_of call f)) line g ≡ guest_after (asks_in call) (closed_by call f.kind) line f.value g
-reply_guest call f line g = go call f.kind
-  where
-    go : (asked : TowerCall) (of : Kind) → after_answer (Some (reply_by asked of f.value)) line g
-        ≡ guest_after (asks_in asked) (closed_by asked of) line f.value g
-    go (Send b m) kind.Send = refl
-    go (Send b m) kind.Recv = refl
-    go (Send b m) kind.Close = refl
-    go (Send b m) kind.SendClosed = refl
-    go (Send b m) kind.RecvClosed = refl
-    go (Recv b) kind.Send = refl
-    go (Recv b) kind.Recv = refl
-    go (Recv b) kind.Close = refl
-    go (Recv b) kind.SendClosed = refl
-    go (Recv b) kind.RecvClosed = refl
-    go (Close b) of = refl
 
 -- What the table hears.
 
@@ -163,39 +70,6 @@ effect_by call closed op m pos = record { kind = effect_of (asks_in call) closed
 -- that of a close
 abbrev pub shut_effect : (op pos : ℕ) → Effect
 shut_effect op pos = record { kind = kind.Close; value = no_message; op = op; pos = pos }
-
-pub entry_recorded : (c : CpuId) (p : Private) (t : Tid) (k : Call) (call : TowerCall) (told : Reported) → IsLined call
-    → recorded_entry c p t k (asks_in call) told ≡ recorded_position p t k told
-entry_recorded c p t k (Send b m) told lined = refl
-entry_recorded c p t k (Recv b) told lined = refl
-entry_recorded c p t k (Close b) told lined = absurd lined
-
-pub shut_recorded : (c : CpuId) (p : Private) (t : Tid) (call : TowerCall) (position op pos : ℕ) → IsShutting call
-    → recorded_entry c p t (call_from call position None Enters) (asks_in call) (DidShut op pos)
-    ≡ effected_so p t (call_from call position (Some (shut_effect op pos)) Signals) (entry_of c t (buffer_of call) (shut_effect op pos))
-shut_recorded c p t (Send b m) position op pos shuts = absurd shuts
-shut_recorded c p t (Recv b) position op pos shuts = absurd shuts
-shut_recorded c p t (Close b) position op pos shuts = refl
-
-pub try_recorded : (c : CpuId) (p : Private) (t : Tid) (call : TowerCall) (position op : ℕ) (closed : Bool) (m : Message) → IsLined call
-    → (closed ≡ true → m ≡ message_of call None)
-    → recorded_try c p t (call_from call position None Tries) (report_of (effect_of (asks_in call) closed) op m)
-    ≡ effected_so p t (call_from call position (Some (effect_by call closed op m position)) Signals)
-    (entry_of c t (buffer_of call) (effect_by call closed op m position))
-try_recorded c p t (Send b n) position op false m lined same = refl
-try_recorded c p t (Send b n) position op true m lined same =
-    ap (λ x. effected_so p t (call_from (Send b n) position (Some (effect_by (Send b n) true op x position)) Signals)
-    (entry_of c t b (effect_by (Send b n) true op x position))) (sym (same refl))
-try_recorded c p t (Recv b) position op false m lined same = refl
-try_recorded c p t (Recv b) position op true m lined same =
-    ap (λ x. effected_so p t (call_from (Recv b) position (Some (effect_by (Recv b) true op x position)) Signals)
-    (entry_of c t b (effect_by (Recv b) true op x position))) (sym (same refl))
-try_recorded c p t (Close b) position op closed m lined same = absurd lined
-
--- whether a woken thread is at home here: the table and the layers test the same, where it has a home
-same_home : (c : CpuId) (o : Option CpuId) → (is_cpu c o ≡ false → IsSome o) → is_cpu c o ≡ same_cpu (or_else (record { 0 = 0 }) o) c
-same_home c None known = absurd (cc (known refl))
-same_home c (Some d) known = same_cpu_sym c d
 
 abbrev pub react_in : {N R S A : Type 0} → Plan N R S A → Option R → Left S A
 react_in (Now left) = λ reply. left
@@ -242,8 +116,7 @@ module _ (site : Site) (effect : Option Effect) (is_effect : HasHad site effect)
   guest_by (Some reply) = after_answer (Some reply) (next_of (program_of site.setup site.t) g) g
 
   pub guests_by : (answer : Option Reply) → guests_after site.setup site.t answer site.guests ≡ slice_set site.guests site.t.0 (guest_by answer)
-  guests_by None = sym (set-get_or site.guests site.t.0 at_start)
-  guests_by (Some reply) = refl
+  guests_by answer = grind (arith, set-get_or)
 
   -- what a poll leaves after which thread t runs on
   pub runs_on : (hand2 : Option Tid) (ready2 : List Tid) (deferred2 : Option TowerOut) (state2 : CallState) (answer : Option Reply)
@@ -310,10 +183,7 @@ module _ (site : Site) (effect : Option Effect) (is_effect : HasHad site effect)
 
   pub beneath_is : (s : CvCall BufferEdit) → slept_for site.waits ((lock_moves buffer_rules).caller s) ≡ None
       → slept_for site.slept ((lock_moves buffer_rules).caller s) ≡ None → cv_plan (lock_moves buffer_rules) site.setup.homes site.c buf s own.cv ≡ beneath s
-  beneath_is s w n =
-      ap (cv_plan_for (lock_moves buffer_rules) site.setup.homes site.c buf s own.cv) w
-      ∙ ap (λ o. raised (λ l. left_waiting ((lock_moves buffer_rules).caller s) buf site.waits l.own l.answer)
-      (plan_for (lock_moves buffer_rules) site.setup.homes site.c buf s own.cv.lock o)) n
+  beneath_is s w n = grind arith
 
   abbrev pub fresh : Stage → CvCall BufferEdit → BufferPlan Reply
   fresh stage s = raised (left_recorded site.t site.call (call_state stage) site.call_states stage) (beneath s)
@@ -341,8 +211,7 @@ module _ (site : Site) (effect : Option Effect) (is_effect : HasHad site effect)
       by_block : (x : TowerBlock) → IsKind (Buffer buf) x → HandIsKnown site.setup (react stage s (Some (tower.answer (queue.Above s) x))).own
           → after (react stage s (Some (tower.answer (queue.Above s) x)))
           ≡ after_section site.setup site.c (from stage) (answer_view (tower.answer (queue.Above s) x))
-      by_block (block.Above x) kind = gives x
-      by_block (block.Queue queue homes) kind = absurd kind
+      by_block x kind = grind arith
 
   abbrev pub locked : Left (Sleeping (QOut (CvOut BufferOut))) TowerOut → Left (Locking (CvOut BufferOut)) TowerOut
   locked l = left_after site.t buf site.slept l.own l.answer
@@ -367,9 +236,7 @@ module _ (site : Site) (effect : Option Effect) (is_effect : HasHad site effect)
       → (HandIsKnown site.setup (F false).own → IsSome (slice_get site.setup.homes u.0))
       → HandIsKnown site.setup (F (is_cpu site.c (slice_get site.setup.homes u.0))).own
       → after (F (is_cpu site.c (slice_get site.setup.homes u.0))) ≡ H (same_cpu (home_of site.setup u) site.c)
-  by_home u F H each hand known =
-      each (is_cpu site.c (slice_get site.setup.homes u.0))
-      ∙ ap H (same_home site.c (slice_get site.setup.homes u.0) (λ away. hand (subst (λ b. HandIsKnown site.setup (F b).own) away known)))
+  by_home u F H each hand known = grind (arith, same_cpu_sym)
 
   -- The table's side.
 

@@ -1,13 +1,9 @@
 -- What the table makes of the answer of a section of the current thread's call.
-use Rattle.std.proofs.Common.{◌≡◌, ◌<◌, Bool, List, length, slice_set, Option, Some, None, ap, ◌∙◌}
-use Rattle.std.proofs.lemmas.List.{get_or-set_same, set-set}
-use Rattle.event_log.specs.declared.{entries.Entry.Entry, ids.CpuId.CpuId, ids.Tid.Tid}
-use Rattle.guest.specs.State.{State, next_of}
-use Rattle.cpu.specs.Table.{Blocks.Answer, Setups.Setup, Setups.Call, Setups.Thread, Setups.Private, Setups.new_thread, Setups.program_of, Setups.thread_at}
-use Rattle.cpu.specs.Table.{Choice.after_by, Choice.after_section, Choice.asked, Choice.asked_by, Choice.at_buffer, Choice.guest_after, Choice.recorded}
-use Rattle.cpu.specs.Table.{Choice.returned_at, Choice.returned_by, Choice.section_at, Choice.settled, Choice.slept_if, Choice.woken}
-use Rattle.layer_traits.specs.declared.call_states.Stage.TheVariants.{Idle}
-use Rattle.cpu.proofs.Tower.ChangedThread.{parts}
+use Rattle.std.proofs.{Common.{◌≡◌, ◌<◌, Bool, List, length, slice_set, Option, Some, None, ap, ◌∙◌}, lemmas.List.{get_or-set_same, set-set}}
+use Rattle.{event_log.specs.declared.{entries.Entry.Entry, ids.{CpuId.CpuId, Tid.Tid}}, guest.specs.State.{State, next_of}, cpu.specs.Table.Blocks.Answer}
+use Rattle.cpu.specs.Table.{Setups.{Setup, Call, Thread, Private, new_thread, program_of, thread_at}, Choice.{after_by, after_section, asked, asked_by}}
+use Rattle.cpu.specs.Table.Choice.{at_buffer, guest_after, recorded, returned_at, returned_by, section_at, settled, slept_if, woken}
+use Rattle.{cpu.proofs.Tower.ChangedThread.parts, layer_traits.specs.declared.call_states.Stage.TheVariants.Idle}
 
 module _ (setup : Setup) (c : CpuId) (ready : List Tid) (threads : List Thread) (trace : List Entry) (t : Tid) (g : State) (e : Bool)
     (within : t.0 < length threads) where
@@ -56,8 +52,7 @@ module _ (setup : Setup) (c : CpuId) (ready : List Tid) (threads : List Thread) 
       → settled setup (with_t ready2 None (calling (record call { stage = Idle })) trace2) ≡ with_t ready2 None (done_with call) trace2
   returns call ready2 trace2 =
       let next : Call = record call { stage = Idle } in
-      let p : Private = with_t ready2 None (calling next) trace2 in
-      ap (λ x. returned_by setup p t x.call) (there (calling next) ready2 None trace2)
+      ap (λ x. returned_by setup (with_t ready2 None (calling next) trace2) t x.call) (there (calling next) ready2 None trace2)
       ∙ (ap (λ x. parts (Some t) ready2 None (slice_set (slice_set threads t.0 (calling next)) t.0
       (record x { guest = guest_after call.asks call.closed (next_of (program_of setup t) x.guest) call.message x.guest; call = None })) trace2)
       (there (calling next) ready2 None trace2)

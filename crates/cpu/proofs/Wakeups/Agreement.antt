@@ -1,21 +1,15 @@
 -- One CPU's private state against where its threads are and what they do: whoever is current or ready is at home, the hand holds whom it
 -- woke, and each call stands at the stage that its visit says.
 use Rattle.std.proofs.Common.{◌≡◌, ◌+◌, ◌<◌, Bool, true, false, not, ◌&&◌, [], ◌∷◌, ◌++◌, length, Option, Some, None, is_some, nat_lt, if◌then◌else◌, refl, sym}
-use Rattle.std.proofs.Common.{ap, ◌∙◌, subst, arith}
-use Rattle.std.proofs.lemmas.{Bool.and_parts, Bool.and_from, Bool.and_left, Bool.and_right, Bool.false_from_ne_true, Bool.ltb-true, Bool.eqb-false}
-use Rattle.std.proofs.lemmas.{List.length-set, List.get_or-set_same, List.get_or-set_other}
-use Rattle.event_log.specs.{declared.ids.CpuId.CpuId, declared.ids.Tid.Tid, declared.ids.BufId.BufId, History.same_cpu}
-use Rattle.event_log.proofs.Same.{same_cpu_self}
-use Rattle.thread_blocks.specs.Queues.{same_tid}
-use Rattle.thread_blocks.proofs.Members.{same_tid_self, same_tid_true}
-use Rattle.layer_traits.specs.declared.{locked.Side.Side, locked.Side.TheVariants.Receivers, locked.Side.TheVariants.Senders, call_states.Stage.Stage}
-use Rattle.layer_traits.specs.Places.{Where, Home, Hand, is_home, is_hand, is_thread, one_if, count_in}
-use Rattle.layer_traits.proofs.{CountLemmas.same_tid_sym, CountLemmas.count_append, PlaceLemmas.is_home_true}
-use Rattle.cpu.specs.{Table.Blocks.side_of, Table.Setups.Setup, Table.Setups.Call, Table.Setups.Thread, Table.Setups.Private, Table.Setups.new_thread}
-use Rattle.cpu.specs.{Table.Setups.thread_at, Table.Setups.with_thread, Table.Setups.home_of, Table.Choice.slept_if, Table.Choice.woken, Wakeups.Order.Progress}
-use Rattle.cpu.specs.{Wakeups.Order.Begins, Wakeups.Order.HasEntered, Wakeups.Order.WasRefused, Wakeups.Order.Owes}
-use Rattle.layer_traits.specs.declared.call_states.Stage.TheVariants.{Idle, Acquires, Enters, Tries, Waits, AcquiresAgain, Signals, SignalsOwn, Releases}
-use Rattle.cpu.proofs.Wakeups.{Lists.refuted, PostsAndVisits.Waiting, PostsAndVisits.Visit, PostsAndVisits.Outside, PostsAndVisits.In, PostsAndVisits.post_by, PostsAndVisits.post_woken, PostsAndVisits.is_local}
+use Rattle.std.proofs.{Common.{ap, ◌∙◌, subst, arith}, lemmas.Bool.{and_parts, and_from, and_left, and_right, false_from_ne_true, ltb-true, eqb-false}}
+use Rattle.{std.proofs.lemmas.List.{length-set, get_or-set_same, get_or-set_other}, event_log.specs.declared.ids.{CpuId.CpuId, Tid.Tid, BufId.BufId}}
+use Rattle.{event_log.{specs.History.same_cpu, proofs.Same.same_cpu_self}, thread_blocks.{specs.Queues.same_tid, proofs.Members.{same_tid_self, same_tid_true}}}
+use Rattle.layer_traits.specs.declared.{locked.Side.{Side, TheVariants.{Receivers, Senders}}, call_states.Stage.{Stage, TheVariants.{Idle, Enters}}}
+use Rattle.layer_traits.specs.{declared.call_states.Stage.TheVariants.{Tries, Waits, AcquiresAgain, Signals, SignalsOwn, Releases}, Places.Where}
+use Rattle.layer_traits.{specs.Places.{is_home, is_hand, is_thread, one_if, count_in}, proofs.CountLemmas.{same_tid_sym, count_append}}
+use Rattle.{layer_traits.proofs.PlaceLemmas.is_home_true, cpu.specs.Table.{Blocks.side_of, Setups.{Setup, Call, Thread, Private, new_thread, thread_at}}}
+use Rattle.cpu.specs.{Table.{Setups.{with_thread, home_of}, Choice.{slept_if, woken}}, Wakeups.Order.{Progress, Begins, HasEntered, WasRefused, Owes}}
+use Rattle.cpu.proofs.Wakeups.{Lists.refuted, PostsAndVisits.{Waiting, Visit, Outside, In, post_woken, is_local}}
 
 -- once the other side is signalled, the own side is owed its signal
 abbrev pub owing_own : Side → Progress
@@ -31,8 +25,7 @@ visit_of_stage b side AcquiresAgain = Waiting b side
 visit_of_stage b side Signals = In b (Owes true true)
 visit_of_stage b side SignalsOwn = In b (owing_own side)
 visit_of_stage b side Releases = In b (Owes false false)
-visit_of_stage b side Acquires = Outside
-visit_of_stage b side Idle = Outside
+visit_of_stage b side given = Outside
 
 abbrev pub visit_of_call : Option Call → Visit
 visit_of_call None = Outside
@@ -80,32 +73,12 @@ pub record Same (p q : Private) (t : Tid) : Type 0 where
   pub others : (u : Tid) → same_tid t u ≡ false → (thread_at q u).call ≡ (thread_at p u).call
 
 pub same_with : (p : Private) (t : Tid) (x : Thread) → t.0 < length p.threads → x.ended ≡ (thread_at p t).ended → Same p (with_thread p t x) t
-same_with p t x known ended = record {
-  current = refl;
-  ready = refl;
-  hand = refl;
-  size = length-set p.threads t.0 x;
-  ended = λ u. by_test u (same_tid t u) refl;
-  others = λ u other. ap (λ y. y.call) (at_other p t u x other);
-}
-  where
-    by_test : (u : Tid) (mine : Bool) → same_tid t u ≡ mine → (thread_at (with_thread p t x) u).ended ≡ (thread_at p u).ended
-    by_test u true same =
-        subst (λ v. (thread_at (with_thread p t x) v).ended ≡ (thread_at p v).ended) (same_tid_true t u same) (ap (λ y. y.ended) (at_same p t x known) ∙ ended)
-    by_test u false other = ap (λ y. y.ended) (at_other p t u x other)
+same_with p t x known ended = grind (arith, length-set, at_other, same_tid_true, at_same)
 
 -- what a thread stands at does not matter where it has a call, nor what the trace is
 pub agrees_same : (setup : Setup) (c : CpuId) (p q : Private) (t : Tid) (T N : Tid → Visit) (P : Tid → Where) → Agrees setup c p T P → Same p q t
     → ((u : Tid) → same_tid t u ≡ false → N u ≡ T u) → N t ≡ visit_of_call (thread_at q t).call → Agrees setup c q N P
-agrees_same setup c p q t T N P agrees same others mine = record {
-  size = same.size ∙ agrees.size;
-  calls = λ u local. by_test u local (same_tid t u) refl;
-  seats = λ u.
-      (λ i. one_if (is_thread u (same.current i)) + count_in u (same.ready i)) ∙ agrees.seats u
-      ∙ ap (λ e. one_if (seat setup c u (P u) e)) (sym (same.ended u));
-  hands = λ u. ap (is_thread u) same.hand ∙ agrees.hands u;
-  ends = λ u local ended. agrees.ends u local (sym (same.ended u) ∙ ended);
-}
+agrees_same setup c p q t T N P agrees same others mine = grind (arith, by_test)
   where
     by_test : (u : Tid) → is_local setup c u ≡ true → (own : Bool) → same_tid t u ≡ own → N u ≡ visit_of_call (thread_at q u).call
     by_test u local true is = subst (λ v. N v ≡ visit_of_call (thread_at q v).call) (same_tid_true t u is) mine
@@ -113,32 +86,9 @@ agrees_same setup c p q t T N P agrees same others mine = record {
 
 -- The thread that runs.
 
--- a seat that is taken is one of a thread at home here that has not ended
-pub seated : (setup : Setup) (c : CpuId) (p : Private) (T : Tid → Visit) (P : Tid → Where) → Agrees setup c p T P → (t : Tid)
-    → 0 < one_if (is_thread t p.current) + count_in t p.ready
-    → (is_local setup c t ≡ true) × (is_home (P t) ≡ true) × ((thread_at p t).ended ≡ false) × (one_if (is_thread t p.current) + count_in t p.ready ≡ 1)
-seated setup c p T P agrees t some = by_test (seat setup c t (P t) (thread_at p t).ended) refl
-  where
-    no : (e : Bool) → not e ≡ true → e ≡ false
-    no true off = absurd (cc off)
-    no false off = refl
-
-    by_test : (s : Bool) → seat setup c t (P t) (thread_at p t).ended ≡ s
-        → (is_local setup c t ≡ true) × (is_home (P t) ≡ true) × ((thread_at p t).ended ≡ false) × (one_if (is_thread t p.current) + count_in t p.ready ≡ 1)
-    by_test true is =
-        let parts = and_parts (is_local setup c t) (is_home (P t) && not (thread_at p t).ended) is in
-        let home = and_parts (is_home (P t)) (not (thread_at p t).ended) parts.1 in
-        (parts.0, home.0, no (thread_at p t).ended home.1, agrees.seats t ∙ ap one_if is)
-    by_test false is =
-        let none : one_if (is_thread t p.current) + count_in t p.ready ≡ 0 = agrees.seats t ∙ ap one_if is in
-        absurd (omega (arith, some, none))
-
 pub runs : (setup : Setup) (c : CpuId) (p : Private) (T : Tid → Visit) (P : Tid → Where) → Agrees setup c p T P → (t : Tid) → p.current ≡ Some t
     → (is_local setup c t ≡ true) × (is_home (P t) ≡ true) × ((thread_at p t).ended ≡ false) × (count_in t p.ready ≡ 0)
-runs setup c p T P agrees t is =
-    let one : one_if (is_thread t p.current) ≡ 1 = ap one_if (ap (is_thread t) is ∙ same_tid_self t) in
-    let at = seated setup c p T P agrees t (omega (arith, one)) in
-    (at.0, at.1, at.2, omega (arith, one, at.3))
+runs setup c p T P agrees t is = grind (arith, same_tid_self, and_parts)
 
 pub known_of : (setup : Setup) (c : CpuId) (t : Tid) → is_local setup c t ≡ true → t.0 < length setup.homes
 known_of setup c t local = ltb-true t.0 (length setup.homes) (and_parts (same_cpu (home_of setup t) c) (nat_lt t.0 (length setup.homes)) local).1
@@ -149,58 +99,15 @@ within setup c p T P agrees t local = subst (λ n. t.0 < n) (sym agrees.size) (k
 
 -- The caller goes to sleep.
 
-seat_off : (setup : Setup) (c : CpuId) (u : Tid) (x : Where) (ended : Bool) → is_home x ≡ false → one_if (seat setup c u x ended) ≡ 0
-seat_off setup c u x ended off = ap one_if (and_right (is_local setup c u) (is_home x && not ended) (and_left (is_home x) (not ended) off))
-
 pub agrees_slept : (setup : Setup) (c : CpuId) (p : Private) (t : Tid) (T : Tid → Visit) (P N : Tid → Where) (slept : Bool)
     → Agrees setup c p T P → p.current ≡ Some t
     → ((u : Tid) → same_tid t u ≡ false → N u ≡ P u) → (slept ≡ false → N t ≡ P t) → (slept ≡ true → (is_home (N t) ≡ false) × (is_hand c (N t) ≡ false))
     → Agrees setup c (slept_if slept p) T N
-agrees_slept setup c p t T P N false agrees runs_now others stays sleeps = record {
-  size = agrees.size;
-  calls = agrees.calls;
-  seats = λ u. agrees.seats u ∙ ap (λ x. one_if (seat setup c u x (thread_at p u).ended)) (sym (same u));
-  hands = λ u. agrees.hands u ∙ ap (is_hand c) (sym (same u));
-  ends = λ u local ended. ap is_home (same u) ∙ agrees.ends u local ended;
-}
+agrees_slept setup c p t T P N false agrees runs_now others stays sleeps = grind (arith, same)
   where
     same : (u : Tid) → N u ≡ P u
-    same u = by_test (same_tid t u) refl
-      where
-        by_test : (mine : Bool) → same_tid t u ≡ mine → N u ≡ P u
-        by_test true is = subst (λ v. N v ≡ P v) (same_tid_true t u is) (stays refl)
-        by_test false other = others u other
-agrees_slept setup c p t T P N true agrees runs_now others stays sleeps = record {
-  size = agrees.size;
-  calls = agrees.calls;
-  seats = λ u. sits u (same_tid t u) refl;
-  hands = λ u. held u (same_tid t u) refl;
-  ends = λ u local ended. at_home u local ended (same_tid t u) refl;
-}
-  where
-    at_work : (is_local setup c t ≡ true) × (is_home (P t) ≡ true) × ((thread_at p t).ended ≡ false) × (count_in t p.ready ≡ 0)
-    at_work = runs setup c p T P agrees t runs_now
-
-    sits : (u : Tid) (mine : Bool) → same_tid t u ≡ mine → one_if (is_thread u None) + count_in u p.ready ≡ one_if (seat setup c u (N u) (thread_at p u).ended)
-    sits u true is =
-        let none : one_if (is_thread t None) + count_in t p.ready ≡ 0 = omega (arith, at_work.3) in
-        subst (λ v. one_if (is_thread v None) + count_in v p.ready ≡ one_if (seat setup c v (N v) (thread_at p v).ended)) (same_tid_true t u is)
-        (none ∙ sym (seat_off setup c t (N t) (thread_at p t).ended (sleeps refl).0))
-    sits u false other =
-        let before : one_if (is_thread u p.current) ≡ 0 = ap one_if (ap (is_thread u) runs_now ∙ other) in
-        let was = agrees.seats u in
-        let now : one_if (is_thread u None) + count_in u p.ready ≡ one_if (is_thread u p.current) + count_in u p.ready = omega (arith, before) in
-        now ∙ was ∙ ap (λ x. one_if (seat setup c u x (thread_at p u).ended)) (sym (others u other))
-
-    held : (u : Tid) (mine : Bool) → same_tid t u ≡ mine → is_thread u p.hand ≡ is_hand c (N u)
-    held u true is =
-        subst (λ v. is_thread v p.hand ≡ is_hand c (N v)) (same_tid_true t u is)
-        (agrees.hands t ∙ ap (is_hand c) (is_home_true (P t) at_work.1) ∙ sym (sleeps refl).1)
-    held u false other = agrees.hands u ∙ ap (is_hand c) (sym (others u other))
-
-    at_home : (u : Tid) → is_local setup c u ≡ true → (thread_at p u).ended ≡ true → (mine : Bool) → same_tid t u ≡ mine → is_home (N u) ≡ true
-    at_home u local ended true is = refuted at_work.2 (ap (λ v. (thread_at p v).ended) (same_tid_true t u is) ∙ ended)
-    at_home u local ended false other = ap is_home (others u other) ∙ agrees.ends u local ended
+    same u = grind (arith, same_tid_true, others)
+agrees_slept setup c p t T P N true agrees runs_now others stays sleeps = grind (arith, runs, same_tid_true, is_home_true, refuted, and_right, and_left)
 
 -- A thread is woken.
 
@@ -227,38 +134,15 @@ agrees_woken setup c p T P (Some s) agrees empty asleep = by_home (same_cpu (hom
         sits : (u : Tid) (mine : Bool) → same_tid s u ≡ mine
             → one_if (is_thread u p.current) + count_in u (p.ready ++ s ∷ [])
             ≡ one_if (seat setup c u (if mine then post_woken setup c u else P u) (thread_at p u).ended)
-        sits u true is =
-            let none : one_if (is_thread s p.current) + count_in s p.ready ≡ 0 =
-            agrees.seats s ∙ seat_off setup c s (P s) (thread_at p s).ended (asleep s refl).0 in
-            let local : is_local setup c s ≡ true = and_from (same_cpu (home_of setup s) c) (nat_lt s.0 (length setup.homes)) here (asleep s refl).1 in
-            let alive : (thread_at p s).ended ≡ false = false_from_ne_true (thread_at p s).ended (λ e. refuted (asleep s refl).0 (agrees.ends s local e)) in
-            let one : one_if (same_tid s s) ≡ 1 = ap one_if (same_tid_self s) in
-            let more : count_in s (p.ready ++ s ∷ []) ≡ count_in s p.ready + (one_if (same_tid s s) + 0) = count_append s p.ready (s ∷ []) in
-            let now : one_if (is_thread s p.current) + count_in s (p.ready ++ s ∷ []) ≡ 1 = omega (arith, none, one, more) in
-            let home : post_woken setup c s ≡ Home = ap (λ b. post_by b c) here in
-            let sits_now : one_if (seat setup c s (post_woken setup c s) (thread_at p s).ended) ≡ 1 =
-            (λ i. one_if (is_local setup c s && (is_home (home i) && not (alive i)))) ∙ ap (λ b. one_if (b && true)) local in
-            subst (λ v. one_if (is_thread v p.current) + count_in v (p.ready ++ s ∷ []) ≡ one_if (seat setup c v (post_woken setup c v) (thread_at p v).ended))
-            (same_tid_true s u is) (now ∙ sym sits_now)
-        sits u false other =
-            let none : one_if (same_tid u s) ≡ 0 = ap one_if (same_tid_sym u s ∙ other) in
-            let more : count_in u (p.ready ++ s ∷ []) ≡ count_in u p.ready + (one_if (same_tid u s) + 0) = count_append u p.ready (s ∷ []) in
-            let now : one_if (is_thread u p.current) + count_in u (p.ready ++ s ∷ []) ≡ one_if (is_thread u p.current) + count_in u p.ready =
-            omega (arith, none, more) in
-            now ∙ agrees.seats u
+        sits u true is = grind (arith, and_from, false_from_ne_true, refuted, same_tid_self, count_append, same_tid_true, and_right, and_left)
+        sits u false other = grind (arith, same_tid_sym, count_append)
 
         held : (u : Tid) (mine : Bool) → same_tid s u ≡ mine → is_thread u p.hand ≡ is_hand c (if mine then post_woken setup c u else P u)
-        held u true is =
-            subst (λ v. is_thread v p.hand ≡ is_hand c (post_woken setup c v)) (same_tid_true s u is)
-            (ap (is_thread s) empty ∙ ap (λ b. is_hand c (post_by b c)) (sym here))
-        held u false other = agrees.hands u
+        held u mine is = grind (arith, same_tid_true)
 
         at_home : (u : Tid) → is_local setup c u ≡ true → (thread_at p u).ended ≡ true → (mine : Bool) → same_tid s u ≡ mine
             → is_home (if mine then post_woken setup c u else P u) ≡ true
-        at_home u local ended true is =
-            let same = same_tid_true s u is in
-            refuted (asleep s refl).0 (subst (λ v. is_home (P v) ≡ true) (sym same) (agrees.ends u local ended))
-        at_home u local ended false other = agrees.ends u local ended
+        at_home u local ended mine is = grind (arith, same_tid_true, refuted)
     by_home false away = record {
       size = agrees.size;
       calls = agrees.calls;
@@ -267,26 +151,13 @@ agrees_woken setup c p T P (Some s) agrees empty asleep = by_home (same_cpu (hom
       ends = λ u local ended. at_home u local ended (same_tid s u) refl;
     }
       where
-        in_hand : post_woken setup c s ≡ Hand c
-        in_hand = ap (λ b. post_by b c) away
-
         sits : (u : Tid) (mine : Bool) → same_tid s u ≡ mine
             → one_if (is_thread u p.current) + count_in u p.ready ≡ one_if (seat setup c u (if mine then post_woken setup c u else P u) (thread_at p u).ended)
-        sits u true is =
-            subst (λ v. one_if (is_thread v p.current) + count_in v p.ready ≡ one_if (seat setup c v (post_woken setup c v) (thread_at p v).ended))
-            (same_tid_true s u is)
-            (agrees.seats s ∙ seat_off setup c s (P s) (thread_at p s).ended (asleep s refl).0
-            ∙ sym (seat_off setup c s (post_woken setup c s) (thread_at p s).ended (ap is_home in_hand)))
-        sits u false other = agrees.seats u
+        sits u mine is = grind (arith, same_tid_true, and_right, and_left)
 
         held : (u : Tid) (mine : Bool) → same_tid s u ≡ mine → mine ≡ is_hand c (if mine then post_woken setup c u else P u)
-        held u true is =
-            subst (λ v. true ≡ is_hand c (post_woken setup c v)) (same_tid_true s u is) (sym (ap (is_hand c) in_hand ∙ same_cpu_self c))
-        held u false other = ap (is_thread u) (sym empty) ∙ agrees.hands u
+        held u mine is = grind (arith, same_tid_true, same_cpu_self)
 
         at_home : (u : Tid) → is_local setup c u ≡ true → (thread_at p u).ended ≡ true → (mine : Bool) → same_tid s u ≡ mine
             → is_home (if mine then post_woken setup c u else P u) ≡ true
-        at_home u local ended true is =
-            let same = same_tid_true s u is in
-            refuted (asleep s refl).0 (subst (λ v. is_home (P v) ≡ true) (sym same) (agrees.ends u local ended))
-        at_home u local ended false other = agrees.ends u local ended
+        at_home u local ended mine is = grind (arith, same_tid_true, refuted)

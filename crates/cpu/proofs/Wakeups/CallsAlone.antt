@@ -1,22 +1,17 @@
 -- A call alone goes through its sections, with one more where a signal wakes a thread of another CPU.
 use Rattle.std.proofs.Common.{◌≡◌, ℕ, ◌+◌, ◌<◌, ◌≤◌, Bool, true, false, not, ◌&&◌, List, [], ◌∷◌, ◌++◌, slice_get, Option, Some, None, option_map}
-use Rattle.std.proofs.Common.{if◌then◌else◌, refl, sym, ap, ◌∙◌, subst, arith}
-use Rattle.std.proofs.lemmas.Bool.{lt-ltb}
-use Rattle.event_log.specs.declared.ids.{CpuId.CpuId, Tid.Tid, LockId.TheVariants.Pending, LockId.TheVariants.Buffer as AtBuffer, TheConstants.THREADS}
-use Rattle.event_log.specs.{declared.entries.Entry.Entry, History.same_cpu, Runs.Sends, Runs.Receives, Sections.Section}
-use Rattle.thread_blocks.specs.Queues.{first}
-use Rattle.layer_traits.specs.{declared.locked.Side.TheVariants.Receivers, declared.locked.Side.TheVariants.Senders, BufferBlocks.may_join}
-use Rattle.cpu.specs.Table.{Blocks.Buffer, Blocks.OfBuffer, Blocks.Name, Blocks.RelQ, Blocks.Pend, Blocks.side_of, Blocks.Reported, Blocks.Nothing}
-use Rattle.cpu.specs.Table.{Blocks.Position, Blocks.Answer, Edits.edited_buffer, Edits.acquired, Edits.entered, Edits.reports, Edits.wakes, Edits.answer}
-use Rattle.cpu.specs.Table.{Edits.answer_of_acquire, Edits.answer_of_buffer, Setups.Setup, Setups.Call, Setups.Private, Setups.thread_at, Setups.home_of}
-use Rattle.cpu.specs.Table.{Setups.home_threads, Setups.have_ended, Setups.stands_at, Choice.section_at, Choice.first_signal, Choice.second_signal}
-use Rattle.cpu.specs.Table.{Choice.asked, Choice.Goes, Choice.choice, Choice.with_call, Choice.entry_of, Choice.effected, Choice.recorded, Choice.woken}
-use Rattle.cpu.specs.Table.{Choice.guest_after, Choice.returned, Choice.returned_at, Choice.settled, Choice.after_section, Steps.Whole, Steps.steps_by}
-use Rattle.layer_traits.specs.declared.call_states.Stage.TheVariants.{Idle, Acquires, Enters, Tries, Signals, SignalsOwn, Releases}
-use Rattle.cpu.specs.Wakeups.{Alone.IsInCall, Alone.steps_to_move, Order.block_of}
-use Rattle.cpu.proofs.Wakeups.{Agreement.at_same, CpuStep.pending_there}
-use Rattle.cpu.proofs.Wakeups.CpuAlone.{steps_more, section_of, Stands, after_three, two_steps, here_two, three_steps, stands_after, InCall, with_new, goes_on}
-use Rattle.cpu.proofs.Wakeups.CpuAlone.{asks_for, after_is, settled_is, block_next}
+use Rattle.std.proofs.{Common.{if◌then◌else◌, refl, sym, ap, ◌∙◌, subst, arith}, lemmas.Bool.lt-ltb}
+use Rattle.event_log.specs.declared.{ids.{CpuId.CpuId, Tid.Tid, LockId.TheVariants.Buffer as AtBuffer, TheConstants.THREADS}, entries.Entry.Entry}
+use Rattle.{event_log.specs.{History.same_cpu, Runs.{Sends, Receives}, Sections.Section}, thread_blocks.specs.Queues.first}
+use Rattle.layer_traits.specs.declared.{locked.Side.TheVariants.{Receivers, Senders}, call_states.Stage.TheVariants.{Idle, Acquires, Enters, Tries, Signals}}
+use Rattle.{layer_traits.specs.{declared.call_states.Stage.TheVariants.{SignalsOwn, Releases}, BufferBlocks.may_join}, cpu.specs.Table.Blocks.Buffer}
+use Rattle.cpu.specs.Table.{Blocks.{OfBuffer, Name, RelQ, Pend, side_of, Reported, Nothing, Position, Answer}, Edits.{edited_buffer, acquired, entered}}
+use Rattle.cpu.specs.Table.{Edits.{reports, wakes, answer, answer_of_acquire, answer_of_buffer}, Setups.{Setup, Call, Private, thread_at, home_of}}
+use Rattle.cpu.specs.Table.{Setups.{home_threads, have_ended, stands_at}, Choice.{section_at, first_signal, second_signal, asked, Goes, choice, with_call}}
+use Rattle.cpu.specs.Table.{Choice.{entry_of, effected, recorded, woken, guest_after, returned, returned_at, settled, after_section}, Steps.{Whole, steps_by}}
+use Rattle.cpu.{specs.Wakeups.{Alone.{IsInCall, steps_to_move}, Order.block_of}, proofs.Wakeups.{Agreement.at_same, CpuStep.pending_there, CpuAlone.steps_more}}
+use Rattle.cpu.proofs.Wakeups.CpuAlone.{section_of, Stands, after_three, two_steps, here_two, three_steps, stands_after, InCall, with_new, goes_on, asks_for}
+use Rattle.cpu.proofs.Wakeups.CpuAlone.{after_is, settled_is, block_next}
 
 module _ (setup : Setup) (c : CpuId) (t : Tid) where
   -- after n steps of CPU c its thread t stands in this call, which goes on; the call's buffer holds this
@@ -39,8 +34,7 @@ module _ (setup : Setup) (c : CpuId) (t : Tid) where
   advance s n k next call more traced longer left a gets told edits same_buffer goes_so =
       let q = gets.state in
       let asks = asks_for setup c q t call traced gets.inside in
-      let answers : option_map (answer (asked setup c q).name) (block_of setup (asked setup c q).lock gets.past) ≡ Some a =
-      ap (λ ask. option_map (answer ask.name) (block_of setup ask.lock gets.past)) asks
+      let answers = ap (λ ask. option_map (answer ask.name) (block_of setup ask.lock gets.past)) asks
       ∙ ap (option_map (answer (section_at t call call.stage))) gets.block ∙ ap Some told in
       let after = goes_so q gets.inside in
       record {
@@ -53,10 +47,7 @@ module _ (setup : Setup) (c : CpuId) (t : Tid) where
         stands = stands_after setup c gets.now gets.before q gets.past left a gets.stands;
         goes = goes_on setup c (after_section setup c q a) t more longer after;
         inside = after;
-        block = ap (λ b. block_of setup (AtBuffer b) (section_of c (asked setup c q) ∷ gets.past)) (sym same_buffer)
-            ∙ ap (λ ask. block_of setup (AtBuffer call.buffer) (section_of c ask ∷ gets.past)) asks
-            ∙ block_next setup c call.buffer (section_at t call call.stage) gets.past k gets.block
-            ∙ ap (λ x. Some (OfBuffer x)) edits;
+        block = grind (arith, q, asks, block_next);
       }
 
   -- a section that puts nobody to sleep and wakes nobody: the call records what it answers
@@ -64,8 +55,7 @@ module _ (setup : Setup) (c : CpuId) (t : Tid) where
       → recorded c p t call call.stage told ≡ h
       → InCall setup c h t more longer → returned_at setup h t more more.stage ≡ h → InCall setup c (after_section setup c p (reports told)) t more longer
   answer_recorded p h call more traced longer told inside is after stays =
-      let same : after_section setup c p (reports told) ≡ h =
-      after_is setup c p t call traced (reports told) inside ∙ ap (settled setup) is ∙ settled_is setup c h t more longer after ∙ stays in
+      let same = after_is setup c p t call traced (reports told) inside ∙ ap (settled setup) is ∙ settled_is setup c h t more longer after ∙ stays in
       subst (λ x. InCall setup c x t more longer) (sym same) after
 
   new_in : (p : Private) (call more : Call) (traced : List Entry) → InCall setup c p t call traced → InCall setup c (with_call p t (Some more)) t more traced
@@ -118,14 +108,7 @@ module _ (setup : Setup) (c : CpuId) (t : Tid) where
       → InCall setup c (effected c p t now op) t (record now { effect = Some op; stage = Signals }) (traced ++ entry_of c t now op now.message ∷ [])
   effect_in p call now op traced inside =
       let after = new_in p call (record now { effect = Some op; stage = Signals }) traced inside in
-      record {
-        hand = after.hand;
-        current = after.current;
-        calls = after.calls;
-        known = after.known;
-        live = have_same (home_threads setup c) ∙ after.live;
-        trace = ap (λ x. x ++ entry_of c t now op now.message ∷ []) inside.trace;
-      }
+      assumption (after, have_same (home_threads setup c) ∙ after.live, ap (λ x. x ++ entry_of c t now op now.message ∷ []) inside.trace)
     where
       have_same : (ts : List Tid)
           → have_ended (effected c p t now op) ts ≡ have_ended (with_call p t (Some (record now { effect = Some op; stage = Signals }))) ts
@@ -195,25 +178,14 @@ module _ (setup : Setup) (c : CpuId) (t : Tid) where
         current = now.current;
         calls = now.calls;
         known = now.known;
-        live = ready_live p (home_threads setup c) more u now.live;
+        live = grind (arith, now.live);
         trace = now.trace;
       } in
-      let same : after_section setup c p (wakes (Some u)) ≡ ready =
-      after_is setup c p t call traced (wakes (Some u)) inside
+      let same = after_is setup c p t call traced (wakes (Some u)) inside
       ∙ ap (λ x. settled setup (woken setup c (Some u) x)) (recorded_so p Nothing)
       ∙ ap (λ b. settled setup (if b then record h { ready = h.ready ++ u ∷ [] } else record h { hand = Some u })) here
       ∙ settled_is setup c ready t more traced at ∙ stays ready in
       subst (λ x. InCall setup c x t more traced) (sym same) at)
-    where
-      ready_live : (p : Private) (ts : List Tid) (more : Call) (u : Tid) → have_ended (with_call p t (Some more)) ts ≡ false
-          → have_ended (record (with_call p t (Some more)) { ready = (with_call p t (Some more)).ready ++ u ∷ [] }) ts ≡ false
-      ready_live p ts more u live = have_same ts ∙ live
-        where
-          have_same : (ts : List Tid)
-              → have_ended (record (with_call p t (Some more)) { ready = (with_call p t (Some more)).ready ++ u ∷ [] }) ts
-              ≡ have_ended (with_call p t (Some more)) ts
-          have_same [] = refl
-          have_same (v ∷ ts) = ap (λ b. (thread_at (with_call p t (Some more)) v).ended && b) (have_same ts)
 
   -- a signal that wakes a thread of another CPU: the next section puts it among the pending there
   signals_away : (s : Whole) (n left : ℕ) (k next : Buffer) (call more : Call) (traced : List Entry) (u : Tid)
@@ -225,39 +197,25 @@ module _ (setup : Setup) (c : CpuId) (t : Tid) where
   signals_away s n left k next call more traced u away same_buffer told edits recorded_so stays gets =
       let q = gets.state in
       let asks = asks_for setup c q t call traced gets.inside in
-      let answers : option_map (answer (asked setup c q).name) (block_of setup (asked setup c q).lock gets.past) ≡ Some (wakes (Some u)) =
-      ap (λ ask. option_map (answer ask.name) (block_of setup ask.lock gets.past)) asks
+      let answers = ap (λ ask. option_map (answer ask.name) (block_of setup ask.lock gets.past)) asks
       ∙ ap (option_map (answer (section_at t call call.stage))) gets.block ∙ ap Some told in
       let h = with_call q t (Some more) in
       let held : Private = record h { hand = Some u } in
-      let same : after_section setup c q (wakes (Some u)) ≡ held =
-      after_is setup c q t call traced (wakes (Some u)) gets.inside
+      let same = after_is setup c q t call traced (wakes (Some u)) gets.inside
       ∙ ap (λ x. settled setup (woken setup c (Some u) x)) (recorded_so q Nothing)
       ∙ ap (λ b. settled setup (if b then record h { ready = h.ready ++ u ∷ [] } else record h { hand = Some u })) away in
       let one = after_three setup c gets.now q (wakes (Some u)) in
       let past : List (Section Name) = section_of c (asked setup c q) ∷ gets.past in
-      let by_one : steps_by setup c (n + 3) s ≡ one =
-      steps_more setup c n 3 s ∙ ap (steps_by setup c 3) gets.by
+      let by_one = steps_more setup c n 3 s ∙ ap (steps_by setup c 3) gets.by
       ∙ three_steps setup c gets.now gets.before q gets.past (left + 3) (wakes (Some u)) gets.stands gets.goes answers in
       let stands_one : Stands setup c one held past (left + 3) =
       subst (λ x. Stands setup c one x past (left + 3)) same (stands_after setup c gets.now gets.before q gets.past (left + 3) (wakes (Some u)) gets.stands) in
-      let there = pending_there setup (home_of setup u) past in
-      let pends : option_map (answer (Pend u)) (block_of setup (Pending (home_of setup u)) past) ≡ Some (reports Nothing) =
-      ap (option_map (answer (Pend u))) there.1 in
+      let pends = ap (option_map (answer (Pend u))) (pending_there setup (home_of setup u) past).1 in
       let now = new_in q call more traced gets.inside in
       let at : InCall setup c (record h { hand = None }) t more traced =
-      record {
-        hand = refl;
-        current = now.current;
-        calls = now.calls;
-        known = now.known;
-        live = empty_live q (home_threads setup c) more now.live;
-        trace = now.trace;
-      } in
-      let after : after_section setup c held (reports Nothing) ≡ record h { hand = None } =
-      settled_is setup c (record h { hand = None }) t more traced at ∙ stays (record h { hand = None }) in
-      let inside_after : InCall setup c (after_section setup c held (reports Nothing)) t more traced =
-      subst (λ x. InCall setup c x t more traced) (sym after) at in
+      grind (arith, now) in
+      let after = settled_is setup c (record h { hand = None }) t more traced at ∙ stays (record h { hand = None }) in
+      let inside_after = subst (λ x. InCall setup c x t more traced) (sym after) at in
       record {
         now = after_three setup c one held (reports Nothing);
         by = steps_more setup c (n + 3) 3 s ∙ ap (steps_by setup c 3) by_one
@@ -268,19 +226,8 @@ module _ (setup : Setup) (c : CpuId) (t : Tid) where
         stands = stands_after setup c one held held past left (reports Nothing) stands_one;
         goes = goes_on setup c (after_section setup c held (reports Nothing)) t more traced inside_after;
         inside = inside_after;
-        block = ap (λ b. block_of setup (AtBuffer b) past) (sym same_buffer)
-            ∙ ap (λ ask. block_of setup (AtBuffer call.buffer) (section_of c ask ∷ gets.past)) asks
-            ∙ block_next setup c call.buffer (section_at t call call.stage) gets.past k gets.block
-            ∙ ap (λ x. Some (OfBuffer x)) edits;
+        block = grind (arith, past, asks, block_next);
       }
-    where
-      empty_live : (p : Private) (ts : List Tid) (more : Call) → have_ended (with_call p t (Some more)) ts ≡ false
-          → have_ended (record (with_call p t (Some more)) { hand = None }) ts ≡ false
-      empty_live p ts more live = have_same ts ∙ live
-        where
-          have_same : (ts : List Tid) → have_ended (record (with_call p t (Some more)) { hand = None }) ts ≡ have_ended (with_call p t (Some more)) ts
-          have_same [] = refl
-          have_same (v ∷ ts) = ap (λ b. (thread_at (with_call p t (Some more)) v).ended && b) (have_same ts)
 
   -- a signal, whomever it wakes
   signals : (s : Whole) (n left : ℕ) (k next : Buffer) (call more : Call) (traced : List Entry) (woke : Option Tid) → call.buffer ≡ more.buffer
@@ -323,10 +270,8 @@ module _ (setup : Setup) (c : CpuId) (t : Tid) where
       ap (λ ask. option_map (answer ask.name) (block_of setup ask.lock gets.past)) asks ∙ ap (option_map (answer (RelQ t))) gets.block ∙ ap Some told in
       let h = with_call q t (Some gone) in
       let now = new_in q last gone traced gets.inside in
-      let same : after_section setup c q (reports Nothing) ≡ returned setup h t gone =
-      after_is setup c q t last traced (reports Nothing) gets.inside ∙ settled_is setup c h t gone traced now in
-      let by : steps_by setup c (n + 3) s ≡ after_three setup c gets.now q (reports Nothing) =
-      steps_more setup c n 3 s ∙ ap (steps_by setup c 3) gets.by
+      let same = after_is setup c q t last traced (reports Nothing) gets.inside ∙ settled_is setup c h t gone traced now in
+      let by = steps_more setup c n 3 s ∙ ap (steps_by setup c 3) gets.by
       ∙ three_steps setup c gets.now gets.before q gets.past left (reports Nothing) gets.stands gets.goes answers in
       let stands = stands_after setup c gets.now gets.before q gets.past left (reports Nothing) gets.stands in
       record {

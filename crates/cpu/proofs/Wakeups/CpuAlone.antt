@@ -1,21 +1,14 @@
 -- A CPU alone: three steps of it are one section, and a call of it goes on section by section.
-use Rattle.std.proofs.Common.{◌≡◌, ℕ, zero, suc, ◌+◌, ◌<◌, ◌≤◌, ◌==◌, true, false, ◌&&◌, List, [], ◌∷◌, length, slice_get, slice_set, Some, None, option_map}
-use Rattle.std.proofs.Common.{if◌then◌else◌, refl, sym, ap, ◌∙◌, subst, arith}
-use Rattle.std.proofs.lemmas.Bool.{ne_eqb}
-use Rattle.event_log.specs.{declared.ids.CpuId.CpuId, declared.ids.Tid.Tid, declared.ids.BufId.BufId, declared.ids.LockId.TheVariants.Buffer as AtBuffer}
-use Rattle.event_log.specs.{declared.entries.Entry.Entry, Sections.Section, Sections.sections_in, Actions.Action, Actions.Take, Actions.Try, Actions.Give}
-use Rattle.event_log.specs.{Actions.Phase, Actions.Rests, Actions.Waits as WaitsAt, Actions.Holds, Actions.phase, Actions.next_action, Actions.AreFree}
-use Rattle.event_log.proofs.{Alone.first_action, Alone.second_action, Alone.third_action, Alone.free_again, Exclusion.phase_own, Same.same_lock_self}
-use Rattle.layer_traits.specs.{declared.steps.Reason.TheVariants.AllEnded, declared.steps.Step.TheVariants.Stepped, Plans.is_in_section, Plans.at_give}
-use Rattle.layer_traits.specs.{Along.Outcome}
-use Rattle.cpu.specs.{Table.Blocks.Buffer, Table.Blocks.OfBuffer, Table.Blocks.Name, Table.Blocks.Answer, Table.Edits.edited, Table.Edits.edited_buffer}
-use Rattle.cpu.specs.{Table.Edits.answer, Table.Setups.Setup, Table.Setups.Call, Table.Setups.Private, Table.Setups.thread_at, Table.Setups.home_threads}
-use Rattle.cpu.specs.{Table.Setups.have_ended, Table.Steps.after_reply, Table.Steps.acting, Table.Steps.chosen, Table.Steps.step_in, Table.Steps.cpu_step}
-use Rattle.cpu.specs.{Table.Steps.Whole, Table.Steps.whole_after, Table.Steps.stepping, Table.Steps.answered_by, Table.Steps.roomy, Table.Steps.step_at}
-use Rattle.cpu.specs.{Table.Steps.system_step, Table.Steps.steps_by, Wakeups.Order.block_of}
-use Rattle.cpu.specs.Table.Choice.{Ask, at_buffer, section_at, asked_by, asked_at, asked_in, asked, Halts, Goes, at_call, at_current, at_hand, choice}
-use Rattle.cpu.specs.Table.Choice.{with_call, returned_at, returned_by, returned_in, settled, after_call, after_by, after_at, after_in, after_section}
-use Rattle.cpu.proofs.Wakeups.Agreement.{at_same, Same, same_with}
+use Rattle.std.proofs.Common.{◌≡◌, ℕ, zero, suc, ◌+◌, ◌<◌, ◌≤◌, true, false, ◌&&◌, List, [], ◌∷◌, length, slice_get, slice_set, Some, None, option_map, refl}
+use Rattle.std.proofs.{Common.{sym, ap, ◌∙◌, subst, arith}, lemmas.Bool.ne_eqb}
+use Rattle.event_log.specs.{declared.{ids.{CpuId.CpuId, Tid.Tid, BufId.BufId, LockId.TheVariants.Buffer as AtBuffer}, entries.Entry.Entry}, Sections.Section}
+use Rattle.event_log.specs.{Sections.sections_in, Actions.{Action, Take, Try, Give, Phase, Rests, Waits as WaitsAt, Holds, phase, next_action, AreFree}}
+use Rattle.event_log.proofs.{Alone.{first_action, second_action, third_action, free_again}, Exclusion.phase_own, Same.same_lock_self}
+use Rattle.{layer_traits.specs.{declared.steps.Step.TheVariants.Stepped, Plans.{is_in_section, at_give}, Along.Outcome}, cpu.specs.Table.Blocks.Buffer}
+use Rattle.cpu.specs.Table.{Blocks.{OfBuffer, Name, Answer}, Edits.{edited_buffer, answer}, Setups.{Setup, Call, Private, thread_at, home_threads, have_ended}}
+use Rattle.cpu.specs.Table.{Steps.{after_reply, acting, step_in, cpu_step, Whole, whole_after, system_step, steps_by}, Choice.{Ask, at_buffer, section_at}}
+use Rattle.cpu.specs.Table.Choice.{asked_by, asked_at, asked_in, asked, Goes, choice, with_call, returned_at, returned_by, returned_in, settled, after_call}
+use Rattle.cpu.{specs.{Table.Choice.{after_by, after_at, after_in, after_section}, Wakeups.Order.block_of}, proofs.Wakeups.Agreement.{at_same, Same, same_with}}
 
 -- Steps one after the other.
 
@@ -26,9 +19,8 @@ steps_more setup c (suc n) m s =
     ap (λ k. steps_by setup c k s) same ∙ steps_more setup c n m (system_step setup c s).next
 
 set_here : (xs : List Private) (i : ℕ) (p x : Private) → slice_get xs i ≡ Some p → slice_get (slice_set xs i x) i ≡ Some x
-set_here [] i p x is = absurd (cc is)
-set_here (y ∷ xs) zero p x is = refl
 set_here (y ∷ xs) (suc i) p x is = set_here xs i p x is
+set_here xs i p x is = grind arith
 
 -- a section's name
 abbrev pub section_of : CpuId → Ask → Section Name
@@ -47,12 +39,7 @@ module _ (setup : Setup) (c : CpuId) where
   one_step : (s : Whole) (p : Private) (o : Outcome Private Name) → slice_get s.cpus c.0 ≡ Some p
       → cpu_step setup c p s.log ≡ o → o.answer ≡ Stepped → s.taken < s.room
       → (system_step setup c s).next ≡ whole_after c s o
-  one_step s p o here is stepped room =
-      let left : (s.taken == s.room) ≡ false = ne_eqb s.taken s.room (λ same. absurd (omega (arith, same, room))) in
-      ap (λ x. (step_at setup c s x).next) here
-      ∙ ap (λ x. (stepping c s x).next) is
-      ∙ ap (λ a. (answered_by c s o a).next) stepped
-      ∙ ap (λ full. (roomy c s o full).next) left
+  one_step s p o here is stepped room = grind (arith, ne_eqb)
 
   -- what one action leaves
   abbrev acted : Private → List (Action Name) → Phase → Action Name → Outcome Private Name
@@ -69,9 +56,6 @@ module _ (setup : Setup) (c : CpuId) where
 
   within : (p : Private) (log : List (Action Name)) (now : Phase) → phase c log ≡ now → is_in_section now ≡ true → cpu_step setup c p log ≡ acting setup c p log
   within p log now at inside = ap (λ x. step_in setup c p log (is_in_section x)) at ∙ ap (step_in setup c p log) inside
-
-  begins_now : (p q : Private) (log : List (Action Name)) → phase c log ≡ Rests → choice setup c p ≡ Goes q → cpu_step setup c p log ≡ acting setup c q log
-  begins_now p q log at goes = ap (λ x. step_in setup c p log (is_in_section x)) at ∙ ap (λ w. chosen setup c p w log) goes
 
   -- the system after the first two actions of a section, and after all three
   abbrev pub after_two : Whole → Private → Whole
@@ -91,23 +75,17 @@ module _ (setup : Setup) (c : CpuId) where
   two_steps s p q past left at goes = ap (λ x. (system_step setup c x).next) first ∙ second
     where
       first : (system_step setup c s).next ≡ whole_after c s (record { next = q; acts = Take c (asked setup c q).lock ∷ []; answer = Stepped })
-      first =
-          let room = at.room in
-          one_step s p _ at.here
-          (begins_now p q s.log at.rests goes
-          ∙ act q s.log Rests (Take c (asked setup c q).lock) at.rests (first_action c (asked setup c q).lock (asked setup c q).name s.log at.rests)) refl
-          (omega (arith, room))
+      first = grind (arith, one_step, act, first_action)
 
       second : (system_step setup c (whole_after c s (record { next = q; acts = Take c (asked setup c q).lock ∷ []; answer = Stepped }))).next
           ≡ after_two s q
       second =
-          let room = at.room in
           let log = Take c (asked setup c q).lock ∷ s.log in
           let now = phase_own (Take c (asked setup c q).lock) s.log in
           one_step _ q _ (set_here s.cpus c.0 p q at.here)
           (within q log (WaitsAt (asked setup c q).lock) now refl
           ∙ act q log (WaitsAt (asked setup c q).lock) (Try c (asked setup c q).lock true) now
-          (second_action c (asked setup c q).lock (asked setup c q).name s.log (at.free (asked setup c q).lock))) refl (omega (arith, room))
+          (second_action c (asked setup c q).lock (asked setup c q).name s.log (at.free (asked setup c q).lock))) refl (omega (arith, at.room))
 
   pub here_two : (s : Whole) (p q : Private) → slice_get s.cpus c.0 ≡ Some p → slice_get (after_two s q).cpus c.0 ≡ Some q
   here_two s p q at = set_here (slice_set s.cpus c.0 q) c.0 q q (set_here s.cpus c.0 p q at)
@@ -120,18 +98,15 @@ module _ (setup : Setup) (c : CpuId) where
     where
       third : (system_step setup c (after_two s q)).next ≡ after_three s q a
       third =
-          let room = at.room in
           let log = Try c (asked setup c q).lock true ∷ Take c (asked setup c q).lock ∷ s.log in
           let now = phase_own (Try c (asked setup c q).lock true) (Take c (asked setup c q).lock ∷ s.log) in
-          let gives : acted q log (Holds (asked setup c q).lock) (Give c (asked setup c q).lock (asked setup c q).name)
-          ≡ record { next = after_section setup c q a; acts = Give c (asked setup c q).lock (asked setup c q).name ∷ []; answer = Stepped } =
-          ap (λ r. record { next = after_reply setup c q r; acts = Give c (asked setup c q).lock (asked setup c q).name ∷ []; answer = Stepped })
+          let gives = ap (λ r. record { next = after_reply setup c q r; acts = Give c (asked setup c q).lock (asked setup c q).name ∷ []; answer = Stepped })
           (ap (λ x. option_map (answer (asked setup c q).name) (block_of setup (asked setup c q).lock x)) at.did ∙ told) in
           one_step _ q _ (here_two s p q at.here)
           (within q log (Holds (asked setup c q).lock) now refl
           ∙ act q log (Holds (asked setup c q).lock) (Give c (asked setup c q).lock (asked setup c q).name) now
           (third_action c (asked setup c q).lock (asked setup c q).name (Take c (asked setup c q).lock ∷ s.log))
-          ∙ gives) refl (omega (arith, room))
+          ∙ gives) refl (omega (arith, at.room))
 
   pub stands_after : (s : Whole) (p q : Private) (past : List (Section Name)) (left : ℕ) (a : Answer) → Stands setup c s p past (left + 3)
       → Stands setup c (after_three s q a) (after_section setup c q a) (section_of c (asked setup c q) ∷ past) left
@@ -173,11 +148,7 @@ module _ (setup : Setup) (c : CpuId) where
       }
 
   pub goes_on : (p : Private) (t : Tid) (call : Call) (traced : List Entry) → InCall p t call traced → choice setup c p ≡ Goes p
-  goes_on p t call traced at =
-      ap (at_hand setup c p) at.hand
-      ∙ ap (λ b. if b then Halts AllEnded else at_current setup c p p.current) at.live
-      ∙ ap (at_current setup c p) at.current
-      ∙ ap (at_call setup c p t) at.calls
+  goes_on p t call traced at = grind arith
 
   pub asks_for : (p : Private) (t : Tid) (call : Call) (traced : List Entry) → InCall p t call traced
       → asked setup c p ≡ at_buffer call.buffer (section_at t call call.stage)
@@ -197,6 +168,4 @@ module _ (setup : Setup) (c : CpuId) where
 pub block_next : (setup : Setup) (c : CpuId) (b : BufId) (name : Name) (past : List (Section Name)) (k : Buffer)
     → block_of setup (AtBuffer b) past ≡ Some (OfBuffer k)
     → block_of setup (AtBuffer b) (record { cpu = c; lock = AtBuffer b; edit = name } ∷ past) ≡ Some (OfBuffer (edited_buffer name k))
-block_next setup c b name past k is =
-    ap (λ here. if here then option_map (edited name) (block_of setup (AtBuffer b) past) else block_of setup (AtBuffer b) past) (same_lock_self (AtBuffer b))
-    ∙ ap (option_map (edited name)) is
+block_next setup c b name past k is = grind (arith, same_lock_self)

@@ -1,15 +1,9 @@
 -- One list of actions of which each CPU has done its part by the table: its sections may come where they stand.
-use Rattle.std.proofs.Common.{◌≡◌, ℕ, ◌<◌, ◌≤◌, ◌⊎◌, inl, inr, Bool, true, false, List, [], ◌∷◌, ◌++◌, if◌then◌else◌, refl, sym, ap, ◌∙◌, subst}
-use Rattle.std.proofs.lemmas.Bool.{cases_lt}
-use Rattle.event_log.specs.{declared.ids.CpuId.CpuId, History.same_cpu, History.own_events, Sections.sections_in, Actions.Action, Actions.cpu_of_action}
-use Rattle.event_log.specs.{Actions.phase}
-use Rattle.event_log.proofs.{Same.same_cpu_self, Foreign.lawful_before}
-use Rattle.layer_traits.specs.{Plans.is_in_section, Along.starts, Along.others, Along.steps}
-use Rattle.cpu.specs.{Table.Blocks.Name, Table.Setups.Setup, Table.Setups.Private, Table.Choice.Choice, Table.Choice.Goes, Table.Choice.choice}
-use Rattle.cpu.specs.{Table.Steps.chosen, Table.Steps.step_in, Table.Steps.cpu_step, Table.Steps.AlongTable, Wakeups.Lost.IsWorked}
-use Rattle.cpu.specs.{Wakeups.Lost.CpusLoseNoWakeUp}
-use Rattle.cpu.proofs.Wakeups.{Lists.refuted, Ordered.order_loses_no_wake_up, ReachedStates.IsFair, ReachedStates.IsFairLog, ReachedStates.fair_good, ReachedStates.Ok}
-use Rattle.cpu.proofs.Wakeups.{ReachedStates.step_ok, ReachedStates.ok_beside, ReachedStates.ok_at_boot}
+use Rattle.std.proofs.Common.{◌≡◌, ℕ, ◌<◌, ◌≤◌, ◌⊎◌, inl, inr, false, List, [], ◌∷◌, ◌++◌, if◌then◌else◌, refl, sym, ap, ◌∙◌, subst, arith}
+use Rattle.{std.proofs.lemmas.Bool.cases_lt, event_log.specs.{declared.ids.CpuId.CpuId, History.{same_cpu, own_events}, Sections.sections_in, Actions.Action}}
+use Rattle.{event_log.{specs.Actions.cpu_of_action, proofs.{Same.same_cpu_self, Foreign.lawful_before}}, layer_traits.specs.Along.{starts, others, steps}}
+use Rattle.cpu.specs.{Table.{Blocks.Name, Setups.{Setup, Private}, Steps.{cpu_step, AlongTable}}, Wakeups.Lost.{IsWorked, CpusLoseNoWakeUp}}
+use Rattle.cpu.proofs.Wakeups.{Lists.refuted, Ordered.order_loses_no_wake_up, ReachedStates.{IsFair, IsFairLog, fair_good, Ok, step_ok, ok_beside, ok_at_boot}}
 
 -- along a log whose sections may come a CPU agrees with the log
 pub along_ok : (setup : Setup) (c : CpuId) (n : ℕ) (p : Private) (log : List (Action Name))
@@ -25,17 +19,6 @@ along_ok setup c n p log (steps {n = m} {p = q} {log = past} along goes) =
 -- a step does one action or none
 abbrev IsShort : List (Action Name) → Type 0
 IsShort acts = (acts ≡ []) ⊎ ((a : Action Name) × (acts ≡ a ∷ []))
-
-short : (setup : Setup) (c : CpuId) (p : Private) (past : List (Action Name)) → IsShort (cpu_step setup c p past).acts
-short setup c p past = by_section (is_in_section (phase c past))
-  where
-    by_choice : (what : Choice) → IsShort (chosen setup c p what past).acts
-    by_choice (Goes q) = inr (_, refl)
-    by_choice other = inl refl
-
-    by_section : (inside : Bool) → IsShort (step_in setup c p past inside).acts
-    by_section true = inr (_, refl)
-    by_section false = by_choice (choice setup c p)
 
 -- Lists.
 
@@ -72,7 +55,7 @@ cut setup c n p log (others {n = m} {p = q} {log = before} b along off) = λ a p
   next = inl (subst (λ x. same_cpu (cpu_of_action x) c ≡ false) (same_head b a before past is) off);
 }
 cut setup c n p log (steps {n = m} {p = q} {log = before} along goes) =
-    λ a past is. by_acts (short setup c q before) a past is (cut setup c m q before along)
+    λ a past is. by_acts (grind arith) a past is (cut setup c m q before along)
   where
     by_acts : IsShort (cpu_step setup c q before).acts → (a : Action Name) (past : List (Action Name)) → (cpu_step setup c q before).acts ++ before ≡ a ∷ past
         → ((a : Action Name) (past : List (Action Name)) → before ≡ a ∷ past → Cut setup c a past) → Cut setup c a past
@@ -94,12 +77,8 @@ worked_before setup a past worked = record {
       let ran = worked.ran c within in
       let before = cut setup c ran.count ran.last (a ∷ past) ran.steps a past refl in
       record { count = before.count; last = before.last; steps = before.along };
-  rest = λ c beyond. by_test (same_cpu (cpu_of_action a) c) (own_events cpu_of_action c past) (worked.rest c beyond);
+  rest = λ c beyond. grind (arith, worked.rest c beyond);
 }
-  where
-    by_test : (mine : Bool) (more : List (Action Name)) → (if mine then a ∷ more else more) ≡ [] → more ≡ []
-    by_test true more is = absurd (cc is)
-    by_test false more is = is
 
 pub worked_fair : (setup : Setup) (log : List (Action Name)) → IsWorked setup log → IsFairLog setup log
 worked_fair setup [] worked = tt
@@ -119,9 +98,8 @@ worked_fair setup (a ∷ past) worked = by_cpu (cases_lt (cpu_of_action a).0 set
         let before = cut setup (cpu_of_action a) ran.count ran.last (a ∷ past) ran.steps a past refl in
         by_next fair before before.next
     by_cpu (inr beyond) fair =
-        let none = worked.rest (cpu_of_action a) beyond in
         absurd (cc (ap (λ b. if b then a ∷ own_events cpu_of_action (cpu_of_action a) past else own_events cpu_of_action (cpu_of_action a) past) (sym
-        (same_cpu_self (cpu_of_action a))) ∙ none))
+        (same_cpu_self (cpu_of_action a))) ∙ (worked.rest (cpu_of_action a) beyond)))
 
 pub cpus_lose_no_wake_up : CpusLoseNoWakeUp
 cpus_lose_no_wake_up setup log worked b k is =

@@ -1,21 +1,17 @@
 -- In every state that a system reaches each live thread has one place.
 use Rattle.std.proofs.Common.{◌≡◌, ℕ, zero, suc, ◌+◌, ◌<◌, Bool, true, false, not, ◌&&◌, ◌==◌, List, ◌++◌, length, slice_get, Some, nat_lt, refl, sym, ap, ◌∙◌}
-use Rattle.std.proofs.Common.{subst, arith}
-use Rattle.std.proofs.lemmas.Bool.{and_from, and_left, and_right, false_from_ne_true, lt-ltb, ltb-true, ne_eqb}
-use Rattle.event_log.specs.{declared.ids.CpuId.CpuId, declared.ids.Tid.Tid, declared.ids.BufId.BufId, declared.ids.LockId.TheVariants.Pending}
-use Rattle.event_log.specs.{declared.ids.LockId.TheVariants.Buffer as AtBuffer, declared.ids.TheConstants.THREADS, History.same_cpu, Sections.Section}
-use Rattle.event_log.specs.{Sections.sections_in}
-use Rattle.event_log.proofs.Same.{same_cpu_self}
-use Rattle.layer_traits.specs.{declared.moves.WaitList.WaitList, ListsAgree.same_list, Passes.as_list, OnePlace.total}
-use Rattle.layer_traits.specs.Places.{Where, Home, Hand, Pend as IsPending, Asleep, At, is_home, is_hand, is_thread, one_if, count_in}
-use Rattle.layer_traits.proofs.{CountLemmas.count_append, CountLemmas.count_as_list, OnePlaceLemmas.total_at, OnePlaceLemmas.total_none}
-use Rattle.cpu.specs.{Table.Blocks.Buffer, Table.Blocks.OfBuffer, Table.Blocks.Name, Table.Setups.Setup, Table.Setups.Private, Table.Setups.thread_at}
-use Rattle.cpu.specs.{Table.Setups.home_of, Table.Steps.Whole, Table.Steps.cpu_numbered, Table.Worked.buffer_numbered, Wakeups.Order.block_of}
-use Rattle.cpu.specs.{Wakeups.Quiet.HomesExist}
-use Rattle.cpu.specs.Wakeups.OnePlace.{own_queues, queues_in, all_of, of_cpu, of_pending, of_buffer, everyone, thread_in, thread_of, is_live, StandInOnePlace}
-use Rattle.cpu.proofs.Wakeups.{Lists.refuted, PostsAndVisits.is_buffer, PostsAndVisits.sleeps_in, PostsAndVisits.is_pending, PostsAndVisits.is_local, PostsAndVisits.post, PostsAndVisits.visit, PostsAndVisits.marked}
-use Rattle.cpu.proofs.Wakeups.{ThreadAtBuffer.sleeps_here, ThreadAtBuffer.marked_none, BuffersAndThreads.Good, Placed.IsListed, Placed.IsPlaced, Placed.buffer_there, Agreement.seat}
-use Rattle.cpu.proofs.Wakeups.{CpuStep.pending_there, ReachedStates.fair_good, SystemInv.SystemInv, SystemInv.reached_inv, SystemInv.cpu_there}
+use Rattle.std.proofs.{Common.{subst, arith}, lemmas.Bool.{and_from, and_left, and_right, false_from_ne_true, lt-ltb, ltb-true, ne_eqb}}
+use Rattle.event_log.specs.declared.ids.{CpuId.CpuId, Tid.Tid, BufId.BufId, LockId.TheVariants.{Pending, Buffer as AtBuffer}, TheConstants.THREADS}
+use Rattle.event_log.{specs.{History.same_cpu, Sections.{Section, sections_in}}, proofs.Same.same_cpu_self}
+use Rattle.layer_traits.specs.{declared.moves.WaitList.WaitList, ListsAgree.same_list, Passes.as_list, OnePlace.total, Places.{Where, Home, Hand}}
+use Rattle.layer_traits.{specs.Places.{Pend as IsPending, Asleep, At, is_home, is_hand, is_thread, one_if, count_in}, proofs.CountLemmas.count_append}
+use Rattle.{layer_traits.proofs.{CountLemmas.count_as_list, OnePlaceLemmas.{total_at, total_none}}, cpu.specs.Table.Blocks.{Buffer, OfBuffer, Name}}
+use Rattle.cpu.specs.{Table.{Setups.{Setup, Private, thread_at, home_of}, Steps.{Whole, cpu_numbered}, Worked.buffer_numbered}, Wakeups.Order.block_of}
+use Rattle.cpu.specs.Wakeups.{Quiet.HomesExist, OnePlace.{own_queues, queues_in, all_of, of_cpu, of_pending, of_buffer, everyone, thread_in, thread_of}}
+use Rattle.cpu.{specs.Wakeups.OnePlace.{is_live, StandInOnePlace}, proofs.Wakeups.{Lists.refuted, PostsAndVisits.{sleeps_in, is_pending, is_local}}}
+use Rattle.cpu.proofs.Wakeups.{PostsAndVisits.{post, visit, marked}, ThreadAtBuffer.{sleeps_here, marked_none}, BuffersAndThreads.Good, Placed.IsListed}
+use Rattle.cpu.proofs.Wakeups.{Placed.{IsPlaced, buffer_there}, Agreement.seat, CpuStep.pending_there, ReachedStates.fair_good, SystemInv.SystemInv}
+use Rattle.cpu.proofs.Wakeups.SystemInv.{reached_inv, cpu_there}
 use Rattle.layer_traits.specs.declared.moves.WaitList.TheVariants as wait_list
 
 -- Sums of the numbers below n.
@@ -50,13 +46,12 @@ module _ (setup : Setup) (s : Whole) (homes : HomesExist setup) (kept : SystemIn
           count_append u (as_list p.current ++ p.ready) (as_list p.hand) in
           let front : count_in u (as_list p.current ++ p.ready) ≡ count_in u (as_list p.current) + count_in u p.ready =
           count_append u (as_list p.current) p.ready in
-          let current = count_as_list u p.current in
           let hand : count_in u (as_list p.hand) ≡ one_if (is_hand (cpu_numbered i) x) =
           count_as_list u p.hand ∙ ap one_if (agrees.hands u) ∙ ap (λ y. one_if (is_hand (cpu_numbered i) y)) is in
           let seats : one_if (is_thread u p.current) + count_in u p.ready ≡ one_if (seat setup (cpu_numbered i) u x (ended_at i)) =
           agrees.seats u ∙ ap (λ y. one_if (seat setup (cpu_numbered i) u y (thread_at p u).ended)) is
           ∙ ap (λ o. one_if (seat setup (cpu_numbered i) u x (thread_in o u).ended)) (sym cpu.1) in
-          omega (arith, list, parts, front, current, hand, seats)
+          omega (arith, list, parts, front, count_as_list u p.current, hand, seats)
 
   at_pending : (x : Where) → post setup u (sections_in s.log) ≡ x → (i : ℕ)
       → count_in u (of_pending setup s i) ≡ one_if (same_cpu (home_of setup u) (cpu_numbered i) && is_pending x)
@@ -78,7 +73,6 @@ module _ (setup : Setup) (s : Whole) (homes : HomesExist setup) (kept : SystemIn
           let pair = good.pairs (buffer_numbered i) u k there.1 in
           let list : count_in u (of_buffer setup s i) ≡ count_in u (k.sleepers ++ (k.waiting_receivers ++ k.waiting_senders)) =
           ap (λ o. count_in u (queues_in o)) there.1 in
-          let parts = count_append u k.sleepers (k.waiting_receivers ++ k.waiting_senders) in
           let waits = count_append u k.waiting_receivers k.waiting_senders in
           let sleepers : count_in u k.sleepers ≡ marked u (sleeps_in (buffer_numbered i) wait_list.Sleepers x) =
           pair.sleepers ∙ ap (λ y. marked u (sleeps_in (buffer_numbered i) wait_list.Sleepers y)) is in
@@ -86,7 +80,7 @@ module _ (setup : Setup) (s : Whole) (homes : HomesExist setup) (kept : SystemIn
           pair.receivers ∙ ap (λ y. marked u (sleeps_in (buffer_numbered i) wait_list.Receivers y)) is in
           let senders : count_in u k.waiting_senders ≡ marked u (sleeps_in (buffer_numbered i) wait_list.Senders x) =
           pair.senders ∙ ap (λ y. marked u (sleeps_in (buffer_numbered i) wait_list.Senders y)) is in
-          omega (arith, list, parts, waits, sleepers, receivers, senders)
+          omega (arith, list, count_append u k.sleepers (k.waiting_receivers ++ k.waiting_senders), waits, sleepers, receivers, senders)
 
   -- the three sums
   abbrev cpus_sum : ℕ
@@ -99,13 +93,7 @@ module _ (setup : Setup) (s : Whole) (homes : HomesExist setup) (kept : SystemIn
   buffers_sum = total (λ i. count_in u (of_buffer setup s i)) (length setup.caps)
 
   sums : count_in u (everyone setup s) ≡ cpus_sum + (pending_sum + buffers_sum)
-  sums =
-      let parts = count_append u (all_of (of_cpu s) setup.cpus) (all_of (of_pending setup s) setup.cpus ++ all_of (of_buffer setup s) (length setup.caps)) in
-      let rest = count_append u (all_of (of_pending setup s) setup.cpus) (all_of (of_buffer setup s) (length setup.caps)) in
-      let cpus = count_all u (of_cpu s) setup.cpus in
-      let pending = count_all u (of_pending setup s) setup.cpus in
-      let buffers = count_all u (of_buffer setup s) (length setup.caps) in
-      omega (arith, parts, rest, cpus, pending, buffers)
+  sums = grind (arith, count_append, count_all)
 
   no_pending : (x : Where) → post setup u (sections_in s.log) ≡ x → is_pending x ≡ false → pending_sum ≡ 0
   no_pending x is off =
@@ -114,12 +102,8 @@ module _ (setup : Setup) (s : Whole) (homes : HomesExist setup) (kept : SystemIn
   no_buffers : (x : Where) → post setup u (sections_in s.log) ≡ x → ((b : BufId) (list : WaitList) → sleeps_in b list x ≡ false) → buffers_sum ≡ 0
   no_buffers x is awake =
       total_none _ (length setup.caps) (λ i below.
-      let here = at_buffer x is i below in
       let none = λ (list : WaitList). marked_none u (sleeps_in (buffer_numbered i) list x) (awake (buffer_numbered i) list) in
-      let sleepers = none wait_list.Sleepers in
-      let receivers = none wait_list.Receivers in
-      let senders = none wait_list.Senders in
-      omega (arith, here, sleepers, receivers, senders))
+      omega (arith, at_buffer x is i below, none wait_list.Sleepers, none wait_list.Receivers, none wait_list.Senders))
 
   -- no seat where the thread is not at home
   no_seat : (x : Where) (i : ℕ) → is_home x ≡ false → one_if (seat setup (cpu_numbered i) u x (ended_at i)) ≡ 0
@@ -128,10 +112,7 @@ module _ (setup : Setup) (s : Whole) (homes : HomesExist setup) (kept : SystemIn
   no_cpus : (x : Where) → post setup u (sections_in s.log) ≡ x → is_home x ≡ false → ((c : CpuId) → is_hand c x ≡ false) → cpus_sum ≡ 0
   no_cpus x is away no_hand =
       total_none _ setup.cpus (λ i below.
-      let here = at_cpu x is i below in
-      let seats = no_seat x i away in
-      let hand : one_if (is_hand (cpu_numbered i) x) ≡ 0 = ap one_if (no_hand (cpu_numbered i)) in
-      omega (arith, here, seats, hand))
+      omega (arith, at_cpu x is i below, no_seat x i away, ap one_if (no_hand (cpu_numbered i))))
 
   -- A number that is no thread's.
 
@@ -145,15 +126,12 @@ module _ (setup : Setup) (s : Whole) (homes : HomesExist setup) (kept : SystemIn
       by_post Home is =
           let cpus : cpus_sum ≡ 0 =
           total_none _ setup.cpus (λ i below.
-          let here = at_cpu Home is i below in
           let seats : one_if (seat setup (cpu_numbered i) u Home (ended_at i)) ≡ 0 =
           ap one_if (and_left (is_local setup (cpu_numbered i) u) (true && not (ended_at i))
           (and_right (same_cpu (home_of setup u) (cpu_numbered i)) (nat_lt u.0 (length setup.homes)) off)) in
-          omega (arith, here, seats)) in
-          let pending = no_pending Home is refl in
-          let buffers = no_buffers Home is (λ b list. refl) in
+          omega (arith, at_cpu Home is i below, seats)) in
           let live : one_if (is_live setup s u) ≡ 0 = ap one_if (and_left (nat_lt u.0 (length setup.homes)) (not (thread_of setup s u).ended) off) in
-          omega (arith, sums, cpus, pending, buffers, live)
+          omega (arith, sums, cpus, no_pending Home is refl, no_buffers Home is (λ b list. refl), live)
       by_post (Hand c) is = away (Hand c) is refl
       by_post (IsPending q) is = away (IsPending q) is refl
       by_post (Asleep p) is = away (Asleep p) is refl
@@ -165,10 +143,7 @@ module _ (setup : Setup) (s : Whole) (homes : HomesExist setup) (kept : SystemIn
     home_within = homes.1 u (ltb-true u.0 (length setup.homes) known)
 
     small : nat_lt u.0 THREADS ≡ true
-    small =
-        let below = ltb-true u.0 (length setup.homes) known in
-        let few = homes.0 in
-        lt-ltb u.0 THREADS (omega (arith, below, few))
+    small = grind (arith, ltb-true, lt-ltb)
 
     other_cpu : (i : ℕ) → (i ≡ (home_of setup u).0 → ⊥) → same_cpu (home_of setup u) (cpu_numbered i) ≡ false
     other_cpu i off = ne_eqb (home_of setup u).0 i (λ same. off (sym same))
@@ -184,8 +159,7 @@ module _ (setup : Setup) (s : Whole) (homes : HomesExist setup) (kept : SystemIn
             and_from (same_cpu (home_of setup u) (home_of setup u)) (nat_lt u.0 (length setup.homes)) (same_cpu_self (home_of setup u)) known in
             let goes : (thread_at cpu.0 u).ended ≡ false =
             false_from_ne_true (thread_at cpu.0 u).ended (λ ended. refuted (ap is_home is ∙ out) (agrees.ends u local ended)) in
-            let goes_here : (thread_of setup s u).ended ≡ false = ap (λ o. (thread_in o u).ended) cpu.1 ∙ goes in
-            (λ i. one_if (known i && not (goes_here i)))
+            (λ i. one_if (known i && not ((ap (λ o. (thread_in o u).ended) cpu.1 ∙ goes) i)))
 
     by_post : (x : Where) → post setup u (sections_in s.log) ≡ x → count_in u (everyone setup s) ≡ one_if (is_live setup s u)
     by_post Home is =
@@ -196,13 +170,10 @@ module _ (setup : Setup) (s : Whole) (homes : HomesExist setup) (kept : SystemIn
         ap one_if (and_left (is_local setup (cpu_numbered i) u) (true && not (ended_at i))
         (and_left (same_cpu (home_of setup u) (cpu_numbered i)) (nat_lt u.0 (length setup.homes)) (other_cpu i off))) in
         omega (arith, here, seats)) in
-        let here = at_cpu Home is (home_of setup u).0 home_within in
         let seats : one_if (seat setup (home_of setup u) u Home (ended_at (home_of setup u).0)) ≡ one_if (is_live setup s u) =
         (λ i. one_if ((same_cpu_self (home_of setup u) i && known i) && (true && not (ended_at (home_of setup u).0))))
         ∙ (λ i. one_if (sym known i && not (ended_at (home_of setup u).0))) in
-        let pending = no_pending Home is refl in
-        let buffers = no_buffers Home is (λ b list. refl) in
-        omega (arith, sums, cpus, here, seats, pending, buffers)
+        omega (arith, sums, cpus, at_cpu Home is (home_of setup u).0 home_within, seats, no_pending Home is refl, no_buffers Home is (λ b list. refl))
     by_post (Hand e) is =
         let within : e.0 < setup.cpus = subst (IsPlaced setup (visit setup u (sections_in s.log))) is (kept.placed.posts u) in
         let cpus : cpus_sum ≡ count_in u (of_cpu s e.0) =
@@ -211,77 +182,44 @@ module _ (setup : Setup) (s : Whole) (homes : HomesExist setup) (kept : SystemIn
         let seats = no_seat (Hand e) i refl in
         let hand : one_if (same_cpu e (cpu_numbered i)) ≡ 0 = ap one_if (ne_eqb e.0 i (λ same. off (sym same))) in
         omega (arith, here, seats, hand)) in
-        let here = at_cpu (Hand e) is e.0 within in
-        let seats = no_seat (Hand e) e.0 refl in
-        let hand : one_if (same_cpu e (cpu_numbered e.0)) ≡ 1 = ap one_if (same_cpu_self e) in
         let pending = no_pending (Hand e) is refl in
         let buffers = no_buffers (Hand e) is (λ b list. refl) in
         let live = alive (Hand e) is refl in
-        omega (arith, sums, cpus, here, seats, hand, pending, buffers, live)
+        omega (arith, sums, cpus, at_cpu (Hand e) is e.0 within, no_seat (Hand e) e.0 refl, ap one_if (same_cpu_self e), pending, buffers, live)
     by_post (IsPending q) is =
-        let cpus = no_cpus (IsPending q) is refl (λ c. refl) in
         let pending : pending_sum ≡ count_in u (of_pending setup s (home_of setup u).0) =
         total_at (λ i. count_in u (of_pending setup s i)) setup.cpus (home_of setup u).0 home_within (λ i below off.
         at_pending (IsPending q) is i ∙ ap one_if (and_left (same_cpu (home_of setup u) (cpu_numbered i)) true (other_cpu i off))) in
         let here : count_in u (of_pending setup s (home_of setup u).0) ≡ 1 =
         at_pending (IsPending q) is (home_of setup u).0 ∙ ap one_if
         (and_from (same_cpu (home_of setup u) (home_of setup u)) true (same_cpu_self (home_of setup u)) refl) in
-        let buffers = no_buffers (IsPending q) is (λ b list. refl) in
         let live = alive (IsPending q) is refl in
-        omega (arith, sums, cpus, pending, here, buffers, live)
+        omega (arith, sums, no_cpus (IsPending q) is refl (λ c. refl), pending, here, no_buffers (IsPending q) is (λ b list. refl), live)
     by_post (Asleep (At (Pending d) list)) is = absurd (subst (IsPlaced setup (visit setup u (sections_in s.log))) is (kept.placed.posts u))
     by_post (Asleep (At (AtBuffer b) list)) is =
         let x : Where = Asleep (At (AtBuffer b) list) in
         let placed : (b.0 < length setup.caps) × IsListed b list (visit setup u (sections_in s.log)) =
         subst (IsPlaced setup (visit setup u (sections_in s.log))) is (kept.placed.posts u) in
-        let cpus = no_cpus x is refl (λ c. refl) in
-        let pending = no_pending x is refl in
         let buffers : buffers_sum ≡ count_in u (of_buffer setup s b.0) =
         total_at (λ i. count_in u (of_buffer setup s i)) (length setup.caps) b.0 placed.0 (λ i below off.
         let here = at_buffer x is i below in
         let none = λ (other : WaitList). marked_none u (sleeps_in (buffer_numbered i) other x)
         (and_left (b.0 == i) (same_list list other) (ne_eqb b.0 i (λ same. off (sym same)))) in
-        let sleepers = none wait_list.Sleepers in
-        let receivers = none wait_list.Receivers in
-        let senders = none wait_list.Senders in
-        omega (arith, here, sleepers, receivers, senders)) in
-        let here = at_buffer x is b.0 placed.0 in
-        let one = in_one_list b list in
+        omega (arith, here, none wait_list.Sleepers, none wait_list.Receivers, none wait_list.Senders)) in
         let live = alive x is refl in
-        omega (arith, sums, cpus, pending, buffers, here, one, live)
+        omega (arith, sums, no_cpus x is refl (λ c. refl), no_pending x is refl, buffers, at_buffer x is b.0 placed.0, in_one_list b list, live)
       where
         there : (b : BufId) (list : WaitList) → marked u (sleeps_in b list (Asleep (At (AtBuffer b) list))) ≡ 1
         there b list = λ i. one_if (small i && sleeps_here b list i)
-
-        not_there : (b : BufId) (list other : WaitList) → same_list list other ≡ false → marked u (sleeps_in b other (Asleep (At (AtBuffer b) list))) ≡ 0
-        not_there b list other apart = marked_none u (is_buffer b b && same_list list other) (and_right (is_buffer b b) (same_list list other) apart)
 
         in_one_list : (b : BufId) (list : WaitList)
             → marked u (sleeps_in b wait_list.Sleepers (Asleep (At (AtBuffer b) list)))
             + (marked u (sleeps_in b wait_list.Receivers (Asleep (At (AtBuffer b) list)))
             + marked u (sleeps_in b wait_list.Senders (Asleep (At (AtBuffer b) list)))) ≡ 1
-        in_one_list b wait_list.Sleepers =
-            let one = there b wait_list.Sleepers in
-            let receivers = not_there b wait_list.Sleepers wait_list.Receivers refl in
-            let senders = not_there b wait_list.Sleepers wait_list.Senders refl in
-            omega (arith, one, receivers, senders)
-        in_one_list b wait_list.Receivers =
-            let one = there b wait_list.Receivers in
-            let sleepers = not_there b wait_list.Receivers wait_list.Sleepers refl in
-            let senders = not_there b wait_list.Receivers wait_list.Senders refl in
-            omega (arith, one, sleepers, senders)
-        in_one_list b wait_list.Senders =
-            let one = there b wait_list.Senders in
-            let sleepers = not_there b wait_list.Senders wait_list.Sleepers refl in
-            let receivers = not_there b wait_list.Senders wait_list.Receivers refl in
-            omega (arith, one, sleepers, receivers)
+        in_one_list b list = grind (arith, there, marked_none, and_right)
 
   one_place : count_in u (everyone setup s) ≡ one_if (is_live setup s u)
-  one_place = by_known (nat_lt u.0 (length setup.homes)) refl
-    where
-      by_known : (known : Bool) → nat_lt u.0 (length setup.homes) ≡ known → count_in u (everyone setup s) ≡ one_if (is_live setup s u)
-      by_known true known = by_post known (post setup u (sections_in s.log)) refl
-      by_known false off = unknown off
+  one_place = grind (arith, by_post, unknown)
 
 pub stand_in_one_place : StandInOnePlace
 stand_in_one_place setup room s homes reached t = one_place setup s homes (reached_inv setup room s reached) t

@@ -1,9 +1,6 @@
 -- Lists of threads: who stands in them, and who is first.
-use Rattle.std.proofs.Common.{◌≡◌, Bool, true, false, ◌||◌, List, [], ◌∷◌, ◌++◌, Some, None, if◌then◌else◌, sym, ap}
-use Rattle.std.proofs.lemmas.Bool.{or_parts, or_from}
-use Rattle.event_log.specs.declared.ids.Tid.{Tid}
-use Rattle.thread_blocks.specs.Queues.{same_tid, is_in, first}
-use Rattle.thread_blocks.proofs.Members.{same_tid_true}
+use Rattle.std.proofs.{Common.{◌≡◌, true, false, ◌||◌, List, [], ◌∷◌, ◌++◌, Some, None, ap, arith}, lemmas.Bool.{or_parts, or_from}}
+use Rattle.{event_log.specs.declared.ids.Tid.Tid, thread_blocks.{specs.Queues.{same_tid, is_in, first}, proofs.Members.same_tid_true}}
 use Rattle.layer_traits.specs.{Sleeping.joined, BufferBlocks.is_first}
 pub use Rattle.event_log.proofs.BoolLemmas.{refuted}
 
@@ -12,8 +9,7 @@ none_is_not {A = A} {t = t} same = absurd (cc same)
 
 -- the first of a line is the thread in front
 pub first_is : (t : Tid) (line : List Tid) → is_first t line ≡ true → first line ≡ Some t
-first_is t [] is = absurd (cc is)
-first_is t (x ∷ line) is = ap Some (sym (same_tid_true t x is))
+first_is t line is = grind (arith, same_tid_true)
 
 -- whoever stands in a list at whose end a thread was put is that thread, or stood in it
 pub in_end : (u t : Tid) (list : List Tid) → is_in u list ≡ false → same_tid u t ≡ false → is_in u (list ++ t ∷ []) ≡ false
@@ -23,8 +19,4 @@ in_end u t (x ∷ list) absent other =
     or_from (same_tid u x) (is_in u (list ++ t ∷ [])) parts.0 (in_end u t list parts.1 other)
 
 pub in_joined : (u t : Tid) (list : List Tid) → is_in u list ≡ false → same_tid u t ≡ false → is_in u (joined t list) ≡ false
-in_joined u t list absent other = by_test _
-  where
-    by_test : (b : Bool) → is_in u (if b then list ++ t ∷ [] else list) ≡ false
-    by_test true = in_end u t list absent other
-    by_test false = absent
+in_joined u t list absent other = grind (arith, in_end)

@@ -1,16 +1,12 @@
 -- Where each thread is, and what it does at which buffer, as the section log tells: two folds over the log. Both are needed only to show
 -- that the steps of the table keep the order of a call's sections: a thread that was woken runs again exactly when it may go on.
 use Rattle.std.proofs.Common.{◌≡◌, ℕ, Bool, true, false, ◌&&◌, ◌==◌, List, [], ◌∷◌, length, Option, Some, None, nat_lt, if◌then◌else◌}
-use Rattle.event_log.specs.{declared.ids.CpuId.CpuId, declared.ids.Tid.Tid, declared.ids.BufId.BufId, declared.ids.LockId.LockId}
-use Rattle.event_log.specs.{declared.ids.LockId.TheVariants.Pending, declared.ids.LockId.TheVariants.Buffer as AtBuffer, declared.ids.TheConstants.THREADS}
-use Rattle.event_log.specs.{History.same_cpu, History.same_lock, Sections.Section}
-use Rattle.thread_blocks.specs.Queues.{same_tid}
-use Rattle.layer_traits.specs.{declared.locked.Side.Side, declared.locked.Side.TheVariants.Receivers, declared.locked.Side.TheVariants.Senders}
-use Rattle.layer_traits.specs.{declared.moves.WaitList.WaitList, ListsAgree.is_at, Places.Where, Places.Home, Places.Hand, Places.Pend as IsPending}
-use Rattle.layer_traits.specs.{Places.Asleep, Places.At, Places.wait_channel_of, Places.is_thread, Places.one_if}
-use Rattle.cpu.specs.Table.Blocks.{Buffer, Block, OfBuffer, OfPending, Name, AcqQ, Enter, TryPut, TryTake, Shut, WaitOn, SigRecv, SigSend, RelQ, Pend, TakeAll}
-use Rattle.cpu.specs.Table.{Edits.answer_of_buffer, Setups.Setup, Setups.home_of}
-use Rattle.cpu.specs.Wakeups.Order.{Progress, Begins, HasEntered, WasRefused, Owes, MayTry, progress_after, block_of}
+use Rattle.event_log.specs.declared.ids.{CpuId.CpuId, Tid.Tid, BufId.BufId, LockId.{LockId, TheVariants.{Pending, Buffer as AtBuffer}}, TheConstants.THREADS}
+use Rattle.{event_log.specs.{History.{same_cpu, same_lock}, Sections.Section}, thread_blocks.specs.Queues.same_tid}
+use Rattle.layer_traits.specs.{declared.{locked.Side.{Side, TheVariants.{Receivers, Senders}}, moves.WaitList.WaitList}, ListsAgree.is_at, Places.{Where, Home}}
+use Rattle.{layer_traits.specs.Places.{Hand, Pend as IsPending, Asleep, At, wait_channel_of, is_thread, one_if}, cpu.specs.Table.Blocks.{Buffer, Block}}
+use Rattle.cpu.specs.Table.{Blocks.{OfBuffer, Name, AcqQ, Enter, TryPut, TryTake, Shut, WaitOn, SigRecv, SigSend, RelQ, Pend, TakeAll}, Edits.answer_of_buffer}
+use Rattle.cpu.specs.{Table.Setups.{Setup, home_of}, Wakeups.Order.{Progress, Begins, HasEntered, WasRefused, Owes, MayTry, progress_after, block_of}}
 use Rattle.layer_traits.specs.declared.moves.WaitList.TheVariants as wait_list
 
 -- where a thread is in its call, as its sections tell: in none, at a buffer with what it has done there as the owner of the lock, or it waits
@@ -24,10 +20,9 @@ abbrev pub is_buffer : BufId → BufId → Bool
 is_buffer b d = b.0 == d.0
 
 abbrev pub is_side : Side → Side → Bool
-is_side Receivers Receivers = true
-is_side Senders Senders = true
 is_side Receivers Senders = false
 is_side Senders Receivers = false
+is_side given given' = true
 
 -- Marks of a place.
 
@@ -72,34 +67,28 @@ is_inside b visit = names b visit && goes_on visit
 
 -- what it does first once it has the lock
 abbrev pub starts_here : Visit → Bool
-starts_here Outside = false
 starts_here (In d Begins) = true
 starts_here (In d (HasEntered side)) = true
-starts_here (In d (WasRefused side)) = false
-starts_here (In d (Owes receivers senders)) = false
-starts_here (Waiting d side) = false
+starts_here given = false
 
 abbrev pub is_starting : BufId → Visit → Bool
 is_starting b visit = names b visit && starts_here visit
 
 -- it stands in the line of this side
 abbrev pub stands : Side → Visit → Bool
-stands side Outside = false
-stands side (In d Begins) = false
 stands side (In d (HasEntered other)) = is_side side other
 stands side (In d (WasRefused other)) = is_side side other
 stands side (Waiting d other) = is_side side other
-stands side (In d (Owes receivers senders)) = false
+stands side given = false
 
 abbrev pub is_lined : BufId → Side → Visit → Bool
 is_lined b side visit = names b visit && stands side visit
 
 -- the owner's progress is what its visit says
 abbrev pub InStep : Visit → Progress → Type 0
-InStep Outside g = Unit {0}
 InStep (In d (HasEntered side)) g = MayTry side g
 InStep (In d progress) g = g ≡ progress
-InStep (Waiting d side) g = Unit {0}
+InStep given g = Unit {0}
 
 -- The folds.
 
@@ -151,8 +140,7 @@ post_pending setup d u name x = x
 
 abbrev pub post_buffer : Setup → CpuId → BufId → Tid → Name → Option Block → Where → Where
 post_buffer setup c b u name (Some (OfBuffer k)) x = post_moved setup c b u name (answer_of_buffer name k).slept (answer_of_buffer name k).woke x
-post_buffer setup c b u name (Some (OfPending threads)) x = x
-post_buffer setup c b u name None x = x
+post_buffer setup c b u name given x = x
 
 abbrev pub post_at : Setup → CpuId → LockId → Tid → Name → Option Block → Where → Where
 post_at setup c (AtBuffer b) u name o x = post_buffer setup c b u name o x
@@ -184,8 +172,7 @@ visit_moved b u name k visit = if is_caller u name then next_visit b name k visi
 
 abbrev pub visit_buffer : BufId → Tid → Name → Option Block → Visit → Visit
 visit_buffer b u name (Some (OfBuffer k)) visit = visit_moved b u name k visit
-visit_buffer b u name (Some (OfPending threads)) visit = visit
-visit_buffer b u name None visit = visit
+visit_buffer b u name given visit = visit
 
 abbrev pub visit_at : LockId → Tid → Name → Option Block → Visit → Visit
 visit_at (AtBuffer b) u name o visit = visit_buffer b u name o visit

@@ -1,22 +1,17 @@
 -- Every state that a system reaches is sound: each section of its log may come where it stands, and each CPU agrees with the log.
 use Rattle.std.proofs.Common.{◌≡◌, ℕ, zero, suc, ◌+◌, ◌<◌, ◌==◌, Bool, true, false, ◌&&◌, List, [], ◌∷◌, ◌++◌, length, map, slice_get, slice_set, get_or}
-use Rattle.std.proofs.Common.{Option, Some, None, option_map, nat_lt, if◌then◌else◌, refl, sym, ap, ◌∙◌, subst, arith}
-use Rattle.std.proofs.{lemmas.Bool.and_right, lemmas.Bool.eq-eqb, lemmas.Bool.ne_eqb, lemmas.Bool.eqb-true, lemmas.Bool.eqb-false, lemmas.Bool.lt-ltb}
-use Rattle.std.proofs.{lemmas.Bool.le-ltb, lemmas.Bool.ltb-true, lemmas.Bool.ltb-false, lemmas.List.length-map, Math.Bool.and-true}
-use Rattle.event_log.specs.{declared.ids.CpuId.CpuId, declared.ids.Tid.Tid, declared.ids.LockId.LockId, History.same_cpu, History.IsLawful}
-use Rattle.event_log.specs.{Sections.sections_in, Actions.Action, Actions.Take, Actions.Try, Actions.Give, Actions.Phase, Actions.Rests}
-use Rattle.event_log.specs.{Actions.Waits as WaitsAt, Actions.Holds, Actions.phase, Actions.cpu_of_action, Actions.spot_of, Actions.gives, Actions.action_in}
-use Rattle.event_log.proofs.{Same.same_cpu_true, Exclusion.phase_own, Exclusion.phase_other}
-use Rattle.layer_traits.specs.{declared.steps.Step.Step, declared.steps.Step.TheVariants.Stepped, declared.steps.Step.TheVariants.Halted, Places.Home}
-use Rattle.layer_traits.specs.{Places.is_thread, Places.one_if, Places.count_in, Plans.is_in_section, Plans.at_give, Along.Outcome, Passes.or_else}
-use Rattle.cpu.specs.Table.{Blocks.Name, Edits.answer, Setups.Setup, Setups.Private, Setups.new_thread, Setups.home_threads_from, Setups.home_threads}
-use Rattle.cpu.specs.Table.{Setups.at_boot, Choice.asked, Choice.Choice, Choice.Halts, Choice.Alone, Choice.Goes, Choice.choice, Steps.after_reply}
-use Rattle.cpu.specs.Table.{Steps.chosen, Steps.step_in, Steps.cpu_step, Steps.Whole, Steps.cpu_numbered, Steps.boots_from, Steps.whole_at_boot}
-use Rattle.cpu.specs.Table.{Steps.whole_after, Steps.roomy, Steps.answered_by, Steps.step_at, Steps.system_step, Steps.IsReached, Steps.boots, Steps.steps}
-use Rattle.cpu.specs.Wakeups.{Order.block_of, Lost.SystemsKeepOrder, Lost.SystemsLoseNoWakeUp, Lost.FreeLocksHaveNoSleepers}
-use Rattle.cpu.proofs.Wakeups.{Lists.refuted, Ordered.buffer_awake, Ordered.order_loses_no_wake_up, PostsAndVisits.is_local, PostsAndVisits.post, PostsAndVisits.visit, PostsAndVisits.MayComeAt}
-use Rattle.cpu.proofs.Wakeups.{BuffersAndThreads.Good, BuffersAndThreads.good_none, BuffersAndThreads.good_step, Agreement.visit_of_call, Agreement.is_done, Agreement.seat, Agreement.Agrees}
-use Rattle.cpu.proofs.Wakeups.{Agreement.IsSettled, CpuStep.foreign_step, CpuStep.give_ok, ChosenSteps.ChoiceOk, ChosenSteps.choice_ok}
+use Rattle.std.proofs.{Common.{Option, Some, None, option_map, nat_lt, if◌then◌else◌, refl, sym, ap, ◌∙◌, subst, arith}, lemmas.Bool.{and_right, eq-eqb}}
+use Rattle.std.proofs.{lemmas.{Bool.{ne_eqb, eqb-true, eqb-false, lt-ltb, le-ltb, ltb-true, ltb-false}, List.length-map}, Math.Bool.and-true}
+use Rattle.event_log.specs.{declared.ids.{CpuId.CpuId, Tid.Tid, LockId.LockId}, History.{same_cpu, IsLawful}, Sections.sections_in, Actions.{Action, Take, Try}}
+use Rattle.event_log.{specs.Actions.{Give, Phase, Rests, Waits as WaitsAt, Holds, phase, cpu_of_action, spot_of, gives, action_in}, proofs.Same.same_cpu_true}
+use Rattle.{event_log.proofs.Exclusion.{phase_own, phase_other}, layer_traits.specs.{declared.steps.Step.TheVariants.Stepped, Places.{one_if, count_in}}}
+use Rattle.{layer_traits.specs.{Plans.{is_in_section, at_give}, Along.Outcome, Passes.or_else}, cpu.specs.Table.{Blocks.Name, Edits.answer, Setups.Setup}}
+use Rattle.cpu.specs.Table.{Setups.{Private, new_thread, home_threads_from, at_boot}, Choice.{asked, Choice, Halts, Alone, Goes, choice}, Steps.after_reply}
+use Rattle.cpu.specs.Table.Steps.{chosen, step_in, cpu_step, Whole, cpu_numbered, boots_from, whole_at_boot, whole_after, step_at, system_step, IsReached}
+use Rattle.cpu.specs.{Table.Steps.{boots, steps}, Wakeups.{Order.block_of, Lost.{SystemsKeepOrder, SystemsLoseNoWakeUp, FreeLocksHaveNoSleepers}}}
+use Rattle.cpu.proofs.Wakeups.{Lists.refuted, Ordered.{buffer_awake, order_loses_no_wake_up}, PostsAndVisits.{post, visit, MayComeAt}, BuffersAndThreads.Good}
+use Rattle.cpu.proofs.Wakeups.{BuffersAndThreads.{good_none, good_step}, Agreement.{Agrees, IsSettled}, CpuStep.{foreign_step, give_ok}, ChosenSteps.ChoiceOk}
+use Rattle.cpu.proofs.Wakeups.ChosenSteps.{choice_ok}
 
 -- Logs of actions.
 
@@ -95,23 +90,18 @@ module _ (setup : Setup) (c : CpuId) (log : List (Action Name)) (fair : IsFairLo
       agrees = ok.agrees;
       settled = ok.settled;
       under = λ lock at.
-          by_hit (gives there log == spot_of c log) lock (sym (ap lock_in (phase_own (Try c there (gives there log == spot_of c log)) log)) ∙ at);
+          grind (arith, some_lock, ok, sym (ap lock_in (phase_own (Try c there (gives there log == spot_of c log)) log)) ∙ at);
     };
     does = (refl, tt);
   }
-    where
-      by_hit : (hit : Bool) (lock : LockId) → lock_in (if hit then Holds there else WaitsAt there) ≡ Some lock → lock ≡ (asked setup c q).lock
-      by_hit true lock at = sym (some_lock there lock at) ∙ ok.under there (ap lock_in is)
-      by_hit false lock at = sym (some_lock there lock at) ∙ ok.under there (ap lock_in is)
   acted_ok q ok (Holds there) is =
       let given = give_ok setup (sections_in log) (fair_good setup log fair) c q ok.agrees ok.settled in
-      let same : (asked setup c q).lock ≡ there = sym (ok.under there (ap lock_in is)) in
       let P : LockId → Type 0 = λ x. StepOk setup c log (record {
         next = after_reply setup c q (option_map (answer (asked setup c q).name) (block_of setup (asked setup c q).lock (sections_in log)));
         acts = Give c x (asked setup c q).name ∷ [];
         answer = Stepped;
       }) in
-      subst P same (record {
+      subst P (sym (ok.under there (ap lock_in is))) (record {
         fair = (given.may, fair);
         ok = record {
           agrees = given.agrees;
@@ -150,21 +140,12 @@ module _ (setup : Setup) (c : CpuId) (log : List (Action Name)) (fair : IsFairLo
 pub ok_beside : (setup : Setup) (e : CpuId) (p : Private) (log : List (Action Name)) (a : Action Name)
     → same_cpu (cpu_of_action a) e ≡ false → IsFairLog setup log → IsFair setup log a
     → Ok setup e p log → Ok setup e p (a ∷ log)
-ok_beside setup e p log (Take cpu lock) off fair may ok = record {
-  agrees = ok.agrees;
-  settled = ok.settled;
-  under = λ at is. ok.under at (sym (ap lock_in (phase_other (Take cpu lock) log e off)) ∙ is);
-}
-ok_beside setup e p log (Try cpu lock hit) off fair may ok = record {
-  agrees = ok.agrees;
-  settled = ok.settled;
-  under = λ at is. ok.under at (sym (ap lock_in (phase_other (Try cpu lock hit) log e off)) ∙ is);
-}
 ok_beside setup e p log (Give cpu lock name) off fair may ok = record {
   agrees = foreign_step setup (sections_in log) (fair_good setup log fair) e p (record { cpu = cpu; lock = lock; edit = name }) off may ok.agrees;
   settled = ok.settled;
   under = λ at is. ok.under at (sym (ap lock_in (phase_other (Give cpu lock name) log e off)) ∙ is);
 }
+ok_beside setup e p log a off fair may ok = grind (arith, phase_other)
 
 pub all_beside : (setup : Setup) (c e : CpuId) (p : Private) (log acts : List (Action Name))
     → same_cpu c e ≡ false → AllDo c acts → IsFairLog setup (acts ++ log)
@@ -176,9 +157,8 @@ all_beside setup c e p log (a ∷ acts) off does fair ok =
 -- A CPU at boot.
 
 all_new : (homes : List CpuId) (i : ℕ) → get_or (map (λ home. new_thread) homes) i new_thread ≡ new_thread
-all_new [] i = refl
-all_new (home ∷ homes) zero = refl
 all_new (home ∷ homes) (suc i) = all_new homes i
+all_new homes i = refl
 
 -- the threads from number i on that are at home on c, by count: u is one of them where it is at its place among the homes
 homed_before : (c : CpuId) (homes : List CpuId) (i : ℕ) (u : Tid) → u.0 < i → count_in u (home_threads_from c homes i) ≡ 0
@@ -187,62 +167,23 @@ homed_before c (home ∷ homes) i u before = by_test (same_cpu home c) (homed_be
   where
     by_test : (here : Bool) → count_in u (home_threads_from c homes (i + 1)) ≡ 0
         → count_in u (if here then record { 0 = i } ∷ home_threads_from c homes (i + 1) else home_threads_from c homes (i + 1)) ≡ 0
-    by_test true none =
-        let other : one_if (u.0 == i) ≡ 0 = ap one_if (ne_eqb u.0 i (λ same. absurd (omega (arith, same, before)))) in
-        omega (arith, other, none)
-    by_test false none = none
-
-below_suc : (k n m : ℕ) → m ≡ n + 1 → nat_lt k n ≡ nat_lt (suc k) m
-below_suc k n m is = by_test (nat_lt k n) refl
-  where
-    by_test : (b : Bool) → nat_lt k n ≡ b → b ≡ nat_lt (suc k) m
-    by_test true below = let more = ltb-true k n below in sym (lt-ltb (suc k) m (omega (arith, more, is)))
-    by_test false above = let more = ltb-false k n above in sym (le-ltb (suc k) m (omega (arith, more, is)))
+    by_test here none = grind (arith, ne_eqb)
 
 homed_at : (c : CpuId) (homes : List CpuId) (i k : ℕ) (u : Tid) → u.0 ≡ i + k
     → count_in u (home_threads_from c homes i) ≡ one_if (same_cpu (or_else (record { 0 = 0 }) (slice_get homes k)) c && nat_lt k (length homes))
 homed_at c [] i k u at =
     sym (ap one_if (and_right (same_cpu (record { 0 = 0 }) c) (nat_lt k 0) (le-ltb k 0 (omega arith))))
-homed_at c (home ∷ homes) i zero u at = by_test (same_cpu home c) (homed_before c homes (i + 1) u (omega (arith, at)))
-  where
-    by_test : (here : Bool) → count_in u (home_threads_from c homes (i + 1)) ≡ 0
-        → count_in u (if here then record { 0 = i } ∷ home_threads_from c homes (i + 1) else home_threads_from c homes (i + 1))
-        ≡ one_if (here && nat_lt 0 (length (home ∷ homes)))
-    by_test true none =
-        let mine : one_if (u.0 == i) ≡ 1 = ap one_if (eq-eqb u.0 i (omega (arith, at))) in
-        let more : one_if (nat_lt 0 (length (home ∷ homes))) ≡ 1 = ap one_if (lt-ltb 0 (length (home ∷ homes)) (omega arith)) in
-        omega (arith, mine, none, more)
-    by_test false none = none
+homed_at c (home ∷ homes) i zero u at = grind (arith, homed_before, eq-eqb, lt-ltb)
 homed_at c (home ∷ homes) i (suc k) u at = by_test (same_cpu home c) (homed_at c homes (i + 1) k u (omega (arith, at)))
   where
-    same_below : nat_lt k (length homes) ≡ nat_lt (suc k) (length (home ∷ homes))
-    same_below = below_suc k (length homes) (length (home ∷ homes)) (omega arith)
-
     by_test : (here : Bool)
         → count_in u (home_threads_from c homes (i + 1)) ≡ one_if (same_cpu (or_else (record { 0 = 0 }) (slice_get homes k)) c && nat_lt k (length homes))
         → count_in u (if here then record { 0 = i } ∷ home_threads_from c homes (i + 1) else home_threads_from c homes (i + 1))
         ≡ one_if (same_cpu (or_else (record { 0 = 0 }) (slice_get homes k)) c && nat_lt (suc k) (length (home ∷ homes)))
-    by_test true more =
-        let other : one_if (u.0 == i) ≡ 0 = ap one_if (ne_eqb u.0 i (λ same. absurd (omega (arith, same, at)))) in
-        let now : one_if (u.0 == i) + count_in u (home_threads_from c homes (i + 1)) ≡ count_in u (home_threads_from c homes (i + 1)) = omega (arith, other) in
-        now ∙ more ∙ ap (λ b. one_if (same_cpu (or_else (record { 0 = 0 }) (slice_get homes k)) c && b)) same_below
-    by_test false more = more ∙ ap (λ b. one_if (same_cpu (or_else (record { 0 = 0 }) (slice_get homes k)) c && b)) same_below
+    by_test here more = grind (arith, ne_eqb, ltb-true, lt-ltb, ltb-false, le-ltb)
 
 pub ok_at_boot : (setup : Setup) (c : CpuId) → Ok setup c (at_boot setup c) []
-ok_at_boot setup c = record {
-  agrees = record {
-    size = length-map setup.homes (λ home. new_thread);
-    calls = λ u local. ap (λ y. visit_of_call y.call) (sym (all_new setup.homes u.0));
-    seats = λ u.
-        let is = homed_at c setup.homes 0 u.0 u (omega arith) in
-        let now : one_if (is_thread u None) + count_in u (home_threads setup c) ≡ count_in u (home_threads setup c) = omega arith in
-        now ∙ is ∙ sym (ap (λ y. one_if (seat setup c u Home y.ended)) (all_new setup.homes u.0) ∙ ap one_if (and-true (is_local setup c u)));
-    hands = λ u. refl;
-    ends = λ u local ended. refl;
-  };
-  settled = λ u local done. refuted (ap (λ y. is_done y.call) (all_new setup.homes u.0)) done;
-  under = λ lock at. no_lock at;
-}
+ok_at_boot setup c = grind (arith, length-map, all_new, homed_at, and-true, refuted)
 
 -- Systems.
 
@@ -260,29 +201,21 @@ same_private p q is = ap (private_or p) is
 
 -- what stands in a list after one of its items was set
 pub get_set : (xs : List Private) (i j : ℕ) (x y : Private) → slice_get (slice_set xs i x) j ≡ Some y → i ≡ j → x ≡ y
-get_set [] i j x y is same = absurd (cc is)
 get_set (z ∷ xs) zero zero x y is same = same_private x y is
-get_set (z ∷ xs) zero (suc j) x y is same = absurd (omega (arith, same))
-get_set (z ∷ xs) (suc i) zero x y is same = absurd (omega (arith, same))
 get_set (z ∷ xs) (suc i) (suc j) x y is same = get_set xs i j x y is (omega (arith, same))
+get_set xs i j x y is same = grind (arith, same)
 
 pub get_set_other : (xs : List Private) (i j : ℕ) (x : Private) → (i ≡ j → ⊥) → slice_get (slice_set xs i x) j ≡ slice_get xs j
-get_set_other [] i j x off = refl
 get_set_other (z ∷ xs) zero zero x off = absurd (off refl)
-get_set_other (z ∷ xs) zero (suc j) x off = refl
-get_set_other (z ∷ xs) (suc i) zero x off = refl
 get_set_other (z ∷ xs) (suc i) (suc j) x off = get_set_other xs i j x (λ same. off (ap suc same))
+get_set_other xs i j x off = refl
 
 pub boots_at : (setup : Setup) (n k i : ℕ) (p : Private) → slice_get (boots_from setup n k) i ≡ Some p → at_boot setup (cpu_numbered (n + i)) ≡ p
-boots_at setup n zero i p is = absurd (cc is)
-boots_at setup n (suc k) zero p is = ap (λ m. at_boot setup (cpu_numbered m)) (by_zero n) ∙ same_private (at_boot setup (cpu_numbered n)) p is
-  where
-    by_zero : (n : ℕ) → n + 0 ≡ n
-    by_zero n = omega arith
 boots_at setup n (suc k) (suc i) p is = ap (λ m. at_boot setup (cpu_numbered m)) (by_suc n i) ∙ boots_at setup (n + 1) k i p is
   where
     by_suc : (n i : ℕ) → n + suc i ≡ (n + 1) + i
     by_suc n i = omega arith
+boots_at setup n k i p is = grind (arith, same_private)
 
 sound_at_boot : (setup : Setup) (room : ℕ) → Sound setup (whole_at_boot setup room)
 sound_at_boot setup room = record {
@@ -308,23 +241,13 @@ module _ (setup : Setup) (s : Whole) (sound : Sound setup s) (c : CpuId) where
       by_test e q is true same =
           let P : CpuId → Type 0 = λ x. Ok setup x q ((cpu_step setup c p s.log).acts ++ s.log) in
           subst P (same_cpu_true c e same)
-          (subst (λ x. Ok setup c x ((cpu_step setup c p s.log).acts ++ s.log))
-          (get_set s.cpus c.0 e.0 (cpu_step setup c p s.log).next q is (eqb-true c.0 e.0 same)) step.ok)
+          (rw (← get_set s.cpus c.0 e.0 (cpu_step setup c p s.log).next q is (eqb-true c.0 e.0 same)) step.ok)
       by_test e q is false off =
           all_beside setup c e q s.log (cpu_step setup c p s.log).acts off step.does step.fair
           (sound.cpus e q (sym (get_set_other s.cpus c.0 e.0 (cpu_step setup c p s.log).next (eqb-false c.0 e.0 off)) ∙ is))
 
   sound_at : (o : Option Private) → slice_get s.cpus c.0 ≡ o → Sound setup (step_at setup c s o).next
-  sound_at None here = sound
-  sound_at (Some p) here = by_answer (cpu_step setup c p s.log).answer
-    where
-      by_room : (full : Bool) → Sound setup (roomy c s (cpu_step setup c p s.log) full).next
-      by_room true = sound
-      by_room false = sound_after p here
-
-      by_answer : (answer : Step) → Sound setup (answered_by c s (cpu_step setup c p s.log) answer).next
-      by_answer (Halted reason) = sound
-      by_answer Stepped = by_room (s.taken == s.room)
+  sound_at o here = grind (arith, sound_after)
 
 pub sound_step : (setup : Setup) (s : Whole) → Sound setup s → (c : CpuId) → Sound setup (system_step setup c s).next
 sound_step setup s sound c = sound_at setup s sound c (slice_get s.cpus c.0) refl

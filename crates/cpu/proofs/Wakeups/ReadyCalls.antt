@@ -1,32 +1,21 @@
 -- A call that is ready, on a CPU alone, returns after just so many steps.
-use Rattle.std.proofs.Common.{◌≡◌, ℕ, ◌+◌, ◌<◌, ◌≤◌, ◌==◌, Bool, true, false, ◌&&◌, ◌||◌, ◌⊎◌, inl, inr, List, [], ◌∷◌, ◌++◌, length, slice_get, Option, Some}
-use Rattle.std.proofs.Common.{None, is_some, nat_lt, if◌then◌else◌, refl, sym, ap, ◌∙◌, subst, arith, length-append}
-use Rattle.std.proofs.lemmas.Bool.{and_from, cases_lt, lt-ltb, or_right}
-use Rattle.event_log.specs.{declared.ids.CpuId.CpuId, declared.ids.Tid.Tid, declared.ids.BufId.BufId, declared.ids.LockId.TheVariants.Buffer as AtBuffer}
-use Rattle.event_log.specs.{declared.ids.TheConstants.THREADS, declared.entries.Kind.Kind, declared.entries.Entry.Entry, Messages.Message, Messages.no_message}
-use Rattle.event_log.specs.{Runs.Group, Runs.Sends, Runs.Receives, Runs.Closes, Runs.group_of, Sections.sections_in}
-use Rattle.event_log.specs.declared.entries.Kind.TheVariants.{Send as SendKind, Recv as RecvKind, Close as CloseKind, SendClosed, RecvClosed}
-use Rattle.guest.specs.{declared.instructions.Instruction.Instruction, declared.instructions.Instruction.TheVariants.Send}
-use Rattle.guest.specs.{declared.instructions.Instruction.TheVariants.Recv, declared.instructions.Instruction.TheVariants.Close, State.message_from}
-use Rattle.thread_blocks.specs.Queues.{first, rest}
-use Rattle.thread_blocks.proofs.Members.{same_tid_self}
-use Rattle.layer_traits.specs.{declared.steps.Reason.Reason, declared.steps.Reason.TheVariants.AllEnded, declared.steps.Reason.TheVariants.TraceFull}
-use Rattle.layer_traits.specs.{declared.locked.Side.TheVariants.Receivers, declared.locked.Side.TheVariants.Senders, BufferBlocks.is_first}
-use Rattle.layer_traits.specs.{BufferBlocks.first_item, BufferBlocks.items_put, BufferBlocks.other_items, declared.call_states.Stage.TheVariants.Enters}
-use Rattle.layer_traits.specs.{declared.call_states.Stage.TheVariants.Tries, declared.call_states.Stage.TheVariants.Signals}
-use Rattle.cpu.specs.Table.{Blocks.Buffer, Blocks.OfBuffer, Blocks.Reported, Blocks.Done, Blocks.WasClosed, Blocks.DidShut, Blocks.NotYet, Blocks.front}
-use Rattle.cpu.specs.Table.{Blocks.front_stands_in, Blocks.side_of, Edits.can_put, Edits.can_take, Edits.due_receiver, Edits.due_sender, Edits.entered}
-use Rattle.cpu.specs.Table.{Edits.put, Edits.taken, Edits.shut, Edits.report_of_put, Edits.report_of_take, Edits.reports, Edits.wakes, Edits.edited_buffer}
-use Rattle.cpu.specs.Table.{Edits.answer_of_buffer, Setups.Setup, Setups.Call, Setups.Private, Setups.thread_at, Setups.stands_at, Setups.home_threads}
-use Rattle.cpu.specs.Table.{Setups.open_calls, Setups.have_ended, Steps.Whole, Steps.IsReached, Steps.block_at, Steps.halted_by, Steps.steps_by}
-use Rattle.cpu.specs.Table.Choice.{Halts, Goes, new_call, with_call, begins, at_instruction, at_call, at_current, at_hand, choice, first_signal, second_signal}
-use Rattle.cpu.specs.Table.Choice.{effected, entry_of, recorded_try}
-use Rattle.cpu.specs.Wakeups.{Lost.Allows, Order.progress, Quiet.AreFew, Alone.IsCallOn, Alone.HasEmptyLine, Alone.IsInCall, Alone.IsReady, Alone.HasReturned}
-use Rattle.cpu.specs.Wakeups.{Alone.CallsReturnAlone, Alone.is_away, Alone.first_waiter, Alone.steps_to_move, Alone.steps_to_return}
-use Rattle.cpu.proofs.Wakeups.{Lists.refuted, Ordered.buffer_awake, Ordered.putting, Ordered.taking, Awake.IsCalm, Awake.Fits, Awake.IsAwake, PostsAndVisits.is_local}
-use Rattle.cpu.proofs.Wakeups.{PostsAndVisits.post, PostsAndVisits.visit, Agreement.Agrees, Agreement.runs, Agreement.known_of, Agreement.within, ReachedStates.reached_sound}
-use Rattle.cpu.proofs.Wakeups.{ReachedStates.systems_keep_order, ReachedStates.free_locks_have_no_sleepers, FilledHand.reached_filled, WithinCapacity.holds_no_more, CpuAlone.with_new}
-use Rattle.cpu.proofs.Wakeups.CallsAlone.{Gets, Returned, acquires, enters_send, enters_receive, tries, ending}
+use Rattle.std.proofs.Common.{◌≡◌, ℕ, ◌+◌, ◌<◌, ◌≤◌, Bool, true, false, ◌&&◌, ◌||◌, List, [], ◌∷◌, ◌++◌, length, Option, Some, None, is_some, if◌then◌else◌}
+use Rattle.std.proofs.{Common.{refl, sym, ap, ◌∙◌, subst, arith, length-append}, lemmas.Bool.{and_from, cases_lt, lt-ltb, or_right}}
+use Rattle.event_log.specs.declared.{ids.{CpuId.CpuId, Tid.Tid, BufId.BufId, LockId.TheVariants.Buffer as AtBuffer, TheConstants.THREADS}, entries.Kind.Kind}
+use Rattle.event_log.specs.declared.entries.{Kind.TheVariants.{Send as SendKind, Recv as RecvKind, Close as CloseKind, SendClosed, RecvClosed}, Entry.Entry}
+use Rattle.event_log.specs.{Messages.Message, Runs.{Group, Sends, Receives, Closes, group_of}, Sections.sections_in}
+use Rattle.{guest.specs.declared.instructions.Instruction.Instruction, thread_blocks.{specs.Queues.{first, rest}, proofs.Members.same_tid_self}}
+use Rattle.layer_traits.specs.declared.{locked.Side.TheVariants.{Receivers, Senders}, call_states.Stage.TheVariants.{Enters, Tries, Signals}}
+use Rattle.{layer_traits.specs.BufferBlocks.{is_first, first_item}, cpu.specs.Table.Blocks.{Buffer, OfBuffer, Reported, Done, WasClosed, DidShut, NotYet}}
+use Rattle.cpu.specs.Table.{Blocks.{front, front_stands_in, side_of}, Edits.{can_put, can_take, due_receiver, due_sender, entered, put, taken, shut}}
+use Rattle.cpu.specs.Table.{Edits.{report_of_put, report_of_take, reports, wakes, edited_buffer, answer_of_buffer}, Setups.{Setup, Call, Private, stands_at}}
+use Rattle.cpu.specs.Table.{Setups.{home_threads, have_ended}, Steps.{Whole, IsReached, block_at, steps_by}, Choice.{Goes, new_call, with_call, at_call}}
+use Rattle.cpu.specs.{Table.Choice.{choice, first_signal, second_signal, effected, entry_of, recorded_try}, Wakeups.{Lost.Allows, Order.progress, Quiet.AreFew}}
+use Rattle.cpu.specs.Wakeups.Alone.{IsCallOn, HasEmptyLine, IsInCall, IsReady, HasReturned, CallsReturnAlone, first_waiter, steps_to_move, steps_to_return}
+use Rattle.cpu.proofs.Wakeups.{Lists.refuted, Ordered.{buffer_awake, putting, taking}, Awake.{IsCalm, Fits, IsAwake}, PostsAndVisits.{is_local, post, visit}}
+use Rattle.cpu.proofs.Wakeups.{Agreement.{Agrees, runs, known_of, within}, ReachedStates.{reached_sound, systems_keep_order, free_locks_have_no_sleepers}}
+use Rattle.cpu.proofs.Wakeups.{FilledHand.reached_filled, WithinCapacity.holds_no_more, CpuAlone.with_new, CallsAlone.{Gets, Returned, acquires, enters_send}}
+use Rattle.cpu.proofs.Wakeups.CallsAlone.{enters_receive, tries, ending}
 
 module _ (setup : Setup) (room : ℕ) (s : Whole) (c : CpuId) (p : Private) (t : Tid) (few : AreFew setup)
     (reached : IsReached setup room s) (ready : IsReady setup c s p t) where
@@ -49,50 +38,13 @@ module _ (setup : Setup) (room : ℕ) (s : Whole) (c : CpuId) (p : Private) (t :
       by_hand None is = refl
       by_hand (Some u) is = refuted (ap is_some ready.outside) (reached_filled setup room s reached c p ready.here t (ap is_some is) ready.runs)
 
-  not_halted : {A : Type 0} (reason : Reason) → choice setup c p ≡ Halts reason → A
-  not_halted {A = A} reason is = absurd (cc (sym (ap halted_by is) ∙ ready.goes))
-
   live : have_ended p (home_threads setup c) ≡ false
-  live = by_all (have_ended p (home_threads setup c)) refl
-    where
-      by_all : (all : Bool) → have_ended p (home_threads setup c) ≡ all → all ≡ false
-      by_all false is = refl
-      by_all true is =
-          not_halted AllEnded (ap (at_hand setup c p) empty ∙ ap (λ b. if b then Halts AllEnded else at_current setup c p p.current) is)
-
-  chooses : choice setup c p ≡ at_instruction setup c p t (stands_at setup p t)
-  chooses =
-      ap (at_hand setup c p) empty ∙ ap (λ b. if b then Halts AllEnded else at_current setup c p p.current) live
-      ∙ ap (at_current setup c p) ready.runs ∙ ap (at_call setup c p t) ready.outside
-
-  begun : (call : Call) → choice setup c p ≡ begins setup c p t call → choice setup c p ≡ Goes (with_call p t (Some call))
-  begun call is = by_room ((length p.trace + open_calls p (home_threads setup c)) == setup.trace_room) refl
-    where
-      by_room : (full : Bool) → ((length p.trace + open_calls p (home_threads setup c)) == setup.trace_room) ≡ full
-          → choice setup c p ≡ Goes (with_call p t (Some call))
-      by_room false at = is ∙ ap (λ b. if b then Halts TraceFull else Goes (with_call p t (Some call))) at
-      by_room true at = not_halted TraceFull (is ∙ ap (λ b. if b then Halts TraceFull else Goes (with_call p t (Some call))) at)
+  live = grind (arith, empty)
 
   -- the call begins
   begins_as : (asks : Group) (b : BufId) (line : Instruction) → stands_at setup p t ≡ line → IsCallOn asks b line
       → (m : Message) × (choice setup c p ≡ Goes (with_call p t (Some (new_call asks b m))))
-  begins_as Sends b (Send d from i) at same =
-      let m = message_from (thread_at p t).guest from in (
-        m,
-        subst (λ x. choice setup c p ≡ Goes (with_call p t (Some (new_call Sends x m)))) same
-            (begun (new_call Sends d m) (chooses ∙ ap (at_instruction setup c p t) at)),
-      )
-  begins_as Receives b (Recv d into i) at same = (
-    no_message,
-    subst (λ x. choice setup c p ≡ Goes (with_call p t (Some (new_call Receives x no_message)))) same
-        (begun (new_call Receives d no_message) (chooses ∙ ap (at_instruction setup c p t) at)),
-  )
-  begins_as Closes b (Close d) at same = (
-    no_message,
-    subst (λ x. choice setup c p ≡ Goes (with_call p t (Some (new_call Closes x no_message)))) same
-        (begun (new_call Closes d no_message) (chooses ∙ ap (at_instruction setup c p t) at)),
-  )
-  begins_as asks b line at same = absurd same
+  begins_as asks b line at same = grind (arith, empty, live)
 
   first_gets : (asks : Group) (b : BufId) (k : Buffer) (m : Message) → choice setup c p ≡ Goes (with_call p t (Some (new_call asks b m)))
       → s.taken + 21 ≤ s.room
@@ -115,10 +67,7 @@ module _ (setup : Setup) (room : ℕ) (s : Whole) (c : CpuId) (p : Private) (t :
 
   told : (n : ℕ) (e : Kind) (b : BufId) (entry : Entry) → (entry.thread ≡ t) × (entry.kind ≡ e) × (entry.buffer ≡ b)
       → Returned setup c t s n (p.trace ++ entry ∷ []) → IsBack n e b
-  told n e b entry is_of back = (
-    record { now = back.now; here = back.here; outside = back.outside; entry = entry; adds = back.trace; is_of = is_of },
-    back.before,
-  )
+  told n e b entry is_of back = grind arith
 
   -- nobody is due beside a free lock
   calm : (b : BufId) (k : Buffer) → block_at setup (AtBuffer b) s.log ≡ Some (OfBuffer k) → k.busy ≡ None → IsCalm k
@@ -129,42 +78,17 @@ module _ (setup : Setup) (room : ℕ) (s : Whole) (c : CpuId) (p : Private) (t :
 
   -- where the first of a line may go on, a signal wakes it if it waits
   woken_is : (waits can : Bool) (o : Option Tid) → can ≡ true → (if waits && can then o else None) ≡ (if waits then o else None)
-  woken_is true can o on = ap (λ (b : Bool). if b then o else None) on
-  woken_is false can o on = refl
-
-  -- beside a closed buffer it does not wait
-  woken_none : (waits closed can now : Bool) (o : Option Tid) → (waits && (closed || can)) ≡ false → closed ≡ true
-      → (if waits && now then o else None) ≡ None
-  woken_none false closed can now o is on = refl
-  woken_none true true can now o is on = absurd (cc is)
-  woken_none true false can now o is on = absurd (cc on)
+  woken_is waits can o on = grind arith
 
   -- nor does anybody in an empty line
   due_none : (line waiting : List Tid) (can : Bool) → line ≡ [] → (if front_stands_in line waiting && can then first line else None) ≡ None
   due_none line waiting can empty_now = ap (λ l. if front_stands_in l waiting && can then first l else None) empty_now
 
-  some_now : (closed : Bool) (items : List Message) (m : Message) → (closed || nat_lt 0 (length (items_put closed m items))) ≡ true
-  some_now true items m = refl
-  some_now false items m = lt-ltb 0 (length (items ++ m ∷ [])) (let more = length-append items (m ∷ []) in omega (arith, more))
-
-  room_now : (items : List Message) (m : Message) (capacity : ℕ) → length items ≤ capacity → slice_get items 0 ≡ Some m
-      → nat_lt (length (other_items items)) capacity ≡ true
-  room_now [] m capacity fits some = absurd (cc some)
-  room_now (x ∷ items) m capacity fits some = lt-ltb (length items) capacity (omega (arith, fits))
-
-  taken_now : (items : List Message) (m : Message) (op : ℕ) → slice_get items 0 ≡ Some m → report_of_take items op ≡ Done op (first_item items)
-  taken_now [] m op some = absurd (cc some)
-  taken_now (x ∷ items) m op some = refl
-
   first_after : (line : List Tid) (can : Bool) → line ≡ [] → can ≡ true → (is_first t (line ++ t ∷ []) && can) ≡ true
   first_after line can empty_now on = ap (λ l. is_first t (l ++ t ∷ []) && can) empty_now ∙ and_from _ can (same_tid_self t) on
 
   most_moved : (woke : Option Tid) → steps_to_move setup c woke ≤ 3
-  most_moved woke = by_away (is_away setup c woke)
-    where
-      by_away : (away : Bool) → (if away then 3 else 0) ≤ 3
-      by_away true = omega arith
-      by_away false = omega arith
+  most_moved woke = grind arith
 
   -- so many steps as the homes of the woken threads make them
   ends_at : (n m : ℕ) (e : Kind) (b : BufId) → n ≡ m → IsBack n e b → IsBack m e b
@@ -216,28 +140,26 @@ module _ (setup : Setup) (room : ℕ) (s : Whole) (c : CpuId) (p : Private) (t :
         → Gets setup c t s 9 (put m (entered t Senders (record k { busy = Some t }))) (record now { stage = Signals }) traced 12
         → Returned setup c t s (9 + (9 + (steps_to_move setup c woke + 0))) traced
     sent_back m now traced woke is line wakes_so gets =
-        let most = most_moved woke in
         let at = put m (entered t Senders (record k { busy = Some t })) in
         ending setup c t s 9 12 at now traced woke None
         (ap (λ a. answer_of_buffer (first_signal t (side_of a)) at) is ∙ ap wakes wakes_so)
         (ap (λ a. answer_of_buffer (second_signal t (side_of a)) (edited_buffer (first_signal t (side_of a)) at)) is
         ∙ ap wakes (due_none at.send_line k.waiting_senders _ (ap (λ l. rest (l ++ t ∷ [])) line)))
         (ap (λ a. (edited_buffer (second_signal t (side_of a)) (edited_buffer (first_signal t (side_of a)) at)).sleepers) is ∙ none)
-        (omega (arith, most)) gets
+        (omega (arith, most_moved woke)) gets
 
     received_back : (now : Call) (traced : List Entry) (woke : Option Tid) → now.asks ≡ Receives
         → k.receive_line ≡ [] → due_sender (taken (entered t Receivers (record k { busy = Some t }))) ≡ woke
         → Gets setup c t s 9 (taken (entered t Receivers (record k { busy = Some t }))) (record now { stage = Signals }) traced 12
         → Returned setup c t s (9 + (9 + (steps_to_move setup c woke + 0))) traced
     received_back now traced woke is line wakes_so gets =
-        let most = most_moved woke in
         let at = taken (entered t Receivers (record k { busy = Some t })) in
         ending setup c t s 9 12 at now traced woke None
         (ap (λ a. answer_of_buffer (first_signal t (side_of a)) at) is ∙ ap wakes wakes_so)
         (ap (λ a. answer_of_buffer (second_signal t (side_of a)) (edited_buffer (first_signal t (side_of a)) at)) is
         ∙ ap wakes (due_none at.receive_line k.waiting_receivers _ (ap (λ l. rest (l ++ t ∷ [])) line)))
         (ap (λ a. (edited_buffer (second_signal t (side_of a)) (edited_buffer (first_signal t (side_of a)) at)).sleepers) is ∙ none)
-        (omega (arith, most)) gets
+        (omega (arith, most_moved woke)) gets
 
     closed_back : (m : Message) → choice setup c p ≡ Goes (with_call p t (Some (new_call Closes b m)))
         → IsBack (steps_to_return setup c CloseKind k) CloseKind b
@@ -268,7 +190,7 @@ module _ (setup : Setup) (room : ℕ) (s : Whole) (c : CpuId) (p : Private) (t :
         ends_at (9 + (9 + (steps_to_move setup c woke + 0))) (steps_to_return setup c SendKind k) SendKind b (omega arith)
         (told _ SendKind b (entry_of c t now k.effects begin.0) (refl, refl, refl)
         (sent_back begin.0 (record now { effect = Some k.effects }) _ woke refl line
-        (woken_is (front_stands_in k.receive_line k.waiting_receivers) _ (front k.receive_line) (some_now k.closed k.items begin.0)) done))
+        (woken_is (front_stands_in k.receive_line k.waiting_receivers) _ (front k.receive_line) (grind (arith, lt-ltb, length-append))) done))
     returns SendClosed m at_call allowed line =
         let begin = begins_as Sends b (stands_at setup p t) refl at_call in
         let now = record (queued Sends b begin.0 k.send_positions) { closed = true } in
@@ -276,18 +198,18 @@ module _ (setup : Setup) (room : ℕ) (s : Whole) (c : CpuId) (p : Private) (t :
         (ap (λ d. report_of_put d k.effects begin.0) allowed) refl (λ q. refl) in
         told 18 SendClosed b (entry_of c t now k.effects begin.0) (refl, refl, refl)
         (sent_back begin.0 (record now { effect = Some k.effects }) _ None refl line
-        (woken_none (front_stands_in k.receive_line k.waiting_receivers) k.closed _ _ (front k.receive_line) (calm b k block free).1 allowed) done)
+        (grind (arith, (calm b k block free).1, allowed)) done)
     returns RecvKind m at_call allowed line =
         let begin = begins_as Receives b (stands_at setup p t) refl at_call in
         let now = record (queued Receives b begin.0 k.receive_positions) { message = first_item k.items } in
         let woke = first_waiter Senders k in
         let done = received begin.0 (Done k.effects (first_item k.items)) now begin.1 line (taking k RecvKind m refl allowed)
-        (taken_now k.items m k.effects allowed) refl (λ q. refl) in
+        (grind (arith, allowed)) refl (λ q. refl) in
         ends_at (9 + (9 + (steps_to_move setup c woke + 0))) (steps_to_return setup c RecvKind k) RecvKind b (omega arith)
         (told _ RecvKind b (entry_of c t now k.effects (first_item k.items)) (refl, refl, refl)
         (received_back (record now { effect = Some k.effects }) _ woke refl line
         (woken_is (front_stands_in k.send_line k.waiting_senders) _ (front k.send_line)
-        (or_right k.closed _ (room_now k.items m k.capacity (holds_no_more setup (sections_in s.log) b k block) allowed))) done))
+        (or_right k.closed _ (grind (arith, lt-ltb, holds_no_more setup (sections_in s.log) b k block, allowed)))) done))
     returns RecvClosed m at_call allowed line =
         let begin = begins_as Receives b (stands_at setup p t) refl at_call in
         let now = record (queued Receives b begin.0 k.receive_positions) { closed = true } in
@@ -295,43 +217,14 @@ module _ (setup : Setup) (room : ℕ) (s : Whole) (c : CpuId) (p : Private) (t :
         (ap (λ l. report_of_take l k.effects) allowed.1) refl (λ q. refl) in
         told 18 RecvClosed b (entry_of c t now k.effects begin.0) (refl, refl, refl)
         (received_back (record now { effect = Some k.effects }) _ None refl line
-        (woken_none (front_stands_in k.send_line k.waiting_senders) k.closed _ _ (front k.send_line) (calm b k block free).0 allowed.0) done)
+        (grind (arith, (calm b k block free).0, allowed.0)) done)
     returns CloseKind m at_call allowed line =
         let begin = begins_as Closes b (stands_at setup p t) refl at_call in
         closed_back begin.0 begin.1
 
   -- where both lines wait beside a buffer that is not due to either, nothing fits in
   pub no_room : (k : Buffer) → IsCalm k → 18 < steps_to_return setup c CloseKind k → k.capacity ≡ 0
-  no_room k nobody more = by_fronts (front_stands_in k.receive_line k.waiting_receivers) (front_stands_in k.send_line k.waiting_senders) refl refl more
-    where
-      none_fits : (capacity : ℕ) → nat_lt 0 capacity ≡ false → capacity ≡ 0
-      none_fits capacity off = by_size (cases_lt 0 capacity)
-        where
-          by_size : (0 < capacity) ⊎ (capacity ≤ 0) → capacity ≡ 0
-          by_size (inl some) = refuted off (lt-ltb 0 capacity some)
-          by_size (inr small_one) = omega (arith, small_one)
-
-      full : (closed : Bool) (items : List Message) (capacity : ℕ) → (closed || nat_lt 0 (length items)) ≡ false
-          → (closed || nat_lt (length items) capacity) ≡ false → capacity ≡ 0
-      full true items capacity no_take no_put = absurd (cc no_take)
-      full false [] capacity no_take no_put = none_fits capacity no_put
-      full false (x ∷ items) capacity no_take no_put = refuted no_take (lt-ltb 0 (length (x ∷ items)) (omega arith))
-
-      by_fronts : (receiver sender : Bool) → front_stands_in k.receive_line k.waiting_receivers ≡ receiver
-          → front_stands_in k.send_line k.waiting_senders ≡ sender
-          → 18 < 15 + (steps_to_move setup c (if receiver then front k.receive_line else None)
-          + steps_to_move setup c (if sender then front k.send_line else None))
-          → k.capacity ≡ 0
-      by_fronts true true first_receives first_sends more =
-          full k.closed k.items k.capacity (sym (ap (λ d. d && can_take k) first_receives) ∙ nobody.1) (sym (ap (λ d. d && can_put k) first_sends) ∙ nobody.0)
-      by_fronts true false first_receives first_sends more =
-          let most = most_moved (front k.receive_line) in
-          let zero_more : steps_to_move setup c None ≡ 0 = refl in absurd (omega (arith, most, more, zero_more))
-      by_fronts false true first_receives first_sends more =
-          let most = most_moved (front k.send_line) in
-          let zero_more : steps_to_move setup c None ≡ 0 = refl in absurd (omega (arith, most, more, zero_more))
-      by_fronts false false first_receives first_sends more =
-          let zero_more : steps_to_move setup c None ≡ 0 = refl in absurd (omega (arith, more, zero_more))
+  no_room k nobody more = grind (arith, cases_lt, refuted, lt-ltb, most_moved)
 
 pub calls_return_alone : CallsReturnAlone
 calls_return_alone setup room s c p t few reached ready space =

@@ -1,27 +1,19 @@
 -- What a section leaves of the agreement: the caller's CPU moves on, and all others stay in agreement.
-use Rattle.std.proofs.Common.{◌≡◌, ℕ, ◌+◌, ◌<◌, Bool, true, false, not, ◌&&◌, List, [], ◌∷◌, ◌++◌, length, Option, Some, None, is_some, nat_lt, if◌then◌else◌}
-use Rattle.std.proofs.Common.{refl, sym, ap, ◌∙◌, subst, arith}
-use Rattle.std.proofs.lemmas.Bool.{and_from, and_left, and_right, false_from_ne_true}
-use Rattle.event_log.specs.{declared.ids.CpuId.CpuId, declared.ids.Tid.Tid, declared.entries.Entry.Entry, History.same_cpu, Messages.Message, Runs.Group}
-use Rattle.event_log.specs.{Runs.Sends, Runs.Receives, Runs.Closes}
-use Rattle.guest.specs.State.{State}
-use Rattle.thread_blocks.specs.Queues.{same_tid}
-use Rattle.thread_blocks.proofs.Members.{same_tid_self, same_tid_true}
-use Rattle.layer_traits.specs.{declared.locked.Side.Side, declared.locked.Side.TheVariants.Receivers, declared.locked.Side.TheVariants.Senders, Places.Where}
-use Rattle.layer_traits.specs.{Places.Home, Places.Hand, Places.Pend as IsPending, Places.Asleep, Places.is_home, Places.is_hand, Places.is_thread}
-use Rattle.layer_traits.specs.{Places.one_if, Places.count_in, declared.call_states.Stage.Stage}
-use Rattle.layer_traits.proofs.CountLemmas.{same_tid_sym, count_append}
-use Rattle.cpu.specs.Table.Blocks.{Buffer, Name, TryPut, TryTake, Pend, TakeAll, side_of, Reported, Done, WasClosed, NotYet, Answer}
-use Rattle.cpu.specs.{Table.Edits.may_put, Table.Edits.may_take, Table.Edits.report_of_put, Table.Edits.report_of_take, Table.Edits.answer_of_buffer}
-use Rattle.cpu.specs.{Table.Edits.drawn_position, Wakeups.Order.Begins, Wakeups.Order.HasEntered, Wakeups.Order.WasRefused, Wakeups.Order.Owes}
-use Rattle.layer_traits.specs.declared.call_states.Stage.TheVariants.{Idle, Acquires, Enters, Tries, Waits, AcquiresAgain, Signals, SignalsOwn, Releases}
-use Rattle.cpu.specs.Table.Setups.{Setup, Call, Thread, Private, thread_at, with_thread, home_of, stands_at}
-use Rattle.cpu.specs.Table.Choice.{section_at, first_section, try_of, first_signal, second_signal, with_call, with_guest, goes_to, recorded, recorded_entry}
-use Rattle.cpu.specs.Table.Choice.{recorded_try, entry_of, slept_if, woken, returned_at, returned_by, returned_in, settled, guest_after, after_call}
-use Rattle.cpu.proofs.Wakeups.{Lists.refuted, PostsAndVisits.Visit, PostsAndVisits.Outside, PostsAndVisits.In, PostsAndVisits.is_pending, PostsAndVisits.caller_in, PostsAndVisits.is_caller, PostsAndVisits.waiters_of}
-use Rattle.cpu.proofs.Wakeups.{PostsAndVisits.post_slept, PostsAndVisits.post_moved, PostsAndVisits.post_drained, PostsAndVisits.post_pending, PostsAndVisits.next_visit, PostsAndVisits.visit_moved, PostsAndVisits.is_local}
-use Rattle.cpu.proofs.Wakeups.Agreement.{owing_own, visit_of_stage, visit_of_call, is_last, is_done, seat, Agrees, IsSettled, at_same, at_other, Same}
-use Rattle.cpu.proofs.Wakeups.Agreement.{same_with, agrees_same, runs, within, agrees_slept, agrees_woken}
+use Rattle.std.proofs.Common.{◌≡◌, ℕ, ◌+◌, ◌<◌, Bool, true, false, ◌&&◌, List, [], ◌∷◌, ◌++◌, length, Option, Some, None, is_some, nat_lt, if◌then◌else◌, refl}
+use Rattle.std.proofs.{Common.{sym, ap, ◌∙◌, subst, arith}, lemmas.Bool.{and_from, and_left, and_right, false_from_ne_true}}
+use Rattle.event_log.specs.{declared.{ids.{CpuId.CpuId, Tid.Tid}, entries.Entry.Entry}, History.same_cpu, Messages.Message, Runs.{Group, Sends, Receives}}
+use Rattle.{event_log.specs.Runs.Closes, guest.specs.State.State, thread_blocks.{specs.Queues.same_tid, proofs.Members.{same_tid_self, same_tid_true}}}
+use Rattle.layer_traits.specs.declared.{locked.Side.TheVariants.{Receivers, Senders}, call_states.Stage.{Stage, TheVariants.{Idle, Acquires, Enters}}}
+use Rattle.layer_traits.specs.{declared.call_states.Stage.TheVariants.{Tries, Waits, AcquiresAgain, Signals, SignalsOwn, Releases}, Places.Where}
+use Rattle.layer_traits.{specs.Places.{Pend as IsPending, is_home, is_hand, is_thread, one_if, count_in}, proofs.CountLemmas.{same_tid_sym, count_append}}
+use Rattle.cpu.specs.Table.{Blocks.{Buffer, Name, Pend, TakeAll, side_of, Reported, Done, WasClosed, NotYet, Answer}, Edits.{report_of_put, report_of_take}}
+use Rattle.cpu.specs.Table.{Edits.{answer_of_buffer, drawn_position}, Setups.{Setup, Call, Thread, Private, thread_at, with_thread, home_of, stands_at}}
+use Rattle.cpu.specs.Table.Choice.{section_at, first_section, with_call, with_guest, goes_to, recorded, recorded_entry}
+use Rattle.cpu.specs.Table.Choice.{recorded_try, entry_of, slept_if, woken, returned_at, returned_in, settled, guest_after, after_call}
+use Rattle.cpu.{specs.Wakeups.Order.{Begins, HasEntered, WasRefused, Owes}, proofs.Wakeups.{Lists.refuted, PostsAndVisits.{Visit, Outside, In, is_pending}}}
+use Rattle.cpu.proofs.Wakeups.PostsAndVisits.{caller_in, is_caller, waiters_of, post_slept, post_moved, post_drained, post_pending, next_visit, visit_moved}
+use Rattle.cpu.proofs.Wakeups.{PostsAndVisits.is_local, Agreement.{visit_of_stage, visit_of_call, is_last, is_done, seat, Agrees, IsSettled}}
+use Rattle.cpu.proofs.Wakeups.Agreement.{at_same, at_other, Same, same_with, agrees_same, runs, within, agrees_slept, agrees_woken}
 
 -- A call returns once the hand is empty.
 
@@ -35,7 +27,7 @@ module _ (setup : Setup) (c : CpuId) where
       → Agrees setup c (returned_in setup p hand current) T P × IsSettled setup c (returned_in setup p hand current)
   settled_in p T P agrees done (Some s) current holds runs_now = (agrees, λ u local is. (ap is_some holds, done u local is))
   settled_in p T P agrees done None None holds runs_now = (agrees, λ u local is. refuted (ap (is_thread u) runs_now) (done u local is))
-  settled_in p T P agrees done None (Some t) holds runs_now = by_call (thread_at p t).call refl
+  settled_in p T P agrees done None (Some t) holds runs_now = grind (arith, not_yet, by_stage)
     where
       others_done : (u : Tid) → is_local setup c u ≡ true → is_done (thread_at p u).call ≡ true → same_tid t u ≡ true
       others_done u local is = sym (ap (is_thread u) runs_now) ∙ done u local is
@@ -54,33 +46,9 @@ module _ (setup : Setup) (c : CpuId) where
           let none : (thread_at (with_thread p t x) t).call ≡ None = ap (λ y. y.call) (at_same p t x known) in
           let visit_now : T t ≡ Outside = agrees.calls t local ∙ ap visit_of_call is ∙ ap (visit_of_stage call.buffer (side_of call.asks)) at in (
             agrees_same setup c p (with_thread p t x) t T T P agrees same (λ u other. refl) (visit_now ∙ ap visit_of_call (sym none)),
-            λ u mine done_now. returned_done u mine done_now (same_tid t u) refl x same none,
+            λ u mine done_now. grind (arith, refuted, same_tid_true, others_done, at_other, mine, done_now, same, none),
           )
-        where
-          returned_done : (u : Tid) → is_local setup c u ≡ true
-              → is_done (thread_at (with_thread p t (record (thread_at p t)
-              { guest = guest_after call.asks call.closed (stands_at setup p t) call.message (thread_at p t).guest; call = None })) u).call ≡ true
-              → (mine : Bool) → same_tid t u ≡ mine → (x : Thread) → Same p (with_thread p t x) t
-              → (thread_at (with_thread p t (record (thread_at p t)
-              { guest = guest_after call.asks call.closed (stands_at setup p t) call.message (thread_at p t).guest; call = None })) t).call ≡ None
-              → (is_some p.hand ≡ true) × (is_thread u p.current ≡ true)
-          returned_done u mine on true is x same none =
-              refuted (ap is_done none)
-              (subst (λ v. is_done (thread_at (with_thread p t (record (thread_at p t)
-              { guest = guest_after call.asks call.closed (stands_at setup p t) call.message (thread_at p t).guest; call = None })) v).call ≡ true)
-              (sym (same_tid_true t u is)) on)
-          returned_done u mine on false other x same none =
-              refuted other (others_done u mine (subst (λ y. is_done y.call ≡ true)
-              (at_other p t u (record (thread_at p t) {
-                guest = guest_after call.asks call.closed (stands_at setup p t) call.message (thread_at p t).guest;
-                call = None;
-              }) other) on))
       by_stage call is stage at = (agrees, not_yet (ap is_done is ∙ ap is_last at))
-
-      by_call : (call : Option Call) → (thread_at p t).call ≡ call
-          → Agrees setup c (returned_by setup p t call) T P × IsSettled setup c (returned_by setup p t call)
-      by_call None is = (agrees, not_yet (ap is_done is))
-      by_call (Some call) is = by_stage call is call.stage refl
 
   pub agrees_settled : (p : Private) (T : Tid → Visit) (P : Tid → Where) → Agrees setup c p T P → DoneRuns setup c p
       → Agrees setup c (settled setup p) T P × IsSettled setup c (settled setup p)
@@ -89,24 +57,7 @@ module _ (setup : Setup) (c : CpuId) where
 -- The stage of a call, and what its section tells.
 
 pub section_caller : (t : Tid) (call : Call) (stage : Stage) → caller_in (section_at t call stage) ≡ Some t
-section_caller t call stage = by_asks call.asks stage
-  where
-    by_side : (side : Side) → (caller_in (try_of t call side) ≡ Some t) × (caller_in (first_signal t side) ≡ Some t)
-        × (caller_in (second_signal t side) ≡ Some t)
-    by_side Senders = (refl, refl, refl)
-    by_side Receivers = (refl, refl, refl)
-
-    by_first : (asks : Group) → caller_in (first_section t asks) ≡ Some t
-    by_first Sends = refl
-    by_first Receives = refl
-    by_first Closes = refl
-
-    by_asks : (asks : Group) (stage : Stage) → caller_in (section_at t call stage) ≡ Some t
-    by_asks asks Enters = by_first call.asks
-    by_asks asks Tries = (by_side (side_of call.asks)).0
-    by_asks asks Signals = (by_side (side_of call.asks)).1
-    by_asks asks SignalsOwn = (by_side (side_of call.asks)).2
-    by_asks asks stage = refl
+section_caller t call stage = grind arith
 
 -- whether the section is the last of its call
 abbrev pub is_release : Stage → Bool
@@ -129,18 +80,7 @@ module _ (p : Private) (t : Tid) (known : t.0 < length p.threads) where
 
   recorded_traced : (q : Private) (next : Visit) (ends : Bool) (trace : List Entry) → Recorded p q t next ends
       → Recorded p (record q { trace = trace }) t next ends
-  recorded_traced q next ends trace was = record {
-    same = record {
-      current = was.same.current;
-      ready = was.same.ready;
-      hand = was.same.hand;
-      size = was.same.size;
-      ended = was.same.ended;
-      others = was.same.others;
-    };
-    call = was.call;
-    last = was.last;
-  }
+  recorded_traced q next ends trace was = grind arith
 
   module _ (c : CpuId) (call : Call) (k : Buffer) where
     at_entry : (asks : Group) → call.asks ≡ asks
@@ -182,78 +122,29 @@ module _ (p : Private) (t : Tid) (known : t.0 < length p.threads) where
     at_try true told does = does
     at_try false told does = recorded_call (record call { stage = Waits })
 
-    at_tries : (asks : Group) → call.asks ≡ asks
-        → Recorded p (recorded_try c p t call (answer_of_buffer (try_of t call (side_of asks)) k).told) t
-        (next_visit call.buffer (try_of t call (side_of asks)) k (In call.buffer (HasEntered (side_of asks)))) false
-    at_tries Sends is =
-        subst (λ a. Recorded p (recorded_try c p t call (answer_of_buffer (TryPut t call.message) k).told) t
-        (In call.buffer (if may_put t k then Owes true true else WasRefused (side_of a))) false) is
-        (at_try (may_put t k) (report_of_put k.closed k.effects call.message) (at_put k.closed k.effects call.message))
-    at_tries Receives is =
-        subst (λ a. Recorded p (recorded_try c p t call (answer_of_buffer (TryTake t) k).told) t
-        (In call.buffer (if may_take t k then Owes true true else WasRefused (side_of a))) false) is
-        (at_try (may_take t k) (report_of_take k.items k.effects) (at_take k.items k.effects))
-    at_tries Closes is =
-        subst (λ a. Recorded p (recorded_try c p t call (answer_of_buffer (TryPut t call.message) k).told) t
-        (In call.buffer (if may_put t k then Owes true true else WasRefused (side_of a))) false) is
-        (at_try (may_put t k) (report_of_put k.closed k.effects call.message) (at_put k.closed k.effects call.message))
-
-    signal_visit : (side : Side) → next_visit call.buffer (first_signal t side) k (In call.buffer (Owes true true)) ≡ In call.buffer (owing_own side)
-    signal_visit Senders = refl
-    signal_visit Receivers = refl
-
-    own_visit : (side : Side) → next_visit call.buffer (second_signal t side) k (In call.buffer (owing_own side)) ≡ In call.buffer (Owes false false)
-    own_visit Senders = refl
-    own_visit Receivers = refl
-
     -- what a call hears at each stage
     pub recorded_at : (stage : Stage) → is_last stage ≡ false
         → Recorded p (recorded c p t call stage (answer_of_buffer (section_at t call stage) k).told) t
         (next_visit call.buffer (section_at t call stage) k (visit_of_stage call.buffer (side_of call.asks) stage)) (is_release stage)
     recorded_at Acquires going = recorded_call (record call { stage = Enters })
     recorded_at Enters going = at_entry call.asks refl
-    recorded_at Tries going = at_tries call.asks refl
     recorded_at Waits going = recorded_call (record call { stage = AcquiresAgain })
     recorded_at AcquiresAgain going = recorded_call (record call { stage = Tries })
     recorded_at Signals going =
-        subst (λ z. Recorded p (goes_to p t call SignalsOwn) t z false) (sym (signal_visit (side_of call.asks))) (recorded_call
+        subst (λ z. Recorded p (goes_to p t call SignalsOwn) t z false) (sym (grind arith)) (recorded_call
         (record call { stage = SignalsOwn }))
     recorded_at SignalsOwn going =
-        subst (λ z. Recorded p (goes_to p t call Releases) t z false) (sym (own_visit (side_of call.asks))) (recorded_call (record call { stage = Releases }))
+        subst (λ z. Recorded p (goes_to p t call Releases) t z false) (sym (grind arith)) (recorded_call (record call { stage = Releases }))
     recorded_at Releases going = recorded_call (record call { stage = Idle })
-    recorded_at Idle going = absurd (cc going)
-
--- the section after which a call is done puts nobody to sleep
-pub release_awake : (t : Tid) (call : Call) (k : Buffer) (stage : Stage) → is_release stage ≡ true
-    → (answer_of_buffer (section_at t call stage) k).slept ≡ false
-release_awake t call k Releases on = refl
-release_awake t call k stage on = absurd (cc on)
+    recorded_at stage going = grind (arith, call, at_try, at_put, at_take)
 
 -- A section of the current thread's call.
 
 pub slept_hand : (slept : Bool) (p : Private) → (slept_if slept p).hand ≡ p.hand
-slept_hand true p = refl
-slept_hand false p = refl
-
-pub slept_calls : (slept : Bool) (p : Private) (u : Tid) → (thread_at (slept_if slept p) u).call ≡ (thread_at p u).call
-slept_calls true p u = refl
-slept_calls false p u = refl
+slept_hand slept p = grind arith
 
 pub woken_threads : (setup : Setup) (c : CpuId) (woke : Option Tid) (p : Private) (u : Tid) → (thread_at (woken setup c woke p) u).call ≡ (thread_at p u).call
-woken_threads setup c None p u = refl
-woken_threads setup c (Some s) p u = by_test (same_cpu (home_of setup s) c)
-  where
-    by_test : (here : Bool) → (thread_at (if here then record p { ready = p.ready ++ s ∷ [] } else record p { hand = Some s }) u).call ≡ (thread_at p u).call
-    by_test true = refl
-    by_test false = refl
-
-pub woken_current : (setup : Setup) (c : CpuId) (woke : Option Tid) (p : Private) → (woken setup c woke p).current ≡ p.current
-woken_current setup c None p = refl
-woken_current setup c (Some s) p = by_test (same_cpu (home_of setup s) c)
-  where
-    by_test : (here : Bool) → (if here then record p { ready = p.ready ++ s ∷ [] } else record p { hand = Some s }).current ≡ p.current
-    by_test true = refl
-    by_test false = refl
+woken_threads setup c woke p u = grind arith
 
 -- in a private state that agrees, the hand is empty and thread t runs within this call
 pub record IsCalling (setup : Setup) (c : CpuId) (p : Private) (T : Tid → Visit) (P : Tid → Where) (t : Tid) (call : Call) : Type 0 where
@@ -303,10 +194,7 @@ module _ (setup : Setup) (c : CpuId) (p : Private) (T : Tid → Visit) (P : Tid 
     others u other = ap (is_thread u) (section_caller t call call.stage) ∙ other
 
     visit_now : N t ≡ visit_of_call (thread_at recorded_now t).call
-    visit_now =
-        ap (λ d. if d then next_visit call.buffer name k (T t) else T t) mine
-        ∙ ap (next_visit call.buffer name k) (agrees.calls t local_now ∙ ap visit_of_call is)
-        ∙ sym recorded_is.call
+    visit_now = grind (arith, call, mine, agrees, local_now, is, recorded_is)
 
     agrees_recorded : Agrees setup c recorded_now N P
     agrees_recorded =
@@ -322,16 +210,11 @@ module _ (setup : Setup) (c : CpuId) (p : Private) (T : Tid → Visit) (P : Tid 
         (λ u other. ap (λ d. if d then waiters_of call.buffer name else P u) (and_right a.slept (is_caller u name) (others u other)))
         (λ off. ap (λ d. if d then waiters_of call.buffer name else P t) (and_left a.slept (is_caller t name) off))
         (λ on.
-        let at : is_waiter t ≡ waiters_of call.buffer name = ap (λ d. if d then waiters_of call.buffer name else P t) (and_from a.slept
-        (is_caller t name) on mine) in
+        let at = ap (λ d. if d then waiters_of call.buffer name else P t) (and_from a.slept (is_caller t name) on mine) in
         (ap is_home at, ap (is_hand c) at))
 
     no_home : (s : Tid) → a.woke ≡ Some s → (is_home (is_waiter s) ≡ false) × (nat_lt s.0 (length setup.homes) ≡ true)
-    no_home s woke = (by_test (a.slept && is_caller s name), (asleep s woke).1)
-      where
-        by_test : (d : Bool) → is_home (if d then waiters_of call.buffer name else P s) ≡ false
-        by_test true = refl
-        by_test false = (asleep s woke).0
+    no_home s woke = grind (arith, call)
 
     agrees_after : Agrees setup c (woken setup c a.woke (slept_if a.slept recorded_now)) N now
     agrees_after =
@@ -340,18 +223,12 @@ module _ (setup : Setup) (c : CpuId) (p : Private) (T : Tid → Visit) (P : Tid 
 
     done_after : DoneRuns setup c (woken setup c a.woke (slept_if a.slept recorded_now))
     done_after u local done =
-        by_test (same_tid t u) refl (sym (woken_threads setup c a.woke (slept_if a.slept recorded_now) u ∙ slept_calls a.slept recorded_now u))
+        by_test (same_tid t u) refl (sym (woken_threads setup c a.woke (slept_if a.slept recorded_now) u ∙ (grind arith)))
       where
         by_test : (own : Bool) → same_tid t u ≡ own
             → (thread_at recorded_now u).call ≡ (thread_at (woken setup c a.woke (slept_if a.slept recorded_now)) u).call
             → is_thread u (woken setup c a.woke (slept_if a.slept recorded_now)).current ≡ true
-        by_test true same calls =
-            let release : is_release call.stage ≡ true =
-            sym recorded_is.last ∙ subst (λ v. is_done (thread_at recorded_now v).call ≡ true) (sym (same_tid_true t u same)) (ap is_done calls ∙ done) in
-            let awake : a.slept ≡ false = release_awake t call k call.stage release in
-            let current : (woken setup c a.woke (slept_if a.slept recorded_now)).current ≡ Some t =
-            woken_current setup c a.woke (slept_if a.slept recorded_now) ∙ ap (λ d. (slept_if d recorded_now).current) awake ∙ runs_recorded in
-            ap (is_thread u) current ∙ same
+        by_test true same calls = grind (arith, call, recorded_is, same_tid_true, runs_recorded)
         by_test false other calls =
             refuted (ap is_some empty) (settled_before u local (ap is_done (sym (recorded_is.same.others u other) ∙ calls) ∙ done)).0
 
@@ -360,18 +237,8 @@ module _ (setup : Setup) (c : CpuId) (p : Private) (T : Tid → Visit) (P : Tid 
 
 -- A section on pending threads.
 
-pub hand_not_home : (c : CpuId) (x : Where) → is_hand c x ≡ true → is_home x ≡ false
-hand_not_home c Home on = absurd (cc on)
-hand_not_home c x on = refl
-
 pub drained_hand : (c : CpuId) (x : Where) → is_hand c (post_drained x) ≡ is_hand c x
-drained_hand c Home = refl
-drained_hand c other = refl
-
-drained_stays_home : (x : Where) → is_home x ≡ true → is_home (post_drained x) ≡ true
-drained_stays_home (Hand d) on = absurd (cc on)
-drained_stays_home (Asleep p) on = absurd (cc on)
-drained_stays_home x on = refl
+drained_hand c x = grind arith
 
 module _ (setup : Setup) (c : CpuId) (p : Private) (T : Tid → Visit) (P : Tid → Where)
     (agrees : Agrees setup c p T P) (settled_before : IsSettled setup c p) where
@@ -387,98 +254,37 @@ module _ (setup : Setup) (c : CpuId) (p : Private) (T : Tid → Visit) (P : Tid 
 
       sits : (u : Tid) (mine : Bool) → same_tid s u ≡ mine
           → one_if (is_thread u p.current) + count_in u p.ready ≡ one_if (seat setup c u (if mine then IsPending d else P u) (thread_at p u).ended)
-      sits u true is =
-          agrees.seats u ∙ ap (λ h. one_if (is_local setup c u && (h && not (thread_at p u).ended)))
-          (subst (λ v. is_home (P v) ≡ false) (same_tid_true s u is) (hand_not_home c (P s) held))
-      sits u false other = agrees.seats u
-
-      empties : (u : Tid) (mine : Bool) → same_tid s u ≡ mine → is_thread u None ≡ is_hand c (if mine then IsPending d else P u)
-      empties u true is = refl
-      empties u false other = sym (ap (is_thread u) holds ∙ other) ∙ agrees.hands u
+      sits u mine is = grind (arith, agrees, same_tid_true, held)
 
       at_home : (u : Tid) → is_local setup c u ≡ true → (thread_at p u).ended ≡ true → (mine : Bool)
           → same_tid s u ≡ mine → is_home (if mine then IsPending d else P u) ≡ true
-      at_home u local ended true is =
-          refuted (subst (λ v. is_home (P v) ≡ false) (same_tid_true s u is) (hand_not_home c (P s) held)) (agrees.ends u local ended)
-      at_home u local ended false other = agrees.ends u local ended
+      at_home u local ended mine is = grind (arith, refuted, same_tid_true, held, agrees)
 
       emptied : Agrees setup c (record p { hand = None }) T (λ u. post_pending setup d u (Pend s) (P u))
-      emptied = record {
-        size = agrees.size;
-        calls = agrees.calls;
-        seats = λ u. sits u (same_tid s u) refl;
-        hands = λ u. empties u (same_tid s u) refl;
-        ends = λ u local ended. at_home u local ended (same_tid s u) refl;
-      }
+      emptied = grind (arith, agrees, sits, at_home)
 
   -- those that were pending are ready
   pub agrees_drained : (list : List Tid) → ((u : Tid) → count_in u list ≡ one_if (same_cpu (home_of setup u) c && is_pending (P u)))
       → ((u : Tid) → is_home (P u) ≡ false → nat_lt u.0 (length setup.homes) ≡ true)
       → Agrees setup c (record p { ready = p.ready ++ list }) T (λ u. post_pending setup c u TakeAll (P u))
-  agrees_drained list counts known = record {
-    size = agrees.size;
-    calls = agrees.calls;
-    seats = λ u. sits u (same_cpu (home_of setup u) c) refl (P u) refl;
-    hands = λ u. agrees.hands u ∙ held u (same_cpu (home_of setup u) c);
-    ends = λ u local ended. at_home u (same_cpu (home_of setup u) c) (agrees.ends u local ended);
-  }
+  agrees_drained list counts known = grind (arith, agrees, sits, held, at_home)
     where
-      unmoved : (u : Tid) → same_cpu (home_of setup u) c ≡ true → (x : Where) → P u ≡ x → is_pending x ≡ false → post_drained x ≡ x
-          → one_if (is_thread u p.current) + count_in u (p.ready ++ list) ≡ one_if (seat setup c u (post_drained (P u)) (thread_at p u).ended)
-      unmoved u here x at off still =
-          let none : count_in u list ≡ 0 = counts u ∙ (λ i. one_if (here i && is_pending (at i))) ∙ ap one_if off in
-          let more : count_in u (p.ready ++ list) ≡ count_in u p.ready + count_in u list = count_append u p.ready list in
-          let now : one_if (is_thread u p.current) + count_in u (p.ready ++ list) ≡ one_if (is_thread u p.current) + count_in u p.ready =
-          omega (arith, none, more) in
-          let same : P u ≡ post_drained (P u) = at ∙ sym still ∙ ap post_drained (sym at) in
-          now ∙ agrees.seats u ∙ ap (λ y. one_if (seat setup c u y (thread_at p u).ended)) same
-
       sits : (u : Tid) (here : Bool) → same_cpu (home_of setup u) c ≡ here → (x : Where) → P u ≡ x
           → one_if (is_thread u p.current) + count_in u (p.ready ++ list)
           ≡ one_if (seat setup c u (if here then post_drained (P u) else P u) (thread_at p u).ended)
-      sits u false away x at =
-          let none : count_in u list ≡ 0 = counts u ∙ ap (λ b. one_if (b && is_pending (P u))) away in
-          let more : count_in u (p.ready ++ list) ≡ count_in u p.ready + count_in u list = count_append u p.ready list in
-          let now : one_if (is_thread u p.current) + count_in u (p.ready ++ list) ≡ one_if (is_thread u p.current) + count_in u p.ready =
-          omega (arith, none, more) in
-          now ∙ agrees.seats u
-      sits u true here (IsPending q) at =
-          let one : count_in u list ≡ 1 = counts u ∙ (λ i. one_if (here i && is_pending (at i))) in
-          let more : count_in u (p.ready ++ list) ≡ count_in u p.ready + count_in u list = count_append u p.ready list in
-          let none : one_if (is_thread u p.current) + count_in u p.ready ≡ 0 =
-          agrees.seats u ∙ ap (λ h. one_if (is_local setup c u && (h && not (thread_at p u).ended))) (ap is_home at)
-          ∙ ap one_if (and_right (is_local setup c u) false refl) in
-          let now : one_if (is_thread u p.current) + count_in u (p.ready ++ list) ≡ 1 = omega (arith, one, more, none) in
-          let local : is_local setup c u ≡ true = and_from (same_cpu (home_of setup u) c) (nat_lt u.0 (length setup.homes)) here (known u (ap is_home at)) in
-          let alive : (thread_at p u).ended ≡ false = false_from_ne_true (thread_at p u).ended (λ e. refuted (ap is_home at) (agrees.ends u local e)) in
-          now ∙ sym ((λ i. one_if (local i && (is_home (post_drained (at i)) && not (alive i)))))
-      sits u true here Home at = unmoved u here Home at refl refl
-      sits u true here (Hand e) at = unmoved u here (Hand e) at refl refl
-      sits u true here (Asleep z) at = unmoved u here (Asleep z) at refl refl
+      sits u here away x at = grind (arith, count_append, agrees, and_right, and_from, false_from_ne_true, refuted)
 
       held : (u : Tid) (here : Bool) → is_hand c (P u) ≡ is_hand c (if here then post_drained (P u) else P u)
-      held u true = sym (drained_hand c (P u))
-      held u false = refl
+      held u here = grind (arith, drained_hand)
 
       at_home : (u : Tid) (here : Bool) → is_home (P u) ≡ true → is_home (if here then post_drained (P u) else P u) ≡ true
-      at_home u true on = drained_stays_home (P u) on
-      at_home u false on = on
+      at_home u here on = grind arith
 
 -- the current thread yields: it stands behind those that are ready, and nobody runs
 pub agrees_yielded : (setup : Setup) (c : CpuId) (p : Private) (T : Tid → Visit) (P : Tid → Where)
     → Agrees setup c p T P → (t : Tid) → p.current ≡ Some t → (guest : State)
     → Agrees setup c (record (with_guest p t guest) { current = None; ready = p.ready ++ t ∷ [] }) T P
-agrees_yielded setup c p T P agrees t runs_now guest = record {
-  size = moved.size;
-  calls = moved.calls;
-  seats = λ u.
-      let one : one_if (is_thread u p.current) ≡ one_if (same_tid u t) = ap one_if (ap (is_thread u) runs_now ∙ same_tid_sym t u) in
-      let more : count_in u (p.ready ++ t ∷ []) ≡ count_in u p.ready + (one_if (same_tid u t) + 0) = count_append u p.ready (t ∷ []) in
-      let now : one_if (is_thread u None) + count_in u (p.ready ++ t ∷ []) ≡ one_if (is_thread u p.current) + count_in u p.ready = omega (arith, one, more) in
-      now ∙ moved.seats u;
-  hands = moved.hands;
-  ends = moved.ends;
-}
+agrees_yielded setup c p T P agrees t runs_now guest = grind (arith, moved, same_tid_sym, count_append)
   where
     x : Thread
     x = record (thread_at p t) { guest = guest }
@@ -492,31 +298,9 @@ agrees_yielded setup c p T P agrees t runs_now guest = record {
         (agrees.calls t (runs setup c p T P agrees t runs_now).0
         ∙ ap (λ y. visit_of_call y.call) (sym (at_same p t (record (thread_at p t) { guest = guest }) known)))
 
--- what a thread stands at does not matter
-pub guest_calls : (p : Private) (t : Tid) (guest : State) → t.0 < length p.threads → (u : Tid)
-    → (thread_at (with_guest p t guest) u).call ≡ (thread_at p u).call
-guest_calls p t guest known u = by_test (same_tid t u) refl
-  where
-    by_test : (mine : Bool) → same_tid t u ≡ mine → (thread_at (with_guest p t guest) u).call ≡ (thread_at p u).call
-    by_test true is =
-        subst (λ v. (thread_at (with_guest p t guest) v).call ≡ (thread_at p v).call) (same_tid_true t u is)
-        (ap (λ y. y.call) (at_same p t (record (thread_at p t) { guest = guest }) known))
-    by_test false other = ap (λ y. y.call) (at_other p t u (record (thread_at p t) { guest = guest }) other)
-
 -- A section of another CPU.
 
 pub agrees_foreign : (setup : Setup) (c : CpuId) (p : Private) (T N : Tid → Visit) (P M : Tid → Where) → Agrees setup c p T P
     → ((u : Tid) → is_local setup c u ≡ true → N u ≡ T u) → ((u : Tid) → is_local setup c u ≡ true → is_home (M u) ≡ is_home (P u))
     → ((u : Tid) → is_hand c (M u) ≡ is_hand c (P u)) → Agrees setup c p N M
-agrees_foreign setup c p T N P M agrees visits homes in_hands = record {
-  size = agrees.size;
-  calls = λ u local. visits u local ∙ agrees.calls u local;
-  seats = λ u. agrees.seats u ∙ by_test u (is_local setup c u) refl;
-  hands = λ u. agrees.hands u ∙ sym (in_hands u);
-  ends = λ u local ended. homes u local ∙ agrees.ends u local ended;
-}
-  where
-    by_test : (u : Tid) (local : Bool) → is_local setup c u ≡ local
-        → one_if (local && (is_home (P u) && not (thread_at p u).ended)) ≡ one_if (local && (is_home (M u) && not (thread_at p u).ended))
-    by_test u true local = ap (λ h. one_if (h && not (thread_at p u).ended)) (sym (homes u local))
-    by_test u false local = refl
+agrees_foreign setup c p T N P M agrees visits homes in_hands = grind arith

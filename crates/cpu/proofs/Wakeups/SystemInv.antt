@@ -1,16 +1,13 @@
 -- All that is known of every state that a system reaches.
 use Rattle.std.proofs.Common.{◌≡◌, ℕ, zero, suc, ◌+◌, ◌<◌, ◌==◌, Bool, true, false, List, [], ◌∷◌, ◌++◌, length, slice_get, slice_set, Option, Some, None, refl}
-use Rattle.std.proofs.Common.{sym, ap, ◌∙◌, subst, arith}
-use Rattle.std.proofs.lemmas.{Bool.eqb-true, Bool.eqb-false, List.length-set}
-use Rattle.event_log.specs.{declared.ids.CpuId.CpuId, declared.ids.Tid.Tid, History.same_cpu, Sections.sections_in, Actions.Action, Actions.Take, Actions.Try}
-use Rattle.event_log.specs.{Actions.Give, Actions.phase}
-use Rattle.layer_traits.specs.{declared.steps.Step.Step, declared.steps.Step.TheVariants.Stepped, declared.steps.Step.TheVariants.Halted, Plans.is_in_section}
-use Rattle.cpu.specs.Table.{Blocks.Name, Setups.Setup, Setups.Private, Setups.thread_at, Setups.at_boot, Choice.Choice, Choice.Halts, Choice.Alone, Choice.Goes}
-use Rattle.cpu.specs.Table.{Choice.choice, Steps.chosen, Steps.step_in, Steps.cpu_step, Steps.Whole, Steps.cpu_numbered, Steps.boots_from, Steps.whole_at_boot}
-use Rattle.cpu.specs.Table.{Steps.whole_after, Steps.roomy, Steps.answered_by, Steps.step_at, Steps.system_step, Steps.IsReached, Steps.boots, Steps.steps}
-use Rattle.cpu.proofs.Wakeups.{PostsAndVisits.post, PostsAndVisits.visit, Placed.Placed, Placed.placed_none, Placed.placed_at, Agreement.Agrees, Agreement.runs, Agreement.within}
-use Rattle.cpu.proofs.Wakeups.{ChosenSteps.ChoiceOk, ChosenSteps.choice_ok, EndedThreads.AllFine, EndedThreads.fine_at_boot, EndedThreads.FineChoice, EndedThreads.fine_choice, EndedThreads.fine_acting}
-use Rattle.cpu.proofs.Wakeups.ReachedStates.{IsFairLog, Ok, StepOk, step_ok, AllDo, Sound, sound_step, reached_sound, get_set, get_set_other, boots_at}
+use Rattle.std.proofs.{Common.{sym, ap, ◌∙◌, subst, arith}, lemmas.{Bool.{eqb-true, eqb-false}, List.length-set}}
+use Rattle.event_log.specs.{declared.ids.{CpuId.CpuId, Tid.Tid}, History.same_cpu, Sections.sections_in, Actions.{Action, Take, Try, Give, phase}}
+use Rattle.{layer_traits.specs.{declared.steps.Step.{Step, TheVariants.{Stepped, Halted}}, Plans.is_in_section}, cpu.specs.Table.{Blocks.Name, Setups.Setup}}
+use Rattle.cpu.specs.Table.{Setups.{Private, thread_at, at_boot}, Choice.{Choice, Halts, Alone, Goes, choice}, Steps.{chosen, step_in, cpu_step, Whole}}
+use Rattle.cpu.specs.Table.Steps.{cpu_numbered, boots_from, whole_at_boot, whole_after, roomy, answered_by, step_at, system_step, IsReached, boots, steps}
+use Rattle.cpu.proofs.Wakeups.{PostsAndVisits.{post, visit}, Placed.{Placed, placed_none, placed_at}, Agreement.{Agrees, runs, within}, ChosenSteps.ChoiceOk}
+use Rattle.cpu.proofs.Wakeups.{ChosenSteps.choice_ok, EndedThreads.{AllFine, fine_at_boot, FineChoice, fine_choice, fine_acting}, ReachedStates.{IsFairLog, Ok}}
+use Rattle.cpu.proofs.Wakeups.ReachedStates.{StepOk, step_ok, AllDo, Sound, sound_step, reached_sound, get_set, get_set_other, boots_at}
 
 -- what a step of a system leaves: the same, or the state after its CPU's step
 pub data NextIs (setup : Setup) (c : CpuId) (s : Whole) : Whole → Type 0 where
@@ -84,8 +81,7 @@ inv_at_boot setup room = record {
   placed = placed_none setup;
   fine = λ e p is.
       let zero_plus : 0 + e.0 ≡ e.0 = omega arith in
-      let at : at_boot setup e ≡ p = ap (λ m. at_boot setup (cpu_numbered m)) (sym zero_plus) ∙ boots_at setup 0 setup.cpus e.0 p is in
-      subst (AllFine setup) at (fine_at_boot setup e);
+      subst (AllFine setup) (ap (λ m. at_boot setup (cpu_numbered m)) (sym zero_plus) ∙ boots_at setup 0 setup.cpus e.0 p is) (fine_at_boot setup e);
   size = boots_length setup 0 setup.cpus;
 }
 

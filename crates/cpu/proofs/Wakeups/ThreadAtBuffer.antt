@@ -1,26 +1,19 @@
 -- One thread and one buffer: that its places at the buffer are those that its post and its visit say, by count, and that it owns the
 -- lock exactly where its visit says. Everything here speaks of plain values; the log comes later.
-use Rattle.std.proofs.Common.{◌≡◌, ◌+◌, ◌<◌, ◌≤◌, Bool, true, false, not, ◌&&◌, List, [], ◌∷◌, ◌++◌, Option, Some, None, nat_lt, if◌then◌else◌, refl, sym}
-use Rattle.std.proofs.Common.{ap, ◌∙◌, subst, arith}
-use Rattle.std.proofs.lemmas.{Bool.eq-eqb, Bool.eqb-true, Bool.and_parts, Bool.and_right, Option.same_Some}
-use Rattle.event_log.specs.{declared.ids.CpuId.CpuId, declared.ids.Tid.Tid, declared.ids.BufId.BufId, declared.ids.LockId.TheVariants.Buffer as AtBuffer}
-use Rattle.event_log.specs.{declared.ids.TheConstants.THREADS, Messages.Message, History.same_cpu, History.same_lock}
-use Rattle.event_log.proofs.Same.{buffer_numbered}
-use Rattle.thread_blocks.specs.Queues.{same_tid, is_in, first, rest}
-use Rattle.thread_blocks.proofs.Members.{same_tid_self, same_tid_true}
-use Rattle.layer_traits.specs.declared.{locked.Side.Side, locked.Side.TheVariants.Receivers, locked.Side.TheVariants.Senders, moves.WaitList.WaitList}
-use Rattle.layer_traits.specs.{ListsAgree.is_at, ListsAgree.same_list, Places.Where, Places.Asleep, Places.At, Places.wait_channel_of, Places.is_thread}
-use Rattle.layer_traits.specs.{Places.one_if, Places.count_in, Sleeping.joined, BufferBlocks.may_join, BufferBlocks.is_first}
-use Rattle.layer_traits.proofs.{CountLemmas.same_tid_sym, CountLemmas.count_append, CountLemmas.count_front, CountLemmas.in_counted, CountLemmas.not_counted}
-use Rattle.layer_traits.proofs.{CountLemmas.count_behind, ListsLemmas.count_without, ListsLemmas.at_wait_channel, ListsLemmas.wait_channel_here}
-use Rattle.cpu.specs.Table.{Blocks.Buffer, Blocks.Name, Blocks.AcqQ, Blocks.Enter, Blocks.TryPut, Blocks.TryTake, Blocks.Shut, Blocks.WaitOn, Blocks.SigRecv}
-use Rattle.cpu.specs.Table.{Blocks.SigSend, Blocks.RelQ, Blocks.front_stands_in, Edits.can_put, Edits.can_take, Edits.may_put, Edits.may_take, Edits.due_sender}
-use Rattle.cpu.specs.Table.{Edits.due_receiver, Edits.without_any, Edits.acquired, Edits.line_of, Edits.entered, Edits.put, Edits.taken, Edits.shut}
-use Rattle.cpu.specs.Table.{Edits.waiting, Edits.released, Edits.edited_buffer, Edits.answer_of_acquire, Edits.answer_of_buffer, Setups.Setup, Setups.home_of}
-use Rattle.cpu.specs.Wakeups.Order.{Progress, Begins, HasEntered, WasRefused, Owes, progress_after, receivers_signalled, senders_signalled, MayEdit}
-use Rattle.cpu.proofs.Wakeups.Lists.{refuted, none_is_not, first_is}
-use Rattle.cpu.proofs.Wakeups.PostsAndVisits.{Waiting, Visit, Outside, In, is_buffer, sleeps_in, sleeps_at, is_inside, is_starting, is_lined, InStep, is_caller}
-use Rattle.cpu.proofs.Wakeups.PostsAndVisits.{waiters_of, post_by, post_woken, post_moved, next_visit, visit_moved, marked}
+use Rattle.std.proofs.Common.{◌≡◌, ◌<◌, ◌≤◌, Bool, true, false, ◌&&◌, List, [], ◌∷◌, Option, Some, None, nat_lt, if◌then◌else◌, refl, sym, ap, ◌∙◌, subst}
+use Rattle.{std.proofs.{Common.arith, lemmas.{Bool.{eq-eqb, eqb-true, and_parts, and_right}, Option.same_Some}}, event_log.specs.declared.ids.CpuId.CpuId}
+use Rattle.event_log.specs.{declared.ids.{Tid.Tid, BufId.BufId, LockId.TheVariants.Buffer as AtBuffer, TheConstants.THREADS}, Messages.Message}
+use Rattle.{event_log.{specs.History.same_cpu, proofs.Same.buffer_numbered}, thread_blocks.{specs.Queues.{same_tid, first, rest}, proofs.Members.same_tid_self}}
+use Rattle.{thread_blocks.proofs.Members.same_tid_true, layer_traits.specs.declared.locked.Side.{Side, TheVariants.{Receivers, Senders}}}
+use Rattle.layer_traits.specs.{declared.moves.WaitList.WaitList, ListsAgree.{is_at, same_list}, Places.{Where, Asleep, At, wait_channel_of, is_thread, one_if}}
+use Rattle.layer_traits.{specs.{Places.count_in, Sleeping.joined, BufferBlocks.may_join}, proofs.CountLemmas.{same_tid_sym, count_append, count_front}}
+use Rattle.layer_traits.proofs.{CountLemmas.{in_counted, not_counted, count_behind}, ListsLemmas.{count_without, at_wait_channel, wait_channel_here}}
+use Rattle.cpu.specs.Table.{Blocks.{Buffer, Name, AcqQ, Enter, TryPut, TryTake, Shut, WaitOn, SigRecv, SigSend, RelQ, front_stands_in}, Edits.can_put}
+use Rattle.cpu.specs.Table.Edits.{can_take, may_put, may_take, due_sender, due_receiver, without_any, acquired, line_of, entered, put, taken, shut, waiting}
+use Rattle.cpu.specs.{Table.{Edits.{released, edited_buffer, answer_of_buffer}, Setups.{Setup, home_of}}, Wakeups.Order.{Progress, Begins, HasEntered}}
+use Rattle.cpu.{specs.Wakeups.Order.{WasRefused, Owes, progress_after, receivers_signalled, senders_signalled, MayEdit}, proofs.Wakeups.Lists.refuted}
+use Rattle.cpu.proofs.Wakeups.{Lists.first_is, PostsAndVisits.{Visit, is_buffer, sleeps_in, sleeps_at, is_inside, is_starting, is_lined, InStep, is_caller}}
+use Rattle.cpu.proofs.Wakeups.PostsAndVisits.{post_by, post_woken, post_moved, visit_moved, marked}
 use Rattle.layer_traits.specs.declared.moves.WaitList.TheVariants as wait_list
 
 -- a thread and a buffer's lock: by who owns it, the lists of its sleepers and of those who wait to send and to receive, and the two lines
@@ -50,77 +43,30 @@ pub paired : {b : BufId} {u : Tid} {busy : Option Tid} {asleep senders_in receiv
     → count_in u senders_in ≡ marked u (sleeps_in b wait_list.Senders post) → count_in u receivers_in ≡ marked u (sleeps_in b wait_list.Receivers post)
     → count_in u sends ≡ marked u (is_lined b Senders visit) → count_in u receives ≡ marked u (is_lined b Receivers visit)
     → PairOf b u busy asleep senders_in receivers_in sends receives g visit post
-paired owner inside starts sleepers senders receivers send_line receive_line = record {
-  owner = owner;
-  inside = inside;
-  starts = starts;
-  sleepers = sleepers;
-  senders = senders;
-  receivers = receivers;
-  send_line = send_line;
-  receive_line = receive_line;
-}
+paired owner inside starts sleepers senders receivers send_line receive_line = grind arith
 
 -- Marks and counts.
 
 pub marked_none : (u : Tid) (m : Bool) → m ≡ false → marked u m ≡ 0
-marked_none u m off = ap (marked u) off ∙ by_test (nat_lt u.0 THREADS)
-  where
-    by_test : (b : Bool) → one_if (b && false) ≡ 0
-    by_test true = refl
-    by_test false = refl
+marked_none u m off = grind arith
 
 pub marked_some : (u : Tid) (m : Bool) → 0 < marked u m → (nat_lt u.0 THREADS ≡ true) × (m ≡ true)
-marked_some u m some = by_test (nat_lt u.0 THREADS) refl m refl some
-  where
-    by_test : (b : Bool) → nat_lt u.0 THREADS ≡ b → (n : Bool) → m ≡ n → 0 < one_if (b && n) → (nat_lt u.0 THREADS ≡ true) × (m ≡ true)
-    by_test true is true mark some = (is, mark)
-    by_test true is false mark some = absurd (omega (arith, some))
-    by_test false is n mark some = absurd (omega (arith, some))
+marked_some u m some = grind arith
 
 pub marked_most : (u : Tid) (m : Bool) → marked u m ≤ 1
-marked_most u m = by_test (nat_lt u.0 THREADS && m)
-  where
-    by_test : (b : Bool) → one_if b ≤ 1
-    by_test true = omega arith
-    by_test false = omega arith
+marked_most u m = grind arith
 
 -- a list that thread u has joined
 pub grown_list : (u : Tid) (list : List Tid) → count_in u list ≡ 0 → count_in u (joined u list) ≡ marked u true
-grown_list u list none = by_test (nat_lt u.0 THREADS) (is_in u list) (not_counted u list none)
-  where
-    by_test : (small in_list : Bool) → in_list ≡ false → count_in u (if small && not in_list then list ++ u ∷ [] else list) ≡ one_if (small && true)
-    by_test small true off = absurd (cc off)
-    by_test true false off =
-        let one : one_if (same_tid u u) ≡ 1 = ap one_if (same_tid_self u) in
-        let more : count_in u (list ++ u ∷ []) ≡ count_in u list + (one_if (same_tid u u) + 0) = count_append u list (u ∷ []) in
-        omega (arith, more, one, none)
-    by_test false false off = none
+grown_list u list none = grind (arith, not_counted u list none, same_tid_self u, count_append u list (u ∷ []))
 
 -- a list that another thread has joined
 pub other_joined : (u t : Tid) (list : List Tid) → same_tid t u ≡ false → count_in u (joined t list) ≡ count_in u list
-other_joined u t list other = by_test (nat_lt t.0 THREADS && not (is_in t list))
-  where
-    by_test : (b : Bool) → count_in u (if b then list ++ t ∷ [] else list) ≡ count_in u list
-    by_test true =
-        let none : one_if (same_tid u t) ≡ 0 = ap one_if (same_tid_sym u t ∙ other) in
-        let more : count_in u (list ++ t ∷ []) ≡ count_in u list + (one_if (same_tid u t) + 0) = count_append u list (t ∷ []) in
-        omega (arith, more, none)
-    by_test false = refl
+other_joined u t list other = grind (arith, count_append u list (t ∷ []), same_tid_sym u t)
 
 -- the first has left a list
 pub first_left : (u : Tid) (list : List Tid) → count_in u list ≤ 1 → count_in u (rest list) ≡ (if is_thread u (first list) then 0 else count_in u list)
-first_left u list most = by_test (is_thread u (first list)) refl
-  where
-    by_test : (b : Bool) → is_thread u (first list) ≡ b → count_in u (rest list) ≡ (if b then 0 else count_in u list)
-    by_test true is = let one : one_if (is_thread u (first list)) ≡ 1 = ap one_if is in omega (arith, one, count_front u list, most)
-    by_test false is = let none : one_if (is_thread u (first list)) ≡ 0 = ap one_if is in omega (arith, none, count_front u list)
-
--- another thread was first, and has left
-other_left : (u t : Tid) (line : List Tid) → is_first t line ≡ true → same_tid t u ≡ false → count_in u (rest line) ≡ count_in u line
-other_left u t line is other =
-    let none : one_if (is_thread u (first line)) ≡ 0 = ap (λ o. one_if (is_thread u o)) (first_is t line is) ∙ ap one_if other in
-    omega (arith, none, count_front u line)
+first_left u list most = grind (arith, count_front u list)
 
 -- whoever is first stands in the list
 pub front_counted : (u : Tid) (list : List Tid) → is_thread u (first list) ≡ true → 0 < count_in u list
@@ -128,23 +74,13 @@ front_counted u list is = let one : one_if (is_thread u (first list)) ≡ 1 = ap
 
 -- a signal has taken out whom it woke
 pub signal_left : (u : Tid) (woke : Option Tid) (list : List Tid) → count_in u (without_any woke list) ≡ (if is_thread u woke then 0 else count_in u list)
-signal_left u None list = refl
-signal_left u (Some t) list = count_without u t list
+signal_left u woke list = grind (arith, count_without)
 
 -- whom a signal wakes was waiting
 woken_waits : (u : Tid) (line list : List Tid) (can : Bool)
     → is_thread u (if front_stands_in line list && can then first line else None) ≡ true → 0 < count_in u list
-woken_waits u [] list can woke = by_test can woke
-  where
-    by_test : (b : Bool) → is_thread u (if false && b then None else None) ≡ true → 0 < count_in u list
-    by_test true on = absurd (cc on)
-    by_test false on = absurd (cc on)
-woken_waits u (x ∷ line) list can woke = by_test (is_in x list) refl can woke
-  where
-    by_test : (b : Bool) → is_in x list ≡ b → (c : Bool) → is_thread u (if b && c then Some x else None) ≡ true → 0 < count_in u list
-    by_test true there true on = in_counted u list (subst (λ y. is_in y list ≡ true) (same_tid_true x u on) there)
-    by_test true there false on = absurd (cc on)
-    by_test false there c on = absurd (cc on)
+woken_waits u [] list can woke = grind arith
+woken_waits u (x ∷ line) list can woke = grind (arith, in_counted u list, same_tid_true x u)
 
 -- Posts.
 
@@ -156,8 +92,7 @@ buffer_true b d same = ap buffer_numbered (eqb-true b.0 d.0 same)
 
 -- a woken thread sleeps nowhere
 pub woken_awake : (b : BufId) (list : WaitList) (here : Bool) (c : CpuId) → sleeps_in b list (post_by here c) ≡ false
-woken_awake b list true c = refl
-woken_awake b list false c = refl
+woken_awake b list here c = grind arith
 
 -- whoever sleeps in a list of the buffer sleeps there, and in no other list
 pub sleeps_here : (b : BufId) (list : WaitList) → sleeps_in b list (Asleep (At (AtBuffer b) list)) ≡ true
@@ -166,18 +101,6 @@ sleeps_here b list = wait_channel_here (AtBuffer b) list
 one_list : (b : BufId) (list other : WaitList) (x : Where) → same_list list other ≡ false → sleeps_in b list x ≡ true → sleeps_in b other x ≡ false
 one_list b list other x apart on =
     ap (is_at (AtBuffer b) other) (at_wait_channel (AtBuffer b) list (wait_channel_of x) on) ∙ and_right (is_buffer b b) (same_list list other) apart
-
-list_sleeps : (b : BufId) (list : WaitList) (x : Where) → sleeps_in b list x ≡ true → sleeps_at b x ≡ true
-list_sleeps b list (Asleep (At lock other)) on = (and_parts (same_lock lock (AtBuffer b)) (same_list other list) on).0
-list_sleeps b list x on = absurd (cc on)
-
-acquire_wakes_none : (o : Option Tid) → (answer_of_acquire o).woke ≡ None
-acquire_wakes_none None = refl
-acquire_wakes_none (Some owner) = refl
-
-pub thread_some : (u : Tid) (o : Option Tid) → is_thread u o ≡ true → o ≡ Some u
-thread_some u None is = absurd (cc is)
-thread_some u (Some t) is = ap Some (same_tid_true t u is)
 
 module _ (b : BufId) (u : Tid) (k : Buffer) (g : Progress) (visit : Visit) (post : Where) (pair : Pair b u k g visit post) where
   pub first_sleeps : is_thread u (first k.sleepers) ≡ true → (nat_lt u.0 THREADS ≡ true) × (sleeps_in b wait_list.Sleepers post ≡ true)
@@ -192,22 +115,12 @@ module _ (b : BufId) (u : Tid) (k : Buffer) (g : Progress) (visit : Visit) (post
 
   -- whoever is woken sleeps at the buffer, and its number is a thread's
   pub woken_sleeps : (name : Name) → is_thread u (answer_of_buffer name k).woke ≡ true → (nat_lt u.0 THREADS ≡ true) × (sleeps_at b post ≡ true)
-  woken_sleeps (AcqQ t) is = refuted (ap (is_thread u) (acquire_wakes_none k.busy)) is
-  woken_sleeps (WaitOn t side) is = let at = first_sleeps is in (at.0, list_sleeps b wait_list.Sleepers post at.1)
-  woken_sleeps (SigRecv t) is = let at = due_receives is in (at.0, list_sleeps b wait_list.Receivers post at.1)
-  woken_sleeps (SigSend t) is = let at = due_sends is in (at.0, list_sleeps b wait_list.Senders post at.1)
-  woken_sleeps (RelQ t) is = let at = first_sleeps is in (at.0, list_sleeps b wait_list.Sleepers post at.1)
-  woken_sleeps name is = absurd (cc is)
+  woken_sleeps name is = grind (arith, refuted, first_sleeps, due_receives, due_sends, and_parts)
 
 -- A section of another thread on the buffer.
 
 start_inside : (b : BufId) (visit : Visit) → is_starting b visit ≡ true → (is_inside b visit ≡ true) × InStep visit Begins
-start_inside b Outside on = absurd (cc on)
-start_inside b (In d Begins) on = (on, refl)
-start_inside b (In d (HasEntered side)) on = (on, tt)
-start_inside b (In d (WasRefused side)) on = absurd (cc (and_parts (is_buffer b d) false on).1)
-start_inside b (Waiting d side) on = absurd (cc (and_parts (is_buffer b d) false on).1)
-start_inside b (In d (Owes r s)) on = absurd (cc (and_parts (is_buffer b d) false on).1)
+start_inside b visit on = grind (arith, and_parts)
 
 -- another thread owns the lock
 not_mine : {A : Type 0} (u t : Tid) (o : Option Tid) → o ≡ Some t → same_tid t u ≡ false → o ≡ Some u → A
@@ -215,10 +128,7 @@ not_mine u t o owner other mine = refuted other (subst (λ x. same_tid t x ≡ t
 
 module _ (setup : Setup) (c : CpuId) (b : BufId) (u t : Tid) (other : same_tid t u ≡ false) (visit : Visit) (post : Where) where
   other_acquire : (k : Buffer) (g : Progress) (o : Option Tid) → k.busy ≡ o → Pair b u k g visit post → Pair b u (acquired t o k) g visit post
-  other_acquire k g None is pair = paired (λ e. not_mine u t (Some t) refl other e) (λ ins awake. none_is_not (sym is ∙ pair.inside ins awake)) pair.starts
-      pair.sleepers pair.senders pair.receivers pair.send_line pair.receive_line
-  other_acquire k g (Some owner) is pair = paired pair.owner pair.inside pair.starts (other_joined u t k.sleepers other ∙ pair.sleepers) pair.senders
-      pair.receivers pair.send_line pair.receive_line
+  other_acquire k g o is pair = grind (arith, paired, other_joined)
 
   -- the lines and the owner's progress alone are changed
   with_lines : (k : Buffer) (g h : Progress) → k.busy ≡ Some t → Pair b u k g visit post
@@ -229,25 +139,15 @@ module _ (setup : Setup) (c : CpuId) (b : BufId) (u t : Tid) (other : same_tid t
 
   other_enter : (k : Buffer) (g : Progress) (side : Side) (joins : Bool) → k.busy ≡ Some t → Pair b u k g visit post
       → Pair b u (if joins then entered t side k else k) (HasEntered side) visit post
-  other_enter k g Senders true owner pair =
-      with_lines k g (HasEntered Senders) owner pair (k.send_line ++ t ∷ []) k.receive_line (count_behind u t k.send_line other) refl
-  other_enter k g Receivers true owner pair =
-      with_lines k g (HasEntered Receivers) owner pair k.send_line (k.receive_line ++ t ∷ []) refl (count_behind u t k.receive_line other)
-  other_enter k g side false owner pair = with_lines k g (HasEntered side) owner pair k.send_line k.receive_line refl refl
+  other_enter k g side joins owner pair = grind (arith, with_lines, count_behind)
 
   other_put : (k : Buffer) (g : Progress) (m : Message) (may : Bool) → may_put t k ≡ may → k.busy ≡ Some t → Pair b u k g visit post
       → Pair b u (if may then put m k else k) (if may then Owes true true else WasRefused Senders) visit post
-  other_put k g m true is owner pair =
-      let front = (and_parts (is_first t k.send_line) (can_put k) is).0 in
-      with_lines k g (Owes true true) owner pair (rest k.send_line) k.receive_line (other_left u t k.send_line front other) refl
-  other_put k g m false is owner pair = with_lines k g (WasRefused Senders) owner pair k.send_line k.receive_line refl refl
+  other_put k g m may is owner pair = grind (arith, and_parts, with_lines, first_is, count_front)
 
   other_take : (k : Buffer) (g : Progress) (may : Bool) → may_take t k ≡ may → k.busy ≡ Some t → Pair b u k g visit post
       → Pair b u (if may then taken k else k) (if may then Owes true true else WasRefused Receivers) visit post
-  other_take k g true is owner pair =
-      let front = (and_parts (is_first t k.receive_line) (can_take k) is).0 in
-      with_lines k g (Owes true true) owner pair k.send_line (rest k.receive_line) refl (other_left u t k.receive_line front other)
-  other_take k g false is owner pair = with_lines k g (WasRefused Receivers) owner pair k.send_line k.receive_line refl refl
+  other_take k g may is owner pair = grind (arith, and_parts, with_lines, first_is, count_front)
 
   other_shut : (k : Buffer) (g : Progress) → k.busy ≡ Some t → Pair b u k g visit post → Pair b u (shut k) (Owes true true) visit post
   other_shut k g owner pair = with_lines k g (Owes true true) owner pair k.send_line k.receive_line refl refl
@@ -264,25 +164,17 @@ module _ (setup : Setup) (c : CpuId) (b : BufId) (u t : Tid) (other : same_tid t
           let on = (first_sleeps b u k g visit post pair is).1 in
           let no_lock = woken_awake b wait_list.Sleepers (same_cpu (home_of setup u) c) c in
           let start = start_inside b visit (pair.starts on) in
-          paired (λ e. (start.0, start.1, no_lock)) (λ ins awake. thread_some u (first k.sleepers) is) (λ now. refuted no_lock now)
+          paired (λ e. (start.0, start.1, no_lock)) (λ ins awake. grind (arith, same_tid_true, is)) (λ now. refuted no_lock now)
           (first_left u k.sleepers most ∙ ap (λ x. if x then 0 else count_in u k.sleepers) is ∙ sym (marked_none u _ no_lock))
           (pair.senders ∙ ap (marked u) (one_list b wait_list.Sleepers wait_list.Senders post refl on ∙ sym (woken_awake b wait_list.Senders (same_cpu (home_of setup u) c) c)))
           (pair.receivers ∙ ap (marked u) (one_list b wait_list.Sleepers wait_list.Receivers post refl on ∙ sym (woken_awake b wait_list.Receivers (same_cpu (home_of setup u) c) c)))
           pair.send_line pair.receive_line
-      by_test false is = paired (λ e. refuted is (ap (is_thread u) e ∙ same_tid_self u)) (λ ins awake. not_mine u t k.busy owner other (pair.inside ins awake))
-          pair.starts (first_left u k.sleepers most ∙ ap (λ x. if x then 0 else count_in u k.sleepers) is ∙ pair.sleepers) pair.senders pair.receivers
-          pair.send_line pair.receive_line
-
-  with_waiting : (k : Buffer) (g : Progress) (side : Side) → Pair b u k g visit post → Pair b u (waiting t side k) g visit post
-  with_waiting k g Senders pair = paired pair.owner pair.inside pair.starts pair.sleepers (other_joined u t k.waiting_senders other ∙ pair.senders)
-      pair.receivers pair.send_line pair.receive_line
-  with_waiting k g Receivers pair = paired pair.owner pair.inside pair.starts pair.sleepers pair.senders
-      (other_joined u t k.waiting_receivers other ∙ pair.receivers) pair.send_line pair.receive_line
+      by_test false is = grind (arith, paired, refuted, same_tid_self, owner, first_left, most)
 
   other_wait : (k : Buffer) (g : Progress) (side : Side) → k.busy ≡ Some t → Pair b u k g visit post
       → Pair b u (released (waiting t side k)) Begins visit (if is_thread u (first k.sleepers) then post_woken setup c u else post)
-  other_wait k g Senders owner pair = other_release (waiting t Senders k) g owner (with_waiting k g Senders pair)
-  other_wait k g Receivers owner pair = other_release (waiting t Receivers k) g owner (with_waiting k g Receivers pair)
+  other_wait k g Senders owner pair = other_release (waiting t Senders k) g owner (grind (arith, paired, other_joined, pair))
+  other_wait k g Receivers owner pair = other_release (waiting t Receivers k) g owner (grind (arith, paired, other_joined, pair))
 
   other_sig_recv : (k : Buffer) (g h : Progress) → k.busy ≡ Some t → Pair b u k g visit post
       → Pair b u (edited_buffer (SigRecv t) k) h visit (if is_thread u (due_receiver k) then post_woken setup c u else post)
@@ -298,9 +190,7 @@ module _ (setup : Setup) (c : CpuId) (b : BufId) (u t : Tid) (other : same_tid t
           (pair.senders ∙ ap (marked u) (one_list b wait_list.Receivers wait_list.Senders post refl on ∙ sym (woken_awake b wait_list.Senders (same_cpu (home_of setup u) c) c)))
           (signal_left u (due_receiver k) k.waiting_receivers ∙ ap (λ x. if x then 0 else count_in u k.waiting_receivers) is ∙ sym (marked_none u _ (woken_awake b wait_list.Receivers (same_cpu (home_of setup u) c) c)))
           pair.send_line pair.receive_line
-      by_test false is = paired (λ e. not_mine u t k.busy owner other e) pair.inside pair.starts pair.sleepers pair.senders
-          (signal_left u (due_receiver k) k.waiting_receivers ∙ ap (λ x. if x then 0 else count_in u k.waiting_receivers) is ∙ pair.receivers) pair.send_line
-          pair.receive_line
+      by_test false is = grind (arith, paired, owner, signal_left)
 
   other_sig_send : (k : Buffer) (g h : Progress) → k.busy ≡ Some t → Pair b u k g visit post
       → Pair b u (edited_buffer (SigSend t) k) h visit (if is_thread u (due_sender k) then post_woken setup c u else post)
@@ -316,20 +206,13 @@ module _ (setup : Setup) (c : CpuId) (b : BufId) (u t : Tid) (other : same_tid t
           (signal_left u (due_sender k) k.waiting_senders ∙ ap (λ x. if x then 0 else count_in u k.waiting_senders) is ∙ sym (marked_none u _ (woken_awake b wait_list.Senders (same_cpu (home_of setup u) c) c)))
           (pair.receivers ∙ ap (marked u) (one_list b wait_list.Senders wait_list.Receivers post refl on ∙ sym (woken_awake b wait_list.Receivers (same_cpu (home_of setup u) c) c)))
           pair.send_line pair.receive_line
-      by_test false is = paired (λ e. not_mine u t k.busy owner other e) pair.inside pair.starts pair.sleepers
-          (signal_left u (due_sender k) k.waiting_senders ∙ ap (λ x. if x then 0 else count_in u k.waiting_senders) is ∙ pair.senders) pair.receivers
-          pair.send_line pair.receive_line
-
-by_acquire : (setup : Setup) (c : CpuId) (u : Tid) (o : Option Tid) (x : Where)
-    → (if is_thread u (answer_of_acquire o).woke then post_woken setup c u else x) ≡ x
-by_acquire setup c u None x = refl
-by_acquire setup c u (Some owner) x = refl
+      by_test false is = grind (arith, paired, owner, signal_left)
 
 other_section : (setup : Setup) (c : CpuId) (b : BufId) (u : Tid) (name : Name) (k : Buffer) (g : Progress) (visit : Visit) (post : Where)
     → is_caller u name ≡ false → MayEdit name k g → Pair b u k g visit post
     → Pair b u (edited_buffer name k) (progress_after name k g) visit (if is_thread u (answer_of_buffer name k).woke then post_woken setup c u else post)
 other_section setup c b u (AcqQ t) k g visit post other may pair =
-    subst (λ x. Pair b u (acquired t k.busy k) g visit x) (sym (by_acquire setup c u k.busy post))
+    subst (λ x. Pair b u (acquired t k.busy k) g visit x) (sym (grind arith))
     (other_acquire setup c b u t other visit post k g k.busy refl pair)
 other_section setup c b u (Enter t side) k g visit post other may pair =
     other_enter setup c b u t other visit post k g side (may_join t (line_of side k)) may.0 pair
@@ -342,20 +225,9 @@ other_section setup c b u (SigSend t) k g visit post other may pair = other_sig_
 other_section setup c b u (RelQ t) k g visit post other may pair = other_release setup c b u t other visit post k g may.0 pair
 other_section setup c b u name k g visit post other may pair = absurd may
 
-post_of_other : (setup : Setup) (c : CpuId) (b : BufId) (u : Tid) (name : Name) (slept : Bool) (woke : Option Tid) (x : Where) → is_caller u name ≡ false
-    → post_moved setup c b u name slept woke x ≡ (if is_thread u woke then post_woken setup c u else x)
-post_of_other setup c b u name slept woke x other =
-    ap (λ d. if is_thread u woke then post_woken setup c u else (if d then waiters_of b name else x)) (and_right slept (is_caller u name) other)
-
 -- a section of another thread on the buffer keeps the pair
 pub other_pair : (setup : Setup) (c : CpuId) (b : BufId) (u : Tid) (name : Name) (k : Buffer) (g : Progress) (visit : Visit) (post : Where)
     → is_caller u name ≡ false → MayEdit name k g → Pair b u k g visit post
     → Pair b u (edited_buffer name k) (progress_after name k g) (visit_moved b u name k visit)
     (post_moved setup c b u name (answer_of_buffer name k).slept (answer_of_buffer name k).woke post)
-other_pair setup c b u name k g visit post other may pair =
-    let at_post = post_of_other setup c b u name (answer_of_buffer name k).slept (answer_of_buffer name k).woke post other in
-    let at_visit : visit_moved b u name k visit ≡ visit = ap (λ d. if d then next_visit b name k visit else visit) other in
-    subst (λ z. Pair b u (edited_buffer name k) (progress_after name k g) z
-    (post_moved setup c b u name (answer_of_buffer name k).slept (answer_of_buffer name k).woke post)) (sym at_visit)
-    (subst (λ x. Pair b u (edited_buffer name k) (progress_after name k g) visit x)
-    (sym at_post) (other_section setup c b u name k g visit post other may pair))
+other_pair setup c b u name k g visit post other may pair = grind (arith, other_section, and_right)

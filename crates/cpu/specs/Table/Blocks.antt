@@ -1,9 +1,8 @@
 -- What the step table speaks of: the blocks of the locks, the names of the sections, and what a section answers.
 use Rattle.std.specs.Prelude.{ℕ, Bool, false, List, [], ◌∷◌, Option, if◌then◌else◌}
-use Rattle.event_log.specs.{declared.ids.Tid.Tid, declared.entries.Kind.Kind, Messages.Message, Runs.Group, Runs.Sends, Runs.Receives, Runs.Closes}
-use Rattle.event_log.specs.declared.entries.Kind.TheVariants.{Send as SendKind, Recv as RecvKind, Close as CloseKind, SendClosed, RecvClosed}
-use Rattle.thread_blocks.specs.Queues.{is_in, first, rest}
-use Rattle.layer_traits.specs.declared.locked.Side.{Side, TheVariants.Receivers, TheVariants.Senders}
+use Rattle.event_log.specs.declared.{ids.Tid.Tid, entries.Kind.{Kind, TheVariants.{Send as SendKind, Recv as RecvKind, Close as CloseKind, SendClosed}}}
+use Rattle.event_log.specs.{declared.entries.Kind.TheVariants.RecvClosed, Messages.Message, Runs.{Group, Sends, Receives, Closes}}
+use Rattle.{thread_blocks.specs.Queues.{is_in, first, rest}, layer_traits.specs.declared.locked.Side.{Side, TheVariants.{Receivers, Senders}}}
 
 -- what the lock of a buffer guards. The busy word names the thread that owns the lock, the sleepers wait for it; the waiting threads
 -- gave it up until they are woken; the two lines hold the threads inside a call that has not taken effect, first in front; then the

@@ -1,17 +1,15 @@
 -- What a CPU does next, and what a section's answer makes of its private state.
 use Rattle.std.specs.Prelude.{ℕ, ◌+◌, Bool, true, false, ◌==◌, List, [], ◌∷◌, ◌++◌, length, Option, Some, None, if◌then◌else◌}
-use Rattle.event_log.specs.{declared.ids.CpuId.CpuId, declared.ids.Tid.Tid, declared.ids.BufId.BufId, declared.ids.LockId.LockId}
-use Rattle.event_log.specs.{declared.ids.LockId.TheVariants.Pending, declared.ids.LockId.TheVariants.Buffer as AtBuffer, declared.entries.Entry.Entry}
-use Rattle.event_log.specs.{History.same_cpu, Messages.Message, Messages.no_message, Runs.Group, Runs.Sends, Runs.Receives, Runs.Closes}
-use Rattle.layer_traits.specs.declared.{locked.Side.Side, locked.Side.TheVariants.Receivers, locked.Side.TheVariants.Senders, steps.Reason.Reason}
-use Rattle.layer_traits.specs.declared.{steps.Reason.TheVariants.AllEnded, steps.Reason.TheVariants.TraceFull, call_states.Stage.Stage}
-use Rattle.guest.specs.{declared.instructions.Instruction.Instruction, State.State, State.message_from, State.after_local, State.after_send, State.after_recv}
-use Rattle.guest.specs.{State.after_close, State.after_closed, State.after_yield}
-use Rattle.guest.specs.declared.instructions.Instruction.TheVariants.{Set, Add, Sub, Jnz, Send, Recv, Close, Yield as YieldLine, Exit}
-use Rattle.cpu.specs.Table.Blocks.{Name, AcqQ, Enter, TryPut, TryTake, Shut, WaitOn, SigRecv, SigSend, RelQ, Pend, TakeAll, side_of, effect_of, Reported}
-use Rattle.cpu.specs.Table.Blocks.{Position, Done, WasClosed, DidShut, NotYet, Drained, Answer}
-use Rattle.layer_traits.specs.declared.call_states.Stage.TheVariants.{Idle, Acquires, Enters, Tries, Waits, AcquiresAgain, Signals, SignalsOwn, Releases}
-use Rattle.cpu.specs.Table.Setups.{Setup, Call, Private, thread_at, with_thread, home_of, stands_at, home_threads, open_calls, have_ended}
+use Rattle.event_log.specs.declared.{ids.{CpuId.CpuId, Tid.Tid, BufId.BufId, LockId.{LockId, TheVariants.{Pending, Buffer as AtBuffer}}}, entries.Entry.Entry}
+use Rattle.event_log.specs.{History.same_cpu, Messages.{Message, no_message}, Runs.{Group, Sends, Receives, Closes}}
+use Rattle.layer_traits.specs.declared.{locked.Side.{Side, TheVariants.{Receivers, Senders}}, steps.Reason.{Reason, TheVariants.{AllEnded, TraceFull}}}
+use Rattle.layer_traits.specs.declared.call_states.Stage.{Stage, TheVariants.{Idle, Acquires, Enters, Tries, Waits, AcquiresAgain, Signals, SignalsOwn}}
+use Rattle.{layer_traits.specs.declared.call_states.Stage.TheVariants.Releases, guest.specs.declared.instructions.Instruction.{Instruction, TheVariants.Set}}
+use Rattle.guest.specs.{declared.instructions.Instruction.TheVariants.{Add, Sub, Jnz, Send, Recv, Close, Yield as YieldLine, Exit}, State.{State, message_from}}
+use Rattle.{guest.specs.State.{after_local, after_send, after_recv, after_close, after_closed, after_yield}, cpu.specs.Table.Blocks.{Name, AcqQ, Enter, TryPut}}
+use Rattle.cpu.specs.Table.Blocks.{TryTake, Shut, WaitOn, SigRecv, SigSend, RelQ, Pend, TakeAll, side_of, effect_of, Reported, Position, Done, WasClosed}
+use Rattle.cpu.specs.Table.{Blocks.{DidShut, NotYet, Drained, Answer}, Setups.{Setup, Call, Private, thread_at, with_thread, home_of, stands_at, home_threads}}
+use Rattle.cpu.specs.Table.Setups.{open_calls, have_ended}
 
 -- The section that is asked.
 

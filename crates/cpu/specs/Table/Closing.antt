@@ -1,12 +1,10 @@
 -- Worked runs of systems whose buffer is closed, each a fact by computation.
 use Rattle.std.specs.Prelude.{◌≡◌, true, false, List, [], ◌∷◌, Some}
 use Rattle.event_log.specs.declared.entries.Kind.TheVariants.{Send as SendKind, Recv as RecvKind, Close as CloseKind, SendClosed, RecvClosed}
-use Rattle.event_log.specs.Messages.{no_message}
-use Rattle.layer_traits.specs.declared.steps.Reason.TheVariants.{AllEnded}
-use Rattle.guest.specs.declared.instructions.{Instruction.Instruction, Into.TheVariants.One as ToOne, Register.TheVariants.Reg0, Register.TheVariants.Reg1}
-use Rattle.guest.specs.declared.instructions.{Instruction.TheVariants.Set, Instruction.TheVariants.Recv, Instruction.TheVariants.Close}
-use Rattle.cpu.specs.Table.Setups.{Setup}
-use Rattle.cpu.specs.Table.Worked.{buffer_numbered, Burst, of, run, traces, ended, reason, at_buffer_0, leaves, entry, setup_of, sends, receives, receives_one}
+use Rattle.{event_log.specs.Messages.no_message, layer_traits.specs.declared.steps.Reason.TheVariants.AllEnded}
+use Rattle.guest.specs.declared.instructions.{Instruction.{Instruction, TheVariants.{Set, Recv, Close}}, Into.TheVariants.One as ToOne}
+use Rattle.{guest.specs.declared.instructions.Register.TheVariants.{Reg0, Reg1}, cpu.specs.Table.{Setups.Setup, Worked.{buffer_numbered, Burst, of, run}}}
+use Rattle.cpu.specs.Table.Worked.{traces, ended, reason, at_buffer_0, leaves, entry, setup_of, sends, receives, receives_one}
 
 abbrev pub closes_one : List Instruction
 closes_one = Close (buffer_numbered 0) ∷ []

@@ -1,9 +1,8 @@
 -- A machine's setup, a CPU's private state, the state at boot and the opening blocks.
 use Rattle.std.specs.Prelude.{ℕ, ◌+◌, Bool, true, false, ◌&&◌, List, [], ◌∷◌, map, Option, Some, None, slice_get, slice_index_or, slice_set, if◌then◌else◌}
-use Rattle.event_log.specs.declared.ids.{CpuId.CpuId, Tid.Tid, BufId.BufId, LockId.LockId, LockId.TheVariants.Pending, LockId.TheVariants.Buffer as AtBuffer}
-use Rattle.event_log.specs.{declared.entries.Entry.Entry, History.same_cpu, Messages.Message, Runs.Group}
-use Rattle.guest.specs.{declared.instructions.Instruction.Instruction, State.State, State.at_start, State.next_of}
-use Rattle.cpu.specs.Table.Blocks.{Buffer, Block, OfBuffer, OfPending}
+use Rattle.event_log.specs.declared.{ids.{CpuId.CpuId, Tid.Tid, BufId.BufId, LockId.{LockId, TheVariants.{Pending, Buffer as AtBuffer}}}, entries.Entry.Entry}
+use Rattle.{event_log.specs.{History.same_cpu, Messages.Message, Runs.Group}, guest.specs.{declared.instructions.Instruction.Instruction, State.State}}
+use Rattle.{guest.specs.State.{at_start, next_of}, cpu.specs.Table.Blocks.{Buffer, Block, OfBuffer, OfPending}}
 use Rattle.layer_traits.specs.{declared.call_states.Stage.Stage, Passes.or_else}
 
 -- how many CPUs there are, the home of each thread, its program, the capacity of each buffer, and for how many entries a CPU's trace has room

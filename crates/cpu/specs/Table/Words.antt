@@ -1,11 +1,9 @@
 -- A worked run of messages of several words, a fact by computation.
 use Rattle.std.specs.Prelude.{◌≡◌, true, [], ◌∷◌, Some, None}
 use Rattle.event_log.specs.declared.entries.Kind.TheVariants.{Send as SendKind, Recv as RecvKind}
-use Rattle.layer_traits.specs.declared.steps.Reason.TheVariants.{AllEnded}
-use Rattle.guest.specs.declared.instructions.{Into.TheVariants.All, Register.TheVariants.Reg0, Register.TheVariants.Reg1, Register.TheVariants.Reg2}
-use Rattle.guest.specs.declared.instructions.{Source.TheVariants.First, Instruction.TheVariants.Set, Instruction.TheVariants.Send, Instruction.TheVariants.Recv}
-use Rattle.cpu.specs.Table.{Setups.Setup, Worked.buffer_numbered, Worked.of, Worked.run, Worked.traces, Worked.ended, Worked.reason, Worked.at_buffer_0}
-use Rattle.cpu.specs.Table.{Worked.leaves, Worked.entry, Worked.setup_of, Worked.sends}
+use Rattle.{layer_traits.specs.declared.steps.Reason.TheVariants.AllEnded, guest.specs.declared.instructions.{Into.TheVariants.All, Register.TheVariants.Reg0}}
+use Rattle.guest.specs.declared.instructions.{Register.TheVariants.{Reg1, Reg2}, Source.TheVariants.First, Instruction.TheVariants.{Set, Send, Recv}}
+use Rattle.cpu.specs.Table.{Setups.Setup, Worked.{buffer_numbered, of, run, traces, ended, reason, at_buffer_0, leaves, entry, setup_of, sends}}
 
 -- one thread that sends its first two registers, receives the message into all of them, and sends the third
 abbrev pub words_alone : Setup

@@ -1,14 +1,12 @@
 -- Worked runs of small systems, each from boot by a schedule, and what they leave. Each is a fact by computation.
 use Rattle.std.specs.Prelude.{◌≡◌, ℕ, true, false, List, [], ◌∷◌, map, Bool, Option, Some, None, slice_get}
-use Rattle.event_log.specs.declared.{ids.Tid.Tid, ids.BufId.BufId, ids.LockId.TheVariants.Pending, ids.LockId.TheVariants.Buffer as AtBuffer, entries.Kind.Kind}
-use Rattle.event_log.specs.declared.{entries.Kind.TheVariants.Send as SendKind, entries.Kind.TheVariants.Recv as RecvKind, entries.Entry.Entry}
-use Rattle.event_log.specs.{Messages.Message, Actions.takes, Actions.gives, Actions.phase, Actions.Waits}
-use Rattle.layer_traits.specs.declared.steps.Reason.{Reason, TheVariants.AllEnded, TheVariants.TraceFull}
-use Rattle.guest.specs.declared.instructions.{Instruction.Instruction, Into.TheVariants.One as ToOne, Register.Register, Register.TheVariants.Reg0}
-use Rattle.guest.specs.declared.instructions.{Register.TheVariants.Reg1, Source.TheVariants.One as OfOne}
-use Rattle.guest.specs.declared.instructions.Instruction.TheVariants.{Set, Add, Send, Recv, Yield as YieldLine, Exit}
-use Rattle.cpu.specs.Table.{Blocks.Block, Blocks.OfBuffer, Blocks.OfPending, Setups.Setup, Setups.Call, Setups.Private, Setups.thread_at, Steps.Whole}
-use Rattle.cpu.specs.Table.{Steps.cpu_numbered, Steps.whole_at_boot, Steps.steps_by, Steps.block_at, Steps.halted_at}
+use Rattle.event_log.specs.declared.{ids.{Tid.Tid, BufId.BufId, LockId.TheVariants.{Pending, Buffer as AtBuffer}}, entries.Kind.Kind}
+use Rattle.event_log.specs.{declared.entries.{Kind.TheVariants.{Send as SendKind, Recv as RecvKind}, Entry.Entry}, Messages.Message, Actions.{takes, gives}}
+use Rattle.{event_log.specs.Actions.{phase, Waits}, layer_traits.specs.declared.steps.Reason.{Reason, TheVariants.{AllEnded, TraceFull}}}
+use Rattle.guest.specs.declared.instructions.Instruction.{Instruction, TheVariants.{Set, Add, Send, Recv, Yield as YieldLine, Exit}}
+use Rattle.guest.specs.declared.instructions.{Into.TheVariants.One as ToOne, Register.{Register, TheVariants.{Reg0, Reg1}}, Source.TheVariants.One as OfOne}
+use Rattle.cpu.specs.Table.{Blocks.{Block, OfBuffer, OfPending}, Setups.{Setup, Call, Private, thread_at}, Steps.{Whole, cpu_numbered, whole_at_boot, steps_by}}
+use Rattle.cpu.specs.Table.Steps.{block_at, halted_at}
 
 abbrev pub thread : ℕ → Tid
 thread n = record { 0 = n }

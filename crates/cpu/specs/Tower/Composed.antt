@@ -1,18 +1,15 @@
 -- The plan of each poll is a line of the step table: it asks for the table's section, and what it makes of the section's answer is what
 -- the table makes of it.
 use Rattle.std.specs.Prelude.{◌≡◌, ◌⊎◌, ◌<◌, Bool, true, false, List, Option, Some, None, IsSome, length, map, option_map, slice_get}
-use Rattle.event_log.specs.{declared.entries.Entry.Entry, Actions.Action, Actions.phase, Actions.renamed}
-use Rattle.event_log.specs.declared.ids.{BufId.BufId, CpuId.CpuId, LockId.LockId, LockId.TheVariants.Pending, LockId.TheVariants.Buffer, Tid.Tid}
-use Rattle.guest.specs.{declared.instructions.Instruction.Instruction, State.State, State.next_of, State.message_from}
-use Rattle.layer_traits.specs.{declared.calls.Call.Call, declared.calls.Effect.Effect, declared.conditions.CvOut.CvOut}
-use Rattle.layer_traits.specs.{declared.buffer_edits.BufferOut.BufferOut, declared.locked.QOut.QOut, declared.call_states.Stage.Stage, QLockLaw.slept_for}
-use Rattle.layer_traits.specs.{Plans.Left, Plans.Plan, Plans.Act, Plans.is_in_section, BufferLaw.Buffering, BufferLaw.fifo_plan, BufferLaw.call_state_of}
-use Rattle.layer_traits.specs.declared.steps.{Reason.Reason, Step.Step, Step.TheVariants.Stepped, Step.TheVariants.Halted}
-use Rattle.layer_traits.specs.declared.call_states.Stage.TheVariants.{Idle, Acquires, Enters, Tries, Waits, AcquiresAgain, Signals, SignalsOwn, Releases}
-use Rattle.cpu.specs.{Table.Blocks.Name, Table.Setups.Setup, Table.Setups.Private, Table.Setups.program_of, Table.Setups.opening as table_opening}
-use Rattle.cpu.specs.{Table.Choice.asked, Table.Choice.after_section, Table.Steps.cpu_step, Table.Steps.halted_at, Tower.Views.TowerName, Tower.Views.TowerOut}
-use Rattle.cpu.specs.{Tower.Views.TowerAnswer, Tower.Views.TowerBlock, Tower.Views.tower, Tower.Views.name_of, Tower.Views.view, Tower.Views.answer_view}
-use Rattle.cpu.specs.{Tower.Privates.guest_at, Tower.Privates.private_after, Tower.Privates.private_of, Tower.Privates.threads_in}
+use Rattle.event_log.specs.declared.{entries.Entry.Entry, ids.{BufId.BufId, CpuId.CpuId, LockId.{LockId, TheVariants.{Pending, Buffer}}, Tid.Tid}}
+use Rattle.{event_log.specs.Actions.{Action, phase, renamed}, guest.specs.{declared.instructions.Instruction.Instruction, State.{State, next_of, message_from}}}
+use Rattle.layer_traits.specs.declared.{calls.{Call.Call, Effect.Effect}, conditions.CvOut.CvOut, buffer_edits.BufferOut.BufferOut, locked.QOut.QOut}
+use Rattle.layer_traits.specs.declared.call_states.Stage.{Stage, TheVariants.{Idle, Acquires, Enters, Tries, Waits, AcquiresAgain, Signals, SignalsOwn}}
+use Rattle.layer_traits.specs.declared.{call_states.Stage.TheVariants.Releases, steps.{Reason.Reason, Step.{Step, TheVariants.{Stepped, Halted}}}}
+use Rattle.layer_traits.specs.{QLockLaw.slept_for, Plans.{Left, Plan, Act, is_in_section}, BufferLaw.{Buffering, fifo_plan, call_state_of}}
+use Rattle.cpu.specs.Table.{Blocks.Name, Setups.{Setup, Private, program_of, opening as table_opening}, Choice.{asked, after_section}, Steps.cpu_step}
+use Rattle.cpu.specs.{Table.Steps.halted_at, Tower.{Views.{TowerName, TowerOut, TowerAnswer, TowerBlock, tower, name_of, view, answer_view}, Privates.guest_at}}
+use Rattle.cpu.specs.Tower.Privates.{private_after, private_of, threads_in}
 use Rattle.guest.specs.declared.instructions.Instruction.TheVariants as instruction
 use Rattle.layer_traits.specs.declared.calls.Call.TheVariants as asks_for
 use Rattle.layer_traits.specs.declared.conditions.CvOut.TheVariants as cv

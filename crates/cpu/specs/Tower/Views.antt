@@ -1,17 +1,13 @@
 -- The layers seen as the step table: the table's name of each section, its block and its answer.
 use Rattle.std.specs.Prelude.{◌≡◌, ℕ}
-use Rattle.event_log.specs.{declared.entries.Kind.Kind, declared.ids.Tid.Tid, Messages.Message}
-use Rattle.layer_traits.specs.declared.{locked.QEdit.TheVariants.Acquire, locked.QEdit.TheVariants.Inside, locked.QEdit.TheVariants.Release, locked.QOut.QOut}
-use Rattle.layer_traits.specs.declared.{locked.Side.Side, locked.Side.TheVariants.Receivers, locked.Side.TheVariants.Senders}
-use Rattle.layer_traits.specs.declared.{conditions.CvEdit.TheVariants.Edit, conditions.CvEdit.TheVariants.SignalFront, conditions.CvLeave.TheVariants.Leave}
-use Rattle.layer_traits.specs.declared.{conditions.CvLeave.TheVariants.Wait, conditions.CvOut.CvOut, buffer_edits.BufferEdit.BufferEdit}
-use Rattle.layer_traits.specs.declared.{buffer_edits.BufferOut.BufferOut, queue_edits.QueueBlock.QueueBlock, queue_edits.QueueEdit.QueueEdit}
-use Rattle.layer_traits.specs.declared.{queues.QueueAnswer.QueueAnswer, sleeps.Outcome.Outcome}
-use Rattle.layer_traits.specs.{BufferBlocks.BufferState, BufferProtocol.buffer_rules, Conditions.CvCall, QLocking.LockState, QLocking.lock_moves}
-use Rattle.layer_traits.specs.{QLocking.lock_rules, Plans.Table, Plans.table_of, QueueRules.queue_rules}
+use Rattle.{event_log.specs.{declared.{entries.Kind.Kind, ids.Tid.Tid}, Messages.Message}, layer_traits.specs.declared.locked.QEdit.TheVariants.Acquire}
+use Rattle.layer_traits.specs.declared.locked.{QEdit.TheVariants.{Inside, Release}, QOut.QOut, Side.{Side, TheVariants.{Receivers, Senders}}}
+use Rattle.layer_traits.specs.declared.conditions.{CvEdit.TheVariants.{Edit, SignalFront}, CvLeave.TheVariants.{Leave, Wait}, CvOut.CvOut}
+use Rattle.layer_traits.specs.declared.{buffer_edits.{BufferEdit.BufferEdit, BufferOut.BufferOut}, queue_edits.{QueueBlock.QueueBlock, QueueEdit.QueueEdit}}
+use Rattle.layer_traits.specs.{declared.{queues.QueueAnswer.QueueAnswer, sleeps.Outcome.Outcome}, BufferBlocks.BufferState, BufferProtocol.buffer_rules}
+use Rattle.layer_traits.specs.{Conditions.CvCall, QLocking.{LockState, lock_moves, lock_rules}, Plans.{Table, table_of}, QueueRules.queue_rules}
 use Rattle.cpu.specs.Table.Blocks.{Buffer, Block, OfBuffer, OfPending, Name, AcqQ, Enter, TryPut, TryTake, Shut, WaitOn, SigRecv, SigSend, RelQ, Pend, TakeAll}
-use Rattle.cpu.specs.Table.Blocks.{Reported, Nothing, Position, Done, WasClosed, DidShut, NotYet, Drained, Answer}
-use Rattle.cpu.specs.Table.Edits.{edited, answer, reports}
+use Rattle.cpu.specs.Table.{Blocks.{Reported, Nothing, Position, Done, WasClosed, DidShut, NotYet, Drained, Answer}, Edits.{edited, answer, reports}}
 use Rattle.event_log.specs.declared.entries.Kind.TheVariants as kind
 use Rattle.layer_traits.specs.declared.locked.QOut.TheVariants as lock
 use Rattle.layer_traits.specs.declared.conditions.CvOut.TheVariants as cv

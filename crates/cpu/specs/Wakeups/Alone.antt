@@ -1,14 +1,12 @@
 -- A call of a CPU that runs alone: how many steps it takes.
 use Rattle.std.specs.Prelude.{◌≡◌, ℕ, ◌+◌, ◌≤◌, ◌<◌, Bool, false, not, [], ◌∷◌, ◌++◌, Option, Some, None, slice_get, if◌then◌else◌}
-use Rattle.event_log.specs.{declared.ids.CpuId.CpuId, declared.ids.Tid.Tid, declared.ids.BufId.BufId, declared.ids.LockId.TheVariants.Buffer as AtBuffer}
-use Rattle.event_log.specs.{declared.entries.Kind.Kind, declared.entries.Entry.Entry, Messages.Message, Runs.Group, Runs.Sends, Runs.Receives, Runs.Closes}
-use Rattle.event_log.specs.{Runs.group_of, Actions.phase, Actions.Rests, Actions.AreFree, History.same_cpu}
-use Rattle.event_log.specs.declared.entries.Kind.TheVariants.{Send as SendKind, Recv as RecvKind, Close as CloseKind, SendClosed, RecvClosed}
-use Rattle.guest.specs.declared.instructions.Instruction.{Instruction, TheVariants.Send, TheVariants.Recv, TheVariants.Close}
-use Rattle.layer_traits.specs.declared.locked.Side.{Side, TheVariants.Receivers, TheVariants.Senders}
-use Rattle.cpu.specs.{Table.Blocks.Buffer, Table.Blocks.OfBuffer, Table.Blocks.front, Table.Blocks.front_stands_in, Table.Setups.Call, Table.Setups.Setup}
-use Rattle.cpu.specs.{Table.Setups.Private, Table.Setups.home_of, Table.Setups.thread_at, Table.Setups.stands_at, Table.Steps.Whole, Table.Steps.IsReached}
-use Rattle.cpu.specs.{Table.Steps.block_at, Table.Steps.halted_at, Table.Steps.steps_by, Wakeups.Lost.Allows, Wakeups.Quiet.AreFew}
+use Rattle.event_log.specs.declared.{ids.{CpuId.CpuId, Tid.Tid, BufId.BufId, LockId.TheVariants.Buffer as AtBuffer}, entries.Kind.Kind}
+use Rattle.event_log.specs.declared.entries.{Kind.TheVariants.{Send as SendKind, Recv as RecvKind, Close as CloseKind, SendClosed, RecvClosed}, Entry.Entry}
+use Rattle.event_log.specs.{Messages.Message, Runs.{Group, Sends, Receives, Closes, group_of}, Actions.{phase, Rests, AreFree}, History.same_cpu}
+use Rattle.{guest.specs.declared.instructions.Instruction.{Instruction, TheVariants.{Send, Recv, Close}}, layer_traits.specs.declared.locked.Side.Side}
+use Rattle.{layer_traits.specs.declared.locked.Side.TheVariants.{Receivers, Senders}, cpu.specs.Table.Blocks.{Buffer, OfBuffer, front, front_stands_in}}
+use Rattle.cpu.specs.Table.{Setups.{Call, Setup, Private, home_of, thread_at, stands_at}, Steps.{Whole, IsReached, block_at, halted_at, steps_by}}
+use Rattle.cpu.specs.Wakeups.{Lost.Allows, Quiet.AreFew}
 
 -- the instruction is a send, a receive, or a close, of this buffer
 abbrev pub IsCallOn : Group → BufId → Instruction → Type 0

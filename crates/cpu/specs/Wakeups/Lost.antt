@@ -1,11 +1,9 @@
 -- No wake-up is lost: whoever is the first of its line, is asleep beside a free lock and has something to do, does not exist.
 use Rattle.std.specs.Prelude.{◌≡◌, ℕ, ◌≤◌, ◌<◌, true, List, [], Some, None}
-use Rattle.event_log.specs.{declared.ids.CpuId.CpuId, declared.ids.Tid.Tid, declared.ids.BufId.BufId, declared.ids.LockId.TheVariants.Buffer as AtBuffer}
-use Rattle.event_log.specs.{declared.entries.Kind.Kind, Messages.Message, Buffers.IsAllowedEffect, Runs.Sends, Runs.Receives, Runs.group_of, History.own_events}
-use Rattle.event_log.specs.{Actions.Action, Actions.cpu_of_action, Sections.Section, Sections.sections_in}
-use Rattle.cpu.specs.{Table.Blocks.Buffer, Table.Blocks.OfBuffer, Table.Blocks.Name, Table.Blocks.front, Table.Blocks.stands_in, Table.Setups.Setup}
-use Rattle.cpu.specs.{Table.Setups.Private, Table.Steps.Whole, Table.Steps.IsReached, Table.Steps.block_at, Table.Steps.AlongTable, Wakeups.Order.block_of}
-use Rattle.cpu.specs.{Wakeups.Order.IsInOrder}
+use Rattle.event_log.specs.{declared.{ids.{CpuId.CpuId, Tid.Tid, BufId.BufId, LockId.TheVariants.Buffer as AtBuffer}, entries.Kind.Kind}, Messages.Message}
+use Rattle.event_log.specs.{Buffers.IsAllowedEffect, Runs.{Sends, Receives, group_of}, History.own_events, Actions.{Action, cpu_of_action}, Sections.Section}
+use Rattle.{event_log.specs.Sections.sections_in, cpu.specs.Table.{Blocks.{Buffer, OfBuffer, Name, front, stands_in}, Setups.{Setup, Private}, Steps.Whole}}
+use Rattle.cpu.specs.{Table.Steps.{IsReached, block_at, AlongTable}, Wakeups.Order.{block_of, IsInOrder}}
 
 -- the buffer allows an effect of this kind with this message
 abbrev pub Allows : Buffer → Kind → Message → Type 0

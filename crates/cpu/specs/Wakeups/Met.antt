@@ -1,9 +1,8 @@
 -- The premises of the laws on quiet systems and on calls alone are met: by states of the worked runs.
 use Rattle.std.specs.Prelude.{◌≡◌, ◌+◌, ◌≤◌, [], ◌∷◌, Some, None, option_map}
-use Rattle.layer_traits.specs.declared.call_states.Stage.TheVariants.{Releases}
-use Rattle.cpu.specs.{Table.Setups.Private, Table.Steps.Whole, Table.Steps.IsReached, Table.Steps.cpu_numbered, Table.Closing.closed_apart}
-use Rattle.cpu.specs.{Table.Closing.closed_aside, Wakeups.Quiet.AreFew, Wakeups.Quiet.HomesExist, Wakeups.Quiet.IsQuiet, Wakeups.Alone.IsReady}
-use Rattle.cpu.specs.Table.Worked.{thread, of, run, one_sender, two_sends, two_cpus, call_of}
+use Rattle.{layer_traits.specs.declared.call_states.Stage.TheVariants.Releases, cpu.specs.Table.{Setups.Private, Steps.{Whole, IsReached, cpu_numbered}}}
+use Rattle.cpu.specs.{Table.{Closing.{closed_apart, closed_aside}, Worked.{thread, of, run, one_sender, two_sends, two_cpus, call_of}}, Wakeups.Quiet.AreFew}
+use Rattle.cpu.specs.Wakeups.{Quiet.{HomesExist, IsQuiet}, Alone.IsReady}
 
 -- one thread that waits to send into a full buffer; its quiet state
 abbrev pub waiting_sender : Whole

@@ -1,10 +1,9 @@
 -- What is lost where a call signals the other side alone: a concrete history.
 use Rattle.std.specs.Prelude.{◌≡◌, ℕ, List, [], ◌∷◌, Some}
 use Rattle.event_log.specs.{declared.ids.LockId.TheVariants.Buffer as AtBuffer, Messages.Message, Sections.Section}
-use Rattle.layer_traits.specs.declared.locked.Side.TheVariants.{Receivers, Senders}
-use Rattle.cpu.specs.Table.Blocks.{Buffer, OfBuffer, Name, AcqQ, Enter, TryPut, TryTake, Shut, WaitOn, SigRecv, SigSend, RelQ}
-use Rattle.cpu.specs.{Table.Setups.Setup, Table.Steps.cpu_numbered, Table.Worked.thread, Table.Worked.buffer_numbered, Table.Worked.setup_of}
-use Rattle.cpu.specs.{Wakeups.Order.block_of, Wakeups.Lost.NoWakeUpIsLost}
+use Rattle.{layer_traits.specs.declared.locked.Side.TheVariants.{Receivers, Senders}, cpu.specs.Table.Blocks.{Buffer, OfBuffer, Name, AcqQ, Enter, TryPut}}
+use Rattle.cpu.specs.Table.{Blocks.{TryTake, Shut, WaitOn, SigRecv, SigSend, RelQ}, Setups.Setup, Steps.cpu_numbered, Worked.{thread, buffer_numbered}}
+use Rattle.cpu.specs.{Table.Worked.setup_of, Wakeups.{Order.block_of, Lost.NoWakeUpIsLost}}
 
 -- three threads, each at home on the CPU of its number, and one buffer for two messages
 abbrev pub three_threads : Setup

@@ -1,10 +1,9 @@
 -- The order of the sections of one buffer: which section of a call may come when, as the owner of the lock and what it has done tell.
 use Rattle.std.specs.Prelude.{◌≡◌, ◌≢◌, Bool, true, false, List, [], ◌∷◌, Option, Some, None, if◌then◌else◌}
-use Rattle.event_log.specs.{declared.ids.LockId.LockId, declared.ids.LockId.TheVariants.Pending, declared.ids.LockId.TheVariants.Buffer as AtBuffer}
-use Rattle.event_log.specs.{History.same_lock, History.IsLawful, Sections.Section, Sections.block_after}
-use Rattle.layer_traits.specs.declared.locked.Side.{Side, TheVariants.Receivers, TheVariants.Senders}
+use Rattle.event_log.specs.{declared.ids.LockId.{LockId, TheVariants.{Pending, Buffer as AtBuffer}}, History.{same_lock, IsLawful}, Sections.Section}
+use Rattle.{event_log.specs.Sections.block_after, layer_traits.specs.declared.locked.Side.{Side, TheVariants.{Receivers, Senders}}}
 use Rattle.cpu.specs.Table.Blocks.{Buffer, Block, OfBuffer, OfPending, Name, AcqQ, Enter, TryPut, TryTake, Shut, WaitOn, SigRecv, SigSend, RelQ, Pend, TakeAll}
-use Rattle.cpu.specs.Table.{Edits.edited, Edits.may_put, Edits.may_take, Setups.Setup, Setups.opening}
+use Rattle.cpu.specs.Table.{Edits.{edited, may_put, may_take}, Setups.{Setup, opening}}
 
 -- what the owner of a buffer's lock has done since it got it: nothing, it entered a line, a try of it was in vain, or it took effect and
 -- owes the signals that are true. While nobody owns the lock nothing has been done.

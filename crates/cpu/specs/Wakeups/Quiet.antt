@@ -1,14 +1,11 @@
 -- A quiet system: no CPU has anything to do. It is stuck: no call of a live thread could take effect, whoever steps when.
 use Rattle.std.specs.Prelude.{◌≡◌, ◌≢◌, ℕ, ◌<◌, ◌≤◌, true, false, [], length, Option, Some, None, slice_get}
-use Rattle.event_log.specs.{declared.ids.CpuId.CpuId, declared.ids.Tid.Tid, declared.ids.BufId.BufId, declared.ids.LockId.TheVariants.Pending}
-use Rattle.event_log.specs.{declared.ids.LockId.TheVariants.Buffer as AtBuffer, declared.ids.TheConstants.THREADS, declared.entries.Kind.Kind, Messages.Message}
-use Rattle.event_log.specs.{Runs.Group, Runs.Sends, Runs.Receives, Runs.Closes, Runs.group_of, Actions.phase}
-use Rattle.layer_traits.specs.{declared.steps.Reason.Reason, Plans.is_in_section}
-use Rattle.guest.specs.{declared.instructions.Instruction.Instruction, State.State, State.message_from}
-use Rattle.guest.specs.declared.instructions.Instruction.TheVariants.{Set, Add, Sub, Jnz, Send, Recv, Close, Yield as YieldLine, Exit}
-use Rattle.cpu.specs.{Table.Blocks.Buffer, Table.Blocks.OfBuffer, Table.Blocks.OfPending, Table.Setups.Setup, Table.Setups.Call, Table.Setups.Private}
-use Rattle.cpu.specs.{Table.Setups.thread_at, Table.Setups.home_of, Table.Setups.stands_at, Table.Steps.Whole, Table.Steps.IsReached, Table.Steps.block_at}
-use Rattle.cpu.specs.{Table.Steps.halted_at, Wakeups.Lost.Allows}
+use Rattle.event_log.specs.declared.ids.{CpuId.CpuId, Tid.Tid, BufId.BufId, LockId.TheVariants.{Pending, Buffer as AtBuffer}, TheConstants.THREADS}
+use Rattle.event_log.specs.{declared.entries.Kind.Kind, Messages.Message, Runs.{Group, Sends, Receives, Closes, group_of}, Actions.phase}
+use Rattle.{layer_traits.specs.{declared.steps.Reason.Reason, Plans.is_in_section}, guest.specs.declared.instructions.Instruction.Instruction}
+use Rattle.guest.specs.{declared.instructions.Instruction.TheVariants.{Set, Add, Sub, Jnz, Send, Recv, Close, Yield as YieldLine, Exit}, State.State}
+use Rattle.{guest.specs.State.message_from, cpu.specs.Table.{Blocks.{Buffer, OfBuffer, OfPending}, Setups.{Setup, Call, Private, thread_at, home_of}}}
+use Rattle.cpu.specs.{Table.{Setups.stands_at, Steps.{Whole, IsReached, block_at, halted_at}}, Wakeups.Lost.Allows}
 
 -- no more threads than a machine may have
 abbrev pub AreFew : Setup → Type 0

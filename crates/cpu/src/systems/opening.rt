@@ -1,8 +1,7 @@
 //! Systems at boot. The calls here take memory. None waits.
 
 ghost use Rattle.std.specs.Prelude.{◌≡◌, ℕ, ◌+◌, ◌≤◌, ◌∷◌, ◌++◌, IfOk, Some, None, [], length, map, replicate, slice_get, slice_index_or, vec_capacity};
-ghost use Rattle.event_log.specs.declared.ids.TheConstants.{CPUS, THREADS};
-ghost use Rattle.layer_traits.specs.{BufferLaw.buffering_at_start, BufferLaw.no_call, Places.at_boot};
+ghost use Rattle.{event_log.specs.declared.ids.TheConstants.{CPUS, THREADS}, layer_traits.specs.{BufferLaw.{buffering_at_start, no_call}, Places.at_boot}};
 ghost use Rattle.cpu.specs.Boots.{IsBooted, IsBootedAs};
 
 use crate::cpus::Cpu;
@@ -92,9 +91,8 @@ impl<I: Owned + Drop> System<I>
 where
     I::Machine: Drop,
 {
-    ghost use Rattle.cpu.specs.{Boots.AreTables, Claims.FollowPrograms, Claims.HasOneOrder, Claims.MovesAgree, Claims.StandsOnce, Claims.StayHome, Claims.cpu_shown};
-    ghost use Rattle.cpu.specs.{Claims.shown_of, Cpus.IsCpu, Sound.BootsByTable, Sound.SoundByTable, Observed.ObservedByTable, Systems.IsSystem};
-    ghost use Rattle.cpu.specs.{Tables.IsTabled};
+    ghost use Rattle.cpu.specs.{Boots.AreTables, Claims.{FollowPrograms, HasOneOrder, MovesAgree, StandsOnce, StayHome, cpu_shown, shown_of}, Cpus.IsCpu};
+    ghost use Rattle.cpu.specs.{Sound.{BootsByTable, SoundByTable}, Observed.ObservedByTable, Systems.IsSystem, Tables.IsTabled};
     ghost use Rattle.layer_traits.specs.Openings.{AreOpenable};
 
     /// A system before its first step: buffers of these capacities, threads of these homes, and one

@@ -1,8 +1,7 @@
 //! The system of a plan. `guests_of` and `System::open` take memory. No call waits.
 
 ghost use Rattle.std.specs.Prelude.{◌≡◌, ◌<◌, IfOk, None, length, map, replicate, slice_index_or};
-ghost use Rattle.boot.specs.Plan.{IsPlan};
-ghost use Rattle.cpu.specs.Boots.{guests_for, homes_for, tables_for};
+ghost use Rattle.{boot.specs.Plan.IsPlan, cpu.specs.Boots.{guests_for, homes_for, tables_for}};
 
 use crate::guests::Guest;
 use crate::systems::System;

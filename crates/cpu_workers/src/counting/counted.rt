@@ -2,9 +2,8 @@
 //! alone, of a machine or of a closed table. No call takes memory or waits.
 
 ghost use Rattle.std.specs.Prelude.{◌≡◌, ◌*◌, ◌%◌, ◌^◌, ◌<◌, ◌≤◌, Some, [], ◌∷◌};
-ghost use Rattle.event_log.specs.{declared.ids.CpuId.CpuId, declared.ids.TheConstants.CPUS, Actions.gives, Actions.phase, Actions.Rests};
-ghost use Rattle.table_machine.specs.SeatViews.{new_seat_views};
-ghost use Rattle.cpu_workers.specs.{Counts.AllHaveMade, Counts.IsNumberOfFrees, Counts.counting};
+ghost use Rattle.{event_log.specs.{declared.ids.{CpuId.CpuId, TheConstants.CPUS}, Actions.{gives, phase, Rests}}, table_machine.specs.SeatViews.new_seat_views};
+ghost use Rattle.cpu_workers.specs.Counts.{AllHaveMade, IsNumberOfFrees, counting};
 
 use crate::counting::{AddOne, NUMBER};
 use crate::plan_words::PlanWords;

@@ -1,30 +1,13 @@
 //! The sections of one worker that counts.
 
 ghost use Rattle.std.specs.Prelude.{◌≡◌, ◌+◌, ◌<◌, None, IsSome};
-ghost use Rattle.event_log.specs.declared.ids.CpuId.{CpuId};
-ghost use Rattle.cpu_workers.specs.Counts.{made};
+ghost use Rattle.{event_log.specs.declared.ids.CpuId.CpuId, cpu_workers.specs.Counts.made};
 
 use crate::counting::{AddOne, NUMBER};
+use crate::pauses::{SPINS, pause};
 use event_log::{CpuId, LockId};
 use layer_traits::{LockCall, LockLayer, Payload};
 use std::sync::Wait;
-use std::thread;
-
-// How often a worker polls before it lets other threads run: with more threads than processors, the
-// one whose turn it is may not be running. So many looks take about as long as a change of threads.
-// It has no pause between them, since after a look that hit the next poll frees the lock.
-const SPINS: u16 = 1000;
-
-// Lets other threads run where no spins are left, and tells how many are left then: after that one,
-// so that a worker whose look hits frees the lock before it lets others run again.
-fn pause(spins: u16) -> u16 {
-    if spins > 0 {
-        spins - 1
-    } else {
-        thread::yield_now();
-        1
-    }
-}
 
 // One section that adds 1: polls until it answers. Nothing lies in the payload that counts.
 fn add_one<L: LockLayer<AddOne>, R: Wait>(
@@ -56,7 +39,8 @@ fn add_one<L: LockLayer<AddOne>, R: Wait>(
         {
             return;
         }
-        spins = pause(spins);
+        // A poll that goes on is inside its section: after a look that hit the next one frees the lock.
+        spins = pause(true, false, spins);
     }
     unreachable!()
 }

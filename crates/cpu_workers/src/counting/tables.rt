@@ -2,8 +2,7 @@
 //! to count waits for the workers.
 
 ghost use Rattle.std.specs.Prelude.{◌≡◌, ◌*◌, ◌<◌, ◌≤◌, ◌^◌, [], ◌∷◌, IsErr, IfOk, IfErr, OnErr};
-ghost use Rattle.event_log.specs.Refusals.{no_memory};
-ghost use Rattle.table_machine.specs.SeatViews.{new_seat_views};
+ghost use Rattle.{event_log.specs.Refusals.no_memory, table_machine.specs.SeatViews.new_seat_views};
 ghost use Rattle.cpu_workers.specs.declared.refusals.WorkerError.TheVariants.{NoMemory as LacksMemory};
 
 use crate::counting::counted::{Counted, number_left};

@@ -2,8 +2,7 @@
 //! waits for them.
 
 ghost use Rattle.std.specs.Prelude.{◌≡◌, ◌≤◌, [], IsSome, IfOk, IfErr, All, length, map, vec_capacity};
-ghost use Rattle.layer_traits.specs.OneLock.{opened};
-ghost use Rattle.cpu_workers.specs.{declared.counting.TheConstants.NUMBER, Counts.AllHaveMade, Counts.IsFresh, Reports.Both};
+ghost use Rattle.{layer_traits.specs.OneLock.opened, cpu_workers.specs.{declared.counting.TheConstants.NUMBER, Counts.{AllHaveMade, IsFresh}, Reports.Both}};
 
 use crate::counting::AddOne;
 use crate::plan_words::PlanWords;
@@ -23,9 +22,8 @@ struct Counting<'a, K: PlanWords> {
 }
 
 impl<'a, K: PlanWords> Task for Counting<'a, K> {
-    ghost use Rattle.std.specs.Prelude.{IsSome};
-    ghost use Rattle.layer_traits.specs.OneLock.{opened};
-    ghost use Rattle.cpu_workers.specs.{declared.counting.TheConstants.NUMBER, Counts.HasMade, Counts.IsFresh};
+    ghost use Rattle.{std.specs.Prelude.IsSome, layer_traits.specs.OneLock.opened, cpu_workers.specs.{declared.counting.TheConstants.NUMBER, Counts.HasMade}};
+    ghost use Rattle.cpu_workers.specs.Counts.{IsFresh};
 
     type Done = Key<AddOne>;
 

@@ -2,10 +2,9 @@
 //! them.
 
 ghost use Rattle.std.specs.Prelude.{◌≡◌, ◌<◌, ◌≤◌, [], All, IfOk, length, map, vec_capacity};
-ghost use Rattle.event_log.specs.{declared.ids.TheConstants.BUFFERS, declared.ids.TheConstants.CPUS, declared.ids.TheConstants.THREADS, Buffers.IsCapacity};
-ghost use Rattle.layer_traits.specs.{OneLock.opened, Openings.AreOpenable};
-ghost use Rattle.table_machine.specs.SeatViews.{Closes, Covers, IsOver, new_seat_views};
-ghost use Rattle.cpu_workers.specs.{Closing.tower_rules, Natives.HaveLeftKeys, Natives.HaveRun, Natives.OpensWith, Natives.left_of, Natives.own_homes};
+ghost use Rattle.{event_log.specs.{declared.ids.TheConstants.{BUFFERS, CPUS, THREADS}, Buffers.IsCapacity}, layer_traits.specs.OneLock.opened};
+ghost use Rattle.{layer_traits.specs.Openings.AreOpenable, table_machine.specs.SeatViews.{Closes, Covers, IsOver, new_seat_views}};
+ghost use Rattle.cpu_workers.specs.{Closing.tower_rules, Natives.{HaveLeftKeys, HaveRun, OpensWith, left_of, own_homes}};
 
 use crate::natives::Native;
 use crate::natives::seating::{LeftNative, call_over};

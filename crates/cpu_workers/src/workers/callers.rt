@@ -3,9 +3,7 @@
 
 ghost use Rattle.std.specs.Prelude.{◌≡◌, ◌<◌, ◌≤◌, false, [], MatchOption, if◌then◌else◌, is_ok, length};
 ghost use Rattle.event_log.specs.declared.entries.Kind.TheVariants as kind;
-ghost use Rattle.event_log.specs.Messages.{no_message};
-ghost use Rattle.layer_traits.specs.BufferLaw.{buffer_of};
-ghost use Rattle.cpu_workers.specs.Callers.{HasCalled, HasMade};
+ghost use Rattle.{event_log.specs.Messages.no_message, layer_traits.specs.BufferLaw.buffer_of, cpu_workers.specs.Callers.{HasCalled, HasMade}};
 
 use crate::workers::calling;
 use event_log::{BufId, CpuId, Msg, Tid};
@@ -45,8 +43,7 @@ where
 {
     ghost use Rattle.std.specs.Prelude.{◌≡◌, ◌<◌, None, reverse};
     ghost use Rattle.layer_traits.specs.{declared.call_states.Stage.TheVariants.Idle, BufferEffects.opening_locks, BufferLaw.call_state_of, QueueBlocks.inner};
-    ghost use Rattle.cpu.specs.Cpus.{of_cpu};
-    ghost use Rattle.cpu_workers.specs.Callers.{CallerView, IsCaller};
+    ghost use Rattle.{cpu.specs.Cpus.of_cpu, cpu_workers.specs.Callers.{CallerView, IsCaller}};
 
     ghost Value = { CallerView };
 
@@ -67,9 +64,8 @@ impl<I: CallLayer<IpcLaw> + Drop> Caller<I>
 where
     I::Machine: Drop,
 {
-    ghost use Rattle.event_log.specs.{declared.ids.TheConstants.THREADS, Actions.phase};
-    ghost use Rattle.layer_traits.specs.{BufferEffects.opening_locks, QueueBlocks.inner, Plans.is_in_section};
-    ghost use Rattle.cpu_workers.specs.{declared.workers.callers.TheConstants.MOST_CALLS, Orders.IsTraceOf};
+    ghost use Rattle.{event_log.specs.{declared.ids.TheConstants.THREADS, Actions.phase}, layer_traits.specs.{BufferEffects.opening_locks, QueueBlocks.inner}};
+    ghost use Rattle.{layer_traits.specs.Plans.is_in_section, cpu_workers.specs.{declared.workers.callers.TheConstants.MOST_CALLS, Orders.IsTraceOf}};
 
     /// The caller of a thread of this CPU before its first call, over a machine of its own side in which
     /// nothing was done, with threads of these homes and so many buffers.

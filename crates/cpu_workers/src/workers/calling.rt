@@ -2,12 +2,12 @@
 //! other CPUs.
 
 ghost use Rattle.std.specs.Prelude.{◌≡◌, ◌≢◌, ◌<◌, None, Some, IfOk, IfErr, length};
-ghost use Rattle.layer_traits.specs.{declared.call_states.Stage.TheVariants.Idle, BufferLaw.Calling, BufferLaw.MayGoOn, BufferLaw.MayPollCall};
-ghost use Rattle.layer_traits.specs.{BufferLaw.Passing, BufferLaw.buffer_of, BufferLaw.call_state_of, Passes.MayPass, declared.passes.Pass.TheVariants.End};
-ghost use Rattle.cpu_workers.specs.{declared.workers.calling.Begun.TheVariants.Calls, Calls.Ends, Calls.KeepsOn, Calls.MayBegin, Calls.MayPoll, Calls.Returned};
-ghost use Rattle.cpu_workers.specs.{Calls.under_way_of, Idling.is_idle};
+ghost use Rattle.layer_traits.specs.{declared.{call_states.Stage.TheVariants.Idle, passes.Pass.TheVariants.End}, BufferLaw.{Calling, MayGoOn, MayPollCall}};
+ghost use Rattle.layer_traits.specs.{BufferLaw.{Passing, buffer_of, call_state_of}, Passes.MayPass};
+ghost use Rattle.cpu_workers.specs.{declared.workers.calling.Begun.TheVariants.Calls, Calls.{Ends, KeepsOn, MayBegin, MayPoll, Returned, under_way_of}};
+ghost use Rattle.cpu_workers.specs.Idling.{is_idle};
 
-use crate::workers::turns::{SPINS, pause};
+use crate::pauses::{SPINS, pause};
 use event_log::Tid;
 use layer_traits::{Call, CallLayer, IpcLaw, Pass, Reply};
 use std::sync::Wait;

@@ -18,8 +18,7 @@ pub enum Go {
 /// gate that wants to hold the CPU does so inside `pass`, up to a limit of its own, and then answers
 /// `Limit`; after that the CPU takes no turn but to end its section.
 pub trait Gate {
-    ghost use Rattle.event_log.specs.declared.ids.CpuId.{CpuId};
-    ghost use Rattle.cpu_workers.specs.declared.workers.gates.Go.{Go};
+    ghost use Rattle.{event_log.specs.declared.ids.CpuId.CpuId, cpu_workers.specs.declared.workers.gates.Go.Go};
 
     /// For which CPU, and at which of its turns, the gate may give an answer.
     ghost MayAnswer: { Self → CpuId → Go → ℕ → Type 0 };

@@ -1,8 +1,7 @@
 //! What the workers of a plan leave behind. No call takes memory or waits.
 
 ghost use Rattle.std.specs.Prelude.{◌≡◌, Some};
-ghost use Rattle.layer_traits.specs.OneLock.{opened};
-ghost use Rattle.cpu_workers.specs.{Closing.block_shown, Lawful.messages_in};
+ghost use Rattle.{layer_traits.specs.OneLock.opened, cpu_workers.specs.{Closing.block_shown, Lawful.messages_in}};
 
 use crate::workers::stops::Stop;
 use arrayvec::ArrayVec;

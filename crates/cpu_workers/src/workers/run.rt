@@ -2,12 +2,10 @@
 //! and waits for them.
 
 ghost use Rattle.std.specs.Prelude.{◌≡◌, ◌≤◌, [], IfOk, All, length, map, vec_capacity};
-ghost use Rattle.layer_traits.specs.OneLock.{AreDistinct, opened};
-ghost use Rattle.table_machine.specs.SeatViews.{Closes, Covers, IsOf, IsOver, new_seat_views};
+ghost use Rattle.{layer_traits.specs.OneLock.{AreDistinct, opened}, table_machine.specs.SeatViews.{Closes, Covers, IsOf, IsOver, new_seat_views}};
 ghost use Rattle.boot.specs.declared.locks.LockKind.TheVariants as kind;
-ghost use Rattle.boot.specs.Plan.{IsPlan};
-ghost use Rattle.cpu.specs.Sound.{setup_for};
-ghost use Rattle.cpu_workers.specs.{Closing.shown, Closing.tower_rules, Lawful.IsLawfulReport, Logs.HasWords, Seating.HaveLeft, Seating.OpensPlan};
+ghost use Rattle.{boot.specs.Plan.IsPlan, cpu.specs.Sound.setup_for, cpu_workers.specs.{Closing.{shown, tower_rules}, Lawful.IsLawfulReport, Logs.HasWords}};
+ghost use Rattle.cpu_workers.specs.Seating.{HaveLeft, OpensPlan};
 
 use crate::plan_words::PlanWords;
 use crate::refusals::WorkerError;

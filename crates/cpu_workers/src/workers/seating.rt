@@ -2,12 +2,9 @@
 //! they leave.
 
 ghost use Rattle.std.specs.Prelude.{◌≡◌, ℕ, ◌<◌, ◌≤◌, Some, [], IfOk, length, slice_get, vec_capacity};
-ghost use Rattle.event_log.specs.declared.ids.TheConstants.{CPUS};
-ghost use Rattle.boot.specs.Plan.{IsPlan};
-ghost use Rattle.cpu.specs.Boots.{homes_for};
-ghost use Rattle.layer_traits.specs.{BufferEffects.opening_locks, OnePlace.cpu_at, QueueBlocks.inner};
-ghost use Rattle.cpu_workers.specs.{Reports.Both, Seating.HasLeft, Seating.IsApart, Seating.IsAtBoot, Seating.IsReady, Seating.IsUnused, Seating.OpensPlan};
-ghost use Rattle.cpu_workers.specs.{Seating.tower_acts};
+ghost use Rattle.{event_log.specs.declared.ids.TheConstants.CPUS, boot.specs.Plan.IsPlan, cpu.specs.Boots.homes_for};
+ghost use Rattle.{layer_traits.specs.{BufferEffects.opening_locks, OnePlace.cpu_at, QueueBlocks.inner}, cpu_workers.specs.{Reports.Both, Seating.HasLeft}};
+ghost use Rattle.cpu_workers.specs.Seating.{IsApart, IsAtBoot, IsReady, IsUnused, OpensPlan, tower_acts};
 
 use crate::refusals::WorkerError;
 use crate::workers::gates::Gate;

@@ -17,8 +17,7 @@ pub(crate) struct TowerSeat<'a, K: TableWords> {
 }
 
 impl<'a, K: TableWords> Model for TowerSeat<'a, K> {
-    ghost use Rattle.table_machine.specs.SeatViews.{SeatView};
-    ghost use Rattle.cpu_workers.specs.Seating.{Block, Edit};
+    ghost use Rattle.{table_machine.specs.SeatViews.SeatView, cpu_workers.specs.Seating.{Block, Edit}};
 
     ghost Value = { SeatView Edit Block };
 
@@ -47,10 +46,8 @@ impl<'a, K: TableWords> TowerSeat<'a, K> {
 
 impl<'a, K: TableWords> Words for TowerSeat<'a, K> {
     ghost use Rattle.std.specs.Prelude.{◌≡◌, ℕ};
-    ghost use Rattle.event_log.specs.History.{IsLawful};
-    ghost use Rattle.layer_traits.specs.{WordsProtocol.MayCome, WordsProtocol.edit_of, OneLock.opened};
-    ghost use Rattle.table_machine.specs.SeatViews.{site_of};
-    ghost use Rattle.cpu_workers.specs.Closing.{tower_rules};
+    ghost use Rattle.{event_log.specs.History.IsLawful, layer_traits.specs.{WordsProtocol.{MayCome, edit_of}, OneLock.opened}};
+    ghost use Rattle.{table_machine.specs.SeatViews.site_of, cpu_workers.specs.Closing.tower_rules};
 
     type Edit = TowerEdit;
 

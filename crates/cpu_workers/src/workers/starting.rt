@@ -1,7 +1,7 @@
 //! A thread for each worker. `work_all` takes memory, starts the threads and waits for them.
 
 ghost use Rattle.std.specs.Prelude.{◌≡◌, [], All, IfOk};
-ghost use Rattle.cpu_workers.specs.{Reports.Both, Reports.HasRun};
+ghost use Rattle.cpu_workers.specs.Reports.{Both, HasRun};
 
 use crate::pool::{Task, run_all};
 use crate::refusals::WorkerError;

@@ -1,18 +1,16 @@
 //! The turns of one worker. `work` takes no memory, and waits for other CPUs.
 
 ghost use Rattle.std.specs.Prelude.{◌≡◌, ◌≢◌, ◌<◌, ◌⊎◌, true, false, [], None, Some, MatchOption};
-ghost use Rattle.layer_traits.specs.declared.steps.Reason.TheVariants.{StepsUsed};
-ghost use Rattle.cpu.specs.Table.{Setups.Setup, Steps.halted_at};
-ghost use Rattle.cpu_workers.specs.{Working.IsPlanned, Working.MayStep, Working.is_inside, Reports.HasRun, Reports.IsTrueStop, Reports.counted_on};
-ghost use Rattle.cpu_workers.specs.declared.workers.{gates.Go.TheVariants.Limit, gates.Go.TheVariants.Pass, stops.Stop.TheVariants.TurnsUsed};
-ghost use Rattle.cpu_workers.specs.Idling.{spins_left};
+ghost use Rattle.{layer_traits.specs.declared.steps.Reason.TheVariants.StepsUsed, cpu.specs.Table.{Setups.Setup, Steps.halted_at}};
+ghost use Rattle.cpu_workers.specs.{Working.{IsPlanned, MayStep, is_inside}, Reports.{HasRun, IsTrueStop, counted_on}};
+ghost use Rattle.cpu_workers.specs.declared.workers.{gates.Go.TheVariants.{Limit, Pass}, stops.Stop.TheVariants.TurnsUsed};
 
+use crate::pauses::{SPINS, pause};
 use crate::workers::gates::{Gate, Go};
 use crate::workers::stops::Stop;
 use crate::workers::worker::Worker;
 use layer_traits::{CallLayer, IpcLaw, Reason};
 use std::sync::Wait;
-use std::thread;
 
 /// What a worker did.
 #[derive(Clone, Copy, Debug, Drop)]
@@ -21,32 +19,6 @@ pub struct Did {
     pub taken: u64,
     /// Why it stopped.
     pub stop: Stop,
-}
-
-// How often a worker looks at a lock before it lets other threads run: with more threads than
-// processors, the one whose turn it is may not be running. So many looks take about as long as a
-// change of threads.
-pub(crate) const SPINS: u16 = 1000;
-
-// Lets other threads run where a worker's section is under way and no spins are left, and after each
-// turn that left its CPU idle: an idle CPU is nearly always inside its own queue's section, and where
-// its processor is taken there, every CPU that sends a thread home to it waits. Tells how many spins
-// are left: after the last one is one more, so that a worker whose look hits frees the lock before it
-// lets others run again.
-pub(crate) fn pause(busy: bool, idle: bool, spins: u16) -> u16
-    ensures { result ≡ spins_left busy spins }
-{
-    if busy && spins > 0 {
-        return spins - 1;
-    }
-    if busy {
-        thread::yield_now();
-        return 1;
-    }
-    if idle {
-        thread::yield_now();
-    }
-    SPINS
 }
 
 // One turn more.

@@ -25,8 +25,7 @@ where
     I::Machine: Drop,
 {
     ghost use Rattle.std.specs.Prelude.{◌≡◌, ◌<◌, length, vec_capacity};
-    ghost use Rattle.cpu.specs.{Cpus.IsCpu, Cpus.programs_of, Tables.IsTabled, Tables.private};
-    ghost use Rattle.cpu_workers.specs.{Working.Working, Seats.IsWorker};
+    ghost use Rattle.{cpu.specs.{Cpus.{IsCpu, programs_of}, Tables.{IsTabled, private}}, cpu_workers.specs.{Working.Working, Seats.IsWorker}};
     ghost use Rattle.layer_traits.specs.{BufferEffects.opening_locks, QueueBlocks.inner};
 
     ghost Value = { Working };
@@ -51,10 +50,9 @@ where
     I::Machine: Drop,
 {
     ghost use Rattle.layer_traits.specs.{declared.steps.Reason.TheVariants.StepsUsed, BufferEffects.opening_locks, QueueBlocks.inner};
-    ghost use Rattle.event_log.specs.{Actions.AreLegal, declared.ids.TheConstants.THREADS};
-    ghost use Rattle.cpu.specs.{Cpus.IsCpu, Cpus.programs_of, Tables.IsTabled, Tables.private, Boots.AreGuests, Table.Setups.Setup};
-    ghost use Rattle.cpu.specs.{Table.Setups.at_boot as boot_of, Table.Steps.halted_at};
-    ghost use Rattle.cpu_workers.specs.{Idling.is_idle, Working.IsPlanned, Working.IsSame, Working.Turned, Working.is_inside, Orders.HasFollowed, Orders.IsTraceOf};
+    ghost use Rattle.{event_log.specs.{Actions.AreLegal, declared.ids.TheConstants.THREADS}, cpu.specs.{Cpus.{IsCpu, programs_of}, Tables.{IsTabled, private}}};
+    ghost use Rattle.{cpu.specs.{Boots.AreGuests, Table.{Setups.{Setup, at_boot as boot_of}, Steps.halted_at}}, cpu_workers.specs.Idling.is_idle};
+    ghost use Rattle.cpu_workers.specs.{Working.{IsPlanned, IsSame, Turned, is_inside}, Orders.{HasFollowed, IsTraceOf}};
 
     /// The worker of a CPU and its machine, which agree. The machine does one action a step and has
     /// room for one at any time, and each of its buffers opened empty.

@@ -1,13 +1,10 @@
 -- A put and a take at their section polls are steps of a buffer's block.
-use Rattle.std.proofs.Common.{◌≡◌, ℕ, Bool, true, false, ◌||◌, List, [], ◌∷◌, length, nat_lt, if◌then◌else◌, refl, sym, arith, lt-ltb}
-use Rattle.std.proofs.lemmas.Bool.{and_parts, ltb-true}
-use Rattle.event_log.specs.declared.entries.Kind.TheVariants.{Send, Recv, SendClosed, RecvClosed}
-use Rattle.event_log.specs.{declared.ids.Tid.Tid, Buffers.IsAllowedEffect, Buffers.after_effect, Messages.Message, Runs.Receives, Runs.Sends, Runs.group_of}
-use Rattle.layer_traits.specs.declared.locked.Side.{Side, TheVariants.Receivers, TheVariants.Senders}
-use Rattle.layer_traits.specs.BufferBlocks.{BufferState, effect_kind, first_item, is_first, is_next, items_put, line_of, may_go, other_items, drawn_of, put_in}
-use Rattle.layer_traits.specs.BufferBlocks.{taken_out}
-use Rattle.layer_traits.proofs.ItemLemmas.{drop_one}
-use Rattle.fifo_buffer.specs.{BlockSteps.BlockStep, BlockSteps.kind_on, Stances.same_side}
+use Rattle.std.proofs.{Common.{◌≡◌, ℕ, Bool, true, false, ◌||◌, List, [], ◌∷◌, length, nat_lt, if◌then◌else◌, refl, sym, arith, lt-ltb}, lemmas.Bool.and_parts}
+use Rattle.{std.proofs.lemmas.Bool.ltb-true, event_log.specs.declared.{entries.Kind.TheVariants.{Send, Recv, SendClosed, RecvClosed}, ids.Tid.Tid}}
+use Rattle.event_log.specs.{Buffers.{IsAllowedEffect, after_effect}, Messages.Message, Runs.{Receives, Sends, group_of}}
+use Rattle.layer_traits.specs.{declared.locked.Side.{Side, TheVariants.{Receivers, Senders}}, BufferBlocks.{BufferState, effect_kind, first_item, is_first}}
+use Rattle.layer_traits.{specs.BufferBlocks.{is_next, items_put, line_of, may_go, other_items, drawn_of, put_in, taken_out}, proofs.ItemLemmas.drop_one}
+use Rattle.fifo_buffer.specs.{BlockSteps.{BlockStep, kind_on}, Stances.same_side}
 
 put_counts : (closed : Bool) → group_of (if closed then SendClosed else Send) ≡ Sends
 put_counts true = refl

@@ -1,20 +1,14 @@
 -- The laws of the layer of buffers, from those of the conditions beneath.
 use Rattle.std.proofs.Common.{◌≡◌, ℕ, ◌<◌, Bool, true, false, List, [], ◌∷◌, length, Option, Some, None, option_map, slice_get, if◌then◌else◌, refl, ap, sym}
-use Rattle.std.proofs.Common.{◌∙◌, arith, ◌⊎◌, inl, inr}
-use Rattle.std.proofs.lemmas.Option.{slice_get_within}
-use Rattle.event_log.specs.{declared.ids.BufId.BufId, declared.ids.CpuId.CpuId, declared.ids.LockId.LockId, declared.ids.LockId.TheVariants.Pending}
-use Rattle.event_log.specs.{declared.ids.LockId.TheVariants.Buffer, declared.ids.Tid.Tid, History.IsLawful, History.same_lock}
-use Rattle.layer_traits.specs.{declared.buffer_edits.BufferEdit.BufferEdit, declared.buffer_edits.BufferOut.BufferOut, declared.moves.WaitList.WaitList}
-use Rattle.layer_traits.specs.{declared.queue_edits.QueueBlock.QueueBlock, declared.scheds.SchedCall.SchedCall, declared.call_states.CallState.CallState}
-use Rattle.layer_traits.specs.{BufferEffects.MayTakeEffect, BufferEffects.effects_in, BufferEffects.fresh_lock, BufferEffects.opening_locks}
-use Rattle.layer_traits.specs.{BufferProtocol.BufferLock, BufferProtocol.BufferSection, BufferProtocol.buffer_monitor_rules, Conditions.CvCall}
-use Rattle.layer_traits.specs.{Conditions.cv_rules, CvLaw.Waiting, IpcLaw.WaitListsAgree, ListsAgree.is_at, QLockLaw.LocksAgree, QLockLaw.lock_kernel}
-use Rattle.layer_traits.specs.{QLocking.wait_list_in, QLocking.lock_after, QLocking.lock_edited, Places.Asleep, Places.At, Places.count_in, Places.one_if}
-use Rattle.layer_traits.specs.{Places.wait_channel_of, Places.where_is, QueueBlocks.homes_in, QueueBlocks.inner, Queues.QueueAllowed, Queues.buffer_sections}
-use Rattle.layer_traits.specs.{Queues.moves_in}
-use Rattle.layer_traits.proofs.ListsLemmas.{wait_channel_here}
-use Rattle.fifo_buffer.specs.{FifoFits.BootsSo, FifoFits.PartFits, FifoFits.caps_in, Laws.Tallies.effects_lawful, SectionPolls.BufferEvent}
-use Rattle.fifo_buffer.specs.{SectionPolls.under_way_at}
+use Rattle.std.proofs.{Common.{◌∙◌, arith, ◌⊎◌, inl, inr}, lemmas.Option.slice_get_within}
+use Rattle.event_log.specs.{declared.ids.{BufId.BufId, CpuId.CpuId, LockId.{LockId, TheVariants.{Pending, Buffer}}, Tid.Tid}, History.{IsLawful, same_lock}}
+use Rattle.layer_traits.specs.declared.{buffer_edits.{BufferEdit.BufferEdit, BufferOut.BufferOut}, moves.WaitList.WaitList, queue_edits.QueueBlock.QueueBlock}
+use Rattle.layer_traits.specs.{declared.{scheds.SchedCall.SchedCall, call_states.CallState.CallState}, BufferEffects.{MayTakeEffect, effects_in, fresh_lock}}
+use Rattle.layer_traits.specs.{BufferEffects.opening_locks, BufferProtocol.{BufferLock, BufferSection, buffer_monitor_rules}, Conditions.{CvCall, cv_rules}}
+use Rattle.layer_traits.specs.{CvLaw.Waiting, IpcLaw.WaitListsAgree, ListsAgree.is_at, QLockLaw.{LocksAgree, lock_kernel}, QLocking.{wait_list_in, lock_after}}
+use Rattle.layer_traits.specs.{QLocking.lock_edited, Places.{Asleep, At, count_in, one_if, wait_channel_of, where_is}, QueueBlocks.{homes_in, inner}}
+use Rattle.{layer_traits.{specs.Queues.{QueueAllowed, buffer_sections, moves_in}, proofs.ListsLemmas.wait_channel_here}, fifo_buffer.specs.FifoFits.BootsSo}
+use Rattle.fifo_buffer.specs.{FifoFits.{PartFits, caps_in}, Laws.Tallies.effects_lawful, SectionPolls.{BufferEvent, under_way_at}}
 use Rattle.layer_traits.specs.declared.scheds.SchedCall.TheVariants as sched
 
 -- each effect may come after those before it

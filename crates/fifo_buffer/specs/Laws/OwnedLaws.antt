@@ -1,21 +1,17 @@
 -- What the conditions beneath tell of their locks, the buffers tell of their items, owners and waiting lists.
 use Rattle.std.proofs.Common.{◌≡◌, ◌<◌, Bool, true, false, List, [], ◌∷◌, ◌++◌, length, map, Option, Some, None, IsSome, option_map, option_to_list}
-use Rattle.std.proofs.Common.{slice_index, if◌then◌else◌, refl, ap, sym, ◌∙◌, subst}
-use Rattle.std.proofs.lemmas.Option.{slice_get-get_or}
-use Rattle.std.specs.List.{AllByRecursion}
-use Rattle.event_log.specs.{declared.entries.Entry.Entry, Buffers.items_of, History.IsLawful, History.same_lock, Runs.is_closed, Sections.sections_in}
-use Rattle.event_log.specs.declared.ids.{BufId.BufId, CpuId.CpuId, LockId.LockId, LockId.TheVariants.Buffer, Tid.Tid, TheConstants.CPUS}
-use Rattle.layer_traits.specs.{declared.buffer_edits.BufferEdit.BufferEdit, declared.moves.WaitList.WaitList, declared.queue_edits.QueueBlock.QueueBlock}
-use Rattle.layer_traits.specs.{declared.queues.QueueCall.QueueCall, declared.queues.QueueCall.TheVariants.Push, declared.queues.QueueCall.TheVariants.TakeAll}
-use Rattle.layer_traits.specs.{declared.queues.QueueCall.TheVariants.OnBuffer, Acted.BufferActs, Acted.ItemsAre, BufferEffects.contents_of, BufferEffects.drawn}
-use Rattle.layer_traits.specs.{BufferEffects.effect_of, BufferEffects.effects_in, BufferEffects.fresh_lock, BufferProtocol.BufferLock}
-use Rattle.layer_traits.specs.{BufferProtocol.BufferSection, BufferProtocol.buffer_at, BufferProtocol.buffer_monitor_rules, Conditions.CvCall}
-use Rattle.layer_traits.specs.{Conditions.cv_rules, QLockLaw.lock_kernel, QLocking.wait_list_in, QLocking.lock_after, QLocking.lock_edited, QLocking.owner_in}
-use Rattle.layer_traits.specs.{Owned.IsObserved, Protocol.section, QueueBlocks.StartsWell, QueueBlocks.above_of, QueueBlocks.inner, QueueRules.AreProper}
-use Rattle.layer_traits.specs.{Queues.IsKnownEvent, Queues.QueueAllowed, Queues.buffer_sections, Queues.event_of, Queues.with_section, Observed.IsObservedAs}
-use Rattle.layer_traits.proofs.{ActedLemmas.lock_is, OwnedLemmas.shown_under, OwnedLemmas.observed_as, OwnedLemmas.viewed_shown}
-use Rattle.fifo_buffer.specs.{FifoFits.BootsSo, FifoFits.caps_in, Laws.Tallies.all_tallied, Laws.Tallies.effect_position, OwnedLaws.buffer_lock_of}
-use Rattle.fifo_buffer.specs.{OwnedLaws.closed_of, OwnedLaws.items_in, OwnedLaws.owner_of, OwnedLaws.wait_lists_of, SectionPolls.BufferEvent}
+use Rattle.std.{proofs.{Common.{slice_index, if◌then◌else◌, refl, ap, sym, ◌∙◌, subst}, lemmas.Option.slice_get-get_or}, specs.List.AllByRecursion}
+use Rattle.event_log.specs.declared.{entries.Entry.Entry, ids.{BufId.BufId, CpuId.CpuId, LockId.{LockId, TheVariants.Buffer}, Tid.Tid, TheConstants.CPUS}}
+use Rattle.event_log.specs.{Buffers.items_of, History.{IsLawful, same_lock}, Runs.is_closed, Sections.sections_in}
+use Rattle.layer_traits.specs.declared.{buffer_edits.BufferEdit.BufferEdit, moves.WaitList.WaitList, queue_edits.QueueBlock.QueueBlock}
+use Rattle.layer_traits.specs.{declared.queues.QueueCall.{QueueCall, TheVariants.{Push, TakeAll, OnBuffer}}, Acted.{BufferActs, ItemsAre}}
+use Rattle.layer_traits.specs.{BufferEffects.{contents_of, drawn, effect_of, effects_in, fresh_lock}, BufferProtocol.{BufferLock, BufferSection, buffer_at}}
+use Rattle.layer_traits.specs.{BufferProtocol.buffer_monitor_rules, Conditions.{CvCall, cv_rules}, QLockLaw.lock_kernel, QLocking.{wait_list_in, lock_after}}
+use Rattle.layer_traits.specs.{QLocking.{lock_edited, owner_in}, Owned.IsObserved, Protocol.section, QueueBlocks.{StartsWell, above_of, inner}}
+use Rattle.layer_traits.specs.{QueueRules.AreProper, Queues.{IsKnownEvent, QueueAllowed, buffer_sections, event_of, with_section}, Observed.IsObservedAs}
+use Rattle.{layer_traits.proofs.{ActedLemmas.lock_is, OwnedLemmas.{shown_under, observed_as, viewed_shown}}, fifo_buffer.specs.FifoFits.{BootsSo, caps_in}}
+use Rattle.fifo_buffer.specs.{Laws.Tallies.{all_tallied, effect_position}, OwnedLaws.{buffer_lock_of, closed_of, items_in, owner_of, wait_lists_of}}
+use Rattle.fifo_buffer.specs.SectionPolls.{BufferEvent}
 
 -- a lock that was there at the start is there after some sections
 some_after : (s : BufferSection) (x : Option BufferLock) (b : Bool) → IsSome x

@@ -1,33 +1,24 @@
 -- A buffer's block tells its effects after any lawful sections; so each effect may come after those before it.
 use Rattle.std.proofs.Common.{◌≡◌, ℕ, ◌+◌, ◌<◌, ◌%◌, ◌^◌, Bool, true, false, ◌&&◌, ◌==◌, List, [], ◌∷◌, ◌++◌, length, Option, Some, None, option_map}
 use Rattle.std.proofs.Common.{option_to_list, slice_get, slice_set, if◌then◌else◌, refl, ap, sym, ◌∙◌, subst, arith, length-append, lt-ltb}
-use Rattle.std.specs.Prelude.{count_by, nat_lt, slice_index}
-use Rattle.std.proofs.lemmas.{Bool.and_right, Bool.eqb-false, Bool.ne_eqb, Bool.or_parts, List.get_or-set_other, List.get_or-set_same, List.length-map}
-use Rattle.std.proofs.lemmas.{List.length-set, Option.get_or_from_slice_get, Option.slice_get_within}
-use Rattle.event_log.specs.declared.entries.{Entry.Entry, Kind.Kind, Kind.TheVariants.Send, Kind.TheVariants.Recv, Kind.TheVariants.Close}
-use Rattle.event_log.specs.{declared.ids.BufId.BufId, declared.ids.CpuId.CpuId, declared.ids.LockId.LockId, declared.ids.LockId.TheVariants.Buffer}
-use Rattle.event_log.specs.{declared.ids.Tid.Tid, Buffers.after_effect, Buffers.items_of, History.IsLawful, History.same_lock, Messages.Message}
-use Rattle.event_log.specs.{Messages.no_message, Runs.count_of, Runs.count_of_kind, Runs.group_of, Runs.is_closed, Runs.kind_eq, Runs.same_group}
-use Rattle.event_log.proofs.{Same.same_lock_self, Same.same_lock_true, RunLemmas.count_cons, RunLemmas.counts_here, RunLemmas.items_none, RunLemmas.kind_cons}
-use Rattle.event_log.proofs.{RunLemmas.kinds_here}
-use Rattle.layer_traits.specs.declared.buffer_edits.BufferEdit.{BufferEdit, TheVariants.Enter, TheVariants.TryPut, TheVariants.TryTake, TheVariants.Shut}
-use Rattle.layer_traits.specs.{declared.conditions.CvEdit.TheVariants.Edit, declared.conditions.CvEdit.TheVariants.SignalFront}
-use Rattle.layer_traits.specs.{declared.locked.QEdit.TheVariants.Acquire, declared.locked.QEdit.TheVariants.Inside, declared.locked.QEdit.TheVariants.Release}
-use Rattle.layer_traits.specs.{declared.locked.Side.Side, declared.locked.Side.TheVariants.Receivers, declared.locked.Side.TheVariants.Senders}
-use Rattle.layer_traits.specs.{declared.queue_edits.QueueBlock.QueueBlock, declared.queues.QueueCall.QueueCall, declared.queues.QueueCall.TheVariants.Push}
-use Rattle.layer_traits.specs.{declared.queues.QueueCall.TheVariants.TakeAll, declared.queues.QueueCall.TheVariants.OnBuffer, BufferBlocks.BufferState}
-use Rattle.layer_traits.specs.{BufferBlocks.effect_kind, BufferBlocks.empty_block, BufferBlocks.entered, BufferBlocks.first_item, BufferBlocks.is_first}
-use Rattle.layer_traits.specs.{BufferBlocks.is_next, BufferBlocks.line_of, BufferBlocks.may_join, BufferBlocks.drawn_of, BufferBlocks.put_in, BufferBlocks.shut}
-use Rattle.layer_traits.specs.{BufferBlocks.taken_out, BufferEffects.MayTakeEffect, BufferEffects.contents_of, BufferEffects.drawn, BufferEffects.effect_of}
-use Rattle.layer_traits.specs.{BufferEffects.effect_on, BufferEffects.effects_in, BufferEffects.entry, BufferEffects.fresh_lock, BufferEffects.is_enter}
-use Rattle.layer_traits.specs.{BufferEffects.opening_locks, BufferEffects.drawn_in, Conditions.CvCall, Conditions.cv_rules, QLockLaw.lock_kernel, QLocking.asked}
-use Rattle.layer_traits.specs.{QLocking.lock_edited, Protocol.section, QueueBlocks.inner, Queues.QueueAllowed, Queues.buffer_sections, Queues.with_section}
-use Rattle.layer_traits.specs.BufferProtocol.{BufferLock, BufferSection, IsDue, buffer_at, buffer_monitor_rules, buffer_rules, is_in_line}
-use Rattle.layer_traits.proofs.ItemLemmas.{one_more}
-use Rattle.thread_blocks.specs.Queues.{same_tid, is_in, rest}
-use Rattle.thread_blocks.proofs.Members.{same_tid_self, same_tid_true}
-use Rattle.fifo_buffer.specs.{BlockSteps.BlockStep, BlockSteps.kind_on, Laws.BlockSteps.put_step, Laws.BlockSteps.take_step, Stances.same_side}
-use Rattle.fifo_buffer.specs.{SectionPolls.BufferEvent, Tallies.IsNumbered, Tallies.IsPlaced, Tallies.Tally}
+use Rattle.std.proofs.lemmas.{Bool.{and_right, eqb-false, ne_eqb, or_parts}, List.{get_or-set_other, get_or-set_same, length-map, length-set}}
+use Rattle.std.{proofs.lemmas.Option.{get_or_from_slice_get, slice_get_within}, specs.Prelude.{count_by, nat_lt, slice_index}}
+use Rattle.event_log.specs.declared.{entries.{Entry.Entry, Kind.{Kind, TheVariants.{Send, Recv, Close}}}, ids.{BufId.BufId, CpuId.CpuId, LockId.LockId}}
+use Rattle.event_log.specs.{declared.ids.{LockId.TheVariants.Buffer, Tid.Tid}, Buffers.{after_effect, items_of}, History.{IsLawful, same_lock}}
+use Rattle.event_log.specs.{Messages.{Message, no_message}, Runs.{count_of, count_of_kind, group_of, is_closed, kind_eq, same_group}}
+use Rattle.event_log.proofs.{Same.{same_lock_self, same_lock_true}, RunLemmas.{count_cons, counts_here, items_none, kind_cons, kinds_here}}
+use Rattle.layer_traits.specs.declared.{buffer_edits.BufferEdit.{BufferEdit, TheVariants.{Enter, TryPut, TryTake, Shut}}, conditions.CvEdit.TheVariants.Edit}
+use Rattle.layer_traits.specs.declared.{conditions.CvEdit.TheVariants.SignalFront, locked.{QEdit.TheVariants.{Acquire, Inside, Release}, Side.Side}}
+use Rattle.layer_traits.specs.declared.{locked.Side.TheVariants.{Receivers, Senders}, queue_edits.QueueBlock.QueueBlock, queues.QueueCall.QueueCall}
+use Rattle.layer_traits.specs.{declared.queues.QueueCall.TheVariants.{Push, TakeAll, OnBuffer}, BufferBlocks.{BufferState, effect_kind, empty_block, entered}}
+use Rattle.layer_traits.specs.{BufferBlocks.{first_item, is_first, is_next, line_of, may_join, drawn_of, put_in, shut, taken_out}, BufferEffects.MayTakeEffect}
+use Rattle.layer_traits.specs.BufferEffects.{contents_of, drawn, effect_of, effect_on, effects_in, entry, fresh_lock, is_enter, opening_locks, drawn_in}
+use Rattle.layer_traits.specs.{Conditions.{CvCall, cv_rules}, QLockLaw.lock_kernel, QLocking.{asked, lock_edited}, Protocol.section, QueueBlocks.inner}
+use Rattle.layer_traits.specs.{Queues.{QueueAllowed, buffer_sections, with_section}, BufferProtocol.{BufferLock, BufferSection, IsDue, buffer_at}}
+use Rattle.layer_traits.{specs.BufferProtocol.{buffer_monitor_rules, buffer_rules, is_in_line}, proofs.ItemLemmas.one_more}
+use Rattle.{thread_blocks.{specs.Queues.{same_tid, is_in, rest}, proofs.Members.{same_tid_self, same_tid_true}}, fifo_buffer.specs.BlockSteps.BlockStep}
+use Rattle.fifo_buffer.specs.{BlockSteps.kind_on, Laws.BlockSteps.{put_step, take_step}, Stances.same_side, SectionPolls.BufferEvent, Tallies.IsNumbered}
+use Rattle.fifo_buffer.specs.Tallies.{IsPlaced, Tally}
 
 -- numbers along a line
 numbered_same : (p q : Tid → ℕ) (n : ℕ) (queue : List Tid) → ((t : Tid) → q t ≡ p t) → IsNumbered p n queue → IsNumbered q n queue

@@ -1,21 +1,14 @@
 -- What a part tells of where a thread stands is so, and of each thread some part can tell it.
-use Rattle.std.specs.Prelude.{◌≡◌, ◌≢◌, ℕ, ◌<◌, Bool, true, false, ◌||◌, ◌&&◌, List, Option, Some, None, length, option_map, option_and_then, if◌then◌else◌}
-use Rattle.std.specs.Prelude.{refl}
-use Rattle.std.specs.Option.{option_or}
-use Rattle.std.proofs.lemmas.{Option.same_Some, Option.slice_get-get_or, Bool.or_parts}
-use Rattle.std.proofs.Common.{inl, inr, ap, subst, sym, ◌∙◌, arith}
-use Rattle.event_log.specs.{declared.ids.BufId.BufId, declared.ids.CpuId.CpuId, declared.ids.LockId.LockId, declared.ids.LockId.TheVariants.Buffer}
-use Rattle.event_log.specs.{declared.ids.Tid.Tid, History.same_cpu}
-use Rattle.event_log.proofs.Same.{same_cpu_self}
-use Rattle.layer_traits.specs.{declared.moves.WaitList.WaitList, declared.moves.WaitList.TheVariants.Sleepers, declared.moves.WaitList.TheVariants.Receivers}
-use Rattle.layer_traits.specs.{declared.moves.WaitList.TheVariants.Senders, IpcLaw.WaitListsAgree, ListsAgree.is_at, Owned.IsHeld, Owned.wait_list_among}
-use Rattle.layer_traits.specs.{Places.AreMoves, Places.Asleep, Places.At, Places.Hand, Places.Home, Places.Pend, Places.WaitChannel, Places.Step, Places.Where}
-use Rattle.layer_traits.specs.{Places.count_in, Places.home_of, Places.is_hand, Places.is_here, Places.is_home, Places.is_pend, Places.is_thread, Places.one_if}
-use Rattle.layer_traits.specs.{Places.pending_by, Places.wait_channel_of, Places.where_is, Observed.IsObservedAs, Observed.ReadsPlace, Observed.queue_place}
-use Rattle.layer_traits.proofs.{CountLemmas.in_counted, CountLemmas.is_cpu_of, ListsLemmas.at_wait_channel, ListsLemmas.count_none, ListsLemmas.counted_in}
-use Rattle.layer_traits.proofs.{ListsLemmas.wait_channel_here, PlaceLemmas.pend_count, PlaceLemmas.pend_home, PlaceLemmas.pend_where}
-use Rattle.thread_blocks.specs.Queues.{is_in}
-use Rattle.ipc_calls.specs.{Parts.IsSilentOf, Parts.asleep_at, Parts.wait_list_read, Parts.pends_read, Parts.said, PlaceLaws.Watched}
+use Rattle.std.specs.Prelude.{◌≡◌, ◌≢◌, ◌⊎◌, ℕ, ◌<◌, Bool, true, false, ◌||◌, ◌&&◌, List, Option, Some, None, length, option_map, option_and_then}
+use Rattle.std.{specs.{Prelude.{if◌then◌else◌, refl}, Option.option_or}, proofs.{lemmas.{Option.{same_Some, slice_get-get_or}, Bool.or_parts}, Common.inl}}
+use Rattle.std.proofs.Common.{inr, ap, subst, sym, ◌∙◌, arith}
+use Rattle.event_log.specs.{declared.ids.{BufId.BufId, CpuId.CpuId, LockId.{LockId, TheVariants.Buffer}, Tid.Tid}, History.same_cpu}
+use Rattle.{event_log.proofs.Same.same_cpu_self, layer_traits.specs.declared.moves.WaitList.{WaitList, TheVariants.{Sleepers, Receivers, Senders}}}
+use Rattle.layer_traits.specs.{IpcLaw.WaitListsAgree, ListsAgree.is_at, Owned.wait_list_among, Places.{AreMoves, Asleep, At, Hand, Home, Pend, WaitChannel}}
+use Rattle.layer_traits.specs.Places.{Step, Where, count_in, home_of, is_hand, is_here, is_home, is_pend, is_thread, one_if, pending_by, wait_channel_of}
+use Rattle.layer_traits.{specs.{Places.where_is, Observed.{IsObservedAs, ReadsPlace, queue_place}}, proofs.CountLemmas.{in_counted, is_cpu_of}}
+use Rattle.layer_traits.proofs.{ListsLemmas.{at_wait_channel, count_none, counted_in, wait_channel_here}, PlaceLemmas.{pend_count, pend_home, pend_where}}
+use Rattle.{thread_blocks.specs.Queues.is_in, ipc_calls.specs.{Parts.{IsSilentOf, asleep_at, wait_list_read, pends_read, said}, PlaceLaws.Watched}}
 
 -- who is said to stand in a queue that was told stands in one
 said_in : {P : Type 0} (t : Tid) (queue : Option (List Tid)) → said (option_map (is_in t) queue) ≡ true
@@ -27,10 +20,10 @@ either : {P : Type 0} (a b : Bool) → (a || b) ≡ true → (a ≡ true → P) 
 either true b is left right = left refl
 either false b is left right = right is
 
--- who is not told to stand in a queue is told so by neither
-unsaid : (t : Tid) (home here : Option (List Tid)) → pends_read t home here ≡ false
-    → (said (option_map (is_in t) home) ≡ false) × (said (option_map (is_in t) here) ≡ false)
-unsaid t home here is = or_parts (said (option_map (is_in t) home)) (said (option_map (is_in t) here)) is
+-- a line that is told first or else second is told by one of them
+or_some : {A : Type 0} (a b : Option A) (x : A) → option_or a b ≡ Some x → (a ≡ Some x) ⊎ (b ≡ Some x)
+or_some None b x is = inr is
+or_some (Some a) b x is = inl is
 
 -- the line that a test of the lists gives is one in which the thread stands
 among_in : (t : Tid) (wait_lists : WaitList → List Tid) (line : WaitList) → wait_list_among t wait_lists ≡ Some line → is_in t (wait_lists line) ≡ true
@@ -59,10 +52,8 @@ among_none t wait_lists none line stands = go (is_in t (wait_lists Sleepers)) (i
     go false false false first second third none Senders stands = absurd (cc (third, stands))
 
 asleep_is : (w : Where) (wait_channel : WaitChannel) → wait_channel_of w ≡ Some wait_channel → w ≡ Asleep wait_channel
-asleep_is Home wait_channel is = absurd (cc is)
-asleep_is (Hand c) wait_channel is = absurd (cc is)
-asleep_is (Pend c) wait_channel is = absurd (cc is)
 asleep_is (Asleep at) wait_channel is = ap Asleep (same_Some at wait_channel is)
+asleep_is other wait_channel is = absurd (cc is)
 
 -- who sleeps in a line of a buffer stands there
 pub sleeps_there : (b : BufId) (line : WaitList) → queue_place (Asleep (At (Buffer b) line)) ≡ Some (asleep_at b line)
@@ -87,9 +78,8 @@ module _ {P : Type 0} (Fits : P → Type 0) (cpu_of : P → CpuId) (IsInside : C
     sleeps t line stands =
         let counted : 0 < count_in t (wait_lists b line) = in_counted t (wait_lists b line) stands in
         let once = agree.once b line t within in
-        let at : is_at (Buffer b) line (wait_channel_of (where_is homes moves t)) ≡ true = positive (is_at (Buffer b) line (wait_channel_of
-        (where_is homes moves t)))
-        (subst (λ k. 0 < k) once counted) in
+        let at : is_at (Buffer b) line (wait_channel_of (where_is homes moves t)) ≡ true
+        = positive (is_at (Buffer b) line (wait_channel_of (where_is homes moves t))) (rw once at counted) in
         asleep_is (where_is homes moves t) (At (Buffer b) line) (at_wait_channel (Buffer b) line (wait_channel_of (where_is homes moves t)) at)
       where
         positive : (at : Bool) → 0 < one_if at → at ≡ true
@@ -100,49 +90,35 @@ module _ {P : Type 0} (Fits : P → Type 0) (cpu_of : P → CpuId) (IsInside : C
     pub read_sleeps : (t : Tid) (line : WaitList) (p : P) (here : P → Option (WaitList → List Tid)) (home : Option (WaitList → List Tid)) → Fits p
         → IsObservedAs Fits cpu_of IsInside here home (wait_lists b) → wait_list_read t home (here p) ≡ Some line
         → where_is homes moves t ≡ Asleep (At (Buffer b) line)
-    read_sleeps t line p here home fits told is = by_machine home refl is
+    read_sleeps t line p here home fits told is =
+        elim (or_some (option_and_then (wait_list_among t) home) (option_and_then (wait_list_among t) (here p)) line is) [
+          | inl by_machine ↦ reported_by home told.by_machine by_machine
+          | inr by_part ↦ reported_by (here p) (λ ls at. told.by_part p ls fits at) by_part
+        ]
       where
-        reported_by : (ls : WaitList → List Tid) → ls ≡ wait_lists b → wait_list_among t ls ≡ Some line → where_is homes moves t ≡ Asleep (At (Buffer b) line)
-        reported_by ls same at = sleeps t line (among_in t (wait_lists b) line (ap (wait_list_among t) (sym same) ∙ at))
-
-        by_part : (o : Option (WaitList → List Tid)) → here p ≡ o → option_and_then (wait_list_among t) o ≡ Some line
-            → where_is homes moves t ≡ Asleep (At (Buffer b) line)
-        by_part None at is = absurd (cc is)
-        by_part (Some ls) at is = reported_by ls (told.by_part p ls fits at) is
-
-        first_of : (ls : WaitList → List Tid) → ls ≡ wait_lists b → (found : Option WaitList) → wait_list_among t ls ≡ found
-            → option_or found (option_and_then (wait_list_among t) (here p)) ≡ Some line → where_is homes moves t ≡ Asleep (At (Buffer b) line)
-        first_of ls same None at is = by_part (here p) refl is
-        first_of ls same (Some other) at is = reported_by ls same (at ∙ is)
-
-        by_machine : (o : Option (WaitList → List Tid)) → home ≡ o
-            → option_or (option_and_then (wait_list_among t) o) (option_and_then (wait_list_among t) (here p)) ≡ Some line
-            → where_is homes moves t ≡ Asleep (At (Buffer b) line)
-        by_machine None at is = by_part (here p) refl is
-        by_machine (Some ls) at is = first_of ls (told.by_machine ls at) (wait_list_among t ls) refl is
+        reported_by : (o : Option (WaitList → List Tid)) → ((ls : WaitList → List Tid) → o ≡ Some ls → ls ≡ wait_lists b)
+            → option_and_then (wait_list_among t) o ≡ Some line → where_is homes moves t ≡ Asleep (At (Buffer b) line)
+        reported_by None same is = absurd (cc is)
+        reported_by (Some ls) same is = sleeps t line (among_in t (wait_lists b) line (ap (wait_list_among t) (sym (same ls refl)) ∙ is))
 
 -- a queue that was told and in which a thread stands is not said to be without it
-not_silent : (t : Tid) (told : Option (List Tid)) (queue : List Tid) → told ≢ None → ((q : List Tid) → told ≡ Some q → q ≡ queue)
-    → is_in t queue ≡ true → said (option_map (is_in t) told) ≡ false → ⊥
-not_silent t None queue some same stands silent = some refl
-not_silent t (Some q) queue some same stands silent =
-    let says : is_in t q ≡ true = ap (is_in t) (same q refl) ∙ stands in absurd (cc (says, silent))
+not_silent : (t : Tid) (told : Option (List Tid)) (queue : List Tid) → is_in t queue ≡ true → said (option_map (is_in t) told) ≡ false
+    → told ≡ Some queue → ⊥
+not_silent t told queue stands silent is = let says = ap (λ o. said (option_map (is_in t) o)) is in cc (says, stands, silent)
 
 -- and so are lists
-not_quiet : (t : Tid) (told : Option (WaitList → List Tid)) (wait_lists : WaitList → List Tid) (line : WaitList)
-    → told ≢ None → ((ls : WaitList → List Tid) → told ≡ Some ls → ls ≡ wait_lists)
-    → is_in t (wait_lists line) ≡ true → option_and_then (wait_list_among t) told ≡ None → ⊥
-not_quiet t None wait_lists line some same stands quiet = some refl
-not_quiet t (Some ls) wait_lists line some same stands quiet =
-    among_none t ls quiet line (subst (λ other. is_in t (other line) ≡ true) (sym (same ls refl)) stands)
+not_quiet : (t : Tid) (told : Option (WaitList → List Tid)) (wait_lists : WaitList → List Tid) (line : WaitList) → is_in t (wait_lists line) ≡ true
+    → option_and_then (wait_list_among t) told ≡ None → told ≡ Some wait_lists → ⊥
+not_quiet t told wait_lists line stands quiet is = among_none t wait_lists (rw is at quiet) line stands
+
+-- what is told, and truly, is the truth
+tells_truth : {A : Type 0} (told : Option A) (truth : A) → told ≢ None → ((x : A) → told ≡ Some x → x ≡ truth) → told ≡ Some truth
+tells_truth None truth some same = absurd (some refl)
+tells_truth (Some x) truth some same = ap Some (same x refl)
 
 no_wait_list : (a b : Option WaitList) → option_or a b ≡ None → (a ≡ None) × (b ≡ None)
 no_wait_list None b none = (refl, none)
 no_wait_list (Some line) b none = absurd (cc none)
-
-in_no_list : (t : Tid) (home here : Option (WaitList → List Tid)) → wait_list_read t home here ≡ None
-    → (option_and_then (wait_list_among t) home ≡ None) × (option_and_then (wait_list_among t) here ≡ None)
-in_no_list t home here none = no_wait_list (option_and_then (wait_list_among t) home) (option_and_then (wait_list_among t) here) none
 
 -- a thread that there is has a home
 pub home_there : (homes : List CpuId) (t : Tid) → t.0 < length homes → (home : CpuId) × (home_of homes t ≡ Some home)
@@ -192,56 +168,32 @@ module _ {P : Type 0} (watched : Watched P) (t : Tid) (home : CpuId) (home_is : 
       let count = agree.once b line t within in
       counted_in t (wait_lists b line) (omega (arith, here, count))
 
-  -- a queue that is at home in the machine every part can tell, and one in a CPU's hands that CPU's
-  by_queue : (d : CpuId) (told : Option (List Tid)) → queue_at d ≡ told → where_is homes moves t ≡ Pend d → Observed (Pend d)
-  by_queue d (Some q) at is = record {
-    cpu = home;
-    may = inl home_is;
-    has = λ p same fits silent. let quiet = unsaid t (queue_at d) (queue_with p d) (silent.pends d its) in
-        not_silent t (queue_at d) (pending_by moves d) (λ none. absurd (cc (at, none))) (queues t d its).by_machine (pending d is) quiet.0;
+  -- what is at home in the machine every part can tell, and what is in a CPU's hands that CPU's
+  by_told : {A : Type 0} (w : Where) (here : P → Option A) (told : Option A) (truth : A) → IsObservedAs Fits cpu_of IsInside here told truth
+      → ((p : P) → IsSilent p → (told ≡ Some truth → ⊥) × (here p ≡ Some truth → ⊥)) → Observed w
+  by_told w here (Some x) truth sees quiet =
+      record { cpu = home; may = inl home_is; has = λ p same fits silent. (quiet p silent).0 (ap Some (sees.by_machine x refl)) }
+  by_told w here None truth sees quiet = let it = sees.somewhere refl in record {
+    cpu = it.cpu;
+    may = inr (inr (it.known, it.inside));
+    has = λ p same fits silent. (quiet p silent).1 (tells_truth (here p) truth (it.has p same fits) (λ x told. sees.by_part p x fits told));
   }
-    where
-      its : home_of homes t ≡ Some d
-      its = pend_home homes moves t d lawful is
-  by_queue d None at is = held ((queues t d its).somewhere at)
-    where
-      its : home_of homes t ≡ Some d
-      its = pend_home homes moves t d lawful is
 
-      held : IsHeld Fits cpu_of IsInside (λ q. queue_with q d) → Observed (Pend d)
-      held it = record {
-        cpu = it.cpu;
-        may = inr (inr (it.known, it.inside));
-        has = λ p same fits silent. let quiet = unsaid t (queue_at d) (queue_with p d) (silent.pends d its) in
-            not_silent t (queue_with p d) (pending_by moves d) (it.has p same fits) (λ q told. (queues t d its).by_part p q fits told) (pending d is) quiet.1;
-      }
+  by_queue : (d : CpuId) → where_is homes moves t ≡ Pend d → Observed (Pend d)
+  by_queue d is = let its = pend_home homes moves t d lawful is in
+      by_told (Pend d) (λ q. queue_with q d) (queue_at d) (pending_by moves d) (queues t d its) (λ p silent.
+      let quiet = or_parts (said (option_map (is_in t) (queue_at d))) (said (option_map (is_in t) (queue_with p d))) (silent.pends d its) in
+      (not_silent t (queue_at d) (pending_by moves d) (pending d is) quiet.0, not_silent t (queue_with p d) (pending_by moves d) (pending d is) quiet.1))
 
-  by_wait_lists : (b : BufId) (line : WaitList) → b.0 < n → (told : Option (WaitList → List Tid)) → wait_lists_at b ≡ told
-      → where_is homes moves t ≡ Asleep (At (Buffer b) line) → Observed (Asleep (At (Buffer b) line))
-  by_wait_lists b line within (Some ls) at is = record {
-    cpu = home;
-    may = inl home_is;
-    has = λ p same fits silent. let quiet = in_no_list t (wait_lists_at b) (wait_lists_with p b) (silent.wait_lists b within) in
-        not_quiet t (wait_lists_at b) (wait_lists b) line (λ none. absurd (cc (at, none))) (waiters_law b within).by_machine
-        (in_wait_list b line within is) quiet.0;
-  }
-  by_wait_lists b line within None at is = held ((waiters_law b within).somewhere at)
-    where
-      held : IsHeld Fits cpu_of IsInside (λ q. wait_lists_with q b) → Observed (Asleep (At (Buffer b) line))
-      held it = record {
-        cpu = it.cpu;
-        may = inr (inr (it.known, it.inside));
-        has = λ p same fits silent. let quiet = in_no_list t (wait_lists_at b) (wait_lists_with p b) (silent.wait_lists b within) in
-            not_quiet t (wait_lists_with p b) (wait_lists b) line (it.has p same fits)
-            (λ ls told. (waiters_law b within).by_part p ls fits told) (in_wait_list b line within is) quiet.1;
-      }
+  by_wait_lists : (b : BufId) (line : WaitList) → b.0 < n → where_is homes moves t ≡ Asleep (At (Buffer b) line) → Observed (Asleep (At (Buffer b) line))
+  by_wait_lists b line within is = let stands = in_wait_list b line within is in
+      by_told (Asleep (At (Buffer b) line)) (λ q. wait_lists_with q b) (wait_lists_at b) (wait_lists b) (waiters_law b within) (λ p silent. let quiet =
+      no_wait_list (option_and_then (wait_list_among t) (wait_lists_at b)) (option_and_then (wait_list_among t) (wait_lists_with p b)) (silent.wait_lists b within) in
+      (not_quiet t (wait_lists_at b) (wait_lists b) line stands quiet.0, not_quiet t (wait_lists_with p b) (wait_lists b) line stands quiet.1))
 
   asleep : (lock : LockId) (line : WaitList) → where_is homes moves t ≡ Asleep (At lock line) → Observed (Asleep (At lock line))
-  asleep lock line is = go (agree.known t lock line is)
-    where
-      go : (b : BufId) × (lock ≡ Buffer b) × (b.0 < n) → Observed (Asleep (At lock line))
-      go known = subst (λ other. Observed (Asleep (At other line))) (sym known.1)
-          (by_wait_lists known.0 line known.2 (wait_lists_at known.0) refl (is ∙ ap (λ other. Asleep (At other line)) known.1))
+  asleep lock line is = let known = agree.known t lock line is in
+      subst (λ other. Observed (Asleep (At other line))) (sym known.1) (by_wait_lists known.0 line known.2 (is ∙ ap (λ other. Asleep (At other line)) known.1))
 
   pub place_reads : Observed (where_is homes moves t)
   place_reads = go (where_is homes moves t) refl
@@ -249,5 +201,5 @@ module _ {P : Type 0} (watched : Watched P) (t : Tid) (home : CpuId) (home_is : 
       go : (w : Where) → where_is homes moves t ≡ w → Observed w
       go Home is = record { cpu = home; may = inl home_is; has = λ q at fits silent. at_home q at fits is silent }
       go (Hand c) is = record { cpu = c; may = inr (inl refl); has = λ q at fits silent. in_hand q c at fits is silent }
-      go (Pend d) is = by_queue d (queue_at d) refl is
+      go (Pend d) is = by_queue d is
       go (Asleep (At lock line)) is = asleep lock line is

@@ -1,35 +1,16 @@
 -- The log of grant words as which a words log is told is legal, and has the same phases, actions and sections.
 use Rattle.std.proofs.Common.{◌≡◌, ℕ, ◌+◌, ◌%◌, ◌^◌, List, [], ◌∷◌, ◌==◌, if◌then◌else◌, refl, ap, sym, subst, ◌∙◌, Option, Some, None, MatchOption}
-use Rattle.event_log.specs.{declared.ids.CpuId.CpuId, declared.ids.LockId.LockId, declared.ids.TheConstants.CPUS, declared.grants.GrantEvent.TheVariants.Peek}
-use Rattle.event_log.specs.{Actions.Take as TakeSpot, Actions.Try as TryEntry, Actions.Give as GiveOn, Actions.acts_of, Actions.takes, Actions.gives}
-use Rattle.event_log.specs.{Actions.spot_of, Grants.IsLegalGrants, Grants.acts_of_grants, Grants.grant_lock_phase, Grants.grant_word, History.IsLawful}
-use Rattle.event_log.specs.{History.same_cpu, Sections.Section, Sections.block_after, Sections.sections_in, WordsLog.IsLegalWords, WordsLog.MayFollow}
-use Rattle.event_log.specs.{WordsLog.Idle, WordsLog.Holding, WordsLog.Waiting, WordsLog.lock_phase}
-use Rattle.event_log.specs.declared.events.Event.{Event, TheVariants.Draw, TheVariants.Look, TheVariants.Free}
-use Rattle.event_log.proofs.{Foreign.sections_acts, GrantWords.legal_grants, GrantWords.takes_grants, Tickets.legal_acts, Tickets.takes_acts}
-use Rattle.layer_traits.specs.{declared.edits.Mark.Mark, AsGrants.GrantsAgree, AsGrants.as_grants, GrantProtocol.GrantMayCome, GrantProtocol.SomeoneHasIt}
-use Rattle.layer_traits.specs.{GrantProtocol.grant_sections, OneLock.SomeoneInside, WordsProtocol.MayCome, WordsProtocol.KeepsProtocol, WordsProtocol.edit_of}
-use Rattle.layer_traits.specs.{WordsProtocol.sections, WordsProtocol.words_legal}
+use Rattle.event_log.specs.declared.{ids.{CpuId.CpuId, LockId.LockId, TheConstants.CPUS}, grants.GrantEvent.TheVariants.Peek, events.Event.Event}
+use Rattle.event_log.specs.{declared.events.Event.TheVariants.{Draw, Look, Free}, Actions.{Take as TakeSpot, Try as TryEntry, Give as GiveOn, acts_of, takes}}
+use Rattle.event_log.specs.{Actions.{gives, spot_of}, Grants.{IsLegalGrants, acts_of_grants, grant_lock_phase, grant_word}, History.{IsLawful, same_cpu}}
+use Rattle.event_log.specs.{Sections.{Section, block_after, sections_in}, WordsLog.{IsLegalWords, Idle, Holding, Waiting, lock_phase}}
+use Rattle.event_log.proofs.{Foreign.sections_acts, GrantWords.{legal_grants, takes_grants}, Tickets.{legal_acts, takes_acts}}
+use Rattle.layer_traits.specs.{declared.edits.Mark.Mark, AsGrants.{GrantsAgree, as_grants}, GrantProtocol.{GrantMayCome, SomeoneHasIt, grant_sections}}
+use Rattle.layer_traits.specs.{OneLock.SomeoneInside, WordsProtocol.{MayCome, KeepsProtocol, edit_of, sections, words_legal}}
 
 module _ {M : Type 0} where
   abbrev same : M → M
   same mark = mark
-
-  take_agrees : (cpu : CpuId) (lock : LockId) (ticket : ℕ) (past : List (Event M)) → MayFollow past (Draw cpu lock ticket) → GrantsAgree past
-      → GrantsAgree (Draw cpu lock ticket ∷ past)
-  take_agrees cpu lock ticket past may grants_agree = record {
-    legal = (
-      (
-        may.0,
-        grants_agree.stands cpu ∙ may.1,
-        may.2 ∙ ap (λ n. n % 2 ^ 64) (sym (takes_acts same lock past) ∙ (ap (takes lock) (sym (grants_agree.acts same))
-            ∙ takes_grants same lock (as_grants past))),
-      ),
-      grants_agree.legal,
-    );
-    stands = λ c. ap (λ s. if same_cpu cpu c then Waiting lock ticket else s) (grants_agree.stands c);
-    acts = λ name. ap (λ l. TakeSpot cpu lock ∷ l) (grants_agree.acts name);
-  }
 
   -- a peek hits exactly where the look does: both say that the spot is served
   hits_same : (cpu : CpuId) (lock : LockId) (ticket read : ℕ) (past : List (Event M)) → IsLegalWords (Look cpu lock ticket read ∷ past)
@@ -41,32 +22,41 @@ module _ {M : Type 0} where
       let looks = legal_acts same (Look cpu lock ticket read ∷ past) legal in
       peeks.0.1 ∙ (ap (λ l. gives lock l == spot_of cpu l) (grants_agree.acts same) ∙ sym looks.0.1)
 
-  peek_agrees : (cpu : CpuId) (lock : LockId) (ticket read : ℕ) (past : List (Event M)) → IsLegalWords (Look cpu lock ticket read ∷ past) → GrantsAgree past
-      → GrantsAgree (Look cpu lock ticket read ∷ past)
-  peek_agrees cpu lock ticket read past legal grants_agree =
-      let waits : grant_lock_phase cpu (as_grants past) ≡ Waiting lock ticket = grants_agree.stands cpu ∙ legal.0.0 in
-      let hits = hits_same cpu lock ticket read past legal grants_agree waits in
-      record {
-        legal = ((waits, refl), grants_agree.legal);
-        stands = λ c. ap (λ b. if same_cpu cpu c then (if b then Holding lock ticket else Waiting lock ticket) else grant_lock_phase c (as_grants past)) hits
-            ∙ ap (λ s. if same_cpu cpu c then (if read == ticket then Holding lock ticket else Waiting lock ticket) else s) (grants_agree.stands c);
-        acts = λ name. ap (λ b. TryEntry cpu lock b ∷ acts_of_grants name (as_grants past)) hits
-            ∙ ap (λ l. TryEntry cpu lock (read == ticket) ∷ l) (grants_agree.acts name);
-      }
-
-  give_agrees : (cpu : CpuId) (lock : LockId) (mark : M) (past : List (Event M)) → MayFollow past (Free cpu lock mark) → GrantsAgree past
-      → GrantsAgree (Free cpu lock mark ∷ past)
-  give_agrees cpu lock mark past may grants_agree = record {
-    legal = ((may.0, grants_agree.stands cpu ∙ may.1), grants_agree.legal);
-    stands = λ c. ap (λ s. if same_cpu cpu c then Idle else s) (grants_agree.stands c);
-    acts = λ name. ap (λ l. GiveOn cpu lock (name mark) ∷ l) (grants_agree.acts name);
-  }
-
   pub grants_agree : (log : List (Event M)) → IsLegalWords log → GrantsAgree log
   grants_agree [] legal = record { legal = tt; stands = λ c. refl; acts = λ name. refl }
-  grants_agree (Draw cpu lock ticket ∷ past) legal = take_agrees cpu lock ticket past legal.0 (grants_agree past legal.1)
-  grants_agree (Look cpu lock ticket read ∷ past) legal = peek_agrees cpu lock ticket read past legal (grants_agree past legal.1)
-  grants_agree (Free cpu lock mark ∷ past) legal = give_agrees cpu lock mark past legal.0 (grants_agree past legal.1)
+  grants_agree (Draw cpu lock ticket ∷ past) legal =
+      let before = grants_agree past legal.1 in
+      record {
+        legal = (
+          (
+            legal.0.0,
+            before.stands cpu ∙ legal.0.1,
+            legal.0.2 ∙ ap (λ n. n % 2 ^ 64) (sym (takes_acts same lock past) ∙ (ap (takes lock) (sym (before.acts same))
+                ∙ takes_grants same lock (as_grants past))),
+          ),
+          before.legal,
+        );
+        stands = λ c. ap (λ s. if same_cpu cpu c then Waiting lock ticket else s) (before.stands c);
+        acts = λ name. ap (λ l. TakeSpot cpu lock ∷ l) (before.acts name);
+      }
+  grants_agree (Look cpu lock ticket read ∷ past) legal =
+      let before = grants_agree past legal.1 in
+      let waits = before.stands cpu ∙ legal.0.0 in
+      let hits = hits_same cpu lock ticket read past legal before waits in
+      record {
+        legal = ((waits, refl), before.legal);
+        stands = λ c. ap (λ b. if same_cpu cpu c then (if b then Holding lock ticket else Waiting lock ticket) else grant_lock_phase c (as_grants past)) hits
+            ∙ ap (λ s. if same_cpu cpu c then (if read == ticket then Holding lock ticket else Waiting lock ticket) else s) (before.stands c);
+        acts = λ name. ap (λ b. TryEntry cpu lock b ∷ acts_of_grants name (as_grants past)) hits
+            ∙ ap (λ l. TryEntry cpu lock (read == ticket) ∷ l) (before.acts name);
+      }
+  grants_agree (Free cpu lock mark ∷ past) legal =
+      let before = grants_agree past legal.1 in
+      record {
+        legal = ((legal.0.0, before.stands cpu ∙ legal.0.1), before.legal);
+        stands = λ c. ap (λ s. if same_cpu cpu c then Idle else s) (before.stands c);
+        acts = λ name. ap (λ l. GiveOn cpu lock (name mark) ∷ l) (before.acts name);
+      }
 
   -- the told log leaves each CPU where the other log does
   pub stands_as_grants : (log : List (Event M)) → IsLegalWords log → (c : CpuId) → grant_lock_phase c (as_grants log) ≡ lock_phase c log

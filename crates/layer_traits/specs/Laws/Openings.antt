@@ -1,17 +1,13 @@
 -- A machine in which nothing was done has the blocks of its capacities and homes.
-use Rattle.std.specs.Prelude.{◌≡◌, ◌⊎◌, ℕ, List, [], Option, Some, None, IsSome, option_map, slice_get, refl}
-use Rattle.std.proofs.Common.{inl, inr, ap, subst, sym, ◌∙◌}
-use Rattle.event_log.specs.declared.ids.{BufId.BufId, CpuId.CpuId, LockId.LockId, LockId.TheVariants.Pending, LockId.TheVariants.Buffer, Tid.Tid}
-use Rattle.layer_traits.specs.declared.queue_edits.QueueBlock.{QueueBlock, TheVariants.Queue, TheVariants.Above}
-use Rattle.layer_traits.specs.{BufferEffects.fresh_lock, BufferEffects.opening_locks, BufferProtocol.BufferLock, IpcLaw.OpensSo, QueueBlocks.StartsAs}
-use Rattle.layer_traits.specs.{QueueBlocks.StartsWell, QueueBlocks.above_of, QueueBlocks.homes_in, QueueBlocks.inner}
+use Rattle.std.{specs.Prelude.{◌≡◌, ◌⊎◌, ℕ, List, [], Option, Some, None, IsSome, option_map, slice_get}, proofs.Common.{inl, inr, ap, subst, sym, ◌∙◌, arith}}
+use Rattle.event_log.specs.declared.ids.{BufId.BufId, CpuId.CpuId, LockId.{LockId, TheVariants.{Pending, Buffer}}, Tid.Tid}
+use Rattle.layer_traits.specs.{declared.queue_edits.QueueBlock.{QueueBlock, TheVariants.{Queue, Above}}, BufferEffects.{fresh_lock, opening_locks}}
+use Rattle.layer_traits.specs.{BufferProtocol.BufferLock, IpcLaw.OpensSo, QueueBlocks.{StartsAs, StartsWell, above_of, homes_in, inner}}
 
 module _ {B : Type 0} where
   -- a buffer's lock opens with the block that the layer above is shown
-  above_is : (b : BufId) (block : Option (QueueBlock B)) → StartsAs (Buffer b) block → block ≡ option_map Above (above_of block)
-  above_is b None starts = refl
-  above_is b (Some (Queue queue homes)) starts = absurd starts
-  above_is b (Some (Above block)) starts = refl
+  pub above_is : (b : BufId) (block : Option (QueueBlock B)) → StartsAs (Buffer b) block → block ≡ option_map Above (above_of block)
+  above_is b block starts = grind arith
 
   -- a pending queue opens empty
   empty_queue : (d : CpuId) (block : Option (QueueBlock B)) → StartsAs (Pending d) block → IsSome block → (kept : _) × (block ≡ Some (Queue [] kept))
@@ -20,8 +16,7 @@ module _ {B : Type 0} where
   empty_queue d (Some (Above block)) starts there = absurd starts
 
 made_above : (caps : List ℕ) (at : Option ℕ) → option_map Above (option_map fresh_lock at) ≡ option_map (λ capacity. Above (fresh_lock capacity)) at
-made_above caps None = refl
-made_above caps (Some capacity) = refl
+made_above caps at = grind arith
 
 -- the blocks of buffers and of queues
 pub opens_so : (caps : List ℕ) (homes : List CpuId) (c : CpuId) (opening : LockId → Option (QueueBlock BufferLock)) → StartsWell opening

@@ -1,8 +1,6 @@
-use Rattle.std.proofs.Common.{Option, Some, None, List, ℕ, Err, inl, refl, map, string_bytes}
-use Rattle.clap.specs.Walk.{Text}
-use Rattle.event_log.specs.declared.ids.CpuId.{CpuId}
-use Rattle.mctower.specs.{Line.Ghost, Line.order_of, Line.count, Line.run, Line.threads, Line.check, Output.IsUntouched, Output.Output, Output.between}
-use Rattle.mctower.specs.{Serve.RunsAsked, Serve.Serves, Serve.steps_asked, Refusals.lacks_memory}
+use Rattle.{std.proofs.Common.{Option, Some, None, List, ℕ, Err, inl, refl, map, string_bytes}, clap.specs.Walk.Text, event_log.specs.declared.ids.CpuId.CpuId}
+use Rattle.mctower.specs.{Line.{Ghost, order_of, count, run, threads, check}, Output.{IsUntouched, Output, between}, Serve.{RunsAsked, Serves, steps_asked}}
+use Rattle.mctower.specs.Refusals.{lacks_memory}
 use Rattle.mctower.proofs.serve_words.Goals as goal
 
 -- a run may be refused for want of memory

@@ -1,16 +1,12 @@
 -- What a machine of attempts tells of who waits: the waiting lists agree with the places.
 use Rattle.std.specs.Prelude.{◌≡◌, ◌⊎◌, ℕ, ◌<◌, Bool, true, false, List, [], ◌∷◌, length, Option, Some, None, option_map, slice_get, if◌then◌else◌, refl}
-use Rattle.std.proofs.Common.{ap, sym, ◌∙◌, arith, inl, inr}
-use Rattle.std.proofs.lemmas.Option.{slice_get_within}
-use Rattle.event_log.specs.{declared.ids.BufId.BufId, declared.ids.LockId.LockId, declared.ids.LockId.TheVariants.Pending}
-use Rattle.event_log.specs.{declared.ids.LockId.TheVariants.Buffer, declared.ids.Tid.Tid, History.same_lock, Sections.Section}
-use Rattle.layer_traits.specs.{declared.moves.WaitList.WaitList, declared.queue_edits.QueueBlock.QueueBlock, declared.queues.QueueEvent.QueueEvent}
-use Rattle.layer_traits.specs.{IpcLaw.WaitListsAgree, ListsAgree.ListsAgree, ListsAgree.is_at, Places.Asleep, Places.At, Places.count_in, Places.one_if}
-use Rattle.layer_traits.specs.{Places.wait_channel_of, Places.where_is, QueueBlocks.homes_in, QueueBlocks.inner, Queues.buffer_sections, Queues.moves_in}
-use Rattle.layer_traits.specs.{Sleeping.wait_list_at, Sleeping.sleep_edited, SleepLaw.sleep_kernel}
-use Rattle.layer_traits.proofs.ListsLemmas.{wait_channel_here}
-use Rattle.plain_layers.specs.{declared.attempts.Attempt.Attempt, Attempts.attempts, Fifos.PlainLocked, Fifos.caps_in, Fifos.fresh_buffer, Fifos.fresh_buffers}
-use Rattle.plain_layers.specs.{Fifos.wait_lists_in, Fifos.locked_after}
+use Rattle.std.proofs.{Common.{ap, sym, ◌∙◌, arith, inl, inr}, lemmas.Option.slice_get_within}
+use Rattle.event_log.specs.{declared.ids.{BufId.BufId, LockId.{LockId, TheVariants.{Pending, Buffer}}, Tid.Tid}, History.same_lock, Sections.Section}
+use Rattle.layer_traits.specs.{declared.{moves.WaitList.WaitList, queue_edits.QueueBlock.QueueBlock, queues.QueueEvent.QueueEvent}, IpcLaw.WaitListsAgree}
+use Rattle.layer_traits.specs.{ListsAgree.{ListsAgree, is_at}, Places.{Asleep, At, count_in, one_if, wait_channel_of, where_is}, QueueBlocks.{homes_in, inner}}
+use Rattle.layer_traits.specs.{Queues.{buffer_sections, moves_in}, Sleeping.{wait_list_at, sleep_edited}, SleepLaw.sleep_kernel}
+use Rattle.{layer_traits.proofs.ListsLemmas.wait_channel_here, plain_layers.specs.{declared.attempts.Attempt.Attempt, Attempts.attempts, Fifos.PlainLocked}}
+use Rattle.plain_layers.specs.Fifos.{caps_in, fresh_buffer, fresh_buffers, wait_lists_in, locked_after}
 
 -- a lock that is there after some sections was there at the start
 none_after : (s : Section Attempt) (x : Option PlainLocked) (b : Bool) → x ≡ None → (if b then option_map (sleep_edited attempts s.edit) x else x) ≡ None

@@ -1,19 +1,15 @@
 -- What sleep and wakeup beneath tells of its locks, buffers in one section a call tell of their items and waiting lists.
-use Rattle.std.specs.Prelude.{◌≡◌, ◌<◌, List, [], ◌∷◌, ◌++◌, length, Option, Some, None, IsSome, option_map, option_to_list, refl}
-use Rattle.std.proofs.Common.{ap, sym, ◌∙◌, subst}
-use Rattle.std.proofs.lemmas.Option.{same_Some, slice_get-get_or}
-use Rattle.std.specs.List.{AllByRecursion}
-use Rattle.event_log.specs.{declared.entries.Entry.Entry, Buffers.items_of, History.IsLawful, Runs.is_closed, Sections.Section}
-use Rattle.event_log.specs.declared.ids.{BufId.BufId, CpuId.CpuId, LockId.LockId, LockId.TheVariants.Buffer, Tid.Tid, TheConstants.CPUS}
-use Rattle.layer_traits.specs.{declared.calls.Effect.Effect, declared.moves.WaitList.WaitList, declared.queue_edits.QueueBlock.QueueBlock}
-use Rattle.layer_traits.specs.{declared.queues.QueueCall.QueueCall, declared.queues.QueueCall.TheVariants.Push, declared.queues.QueueCall.TheVariants.TakeAll}
-use Rattle.layer_traits.specs.{declared.queues.QueueCall.TheVariants.OnBuffer, declared.queues.QueueEvent.QueueEvent, BufferEffects.contents_of}
-use Rattle.layer_traits.specs.{BufferLaw.entry_of, Owned.IsObserved, QueueBlocks.above_of, QueueBlocks.inner, Queues.IsKnownEvent, Queues.buffer_sections}
-use Rattle.layer_traits.specs.{Queues.with_section, Sleeping.wait_list_at, Sleeping.sleep_edited, Observed.IsObservedAs}
-use Rattle.layer_traits.proofs.{Alone.block_there, OwnedLemmas.shown_under, OwnedLemmas.observed_as, OwnedLemmas.viewed_shown}
-use Rattle.plain_layers.specs.{declared.attempts.Attempt.Attempt, Attempts.attempts, FifoOwned.closed_of, FifoOwned.items_in, FifoOwned.nobody}
-use Rattle.plain_layers.specs.{FifoOwned.nothing_read, FifoOwned.wait_lists_of, Fifos.PlainLocked, Fifos.caps_in, Fifos.effect_by, Fifos.entries_in}
-use Rattle.plain_layers.specs.{Fifos.fresh_buffer, Fifos.fresh_buffers, Fifos.wait_lists_in, Fifos.locked_after, Laws.FifoTallies.plain_tally}
+use Rattle.std.specs.{Prelude.{◌≡◌, ◌<◌, List, [], ◌∷◌, ◌++◌, length, Option, Some, None, IsSome, option_map, option_to_list, refl}, List.AllByRecursion}
+use Rattle.std.proofs.{Common.{ap, sym, ◌∙◌, subst}, lemmas.Option.{same_Some, slice_get-get_or}}
+use Rattle.event_log.specs.declared.{entries.Entry.Entry, ids.{BufId.BufId, CpuId.CpuId, LockId.{LockId, TheVariants.Buffer}, Tid.Tid, TheConstants.CPUS}}
+use Rattle.{event_log.specs.{Buffers.items_of, History.IsLawful, Runs.is_closed, Sections.Section}, layer_traits.specs.declared.calls.Effect.Effect}
+use Rattle.layer_traits.specs.declared.{moves.WaitList.WaitList, queue_edits.QueueBlock.QueueBlock, queues.QueueCall.{QueueCall, TheVariants.{Push, TakeAll}}}
+use Rattle.layer_traits.specs.{declared.queues.{QueueCall.TheVariants.OnBuffer, QueueEvent.QueueEvent}, BufferEffects.contents_of, BufferLaw.entry_of}
+use Rattle.layer_traits.specs.{Owned.IsObserved, QueueBlocks.{above_of, inner}, Queues.{IsKnownEvent, buffer_sections, with_section}, Sleeping.wait_list_at}
+use Rattle.layer_traits.{specs.{Sleeping.sleep_edited, Observed.IsObservedAs}, proofs.{Alone.block_there, OwnedLemmas.{shown_under, observed_as, viewed_shown}}}
+use Rattle.plain_layers.specs.{declared.attempts.Attempt.Attempt, Attempts.attempts, FifoOwned.{closed_of, items_in, nobody, nothing_read, wait_lists_of}}
+use Rattle.plain_layers.specs.Fifos.{PlainLocked, caps_in, effect_by, entries_in, fresh_buffer, fresh_buffers, wait_lists_in, locked_after}
+use Rattle.plain_layers.specs.Laws.FifoTallies.{plain_tally}
 
 -- a block that is seen is there
 pub there_viewed : {A B : Type 0} (view : A → B) (o : Option A) → IsSome (option_map view o) → IsSome o

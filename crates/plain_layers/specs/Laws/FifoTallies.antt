@@ -1,22 +1,17 @@
 -- A buffer tells its effects after any sections; so each effect may come after those before it.
 use Rattle.std.proofs.Common.{◌≡◌, ℕ, ◌+◌, ◌<◌, ◌%◌, ◌^◌, Bool, true, false, ◌&&◌, ◌||◌, ◌==◌, List, [], ◌∷◌, ◌++◌, length, Option, Some, None, option_map}
-use Rattle.std.proofs.Common.{option_to_list, slice_get, if◌then◌else◌, refl, ap, sym, ◌∙◌, subst, arith}
-use Rattle.std.specs.Prelude.{nat_lt}
-use Rattle.std.proofs.lemmas.{Bool.eqb-false, Bool.eqb-true, Bool.lt-ltb, Bool.ltb-true, Bool.ne_eqb, List.get_or-set_other, List.get_or-set_same}
-use Rattle.std.proofs.lemmas.{List.length-map, List.length-set, Option.get_or_from_slice_get, Option.slice_get_within}
-use Rattle.event_log.specs.{declared.entries.Entry.Entry, declared.entries.Kind.Kind, declared.ids.BufId.BufId, declared.ids.CpuId.CpuId}
-use Rattle.event_log.specs.{declared.ids.LockId.LockId, declared.ids.LockId.TheVariants.Pending, declared.ids.LockId.TheVariants.Buffer, declared.ids.Tid.Tid}
-use Rattle.event_log.specs.{Buffers.IsAllowedEffect, Buffers.after_effect, Buffers.items_of, History.IsLawful, Messages.Message, Runs.Closes, Runs.Group}
-use Rattle.event_log.specs.{Runs.Receives, Runs.Sends, Runs.count_of, Runs.count_of_kind, Runs.group_of, Runs.kind_eq, Runs.same_group, Sections.Section}
-use Rattle.event_log.proofs.RunLemmas.{count_cons, counts_here, items_none, kind_cons, kinds_here}
-use Rattle.layer_traits.specs.{declared.calls.Effect.Effect, declared.locked.Side.Side, declared.locked.Side.TheVariants.Receivers}
-use Rattle.layer_traits.specs.{declared.locked.Side.TheVariants.Senders, BufferBlocks.counted, BufferBlocks.first_item, BufferBlocks.items_put}
-use Rattle.layer_traits.specs.{BufferBlocks.other_items, BufferEffects.MayTakeEffect, BufferEffects.contents_of, BufferLaw.entry_of, Sleeping.sleep_edited}
-use Rattle.layer_traits.proofs.ItemLemmas.{drop_one, one_more}
-use Rattle.plain_layers.specs.declared.attempts.{Ask.Ask, Ask.TheVariants.Send, Ask.TheVariants.Receive, Ask.TheVariants.Close, Attempt.Attempt}
-use Rattle.plain_layers.specs.Attempts.{PlainState, allows, attempted, attempts, done, effect_at, effect_in, empty_buffer, attempt_side, told, waits}
-use Rattle.plain_layers.specs.{FifoTallies.FifoTally, FifoTallies.counter, FifoTallies.group_asked, FifoTallies.reported_if, Fifos.PlainLocked, Fifos.effect_by}
-use Rattle.plain_layers.specs.{Fifos.entries_in, Fifos.entry_at, Fifos.fresh_buffer, Fifos.fresh_buffers, Fifos.locked_after}
+use Rattle.std.proofs.{Common.{option_to_list, slice_get, if◌then◌else◌, refl, ap, sym, ◌∙◌, subst, arith}, lemmas.Bool.{eqb-false, eqb-true, lt-ltb, ltb-true}}
+use Rattle.std.proofs.lemmas.{Bool.ne_eqb, List.{get_or-set_other, get_or-set_same, length-map, length-set}, Option.{get_or_from_slice_get, slice_get_within}}
+use Rattle.{std.specs.Prelude.nat_lt, event_log.specs.declared.{entries.{Entry.Entry, Kind.Kind}, ids.{BufId.BufId, CpuId.CpuId, LockId.LockId}}}
+use Rattle.event_log.specs.{declared.ids.{LockId.TheVariants.{Pending, Buffer}, Tid.Tid}, Buffers.{IsAllowedEffect, after_effect, items_of}, History.IsLawful}
+use Rattle.event_log.specs.{Messages.Message, Runs.{Closes, Group, Receives, Sends, count_of, count_of_kind, group_of, kind_eq, same_group}, Sections.Section}
+use Rattle.{event_log.proofs.RunLemmas.{count_cons, counts_here, items_none, kind_cons, kinds_here}, layer_traits.specs.declared.calls.Effect.Effect}
+use Rattle.layer_traits.specs.{declared.locked.Side.{Side, TheVariants.{Receivers, Senders}}, BufferBlocks.{counted, first_item, items_put, other_items}}
+use Rattle.layer_traits.{specs.{BufferEffects.{MayTakeEffect, contents_of}, BufferLaw.entry_of, Sleeping.sleep_edited}, proofs.ItemLemmas.{drop_one, one_more}}
+use Rattle.plain_layers.specs.{declared.attempts.{Ask.{Ask, TheVariants.{Send, Receive, Close}}, Attempt.Attempt}, Attempts.{PlainState, allows, attempted}}
+use Rattle.plain_layers.specs.{Attempts.{attempts, done, effect_at, effect_in, empty_buffer, attempt_side, told, waits}, FifoTallies.{FifoTally, counter}}
+use Rattle.plain_layers.specs.{FifoTallies.{group_asked, reported_if}, Fifos.{PlainLocked, effect_by, entries_in, entry_at, fresh_buffer, fresh_buffers}}
+use Rattle.plain_layers.specs.Fifos.{locked_after}
 use Rattle.event_log.specs.declared.entries.Kind.TheVariants as kind
 
 some_there : (m : Message) (items : List Message) → nat_lt 0 (length (m ∷ items)) ≡ true

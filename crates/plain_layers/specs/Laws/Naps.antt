@@ -1,13 +1,9 @@
 -- Whom a nap wakes sleeps.
-use Rattle.std.specs.Prelude.{◌≡◌, Bool, true, false, List, [], ◌∷◌, Option, Some, None, option_map, if◌then◌else◌}
-use Rattle.std.proofs.Common.{ap, sym, ◌∙◌, subst, unwrap_or}
-use Rattle.event_log.specs.{declared.ids.LockId.LockId, declared.ids.Tid.Tid, History.IsLawful, History.same_lock, Sections.Section, Sections.block_after}
-use Rattle.event_log.proofs.Same.{same_lock_self}
-use Rattle.thread_blocks.specs.Queues.{same_tid}
-use Rattle.thread_blocks.proofs.Members.{same_tid_self}
-use Rattle.layer_traits.specs.{declared.moves.WaitList.TheVariants.Sleepers, MoveRules.WakesSleepers, MoveRules.asleep_after, MoveRules.asleep_by}
-use Rattle.layer_traits.specs.{MoveRules.edit_move, MoveRules.section_moves, Places.At, Places.WaitChannel, Places.is_wait_channel}
-use Rattle.plain_layers.specs.Naps.{nap_answer, nap_edited, nap_moves, nap_rules, waiters_of}
+use Rattle.std.{specs.Prelude.{◌≡◌, Bool, true, false, List, [], ◌∷◌, Option, Some, None, option_map, if◌then◌else◌}, proofs.Common.{ap, sym, ◌∙◌, subst}}
+use Rattle.{std.proofs.Common.unwrap_or, event_log.specs.{declared.ids.{LockId.LockId, Tid.Tid}, History.{IsLawful, same_lock}, Sections.Section}}
+use Rattle.{event_log.{specs.Sections.block_after, proofs.Same.same_lock_self}, thread_blocks.{specs.Queues.same_tid, proofs.Members.same_tid_self}}
+use Rattle.layer_traits.specs.{declared.moves.WaitList.TheVariants.Sleepers, MoveRules.{WakesSleepers, asleep_after, asleep_by, edit_move, section_moves}}
+use Rattle.{layer_traits.specs.Places.{At, WaitChannel, is_wait_channel}, plain_layers.specs.Naps.{nap_answer, nap_edited, nap_moves, nap_rules, waiters_of}}
 
 -- whoever stands in the wait channel after a nap sleeps
 nap_step : {E : Type 0} (wakes : E → Bool) (by : E → Tid) (e : E) (lock : LockId) (w : Bool) (block : Option (Option Tid)) (p : Option WaitChannel) (u : Tid)

@@ -1,17 +1,14 @@
 -- What the table has at home is what the sections leave, and what it has not some CPU has in its hands.
 use Rattle.std.specs.Prelude.{◌≡◌, ℕ, List, Option, Some, None, MatchOption}
-use Rattle.std.proofs.Common.{sym, subst}
-use Rattle.event_log.specs.{declared.events.Event.Event, declared.ids.LockId.LockId, Sections.block_after}
-use Rattle.layer_traits.specs.{declared.edits.Mark.Mark, OneLock.NobodyInside, OneLock.SomeoneInside, WordsProtocol.sections}
-use Rattle.plain_machine.specs.{declared.cells.Cell.Cell, Machine.HasCell, Table.home_at, Table.home_in}
+use Rattle.{event_log.specs.{declared.{events.Event.Event, ids.LockId.LockId}, Sections.block_after}, layer_traits.specs.declared.edits.Mark.Mark}
+use Rattle.{layer_traits.specs.{OneLock.{NobodyInside, SomeoneInside}, WordsProtocol.sections}, plain_machine.specs.{declared.cells.Cell.Cell, Machine.HasCell}}
+use Rattle.plain_machine.specs.Table.{home_at}
 
 pub home_reads : {E B K : Type 0} (Fit : ℕ → ℕ → K → Type 0) (edited : E → B → B) (opening : LockId → Option B) (log : List (Event (Mark E)))
     (cells : List (Option (Cell K B))) (lock : LockId)
     → HasCell Fit edited opening log cells lock
     → MatchOption (home_at cells lock) (SomeoneInside lock log) (λ block. block_after edited opening lock (sections log) ≡ Some block)
-home_reads {B = B} Fit edited opening log cells lock has =
-    subst (λ c. MatchOption (home_in c) (SomeoneInside lock log) (λ block. block_after edited opening lock (sections log) ≡ Some block)) (sym has.is)
-    (go has.cell.home has.home_is)
+home_reads {B = B} Fit edited opening log cells lock has = rw has.is (go has.cell.home has.home_is)
   where
     go : (home : Option B) → MatchOption home (SomeoneInside lock log)
         (λ block. NobodyInside lock log × (block_after edited opening lock (sections log) ≡ Some block))

@@ -1,54 +1,51 @@
 -- What a section beneath does to a block is what the call does to the lock that the block is.
 use Rattle.std.proofs.Common.{◌≡◌, false, List, Option, Some, None, refl}
-use Rattle.event_log.specs.declared.ids.Tid.{Tid}
-use Rattle.layer_traits.specs.declared.locked.{QEdit.QEdit, QEdit.TheVariants.Acquire, QEdit.TheVariants.Inside, QEdit.TheVariants.Release}
-use Rattle.layer_traits.specs.declared.locked.{QOut.TheVariants.Did, Side.Side, WakeWaiter.WakeWaiter}
-use Rattle.layer_traits.specs.{declared.moves.WaitList.TheVariants.Sleepers, declared.moves.WaitList.TheVariants.Receivers}
-use Rattle.layer_traits.specs.{declared.moves.WaitList.TheVariants.Senders, QLocking.LockRules, QLocking.wait_list_for, QLocking.lock_answer, QLocking.lock_edited}
-use Rattle.layer_traits.specs.{QLocking.signalled, QLocking.waiting_with, QLocking.waiting_without, Sleeping.SleepState, Sleeping.left, Sleeping.wait_list_joined}
-use Rattle.layer_traits.specs.{Sleeping.sleep_answer, Sleeping.sleep_edited, Sleeping.woken}
-use Rattle.queuing_lock.specs.{declared.edits.QBlock.QBlock, declared.edits.QLockEdit.QLockEdit, Nested.busy_rules, Nested.edit_in, Nested.leaving}
-use Rattle.queuing_lock.specs.{Nested.nested_lock_of}
+use Rattle.{event_log.specs.declared.ids.Tid.Tid, layer_traits.specs.declared.locked.QEdit.{QEdit, TheVariants.{Acquire, Inside, Release}}}
+use Rattle.layer_traits.specs.declared.{locked.{QOut.TheVariants.Did, Side.Side, WakeWaiter.WakeWaiter}, moves.WaitList.TheVariants.{Sleepers, Receivers}}
+use Rattle.layer_traits.specs.{declared.moves.WaitList.TheVariants.Senders, QLocking.{LockRules, wait_list_for, lock_answer, lock_edited, signalled}}
+use Rattle.layer_traits.specs.{QLocking.{waiting_with, waiting_without}, Sleeping.{SleepState, left, wait_list_joined, sleep_answer, sleep_edited, woken}}
+use Rattle.queuing_lock.specs.{declared.edits.{QBlock.QBlock, QLockEdit.QLockEdit}, Nested.{busy_rules, edit_in, leaving, nested_lock_of}}
 use Rattle.thread_blocks.specs.Queues.{first, rest}
 use Rattle.layer_traits.specs.declared.locked.Side.TheVariants as side
 use Rattle.layer_traits.specs.declared.locked.WakeWaiter.TheVariants as signal
 
--- Who leaves at a signal, and who joins that waits.
+module _ {B : Type 0} (owner : Option Tid) (sleepers receivers senders : List Tid) (above : B) where
+  -- who leaves at a signal
+  signal_leaves : (s : WakeWaiter) → nested_lock_of (record {
+    sleepers = left Sleepers (leaving s) sleepers;
+    receivers = left Receivers (leaving s) receivers;
+    senders = left Senders (leaving s) senders;
+    above = record { busy = owner; above = above };
+  }) ≡ record {
+    owner = owner;
+    sleepers = sleepers;
+    receivers = waiting_without side.Receivers s receivers;
+    senders = waiting_without side.Senders s senders;
+    above = above;
+  }
+  signal_leaves signal.Nobody = refl
+  signal_leaves other = refl
 
-signal_sleepers : (s : WakeWaiter) (queue : List Tid) → left Sleepers (leaving s) queue ≡ queue
-signal_sleepers signal.Nobody queue = refl
-signal_sleepers (signal.Receiver u) queue = refl
-signal_sleepers (signal.Sender u) queue = refl
-
-signal_receivers : (s : WakeWaiter) (queue : List Tid) → left Receivers (leaving s) queue ≡ waiting_without side.Receivers s queue
-signal_receivers signal.Nobody queue = refl
-signal_receivers (signal.Receiver u) queue = refl
-signal_receivers (signal.Sender u) queue = refl
-
-signal_senders : (s : WakeWaiter) (queue : List Tid) → left Senders (leaving s) queue ≡ waiting_without side.Senders s queue
-signal_senders signal.Nobody queue = refl
-signal_senders (signal.Receiver u) queue = refl
-signal_senders (signal.Sender u) queue = refl
+  -- who joins that waits
+  wait_joins : (w : Option Side) (t : Tid) → nested_lock_of (record {
+    sleepers = wait_list_joined Sleepers (wait_list_for w) t sleepers;
+    receivers = wait_list_joined Receivers (wait_list_for w) t receivers;
+    senders = wait_list_joined Senders (wait_list_for w) t senders;
+    above = record { busy = owner; above = above };
+  }) ≡ record {
+    owner = owner;
+    sleepers = sleepers;
+    receivers = waiting_with side.Receivers w t receivers;
+    senders = waiting_with side.Senders w t senders;
+    above = above;
+  }
+  wait_joins None t = refl
+  wait_joins (Some side.Receivers) t = refl
+  wait_joins (Some side.Senders) t = refl
 
 signal_wakes : (s : WakeWaiter) (sleepers receivers senders : List Tid) → woken (leaving s) sleepers receivers senders ≡ signalled s receivers senders
 signal_wakes signal.Nobody sleepers receivers senders = refl
-signal_wakes (signal.Receiver u) sleepers receivers senders = refl
-signal_wakes (signal.Sender u) sleepers receivers senders = refl
-
-wait_sleepers : (w : Option Side) (t : Tid) (queue : List Tid) → wait_list_joined Sleepers (wait_list_for w) t queue ≡ queue
-wait_sleepers None t queue = refl
-wait_sleepers (Some side.Receivers) t queue = refl
-wait_sleepers (Some side.Senders) t queue = refl
-
-wait_receivers : (w : Option Side) (t : Tid) (queue : List Tid) → wait_list_joined Receivers (wait_list_for w) t queue ≡ waiting_with side.Receivers w t queue
-wait_receivers None t queue = refl
-wait_receivers (Some side.Receivers) t queue = refl
-wait_receivers (Some side.Senders) t queue = refl
-
-wait_senders : (w : Option Side) (t : Tid) (queue : List Tid) → wait_list_joined Senders (wait_list_for w) t queue ≡ waiting_with side.Senders w t queue
-wait_senders None t queue = refl
-wait_senders (Some side.Receivers) t queue = refl
-wait_senders (Some side.Senders) t queue = refl
+signal_wakes other sleepers receivers senders = refl
 
 module _ {F R B O : Type 0} (rules : LockRules F R B O) where
   edits_asked : (t : Tid) (busy : Option Tid) (sleepers receivers senders : List Tid) (above : B) →
@@ -60,20 +57,10 @@ module _ {F R B O : Type 0} (rules : LockRules F R B O) where
 
   edits_by : (e : QEdit F R) (a : SleepState (QBlock B)) → nested_lock_of (sleep_edited (busy_rules rules) (record { edit = e }) a) ≡ lock_edited rules e (nested_lock_of a)
   edits_by (Acquire t) a = edits_asked t a.above.busy a.sleepers a.receivers a.senders a.above.above
-  edits_by (Inside f) a = λ i. record {
-    owner = a.above.busy;
-    sleepers = signal_sleepers (rules.signals (rules.answer f a.above.above)) a.sleepers i;
-    receivers = signal_receivers (rules.signals (rules.answer f a.above.above)) a.receivers i;
-    senders = signal_senders (rules.signals (rules.answer f a.above.above)) a.senders i;
-    above = rules.edited f a.above.above;
-  }
-  edits_by (Release r) a = λ i. record {
-    owner = first a.sleepers;
-    sleepers = wait_sleepers (rules.waits (rules.last_answer r a.above.above)) (rules.last_caller r) (rest a.sleepers) i;
-    receivers = wait_receivers (rules.waits (rules.last_answer r a.above.above)) (rules.last_caller r) a.receivers i;
-    senders = wait_senders (rules.waits (rules.last_answer r a.above.above)) (rules.last_caller r) a.senders i;
-    above = rules.last_edited r a.above.above;
-  }
+  edits_by (Inside f) a =
+      signal_leaves a.above.busy a.sleepers a.receivers a.senders (rules.edited f a.above.above) (rules.signals (rules.answer f a.above.above))
+  edits_by (Release r) a = wait_joins (first a.sleepers) (rest a.sleepers) a.receivers a.senders (rules.last_edited r a.above.above)
+      (rules.waits (rules.last_answer r a.above.above)) (rules.last_caller r)
 
   -- a section leaves the lock that the call leaves
   pub edits : (d : QLockEdit F R) (a : SleepState (QBlock B)) → nested_lock_of (sleep_edited (busy_rules rules) d a) ≡ lock_edited rules (edit_in d) (nested_lock_of a)

@@ -1,21 +1,16 @@
 -- The laws of the layer, by those of the layer beneath: the same history, threads and waiting lists under the layer's own names.
-use Rattle.std.proofs.Common.{◌≡◌, Bool, List, [], ◌∷◌, Option, Some, None, option_map, map, refl, ap, sym, ◌∙◌, subst}
-use Rattle.std.proofs.Math.Path.{transport}
-use Rattle.event_log.specs.{declared.ids.CpuId.CpuId, declared.ids.LockId.LockId, History.IsLawful, Actions.Action, Actions.phase, Actions.renamed}
-use Rattle.event_log.specs.{Sections.Section, Sections.block_after, Sections.renamed_section}
-use Rattle.event_log.proofs.Renaming.{phase_renamed}
-use Rattle.layer_traits.specs.declared.{locked.QEdit.QEdit, locked.QOut.QOut, moves.WaitList.WaitList, moves.WaitList.TheVariants.Sleepers}
-use Rattle.layer_traits.specs.declared.{moves.WaitList.TheVariants.Receivers, moves.WaitList.TheVariants.Senders, queue_edits.QueueBlock.QueueBlock}
-use Rattle.layer_traits.specs.declared.{queue_edits.QueueEdit.QueueEdit, queues.QueueEvent.QueueEvent, scheds.SchedCall.SchedCall, sleeps.Outcome.Outcome}
-use Rattle.layer_traits.specs.{ListsAgree.ListsAgree, ListsAgree.is_at, QLocking.LockAllowed, QLocking.LockRules, QLocking.LockState, QLocking.wait_list_in}
-use Rattle.layer_traits.specs.{QLocking.lock_after, QLockLaw.LocksAgree, QLockLaw.lock_kernel, Places.AreMoves, Places.Stands, Places.Threads, Places.count_in}
-use Rattle.layer_traits.specs.{Places.one_if, Places.wait_channel_of, Places.where_is, Plans.is_in_section, QueueBlocks.homes_in, QueueBlocks.inner}
-use Rattle.layer_traits.specs.{Queues.Kernel, Queues.QueueAllowed, Queues.buffer_sections, Queues.moves_in, Renaming.renamed_edit, Renaming.renamed_events}
-use Rattle.layer_traits.specs.{Renaming.renamed_sched, Renaming.viewed, SleepLaw.sleep_kernel, Sleeping.SleepState, Sleeping.wait_list_at}
-use Rattle.layer_traits.specs.{Sleeping.sleep_edited}
-use Rattle.layer_traits.proofs.KernelRenaming.{Wraps, block_renamed, homes_viewed, inner_viewed, lawful_renamed, moves_renamed, sections_renamed}
-use Rattle.queuing_lock.specs.{declared.edits.QBlock.QBlock, declared.edits.QLockEdit.QLockEdit, Laws.Edits.answers, Laws.Edits.edits, Nested.busy_rules}
-use Rattle.queuing_lock.specs.{Nested.edit_in, Nested.nested_lock_of, Nested.locks}
+use Rattle.std.proofs.{Common.{◌≡◌, Bool, List, [], ◌∷◌, Option, Some, None, option_map, map, refl, ap, sym, ◌∙◌, subst}, Math.Path.transport}
+use Rattle.event_log.specs.{declared.ids.{CpuId.CpuId, LockId.LockId}, History.IsLawful, Actions.{Action, phase, renamed}, Sections.{Section, block_after}}
+use Rattle.{event_log.{specs.Sections.renamed_section, proofs.Renaming.phase_renamed}, layer_traits.specs.declared.locked.{QEdit.QEdit, QOut.QOut}}
+use Rattle.layer_traits.specs.declared.{moves.WaitList.{WaitList, TheVariants.Sleepers}, queue_edits.{QueueBlock.QueueBlock, QueueEdit.QueueEdit}}
+use Rattle.layer_traits.specs.{declared.{queues.QueueEvent.QueueEvent, scheds.SchedCall.SchedCall, sleeps.Outcome.Outcome}, ListsAgree.{ListsAgree, is_at}}
+use Rattle.layer_traits.specs.{QLocking.{LockAllowed, LockRules, LockState, wait_list_in, lock_after}, QLockLaw.{LocksAgree, lock_kernel}, Places.AreMoves}
+use Rattle.layer_traits.specs.{Places.{Stands, Threads, count_in, one_if, wait_channel_of, where_is}, Plans.is_in_section, QueueBlocks.{homes_in, inner}}
+use Rattle.layer_traits.specs.{Queues.{Kernel, QueueAllowed, buffer_sections, moves_in}, Renaming.{renamed_edit, renamed_events, renamed_sched, viewed}}
+use Rattle.layer_traits.{specs.{SleepLaw.sleep_kernel, Sleeping.{SleepState, wait_list_at, sleep_edited}}, proofs.KernelRenaming.{Wraps, block_renamed}}
+use Rattle.layer_traits.proofs.KernelRenaming.{homes_viewed, inner_viewed, lawful_renamed, moves_renamed, sections_renamed}
+use Rattle.queuing_lock.specs.{declared.edits.{QBlock.QBlock, QLockEdit.QLockEdit}, Laws.Edits.{answers, edits}, Nested.{busy_rules, edit_in, nested_lock_of}}
+use Rattle.queuing_lock.specs.Nested.{locks}
 
 module _ {F R B O : Type 0} (rules : LockRules F R B O) (opening : LockId → Option (QueueBlock (SleepState (QBlock B)))) where
   -- what stands beneath
@@ -33,8 +28,7 @@ module _ {F R B O : Type 0} (rules : LockRules F R B O) (opening : LockId → Op
       → LockAllowed rules (locks (inner opening)) (map (renamed_section edit_in) past) (renamed_section edit_in s)
       → LockAllowed rules (inner (viewed nested_lock_of opening)) (map (renamed_section edit_in) past) (renamed_section edit_in s)
   allowed_here past s allowed =
-      subst (λ (o : LockId → Option (LockState B)). LockAllowed rules o (map (renamed_section edit_in) past) (renamed_section edit_in s))
-      (sym inner_locks) allowed
+      subst (λ o. LockAllowed rules o (map (renamed_section edit_in) past) (renamed_section edit_in s)) (sym inner_locks) allowed
 
   pub locks_wrap : Wraps beneath here edit_in nested_lock_of
   locks_wrap = record {
@@ -50,12 +44,10 @@ module _ {F R B O : Type 0} (rules : LockRules F R B O) (opening : LockId → Op
 
   pub locks_lawful : (past : List (QueueEvent (QLockEdit F R))) → IsLawful (QueueAllowed beneath) past
       → IsLawful (QueueAllowed here) (renamed_events edit_in past)
-  locks_lawful past lawful =
-      lawful_renamed beneath here edit_in nested_lock_of locks_wrap past lawful
+  locks_lawful past lawful = lawful_renamed _ _ _ _ locks_wrap past lawful
 
   pub same_moves : (past : List (QueueEvent (QLockEdit F R))) → moves_in here (renamed_events edit_in past) ≡ moves_in beneath past
-  same_moves past =
-      moves_renamed beneath here edit_in nested_lock_of locks_wrap past
+  same_moves past = moves_renamed _ _ _ _ locks_wrap past
 
   -- the threads stand here as they stand beneath
   pub locks_stand : (c : CpuId) (past : List (QueueEvent (QLockEdit F R))) (own : Threads) → Stands (homes_in opening) c (moves_in beneath past) own
@@ -71,17 +63,14 @@ module _ {F R B O : Type 0} (rules : LockRules F R B O) (opening : LockId → Op
   pub lock_is : (lock : LockId) (past : List (QueueEvent (QLockEdit F R)))
       → lock_after rules (inner (viewed nested_lock_of opening)) lock (buffer_sections (renamed_events edit_in past))
       ≡ option_map nested_lock_of (block_after (sleep_edited (busy_rules rules)) (inner opening) lock (buffer_sections past))
-  lock_is lock past =
-      ap (lock_after rules (inner (viewed nested_lock_of opening)) lock) (sections_renamed edit_in past)
-      ∙ block_renamed beneath here edit_in nested_lock_of locks_wrap lock (buffer_sections past)
+  lock_is lock past = ap (lock_after rules (inner (viewed nested_lock_of opening)) lock) (sections_renamed edit_in past)
+      ∙ block_renamed _ _ _ _ locks_wrap lock (buffer_sections past)
 
   wait_list_seen : (line : WaitList) (o : Option (SleepState (QBlock B))) → wait_list_in line (option_map nested_lock_of o) ≡ wait_list_at line o
   wait_list_seen Sleepers None = refl
-  wait_list_seen Receivers None = refl
-  wait_list_seen Senders None = refl
+  wait_list_seen line None = refl
   wait_list_seen Sleepers (Some state) = refl
-  wait_list_seen Receivers (Some state) = refl
-  wait_list_seen Senders (Some state) = refl
+  wait_list_seen line (Some state) = refl
 
   -- the waiting lists agree with the places
   pub locks_lists : (past : List (QueueEvent (QLockEdit F R))) → ListsAgree (busy_rules rules) opening past

@@ -1,13 +1,11 @@
 -- What the layer beneath tells of its blocks, the layer tells of their locks.
-use Rattle.std.proofs.Common.{List, Option, Some, option_map, ap, sym}
-use Rattle.event_log.specs.{declared.ids.BufId.BufId, declared.ids.CpuId.CpuId, declared.ids.LockId.LockId, declared.ids.LockId.TheVariants.Buffer}
-use Rattle.event_log.specs.{declared.ids.Tid.Tid, Sections.block_after}
-use Rattle.layer_traits.specs.{declared.queue_edits.QueueBlock.QueueBlock, declared.queues.QueueEvent.QueueEvent, QLocking.LockRules, QLocking.lock_after}
-use Rattle.layer_traits.specs.{Owned.IsObserved, Places.pending_by, QueueBlocks.inner, Queues.buffer_sections, Queues.moves_in, Renaming.renamed_events}
-use Rattle.layer_traits.specs.{Renaming.viewed, Sleeping.SleepState, Sleeping.sleep_edited}
-use Rattle.layer_traits.proofs.OwnedLemmas.{PartsOn, same_shown, shown_on, viewed_shown}
-use Rattle.queuing_lock.specs.{declared.edits.QBlock.QBlock, declared.edits.QLockEdit.QLockEdit, Laws.NestedLaws.beneath, Laws.NestedLaws.here}
-use Rattle.queuing_lock.specs.{Laws.NestedLaws.lock_is, Laws.NestedLaws.same_moves, Nested.busy_rules, Nested.edit_in, Nested.nested_lock_of}
+use Rattle.{std.proofs.Common.{List, Option, Some, option_map, ap, sym}, event_log.specs.declared.ids.{BufId.BufId, CpuId.CpuId, LockId.LockId}}
+use Rattle.event_log.specs.{declared.ids.{LockId.TheVariants.Buffer, Tid.Tid}, Sections.block_after}
+use Rattle.layer_traits.specs.{declared.{queue_edits.QueueBlock.QueueBlock, queues.QueueEvent.QueueEvent}, QLocking.{LockRules, lock_after}, Owned.IsObserved}
+use Rattle.layer_traits.specs.{Places.pending_by, QueueBlocks.inner, Queues.{buffer_sections, moves_in}, Renaming.{renamed_events, viewed}, Sleeping.SleepState}
+use Rattle.layer_traits.{specs.Sleeping.sleep_edited, proofs.OwnedLemmas.{PartsOn, same_shown, shown_on, viewed_shown}}
+use Rattle.queuing_lock.specs.{declared.edits.{QBlock.QBlock, QLockEdit.QLockEdit}, Laws.NestedLaws.{beneath, here, lock_is, same_moves}, Nested.busy_rules}
+use Rattle.queuing_lock.specs.Nested.{edit_in, nested_lock_of}
 
 module _ {P Q F R B O : Type 0} (rules : LockRules F R B O) (opening : LockId → Option (QueueBlock (SleepState (QBlock B))))
     (past : List (QueueEvent (QLockEdit F R))) (parts : PartsOn P Q) where
@@ -20,10 +18,7 @@ module _ {P Q F R B O : Type 0} (rules : LockRules F R B O) (opening : LockId �
       (lock_after rules (inner (viewed nested_lock_of opening)) (Buffer b) (buffer_sections (renamed_events edit_in past)))
   locks_shown b tells home shown =
       let truth = block_after (sleep_edited (busy_rules rules)) (inner opening) (Buffer b) (buffer_sections past) in
-      viewed_shown nested_lock_of FitsQ (λ q. cpu_below (below q)) MayHold
-      (λ q. tells (below q)) home truth
-      (lock_after rules (inner (viewed nested_lock_of opening)) (Buffer b) (buffer_sections (renamed_events edit_in past)))
-      (lock_is rules opening (Buffer b) past)
+      viewed_shown nested_lock_of FitsQ _ MayHold (λ q. tells (below q)) home truth _ (lock_is rules opening (Buffer b) past)
       (shown_on parts tells home truth shown)
 
   -- and what is told of a pending queue is told of it here
@@ -32,7 +27,5 @@ module _ {P Q F R B O : Type 0} (rules : LockRules F R B O) (opening : LockId �
       → IsObserved FitsQ (λ q. cpu_below (below q)) MayHold (λ q. tells (below q)) home
       (Some (pending_by (moves_in (here rules opening) (renamed_events edit_in past)) d))
   locks_queues d tells home shown =
-      same_shown FitsQ (λ q. cpu_below (below q)) MayHold (λ q. tells (below q)) home
-      (Some (pending_by (moves_in (beneath rules opening) past) d)) (Some (pending_by (moves_in (here rules opening) (renamed_events edit_in past)) d))
-      (ap (λ moves. Some (pending_by moves d)) (sym (same_moves rules opening past)))
+      same_shown FitsQ _ MayHold (λ q. tells (below q)) home _ _ (ap (λ moves. Some (pending_by moves d)) (sym (same_moves rules opening past)))
       (shown_on parts tells home (Some (pending_by (moves_in (beneath rules opening) past) d)) shown)

@@ -1,19 +1,14 @@
 -- What calls of other CPUs leave as it is: whether a thread owns a lock or sleeps for it, or neither.
 use Rattle.std.proofs.Common.{◌≡◌, ◌≢◌, ◌⊎◌, inl, inr, Bool, ◌&&◌, ◌||◌, not, nat_lt, true, false, List, [], ◌∷◌, ◌++◌, Option, Some, None, option_map}
 use Rattle.std.proofs.Common.{if◌then◌else◌, refl, ap, sym, ◌∙◌, subst}
-use Rattle.event_log.specs.{declared.ids.BufId.BufId, declared.ids.CpuId.CpuId, declared.ids.LockId.LockId, declared.ids.LockId.TheVariants.Buffer}
-use Rattle.event_log.specs.{declared.ids.Tid.Tid, declared.ids.TheConstants.THREADS, History.AreOthers, History.IsLawful, History.same_cpu, History.same_lock}
-use Rattle.event_log.proofs.Same.{same_cpu_self, same_lock_true}
-use Rattle.layer_traits.specs.{declared.locked.QEdit.QEdit, declared.locked.QEdit.TheVariants.Acquire, declared.locked.QEdit.TheVariants.Inside}
-use Rattle.layer_traits.specs.{declared.locked.QEdit.TheVariants.Release, declared.queue_edits.QueueBlock.QueueBlock, declared.queues.QueueCall.QueueCall}
-use Rattle.layer_traits.specs.{declared.queues.QueueCall.TheVariants.Push, declared.queues.QueueCall.TheVariants.TakeAll}
-use Rattle.layer_traits.specs.{declared.queues.QueueCall.TheVariants.OnBuffer, declared.queues.QueueEvent.QueueEvent, QLocking.IsOwners, QLocking.LockRules}
-use Rattle.layer_traits.specs.{QLocking.LockState, QLocking.lock_after, QLocking.asked, QLocking.lock_caller, QLocking.lock_edited, QLocking.owner_in}
-use Rattle.layer_traits.specs.{QLockLaw.HasOrAwaits, QLockLaw.lock_kernel, Places.home_of, QueueBlocks.homes_in, QueueBlocks.inner, Queues.CallAllowed}
-use Rattle.layer_traits.specs.{Queues.QueueAllowed, Queues.buffer_sections, Queues.cpu_of_queue_event, Queues.with_section, Sleeping.joined}
-use Rattle.thread_blocks.specs.Queues.{first, is_in, rest, same_tid}
-use Rattle.thread_blocks.proofs.{Distinct.out_of_rest, Distinct.pushed_in, Members.same_tid_true}
-use Rattle.queuing_lock.specs.Steady.{HasNothing, IsOwner, IsPreserved, Keeps}
+use Rattle.event_log.specs.{declared.ids.{BufId.BufId, CpuId.CpuId, LockId.{LockId, TheVariants.Buffer}, Tid.Tid, TheConstants.THREADS}, History.AreOthers}
+use Rattle.event_log.{specs.History.{IsLawful, same_cpu, same_lock}, proofs.Same.{same_cpu_self, same_lock_true}}
+use Rattle.layer_traits.specs.declared.{locked.QEdit.{QEdit, TheVariants.{Acquire, Inside, Release}}, queue_edits.QueueBlock.QueueBlock}
+use Rattle.layer_traits.specs.{declared.queues.{QueueCall.{QueueCall, TheVariants.{Push, TakeAll, OnBuffer}}, QueueEvent.QueueEvent}, QLocking.IsOwners}
+use Rattle.layer_traits.specs.{QLocking.{LockRules, LockState, lock_after, asked, lock_caller, lock_edited, owner_in}, QLockLaw.{HasOrAwaits, lock_kernel}}
+use Rattle.layer_traits.specs.{Places.home_of, QueueBlocks.{homes_in, inner}, Queues.{CallAllowed, QueueAllowed, buffer_sections, cpu_of_queue_event}}
+use Rattle.{layer_traits.specs.{Queues.with_section, Sleeping.joined}, thread_blocks.{specs.Queues.{first, is_in, rest, same_tid}, proofs.Distinct.out_of_rest}}
+use Rattle.{thread_blocks.proofs.{Distinct.pushed_in, Members.same_tid_true}, queuing_lock.specs.Steady.{HasNothing, IsOwner, IsPreserved, Keeps}}
 
 module _ {F R B O : Type 0} (rules : LockRules F R B O) (opening : LockId → Option (QueueBlock (LockState B))) (kept : IsPreserved rules opening) where
   open kept use {t, P, keeps, c, at_home, lock}
@@ -39,8 +34,7 @@ module _ {F R B O : Type 0} (rules : LockRules F R B O) (opening : LockId → Op
   other_caller d u differs home is =
       let same : Some d ≡ Some c = sym home ∙ (ap (home_of (homes_in opening)) is ∙ at_home) in
       let one : d ≡ c = cc in
-      let clash : true ≡ false = sym (same_cpu_self c) ∙ subst (λ x. same_cpu x c ≡ false) one differs in
-      absurd cc
+      absurd (cc (same_cpu_self c, rw one at differs))
 
   preserved_call : (past : List (QueueEvent (QEdit F R))) (d : CpuId) (q : QueueCall (QEdit F R)) → CallAllowed (lock_kernel rules opening) past d q
       → same_cpu d c ≡ false

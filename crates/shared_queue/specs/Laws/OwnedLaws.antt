@@ -1,15 +1,10 @@
 -- What the locks beneath tell of their blocks, shared queues tell of what they read off them: a buffer's block, or a queue's threads.
-use Rattle.std.specs.Prelude.{◌≡◌, List, Option, Some, None, IsSome, option_map, map, refl}
-use Rattle.std.proofs.Common.{ap, sym, ◌∙◌}
-use Rattle.std.specs.Option.{option_and_then}
-use Rattle.event_log.specs.{declared.ids.BufId.BufId, declared.ids.CpuId.CpuId, declared.ids.LockId.LockId, declared.ids.LockId.TheVariants.Pending}
-use Rattle.event_log.specs.{declared.ids.LockId.TheVariants.Buffer, declared.ids.Tid.Tid, Sections.block_after}
-use Rattle.layer_traits.specs.{declared.queue_edits.QueueBlock.QueueBlock, declared.queue_edits.QueueBlock.TheVariants.Queue}
-use Rattle.layer_traits.specs.{declared.queue_edits.QueueBlock.TheVariants.Above, MoveRules.MoveRules, MoveRules.WakesSleepers, Owned.IsHeld, Owned.IsObserved}
-use Rattle.layer_traits.specs.{Places.pending_by, Protocol.Rules, QueueBlocks.StartsAs, QueueBlocks.inner, QueueBlocks.with_queue, QueueRules.queue_edited}
-use Rattle.layer_traits.specs.{Queues.buffer_sections, Queues.event_of, Queues.kernel, Queues.moves_in}
-use Rattle.layer_traits.proofs.NestedLemmas.{buffer_block, queue_block}
-use Rattle.shared_queue.specs.OwnedLaws.{Observers, above_in, queue_in}
+use Rattle.std.{specs.{Prelude.{◌≡◌, List, Option, Some, None, IsSome, option_map, map, refl}, Option.option_and_then}, proofs.Common.{ap, sym, ◌∙◌}}
+use Rattle.event_log.specs.{declared.ids.{BufId.BufId, CpuId.CpuId, LockId.{LockId, TheVariants.{Pending, Buffer}}, Tid.Tid}, Sections.block_after}
+use Rattle.layer_traits.specs.{declared.queue_edits.QueueBlock.{QueueBlock, TheVariants.{Queue, Above}}, MoveRules.{MoveRules, WakesSleepers}, Owned.IsObserved}
+use Rattle.layer_traits.specs.{Places.pending_by, Protocol.Rules, QueueBlocks.{StartsAs, inner, with_queue}, QueueRules.queue_edited, Queues.buffer_sections}
+use Rattle.{layer_traits.{specs.Queues.{event_of, kernel, moves_in}, proofs.NestedLemmas.{buffer_block, queue_block}}, shared_queue.specs.OwnedLaws.Observers}
+use Rattle.shared_queue.specs.OwnedLaws.{above_in, queue_in}
 
 -- each true value can be read
 abbrev CanRead : {A B : Type 0} → (A → Option B) → Option A → Option B → Type 0
@@ -22,10 +17,7 @@ module _ {A B : Type 0} (read : A → Option B) (truth : Option A) (seen : Optio
 
   read_none : (o : Option A) → ((x : A) → o ≡ Some x → truth ≡ Some x) → option_and_then read o ≡ None → o ≡ None
   read_none None tells none = refl
-  read_none (Some x) tells none =
-      let found = can x (tells x refl) in
-      let something = found.1 in
-      absurd (cc (something, none))
+  read_none (Some x) tells none = let found = can x (tells x refl) in absurd (cc (found.1, none))
 
   -- what is told of a block is told of what is read off it
   shown_read : {P : Type 0} (Fits : P → Type 0) (cpu_of : P → CpuId) (IsInside : CpuId → Type 0) (here : P → Option A) (home : Option A)
@@ -34,16 +26,13 @@ module _ {A B : Type 0} (read : A → Option B) (truth : Option A) (seen : Optio
   shown_read Fits cpu_of IsInside here home shown = record {
     by_machine = λ y tells. read_some home shown.by_machine y tells;
     by_part = λ p y fits tells. read_some (here p) (λ x told. shown.by_part p x fits told) y tells;
-    somewhere = λ none. held (shown.somewhere (read_none home shown.by_machine none));
+    somewhere = λ none. let at = shown.somewhere (read_none home shown.by_machine none) in record {
+      cpu = at.cpu;
+      known = at.known;
+      inside = at.inside;
+      has = λ p same fits none. at.has p same fits (read_none (here p) (λ x told. shown.by_part p x fits told) none);
+    };
   }
-    where
-      held : IsHeld Fits cpu_of IsInside here → IsHeld Fits cpu_of IsInside (λ p. option_and_then read (here p))
-      held at = record {
-        cpu = at.cpu;
-        known = at.known;
-        inside = at.inside;
-        has = λ p same fits none. at.has p same fits (read_none (here p) (λ x told. shown.by_part p x fits told) none);
-      }
 
 can_read_above : {B : Type 0} (truth : Option (QueueBlock B)) (above : Option B) → truth ≡ option_map Above above → CanRead above_in truth above
 can_read_above truth None is x tells = let none = is in absurd (cc (none, tells))
@@ -65,18 +54,13 @@ module _ {P E B O : Type 0} (rules : Rules E B O) (mv : MoveRules E O) (opening 
       → IsObserved Fits cpu_of IsInside (λ p. option_and_then above_in (here p)) (option_and_then above_in home)
       (block_after rules.edited (inner opening) (Buffer b) (buffer_sections (map event_of past)))
   buffer_shown b here home shown =
-      let truth = block_after (queue_edited rules.edited) opening (Buffer b) past in
-      let above = block_after rules.edited (inner opening) (Buffer b) (buffer_sections (map event_of past)) in
-      shown_read above_in truth above (can_read_above truth above (buffer_block rules mv opening starts b past lawful)) Fits cpu_of IsInside here home shown
+      shown_read above_in _ _ (can_read_above _ _ (buffer_block rules mv opening starts b past lawful)) Fits cpu_of IsInside here home shown
 
   -- what is told of a pending queue's lock is told of the queue
   pub queue_shown : WakesSleepers rules mv → (d : CpuId) → IsSome (opening (Pending d)) → (here : P → Option (QueueBlock B)) (home : Option (QueueBlock B))
       → IsObserved Fits cpu_of IsInside here home (block_after (queue_edited rules.edited) opening (Pending d) past)
       → IsObserved Fits cpu_of IsInside (λ p. option_and_then queue_in (here p)) (option_and_then queue_in home)
       (Some (pending_by (moves_in (kernel rules mv opening) (map event_of past)) d))
-  queue_shown wakes d there here home shown =
-      let truth = block_after (queue_edited rules.edited) opening (Pending d) past in
-      let queue = pending_by (moves_in (kernel rules mv opening) (map event_of past)) d in
-      shown_read queue_in truth (Some queue)
-      (can_read_queue d (opening (Pending d)) there (starts.kinds (Pending d)) truth queue (queue_block rules mv opening starts wakes d past lawful)) Fits
-      cpu_of IsInside here home shown
+  queue_shown wakes d there here home shown = shown_read queue_in _ _
+      (can_read_queue d (opening (Pending d)) there (starts.kinds (Pending d)) _ _ (queue_block rules mv opening starts wakes d past lawful)) Fits cpu_of IsInside
+      here home shown

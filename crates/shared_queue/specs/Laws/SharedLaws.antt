@@ -1,7 +1,5 @@
 -- A call is under way exactly where its section is.
-use Rattle.std.specs.Prelude.{◌≡◌, Option, Some, None, option_map, is_some, refl}
-use Rattle.std.proofs.Common.{sym}
-use Rattle.std.proofs.lemmas.Option.{none-some}
+use Rattle.std.{specs.Prelude.{◌≡◌, Option, Some, None, option_map, is_some, refl}, proofs.{Common.sym, lemmas.Option.none-some}}
 
 pub same_busy : {A B : Type 0} (f : A → B) (under : Option A) → is_some (option_map f under) ≡ is_some under
 same_busy f None = refl

@@ -1,23 +1,19 @@
 -- The laws of the layer, by those of the scheduler beneath.
 use Rattle.std.proofs.Common.{◌≡◌, Bool, true, List, [], ◌∷◌, ◌++◌, Option, Some, None, option_map, map, refl, ap, sym, ◌∙◌, subst, arith}
-use Rattle.std.proofs.{Math.Path.transport, lemmas.Option.slice_get_within}
-use Rattle.event_log.specs.declared.ids.{BufId.BufId, CpuId.CpuId, LockId.LockId, LockId.TheVariants.Buffer, Tid.Tid}
-use Rattle.event_log.specs.{History.IsLawful, Actions.Action, Actions.phase, Actions.renamed, Sections.Section, Sections.block_after, Sections.renamed_section}
-use Rattle.event_log.proofs.Renaming.{phase_renamed}
-use Rattle.layer_traits.specs.{declared.queue_edits.QueueBlock.QueueBlock, declared.queue_edits.QueueEdit.QueueEdit, declared.queues.QueueEvent.QueueEvent}
-use Rattle.layer_traits.specs.{declared.scheds.SchedCall.SchedCall, declared.sleeps.Outcome.Outcome, ListsAgree.ListsAgree, ListsAgree.is_at}
-use Rattle.layer_traits.specs.{MoveRules.WakesSleepers, MoveRules.asleep_by, MoveRules.edit_move, MoveRules.section_moves, Places.AreMoves, Places.Home}
-use Rattle.layer_traits.specs.{Places.Stands, Places.count_in, Places.Threads, Places.home_of, Places.is_wait_channel, Places.one_if, Places.wait_channel_of}
-use Rattle.layer_traits.specs.{Places.step, Places.where_is, Plans.is_in_section, Plans.table_of, QueueBlocks.StartsWell, QueueBlocks.homes_in}
-use Rattle.layer_traits.specs.{QueueBlocks.inner, Queues.Kernel, Queues.QueueAllowed, Queues.buffer_sections, Queues.kernel, Queues.moves_in}
-use Rattle.layer_traits.specs.{Renaming.renamed_edit, Renaming.renamed_events, Renaming.viewed, Scheds.EditStays, SleepLaw.MaySleep, SleepLaw.sleep_kernel}
-use Rattle.layer_traits.specs.Sleeping.{IsAwake, NobodySleeps, SleepRules, SleepState, wait_list_at, sleep_answer, sleep_edited, sleep_moves, sleep_rules}
-use Rattle.layer_traits.proofs.{CallLemmas.asleep_wait_channel, CallLemmas.moves_append, CallLemmas.moves_lawful, CallLemmas.moves_others}
-use Rattle.layer_traits.proofs.{CallLemmas.moves_over, CallLemmas.sections_asleep, CallLemmas.upper_lawful, ListsLemmas.lists_agree, ListsLemmas.section_wakes}
-use Rattle.layer_traits.proofs.{PlaceLemmas.current_at, PlaceLemmas.stands_others, PlanRenaming.block_viewed}
+use Rattle.{std.proofs.{Math.Path.transport, lemmas.Option.slice_get_within}, event_log.specs.declared.ids.{BufId.BufId, CpuId.CpuId, LockId.LockId}}
+use Rattle.event_log.specs.{declared.ids.{LockId.TheVariants.Buffer, Tid.Tid}, History.IsLawful, Actions.{Action, phase, renamed}, Sections.Section}
+use Rattle.event_log.{specs.Sections.{block_after, renamed_section}, proofs.Renaming.phase_renamed}
+use Rattle.layer_traits.specs.declared.{queue_edits.{QueueBlock.QueueBlock, QueueEdit.QueueEdit}, queues.QueueEvent.QueueEvent, scheds.SchedCall.SchedCall}
+use Rattle.layer_traits.specs.{declared.sleeps.Outcome.Outcome, ListsAgree.{ListsAgree, is_at}, MoveRules.{WakesSleepers, asleep_by, edit_move, section_moves}}
+use Rattle.layer_traits.specs.{Places.{AreMoves, Stands, count_in, Threads, is_wait_channel, one_if, wait_channel_of, step, where_is}, Plans.is_in_section}
+use Rattle.layer_traits.specs.{Plans.table_of, QueueBlocks.{StartsWell, homes_in, inner}, Queues.{Kernel, QueueAllowed, buffer_sections, kernel, moves_in}}
+use Rattle.layer_traits.specs.{Renaming.{renamed_edit, renamed_events, viewed}, Scheds.EditStays, SleepLaw.{MaySleep, sleep_kernel}, Sleeping.IsAwake}
+use Rattle.layer_traits.specs.Sleeping.{NobodySleeps, SleepRules, SleepState, wait_list_at, sleep_answer, sleep_edited, sleep_moves, sleep_rules}
+use Rattle.layer_traits.proofs.CallLemmas.{asleep_wait_channel, moves_append, moves_lawful, moves_others, moves_over, sections_asleep, upper_lawful}
+use Rattle.layer_traits.proofs.{ListsLemmas.{lists_agree, section_wakes}, PlaceLemmas.{current_at, stands_others}, PlanRenaming.block_viewed}
 use Rattle.layer_traits.proofs.KernelRenaming.{Wraps, homes_viewed, inner_viewed, lawful_renamed, moves_renamed, sections_renamed, stays_renamed}
-use Rattle.sleep_wakeup.specs.{declared.edits.SleepBlock.SleepBlock, declared.edits.SleepEdit.SleepEdit, Parts.Deferred, Parts.as_edit, Parts.under_of}
-use Rattle.sleep_wakeup.specs.Nested.{NestedAllowed, edit_in, nested_answer, nested_edited, nested_moves, nested_rules, state_of, states}
+use Rattle.sleep_wakeup.specs.{declared.edits.{SleepBlock.SleepBlock, SleepEdit.SleepEdit}, Parts.{Deferred, as_edit, under_of}, Nested.NestedAllowed}
+use Rattle.sleep_wakeup.specs.Nested.{edit_in, nested_answer, nested_edited, nested_moves, nested_rules, state_of, states}
 use Rattle.layer_traits.specs.declared.scheds.SchedCall.TheVariants as call
 
 -- Sections.
@@ -27,15 +23,12 @@ module _ {E B O : Type 0} (rules : SleepRules E B O) (opening : LockId → Optio
   abbrev above : List (Section (SleepEdit E)) → List (Section E)
   above past = map (renamed_section edit_in) past
 
-  edits : (d : SleepEdit E) (a : SleepBlock B) → state_of (nested_edited rules d a) ≡ sleep_edited rules (edit_in d) (state_of a)
-  edits d a = refl
-
   -- the block of a lock is the view of the block beneath
   state_after : (lock : LockId) (past : List (Section (SleepEdit E)))
       → block_after (sleep_edited rules) (states opening) lock (above past) ≡ option_map state_of (block_after (nested_edited rules) opening lock past)
   state_after lock past =
       block_viewed (table_of (nested_rules rules)) (table_of (sleep_rules rules))
-      (record { name = edit_in; view = state_of; told = λ (o : Outcome O). o; edits = edits; answers = λ d a. refl }) opening lock past
+      (record { name = edit_in; view = state_of; told = λ (o : Outcome O). o; edits = λ d a. refl; answers = λ d a. refl }) opening lock past
 
   answer_seen : (d : SleepEdit E) (o : Option (SleepBlock B))
       → option_map (sleep_answer rules (edit_in d)) (option_map state_of o) ≡ option_map (nested_answer rules d) o
@@ -109,12 +102,10 @@ module _ {E B O : Type 0} (rules : SleepRules E B O) (opening : LockId → Optio
 
   pub nested_lawful : (past : List (QueueEvent (SleepEdit E))) → IsLawful (QueueAllowed beneath) past
       → IsLawful (QueueAllowed here) (renamed_events edit_in past)
-  nested_lawful past lawful =
-      lawful_renamed beneath here edit_in state_of nested_wraps past lawful
+  nested_lawful past lawful = lawful_renamed _ _ _ _ nested_wraps past lawful
 
   pub same_moves : (past : List (QueueEvent (SleepEdit E))) → moves_in here (renamed_events edit_in past) ≡ moves_in beneath past
-  same_moves past =
-      moves_renamed beneath here edit_in state_of nested_wraps past
+  same_moves past = moves_renamed _ _ _ _ nested_wraps past
 
   -- the threads stand here as they stand beneath
   pub nested_stands : (c : CpuId) (past : List (QueueEvent (SleepEdit E))) (own : Threads) → Stands (homes_in opening) c (moves_in beneath past) own
@@ -154,28 +145,21 @@ module _ {E B O : Type 0} (rules : SleepRules E B O) (opening : LockId → Optio
       → IsLawful (QueueAllowed beneath) past
       → NobodySleeps (states (inner opening)) → Stands (homes_in opening) c (moves_in beneath past) own
       → MaySleep here c (renamed_events edit_in past) own b e → EditStays beneath c past (call.OnBuffer b (as_edit e))
-  nested_stays c past own b e starts lawful nobody stands may more others legal = record {
-    start = nobody;
-    awake = record {
-      awake = sym (asleep_here (more ++ past) (rules.caller e) legal) ∙ ap wait_channel_of at.1;
-      small = omega (arith, slice_get_within (homes_in opening) (rules.caller e).0 c at.0, starts.room);
-    };
-    upper = subst (λ (o : LockId → Option (SleepState B)). rules.allowed o (map (renamed_section edit_in) (buffer_sections (more ++ past)))
-        (record { cpu = c; lock = Buffer b; edit = e })) inner_states
-        (stays_renamed beneath here edit_in state_of nested_wraps c past b (as_edit e) may.stays more others legal);
-  }
-    where
-      moving : AreMoves (homes_in opening) (moves_in beneath (more ++ past))
-      moving = moves_lawful beneath (nested_wakes rules) (more ++ past) legal
-
-      now : Stands (homes_in opening) c (moves_in beneath (more ++ past)) own
-      now = subst (λ moves. Stands (homes_in opening) c moves own) (sym (moves_append beneath more past))
-          (stands_others (homes_in opening) c (moves_over beneath more past) (moves_in beneath past) own (moves_others beneath c more past others)
-          (subst (λ moves. AreMoves (homes_in opening) moves) (moves_append beneath more past) moving) stands)
-
-      at : (home_of (homes_in opening) (rules.caller e) ≡ Some c) × (where_is (homes_in opening) (moves_in beneath (more ++ past)) (rules.caller e) ≡ Home)
-          × (count_in (rules.caller e) own.ready ≡ 0) × (count_in (rules.caller e) own.ended ≡ 0)
-      at = current_at (homes_in opening) c (moves_in beneath (more ++ past)) own moving now (rules.caller e) may.current
+  nested_stays c past own b e starts lawful nobody stands may more others legal =
+      let moving = moves_lawful beneath (nested_wakes rules) (more ++ past) legal in
+      let now = subst (λ moves. Stands (homes_in opening) c moves own) (sym (moves_append beneath more past))
+      (stands_others (homes_in opening) c (moves_over beneath more past) (moves_in beneath past) own (moves_others beneath c more past others)
+      (subst (λ moves. AreMoves (homes_in opening) moves) (moves_append beneath more past) moving) stands) in
+      let at = current_at (homes_in opening) c (moves_in beneath (more ++ past)) own moving now (rules.caller e) may.current in
+      record {
+        start = nobody;
+        awake = record {
+          awake = sym (asleep_here (more ++ past) (rules.caller e) legal) ∙ ap wait_channel_of at.1;
+          small = omega (arith, slice_get_within (homes_in opening) (rules.caller e).0 c at.0, starts.room);
+        };
+        upper = subst (λ (o : LockId → Option (SleepState B)). rules.allowed o (map (renamed_section edit_in) (buffer_sections (more ++ past)))
+            (record { cpu = c; lock = Buffer b; edit = e })) inner_states (stays_renamed _ _ _ _ nested_wraps c past b (as_edit e) may.stays more others legal);
+      }
 
 -- The part.
 

@@ -1,14 +1,11 @@
 -- What the scheduler beneath tells of its blocks, the layer tells of their waiting lists.
 use Rattle.std.proofs.Common.{◌≡◌, List, Option, Some, option_map, ap, sym, ◌∙◌}
-use Rattle.event_log.specs.{declared.ids.BufId.BufId, declared.ids.CpuId.CpuId, declared.ids.LockId.LockId, declared.ids.LockId.TheVariants.Buffer}
-use Rattle.event_log.specs.{declared.ids.Tid.Tid, Sections.block_after}
-use Rattle.layer_traits.specs.{declared.queue_edits.QueueBlock.QueueBlock, declared.queues.QueueEvent.QueueEvent, Owned.IsObserved, Places.pending_by}
-use Rattle.layer_traits.specs.{QueueBlocks.inner, Queues.buffer_sections, Queues.moves_in, Renaming.renamed_events, Renaming.viewed, Sleeping.SleepRules}
-use Rattle.layer_traits.specs.{Sleeping.sleep_edited}
-use Rattle.layer_traits.proofs.{KernelRenaming.block_renamed, KernelRenaming.sections_renamed, OwnedLemmas.PartsOn, OwnedLemmas.same_shown}
-use Rattle.layer_traits.proofs.{OwnedLemmas.shown_on, OwnedLemmas.viewed_shown}
-use Rattle.sleep_wakeup.specs.{declared.edits.SleepBlock.SleepBlock, declared.edits.SleepEdit.SleepEdit, Laws.NestedLaws.beneath, Laws.NestedLaws.here}
-use Rattle.sleep_wakeup.specs.{Laws.NestedLaws.nested_wraps, Laws.NestedLaws.same_moves, Nested.edit_in, Nested.nested_edited, Nested.state_of}
+use Rattle.event_log.specs.{declared.ids.{BufId.BufId, CpuId.CpuId, LockId.{LockId, TheVariants.Buffer}, Tid.Tid}, Sections.block_after}
+use Rattle.layer_traits.specs.{declared.{queue_edits.QueueBlock.QueueBlock, queues.QueueEvent.QueueEvent}, Owned.IsObserved, Places.pending_by}
+use Rattle.layer_traits.specs.{QueueBlocks.inner, Queues.{buffer_sections, moves_in}, Renaming.{renamed_events, viewed}, Sleeping.{SleepRules, sleep_edited}}
+use Rattle.layer_traits.proofs.{KernelRenaming.{block_renamed, sections_renamed}, OwnedLemmas.{PartsOn, same_shown, shown_on, viewed_shown}}
+use Rattle.sleep_wakeup.specs.{declared.edits.{SleepBlock.SleepBlock, SleepEdit.SleepEdit}, Laws.NestedLaws.{beneath, here, nested_wraps, same_moves}}
+use Rattle.sleep_wakeup.specs.Nested.{edit_in, nested_edited, state_of}
 
 module _ {P Q E B O : Type 0} (rules : SleepRules E B O) (opening : LockId → Option (QueueBlock (SleepBlock B))) (past : List (QueueEvent (SleepEdit E)))
     (parts : PartsOn P Q) where
@@ -17,9 +14,8 @@ module _ {P Q E B O : Type 0} (rules : SleepRules E B O) (opening : LockId → O
   -- the block of a buffer with its waiting lists is the view of the block beneath
   state_is : (b : BufId) → block_after (sleep_edited rules) (inner (viewed state_of opening)) (Buffer b) (buffer_sections (renamed_events edit_in past))
       ≡ option_map state_of (block_after (nested_edited rules) (inner opening) (Buffer b) (buffer_sections past))
-  state_is b =
-      ap (λ sections. block_after (sleep_edited rules) (inner (viewed state_of opening)) (Buffer b) sections) (sections_renamed edit_in past)
-      ∙ block_renamed (beneath rules opening) (here rules opening) edit_in state_of (nested_wraps rules opening) (Buffer b) (buffer_sections past)
+  state_is b = ap (λ sections. block_after (sleep_edited rules) (inner (viewed state_of opening)) (Buffer b) sections) (sections_renamed edit_in past)
+      ∙ block_renamed _ _ _ _ (nested_wraps rules opening) (Buffer b) (buffer_sections past)
 
   -- so what is told of that block is told of its waiting lists
   pub nested_shown : (b : BufId) (tells : P → Option (SleepBlock B)) (home : Option (SleepBlock B))
@@ -29,10 +25,7 @@ module _ {P Q E B O : Type 0} (rules : SleepRules E B O) (opening : LockId → O
       (block_after (sleep_edited rules) (inner (viewed state_of opening)) (Buffer b) (buffer_sections (renamed_events edit_in past)))
   nested_shown b tells home shown =
       let truth = block_after (nested_edited rules) (inner opening) (Buffer b) (buffer_sections past) in
-      viewed_shown state_of FitsQ (λ q. cpu_below (below q)) MayHold
-      (λ q. tells (below q)) home truth
-      (block_after (sleep_edited rules) (inner (viewed state_of opening)) (Buffer b) (buffer_sections (renamed_events edit_in past))) (state_is b)
-      (shown_on parts tells home truth shown)
+      viewed_shown state_of FitsQ _ MayHold (λ q. tells (below q)) home truth _ (state_is b) (shown_on parts tells home truth shown)
 
   -- and what is told of a pending queue is told of it here
   pub nested_queues : (d : CpuId) (tells : P → Option (List Tid)) (home : Option (List Tid))
@@ -40,7 +33,5 @@ module _ {P Q E B O : Type 0} (rules : SleepRules E B O) (opening : LockId → O
       → IsObserved FitsQ (λ q. cpu_below (below q)) MayHold (λ q. tells (below q)) home
       (Some (pending_by (moves_in (here rules opening) (renamed_events edit_in past)) d))
   nested_queues d tells home shown =
-      same_shown FitsQ (λ q. cpu_below (below q)) MayHold (λ q. tells (below q)) home
-      (Some (pending_by (moves_in (beneath rules opening) past) d)) (Some (pending_by (moves_in (here rules opening) (renamed_events edit_in past)) d))
-      (ap (λ moves. Some (pending_by moves d)) (sym (same_moves rules opening past)))
+      same_shown FitsQ _ MayHold (λ q. tells (below q)) home _ _ (ap (λ moves. Some (pending_by moves d)) (sym (same_moves rules opening past)))
       (shown_on parts tells home (Some (pending_by (moves_in (beneath rules opening) past) d)) shown)

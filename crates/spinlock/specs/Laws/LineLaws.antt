@@ -1,37 +1,24 @@
 -- What the two logs of lock words say of the line at a lock: the phases of the CPUs, and the tickets of their spots.
-use Rattle.std.proofs.Common.{◌≡◌, ℕ, ◌%◌, ◌^◌, ◌↔◌, List, [], ◌∷◌, Option, Some, None, MatchOption, ap, sym, subst, ◌∙◌, refl}
-use Rattle.event_log.specs.{declared.ids.CpuId.CpuId, declared.ids.LockId.LockId, declared.events.Event.Event, declared.grants.GrantEvent.GrantEvent}
-use Rattle.event_log.specs.{declared.grants.GrantEvent.TheVariants.Take, declared.grants.GrantEvent.TheVariants.Peek}
-use Rattle.event_log.specs.{declared.grants.GrantEvent.TheVariants.Give, Actions.Rests, Actions.Waits, Actions.Holds, Actions.phase, Actions.acts_of}
-use Rattle.event_log.specs.{Grants.IsLegalGrants, Grants.acts_of_grants, Grants.grant_lock_phase, History.IsLawful, Sections.Section, Sections.block_after}
-use Rattle.event_log.specs.{Sections.sections_in, WordsLog.LockPhase, WordsLog.Idle, WordsLog.Waiting, WordsLog.Holding, WordsLog.lock_phase}
-use Rattle.event_log.proofs.{GrantWords.phase_grants, Tickets.phase_acts, Observed.TicketOf, Observed.phase_of}
-use Rattle.layer_traits.specs.{declared.edits.Mark.Mark, GrantProtocol.GrantMayCome, GrantProtocol.SomeoneHasIt, GrantProtocol.grant_sections}
-use Rattle.layer_traits.specs.{OneLock.SomeoneInside, WordsProtocol.MayCome, WordsProtocol.edit_of, WordsProtocol.sections}
-use Rattle.layer_traits.proofs.{PlanLemmas.sections_acts, Seen.sections_allowed}
-use Rattle.spinlock.specs.OwnedLaws.{SomeoneHolds}
+use Rattle.std.proofs.Common.{arith, ◌≡◌, ℕ, ◌%◌, ◌^◌, ◌↔◌, List, [], ◌∷◌, Option, Some, None, MatchOption, ap, sym, subst, ◌∙◌}
+use Rattle.event_log.specs.declared.{ids.{CpuId.CpuId, LockId.LockId}, events.Event.Event, grants.GrantEvent.{GrantEvent, TheVariants.{Take, Peek, Give}}}
+use Rattle.event_log.specs.{Actions.{Rests, Waits, Holds, phase, acts_of}, Grants.{IsLegalGrants, acts_of_grants, grant_lock_phase}, History.IsLawful}
+use Rattle.event_log.specs.{Sections.{Section, block_after, sections_in}, WordsLog.{LockPhase, Idle, Waiting, Holding, lock_phase}}
+use Rattle.{event_log.proofs.{GrantWords.phase_grants, Tickets.phase_acts, Observed.{TicketOf, phase_of}}, layer_traits.specs.declared.edits.Mark.Mark}
+use Rattle.layer_traits.specs.{GrantProtocol.{GrantMayCome, SomeoneHasIt, grant_sections}, OneLock.SomeoneInside, WordsProtocol.{MayCome, edit_of, sections}}
+use Rattle.{layer_traits.proofs.{PlanLemmas.sections_acts, Seen.sections_allowed}, spinlock.specs.OwnedLaws.SomeoneHolds}
 
 -- who rests is outside
 pub outside_of : (s : LockPhase) → phase_of s ≡ Rests → s ≡ Idle
-outside_of Idle rests = refl
-outside_of (Waiting lock ticket) rests = absurd (cc rests)
-outside_of (Holding lock ticket) rests = absurd (cc rests)
+outside_of s rests = grind arith
 
 -- who waits has the ticket of its spot
 pub line_waiting_with : (s : LockPhase) (lock : LockId) (spot ticket : ℕ) → phase_of s ≡ Waits lock → TicketOf s spot → ticket ≡ spot % 2 ^ 64
     → s ≡ Waiting lock ticket
-line_waiting_with Idle lock spot ticket waits has is = absurd (cc waits)
-line_waiting_with (Waiting at held) lock spot ticket waits has is =
-    let one : at ≡ lock = cc waits in
-    let same : held ≡ ticket = has ∙ sym is in
-    ap (λ l. Waiting l held) one ∙ ap (Waiting lock) same
-line_waiting_with (Holding at held) lock spot ticket waits has is = absurd (cc waits)
+line_waiting_with s lock spot ticket waits has is = grind arith
 
 -- who holds a lock is inside it
 pub inside_of : (s : LockPhase) (lock : LockId) → phase_of s ≡ Holds lock → (ticket : ℕ) × (s ≡ Holding lock ticket)
-inside_of Idle lock holds = absurd (cc holds)
-inside_of (Waiting at ticket) lock holds = absurd (cc holds)
-inside_of (Holding at ticket) lock holds = let one : at ≡ lock = cc holds in (ticket, ap (λ l. Holding l ticket) one)
+inside_of s lock holds = grind arith
 
 -- the sections of a words log, as actions, are each allowed
 pub acts_lawful : {E : Type 0} (Allowed : List (Section E) → Section E → Type 0) (log : List (Event (Mark E))) → IsLawful (MayCome Allowed) log

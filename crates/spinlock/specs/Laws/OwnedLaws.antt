@@ -1,18 +1,9 @@
 -- What a machine of locks and the stages of its CPUs tell of a block is what the sections make of it.
-use Rattle.std.specs.Prelude.{◌≡◌, Bool, true, false, List, Option, Some, None, MatchOption, if◌then◌else◌, refl}
-use Rattle.std.proofs.Common.{ap, sym, ◌∙◌, subst}
-use Rattle.event_log.specs.{declared.ids.CpuId.CpuId, declared.ids.LockId.LockId, Actions.Action, Actions.Phase, Actions.Rests, Actions.Waits, Actions.Holds}
-use Rattle.event_log.specs.{Actions.AreLegal, Actions.phase, History.same_lock, Sections.block_after, Sections.sections_in}
-use Rattle.event_log.proofs.{Exclusion.is_at, Exclusion.knows, Same.same_lock_self, Same.same_lock_true}
-use Rattle.layer_traits.specs.{Owned.IsHeld, Owned.IsObserved, Plans.is_in_section, Protocol.Rules}
-use Rattle.spinlock.specs.declared.stages.TicketPhase.{TicketPhase, TheVariants.Out, TheVariants.Waiting, TheVariants.Holding}
-use Rattle.spinlock.specs.{OwnedLaws.SomeoneHolds, Stages.StageFits, Stages.held_block}
-
--- the lock that a CPU holds
-abbrev lock_held : LockId → Phase → LockId
-lock_held lock Rests = lock
-lock_held lock (Waits at) = lock
-lock_held lock (Holds at) = at
+use Rattle.std.{specs.Prelude.{◌≡◌, Bool, true, false, List, Option, Some, None, MatchOption, if◌then◌else◌, refl}, proofs.Common.{arith, ap, sym, ◌∙◌, subst}}
+use Rattle.event_log.specs.{declared.ids.{CpuId.CpuId, LockId.LockId}, Actions.{Action, Holds, AreLegal, phase}, History.same_lock}
+use Rattle.event_log.{specs.Sections.{block_after, sections_in}, proofs.{Exclusion.{is_at, knows}, Same.{same_lock_self, same_lock_true}}}
+use Rattle.{layer_traits.specs.{Owned.{IsHeld, IsObserved}, Plans.is_in_section, Protocol.Rules}, spinlock.specs.declared.stages.TicketPhase.TicketPhase}
+use Rattle.spinlock.specs.{declared.stages.TicketPhase.TheVariants.{Out, Waiting, Holding}, OwnedLaws.SomeoneHolds, Stages.{StageFits, held_block}}
 
 module _ {E B O : Type 0} (rules : Rules E B O) (opening : LockId → Option B) (acts : List (Action E)) (lock : LockId) where
   abbrev truth : Option B
@@ -25,7 +16,7 @@ module _ {E B O : Type 0} (rules : Rules E B O) (opening : LockId → Option B) 
   held_is cpu (Holding at edit block) x fits is = go (same_lock lock at) refl is
     where
       go : (b : Bool) → same_lock lock at ≡ b → (if b then Some block else None) ≡ Some x → truth ≡ Some x
-      go true same is = subst (λ l. block_after rules.edited opening l (sections_in acts) ≡ Some block) (sym (same_lock_true lock at same)) fits.2 ∙ is
+      go true same is = rw (same_lock_true lock at same) fits.2 ∙ is
       go false other is = absurd cc
 
   -- a CPU that holds a lock has its block in its hands
@@ -34,10 +25,10 @@ module _ {E B O : Type 0} (rules : Rules E B O) (opening : LockId → Option B) 
   holder_has cpu holds Out fits none = absurd (cc (holds, fits))
   holder_has cpu holds (Waiting at edit drawn) fits none = let waits = fits.0.0 in absurd (cc (holds, waits))
   holder_has cpu holds (Holding at edit block) fits none =
-      let one : lock ≡ at = ap (lock_held lock) (sym holds ∙ fits.0) in
-      let same : same_lock lock at ≡ true = subst (λ l. same_lock lock l ≡ true) one (same_lock_self lock) in
-      let held : Some block ≡ None = sym (ap (λ b. if b then Some block else None) same) ∙ none in
-      absurd (cc held)
+      let both : Holds lock ≡ Holds at = sym holds ∙ fits.0 in
+      let one : lock ≡ at = cc both in
+      let same : same_lock lock at ≡ true = rw (← one) (same_lock_self lock) in
+      let held : Some block ≡ None = rw same at none in absurd (cc held)
 
   -- what the machine and the stages tell is the truth
   pub spin_lock_shows : {P : Type 0} (ActsFor : CpuId → Type 0) (cpu_of : P → CpuId) (stage_of : P → TicketPhase E B) (home : Option B)
@@ -53,8 +44,7 @@ module _ {E B O : Type 0} (rules : Rules E B O) (opening : LockId → Option B) 
   }
     where
       by_machine : (h : Option B) → MatchOption h (SomeoneHolds lock acts) (λ block. truth ≡ Some block) → (x : B) → h ≡ Some x → truth ≡ Some x
-      by_machine None holds x is = absurd cc
-      by_machine (Some block) is x same = is ∙ same
+      by_machine h tells x is = grind arith
 
       held : SomeoneHolds lock acts → IsHeld (λ (p : P). ActsFor (cpu_of p) × StageFits rules opening acts (cpu_of p) (stage_of p)) cpu_of
           (λ d. is_in_section (phase d acts) ≡ true) (λ p. held_block lock (stage_of p))

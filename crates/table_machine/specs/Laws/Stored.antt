@@ -1,27 +1,16 @@
 -- An example, for tests alone: the words of a ticket lock that is given on by a store do what two true counts say.
 use Rattle.std.proofs.Common.{◌≢◌, ℕ, ◌≤◌, ◌∙◌, arith}
-use Rattle.event_log.specs.declared.ids.TheConstants.{CPUS}
-use Rattle.event_log.proofs.Tickets.{same_rests, next_rests}
-use Rattle.table_machine.specs.{Kinds.IsWordKind, Stored.stored_words}
-
-one_within : 1 ≤ CPUS
-one_within = omega arith
-
-none_within : 0 ≤ CPUS
-none_within = omega arith
-
-one_is_not_next : ◌≢◌ {A = ℕ} 1 0
-one_is_not_next is = omega arith
+use Rattle.{event_log.proofs.Tickets.{same_rests, next_rests}, table_machine.specs.{Kinds.IsWordKind, Stored.stored_words}}
 
 -- the words do what the counts say
 pub stored_are : IsWordKind stored_words
 stored_are = record {
-  looks_within = λ ticket. one_within;
-  gives_within = λ ticket. one_within;
-  begins = λ w first. (first 0 none_within, first 1 one_within);
-  same = λ taken given w v equal fits. (equal 0 none_within ∙ fits.0, equal 1 one_within ∙ fits.1);
+  looks_within = λ ticket. omega arith;
+  gives_within = λ ticket. omega arith;
+  begins = λ w first. (first 0 (omega arith), first 1 (omega arith));
+  same = λ taken given w v equal fits. (equal 0 (omega arith) ∙ fits.0, equal 1 (omega arith) ∙ fits.1);
   next_is = λ taken given w fits. fits.0;
-  took = λ taken given w v fits next others. (next ∙ next_rests taken (w 0) fits.0, others 1 one_within one_is_not_next ∙ fits.1);
+  took = λ taken given w v fits next others. (next ∙ next_rests taken (w 0) fits.0, others 1 (omega arith) (λ e. omega arith) ∙ fits.1);
   hits = λ taken given w fits ticket spot ahead close is. same_rests given spot (w 1) ticket ahead close fits.1 is;
-  gave = λ taken given w v fits ticket is serving others. (others 0 none_within (λ e. omega arith) ∙ fits.0, serving ∙ next_rests given ticket is);
+  gave = λ taken given w v fits ticket is serving others. (others 0 (omega arith) (λ e. omega arith) ∙ fits.0, serving ∙ next_rests given ticket is);
 }

@@ -1,5 +1,4 @@
-use Rattle.toml.specs.Data.{as_integer}
-use Rattle.boot.proofs.SeenLemmas.{so_far_none}
+use Rattle.{toml.specs.Data.as_integer, boot.proofs.SeenLemmas.so_far_none}
 use Rattle.boot.proofs.tables.integers.Goals as goal
 
 pub loop-value-init : goal.loop-value-init

@@ -1,5 +1,4 @@
-use Rattle.toml.specs.Data.{as_integer}
-use Rattle.boot.proofs.SeenLemmas.{SeenSoFar}
+use Rattle.{toml.specs.Data.as_integer, boot.proofs.SeenLemmas.SeenSoFar}
 use Rattle.boot.proofs.tables.integers.Given as goal
 
 abbrev pub invariant-loop-value : goal.invariant-loop-value

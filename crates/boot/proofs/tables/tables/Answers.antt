@@ -1,5 +1,4 @@
-use Rattle.toml.specs.Data.{as_table}
-use Rattle.boot.proofs.SeenLemmas.{so_far_none}
+use Rattle.{toml.specs.Data.as_table, boot.proofs.SeenLemmas.so_far_none}
 use Rattle.boot.proofs.tables.tables.Goals as goal
 
 pub loop-value-init : goal.loop-value-init

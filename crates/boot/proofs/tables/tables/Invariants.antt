@@ -1,6 +1,4 @@
-use Rattle.std.proofs.Common.{map}
-use Rattle.toml.specs.{Data.as_table, View.table_view}
-use Rattle.boot.proofs.SeenLemmas.{SeenSoFar}
+use Rattle.{std.proofs.Common.map, toml.specs.{Data.as_table, View.table_view}, boot.proofs.SeenLemmas.SeenSoFar}
 use Rattle.boot.proofs.tables.tables.Given as goal
 
 abbrev pub invariant-loop-value : goal.invariant-loop-value

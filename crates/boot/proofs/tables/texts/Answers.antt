@@ -1,5 +1,4 @@
-use Rattle.toml.specs.Data.{as_str}
-use Rattle.boot.proofs.SeenLemmas.{so_far_none}
+use Rattle.{toml.specs.Data.as_str, boot.proofs.SeenLemmas.so_far_none}
 use Rattle.boot.proofs.tables.texts.Goals as goal
 
 pub loop-value-init : goal.loop-value-init

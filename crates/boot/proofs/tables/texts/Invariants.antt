@@ -1,6 +1,4 @@
-use Rattle.std.proofs.Common.{map}
-use Rattle.toml.specs.Data.{as_str}
-use Rattle.boot.proofs.SeenLemmas.{SeenSoFar}
+use Rattle.{std.proofs.Common.map, toml.specs.Data.as_str, boot.proofs.SeenLemmas.SeenSoFar}
 use Rattle.boot.proofs.tables.texts.Given as goal
 
 abbrev pub invariant-loop-value : goal.invariant-loop-value

@@ -1,7 +1,5 @@
 use Rattle.std.proofs.Common.{◌≡◌, length}
-use Rattle.toml.specs.View.{table_view}
-use Rattle.boot.specs.Seen.{tasks_of}
-use Rattle.boot.proofs.TasksLemmas.{TasksSoFar}
+use Rattle.{toml.specs.View.table_view, boot.{specs.Seen.tasks_of, proofs.TasksLemmas.TasksSoFar}}
 use Rattle.boot.proofs.tasks.tasks_of.Given as goal
 
 abbrev pub invariant-loop-index : goal.invariant-loop-index

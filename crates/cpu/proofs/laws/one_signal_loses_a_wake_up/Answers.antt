@@ -1,6 +1,5 @@
 use Rattle.std.proofs.Common.{[], ◌∷◌, refl}
-use Rattle.event_log.specs.declared.entries.Kind.TheVariants.{Recv as RecvKind}
-use Rattle.cpu.specs.Table.Worked.{thread}
+use Rattle.{event_log.specs.declared.entries.Kind.TheVariants.Recv as RecvKind, cpu.specs.Table.Worked.thread}
 use Rattle.cpu.proofs.laws.one_signal_loses_a_wake_up.Goals as goal
 
 pub returns : goal.returns

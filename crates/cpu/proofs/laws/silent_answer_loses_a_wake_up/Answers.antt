@@ -1,6 +1,4 @@
-use Rattle.std.proofs.Common.{refl}
-use Rattle.event_log.specs.{declared.entries.Kind.TheVariants.RecvClosed, Messages.no_message}
-use Rattle.cpu.specs.Table.Worked.{thread}
+use Rattle.{std.proofs.Common.refl, event_log.specs.{declared.entries.Kind.TheVariants.RecvClosed, Messages.no_message}, cpu.specs.Table.Worked.thread}
 use Rattle.cpu.proofs.laws.silent_answer_loses_a_wake_up.Goals as goal
 
 pub returns : goal.returns

@@ -1,5 +1,4 @@
-use Rattle.cpu_workers.specs.Tasks.{task_of}
-use Rattle.cpu_workers.proofs.Filling.{both_are, filled_all, filled_none, filled_one, has_room}
+use Rattle.cpu_workers.{specs.Tasks.task_of, proofs.Filling.{both_are, filled_all, filled_none, filled_one, has_room}}
 use Rattle.cpu_workers.proofs.pool.all_back.Goals as goal
 
 pub loop-start-init : goal.loop-start-init

@@ -1,7 +1,5 @@
-use Rattle.std.proofs.Common.{All, map, ap, sym, subst}
-use Rattle.cpu_workers.specs.Tasks.{task_of}
-use Rattle.cpu_workers.proofs.{Filling.both_mapped, Filling.filled_all, Filling.filled_none, Filling.filled_one, Filling.has_room, Joining.all_head}
-use Rattle.cpu_workers.proofs.{Joining.all_tail}
+use Rattle.{std.proofs.Common.{All, map, ap, sym, subst}, cpu_workers.{specs.Tasks.task_of, proofs.Filling.{both_mapped, filled_all, filled_none, filled_one}}}
+use Rattle.cpu_workers.proofs.{Filling.has_room, Joining.{all_head, all_tail}}
 use Rattle.cpu_workers.proofs.pool.all_done.Goals as goal
 
 pub loop-start-init : goal.loop-start-init

@@ -1,6 +1,4 @@
-use Rattle.std.proofs.Common.{All, map, vec_capacity}
-use Rattle.cpu_workers.specs.Tasks.{task_of}
-use Rattle.cpu_workers.proofs.Filling.{Filling}
+use Rattle.{std.proofs.Common.{All, map, vec_capacity}, cpu_workers.{specs.Tasks.task_of, proofs.Filling.Filling}}
 use Rattle.cpu_workers.proofs.pool.all_done.Given as goal
 
 abbrev pub invariant-loop-start : goal.invariant-loop-start

@@ -1,5 +1,4 @@
-use Rattle.std.proofs.Common.{length, arith, sym, ◌∙◌, ◌<◌}
-use Rattle.std.proofs.lemmas.Bool.Decides.{nat_tests}
+use Rattle.std.proofs.{Common.{length, arith, sym, ◌∙◌, ◌<◌}, lemmas.Bool.Decides.nat_tests}
 use Rattle.event_log.proofs.DigitsLemmas.{is_number-empty, is_number-zero, is_number-digits}
 use Rattle.event_log.proofs.digits.is_number.Goals as goal
 

@@ -1,4 +1,4 @@
-use Rattle.std.proofs.Common.{◌<◌, ◌≡◌, length, arith, sym, ◌∙◌}
+use Rattle.std.proofs.Common.{◌≡◌, arith}
 use Rattle.event_log.proofs.DigitsLemmas.{read_digits, reads_one_more, short_stays_below}
 use Rattle.event_log.proofs.digits.leading_digits.Goals as goal
 
@@ -8,37 +8,19 @@ returns-then-not-is_ascii_digit-clause-digits c =
 
 pub overflow_mul-number : goal.overflow_mul-number
 overflow_mul-number c =
-    let text = c.args.text.now in
-    let i = c.loop-count.count in
-    let inside : i < length text = omega (arith, c.min-most.ensures, c.loop-count-test.true) in
-    let few : i < 19 = omega (arith, c.min-most.ensures, c.loop-count-test.true) in
-    omega (
-      arith,
-      short_stays_below text i c.loop-count.number c.loop-count.invariant inside few
-          (sym c.is_ascii_digit.ensures.value ∙ c.if-not-is_ascii_digit.false),
-    )
+    let below = short_stays_below c.args.text.now c.loop-count.count c.loop-count.number c.loop-count.invariant in
+    grind (arith, below, c.min-most.ensures, c.loop-count-test.true, c.is_ascii_digit.ensures.value, c.if-not-is_ascii_digit.false)
 
 pub overflow_add-number : goal.overflow_add-number
 overflow_add-number c =
-    let text = c.args.text.now in
-    let i = c.loop-count.count in
-    let inside : i < length text = omega (arith, c.min-most.ensures, c.loop-count-test.true) in
-    let few : i < 19 = omega (arith, c.min-most.ensures, c.loop-count-test.true) in
-    rw c.from.ensures (omega (
-      arith,
-      short_stays_below text i c.loop-count.number c.loop-count.invariant inside few
-          (sym c.is_ascii_digit.ensures.value ∙ c.if-not-is_ascii_digit.false),
-    ))
+    let below = short_stays_below c.args.text.now c.loop-count.count c.loop-count.number c.loop-count.invariant in
+    grind (arith, below, c.from.ensures, c.min-most.ensures, c.loop-count-test.true, c.is_ascii_digit.ensures.value, c.if-not-is_ascii_digit.false)
 
 pub loop-count-preserved : goal.loop-count-preserved
 loop-count-preserved c =
-    let text = c.args.text.now in
-    let i = c.loop-count.count in
-    let inside : i < length text = omega (arith, c.min-most.ensures, c.loop-count-test.true) in
-    let few : i < 19 = omega (arith, c.min-most.ensures, c.loop-count-test.true) in
-    let is = sym c.is_ascii_digit.ensures.value ∙ c.if-not-is_ascii_digit.false in
-    let below = short_stays_below text i c.loop-count.number c.loop-count.invariant inside few is in
-    rw c.from.ensures (reads_one_more 18446744073709551615 text i c.loop-count.number c.loop-count.invariant inside is below)
+    let below = short_stays_below c.args.text.now c.loop-count.count c.loop-count.number c.loop-count.invariant in
+    let more = reads_one_more 18446744073709551615 c.args.text.now c.loop-count.count c.loop-count.number c.loop-count.invariant in
+    rw c.from.ensures (grind (arith, below, more, c.min-most.ensures, c.loop-count-test.true, c.is_ascii_digit.ensures.value, c.if-not-is_ascii_digit.false))
 
 pub returns-clause-digits : goal.returns-clause-digits
 returns-clause-digits c =

@@ -1,5 +1,5 @@
 -- Each early return has a text that spells no number of at most `most`.
-use Rattle.std.proofs.Common.{◌+◌, ◌*◌, ◌-◌, ◌<◌, ◌≤◌, get_or, arith, sym, ◌∙◌}
+use Rattle.std.proofs.Common.{◌+◌, ◌*◌, ◌-◌, ◌≤◌, get_or, arith, sym, ◌∙◌}
 use Rattle.event_log.proofs.DigitsLemmas.{number_to-not_a_digit, number_to-too_large, reads_one_more, reads_all}
 use Rattle.event_log.proofs.digits.long_number.Goals as goal
 
@@ -10,17 +10,13 @@ returns-then-not-is_ascii_digit-clause-number c =
 
 pub returns-then-number-tenth-clause-number : goal.returns-then-number-tenth-clause-number
 returns-then-number-tenth-clause-number c =
-    let large : c.args.most < c.loop-byte.number * 10 + (get_or c.args.text.now c.loop-byte.byte-index 0 - 48) =
-    omega (arith, c.if-number-tenth.true) in
-    sym (number_to-too_large c.args.most c.args.text.now c.loop-byte.byte-index c.loop-byte.number c.loop-byte.invariant c.loop-byte-test.true
-    (sym c.is_ascii_digit.ensures.value ∙ c.if-not-is_ascii_digit.false) large)
+    let none = number_to-too_large c.args.most c.args.text.now c.loop-byte.byte-index c.loop-byte.number c.loop-byte.invariant c.loop-byte-test.true in
+    grind (arith, none, c.is_ascii_digit.ensures.value, c.if-not-is_ascii_digit.false, c.if-number-tenth.true)
 
 pub returns-then-digit-most-clause-number : goal.returns-then-digit-most-clause-number
 returns-then-digit-most-clause-number c =
-    let large : c.args.most < c.loop-byte.number * 10 + (get_or c.args.text.now c.loop-byte.byte-index 0 - 48) =
-    omega (arith, c.if-digit-most.true) in
-    sym (number_to-too_large c.args.most c.args.text.now c.loop-byte.byte-index c.loop-byte.number c.loop-byte.invariant c.loop-byte-test.true
-    (sym c.is_ascii_digit.ensures.value ∙ c.if-not-is_ascii_digit.false) large)
+    let none = number_to-too_large c.args.most c.args.text.now c.loop-byte.byte-index c.loop-byte.number c.loop-byte.invariant c.loop-byte-test.true in
+    grind (arith, none, c.is_ascii_digit.ensures.value, c.if-not-is_ascii_digit.false, c.if-digit-most.true)
 
 pub loop-byte-preserved : goal.loop-byte-preserved
 loop-byte-preserved c =

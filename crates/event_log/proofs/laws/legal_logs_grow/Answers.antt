@@ -1,5 +1,4 @@
-use Rattle.event_log.specs.WordsLog.{MayFollow}
-use Rattle.event_log.proofs.Forms.{log_push, log_last}
+use Rattle.event_log.{specs.WordsLog.MayFollow, proofs.Forms.{log_push, log_last}}
 use Rattle.event_log.proofs.laws.legal_logs_grow.Goals as goal
 
 pub returns : goal.returns

@@ -1,6 +1,4 @@
-use Rattle.std.proofs.Common.{[]}
-use Rattle.event_log.specs.Buffers.{empty_buffers}
-use Rattle.event_log.proofs.RunLemmas.{left_from, next_from, run_from_next}
+use Rattle.{std.proofs.Common.{[]}, event_log.{specs.Buffers.empty_buffers, proofs.RunLemmas.{left_from, next_from, run_from_next}}}
 use Rattle.event_log.proofs.runs.run_by_index.Goals as goal
 
 pub returns-clause-runs : goal.returns-clause-runs

@@ -1,6 +1,4 @@
-use Rattle.std.proofs.Common.{[]}
-use Rattle.event_log.specs.Buffers.{empty_buffers}
-use Rattle.event_log.proofs.RunLemmas.{op_order_from}
+use Rattle.{std.proofs.Common.{[]}, event_log.{specs.Buffers.empty_buffers, proofs.RunLemmas.op_order_from}}
 use Rattle.event_log.proofs.runs.run_has_op_order.Goals as goal
 
 pub returns : goal.returns

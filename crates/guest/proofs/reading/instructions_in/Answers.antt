@@ -1,5 +1,4 @@
-use Rattle.std.proofs.lemmas.Result.{err_from_is_err_and}
-use Rattle.guest.proofs.ProgramLemmas.{so_far_fault, so_far_all}
+use Rattle.{std.proofs.lemmas.Result.err_from_is_err_and, guest.proofs.ProgramLemmas.{so_far_fault, so_far_all}}
 use Rattle.guest.proofs.reading.instructions_in.Goals as goal
 
 pub returns-in_err-instruction-clause-instructions : goal.returns-in_err-instruction-clause-instructions

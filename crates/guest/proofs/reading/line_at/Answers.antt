@@ -1,9 +1,6 @@
 -- The pieces are those of the text between single spaces.
-use Rattle.std.proofs.Common.{◌≡◌, ◌==◌, map, ap, sym, ◌∙◌, lit<}
-use Rattle.std.specs.List.{slice_split}
-use Rattle.std.proofs.lemmas.Iterator.{Consumers.map_from_collect, Splits.YieldsList-from_str_split}
-use Rattle.guest.specs.Language.{pieces_in, line_in, at_line}
-use Rattle.guest.proofs.reading.line_at.Goals.{After-pieces}
+use Rattle.std.proofs.{Common.{◌≡◌, ◌==◌, map, ap, sym, ◌∙◌, lit<}, lemmas.Iterator.{Consumers.map_from_collect, Splits.YieldsList-from_str_split}}
+use Rattle.{std.specs.List.slice_split, guest.{specs.Language.{pieces_in, line_in, at_line}, proofs.reading.line_at.Goals.After-pieces}}
 use Rattle.guest.proofs.reading.line_at.Goals as goal
 
 -- the pieces' instruction is the line's

@@ -1,10 +1,6 @@
 use Rattle.std.proofs.Common.{◌≤◌, length, refl, ap, ◌∙◌, arith}
-use Rattle.fifo_buffer.proofs.Opening.{boots_well, caps_are}
-use Rattle.layer_traits.specs.Renaming.{viewed}
-use Rattle.layer_traits.proofs.KernelRenaming.{homes_viewed, viewed_there}
-use Rattle.event_log.specs.declared.ids.LockId.TheVariants.{Pending}
-use Rattle.queuing_lock.specs.Nested.{nested_lock_of}
-use Rattle.sleep_wakeup.specs.Nested.{state_of}
+use Rattle.{fifo_buffer.proofs.Opening.{boots_well, caps_are}, layer_traits.{specs.Renaming.viewed, proofs.KernelRenaming.{homes_viewed, viewed_there}}}
+use Rattle.{event_log.specs.declared.ids.LockId.TheVariants.Pending, queuing_lock.specs.Nested.nested_lock_of, sleep_wakeup.specs.Nested.state_of}
 use Rattle.ipc_calls.proofs.tower.part_over.Goals as goal
 
 -- nothing was done in the machine, and its locks are the tower's

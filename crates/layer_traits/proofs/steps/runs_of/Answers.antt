@@ -1,5 +1,4 @@
-use Rattle.std.proofs.Common.{refl}
-use Rattle.layer_traits.proofs.StepLemmas.{begin_part}
+use Rattle.{std.proofs.Common.refl, layer_traits.proofs.StepLemmas.begin_part}
 use Rattle.layer_traits.proofs.steps.runs_of.Goals as goal
 
 pub loop-own-preserved : goal.loop-own-preserved

@@ -1,8 +1,6 @@
 use Rattle.std.proofs.Common.{◌+◌, ◌*◌, ◌∙◌, [], ap, arith, length, sym, zero-add}
-use Rattle.event_log.specs.{Actions.phase, Sections.sections_in}
-use Rattle.mctower.specs.Count.{after_rounds, sections_at}
-use Rattle.cpu_workers.specs.declared.counting.TheConstants.{NUMBER}
-use Rattle.cpu_workers.proofs.CountMachines.{gives_are_sections}
+use Rattle.{event_log.specs.{Actions.phase, Sections.sections_in}, mctower.specs.Count.{after_rounds, sections_at}}
+use Rattle.cpu_workers.{specs.declared.counting.TheConstants.NUMBER, proofs.CountMachines.gives_are_sections}
 use Rattle.mctower.proofs.count.count_rounds.Goals as goal
 
 pub rounds-requires-clause-ready : goal.rounds-requires-clause-ready

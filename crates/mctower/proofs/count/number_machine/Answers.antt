@@ -1,7 +1,5 @@
-use Rattle.std.proofs.Common.{◌≡◌, ◌∷◌, [], ◌∙◌, ap, rules}
-use Rattle.std.proofs.lemmas.Result.{IfOk-weaker}
-use Rattle.layer_traits.specs.OneLock.{opened}
-use Rattle.cpu_workers.specs.declared.counting.TheConstants.{NUMBER}
+use Rattle.std.proofs.{Common.{◌≡◌, ◌∷◌, [], ◌∙◌, ap, rules}, lemmas.Result.IfOk-weaker}
+use Rattle.{layer_traits.specs.OneLock.opened, cpu_workers.specs.declared.counting.TheConstants.NUMBER}
 use Rattle.mctower.proofs.count.number_machine.Goals as goal
 
 pub returns-clause-opening : goal.returns-clause-opening

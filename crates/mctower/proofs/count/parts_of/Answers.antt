@@ -1,8 +1,5 @@
-use Rattle.std.proofs.Common.{◌+◌, ◌∷◌, [], ◌∙◌, ap, length, subst, sym}
-use Rattle.std.proofs.lemmas.List.{length-append}
-use Rattle.event_log.specs.declared.ids.CpuId.{CpuId}
-use Rattle.mctower.specs.Count.{AreReady}
-use Rattle.mctower.proofs.CountLemmas.{one_part_more}
+use Rattle.std.proofs.{Common.{◌+◌, ◌∷◌, [], ◌∙◌, ap, length, subst, sym}, lemmas.List.length-append}
+use Rattle.{event_log.specs.declared.ids.CpuId.CpuId, mctower.{specs.Count.AreReady, proofs.CountLemmas.one_part_more}}
 use Rattle.mctower.proofs.count.parts_of.Goals as goal
 
 pub loop-number-preserved : goal.loop-number-preserved

@@ -1,6 +1,5 @@
 use Rattle.std.proofs.Common.{◌≡◌, ◌<◌, length}
-use Rattle.event_log.specs.declared.ids.CpuId.{CpuId}
-use Rattle.mctower.specs.Count.{AreReady}
+use Rattle.{event_log.specs.declared.ids.CpuId.CpuId, mctower.specs.Count.AreReady}
 use Rattle.mctower.proofs.count.parts_of.Given as goal
 
 -- there is a part for each CPU before this number

@@ -1,6 +1,5 @@
 use Rattle.std.proofs.Common.{◌≡◌, ◌+◌, ◌*◌, ◌<◌, ◌≤◌, length}
-use Rattle.event_log.specs.{declared.ids.CpuId.CpuId, declared.ids.TheConstants.CPUS, Actions.Rests, Actions.phase}
-use Rattle.mctower.specs.Count.{AreReady, after_round, sections_at}
+use Rattle.{event_log.specs.{declared.ids.{CpuId.CpuId, TheConstants.CPUS}, Actions.{Rests, phase}}, mctower.specs.Count.{AreReady, after_round, sections_at}}
 use Rattle.mctower.proofs.count.round.Given as goal
 
 -- the parts before the index have done their sections, and all rest

@@ -1,9 +1,6 @@
 -- proofs/faults/value_shown/Answers.antt
-use Rattle.std.proofs.Common.{◌∙◌, ap, refl}
-use Rattle.std.specs.Borrow.{Bor}
-use Rattle.clap.specs.Matches.{found_of}
-use Rattle.mctower.specs.Print.{shown_line}
-use Rattle.mctower.proofs.FaultLemmas.{value_found, Text}
+use Rattle.std.{proofs.Common.{◌∙◌, ap, refl}, specs.Borrow.Bor}
+use Rattle.{clap.specs.Matches.found_of, mctower.{specs.Print.shown_line, proofs.FaultLemmas.{value_found, Text}}}
 use Rattle.mctower.proofs.faults.value_shown.Goals as goal
 
 pub returns : goal.returns

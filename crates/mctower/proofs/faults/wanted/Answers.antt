@@ -1,6 +1,5 @@
 -- proofs/faults/wanted/Answers.antt
-use Rattle.std.proofs.Common.{refl}
-use Rattle.std.specs.Fmt.{digits}
+use Rattle.std.{proofs.Common.refl, specs.Fmt.digits}
 use Rattle.mctower.proofs.faults.wanted.Goals as goal
 
 pub returns-in-Cpus : goal.returns-in-Cpus

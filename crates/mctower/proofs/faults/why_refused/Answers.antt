@@ -1,5 +1,4 @@
-use Rattle.std.proofs.Common.{rules}
-use Rattle.mctower.proofs.FaultLemmas.{shown_so}
+use Rattle.{std.proofs.Common.rules, mctower.proofs.FaultLemmas.shown_so}
 use Rattle.mctower.proofs.faults.why_refused.Goals as goal
 
 pub returns-in_ok-named-in_default-kind : goal.returns-in_ok-named-in_default-kind

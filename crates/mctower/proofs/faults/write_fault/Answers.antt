@@ -1,6 +1,6 @@
 -- proofs/faults/write_fault/Answers.antt
 use Rattle.std.proofs.Common.{◌∙◌, ap, sym, subst, map, codes}
-use Rattle.mctower.specs.{Faults.fault_lines, Faults.fault_text, Output.IsTold, Output.between}
+use Rattle.mctower.specs.{Faults.{fault_lines, fault_text}, Output.{IsTold, between}}
 use Rattle.mctower.proofs.faults.write_fault.Goals as goal
 
 pub returns-in-NotText : goal.returns-in-NotText

@@ -1,7 +1,5 @@
-use Rattle.std.proofs.Common.{◌∙◌, ap, sym, option_map}
-use Rattle.std.specs.Borrow.{Bor}
-use Rattle.clap.specs.Matches.{found_of}
-use Rattle.mctower.proofs.LineLemmas.{lock_found, Text}
+use Rattle.std.{proofs.Common.{◌∙◌, ap, sym, option_map}, specs.Borrow.Bor}
+use Rattle.{clap.specs.Matches.found_of, mctower.proofs.LineLemmas.{lock_found, Text}}
 use Rattle.mctower.proofs.line.lock_given.Goals as goal
 
 pub returns-in-Some : goal.returns-in-Some

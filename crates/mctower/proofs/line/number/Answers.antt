@@ -1,5 +1,4 @@
-use Rattle.std.proofs.Common.{arith}
-use Rattle.mctower.proofs.LineLemmas.{number_taken, number_refused}
+use Rattle.{std.proofs.Common.arith, mctower.proofs.LineLemmas.{number_taken, number_refused}}
 use Rattle.mctower.proofs.line.number.Goals as goal
 
 pub returns-then-n-most : goal.returns-then-n-most

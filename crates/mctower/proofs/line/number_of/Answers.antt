@@ -1,7 +1,5 @@
-use Rattle.std.proofs.Common.{◌∙◌, ap, sym, option_map}
-use Rattle.std.specs.Borrow.{Bor}
-use Rattle.clap.specs.Matches.{found_of}
-use Rattle.mctower.proofs.LineLemmas.{number_found, Text}
+use Rattle.std.{proofs.Common.{◌∙◌, ap, sym, option_map}, specs.Borrow.Bor}
+use Rattle.{clap.specs.Matches.found_of, mctower.proofs.LineLemmas.{number_found, Text}}
 use Rattle.mctower.proofs.line.number_of.Goals as goal
 
 pub returns-in_err-get_str : goal.returns-in_err-get_str

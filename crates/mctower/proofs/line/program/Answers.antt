@@ -1,8 +1,5 @@
-use Rattle.std.proofs.Common.{◌∙◌, ap}
-use Rattle.std.proofs.lemmas.Result.{IfOk-weaker}
-use Rattle.clap.specs.Simple.{app_of_fields, on_top}
-use Rattle.mctower.specs.Line.{program, with_version, without_binary_name}
-use Rattle.mctower.proofs.LineLemmas.{grown}
+use Rattle.std.proofs.{Common.{◌∙◌, ap}, lemmas.Result.IfOk-weaker}
+use Rattle.{clap.specs.Simple.{app_of_fields, on_top}, mctower.{specs.Line.{program, with_version, without_binary_name}, proofs.LineLemmas.grown}}
 use Rattle.mctower.proofs.line.program.Goals as goal
 
 pub returns : goal.returns

@@ -1,7 +1,5 @@
-use Rattle.std.proofs.Common.{◌∙◌, Some, ap, option_map, sym}
-use Rattle.std.specs.Borrow.{Bor}
-use Rattle.clap.specs.Matches.{found_of}
-use Rattle.mctower.proofs.LineLemmas.{schedule_found, Text}
+use Rattle.std.{proofs.Common.{◌∙◌, Some, ap, option_map, sym}, specs.Borrow.Bor}
+use Rattle.{clap.specs.Matches.found_of, mctower.proofs.LineLemmas.{schedule_found, Text}}
 use Rattle.mctower.proofs.line.run_order.Goals as goal
 
 pub returns-in_ok-from_str-in-Some : goal.returns-in_ok-from_str-in-Some

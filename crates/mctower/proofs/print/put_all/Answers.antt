@@ -1,5 +1,4 @@
-use Rattle.std.proofs.Common.{sym}
-use Rattle.tracer.proofs.SinkLemmas.{failed_in}
+use Rattle.{std.proofs.Common.sym, tracer.proofs.SinkLemmas.failed_in}
 use Rattle.mctower.proofs.print.put_all.Goals as goal
 
 pub returns-in_err-put-clause-out : goal.returns-in_err-put-clause-out

@@ -1,5 +1,4 @@
-use Rattle.std.proofs.Common.{◌≡◌, take, false}
-use Rattle.std.specs.{List.flat_map, Io.KnownBytes.Appends}
+use Rattle.std.{proofs.Common.{◌≡◌, take, false}, specs.{List.flat_map, Io.KnownBytes.Appends}}
 use Rattle.tracer.specs.Sinks.{has_failed, writer_of}
 use Rattle.mctower.proofs.print.put_all.Given as goal
 

@@ -1,7 +1,6 @@
 use Rattle.std.proofs.Common.{◌≡◌, ℕ, suc, ◌+◌, ◌∷◌, ◌++◌, [], Option, length, sym, ap, ◌∙◌, arith}
-use Rattle.layer_traits.specs.declared.steps.Reason.{Reason}
-use Rattle.cpu.specs.{Claims.listed, Systems.halted_in}
-use Rattle.cpu.proofs.{ListReads.listed_length, PlanGuests.listed_more}
+use Rattle.{layer_traits.specs.declared.steps.Reason.Reason, cpu.{specs.{Claims.listed, Systems.halted_in}, proofs.ListReads.listed_length}}
+use Rattle.cpu.proofs.PlanGuests.{listed_more}
 use Rattle.mctower.proofs.reading.halted_of.Goals as goal
 
 pub push-requires : goal.push-requires

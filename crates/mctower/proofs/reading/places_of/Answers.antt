@@ -1,7 +1,5 @@
-use Rattle.std.proofs.Common.{◌∙◌, arith}
-use Rattle.std.proofs.lemmas.List.{length-set}
-use Rattle.cpu.specs.Claims.{IsPlaceOf}
-use Rattle.mctower.proofs.ReadingLemmas.{read_more}
+use Rattle.std.proofs.{Common.{◌∙◌, arith}, lemmas.List.length-set}
+use Rattle.{cpu.specs.Claims.IsPlaceOf, mctower.proofs.ReadingLemmas.read_more}
 use Rattle.mctower.proofs.reading.places_of.Goals as goal
 
 pub loop-t-preserved : goal.loop-t-preserved

@@ -1,7 +1,5 @@
 use Rattle.std.proofs.Common.{◌≡◌, ℕ, ◌<◌, get_or, length}
-use Rattle.event_log.specs.declared.ids.TheConstants.{THREADS}
-use Rattle.layer_traits.specs.declared.calls.Place.{Place}
-use Rattle.cpu.specs.Claims.{IsPlaceOf}
+use Rattle.{event_log.specs.declared.ids.TheConstants.THREADS, layer_traits.specs.declared.calls.Place.Place, cpu.specs.Claims.IsPlaceOf}
 use Rattle.mctower.proofs.reading.places_of.Given as goal
 
 abbrev pub invariant-loop-t : goal.invariant-loop-t

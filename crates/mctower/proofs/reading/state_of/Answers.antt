@@ -1,7 +1,5 @@
-use Rattle.std.proofs.Common.{ap, ◌∙◌, subst, arith}
-use Rattle.std.proofs.lemmas.List.{length-take-le}
-use Rattle.cpu.specs.{Claims.IsPlaceOf, Claims.listed, Systems.halted_in}
-use Rattle.mctower.proofs.ReadingLemmas.{read_front}
+use Rattle.std.proofs.{Common.{ap, ◌∙◌, subst, arith}, lemmas.List.length-take-le}
+use Rattle.{cpu.specs.{Claims.{IsPlaceOf, listed}, Systems.halted_in}, mctower.proofs.ReadingLemmas.read_front}
 use Rattle.mctower.proofs.reading.state_of.Goals as goal
 
 pub returns : goal.returns

@@ -1,6 +1,5 @@
 use Rattle.std.proofs.Common.{◌≡◌, take}
-use Rattle.tracer.specs.Gather.{traces_in}
-use Rattle.cpu.specs.Claims.{traces_of}
+use Rattle.{tracer.specs.Gather.traces_in, cpu.specs.Claims.traces_of}
 use Rattle.mctower.proofs.run.traces.Given as goal
 
 abbrev pub invariant-loop-cpu : goal.invariant-loop-cpu

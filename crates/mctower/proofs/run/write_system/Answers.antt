@@ -1,9 +1,6 @@
 use Rattle.std.proofs.Common.{◌≡◌, List, length, ap, sym, ◌∙◌, subst, map}
-use Rattle.event_log.specs.{declared.entries.Entry.Entry, Messages.Message}
-use Rattle.tracer.specs.Gather.{traces_in}
-use Rattle.cpu.specs.Claims.{traces_of}
-use Rattle.mctower.specs.{Output.between, Texts.HaveText, Texts.Writes}
-use Rattle.mctower.proofs.SpellingLemmas.{contents_length, system_has}
+use Rattle.{event_log.specs.{declared.entries.Entry.Entry, Messages.Message}, tracer.specs.Gather.traces_in, cpu.specs.Claims.traces_of}
+use Rattle.mctower.{specs.{Output.between, Texts.{HaveText, Writes}}, proofs.SpellingLemmas.{contents_length, system_has}}
 use Rattle.mctower.proofs.run.write_system.Goals as goal
 
 pub contents-left-requires-clause-all : goal.contents-left-requires-clause-all

@@ -1,7 +1,6 @@
 -- One digit, two or three, read one behind another.
 use Rattle.std.proofs.Common.{◌≢◌, ◌+◌, ◌*◌, ◌≤◌, get_or, refl, arith}
-use Rattle.event_log.proofs.DigitsLemmas.{ReadsUpTo}
-use Rattle.mctower.proofs.ScheduleLemmas.{digit_more, digit_small, first_digit, front_item}
+use Rattle.{event_log.proofs.DigitsLemmas.ReadsUpTo, mctower.proofs.ScheduleLemmas.{digit_more, digit_small, first_digit, front_item}}
 use Rattle.mctower.proofs.schedule.cpu_digits.Goals as goal
 
 pub returns-then-is_comma_at-clause-item : goal.returns-then-is_comma_at-clause-item

@@ -1,7 +1,5 @@
-use Rattle.std.proofs.Common.{◌≡◌, ◌≤◌, ◌+◌, length, option_map}
-use Rattle.std.specs.{List.slice_split, Option.option_map_or}
-use Rattle.mctower.specs.{Schedule.is_comma, Schedule.schedule_pieces, Schedule.steps_in, declared.schedule.TheConstants.MOST_STEPS}
-use Rattle.mctower.proofs.ScheduleLemmas.{after}
+use Rattle.std.{proofs.Common.{◌≡◌, ◌≤◌, ◌+◌, length, option_map}, specs.{List.slice_split, Option.option_map_or}}
+use Rattle.mctower.{specs.{Schedule.{is_comma, schedule_pieces, steps_in}, declared.schedule.TheConstants.MOST_STEPS}, proofs.ScheduleLemmas.after}
 use Rattle.mctower.proofs.schedule.read_steps.Given as goal
 
 -- the steps so far are those of the items before the rest, and no more than a schedule may have

@@ -1,10 +1,6 @@
 -- The digits are the first item, and a text may be cut behind a comma.
-use Rattle.std.proofs.Common.{◌≡◌, ◌+◌, ◌<◌, ◌∷◌, ◌∙◌, ℕ, List, length, get_or, drop, option_map, ap, arith, sym}
-use Rattle.std.specs.{List.slice_split}
-use Rattle.std.proofs.lemmas.{Str.IsCharBoundary-after_ascii}
-use Rattle.event_log.specs.declared.ids.CpuId.{CpuId}
-use Rattle.mctower.specs.{Schedule.is_comma, Schedule.steps_in}
-use Rattle.mctower.proofs.ScheduleLemmas.{step_cut}
+use Rattle.std.proofs.{Common.{◌≡◌, ◌+◌, ◌<◌, ◌∷◌, ◌∙◌, ℕ, List, length, get_or, drop, option_map, ap, arith, sym}, lemmas.Str.IsCharBoundary-after_ascii}
+use Rattle.{std.specs.List.slice_split, event_log.specs.declared.ids.CpuId.CpuId, mctower.{specs.Schedule.{is_comma, steps_in}, proofs.ScheduleLemmas.step_cut}}
 use Rattle.mctower.proofs.schedule.single_step.Goals as goal
 
 pub range_from-requires : goal.range_from-requires

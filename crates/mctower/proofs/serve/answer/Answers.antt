@@ -1,6 +1,6 @@
 use Rattle.std.proofs.Common.{◌≡◌, ◌∙◌, ap, sym, subst, map, option_map, string_bytes, List, Option, Some}
-use Rattle.event_log.specs.declared.ids.CpuId.{CpuId}
-use Rattle.mctower.specs.{Output.between, Line.Ghost, Line.ghost_by, Line.order_of, Line.run, Serve.RunsAsked, Serve.Serves, Serve.steps_asked}
+use Rattle.{event_log.specs.declared.ids.CpuId.CpuId, mctower.specs.{Output.between, Line.{Ghost, ghost_by, order_of, run}, Serve.{RunsAsked, Serves}}}
+use Rattle.mctower.specs.Serve.{steps_asked}
 use Rattle.mctower.proofs.serve.answer.Goals as goal
 
 -- src/serve.rt:221:1

@@ -1,17 +1,10 @@
-use Rattle.std.proofs.Common.{◌≡◌, Bool, List, [], Result, Ok, Err, true, false, refl, sym, ap, subst, inl, inr, ◌⊎◌}
-use Rattle.std.specs.Prelude.{if◌then◌else◌}
-use Rattle.std.specs.Io.KnownBytes.{Appends}
-use Rattle.std.proofs.lemmas.List.{append-nil}
-use Rattle.event_log.specs.declared.ids.CpuId.{CpuId}
-use Rattle.boot.specs.{declared.refusals.BootError.BootError, Plan.BootPlan, Plan.plan_of}
-use Rattle.tracer.specs.Sinks.{Outs}
-use Rattle.tracer.proofs.SinkLemmas.{all_out, outs_then}
-use Rattle.mctower.specs.declared.refusals.Refusal.{Refusal, TheVariants.WriteFault, TheVariants.Plan as BadPlan}
-use Rattle.cpu.specs.Claims.{Shown}
-use Rattle.mctower.specs.{declared.serve.Done.Done, declared.serve.Done.TheVariants.Ran, declared.states.State.State, State.IsStateOf, Running.IsRunOf}
-use Rattle.mctower.specs.{Running.NoCondition, Running.RunsOn, Running.Tells, Output.Output, Output.between, Serve.OfPlan, Serve.RefusedBy, Serve.RunsPlan}
-use Rattle.mctower.specs.{Serve.ReportsRun, Refusals.from_fault, Refusals.lacks_memory, declared.run.Fault.Fault}
-use Rattle.mctower.proofs.TabledLemmas.{state_of_run}
+use Rattle.std.proofs.{Common.{◌≡◌, Bool, List, [], Result, Ok, Err, true, false, refl, sym, ap, subst, inl, inr, ◌⊎◌}, lemmas.List.append-nil}
+use Rattle.std.specs.{Prelude.if◌then◌else◌, Io.KnownBytes.Appends}
+use Rattle.{event_log.specs.declared.ids.CpuId.CpuId, boot.specs.{declared.refusals.BootError.BootError, Plan.{BootPlan, plan_of}}, tracer.specs.Sinks.Outs}
+use Rattle.{tracer.proofs.SinkLemmas.{all_out, outs_then}, mctower.specs.declared.refusals.Refusal.{Refusal, TheVariants.{WriteFault, Plan as BadPlan}}}
+use Rattle.mctower.specs.{declared.{serve.Done.{Done, TheVariants.Ran}, states.State.State, run.Fault.Fault}, State.IsStateOf, Running.{IsRunOf, NoCondition}}
+use Rattle.mctower.specs.{Running.{RunsOn, Tells}, Output.{Output, between}, Serve.{OfPlan, RefusedBy, RunsPlan, ReportsRun}, Refusals.from_fault}
+use Rattle.{mctower.{specs.Refusals.lacks_memory, proofs.TabledLemmas.state_of_run}, cpu.specs.Claims.Shown}
 use Rattle.mctower.specs.declared.run.Fault.TheVariants as run
 use Rattle.mctower.proofs.serve.run_bytes.Goals as goal
 

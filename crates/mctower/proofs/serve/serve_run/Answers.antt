@@ -1,5 +1,4 @@
-use Rattle.std.proofs.Common.{inr, subst}
-use Rattle.mctower.specs.{Output.between, Serve.OfBytes, Serve.RunsPlan}
+use Rattle.{std.proofs.Common.{inr, subst}, mctower.specs.{Output.between, Serve.{OfBytes, RunsPlan}}}
 use Rattle.mctower.proofs.serve.serve_run.Goals as goal
 
 pub returns-clause-runs : goal.returns-clause-runs

@@ -1,5 +1,4 @@
-use Rattle.std.proofs.Common.{None, sym}
-use Rattle.tracer.proofs.{SinkLemmas.all_out, LineLemmas.numbered_out, LineLemmas.numbered_failed}
+use Rattle.{std.proofs.Common.{None, sym}, tracer.proofs.{SinkLemmas.all_out, LineLemmas.{numbered_out, numbered_failed}}}
 use Rattle.mctower.specs.StateLines.{halted_pieces}
 use Rattle.mctower.proofs.states.put_cpus.Goals as goal
 

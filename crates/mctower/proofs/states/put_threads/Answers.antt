@@ -1,7 +1,5 @@
-use Rattle.std.proofs.Common.{sym}
-use Rattle.layer_traits.specs.declared.calls.Place.TheVariants.{Running}
-use Rattle.tracer.proofs.{SinkLemmas.all_out, LineLemmas.numbered_out, LineLemmas.numbered_failed}
-use Rattle.mctower.specs.StateLines.{thread_pieces}
+use Rattle.{std.proofs.Common.sym, layer_traits.specs.declared.calls.Place.TheVariants.Running, tracer.proofs.{SinkLemmas.all_out, LineLemmas.numbered_out}}
+use Rattle.{tracer.proofs.LineLemmas.numbered_failed, mctower.specs.StateLines.thread_pieces}
 use Rattle.mctower.proofs.states.put_threads.Goals as goal
 
 pub loop-t-preserved : goal.loop-t-preserved

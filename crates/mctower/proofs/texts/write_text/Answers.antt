@@ -1,9 +1,7 @@
-use Rattle.std.proofs.Common.{◌<◌, List, ℕ, length, get_or, ap, refl, sym, ◌∙◌, subst}
-use Rattle.std.specs.Prelude.{Err}
-use Rattle.event_log.specs.{declared.entries.Entry.Entry, Messages.IsMessage}
-use Rattle.tracer.specs.Gather.{traces_in, IsOrder, TakesFirstReady}
-use Rattle.mctower.specs.{Plans.from_gather, declared.run.Fault.TheVariants.WriteFault}
-use Rattle.mctower.proofs.SpellingLemmas.{err_writes, gather_refused, out_so, spelled_so}
+use Rattle.std.{proofs.Common.{◌<◌, List, ℕ, length, get_or, ap, refl, sym, ◌∙◌, subst}, specs.Prelude.Err}
+use Rattle.{event_log.specs.{declared.entries.Entry.Entry, Messages.IsMessage}, tracer.specs.Gather.{traces_in, IsOrder, TakesFirstReady}}
+use Rattle.mctower.{specs.{Plans.from_gather, declared.run.Fault.TheVariants.WriteFault}, proofs.SpellingLemmas.{err_writes, gather_refused, out_so}}
+use Rattle.mctower.proofs.SpellingLemmas.{spelled_so}
 use Rattle.mctower.proofs.texts.write_text.Goals as goal
 
 pub returns-in_err-order : goal.returns-in_err-order

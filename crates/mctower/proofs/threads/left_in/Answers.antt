@@ -1,10 +1,6 @@
-use Rattle.std.proofs.Common.{◌≡◌, ℕ, suc, ◌+◌, ◌∷◌, ◌++◌, [], List, length, map, sym, ap, ◌∙◌, arith}
-use Rattle.std.proofs.lemmas.List.{length-map}
-use Rattle.event_log.specs.Messages.{Message}
-use Rattle.layer_traits.proofs.PlanRenaming.{map-append}
-use Rattle.cpu.specs.Claims.{buffer_at, listed}
-use Rattle.cpu.proofs.{ListReads.listed_length, PlanGuests.listed_more}
-use Rattle.cpu_workers.specs.Seating.{items_of_block}
+use Rattle.std.proofs.{Common.{◌≡◌, ℕ, suc, ◌+◌, ◌∷◌, ◌++◌, [], List, length, map, sym, ap, ◌∙◌, arith}, lemmas.List.length-map}
+use Rattle.{event_log.specs.Messages.Message, layer_traits.proofs.PlanRenaming.map-append, cpu.specs.Claims.{buffer_at, listed}}
+use Rattle.{cpu.proofs.{ListReads.listed_length, PlanGuests.listed_more}, cpu_workers.specs.Seating.items_of_block}
 use Rattle.mctower.proofs.threads.left_in.Goals as goal
 
 pub push-requires : goal.push-requires

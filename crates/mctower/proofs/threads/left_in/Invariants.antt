@@ -1,6 +1,5 @@
 use Rattle.std.proofs.Common.{◌≡◌, map}
-use Rattle.cpu.specs.Claims.{buffer_at, listed}
-use Rattle.cpu_workers.specs.Seating.{items_of_block}
+use Rattle.{cpu.specs.Claims.{buffer_at, listed}, cpu_workers.specs.Seating.items_of_block}
 use Rattle.mctower.proofs.threads.left_in.Given as goal
 
 abbrev pub invariant-loop-buffer : goal.invariant-loop-buffer

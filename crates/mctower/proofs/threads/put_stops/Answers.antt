@@ -1,7 +1,5 @@
-use Rattle.std.proofs.Common.{sym}
-use Rattle.tracer.proofs.{SinkLemmas.all_out, LineLemmas.numbered_out, LineLemmas.numbered_failed}
-use Rattle.cpu_workers.specs.declared.workers.stops.Stop.TheVariants.{AllEnded}
-use Rattle.mctower.specs.Threads.{stop_pieces}
+use Rattle.{std.proofs.Common.sym, tracer.proofs.{SinkLemmas.all_out, LineLemmas.{numbered_out, numbered_failed}}}
+use Rattle.{cpu_workers.specs.declared.workers.stops.Stop.TheVariants.AllEnded, mctower.specs.Threads.stop_pieces}
 use Rattle.mctower.proofs.threads.put_stops.Goals as goal
 
 pub loop-c-preserved : goal.loop-c-preserved

@@ -1,7 +1,5 @@
-use Rattle.std.proofs.Common.{◌≡◌, take, false}
-use Rattle.std.specs.{List.flat_map, Io.KnownBytes.Appends}
-use Rattle.tracer.specs.{Sinks.has_failed, Sinks.writer_of, TraceText.text_line, TraceText.numbered}
-use Rattle.mctower.specs.Threads.{stop_pieces}
+use Rattle.std.{proofs.Common.{◌≡◌, take, false}, specs.{List.flat_map, Io.KnownBytes.Appends}}
+use Rattle.{tracer.specs.{Sinks.{has_failed, writer_of}, TraceText.{text_line, numbered}}, mctower.specs.Threads.stop_pieces}
 use Rattle.mctower.proofs.threads.put_stops.Given as goal
 
 -- the lines of the CPUs before this one are out

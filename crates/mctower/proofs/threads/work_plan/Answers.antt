@@ -1,10 +1,6 @@
 use Rattle.std.proofs.Common.{inr, ℕ, length, map, Ok, Err, refl, ap, sym, ◌∙◌, subst}
-use Rattle.boot.specs.Plan.{plan_of}
-use Rattle.tracer.specs.Gather.{traces_in}
-use Rattle.cpu.specs.Claims.{buffer_at, listed}
-use Rattle.cpu_workers.specs.Seating.{items_of_block}
-use Rattle.mctower.specs.{Output.between, Serve.WorksPlan, Texts.HaveText, Texts.Writes}
-use Rattle.mctower.proofs.ThreadsLemmas.{not_written, of_read, report_has, worked}
+use Rattle.{boot.specs.Plan.plan_of, tracer.specs.Gather.traces_in, cpu.specs.Claims.{buffer_at, listed}, cpu_workers.specs.Seating.items_of_block}
+use Rattle.mctower.{specs.{Output.between, Serve.WorksPlan, Texts.{HaveText, Writes}}, proofs.ThreadsLemmas.{not_written, of_read, report_has, worked}}
 use Rattle.mctower.proofs.threads.work_plan.Goals as goal
 
 pub write_text-requires-clause-text : goal.write_text-requires-clause-text

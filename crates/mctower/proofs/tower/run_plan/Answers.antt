@@ -1,7 +1,4 @@
-use Rattle.std.proofs.Common.{refl}
-use Rattle.boot.specs.Plan.{plan_of}
-use Rattle.mctower.specs.{Output.between, Plans.from_boot}
-use Rattle.mctower.proofs.Unguarded.{fault_told, unread_text}
+use Rattle.{std.proofs.Common.refl, boot.specs.Plan.plan_of, mctower.{specs.{Output.between, Plans.from_boot}, proofs.Unguarded.{fault_told, unread_text}}}
 use Rattle.mctower.proofs.tower.run_plan.Goals as goal
 
 pub returns-in_err-boot : goal.returns-in_err-boot

@@ -1,11 +1,8 @@
-use Rattle.std.specs.Prelude.{◌≡◌, Bool, true, false, ◌||◌, List, [], ◌∷◌, length, nat_lt, is_some, if◌then◌else◌}
-use Rattle.std.proofs.Common.{ap, refl, subst}
-use Rattle.event_log.specs.declared.ids.Tid.{Tid}
-use Rattle.thread_blocks.specs.Queues.{first}
-use Rattle.layer_traits.specs.declared.{locked.Side.Side, locked.Side.TheVariants.Receivers, locked.Side.TheVariants.Senders, sleeps.Wake.TheVariants.Nobody}
-use Rattle.plain_layers.specs.{declared.attempts.Ask.Ask, declared.attempts.Ask.TheVariants.Send, declared.attempts.Ask.TheVariants.Receive}
-use Rattle.plain_layers.specs.{declared.attempts.Ask.TheVariants.Close, Attempts.PlainState, Attempts.allows, Attempts.far_side, Attempts.leaving}
-use Rattle.plain_layers.specs.{Attempts.attempt_side, Attempts.waiting_on, Attempts.waking_by}
+use Rattle.std.{specs.Prelude.{◌≡◌, Bool, true, false, ◌||◌, List, [], ◌∷◌, length, nat_lt, is_some, if◌then◌else◌}, proofs.Common.{ap, refl, subst}}
+use Rattle.{event_log.specs.declared.ids.Tid.Tid, thread_blocks.specs.Queues.first, layer_traits.specs.declared.locked.Side.{Side, TheVariants.Receivers}}
+use Rattle.{layer_traits.specs.declared.{locked.Side.TheVariants.Senders, sleeps.Wake.TheVariants.Nobody}, plain_layers.specs.declared.attempts.Ask.Ask}
+use Rattle.plain_layers.specs.{declared.attempts.Ask.TheVariants.{Send, Receive, Close}, Attempts.{PlainState, allows, far_side, leaving, attempt_side}}
+use Rattle.plain_layers.specs.Attempts.{waiting_on, waking_by}
 use Rattle.plain_layers.proofs.attempts.closed_buffers_let_all_go.Goals as goal
 
 goes : (ask : Ask) (x : PlainState) → x.closed ≡ true → allows ask x ≡ true

@@ -1,6 +1,5 @@
 use Rattle.std.proofs.Common.{◌≡◌, ◌≢◌, ◌+◌, ◌≤◌, ◌-◌}
-use Rattle.layer_traits.specs.BufferLaw.{MayPollCall, call_state_of}
-use Rattle.plain_layers.proofs.Rows.{GoesOn}
+use Rattle.{layer_traits.specs.BufferLaw.{MayPollCall, call_state_of}, plain_layers.proofs.Rows.GoesOn}
 use Rattle.plain_layers.proofs.buffer_tests.polls.Given as goal
 
 abbrev pub invariant-loop-done : goal.invariant-loop-done

@@ -1,9 +1,7 @@
 use Rattle.std.proofs.Common.{rules, ◌≡◌, Some, None, sym, ◌∙◌, subst}
-use Rattle.event_log.specs.declared.ids.LockId.TheVariants.{Buffer}
-use Rattle.layer_traits.specs.{Conditions.cv_rules, QLockLaw.lock_kernel, QLocking.IsOwners, QLocking.lock_after, QLocking.lock_caller, Payloads.cv_meant}
-use Rattle.layer_traits.specs.{QueueBlocks.inner, Queues.buffer_sections}
-use Rattle.plain_layers.specs.LockSections.{call_alone}
-use Rattle.plain_layers.proofs.CondSectionLemmas.{may_begin, owner_told}
+use Rattle.{event_log.specs.declared.ids.LockId.TheVariants.Buffer, layer_traits.specs.{Conditions.cv_rules, QLockLaw.lock_kernel, QLocking.IsOwners}}
+use Rattle.layer_traits.specs.{QLocking.{lock_after, lock_caller}, Payloads.cv_meant, QueueBlocks.inner, Queues.buffer_sections}
+use Rattle.plain_layers.{specs.LockSections.call_alone, proofs.CondSectionLemmas.{may_begin, owner_told}}
 use Rattle.plain_layers.proofs.cond_sections.calls.Goals as goal
 
 -- the thread runs, nobody stands in the hand, and the call is its to make, as the machine tells the owner

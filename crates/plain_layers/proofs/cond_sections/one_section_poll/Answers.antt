@@ -1,10 +1,9 @@
 use Rattle.std.proofs.Common.{◌≡◌, Option, Some, ap, sym, ◌∙◌, inr, subst}
-use Rattle.event_log.specs.declared.ids.LockId.TheVariants.{Buffer}
-use Rattle.layer_traits.specs.{declared.conditions.CvOut.CvOut, declared.locked.QOut.QOut, declared.sleeps.Outcome.Outcome, Conditions.cv_rules}
-use Rattle.layer_traits.specs.{CvLaw.MayCallCond, QLockLaw.lock_kernel, QLocking.lock_caller, QLocking.owner_of, Payloads.cv_meant, Payloads.cv_told}
-use Rattle.layer_traits.specs.{Payloads.lock_meant, Payloads.lock_told, Payloads.outcome_told, Payloads.told_by, QueueBlocks.inner, Queues.buffer_sections}
-use Rattle.plain_layers.specs.{CondSections.MayPollCondSection, LockSections.call_alone}
-use Rattle.plain_layers.proofs.CondSectionLemmas.{after_alone, ended_after, goes_after, waits_after}
+use Rattle.{event_log.specs.declared.ids.LockId.TheVariants.Buffer, layer_traits.specs.declared.{conditions.CvOut.CvOut, locked.QOut.QOut}}
+use Rattle.layer_traits.specs.{declared.sleeps.Outcome.Outcome, Conditions.cv_rules, CvLaw.MayCallCond, QLockLaw.lock_kernel, QLocking.{lock_caller, owner_of}}
+use Rattle.layer_traits.specs.{Payloads.{cv_meant, cv_told, lock_meant, lock_told, outcome_told, told_by}, QueueBlocks.inner, Queues.buffer_sections}
+use Rattle.plain_layers.{specs.{CondSections.MayPollCondSection, LockSections.call_alone}, proofs.CondSectionLemmas.{after_alone, ended_after, goes_after}}
+use Rattle.plain_layers.proofs.CondSectionLemmas.{waits_after}
 use Rattle.plain_layers.proofs.cond_sections.one_section_poll.Goals as goal
 
 -- the call that is meant is the one with no parcel

@@ -1,8 +1,8 @@
 use Rattle.std.proofs.Common.{◌≡◌, ◌≢◌, ◌+◌, ◌≤◌, IsSome}
-use Rattle.event_log.specs.declared.ids.LockId.TheVariants.{Buffer}
-use Rattle.layer_traits.specs.{Conditions.cv_rules, QLockLaw.IsAcquire, QLockLaw.lock_kernel, QLocking.lock_caller, Payloads.cv_meant}
-use Rattle.plain_layers.specs.declared.cond_sections.PollSection.TheVariants.{Answered, GoesOn, Sleeps}
-use Rattle.plain_layers.specs.{CondSections.CondHasEnded, CondSections.MayPollCondSection, CondSections.WaitsAt, LockSections.call_alone}
+use Rattle.{event_log.specs.declared.ids.LockId.TheVariants.Buffer, layer_traits.specs.{Conditions.cv_rules, QLockLaw.{IsAcquire, lock_kernel}}}
+use Rattle.{layer_traits.specs.{QLocking.lock_caller, Payloads.cv_meant}, plain_layers.specs.declared.cond_sections.PollSection.TheVariants.{Answered, GoesOn}}
+use Rattle.plain_layers.specs.{declared.cond_sections.PollSection.TheVariants.Sleeps, CondSections.{CondHasEnded, MayPollCondSection, WaitsAt}}
+use Rattle.plain_layers.specs.LockSections.{call_alone}
 use Rattle.plain_layers.proofs.cond_sections.section_polls.Given as goal
 
 -- so many polls as section polls of the loop are done, and the last left the call so

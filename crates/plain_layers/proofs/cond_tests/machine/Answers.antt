@@ -1,10 +1,6 @@
 use Rattle.std.proofs.Common.{◌≡◌, ◌<◌, ◌∷◌, [], IsSome, ap, sym, subst, ◌∙◌, refl, slice_get, map}
-use Rattle.event_log.specs.declared.ids.{BufId.BufId, CpuId.CpuId, LockId.TheVariants.Buffer, TheConstants.CPUS}
-use Rattle.layer_traits.specs.QueueBlocks.{inner}
-use Rattle.queuing_lock.specs.Nested.{unowned}
-use Rattle.queuing_lock.proofs.BootLemmas.{rest_at_boot}
-use Rattle.sleep_wakeup.specs.Nested.{resting}
-use Rattle.sleep_wakeup.proofs.BootLemmas.{if_ok, there_inside}
+use Rattle.{event_log.specs.declared.ids.{BufId.BufId, CpuId.CpuId, LockId.TheVariants.Buffer, TheConstants.CPUS}, layer_traits.specs.QueueBlocks.inner}
+use Rattle.{queuing_lock.{specs.Nested.unowned, proofs.BootLemmas.rest_at_boot}, sleep_wakeup.{specs.Nested.resting, proofs.BootLemmas.{if_ok, there_inside}}}
 use Rattle.plain_layers.proofs.OpeningLemmas.{both_ok, of_first}
 use Rattle.plain_layers.proofs.cond_tests.machine.Goals as goal
 

@@ -1,6 +1,5 @@
 use Rattle.std.proofs.Common.{◌+◌, ◌≤◌, refl, sym, subst, arith}
-use Rattle.layer_traits.specs.BufferLaw.{Calling, MayGoOn}
-use Rattle.plain_layers.proofs.CallStates.{may_begin}
+use Rattle.{layer_traits.specs.BufferLaw.{Calling, MayGoOn}, plain_layers.proofs.CallStates.may_begin}
 use Rattle.plain_layers.proofs.ipc_tests.called.Goals as goal
 
 pub loop-init : goal.loop-init

@@ -1,7 +1,5 @@
 use Rattle.std.proofs.Common.{ap, ◌∙◌}
-use Rattle.layer_traits.specs.{QueueBlocks.inner, Renaming.viewed}
-use Rattle.queuing_lock.specs.Nested.{nested_lock_of}
-use Rattle.sleep_wakeup.specs.Nested.{state_of}
+use Rattle.{layer_traits.specs.{QueueBlocks.inner, Renaming.viewed}, queuing_lock.specs.Nested.nested_lock_of, sleep_wakeup.specs.Nested.state_of}
 use Rattle.plain_layers.proofs.ipc_tests.is_ready_at_boot.Goals as goal
 
 pub part_over-requires-clause-locks : goal.part_over-requires-clause-locks

@@ -1,9 +1,7 @@
 use Rattle.std.proofs.Common.{◌≡◌, Option, None, Some, refl, sym, subst, arith}
-use Rattle.layer_traits.specs.{BufferLaw.Calling, BufferLaw.MayGoOn, BufferLaw.UnderWay, BufferLaw.call_state_of, IpcLaw.ipc_plan}
-use Rattle.layer_traits.specs.LayerPolls.{PolledOnAt}
-use Rattle.layer_traits.proofs.PollRunLemmas.{IsOn, is_on, kept, may_go_on}
-use Rattle.plain_layers.proofs.CallStates.{may_begin}
-use Rattle.plain_layers.proofs.ipc_tests.sends_by_runs.{Given.Over, Goals.After-eq-runs}
+use Rattle.layer_traits.{specs.{BufferLaw.{Calling, MayGoOn, UnderWay, call_state_of}, IpcLaw.ipc_plan, LayerPolls.PolledOnAt}, proofs.PollRunLemmas.IsOn}
+use Rattle.{layer_traits.proofs.PollRunLemmas.{is_on, kept, may_go_on}, plain_layers.proofs.{CallStates.may_begin, ipc_tests.sends_by_runs.Given.Over}}
+use Rattle.plain_layers.proofs.ipc_tests.sends_by_runs.Goals.{After-eq-runs}
 use Rattle.plain_layers.proofs.ipc_tests.sends_by_runs.Goals as goal
 
 pub poll_on-first-requires-clause-same : goal.poll_on-first-requires-clause-same

@@ -1,9 +1,7 @@
 use Rattle.std.proofs.Common.{◌≡◌, Option, Some, ap, sym, ◌∙◌, subst}
-use Rattle.event_log.specs.declared.ids.LockId.TheVariants.{Buffer}
-use Rattle.layer_traits.specs.{declared.locked.QOut.QOut, declared.sleeps.Outcome.Outcome, QLockLaw.MayCallLock, QLockLaw.lock_kernel, QLocking.lock_caller}
-use Rattle.layer_traits.specs.{QLocking.owner_of, Payloads.lock_meant, Payloads.lock_told, Payloads.outcome_told, Payloads.told_by, QueueBlocks.inner}
-use Rattle.layer_traits.specs.{Queues.buffer_sections}
-use Rattle.plain_layers.specs.LockSections.{MayPollLockSection, call_alone}
+use Rattle.{event_log.specs.declared.ids.LockId.TheVariants.Buffer, layer_traits.specs.declared.{locked.QOut.QOut, sleeps.Outcome.Outcome}}
+use Rattle.layer_traits.specs.{QLockLaw.{MayCallLock, lock_kernel}, QLocking.{lock_caller, owner_of}, Payloads.{lock_meant, lock_told, outcome_told, told_by}}
+use Rattle.{layer_traits.specs.{QueueBlocks.inner, Queues.buffer_sections}, plain_layers.specs.LockSections.{MayPollLockSection, call_alone}}
 use Rattle.plain_layers.proofs.LockSectionLemmas.{after_alone, ended_after, goes_after, sleeps_after}
 use Rattle.plain_layers.proofs.lock_sections.one_section_poll.Goals as goal
 

@@ -1,7 +1,7 @@
 use Rattle.std.proofs.Common.{rules, ◌≡◌, Some, None, sym, ◌∙◌}
-use Rattle.event_log.specs.declared.ids.LockId.TheVariants.{Buffer}
-use Rattle.layer_traits.specs.{declared.locked.QEdit.TheVariants.Release, QLockLaw.lock_kernel, QLocking.lock_after, QueueBlocks.inner, Queues.buffer_sections}
-use Rattle.plain_layers.proofs.{CondSectionLemmas.owner_told, LockSectionLemmas.may_begin}
+use Rattle.{event_log.specs.declared.ids.LockId.TheVariants.Buffer, layer_traits.specs.{declared.locked.QEdit.TheVariants.Release, QLockLaw.lock_kernel}}
+use Rattle.{layer_traits.specs.{QLocking.lock_after, QueueBlocks.inner, Queues.buffer_sections}, plain_layers.proofs.CondSectionLemmas.owner_told}
+use Rattle.plain_layers.proofs.LockSectionLemmas.{may_begin}
 use Rattle.plain_layers.proofs.lock_sections.releases.Goals as goal
 
 -- the thread runs, nobody stands in the hand, and the machine tells that it owns the lock

@@ -1,8 +1,7 @@
 use Rattle.std.proofs.Common.{◌≡◌, ◌≢◌, ◌+◌, ◌≤◌, IsSome}
-use Rattle.event_log.specs.declared.ids.LockId.TheVariants.{Buffer}
-use Rattle.layer_traits.specs.{QLockLaw.lock_kernel, QLocking.lock_caller}
-use Rattle.plain_layers.specs.declared.lock_sections.PollSection.TheVariants.{Answered, GoesOn, Sleeps}
-use Rattle.plain_layers.specs.LockSections.{LockHasEnded, MayPollLockSection, SleepsFor, call_alone}
+use Rattle.{event_log.specs.declared.ids.LockId.TheVariants.Buffer, layer_traits.specs.{QLockLaw.lock_kernel, QLocking.lock_caller}}
+use Rattle.plain_layers.specs.{declared.lock_sections.PollSection.TheVariants.{Answered, GoesOn, Sleeps}, LockSections.{LockHasEnded, MayPollLockSection}}
+use Rattle.plain_layers.specs.LockSections.{SleepsFor, call_alone}
 use Rattle.plain_layers.proofs.lock_sections.section_polls.Given as goal
 
 -- so many polls as section polls of the loop are done, and the last left the call so

@@ -1,6 +1,5 @@
 use Rattle.std.proofs.Common.{Some, ap, arith, option_map, subst, sym, ◌∙◌}
-use Rattle.plain_layers.specs.Tables.{IsSlot}
-use Rattle.plain_layers.proofs.TableLemmas.{slot_edited, slot_reads, slot_within}
+use Rattle.plain_layers.{specs.Tables.IsSlot, proofs.TableLemmas.{slot_edited, slot_reads, slot_within}}
 use Rattle.plain_layers.proofs.lock_table.edit_at.Goals as goal
 
 pub index_mut-requires : goal.index_mut-requires

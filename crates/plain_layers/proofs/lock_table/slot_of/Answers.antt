@@ -1,6 +1,5 @@
 use Rattle.std.proofs.Common.{◌≡◌, true, false, rules}
-use Rattle.event_log.specs.History.{same_lock}
-use Rattle.plain_layers.proofs.TableLemmas.{slot_here, slot_later, there_later}
+use Rattle.{event_log.specs.History.same_lock, plain_layers.proofs.TableLemmas.{slot_here, slot_later, there_later}}
 use Rattle.plain_layers.proofs.lock_table.slot_of.Goals as goal
 
 pub returns-then-eq : goal.returns-then-eq

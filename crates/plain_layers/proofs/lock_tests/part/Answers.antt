@@ -1,5 +1,5 @@
-use Rattle.plain_layers.proofs.LockSectionLemmas.{fresh_ended}
 use Rattle.std.proofs.Common.{[], ◌∷◌}
+use Rattle.plain_layers.proofs.LockSectionLemmas.{fresh_ended}
 use Rattle.plain_layers.proofs.lock_tests.part.Goals as goal
 
 pub returns-clause-ended : goal.returns-clause-ended

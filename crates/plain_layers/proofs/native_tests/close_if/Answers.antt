@@ -1,6 +1,5 @@
-use Rattle.std.proofs.Common.{refl}
-use Rattle.event_log.specs.{declared.entries.Kind.TheVariants.Close, Messages.no_message}
-use Rattle.plain_layers.proofs.StreamLemmas.{sent_same, taken_same}
+use Rattle.{std.proofs.Common.refl, event_log.specs.{declared.entries.Kind.TheVariants.Close, Messages.no_message}, plain_layers.proofs.StreamLemmas.sent_same}
+use Rattle.plain_layers.proofs.StreamLemmas.{taken_same}
 use Rattle.plain_layers.proofs.native_tests.close_if.Goals as goal
 
 pub returns-then-closes-clause-taken : goal.returns-then-closes-clause-taken

@@ -1,7 +1,6 @@
-use Rattle.std.proofs.Common.{◌≡◌, [], ◌∷◌, ◌++◌, List, length, refl, ap, sym, ◌∙◌, arith}
-use Rattle.std.proofs.lemmas.List.{length-append}
-use Rattle.event_log.specs.{declared.entries.Kind.TheVariants.Recv, declared.entries.Kind.TheVariants.RecvClosed, Messages.Message, Messages.no_message}
-use Rattle.plain_layers.proofs.StreamLemmas.{same_after, same_then, sent_same, taken_after, taken_same}
+use Rattle.std.proofs.{Common.{◌≡◌, [], ◌∷◌, ◌++◌, List, length, refl, ap, sym, ◌∙◌, arith}, lemmas.List.length-append}
+use Rattle.{event_log.specs.{declared.entries.Kind.TheVariants.{Recv, RecvClosed}, Messages.{Message, no_message}}, plain_layers.proofs.StreamLemmas.same_after}
+use Rattle.plain_layers.proofs.StreamLemmas.{same_then, sent_same, taken_after, taken_same}
 use Rattle.plain_layers.proofs.native_tests.receive_all.Goals as goal
 
 pub loop-i-init : goal.loop-i-init

@@ -1,7 +1,6 @@
-use Rattle.std.proofs.Common.{◌≡◌, [], ◌∷◌, ◌++◌, List, length, refl, ap, sym, ◌∙◌, arith}
-use Rattle.std.proofs.lemmas.List.{length-append}
-use Rattle.event_log.specs.{declared.entries.Kind.TheVariants.Send, declared.entries.Kind.TheVariants.SendClosed, Messages.Message}
-use Rattle.plain_layers.proofs.StreamLemmas.{same_after, same_then, sent_after, sent_same, taken_same}
+use Rattle.std.proofs.{Common.{◌≡◌, [], ◌∷◌, ◌++◌, List, length, refl, ap, sym, ◌∙◌, arith}, lemmas.List.length-append}
+use Rattle.{event_log.specs.{declared.entries.Kind.TheVariants.{Send, SendClosed}, Messages.Message}, plain_layers.proofs.StreamLemmas.{same_after, same_then}}
+use Rattle.plain_layers.proofs.StreamLemmas.{sent_after, sent_same, taken_same}
 use Rattle.plain_layers.proofs.native_tests.send_all.Goals as goal
 
 pub loop-i-init : goal.loop-i-init

@@ -1,6 +1,5 @@
 use Rattle.std.proofs.Common.{◌≡◌, ◌≤◌, length}
-use Rattle.event_log.specs.Streams.{sent_to, taken_from}
-use Rattle.cpu_workers.specs.Callers.{IsSameCaller}
+use Rattle.{event_log.specs.Streams.{sent_to, taken_from}, cpu_workers.specs.Callers.IsSameCaller}
 use Rattle.plain_layers.proofs.native_tests.send_all.Given as goal
 
 abbrev pub invariant-loop-i : goal.invariant-loop-i

@@ -1,7 +1,5 @@
-use Rattle.std.proofs.Common.{Option, ap}
-use Rattle.layer_traits.specs.{declared.queues.BareQueueAnswer.BareQueueAnswer, Payloads.call_meant, Payloads.queue_told, Payloads.told_by, Queues.QueueAllowed}
-use Rattle.layer_traits.specs.{Queues.event, Queues.kernel}
-use Rattle.plain_layers.proofs.QueueSectionLemmas.{first_poll, seen_alone}
+use Rattle.{std.proofs.Common.{Option, ap}, layer_traits.specs.{declared.queues.BareQueueAnswer.BareQueueAnswer, Payloads.{call_meant, queue_told, told_by}}}
+use Rattle.{layer_traits.specs.Queues.{QueueAllowed, event, kernel}, plain_layers.proofs.QueueSectionLemmas.{first_poll, seen_alone}}
 use Rattle.plain_layers.proofs.queue_tests.at_once.Goals as goal
 
 -- no call is under way

@@ -1,10 +1,9 @@
-use Rattle.std.proofs.Common.{◌≡◌, Bool, true, false, List, [], ◌∷◌, Option, Some, None, refl, ◌∙◌}
-use Rattle.event_log.specs.declared.ids.{LockId.LockId, Tid.Tid}
-use Rattle.layer_traits.specs.{declared.queue_edits.QueueBlock.QueueBlock, declared.queues.QueueCall.TheVariants.OnBuffer}
-use Rattle.layer_traits.specs.{declared.queues.QueueCall.TheVariants.Push, QueueBlocks.homes_in, QueueBlocks.inner, Queues.event}
-use Rattle.plain_layers.specs.{declared.sched_tests.Nap.Nap, Naps.waiters_of, Naps.nap_moves, Naps.nap_rules, QueueSections.buffer_zero, QueueSections.cpu_one}
-use Rattle.plain_layers.specs.{QueueSections.cpu_zero, QueueSections.thread_one, QueueSections.thread_zero}
-use Rattle.plain_layers.proofs.QueueSectionLemmas.{Meeting, after_sleep, after_wake, callable_at, may_push, may_sleep, may_wake}
+use Rattle.std.proofs.Common.{◌≡◌, Bool, true, false, [], ◌∷◌, Option, Some, None, refl, ◌∙◌}
+use Rattle.{event_log.specs.declared.ids.{LockId.LockId, Tid.Tid}, layer_traits.specs.declared.queue_edits.QueueBlock.QueueBlock}
+use Rattle.layer_traits.specs.{declared.queues.QueueCall.TheVariants.{OnBuffer, Push}, QueueBlocks.{homes_in, inner}, Queues.event}
+use Rattle.plain_layers.specs.{declared.sched_tests.Nap.Nap, Naps.{waiters_of, nap_moves, nap_rules}, QueueSections.{buffer_zero, cpu_one, cpu_zero}}
+use Rattle.plain_layers.{specs.QueueSections.{thread_one, thread_zero}, proofs.QueueSectionLemmas.{Meeting, after_sleep, after_wake, callable_at, may_push}}
+use Rattle.plain_layers.proofs.QueueSectionLemmas.{may_sleep, may_wake}
 use Rattle.plain_layers.proofs.queue_tests.meet_at_one_queue.Goals as goal
 
 abbrev wakes : Nap → Bool

@@ -1,9 +1,6 @@
 use Rattle.std.proofs.Common.{◌≡◌, ◌<◌, ◌∷◌, [], IsSome, ap, sym, subst, ◌∙◌, refl, slice_get, map}
-use Rattle.event_log.specs.declared.ids.{BufId.BufId, CpuId.CpuId, LockId.TheVariants.Buffer, TheConstants.CPUS}
-use Rattle.layer_traits.specs.QueueBlocks.{inner}
-use Rattle.sleep_wakeup.specs.Nested.{resting}
-use Rattle.sleep_wakeup.proofs.BootLemmas.{if_ok, nobody_at_boot, there_inside}
-use Rattle.plain_layers.proofs.OpeningLemmas.{both_ok, of_first}
+use Rattle.{event_log.specs.declared.ids.{BufId.BufId, CpuId.CpuId, LockId.TheVariants.Buffer, TheConstants.CPUS}, layer_traits.specs.QueueBlocks.inner}
+use Rattle.{sleep_wakeup.{specs.Nested.resting, proofs.BootLemmas.{if_ok, nobody_at_boot, there_inside}}, plain_layers.proofs.OpeningLemmas.{both_ok, of_first}}
 use Rattle.plain_layers.proofs.sleep_tests.machine.Goals as goal
 
 pub returns-clause-nobody : goal.returns-clause-nobody

@@ -1,6 +1,5 @@
 use Rattle.std.proofs.Common.{ℕ, ◌<◌, get_or}
-use Rattle.event_log.specs.declared.entries.Entry.{Entry}
-use Rattle.tracer.specs.TraceText.{IsEntryOf}
+use Rattle.{event_log.specs.declared.entries.Entry.Entry, tracer.specs.TraceText.IsEntryOf}
 use Rattle.plain_layers.proofs.texts.are_entries.Given as goal
 
 abbrev pub invariant-loop-entry : goal.invariant-loop-entry

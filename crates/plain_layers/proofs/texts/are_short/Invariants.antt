@@ -1,6 +1,5 @@
 use Rattle.std.proofs.Common.{ℕ, ◌<◌, get_or}
-use Rattle.event_log.specs.Messages.{Message}
-use Rattle.tracer.specs.{declared.versions.Version.TheVariants.One, TraceText.IsItemOf}
+use Rattle.{event_log.specs.Messages.Message, tracer.specs.{declared.versions.Version.TheVariants.One, TraceText.IsItemOf}}
 use Rattle.plain_layers.proofs.texts.are_short.Given as goal
 
 abbrev pub invariant-loop-message : goal.invariant-loop-message

@@ -1,7 +1,5 @@
-use Rattle.std.proofs.Common.{get_or, refl, arith}
-use Rattle.std.proofs.lemmas.List.Elements.{recursion_from_All}
-use Rattle.tracer.specs.{TraceText.IsEntryOf, TraceText.IsItemOf, Versions.version_of}
-use Rattle.plain_layers.proofs.TextLemmas.{spelled_by_each}
+use Rattle.{std.proofs.{Common.{get_or, refl, arith}, lemmas.List.Elements.recursion_from_All}, tracer.specs.TraceText.{IsEntryOf, IsItemOf}}
+use Rattle.{tracer.specs.Versions.version_of, plain_layers.proofs.TextLemmas.spelled_by_each}
 use Rattle.plain_layers.proofs.texts.is_spellable.Goals as goal
 
 pub returns-then-few : goal.returns-then-few

@@ -1,7 +1,5 @@
-use Rattle.std.proofs.Common.{◌<◌, ◌≤◌, All, take, get_or, ap, subst, ◌∙◌, arith}
-use Rattle.std.proofs.lemmas.List.{take_all, Elements.All-more, Elements.All-weaker}
-use Rattle.event_log.specs.Locks.{lock_number}
-use Rattle.plain_machine.proofs.cells.table_len.Goals.{then-len-end, else-len-end}
+use Rattle.std.proofs.{Common.{◌<◌, ◌≤◌, All, take, get_or, ap, subst, ◌∙◌, arith}, lemmas.List.{take_all, Elements.{All-more, All-weaker}}}
+use Rattle.{event_log.specs.Locks.lock_number, plain_machine.proofs.cells.table_len.Goals.{then-len-end, else-len-end}}
 use Rattle.plain_machine.proofs.cells.table_len.Goals as goal
 
 pub loop-entry-preserved : goal.loop-entry-preserved

@@ -1,5 +1,4 @@
-use Rattle.std.proofs.Common.{IsSome, lit<, subst, sym}
-use Rattle.event_log.specs.declared.ids.LockId.TheVariants.{Buffer}
+use Rattle.{std.proofs.Common.{IsSome, lit<, subst, sym}, event_log.specs.declared.ids.LockId.TheVariants.Buffer}
 use Rattle.plain_machine.proofs.tests.a_lock_is_given_on_by_a_store.Goals as goal
 
 pub add_one-requires-clause-cpu : goal.add_one-requires-clause-cpu

@@ -1,5 +1,4 @@
-use Rattle.std.proofs.Common.{IsSome, lit<, subst, sym}
-use Rattle.event_log.specs.declared.ids.LockId.TheVariants.{Pending}
+use Rattle.{std.proofs.Common.{IsSome, lit<, subst, sym}, event_log.specs.declared.ids.LockId.TheVariants.Pending}
 use Rattle.plain_machine.proofs.tests.a_section_adds_one.Goals as goal
 
 pub add_one-number-requires-clause-cpu : goal.add_one-number-requires-clause-cpu

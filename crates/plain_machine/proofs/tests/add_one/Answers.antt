@@ -1,6 +1,5 @@
 use Rattle.std.proofs.Common.{◌≡◌, IsSome, subst, sym}
-use Rattle.event_log.specs.{declared.events.Event.TheVariants.Draw, WordsLog.Waiting, WordsLog.lock_phase}
-use Rattle.layer_traits.proofs.OneLockLemmas.{lock_phase_own}
+use Rattle.{event_log.specs.{declared.events.Event.TheVariants.Draw, WordsLog.{Waiting, lock_phase}}, layer_traits.proofs.OneLockLemmas.lock_phase_own}
 use Rattle.plain_machine.proofs.tests.add_one.Goals as goal
 
 pub look-requires-clause-cpu : goal.look-requires-clause-cpu

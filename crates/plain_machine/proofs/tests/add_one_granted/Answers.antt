@@ -1,6 +1,5 @@
 use Rattle.std.proofs.Common.{◌++◌, IsSome, if◌then◌else◌, ap, subst, sym, ◌∙◌}
-use Rattle.event_log.specs.{Grants.grant_lock_phase, WordsLog.Waiting}
-use Rattle.event_log.proofs.Same.{same_cpu_self}
+use Rattle.event_log.{specs.{Grants.grant_lock_phase, WordsLog.Waiting}, proofs.Same.same_cpu_self}
 use Rattle.plain_machine.proofs.tests.add_one_granted.Goals as goal
 
 pub peek-requires-clause-cpu : goal.peek-requires-clause-cpu

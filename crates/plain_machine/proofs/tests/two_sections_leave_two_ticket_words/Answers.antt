@@ -1,5 +1,4 @@
-use Rattle.std.proofs.Common.{IsSome, lit<, subst, sym}
-use Rattle.event_log.specs.declared.ids.LockId.TheVariants.{Buffer}
+use Rattle.{std.proofs.Common.{IsSome, lit<, subst, sym}, event_log.specs.declared.ids.LockId.TheVariants.Buffer}
 use Rattle.plain_machine.proofs.tests.two_sections_leave_two_ticket_words.Goals as goal
 
 pub add_one-requires-clause-cpu : goal.add_one-requires-clause-cpu

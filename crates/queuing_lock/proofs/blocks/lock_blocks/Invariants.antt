@@ -1,5 +1,4 @@
-use Rattle.std.proofs.Common.{◌≡◌, ◌+◌, ◌≤◌, ◌++◌, length, map, vec_capacity}
-use Rattle.std.specs.Vec.Iter.{into_iter_items, into_iter_len}
+use Rattle.std.{proofs.Common.{◌≡◌, ◌+◌, ◌≤◌, ◌++◌, length, map, vec_capacity}, specs.Vec.Iter.{into_iter_items, into_iter_len}}
 use Rattle.queuing_lock.specs.Nested.{unowned}
 use Rattle.queuing_lock.proofs.blocks.lock_blocks.Given as goal
 

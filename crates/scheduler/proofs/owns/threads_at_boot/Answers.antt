@@ -1,8 +1,6 @@
 use Rattle.std.proofs.Common.{[], ◌∷◌, ◌++◌, ap, sym, ◌∙◌}
-use Rattle.event_log.proofs.Same.{cpu_numbered}
-use Rattle.thread_blocks.proofs.Members.{tid_numbered}
-use Rattle.scheduler.proofs.{BootLemmas.next_new, BootLemmas.joins, BootLemmas.stays, owns.threads_at_boot.Goals.then-cpu-homes}
-use Rattle.scheduler.proofs.{owns.threads_at_boot.Goals.else-cpu-homes}
+use Rattle.{event_log.proofs.Same.cpu_numbered, thread_blocks.proofs.Members.tid_numbered, scheduler.proofs.BootLemmas.{next_new, joins, stays}}
+use Rattle.scheduler.proofs.owns.threads_at_boot.Goals.{then-cpu-homes, else-cpu-homes}
 use Rattle.scheduler.proofs.owns.threads_at_boot.Goals as goal
 
 pub push-requires-clause-new : goal.push-requires-clause-new

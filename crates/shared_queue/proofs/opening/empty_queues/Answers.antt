@@ -1,9 +1,6 @@
-use Rattle.std.proofs.Common.{◌≡◌, [], ◌∷◌, ◌++◌, length, ap, sym, ◌∙◌, subst, arith}
-use Rattle.std.proofs.lemmas.List.{length_push}
-use Rattle.event_log.specs.declared.ids.LockId.TheVariants.{Pending}
-use Rattle.layer_traits.specs.declared.queue_edits.QueueBlock.TheVariants.{Queue}
-use Rattle.shared_queue.proofs.OpeningLemmas.{queues_more}
-use Rattle.shared_queue.specs.Opening.{AreEmptyQueues}
+use Rattle.std.proofs.{Common.{◌≡◌, [], ◌∷◌, ◌++◌, length, ap, sym, ◌∙◌, subst, arith}, lemmas.List.length_push}
+use Rattle.{event_log.specs.declared.ids.LockId.TheVariants.Pending, layer_traits.specs.declared.queue_edits.QueueBlock.TheVariants.Queue}
+use Rattle.shared_queue.{proofs.OpeningLemmas.queues_more, specs.Opening.AreEmptyQueues}
 use Rattle.shared_queue.proofs.opening.empty_queues.Goals as goal
 
 -- one queue more

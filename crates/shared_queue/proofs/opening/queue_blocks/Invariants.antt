@@ -1,5 +1,4 @@
-use Rattle.std.proofs.Common.{◌≡◌, ◌+◌, ◌≤◌, ◌++◌, length, vec_len, vec_capacity}
-use Rattle.std.specs.Vec.Iter.{into_iter_items}
+use Rattle.std.{proofs.Common.{◌≡◌, ◌+◌, ◌≤◌, ◌++◌, length, vec_len, vec_capacity}, specs.Vec.Iter.into_iter_items}
 use Rattle.shared_queue.specs.Opening.{buffers_from}
 use Rattle.shared_queue.proofs.opening.queue_blocks.Given as goal
 

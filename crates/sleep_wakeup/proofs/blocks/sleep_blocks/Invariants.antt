@@ -1,5 +1,4 @@
-use Rattle.std.proofs.Common.{◌≡◌, ◌+◌, ◌≤◌, ◌++◌, length, map, vec_capacity}
-use Rattle.std.specs.Vec.Iter.{into_iter_items, into_iter_len}
+use Rattle.std.{proofs.Common.{◌≡◌, ◌+◌, ◌≤◌, ◌++◌, length, map, vec_capacity}, specs.Vec.Iter.{into_iter_items, into_iter_len}}
 use Rattle.sleep_wakeup.specs.Nested.{resting}
 use Rattle.sleep_wakeup.proofs.blocks.sleep_blocks.Given as goal
 

@@ -1,7 +1,4 @@
-use Rattle.std.proofs.Common.{IsSome, subst, sym}
-use Rattle.event_log.specs.Sections.{block_after, sections_in}
-use Rattle.layer_traits.proofs.Alone.{three_polls, answer_there, block_there}
-use Rattle.layer_traits.specs.Plans.{table_of}
+use Rattle.{event_log.specs.Sections.{block_after, sections_in}, layer_traits.{proofs.Alone.{three_polls, answer_there, block_there}, specs.Plans.table_of}}
 use Rattle.spinlock.proofs.sections.whole.Goals as goal
 
 pub unwrap-requires : goal.unwrap-requires
@@ -19,6 +16,5 @@ unwrap-requires g c =
     (L.acts m) (L.acts one.new.m) (L.acts two.new.m) (L.acts three.new.m) three.result c.requires.rests
     (g.met.L.Layer.legal m cpu (g.met.L.Layer.own_cpu part m c.requires.fits))
     one.ensures.cpu two.ensures.cpu one.ensures.opening two.ensures.opening one.ensures.acts two.ensures.acts three.ensures.acts three.ensures.answer in
-    subst (λ o. IsSome o) (sym did.answers)
-    (answer_there (rules.answer c.args.edit) (block_after rules.edited (L.opening m) c.args.lock (sections_in (L.acts m)))
+    rw did.answers (answer_there (rules.answer c.args.edit) (block_after rules.edited (L.opening m) c.args.lock (sections_in (L.acts m)))
     (block_there rules.edited (L.opening m) c.args.lock (sections_in (L.acts m)) c.requires.lock))

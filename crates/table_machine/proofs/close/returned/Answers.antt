@@ -1,7 +1,6 @@
-use Rattle.std.proofs.Common.{◌<◌, ◌≡◌, ◌+◌, length, arith, sym, ap, ◌∙◌, subst, length-append, vec_capacity}
-use Rattle.std.specs.Mem.Slots.{slots_items, slots_filled, slots_len, slots_counts}
-use Rattle.table_machine.specs.declared.views.Home.{Home}
-use Rattle.table_machine.proofs.Returning.{stays_filled, stays_empty, a_block, given_more, below_of}
+use Rattle.std.proofs.{Common.{◌<◌, ◌≡◌, ◌+◌, length, arith, sym, ap, ◌∙◌, length-append}, lemmas.Option.slice_get_within}
+use Rattle.{std.specs.Mem.Slots.{slots_items, slots_filled, slots_len, slots_counts}, table_machine.specs.declared.views.Home.Home}
+use Rattle.table_machine.proofs.{Returning.{stays_filled, stays_empty, a_block, given_more}, Elements.got}
 use Rattle.table_machine.proofs.close.returned.Goals as goal
 
 pub unreachable-requires : goal.unreachable-requires
@@ -24,7 +23,7 @@ loop-i-preserved g c =
       same = c.take-slot.ensures.others.0 ∙ c.loop-i.invariant.same;
       count = c.take-slot.ensures.others.2 ∙ c.loop-i.invariant.count;
       given = ap length c.push_reserved.ensures.items ∙ (length-append c.loop-i.blocks.items _ ∙ ap (λ n. n + 1) c.loop-i.invariant.given);
-      room = subst (λ n. Rattle.std.proofs.Common.◌≤◌ (length c.args.locks.items) n) (sym c.push_reserved.ensures.capacity) c.loop-i.invariant.room;
+      room = rw c.push_reserved.ensures.capacity c.loop-i.invariant.room;
       done = given_more c.args.locks.items (slots_items c.args.closed.slots) (slots_items c.loop-i.closed.slots) c.loop-i.blocks.items
           c.push_reserved.new.self.items c.loop-i.i c.index.result.now c.take-slot.result c.in-Some.block
           c.loop-i.invariant.given c.push_reserved.ensures.items below
@@ -34,4 +33,5 @@ loop-i-preserved g c =
 
 pub returns-clause-blocks : goal.returns-clause-blocks
 returns-clause-blocks g c i lock y b at_lock at_home is =
-    c.loop-i.invariant.done i lock y b (let below = below_of c.args.locks.items i lock at_lock in omega arith) at_lock at_home is
+    let below = slice_get_within c.args.locks.items i lock (got c.args.locks.items i lock at_lock) in
+    c.loop-i.invariant.done i lock y b (omega arith) at_lock at_home is

@@ -1,7 +1,5 @@
-use Rattle.std.proofs.Common.{◌≡◌, ℕ, ◌<◌, ◌≤◌, false, length, get_or, Some, vec_capacity}
-use Rattle.std.specs.Mem.Slots.{slots_items, slots_filled, slots_len, Ownership.Filled}
-use Rattle.event_log.specs.declared.ids.LockId.{LockId}
-use Rattle.table_machine.specs.declared.views.Home.{Home}
+use Rattle.std.{proofs.Common.{◌≡◌, ℕ, ◌<◌, ◌≤◌, false, length, get_or, Some, vec_capacity}, specs.Mem.Slots.{slots_items, slots_filled, slots_len}}
+use Rattle.{std.specs.Mem.Slots.Ownership.Filled, event_log.specs.declared.ids.LockId.LockId, table_machine.specs.declared.views.Home.Home}
 use mathlib.Core.Option.{some}
 use lib.ListN.{get_elem?}
 use Rattle.table_machine.proofs.close.returned.Given as goal

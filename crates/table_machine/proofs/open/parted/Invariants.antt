@@ -1,6 +1,5 @@
 use Rattle.std.proofs.Common.{◌≡◌, ◌++◌, map}
-use Rattle.event_log.specs.declared.ids.LockId.{LockId}
-use Rattle.table_machine.specs.Rule.{fresh_home}
+use Rattle.{event_log.specs.declared.ids.LockId.LockId, table_machine.specs.Rule.fresh_home}
 use Rattle.table_machine.proofs.open.parted.Given as goal
 
 abbrev pub invariant-loop-lock : goal.invariant-loop-lock

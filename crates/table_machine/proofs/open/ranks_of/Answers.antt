@@ -1,6 +1,5 @@
-use Rattle.std.proofs.Common.{◌<◌, ◌≤◌, ◌-◌, ◌≡◌, length, arith, ap, sym, subst, ◌∙◌, length-set}
-use Rattle.event_log.specs.{declared.ids.LockId.LockId, Locks.lock_number}
-use Rattle.table_machine.proofs.Laying.{AreRanksFrom, ranks_more, ranks_all}
+use Rattle.std.proofs.Common.{◌<◌, ◌≤◌, ◌-◌, ◌≡◌, length, arith, ap, sym, ◌∙◌, length-set}
+use Rattle.{event_log.specs.{declared.ids.LockId.LockId, Locks.lock_number}, table_machine.proofs.Laying.{ranks_more, ranks_all}}
 use Rattle.table_machine.proofs.open.ranks_of.Goals as goal
 
 pub loop-rank-preserved : goal.loop-rank-preserved
@@ -12,10 +11,8 @@ loop-rank-preserved g c =
     record {
       row = length-set c.loop-rank.ranks.items c.number.result (c.loop-rank.rank - 1) ∙ c.loop-rank.invariant.row;
       within = omega arith;
-      ranks_hold = subst (λ n. AreRanksFrom (Rattle.std.proofs.Common.set c.loop-rank.ranks.items n (c.loop-rank.rank - 1)) c.args.blocks.now
-          (c.loop-rank.rank - 1)) (sym number)
-          (ranks_more c.loop-rank.ranks.items c.args.blocks.now c.index-blocks-rank.result c.loop-rank.rank c.loop-rank-test.true within
-          c.index-blocks-rank.is below c.loop-rank.invariant.ranks_hold);
+      ranks_hold = rw number (ranks_more c.loop-rank.ranks.items c.args.blocks.now c.index-blocks-rank.result c.loop-rank.rank
+          c.loop-rank-test.true within c.index-blocks-rank.is below c.loop-rank.invariant.ranks_hold);
     }
 
 pub returns-clause-ranks : goal.returns-clause-ranks

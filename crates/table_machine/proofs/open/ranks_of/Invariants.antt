@@ -1,6 +1,5 @@
 use Rattle.std.proofs.Common.{◌≡◌, ◌≤◌, length}
-use Rattle.event_log.specs.declared.ids.TheConstants.{LOCKS}
-use Rattle.table_machine.proofs.Laying.{AreRanksFrom}
+use Rattle.{event_log.specs.declared.ids.TheConstants.LOCKS, table_machine.proofs.Laying.AreRanksFrom}
 use Rattle.table_machine.proofs.open.ranks_of.Given as goal
 
 abbrev pub invariant-loop-rank : goal.invariant-loop-rank

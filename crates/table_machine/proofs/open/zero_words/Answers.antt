@@ -1,5 +1,4 @@
-use Rattle.std.proofs.Common.{rules}
-use Rattle.table_machine.proofs.Laying.{zeros_more}
+use Rattle.{std.proofs.Common.rules, table_machine.proofs.Laying.zeros_more}
 use Rattle.table_machine.proofs.open.zero_words.Goals as goal
 
 pub loop-preserved : goal.loop-preserved

@@ -1,6 +1,4 @@
-use Rattle.std.proofs.Common.{sym, subst}
-use Rattle.table_machine.specs.SeatViews.{Covers}
-use Rattle.table_machine.proofs.Fresh.{two_cover}
+use Rattle.{std.proofs.Common.{sym, subst}, table_machine.{specs.SeatViews.Covers, proofs.Fresh.two_cover}}
 use Rattle.table_machine.proofs.tests.closed.Goals as goal
 
 pub close-requires-clause-covers : goal.close-requires-clause-covers

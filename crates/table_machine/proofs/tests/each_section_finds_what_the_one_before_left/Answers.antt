@@ -1,7 +1,5 @@
 use Rattle.std.proofs.Common.{◌≡◌, ap, ◌∙◌}
-use Rattle.event_log.specs.WordsLog.{lock_phase}
-use Rattle.table_machine.specs.SeatViews.{new_seat_view}
-use Rattle.table_machine.proofs.Fresh.{outside_still}
+use Rattle.{event_log.specs.WordsLog.lock_phase, table_machine.{specs.SeatViews.new_seat_view, proofs.Fresh.outside_still}}
 use Rattle.table_machine.proofs.tests.each_section_finds_what_the_one_before_left.Goals as goal
 
 pub adds_one-requires-2-clause-outside : goal.adds_one-requires-2-clause-outside

@@ -1,6 +1,4 @@
-use Rattle.std.proofs.Common.{All, sym, subst}
-use Rattle.table_machine.specs.SeatViews.{Covers, IsOver}
-use Rattle.table_machine.proofs.Fresh.{new_cover, new_over}
+use Rattle.{std.proofs.Common.{All, sym, subst}, table_machine.{specs.SeatViews.{Covers, IsOver}, proofs.Fresh.{new_cover, new_over}}}
 use Rattle.table_machine.proofs.tests.untouched.Goals as goal
 
 pub close-requires-clause-covers : goal.close-requires-clause-covers

@@ -1,9 +1,6 @@
-use Rattle.std.proofs.Common.{◌≡◌, Ok, ap, ◌∙◌}
-use Rattle.std.specs.declared.io.ErrorKind.TheVariants.{Interrupted}
-use Rattle.std.proofs.lemmas.Result.{err_from_is_err_and}
-use Rattle.tracer.specs.declared.checking.InputFault.TheVariants.{ReadFault as FaultOfRead}
-use Rattle.tracer.specs.Parts.{held, verdict_behind}
-use Rattle.tracer.proofs.PartLemmas.{judged_all, judged_part}
+use Rattle.std.{proofs.{Common.{◌≡◌, Ok, ap, ◌∙◌}, lemmas.Result.err_from_is_err_and}, specs.declared.io.ErrorKind.TheVariants.Interrupted}
+use Rattle.tracer.{specs.{declared.checking.InputFault.TheVariants.ReadFault as FaultOfRead, Parts.{held, verdict_behind}}, proofs.PartLemmas.judged_all}
+use Rattle.tracer.proofs.PartLemmas.{judged_part}
 use Rattle.tracer.proofs.checking.check_input.Goals as goal
 
 pub returns-in_err-ended-clause-retried : goal.returns-in_err-ended-clause-retried

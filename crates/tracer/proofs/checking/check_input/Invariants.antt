@@ -1,6 +1,5 @@
 -- What was read is judged but for what the part holds.
-use Rattle.tracer.specs.Parts.{held}
-use Rattle.tracer.proofs.PartLemmas.{IsJudgedTo}
+use Rattle.tracer.{specs.Parts.held, proofs.PartLemmas.IsJudgedTo}
 use Rattle.tracer.proofs.checking.check_input.Given as goal
 
 abbrev pub invariant-loop : goal.invariant-loop

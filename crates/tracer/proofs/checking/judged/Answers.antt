@@ -1,5 +1,4 @@
-use Rattle.std.proofs.Common.{[], drop, append-nil, ap, sym, ◌∙◌}
-use Rattle.std.proofs.lemmas.List.{take_rest}
+use Rattle.std.proofs.{Common.{[], drop, append-nil, ap, sym, ◌∙◌}, lemmas.List.take_rest}
 use Rattle.tracer.specs.Parts.{verdict_behind}
 use Rattle.tracer.proofs.checking.judged.Goals as goal
 

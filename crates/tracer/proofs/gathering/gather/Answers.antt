@@ -1,6 +1,5 @@
-use Rattle.std.proofs.Common.{◌≡◌, ◌<◌, ◌+◌, ℕ, [], ◌∷◌, ◌++◌, length, get_or, vec_len, Some, refl, sym, ap, ◌∙◌, arith, subst}
-use Rattle.std.proofs.lemmas.List.{length-map, length_push, get_or_default}
-use Rattle.tracer.specs.Gather.{traces_in, next_entry, NoneDueBelow}
+use Rattle.std.proofs.{Common.{◌≡◌, ◌<◌, ◌+◌, ℕ, [], ◌∷◌, ◌++◌, length, get_or, vec_len, Some, refl, sym, ap, ◌∙◌, arith}, lemmas.List.length-map}
+use Rattle.{std.proofs.lemmas.List.{length_push, get_or_default}, tracer.specs.Gather.{traces_in, next_entry, NoneDueBelow}}
 use Rattle.tracer.proofs.GatherLemmas.{gathers_start, gathers_next, gathered_all, gathered_no_order, some_left, some_left_in, next_within, left_of_vectors}
 use Rattle.tracer.proofs.gathering.gather.Goals.{In-Some}
 use Rattle.tracer.proofs.gathering.gather.Goals as goal
@@ -16,12 +15,10 @@ loop-trace-init c = (
 -- the trace found has a next entry, by what is taken
 found : (c : In-Some) → next_entry (traces_in c.args.traces.now) c.loop-trace.taken.items c.in-Some.trace
     ≡ Some c.in-Some.entry
-found c = subst (λ taken. next_entry (traces_in c.args.traces.now) taken c.in-Some.trace ≡ Some c.in-Some.entry) c.deref.ensures.value
-    c.in-Some.ensures.found
+found c = rw c.deref.ensures.value at c.in-Some.ensures.found
 
 first : (c : In-Some) → NoneDueBelow (traces_in c.args.traces.now) c.loop-trace.taken.items c.loop-trace.counts c.in-Some.trace
-first c = subst (λ taken. NoneDueBelow (traces_in c.args.traces.now) taken c.loop-trace.counts c.in-Some.trace) c.deref.ensures.value
-    c.in-Some.ensures.first
+first c = rw c.deref.ensures.value at c.in-Some.ensures.first
 
 within : (c : In-Some) → c.in-Some.trace < length c.loop-trace.taken.items
 within c = next_within (traces_in c.args.traces.now) c.loop-trace.taken.items c.in-Some.trace c.in-Some.entry
@@ -82,7 +79,6 @@ pub returns-else-len-total-clause-none : goal.returns-else-len-total-clause-none
 returns-else-len-total-clause-none c =
     let none : NoneDueBelow (traces_in c.args.traces.now) c.loop-trace.taken.items c.loop-trace.counts (length (traces_in c.args.traces.now))
     = rw (length-map c.args.traces.now (λ trace. trace.items))
-    (subst (λ taken. NoneDueBelow (traces_in c.args.traces.now) taken c.loop-trace.counts (length c.args.traces.now)) c.deref.ensures.value
-    c.in_default.ensures.none) in
+    (rw c.deref.ensures.value at c.in_default.ensures.none) in
     λ _. gathered_no_order (traces_in c.args.traces.now) c.in_ok-order.total c.loop-trace.taken.items c.loop-trace.counts c.loop-trace.order.items
     c.loop-trace.invariant.0 (omega arith) none

@@ -1,6 +1,5 @@
 use Rattle.std.proofs.Common.{◌-◌, ◌≤◌, vec_len, vec_capacity}
-use Rattle.tracer.proofs.GatherLemmas.{Gathers}
-use Rattle.tracer.specs.Gather.{traces_in}
+use Rattle.tracer.{proofs.GatherLemmas.Gathers, specs.Gather.traces_in}
 use Rattle.tracer.proofs.gathering.gather.Given as goal
 
 abbrev pub invariant-loop-trace : goal.invariant-loop-trace

@@ -1,7 +1,6 @@
 -- One read more.
 use Rattle.std.proofs.Common.{◌+◌, take, ◌∙◌, arith}
-use Rattle.tracer.proofs.PartLemmas.{read_kept, read_more, read_then}
-use Rattle.tracer.proofs.parts.fill_behind.Goals.{in-Ok, in-Err+else-ne}
+use Rattle.tracer.proofs.{PartLemmas.{read_kept, read_more, read_then}, parts.fill_behind.Goals.{in-Ok, in-Err+else-ne}}
 use Rattle.tracer.proofs.parts.fill_behind.Goals as goal
 
 pub loop-preserved : goal.loop-preserved

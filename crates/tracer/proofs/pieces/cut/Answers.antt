@@ -1,5 +1,4 @@
-use Rattle.std.proofs.Common.{◌+◌, arith}
-use Rattle.std.proofs.lemmas.{Bool.eq-eqb, List.take_rest}
+use Rattle.std.proofs.{Common.{◌+◌, arith}, lemmas.{Bool.eq-eqb, List.take_rest}}
 use Rattle.tracer.proofs.CutLemmas.{cut_at, cut_none}
 use Rattle.tracer.proofs.pieces.cut.Goals as goal
 

@@ -1,5 +1,4 @@
-use Rattle.std.proofs.Common.{◌+◌, arith}
-use Rattle.std.proofs.lemmas.{Bool.eq-eqb, List.take_rest}
+use Rattle.std.proofs.{Common.{◌+◌, arith}, lemmas.{Bool.eq-eqb, List.take_rest}}
 use Rattle.tracer.proofs.CutLemmas.{cut_at, cut_none, line_at}
 use Rattle.tracer.proofs.pieces.cut_line.Goals as goal
 

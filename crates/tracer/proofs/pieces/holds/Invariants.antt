@@ -1,5 +1,4 @@
-use Rattle.std.proofs.Common.{◌≡◌, ◌==◌, take}
-use Rattle.std.specs.List.{list_any}
+use Rattle.std.{proofs.Common.{◌≡◌, ◌==◌, take}, specs.List.list_any}
 use Rattle.tracer.proofs.pieces.holds.Given as goal
 
 abbrev pub invariant-loop-byte : goal.invariant-loop-byte

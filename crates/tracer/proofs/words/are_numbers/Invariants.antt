@@ -1,7 +1,5 @@
-use Rattle.std.proofs.Common.{◌≡◌, length}
-use Rattle.std.specs.List.{list_all}
-use Rattle.event_log.specs.Digits.{is_number}
-use Rattle.tracer.specs.Judging.{words_of}
+use Rattle.std.{proofs.Common.{◌≡◌, length}, specs.List.list_all}
+use Rattle.{event_log.specs.Digits.is_number, tracer.specs.Judging.words_of}
 use Rattle.tracer.proofs.words.are_numbers.Given as goal
 
 abbrev pub invariant-loop-front : goal.invariant-loop-front

@@ -1,5 +1,4 @@
-use Rattle.std.proofs.Common.{◌≡◌, length}
-use Rattle.std.specs.List.{list_all}
+use Rattle.std.{proofs.Common.{◌≡◌, length}, specs.List.list_all}
 use Rattle.tracer.specs.{Judging.is_within, Lines.left_of}
 use Rattle.tracer.proofs.words.are_within.Given as goal
 

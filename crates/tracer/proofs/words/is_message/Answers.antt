@@ -1,6 +1,5 @@
 use Rattle.std.proofs.Common.{ap, sym, ◌∙◌}
-use Rattle.tracer.specs.Judging.{message_in}
-use Rattle.tracer.proofs.MessageLemmas.{is_read}
+use Rattle.tracer.{specs.Judging.message_in, proofs.MessageLemmas.is_read}
 use Rattle.tracer.proofs.words.is_message.Goals as goal
 
 pub returns-in-Ok : goal.returns-in-Ok

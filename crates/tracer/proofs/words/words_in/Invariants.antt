@@ -1,5 +1,5 @@
 use Rattle.std.proofs.Common.{◌≡◌, ◌+◌, ◌≤◌, ◌++◌, length, Ok}
-use Rattle.event_log.specs.{declared.messages.TheConstants.WORDS, Reading.◌>>=◌}
+use Rattle.event_log.specs.{declared.messages.TheConstants.WORDS, Reading.{◌>>=◌}}
 use Rattle.tracer.specs.Judging.{words_of, numbers_in}
 use Rattle.tracer.proofs.words.words_in.Given as goal
 

@@ -1,8 +1,5 @@
-use Rattle.std.proofs.Common.{◌≡◌, ◌+◌, ◌-◌, ◌≤◌, length, arith}
-use Rattle.std.proofs.lemmas.List.{drop-set, drop_all}
-use Rattle.event_log.specs.declared.entries.Kind.{Kind, TheVariants.Send}
-use Rattle.tracer.specs.TraceText.{kind_word}
-use Rattle.tracer.proofs.LineLemmas.{line_end}
+use Rattle.std.proofs.{Common.{◌≡◌, ◌+◌, ◌-◌, ◌≤◌, length, arith}, lemmas.List.{drop-set, drop_all}}
+use Rattle.{event_log.specs.declared.entries.Kind.{Kind, TheVariants.Send}, tracer.{specs.TraceText.kind_word, proofs.LineLemmas.line_end}}
 use Rattle.tracer.proofs.writing.add_entry.Goals as goal
 
 kind_word_short : (k : Kind) → length (kind_word k) ≤ 5

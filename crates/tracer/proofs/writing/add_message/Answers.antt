@@ -1,7 +1,5 @@
 use Rattle.std.proofs.Common.{List, ℕ, ◌++◌, drop, decimal, sym, ap, ◌∙◌, append_assoc}
-use Rattle.event_log.specs.Messages.{first_word}
-use Rattle.tracer.specs.Pieces.{spaced}
-use Rattle.tracer.proofs.LineLemmas.{message_parts}
+use Rattle.{event_log.specs.Messages.first_word, tracer.{specs.Pieces.spaced, proofs.LineLemmas.message_parts}}
 use Rattle.tracer.proofs.writing.add_message.Goals as goal
 
 pub returns-clause-line : goal.returns-clause-line

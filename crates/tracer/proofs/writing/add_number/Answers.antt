@@ -1,5 +1,4 @@
-use Rattle.std.proofs.Common.{◌≡◌, ◌+◌, ◌-◌, arith}
-use Rattle.std.proofs.lemmas.{Fmt.length-decimal-le, List.drop-set}
+use Rattle.std.proofs.{Common.{◌≡◌, ◌+◌, ◌-◌, arith}, lemmas.{Fmt.length-decimal-le, List.drop-set}}
 use Rattle.tracer.proofs.writing.add_number.Goals as goal
 
 pub write_digits-at-requires : goal.write_digits-at-requires

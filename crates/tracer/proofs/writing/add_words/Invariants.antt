@@ -1,5 +1,4 @@
-use Rattle.std.proofs.Common.{◌≡◌, ◌+◌, ◌*◌, ◌≤◌, ◌++◌, length, drop}
-use Rattle.std.specs.List.{flat_map}
+use Rattle.std.{proofs.Common.{◌≡◌, ◌+◌, ◌*◌, ◌≤◌, ◌++◌, length, drop}, specs.List.flat_map}
 use Rattle.tracer.specs.{declared.writing.TheConstants.LINE, Pieces.behind_comma}
 use Rattle.tracer.proofs.writing.add_words.Given as goal
 

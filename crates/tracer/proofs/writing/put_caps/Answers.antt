@@ -1,6 +1,4 @@
-use Rattle.std.proofs.Common.{sym}
-use Rattle.tracer.specs.TraceText.{cap_pieces}
-use Rattle.tracer.proofs.{SinkLemmas.all_out, LineLemmas.numbered_out, LineLemmas.numbered_failed}
+use Rattle.{std.proofs.Common.sym, tracer.{specs.TraceText.cap_pieces, proofs.{SinkLemmas.all_out, LineLemmas.{numbered_out, numbered_failed}}}}
 use Rattle.tracer.proofs.writing.put_caps.Goals as goal
 
 pub loop-b-preserved : goal.loop-b-preserved

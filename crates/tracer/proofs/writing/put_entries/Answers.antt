@@ -1,6 +1,4 @@
-use Rattle.std.proofs.Common.{sym}
-use Rattle.tracer.specs.TraceText.{text_line, entry_pieces}
-use Rattle.tracer.proofs.SinkLemmas.{failed_at}
+use Rattle.{std.proofs.Common.sym, tracer.{specs.TraceText.{text_line, entry_pieces}, proofs.SinkLemmas.failed_at}}
 use Rattle.tracer.proofs.writing.put_entries.Goals as goal
 
 pub returns-in_err-put_entry-clause-out : goal.returns-in_err-put_entry-clause-out

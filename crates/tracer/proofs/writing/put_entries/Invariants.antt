@@ -1,5 +1,4 @@
-use Rattle.std.proofs.Common.{◌≡◌, take, false}
-use Rattle.std.specs.{List.flat_map, Io.KnownBytes.Appends}
+use Rattle.std.{proofs.Common.{◌≡◌, take, false}, specs.{List.flat_map, Io.KnownBytes.Appends}}
 use Rattle.tracer.specs.TraceText.{text_line, entry_pieces}
 use Rattle.tracer.proofs.writing.put_entries.Given as goal
 

@@ -1,5 +1,4 @@
-use Rattle.std.proofs.Common.{sym}
-use Rattle.tracer.proofs.{SinkLemmas.outs_before, SinkLemmas.outs_then, SinkLemmas.all_out, LineLemmas.line_text}
+use Rattle.{std.proofs.Common.sym, tracer.proofs.{SinkLemmas.{outs_before, outs_then, all_out}, LineLemmas.line_text}}
 use Rattle.tracer.proofs.writing.put_line.Goals as goal
 
 pub returns-in_err-put-clause-out : goal.returns-in_err-put-clause-out

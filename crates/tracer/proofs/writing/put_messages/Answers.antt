@@ -1,6 +1,4 @@
-use Rattle.std.proofs.Common.{sym}
-use Rattle.tracer.specs.{TraceText.message_text, Pieces.spaced}
-use Rattle.tracer.proofs.SinkLemmas.{failed_at}
+use Rattle.{std.proofs.Common.sym, tracer.{specs.{TraceText.message_text, Pieces.spaced}, proofs.SinkLemmas.failed_at}}
 use Rattle.tracer.proofs.writing.put_messages.Goals as goal
 
 pub returns-in_err-put_message-clause-out : goal.returns-in_err-put_message-clause-out

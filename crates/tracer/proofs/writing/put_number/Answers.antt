@@ -1,6 +1,4 @@
-use Rattle.std.proofs.Common.{sym}
-use Rattle.std.specs.Prelude.{decimal}
-use Rattle.tracer.proofs.SinkLemmas.{outs_before, outs_then, all_out}
+use Rattle.{std.{proofs.Common.sym, specs.Prelude.decimal}, tracer.proofs.SinkLemmas.{outs_before, outs_then, all_out}}
 use Rattle.tracer.proofs.writing.put_number.Goals as goal
 
 pub returns-in_err-put-clause-out : goal.returns-in_err-put-clause-out

@@ -1,6 +1,4 @@
-use Rattle.std.proofs.Common.{sym}
-use Rattle.tracer.specs.Pieces.{text_of, spaced}
-use Rattle.tracer.proofs.SinkLemmas.{failed_in}
+use Rattle.{std.proofs.Common.sym, tracer.{specs.Pieces.{text_of, spaced}, proofs.SinkLemmas.failed_in}}
 use Rattle.tracer.proofs.writing.put_pieces.Goals as goal
 
 pub returns-in_err-put_piece-clause-out : goal.returns-in_err-put_piece-clause-out

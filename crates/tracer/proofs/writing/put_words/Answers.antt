@@ -1,6 +1,4 @@
-use Rattle.std.proofs.Common.{sym}
-use Rattle.tracer.specs.Pieces.{behind_comma}
-use Rattle.tracer.proofs.SinkLemmas.{failed_in}
+use Rattle.{std.proofs.Common.sym, tracer.{specs.Pieces.behind_comma, proofs.SinkLemmas.failed_in}}
 use Rattle.tracer.proofs.writing.put_words.Goals as goal
 
 pub returns-in_err-put_number-clause-out : goal.returns-in_err-put_number-clause-out

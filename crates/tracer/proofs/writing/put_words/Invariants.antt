@@ -1,5 +1,4 @@
-use Rattle.std.proofs.Common.{◌≡◌, take, false}
-use Rattle.std.specs.{List.flat_map, Io.KnownBytes.Appends}
+use Rattle.std.{proofs.Common.{◌≡◌, take, false}, specs.{List.flat_map, Io.KnownBytes.Appends}}
 use Rattle.tracer.specs.Pieces.{behind_comma}
 use Rattle.tracer.proofs.writing.put_words.Given as goal
 

@@ -1,6 +1,4 @@
-use Rattle.std.proofs.Common.{ap, subst}
-use Rattle.boot.specs.Plan.{IsPlan}
-use Rattle.boot.proofs.PlanLemmas.{home_at, home_exists}
+use Rattle.{std.proofs.Common.{ap, subst}, boot.{specs.Plan.IsPlan, proofs.PlanLemmas.{home_at, home_exists}}}
 use Rattle.boot.proofs.plans.Boot.home.Goals as goal
 
 pub returns-clause-home : goal.returns-clause-home

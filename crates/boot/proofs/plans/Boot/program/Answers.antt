@@ -1,5 +1,4 @@
-use Rattle.std.proofs.Common.{ap}
-use Rattle.boot.proofs.PlanLemmas.{program_at_index}
+use Rattle.{std.proofs.Common.ap, boot.proofs.PlanLemmas.program_at_index}
 use Rattle.boot.proofs.plans.Boot.program.Goals as goal
 
 pub returns-clause-program : goal.returns-clause-program

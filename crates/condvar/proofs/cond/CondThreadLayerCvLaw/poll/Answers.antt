@@ -1,13 +1,10 @@
 use Rattle.std.proofs.Common.{◌≡◌, ◌<◌, ◌∙◌, List, Option, None, if◌then◌else◌, is_some, slice_set, ap, sym, true, false, Some}
-use Rattle.layer_traits.specs.{declared.conditions.CvOut.CvOut, declared.locked.QOut.QOut, declared.sleeps.Outcome.Outcome, Conditions.CvCall}
-use Rattle.layer_traits.specs.{Conditions.cv_rules, CvLaw.Waiting, QLocking.lock_caller, QLocking.lock_moves, QLocking.lock_rules, QLockLaw.lock_kernel}
-use Rattle.layer_traits.specs.{QLockLaw.slept_for, Payloads.cv_meant, Payloads.lock_meant, Plans.table_of, QueueRules.queue_rules}
-use Rattle.event_log.specs.declared.ids.{BufId.BufId, TheConstants.THREADS, LockId.TheVariants.Buffer}
-use Rattle.condvar.specs.Waiting.{is_wait}
-use Rattle.condvar.proofs.{CondLemmas.complete_told, CondLemmas.current_awake, CondLemmas.current_small, CondLemmas.lock_tells, CondLemmas.over_polled}
-use Rattle.condvar.proofs.{CondLemmas.waits_follow, CondLemmas.waits_polled, CondLemmas.waits_told, CondLemmas.wake_ended, CondLemmas.wake_kept}
-use Rattle.condvar.proofs.{CondLemmas.wake_told, cond.CondThreadLayerCvLaw.poll.Given.Over, cond.CondThreadLayerCvLaw.poll.Goals.After-caller_of-t}
-use Rattle.condvar.proofs.{cond.CondThreadLayerCvLaw.poll.Goals.After-complete}
+use Rattle.layer_traits.specs.{declared.{conditions.CvOut.CvOut, locked.QOut.QOut, sleeps.Outcome.Outcome}, Conditions.{CvCall, cv_rules}, CvLaw.Waiting}
+use Rattle.layer_traits.specs.{QLocking.{lock_caller, lock_moves, lock_rules}, QLockLaw.{lock_kernel, slept_for}, Payloads.{cv_meant, lock_meant}}
+use Rattle.{layer_traits.specs.{Plans.table_of, QueueRules.queue_rules}, event_log.specs.declared.ids.{BufId.BufId, TheConstants.THREADS}}
+use Rattle.{event_log.specs.declared.ids.LockId.TheVariants.Buffer, condvar.{specs.Waiting.is_wait, proofs.CondLemmas.{complete_told, current_awake}}}
+use Rattle.condvar.proofs.CondLemmas.{current_small, lock_tells, over_polled, waits_follow, waits_polled, waits_told, wake_ended, wake_kept, wake_told}
+use Rattle.condvar.proofs.cond.CondThreadLayerCvLaw.poll.{Given.Over, Goals.{After-caller_of-t, After-complete}}
 use Rattle.condvar.proofs.cond.CondThreadLayerCvLaw.poll.Goals as goal
 
 -- the caller is a thread of the machine
@@ -16,10 +13,9 @@ small g c =
     let law = g.met.Q.ThreadLayer in
     let m = c.args.m.now in
     let p = c.args.self.now.lower in
-    let cpu = g.Q.ThreadLayer.cpu_of p in
     let acts = law.own_cpu p m c.requires.fits in
-    current_small _ cpu _ (g.Q.ThreadLayer.own p).sleep.threads c.caller_of-t.result (law.moves_legal m cpu acts) (law.stands p m c.requires.fits).stands
-    (law.opens m cpu acts).room (c.requires.call.runs ∙ ap Some (sym c.caller_of-t.ensures))
+    current_small _ _ _ (g.Q.ThreadLayer.own p).sleep.threads c.caller_of-t.result (law.moves_legal m _ acts) (law.stands p m c.requires.fits).stands
+    (law.opens m _ acts).room (c.requires.call.runs ∙ ap Some (sym c.caller_of-t.ensures))
 
 pub ends_wait-requires : goal.ends_wait-requires
 ends_wait-requires g c = small g (goal.at.ends_wait-requires g c).After-caller_of-t
@@ -43,13 +39,14 @@ returns-then-ends_wait-clause-seen g c =
     let own : Waiting _ = record { lock = Q.own p; waits = waits } in
     let caller = c.caller_of-t.ensures in
     let acts = law.own_cpu p m c.requires.fits in
-    let awake = current_awake g.G.Guarded.monitor_rules (Q.opening m) (Q.seen m) cpu (Q.own p).sleep.threads t (law.moves_legal m cpu acts)
-    (law.stands p m c.requires.fits).stands (law.stands p m c.requires.fits).lists c.requires.call.runs (Buffer c.args.call.buffer) in
-    let some = wake_told G.monitor_rules k G.meant c.args.payload.now.parcel cpu c.args.call.buffer c.args.call.edit (Q.seen m) own (Q.under_way p)
+    let stands = law.stands p m c.requires.fits in
+    let awake = current_awake G.monitor_rules (Q.opening m) (Q.seen m) cpu (Q.own p).sleep.threads t (law.moves_legal m cpu acts) stands.stands stands.lists
+    c.requires.call.runs (Buffer c.args.call.buffer) in
+    let some = wake_told G.monitor_rules k cpu c.args.call.buffer own (Q.under_way p) G.meant c.args.payload.now.parcel c.args.call.edit (Q.seen m)
     c.ends_wait.result true c.caller_of-t.result c.requires.call c.ends_wait.ensures.was c.if-ends_wait.true caller in
     let now = wake_ended waits c.ends_wait.new.self.buffers c.ends_wait.result t c.caller_of-t.result c.ends_wait.ensures.now c.if-ends_wait.true caller in
-    over_polled g.G.Guarded.monitor_rules k (λ d. Q.ActsFor m d) cpu c.args.call.buffer call (Q.seen m) own (Q.under_way p) c.side_of.result
-    c.ends_wait.new.self.buffers some c.requires.call awake c.side_of.ensures now
+    over_polled G.monitor_rules k cpu c.args.call.buffer own (Q.under_way p) (λ d. Q.ActsFor m d) call (Q.seen m) c.ends_wait.new.self.buffers _
+    c.side_of.result (slept_for waits t) some c.requires.call.may awake c.side_of.ensures now
 
 -- the thread does not wait: what the poll beneath leaves
 module _ (g : Over) (c : After-complete g) where
@@ -68,7 +65,7 @@ module _ (g : Over) (c : After-complete g) where
   answer = lock_tells told c.poll-answer.new.payload.parcel c.poll-answer.result
 
   none : is_some (slept_for waits (lock_caller (cv_rules monitor_rules) call)) ≡ false
-  none = wake_told monitor_rules _ meant c.args.payload.now.parcel _ c.args.call.buffer c.args.call.edit _ own _ c.ends_wait.result false
+  none = wake_told monitor_rules _ _ c.args.call.buffer own _ meant c.args.payload.now.parcel c.args.call.edit _ c.ends_wait.result false
       c.caller_of-t.result c.requires.call c.ends_wait.ensures.was c.if-ends_wait.false c.caller_of-t.ensures
 
   noted : c.complete.new.self.buffers
@@ -85,7 +82,7 @@ module _ (g : Over) (c : After-complete g) where
 pub returns-clause-seen : goal.returns-clause-seen
 returns-clause-seen g c =
     let d = (goal.at.returns-clause-seen g c).After-complete in
-    waits_polled g.G.Guarded.monitor_rules _ _ _ c.args.call.buffer (call g d) _ _ (own g d) _ _ _ (answer g d) _ _ (none g d) c.poll-answer.ensures.seen
+    waits_polled g.G.Guarded.monitor_rules _ _ c.args.call.buffer (own g d) _ _ (call g d) _ _ _ _ (answer g d) _ _ (none g d) c.poll-answer.ensures.seen
     (noted g d) (gives g d)
 
 pub returns-clause-follows : goal.returns-clause-follows

@@ -1,25 +1,18 @@
 use Rattle.std.proofs.Common.{refl, ◌∙◌, sym, arith}
-use Rattle.cpu.specs.CpuSteps.{SteppedAt}
-use Rattle.cpu.proofs.{PassSteps.current_within, TableCalls.stopped_steps, CpuRuns.one_step, CpuStates.valid_cpu, CpuOverLayer.laws_of, CpuOverLayer.layered}
-use Rattle.cpu.proofs.{CpuOverLayer.observed_cpu, CpuOverLayer.observed_outset, CpuOverLayer.left_alone, CpuOverLayer.runs_home}
-use Rattle.cpu.proofs.cpus.Cpu.act.{Given.Over, Goals.After-go}
+use Rattle.cpu.{specs.CpuSteps.SteppedAt, proofs.{TableCalls.stopped_steps, CpuRuns.one_step, CpuOverLayer.{laws_of, layered, observed_cpu, observed_outset}}}
+use Rattle.cpu.proofs.{CpuOverLayer.{left_alone, runs_within}, cpus.Cpu.act.{Given.Over, Goals.After-go}}
 use Rattle.cpu.proofs.cpus.Cpu.act.Goals as goal
 
 pub reason-requires : goal.reason-requires
 reason-requires g c =
-    let m = c.args.m.now in
-    let p = c.args.self.now in
-    let cpu = layered (laws_of g.met.I.CallLayer) m p c.requires.fits c.requires.number c.requires.is c.requires.table in
-    current_within (valid_cpu c.requires.is) (runs_home cpu)
+    runs_within (layered (laws_of g.met.I.CallLayer) c.args.m.now c.args.self.now c.requires.fits c.requires.number c.requires.is c.requires.table)
 
 pub returns-in-Some-clause-leaves : goal.returns-in-Some-clause-leaves
 returns-in-Some-clause-leaves g c = left_alone g.I.CallLayer c.args.m.now c.args.self.now _ c.requires.number refl refl refl refl
 
 pub returns-in-Some-clause-steps : goal.returns-in-Some-clause-steps
 returns-in-Some-clause-steps g c = λ step.
-    let m = c.args.m.now in
-    let p = c.args.self.now in
-    let cpu = layered (laws_of g.met.I.CallLayer) m p c.requires.fits c.requires.number c.requires.is c.requires.table in
+    let cpu = layered (laws_of g.met.I.CallLayer) c.args.m.now c.args.self.now c.requires.fits c.requires.number c.requires.is c.requires.table in
     stopped_steps (observed_cpu cpu step) _ _ (observed_outset cpu step) c.in-Some.reason (sym (sym c.in-Some.is ∙ c.reason.ensures))
 
 -- the step that it took

@@ -1,9 +1,8 @@
-use Rattle.std.proofs.Common.{◌≡◌, ◌++◌, if◌then◌else◌, Option, None, refl, ap, sym, ◌∙◌, subst}
-use Rattle.layer_traits.specs.{declared.calls.Effect.Effect, BufferLaw.answer_in, BufferLaw.answer_with, BufferLaw.buffer_of, BufferLaw.call_state_of}
-use Rattle.cpu.specs.{Guests.entries_of, Guests.polled, Cpus.fresh_at, Cpus.guest_at, Cpus.stands_at, Cpus.with_guest}
-use Rattle.cpu.proofs.{CallRuns.call_runs, CallRuns.fresh_room, CallRuns.polled_some, CallSteps.poll_call_states, CallSteps.poll_number, CallSteps.poll_within, CallSteps.polls_at}
-use Rattle.cpu.proofs.{CpuStates.valid_cpu, CpuOverLayer.IsLayered, CpuOverLayer.laws_of, CpuOverLayer.layered}
-use Rattle.cpu.proofs.{cpus.Cpu.call.Given.Over, cpus.Cpu.call.Goals.Start, cpus.Cpu.call.Goals.After-note_poll-fresh}
+use Rattle.std.proofs.Common.{◌≡◌, ◌++◌, if◌then◌else◌, Option, None, refl, ap, sym, ◌∙◌, subst, arith}
+use Rattle.{layer_traits.specs.{declared.calls.Effect.Effect, BufferLaw.{answer_in, buffer_of, call_state_of}}, cpu.specs.Guests.{entries_of, polled}}
+use Rattle.cpu.{specs.Cpus.{fresh_at, guest_at, stands_at, with_guest}, proofs.{CallRuns.{call_runs, fresh_room}, CallSteps.{poll_call_states, poll_number}}}
+use Rattle.cpu.proofs.{CallSteps.{poll_within, polls_at}, CpuStates.valid_cpu, CpuOverLayer.{IsLayered, laws_of, layered}, cpus.Cpu.call.Given.Over}
+use Rattle.cpu.proofs.cpus.Cpu.call.Goals.{Start, After-note_poll-fresh}
 use Rattle.cpu.proofs.cpus.Cpu.call.Goals as goal
 
 -- the CPU over its layers
@@ -36,9 +35,7 @@ module _ (g : Over) (c : After-note_poll-fresh g) where
   guests_now : c.note_poll-fresh.new.self.items ≡ with_guest c.args.self.now.guests.items c.args.thread.0
       (λ x. polled x ((call_state_of (call_states c.poll_on-run.new.self) c.args.thread).effect)
       (answer_in (call_states c.poll_on-run.new.self) c.args.thread c.poll_on-run.result.reply))
-  guests_now = (rw c.call_of-call.follows.holds-at-none at c.note_poll-fresh.ensures.guests)
-      ∙ ap (λ (f : Option Effect). with_guest c.args.self.now.guests.items c.args.thread.0 (λ x. polled x f (answer_with f c.poll_on-run.result.reply)))
-      c.effect_here-effect.ensures
+  guests_now = grind arith
 
   fresh_now : (if c.note_poll-fresh.result then c.effect_here-effect.result.now else None)
       ≡ fresh_at (guest_at c.args.self.now.guests.items c.args.thread.0) ((call_state_of (call_states c.poll_on-run.new.self) c.args.thread).effect)
@@ -51,7 +48,7 @@ note_effect-requires g c = λ f some.
     c.args.asked c.requires.chosen c.requires.not_full _ f (sym (fresh_now g (goal.at.note_effect-requires g c).After-note_poll-fresh) ∙ some)
 
 pub returns-clause-some : goal.returns-clause-some
-returns-clause-some g c = polled_some g.I.CallLayer c.args.thread c.args.asked (rw c.call_of-call.ensures.call at c.poll_on-run.ensures.polled_on)
+returns-clause-some g c = grind (arith, rw c.call_of-call.ensures.call at c.poll_on-run.ensures.polled_on)
 
 pub returns-clause-ran : goal.returns-clause-ran
 returns-clause-ran g c =

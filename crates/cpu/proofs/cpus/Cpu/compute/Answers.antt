@@ -1,8 +1,7 @@
 use Rattle.std.proofs.Common.{List, length, Option, refl, ap, sym, ◌∙◌, subst, vec_capacity}
-use Rattle.cpu.specs.{declared.guests.Guest.Guest, Cpus.IsCpu, Cpus.programs_of, Tables.IsTabled, Tables.WentByTable}
-use Rattle.cpu.proofs.{GuestLists.programs_with, PassSteps.noted_compute, TableCalls.computed_steps, TableCalls.computed_tabled, CpuStates.valid_cpu}
-use Rattle.cpu.proofs.{CpuOverLayer.laws_of, CpuOverLayer.layered, CpuOverLayer.observed_cpu, CpuOverLayer.observed_outset, CpuOverLayer.left_alone}
-use Rattle.layer_traits.specs.declared.steps.Step.TheVariants.{Stepped}
+use Rattle.cpu.{specs.{declared.guests.Guest.Guest, Cpus.{IsCpu, programs_of}, Tables.{IsTabled, WentByTable}}, proofs.GuestLists.programs_with}
+use Rattle.cpu.proofs.{PassSteps.noted_compute, TableCalls.{computed_steps, computed_tabled}, CpuStates.valid_cpu, CpuOverLayer.{laws_of, layered}}
+use Rattle.{cpu.proofs.CpuOverLayer.{observed_cpu, observed_outset, left_alone}, layer_traits.specs.declared.steps.Step.TheVariants.Stepped}
 use Rattle.cpu.proofs.cpus.Cpu.compute.Goals as goal
 
 pub returns-clause-is : goal.returns-clause-is

@@ -1,8 +1,6 @@
-use Rattle.std.proofs.Common.{rules, ◌≡◌, ◌+◌, ◌-◌, ◌<◌, ◌≤◌, None, refl, arith}
-use Rattle.cpu.specs.CpuSteps.{RunsAt, SteppedAt, stops_at}
-use Rattle.cpu.proofs.{CpuRuns.AgreesAt, CpuRuns.runs_agree, CpuRuns.runs_on, CpuRuns.runs_room, PassSteps.current_within, CpuStates.valid_cpu}
-use Rattle.cpu.proofs.{CpuOverLayer.laws_of, CpuOverLayer.layered, CpuOverLayer.runs_home}
-use Rattle.cpu.proofs.cpus.Cpu.go_on.{Given.Over, Goals.At-loop-taken, Goals.Then-look, Goals.After-go-taken}
+use Rattle.std.proofs.Common.{rules, ◌≡◌, ◌+◌, ◌-◌, ◌≤◌, refl, arith}
+use Rattle.cpu.{specs.CpuSteps.RunsAt, proofs.{CpuRuns.{AgreesAt, runs_agree, runs_on, runs_room, stepped_so}, CpuOverLayer.{laws_of, layered, runs_within}}}
+use Rattle.cpu.proofs.cpus.Cpu.go_on.{Given.Over, Goals.{At-loop-taken, Then-look, After-go-taken}}
 use Rattle.cpu.proofs.cpus.Cpu.go_on.Goals as goal
 
 pub loop-taken-init : goal.loop-taken-init
@@ -17,44 +15,19 @@ module _ (g : Over) (c : At-loop-taken g) where
   agrees = runs_agree begins c.loop-taken.invariant.ran
 
   left : c.args.most - c.loop-taken.taken ≤ g.I.CallLayer.room c.loop-taken.m
-  left =
-      let taken = runs_room c.loop-taken.invariant.ran in
-      let enough = c.requires.room in
-      let few = c.loop-taken.invariant.few in
-      omega (arith, taken, enough, few)
+  left = grind (arith, runs_room)
 
-pub look-requires-clause-fits : goal.look-requires-clause-fits
-look-requires-clause-fits g c = (agrees g (goal.at.look-requires-clause-fits g c).At-loop-taken).fits
-
-pub look-requires-clause-room : goal.look-requires-clause-room
-look-requires-clause-room g c =
-    let left = left g (goal.at.look-requires-clause-room g c).At-loop-taken in
-    let few = c.loop-taken.invariant.few in
-    omega (arith, left, few)
-
-pub look-requires-clause-number : goal.look-requires-clause-number
-look-requires-clause-number g c = (agrees g (goal.at.look-requires-clause-number g c).At-loop-taken).number
-
-pub look-requires-clause-is : goal.look-requires-clause-is
-look-requires-clause-is g c = (agrees g (goal.at.look-requires-clause-is g c).At-loop-taken).is
-
-pub look-requires-clause-table : goal.look-requires-clause-table
-look-requires-clause-table g c = (agrees g (goal.at.look-requires-clause-table g c).At-loop-taken).table
+pub look-requires : goal.look-requires
+look-requires g c =
+    let at = (goal.at.look-requires g c).At-loop-taken in
+    let agrees = agrees g at in
+    let left = left g at in
+    record { fits = agrees.fits; room = omega arith; number = agrees.number; is = agrees.is; table = agrees.table }
 
 -- a look that was a step
-module _ (g : Over) (c : Then-look g) where
-  looked : SteppedAt g.I.CallLayer c.loop-taken.m c.loop-taken.self c.look.new.m c.look.new.self
-  looked = record {
-    live = c.loop-taken.invariant.live;
-    fits = c.look.ensures.fits;
-    is = c.look.ensures.is;
-    leaves = c.look.ensures.leaves;
-    table = c.look.ensures.table;
-    steps = λ step. c.if-look.ensures.steps step refl;
-  }
-
-  ran_looking : RunsAt g.I.CallLayer c.args.m.now c.args.self.now (c.loop-taken.taken + 1) c.look.new.m c.look.new.self
-  ran_looking = RunsAt.more c.loop-taken.invariant.ran looked
+ran_looking : (g : Over) (c : Then-look g) → RunsAt g.I.CallLayer c.args.m.now c.args.self.now (c.loop-taken.taken + 1) c.look.new.m c.look.new.self
+ran_looking g c = RunsAt.more c.loop-taken.invariant.ran (stepped_so c.look.ensures.leaves c.loop-taken.invariant.live c.look.ensures.fits
+    c.look.ensures.is c.look.ensures.table (λ step. c.if-look.ensures.steps step refl))
 
 pub returns-then-looked-clause-ran : goal.returns-then-looked-clause-ran
 returns-then-looked-clause-ran g c = ran_looking g (goal.at.returns-then-looked-clause-ran g c).Then-look
@@ -62,12 +35,7 @@ returns-then-looked-clause-ran g c = ran_looking g (goal.at.returns-then-looked-
 pub loop-taken-preserved-then-look : goal.loop-taken-preserved-then-look
 loop-taken-preserved-then-look g c =
     let few = c.loop-taken.invariant.few in
-    let other = c.if-taken-most.false in
-    record {
-      few = grind (arith, few, other);
-      live = c.if-look.ensures.goes_on refl;
-      ran = ran_looking g (goal.at.loop-taken-preserved-then-look g c).Then-look;
-    }
+    grind (arith, few, ran_looking)
 
 pub go-taken-requires-clause-room : goal.go-taken-requires-clause-room
 go-taken-requires-clause-room g c =
@@ -89,11 +57,8 @@ module _ (g : Over) (c : After-go-taken g) where
 
 pub reason-requires : goal.reason-requires
 reason-requires g c =
-    let m = c.go-taken.new.m in
-    let p = c.go-taken.new.self in
     let agrees = agrees_going g (goal.at.reason-requires g c).After-go-taken in
-    let cpu = layered (laws_of g.met.I.CallLayer) m p agrees.fits agrees.number agrees.is agrees.table in
-    current_within (valid_cpu agrees.is) (runs_home cpu)
+    runs_within (layered (laws_of g.met.I.CallLayer) c.go-taken.new.m c.go-taken.new.self agrees.fits agrees.number agrees.is agrees.table)
 
 pub returns-then-taken-most-2-clause-ran : goal.returns-then-taken-most-2-clause-ran
 returns-then-taken-most-2-clause-ran g c = ran_going g (goal.at.returns-then-taken-most-2-clause-ran g c).After-go-taken
@@ -101,10 +66,8 @@ returns-then-taken-most-2-clause-ran g c = ran_going g (goal.at.returns-then-tak
 pub loop-taken-preserved : goal.loop-taken-preserved
 loop-taken-preserved g c =
     let few = c.loop-taken.invariant.few in
-    let less = c.go-taken.ensures.few in
-    let other = c.if-taken-most-2.false in
     record {
-      few = grind (arith, few, less, other);
+      few = grind (arith, few, c.go-taken.ensures.few, c.if-taken-most-2.false);
       live = search rules;
       ran = ran_going g (goal.at.loop-taken-preserved g c).After-go-taken;
     }

@@ -1,13 +1,9 @@
-use Rattle.std.proofs.Common.{rules, ◌≡◌, true, false, ◌++◌, List, Option, is_some, ap, sym, refl, ◌∙◌, subst, if◌then◌else◌}
-use Rattle.event_log.specs.declared.ids.{CpuId.CpuId, Tid.Tid}
-use Rattle.layer_traits.specs.{Places.pending_by, QueueBlocks.homes_in, BufferLaw.MovesGrow}
-use Rattle.cpu.specs.Cpus.{ActsGrow, passed_by, programs_of}
-use Rattle.cpu.proofs.StepsBesideGuests.{under_way_done, under_way_waits, follows_grow, others_same, programs_passed, passed_grows, others_grow}
-use Rattle.cpu.proofs.{PassSteps.current_within, PassSteps.may_pass, PassSteps.noted_done, PassSteps.noted_wait, TableCalls.ObservedPass}
-use Rattle.cpu.proofs.{TableCalls.hand_preserved, TableCalls.passed_steps, TableCalls.passed_tabled, CpuStates.valid_cpu, CpuOverLayer.acts_for, CpuOverLayer.laws_of}
-use Rattle.cpu.specs.declared.guests.Guest.{Guest}
-use Rattle.cpu.proofs.{CpuOverLayer.IsLayered, CpuOverLayer.layered, CpuOverLayer.left_framed, CpuOverLayer.runs_home, CpuOverLayer.observed_cpu, CpuOverLayer.observed_outset, cpus.Cpu.pass.Given.Over}
-use Rattle.cpu.proofs.cpus.Cpu.pass.Goals.{Start, After-pass-done, After-note_pass, Else-is_some}
+use Rattle.cpu.proofs.{GuestLists.programs_with, StepsBesideGuests.{follows_grow, others_same, passed_grows, others_grow}, PassSteps.{current_within, may_pass}}
+use Rattle.cpu.proofs.{PassSteps.{noted_done, noted_wait}, TableCalls.{ObservedPass, hand_preserved, passed_steps, passed_tabled}, CpuStates.valid_cpu}
+use Rattle.cpu.proofs.{CpuOverLayer.{acts_for, laws_of, IsLayered, layered, left_framed, runs_home, observed_cpu, observed_outset}, cpus.Cpu.pass.Given.Over}
+use Rattle.cpu.{proofs.cpus.Cpu.pass.Goals.{Start, After-pass-done}, specs.{Cpus.{passed_by, programs_of}, declared.guests.Guest.Guest}}
+use Rattle.std.proofs.Common.{rules, ◌≡◌, true, false, ◌++◌, List, Option, is_some, ap, sym, refl, ◌∙◌, if◌then◌else◌, arith}
+use Rattle.{event_log.specs.declared.ids.Tid.Tid, layer_traits.specs.{Places.pending_by, QueueBlocks.homes_in}}
 use Rattle.cpu.proofs.cpus.Cpu.pass.Goals as goal
 
 -- the CPU over its layers
@@ -35,47 +31,37 @@ returns-then-is_some-clause-is g c =
     (I.threads c.pass-done.new.self) (I.under_way c.pass-done.new.self) c.note_pass.new.self.items (runs_home cpu) c.requires.chosen
     (others_same (λ d. I.ActsFor m d) p.number (I.seen m) (I.seen c.pass-done.new.m) c.pass-done.ensures.seen (acts_for cpu))
     (rw some at told.after)
-    (c.pass-done.ensures.under_way ∙ under_way_done c.args.pass c.pass-done.result some)
+    (c.pass-done.ensures.under_way ∙ (grind (arith, some)))
     (c.note_pass.ensures ∙ ap (λ (o : Option Tid). passed_by o p.guests.items c.args.pass) c.current-runs.ensures))
 
 pub returns-then-is_some-clause-leaves : goal.returns-then-is_some-clause-leaves
 returns-then-is_some-clause-leaves g c =
-    let I = g.I.CallLayer in
-    let m = c.args.m.now in
     let e = c.pass-done.ensures in
-    left_framed I m c.pass-done.new.m c.args.self.now _ c.requires.number refl refl e.framed e.caps e.homes
-    (ap programs_of c.note_pass.ensures ∙ programs_passed c.current-runs.result c.args.self.now.guests.items c.args.pass) (others_grow _ _ _ _ e.seen)
-    (subst (λ (d : CpuId). MovesGrow (λ e. I.ActsFor m e) d (I.moves m) (I.moves c.pass-done.new.m)) c.requires.number
-    (passed_grows _ _ _ _ _ _ _ _ _ e.passed))
-    (λ step. subst (λ (d : CpuId). ActsGrow (λ e. I.ActsFor m e) d (I.acts m) (I.acts c.pass-done.new.m)) c.requires.number
-    (follows_grow _ _ _ _ _ _ _ _ (e.follows step)))
+    left_framed g.I.CallLayer c.args.m.now c.pass-done.new.m c.args.self.now _ c.requires.number refl refl e.framed e.caps e.homes
+    (ap programs_of c.note_pass.ensures ∙ (grind (arith, programs_with))) (others_grow _ _ _ _ e.seen)
+    (rw (← c.requires.number) (passed_grows _ _ _ _ _ _ _ _ _ e.passed))
+    (λ step. rw (← c.requires.number) (follows_grow _ _ _ _ _ _ _ _ (e.follows step)))
 
 pub returns-else-is_some-clause-is : goal.returns-else-is_some-clause-is
 returns-else-is_some-clause-is g c =
     let I = g.I.CallLayer in
     let m = c.args.m.now in
-    let p = c.args.self.now in
     let cpu = cpu g (goal.at.returns-else-is_some-clause-is g c).Start in
     let none : is_some c.pass-done.result ≡ false = search rules in
-    let told = c.pass-done.ensures.passed in
     rw (c.pass-done.ensures.homes, c.pass-done.ensures.caps, c.pass-done.ensures.call_states)
     (noted_wait (valid_cpu c.requires.is) c.args.pass (I.seen c.pass-done.new.m) (I.threads c.pass-done.new.self)
     (I.under_way c.pass-done.new.self) c.requires.chosen
-    (others_same (λ d. I.ActsFor m d) p.number (I.seen m) (I.seen c.pass-done.new.m) c.pass-done.ensures.seen (acts_for cpu))
-    (rw none at told.after)
-    (c.pass-done.ensures.under_way ∙ under_way_waits c.args.pass c.pass-done.result none))
+    (others_same (λ d. I.ActsFor m d) c.args.self.now.number (I.seen m) (I.seen c.pass-done.new.m) c.pass-done.ensures.seen (acts_for cpu))
+    (rw none at c.pass-done.ensures.passed.after)
+    (c.pass-done.ensures.under_way ∙ (grind (arith, none))))
 
 pub returns-else-is_some-clause-leaves : goal.returns-else-is_some-clause-leaves
 returns-else-is_some-clause-leaves g c =
-    let I = g.I.CallLayer in
-    let m = c.args.m.now in
     let e = c.pass-done.ensures in
-    left_framed I m c.pass-done.new.m c.args.self.now _ c.requires.number refl refl e.framed e.caps e.homes
+    left_framed g.I.CallLayer c.args.m.now c.pass-done.new.m c.args.self.now _ c.requires.number refl refl e.framed e.caps e.homes
     refl (others_grow _ _ _ _ e.seen)
-    (subst (λ (d : CpuId). MovesGrow (λ e. I.ActsFor m e) d (I.moves m) (I.moves c.pass-done.new.m)) c.requires.number
-    (passed_grows _ _ _ _ _ _ _ _ _ e.passed))
-    (λ step. subst (λ (d : CpuId). ActsGrow (λ e. I.ActsFor m e) d (I.acts m) (I.acts c.pass-done.new.m)) c.requires.number
-    (follows_grow _ _ _ _ _ _ _ _ (e.follows step)))
+    (rw (← c.requires.number) (passed_grows _ _ _ _ _ _ _ _ _ e.passed))
+    (λ step. rw (← c.requires.number) (follows_grow _ _ _ _ _ _ _ _ (e.follows step)))
 
 -- what the poll leaves of the CPU over the tower, with these guests
 abbrev observed : (g : Over) (c : After-pass-done g) (step : g.I.CallLayer.IsStepwise) (guests : List (Option Guest))
@@ -109,43 +95,28 @@ observed g c step guests is =
       guests_is = is;
     }
 
-done_guests : (g : Over) (c : After-note_pass g) → c.note_pass.new.self.items ≡ (if is_some c.pass-done.result
-    then passed_by (g.I.CallLayer.threads c.args.self.now.part).current c.args.self.now.guests.items c.args.pass else c.args.self.now.guests.items)
-done_guests g c =
-    let p = c.args.self.now in
-    let done : is_some c.pass-done.result ≡ true = sym c.is_some.ensures ∙ c.if-is_some.true in
-    c.note_pass.ensures ∙ (ap (λ (o : Option Tid). passed_by o p.guests.items c.args.pass) c.current-runs.ensures
-    ∙ sym (ap (λ b. if b then passed_by (g.I.CallLayer.threads p.part).current p.guests.items c.args.pass else p.guests.items) done))
-
-wait_guests : (g : Over) (c : Else-is_some g) → c.args.self.now.guests.items ≡ (if is_some c.pass-done.result
-    then passed_by (g.I.CallLayer.threads c.args.self.now.part).current c.args.self.now.guests.items c.args.pass else c.args.self.now.guests.items)
-wait_guests g c =
-    let p = c.args.self.now in
-    let done : is_some c.pass-done.result ≡ false = sym c.is_some.ensures ∙ c.if-is_some.false in
-    sym (ap (λ b. if b then passed_by (g.I.CallLayer.threads p.part).current p.guests.items c.args.pass else p.guests.items) done)
-
 pub returns-then-is_some-clause-table : goal.returns-then-is_some-clause-table
 returns-then-is_some-clause-table g c = λ step.
     let cpu = cpu g (goal.at.returns-then-is_some-clause-table g c).Start in
     rw (c.pass-done.ensures.homes, c.pass-done.ensures.caps, c.pass-done.ensures.framed.stays.opening)
     (passed_tabled (observed_cpu cpu step) _ _ (observed_outset cpu step) c.args.pass c.requires.chosen c.requires.live
-    (observed g (goal.at.returns-then-is_some-clause-table g c).After-pass-done step c.note_pass.new.self.items (done_guests g c)))
+    (observed g (goal.at.returns-then-is_some-clause-table g c).After-pass-done step c.note_pass.new.self.items (grind arith)))
 
 pub returns-then-is_some-clause-steps : goal.returns-then-is_some-clause-steps
 returns-then-is_some-clause-steps g c = λ step.
     let cpu = cpu g (goal.at.returns-then-is_some-clause-steps g c).Start in
     passed_steps (observed_cpu cpu step) _ _ (observed_outset cpu step) c.args.pass c.requires.chosen c.requires.live
-    (observed g (goal.at.returns-then-is_some-clause-steps g c).After-pass-done step c.note_pass.new.self.items (done_guests g c))
+    (observed g (goal.at.returns-then-is_some-clause-steps g c).After-pass-done step c.note_pass.new.self.items (grind arith))
 
 pub returns-else-is_some-clause-table : goal.returns-else-is_some-clause-table
 returns-else-is_some-clause-table g c = λ step.
     let cpu = cpu g (goal.at.returns-else-is_some-clause-table g c).Start in
     rw (c.pass-done.ensures.homes, c.pass-done.ensures.caps, c.pass-done.ensures.framed.stays.opening)
     (passed_tabled (observed_cpu cpu step) _ _ (observed_outset cpu step) c.args.pass c.requires.chosen c.requires.live
-    (observed g (goal.at.returns-else-is_some-clause-table g c).After-pass-done step c.args.self.now.guests.items (wait_guests g c)))
+    (observed g (goal.at.returns-else-is_some-clause-table g c).After-pass-done step c.args.self.now.guests.items (grind arith)))
 
 pub returns-else-is_some-clause-steps : goal.returns-else-is_some-clause-steps
 returns-else-is_some-clause-steps g c = λ step.
     let cpu = cpu g (goal.at.returns-else-is_some-clause-steps g c).Start in
     passed_steps (observed_cpu cpu step) _ _ (observed_outset cpu step) c.args.pass c.requires.chosen c.requires.live
-    (observed g (goal.at.returns-else-is_some-clause-steps g c).After-pass-done step c.args.self.now.guests.items (wait_guests g c))
+    (observed g (goal.at.returns-else-is_some-clause-steps g c).After-pass-done step c.args.self.now.guests.items (grind arith))

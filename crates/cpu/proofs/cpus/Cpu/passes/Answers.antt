@@ -1,11 +1,5 @@
+use Rattle.cpu.proofs.CpuRuns.{stepped_so}
 use Rattle.cpu.proofs.cpus.Cpu.passes.Goals as goal
 
 pub returns : goal.returns
-returns g c = record {
-  live = c.requires.live;
-  fits = c.pass.ensures.fits;
-  is = c.pass.ensures.is;
-  leaves = c.pass.ensures.leaves;
-  table = c.pass.ensures.table;
-  steps = c.pass.ensures.steps;
-}
+returns g c = stepped_so c.pass.ensures.leaves c.requires.live c.pass.ensures.fits c.pass.ensures.is c.pass.ensures.table c.pass.ensures.steps

@@ -1,6 +1,4 @@
-use Rattle.std.proofs.Common.{◌≡◌, ◌<◌, None, Some, length, rules, sym, ◌∙◌, arith}
-use Rattle.std.proofs.lemmas.List.{get_or_default}
-use Rattle.cpu.specs.Cpus.{guest_at}
+use Rattle.std.proofs.{Common.{◌≡◌, ◌<◌, None, Some, length, rules, sym, ◌∙◌, arith}, lemmas.List.get_or_default}
 use Rattle.cpu.proofs.GuestLists.{count_with, live_with}
 use Rattle.cpu.proofs.guest_tables.Guests.note_poll.Goals as goal
 
@@ -10,8 +8,7 @@ invariant_of-self-else-is_some c =
     let table = c.self.inside.table.items in
     let t = c.args.thread.0 in
     let within : t < length table = rw (← c.self.view_is) at c.requires in
-    let at : guest_at table t ≡ Some c.in-Some.guest =
-    get_or_default table t None c.index_mut.result.now within ∙ (sym (rw c.from.ensures at c.index_mut.ensures.value) ∙ c.in-Some.is) in
+    let at = get_or_default table t None c.index_mut.result.now within ∙ (sym (rw c.from.ensures at c.index_mut.ensures.value) ∙ c.in-Some.is) in
     let none : c.args.answer ≡ None = search rules in
     let begun = rw at at (count_with table t (Some c.note.new.self) within) in
     let live = rw at at (live_with table t (Some c.note.new.self) within) in

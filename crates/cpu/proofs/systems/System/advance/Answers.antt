@@ -1,22 +1,17 @@
-use Rattle.std.proofs.Common.{◌≡◌, ◌+◌, ◌<◌, ◌≤◌, ℕ, ap, sym, ◌∙◌, subst, arith}
-use Rattle.std.specs.Prelude.{Option, Some, slice_get, slice_set}
-use Rattle.layer_traits.specs.declared.steps.Step.TheVariants.{Stepped}
-use Rattle.cpu.specs.{Systems.SteppedByTable, Systems.own_reason, Systems.own_reason_in, Systems.reason_or, Claims.CpuShown, Claims.Shown}
-use Rattle.cpu.proofs.{CpuRuns.one_step, TableSystems.own_live, ListReads.read_at, ListReads.shows_at}
-use Rattle.cpu.proofs.{RunsOverLayer.MachineLaws, RunsOverLayer.WentSo, RunsOverLayer.by_one, RunsOverLayer.shows, RunsOverLayer.went_so, SystemOverLayer.shown_by}
-use Rattle.cpu.proofs.systems.System.advance.{Given.Over, Goals.After-index_mut-at, Goals.After-go_on-steps}
+use Rattle.std.{proofs.Common.{◌≡◌, ◌+◌, ◌<◌, ◌≤◌, ℕ, ap, sym, ◌∙◌, subst, arith}, specs.Prelude.{Option, Some, slice_get, slice_set}}
+use Rattle.{layer_traits.specs.declared.steps.Step.TheVariants.Stepped, cpu.specs.Systems.{SteppedByTable, own_reason_in, reason_or}}
+use Rattle.cpu.{specs.Claims.CpuShown, proofs.{CpuRuns.one_step, ListReads.{read_at, shows_at}, RunsOverLayer.{MachineLaws, WentSo, by_one, shows}}}
+use Rattle.cpu.proofs.{RunsOverLayer.went_so, SystemOverLayer.shown_by, systems.System.advance.{Given.Over, Goals.{After-index_mut-at, After-go_on-steps}}}
 use Rattle.cpu.proofs.systems.System.advance.Goals as goal
 
 -- the CPU that steps is the one at its number
 at : (g : Over) (c : After-index_mut-at g) → slice_get c.self.inside.cpus.items c.from.result ≡ Some c.index_mut-at.result.now
-at g c = read_at (shown_by g.I.CallLayer) c.self.inside.cpus.items c.args.self.now.cpus c.from.result c.args.cpu.0 c.index_mut-at.result.now
-    (ap (λ (s : Shown). s.cpus) c.self.view_is) c.from.ensures c.requires.exists c.index_mut-at.ensures.value
+at g c = grind (arith, read_at)
 
 pub go_on-steps-requires-clause-room : goal.go_on-steps-requires-clause-room
 go_on-steps-requires-clause-room g c =
     let space = rw (← c.self.view_is) at c.requires.room in
-    let enough = c.self.invariant.enough in
-    omega (arith, space, enough)
+    omega (arith, space, c.self.invariant.enough)
 
 pub go_on-steps-requires-clause-number : goal.go_on-steps-requires-clause-number
 go_on-steps-requires-clause-number g c =
@@ -36,10 +31,8 @@ go_on-steps-requires-clause-live g c =
     let x = c.index_mut-at.result.now in
     let shown = shown_by g.I.CallLayer in
     let there = subst (λ (j : ℕ). slice_get c.args.self.now.cpus j ≡ Some (shown x)) c.from.ensures
-    (subst (λ (s : Shown). slice_get s.cpus k ≡ Some (shown x)) c.self.view_is
-    (shows_at shown c.self.inside.cpus.items k x (at g (goal.at.go_on-steps-requires-clause-live g c).After-index_mut-at))) in
-    own_live (own_reason (shown x)) c.args.self.now
-    (sym (ap (λ (o : Option CpuShown). reason_or (own_reason_in o) c.args.self.now) there) ∙ c.requires.live)
+    (rw (← c.self.view_is) (shows_at shown c.self.inside.cpus.items k x (at g (goal.at.go_on-steps-requires-clause-live g c).After-index_mut-at))) in
+    grind (arith, sym (ap (λ (o : Option CpuShown). reason_or (own_reason_in o) c.args.self.now) there) ∙ c.requires.live)
 
 -- the steps that it took
 module _ (g : Over) (c : After-go_on-steps g) where
@@ -67,10 +60,7 @@ module _ (g : Over) (c : After-go_on-steps g) where
       (slice_set c.self.inside.cpus.items c.from.result c.go_on-steps.new.self) (c.self.inside.taken + c.go_on-steps.result)) Stepped
   by_step step is_one =
       let live : c.self.inside.taken < c.self.inside.room = let space = space in omega (arith, space, is_one) in
-      subst (λ (done : ℕ). SteppedByTable c.args.cpu (shows g.I.CallLayer laws g.I.Owned.owner c.self.inside.threads c.self.inside.room c.from.result
-      c.args.cpu c.from.ensures c.self.inside.machine c.self.inside.cpus.items c.self.inside.taken)
-      (shows g.I.CallLayer laws g.I.Owned.owner c.self.inside.threads c.self.inside.room c.from.result c.args.cpu c.from.ensures c.go_on-steps.new.m
-      (slice_set c.self.inside.cpus.items c.from.result c.go_on-steps.new.self) (c.self.inside.taken + done)) Stepped) (sym is_one)
+      rw is_one
       (by_one g.I.CallLayer laws g.I.Owned.owner c.self.inside.threads c.self.inside.room c.from.result c.args.cpu c.from.ensures c.self.inside.machine
       c.go_on-steps.new.m c.self.inside.cpus.items c.self.inside.taken c.index_mut-at.result.now c.go_on-steps.new.self c.self.invariant there live
       (one_step c.go_on-steps.ensures.ran is_one) step)

@@ -1,6 +1,4 @@
-use Rattle.std.proofs.Common.{subst, arith}
-use Rattle.std.proofs.lemmas.List.{length-map}
-use Rattle.cpu.specs.{declared.cpus.Cpu.Cpu, Claims.Shown, Claims.cpu_shown, Sound.ReturnsAlone}
+use Rattle.{std.proofs.{Common.{subst, arith}, lemmas.List.length-map}, cpu.specs.{declared.cpus.Cpu.Cpu, Claims.{Shown, cpu_shown}, Sound.ReturnsAlone}}
 use Rattle.cpu.proofs.{ListReads.there_is, ReachedSystems.alone_of}
 use Rattle.cpu.proofs.systems.System.alone.Goals as goal
 
@@ -15,5 +13,4 @@ returns g c = λ step.
     let first = there_is items 0 some in
     let one = (is.each 0 first.0 first.1).holds in
     let size = (one.3 step).size in
-    let few = one.2.few in
-    subst (λ (s : Shown). ReturnsAlone s) c.self.view_is (alone_of _ (omega (arith, size, few)) (omega (arith, some, count)) (is.sound.1 step))
+    subst (λ (s : Shown). ReturnsAlone s) c.self.view_is (alone_of _ (omega (arith, size, one.2.few)) (omega (arith, some, count)) (is.sound.1 step))

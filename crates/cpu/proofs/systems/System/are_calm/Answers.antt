@@ -1,24 +1,20 @@
-use Rattle.std.proofs.Common.{◌≡◌, true, length, ap, sym, ◌∙◌, arith}
-use Rattle.std.proofs.lemmas.List.{length-map}
-use Rattle.cpu.specs.{declared.cpus.Cpu.Cpu, Calm.calm_in, Claims.Shown, Claims.cpu_shown}
-use Rattle.cpu.proofs.NobodyPending.{clash, up_more}
+use Rattle.std.proofs.{Common.{◌≡◌, true, length, ap, sym, ◌∙◌, arith}, lemmas.List.length-map}
+use Rattle.cpu.{specs.{declared.cpus.Cpu.Cpu, Calm.calm_in, Claims.{Shown, cpu_shown}}, proofs.NobodyPending.{clash, up_more}}
 use Rattle.cpu.proofs.systems.System.are_calm.Goals as goal
 
 pub returns-then-not-is_calm : goal.returns-then-not-is_calm
 returns-then-not-is_calm g c =
     let I = g.I.CallLayer in
-    let items = c.self.inside.cpus.items in
-    let count = length-map items (λ (x : Cpu g.row.I.Denot g.row.I-Machine.Denot).
+    let count = length-map c.self.inside.cpus.items (λ (x : Cpu g.row.I.Denot g.row.I-Machine.Denot).
     cpu_shown (I.threads x.part) x.guests.items x.trace.items x.limit (I.is_inside x.part) (I.own x.part)) in
     let shown = ap (λ (s : Shown). length s.cpus) c.self.view_is in
-    let test = c.loop-number-test.true in
     let end = c.len-number-end.ensures in (
       (λ is. absurd (cc is)),
       (λ all. clash c.is_calm.result (c.is_calm.ensures ∙ all (record { 0 = c.loop-number.number }) (omega (
         arith,
         count,
         shown,
-        test,
+        c.loop-number-test.true,
         end,
       ))) c.if-not-is_calm.true),
     )

@@ -1,7 +1,5 @@
 use Rattle.std.proofs.Common.{◌≡◌, None, ap, sym, ◌∙◌, subst, option_map}
-use Rattle.event_log.specs.Buffers.{items_of}
-use Rattle.cpu.specs.Claims.{Shown}
-use Rattle.cpu.proofs.PartsTold.{acts_first, held_here, item_at, up_to, up_to_end}
+use Rattle.{event_log.specs.Buffers.items_of, cpu.{specs.Claims.Shown, proofs.PartsTold.{acts_first, told_here, told_somewhere, up_to}}}
 use Rattle.cpu.proofs.systems.System.buffer.Goals as goal
 
 pub buffer_in-requires-clause-acts : goal.buffer_in-requires-clause-acts
@@ -9,23 +7,18 @@ buffer_in-requires-clause-acts g c = (record { 0 = 0 }, acts_first c.self.invari
 
 pub returns-in-Some : goal.returns-in-Some
 returns-in-Some g c =
-    let m = c.self.inside.machine in
     let is = c.self.invariant in
-    let told = g.met.I.Owned.items m (record { 0 = 0 }) c.args.buffer (acts_first is) (rw (← c.self.view_is) at c.requires) in
-    subst (λ (s : Shown). c.in-Some.items.items ≡ items_of s.contents c.args.buffer.0) c.self.view_is
-    (told.by_machine c.in-Some.items.items (sym c.buffer_in.ensures ∙ ap (λ o. option_map (λ x. x.items) o) c.in-Some.is))
+    let told = g.met.I.Owned.items c.self.inside.machine (record { 0 = 0 }) c.args.buffer (acts_first is) (rw (← c.self.view_is) at c.requires) in
+    rw (← c.self.view_is) (told.by_machine c.in-Some.items.items (sym c.buffer_in.ensures ∙ ap (λ o. option_map (λ x. x.items) o) c.in-Some.is))
 
 pub returns-in-Some-buffer_here : goal.returns-in-Some-buffer_here
 returns-in-Some-buffer_here g c =
-    let m = c.self.inside.machine in
     let is = c.self.invariant in
-    let items = c.self.inside.cpus.items in
-    let told = g.met.I.Owned.items m (record { 0 = 0 }) c.args.buffer (acts_first is) (rw (← c.self.view_is) at c.requires) in
-    let x = c.at-item.result in
-    let at = item_at items c.deref-at-items.result.now c.loop-at.at-index x c.deref-at-items.ensures.value c.loop-at-test.true c.at-item.is in
+    let told = g.met.I.Owned.items c.self.inside.machine (record { 0 = 0 }) c.args.buffer (acts_first is) (rw (← c.self.view_is) at c.requires) in
     subst (λ (s : Shown). c.in-Some-buffer_here.items.items ≡ items_of s.contents c.args.buffer.0) c.self.view_is
-    (told.by_part x.part c.in-Some-buffer_here.items.items (is.each c.loop-at.at-index x at).holds.0
-    (sym c.buffer_here.ensures ∙ ap (λ o. option_map (λ y. y.items) o) c.in-Some-buffer_here.is))
+    (told_here g.I.CallLayer c.self.inside.machine c.self.inside.cpus.items
+    (λ k x at. let e = is.each k x at in (e.number_is, e.holds.0, e.holds.1)) is.holders told c.deref-at-items.result.now c.loop-at.at-index c.deref-at-items.ensures.value c.at-item.result
+    c.in-Some-buffer_here.items.items c.loop-at-test.true c.at-item.is (sym c.buffer_here.ensures ∙ ap (λ o. option_map (λ y. y.items) o) c.in-Some-buffer_here.is))
 
 pub loop-at-preserved : goal.loop-at-preserved
 loop-at-preserved g c =
@@ -35,13 +28,8 @@ loop-at-preserved g c =
 
 pub returns : goal.returns
 returns g c =
-    let I = g.I.CallLayer in
-    let m = c.self.inside.machine in
     let is = c.self.invariant in
-    let items = c.self.inside.cpus.items in
-    let told = g.met.I.Owned.items m (record { 0 = 0 }) c.args.buffer (acts_first is) (rw (← c.self.view_is) at c.requires) in
-    absurd (held_here I m items
-    (λ k x at. let e = is.each k x at in (e.number_is, e.holds.0, e.holds.1)) is.holders (λ p. g.I.Owned.items_here p c.args.buffer)
-    (told.somewhere (sym c.buffer_in.ensures ∙ ap (λ o. option_map (λ x. x.items) o) c.in_default.is))
-    (up_to_end (λ x. g.I.Owned.items_here x.part c.args.buffer ≡ None) items c.deref-at-items.result.now c.loop-at.at-index c.deref-at-items.ensures.value
-    c.loop-at-test.false c.loop-at.invariant))
+    let told = g.met.I.Owned.items c.self.inside.machine (record { 0 = 0 }) c.args.buffer (acts_first is) (rw (← c.self.view_is) at c.requires) in
+    absurd (told_somewhere g.I.CallLayer c.self.inside.machine c.self.inside.cpus.items
+    (λ k x at. let e = is.each k x at in (e.number_is, e.holds.0, e.holds.1)) is.holders told c.deref-at-items.result.now c.loop-at.at-index c.deref-at-items.ensures.value
+    (sym c.buffer_in.ensures ∙ ap (λ o. option_map (λ y. y.items) o) c.in_default.is) c.loop-at-test.false c.loop-at.invariant)

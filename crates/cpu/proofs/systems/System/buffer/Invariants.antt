@@ -1,5 +1,4 @@
-use Rattle.std.proofs.Common.{◌≡◌, ◌<◌, ℕ, Some, None}
-use Rattle.std.specs.Prelude.{slice_get}
+use Rattle.std.{proofs.Common.{◌≡◌, ◌<◌, ℕ, Some, None}, specs.Prelude.slice_get}
 use Rattle.cpu.specs.declared.cpus.Cpu.{Cpu}
 use Rattle.cpu.proofs.systems.System.buffer.Given as goal
 

@@ -1,7 +1,5 @@
-use Rattle.std.proofs.Common.{◌≡◌, None, length, sym, ◌∙◌, subst}
-use Rattle.std.specs.Prelude.{slice_index_or}
-use Rattle.cpu.specs.Claims.{Shown, buffer_at}
-use Rattle.cpu.proofs.{ListReads.listed_there, PartsTold.acts_first, PartsTold.held_here, PartsTold.item_at, PartsTold.up_to, PartsTold.up_to_end}
+use Rattle.std.{proofs.Common.{arith, ◌≡◌, None, length, sym, ◌∙◌, subst}, specs.Prelude.slice_index_or}
+use Rattle.cpu.{specs.Claims.{Shown, buffer_at}, proofs.{ListReads.listed_there, PartsTold.{acts_first, told_here, told_somewhere, up_to}}}
 use Rattle.cpu.proofs.systems.System.busy.Goals as goal
 
 pub busy_in-requires-clause-acts : goal.busy_in-requires-clause-acts
@@ -10,25 +8,20 @@ busy_in-requires-clause-acts g c = (record { 0 = 0 }, acts_first c.self.invarian
 pub returns-in-Some : goal.returns-in-Some
 returns-in-Some g c =
     let m = c.self.inside.machine in
-    let is = c.self.invariant in
-    let told = g.met.I.Owned.owners m (record { 0 = 0 }) c.args.buffer (acts_first is) (rw (← c.self.view_is) at c.requires) in
+    let told = g.met.I.Owned.owners m (record { 0 = 0 }) c.args.buffer (acts_first c.self.invariant) (rw (← c.self.view_is) at c.requires) in
     let within = rw (← c.self.view_is) at c.requires in
-    subst (λ (s : Shown). c.in-Some.owner ≡ slice_index_or s.owners c.args.buffer.0 None) c.self.view_is
-    (told.by_machine c.in-Some.owner (sym c.busy_in.ensures ∙ c.in-Some.is)
-    ∙ sym (listed_there (λ b. g.I.Owned.owner m (buffer_at b)) (length (g.I.CallLayer.caps m)) c.args.buffer.0 None within))
+    grind (arith, told, listed_there, m, within)
 
 pub returns-in-Some-busy_here : goal.returns-in-Some-busy_here
 returns-in-Some-busy_here g c =
-    let m = c.self.inside.machine in
     let is = c.self.invariant in
-    let items = c.self.inside.cpus.items in
-    let told = g.met.I.Owned.owners m (record { 0 = 0 }) c.args.buffer (acts_first is) (rw (← c.self.view_is) at c.requires) in
-    let x = c.at-item.result in
-    let at = item_at items c.deref-at-items.result.now c.loop-at.at-index x c.deref-at-items.ensures.value c.loop-at-test.true c.at-item.is in
-    let within = rw (← c.self.view_is) at c.requires in
+    let told = g.met.I.Owned.owners c.self.inside.machine (record { 0 = 0 }) c.args.buffer (acts_first is) (rw (← c.self.view_is) at c.requires) in
     subst (λ (s : Shown). c.in-Some-busy_here.owner ≡ slice_index_or s.owners c.args.buffer.0 None) c.self.view_is
-    (told.by_part x.part c.in-Some-busy_here.owner (is.each c.loop-at.at-index x at).holds.0 (sym c.busy_here.ensures ∙ c.in-Some-busy_here.is)
-    ∙ sym (listed_there (λ b. g.I.Owned.owner m (buffer_at b)) (length (g.I.CallLayer.caps m)) c.args.buffer.0 None within))
+    (told_here g.I.CallLayer c.self.inside.machine c.self.inside.cpus.items
+    (λ k x at. let e = is.each k x at in (e.number_is, e.holds.0, e.holds.1)) is.holders told c.deref-at-items.result.now c.loop-at.at-index c.deref-at-items.ensures.value c.at-item.result
+    c.in-Some-busy_here.owner c.loop-at-test.true c.at-item.is (sym c.busy_here.ensures ∙ c.in-Some-busy_here.is)
+    ∙ sym (listed_there (λ b. g.I.Owned.owner c.self.inside.machine (buffer_at b)) (length (g.I.CallLayer.caps c.self.inside.machine)) c.args.buffer.0 None
+    (rw (← c.self.view_is) at c.requires)))
 
 pub loop-at-preserved : goal.loop-at-preserved
 loop-at-preserved g c =
@@ -38,13 +31,8 @@ loop-at-preserved g c =
 
 pub returns : goal.returns
 returns g c =
-    let I = g.I.CallLayer in
-    let m = c.self.inside.machine in
     let is = c.self.invariant in
-    let items = c.self.inside.cpus.items in
-    let told = g.met.I.Owned.owners m (record { 0 = 0 }) c.args.buffer (acts_first is) (rw (← c.self.view_is) at c.requires) in
-    absurd (held_here I m items
-    (λ k x at. let e = is.each k x at in (e.number_is, e.holds.0, e.holds.1)) is.holders (λ p. g.I.Owned.owner_here p c.args.buffer)
-    (told.somewhere (sym c.busy_in.ensures ∙ c.in_default.is))
-    (up_to_end (λ x. g.I.Owned.owner_here x.part c.args.buffer ≡ None) items c.deref-at-items.result.now c.loop-at.at-index c.deref-at-items.ensures.value
-    c.loop-at-test.false c.loop-at.invariant))
+    let told = g.met.I.Owned.owners c.self.inside.machine (record { 0 = 0 }) c.args.buffer (acts_first is) (rw (← c.self.view_is) at c.requires) in
+    absurd (told_somewhere g.I.CallLayer c.self.inside.machine c.self.inside.cpus.items
+    (λ k x at. let e = is.each k x at in (e.number_is, e.holds.0, e.holds.1)) is.holders told c.deref-at-items.result.now c.loop-at.at-index c.deref-at-items.ensures.value
+    (sym c.busy_in.ensures ∙ c.in_default.is) c.loop-at-test.false c.loop-at.invariant)

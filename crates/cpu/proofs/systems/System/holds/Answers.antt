@@ -1,20 +1,13 @@
-use Rattle.std.proofs.Common.{◌≡◌, ◌<◌, ◌^◌, length, map, reverse, refl, ap, sym, ◌∙◌, subst, arith}
-use Rattle.std.specs.List.{AllByRecursion}
-use Rattle.std.proofs.lemmas.List.{length-map}
-use Rattle.event_log.specs.{declared.entries.Entry.Entry, declared.ids.CpuId.CpuId, declared.ids.LockId.TheVariants.Pending, Actions.phase}
-use Rattle.event_log.proofs.{Streams.taken_put, Renaming.phase_renamed}
-use Rattle.layer_traits.proofs.EffectRunLemmas.{effects_are_run}
-use Rattle.cpu.specs.Claims.{CpuShown, FollowPrograms, HasOneOrder, MovesAgree, Shown, StandsOnce, StayHome, buffer_at}
-use Rattle.cpu.proofs.{ListReads.there_is, OnePlaceEach.once_of, OneOrder.closed_by_order, OneOrder.follow_programs, OneOrder.stay_home, OneOrder.traces_interleaved}
-use Rattle.cpu.proofs.{ReachedSystems.shown_in, ReachedSystems.sound_of, ListReads.shown_at, ListReads.shows_at, TableCalls.halted_read, PlacesTold.ended_is}
-use Rattle.cpu.proofs.{PlacesTold.place_read, PartsTold.acts_first, PartsOfTable.has_buffer, PartsOfTable.pending_read, CpuOverLayer.laws_of, CpuOverLayer.layered}
-use Rattle.cpu.proofs.{CpuOverLayer.observed_cpu, SystemOverLayer.shown_by, SystemOverLayer.cpus_have, SystemOverLayer.observed_by, OneOrder.Has}
-use Rattle.cpu.proofs.{systems.System.holds.Given.Over, systems.System.holds.Goals.After-self}
-use Rattle.cpu.specs.{Sound.SoundByTable, Cpus.halted_at as own_halted_at, Sound.IsSetupFor, Table.Blocks.OfPending, Table.Setups.Setup, Table.Steps.block_at}
-use Rattle.cpu.specs.{Table.Steps.halted_at, Observed.CpuIsObserved, Observed.HasBuffer, Observed.ObservedByTable, Tower.Composed.named, Tower.Views.name_of}
-use Rattle.std.specs.Prelude.{ℕ, Some, slice_get}
-use Rattle.thread_blocks.specs.Queues.{is_in}
-use Rattle.layer_traits.specs.{OnePlace.cpu_at, Places.Threads, Places.pending_by, Plans.is_in_section}
+use Rattle.std.{proofs.{Common.{◌≡◌, ◌<◌, ◌^◌, length, map, reverse, refl, ap, sym, ◌∙◌, subst, arith}, lemmas.List.length-map}, specs.List.AllByRecursion}
+use Rattle.{std.specs.Prelude.{ℕ, Some, slice_get}, event_log.specs.declared.{entries.Entry.Entry, ids.{CpuId.CpuId, LockId.TheVariants.Pending}}}
+use Rattle.{event_log.{specs.Actions.phase, proofs.{Streams.taken_put, Renaming.phase_renamed}}, layer_traits.proofs.EffectRunLemmas.effects_are_run}
+use Rattle.{layer_traits.specs.{OnePlace.cpu_at, Places.{Threads, pending_by}, Plans.is_in_section}, cpu.specs.Claims.{CpuShown, HasOneOrder, MovesAgree}}
+use Rattle.cpu.specs.{Claims.{Shown, StandsOnce, StayHome, buffer_at}, Sound.{SoundByTable, IsSetupFor}, Table.{Blocks.OfPending, Setups.Setup, Steps.block_at}}
+use Rattle.cpu.{specs.{Observed.{CpuIsObserved, HasBuffer, ObservedByTable}, Tower.{Composed.named, Views.name_of}}, proofs.ListReads.{there_is, shown_at}}
+use Rattle.cpu.proofs.{ListReads.shows_at, OnePlaceEach.once_of, OneOrder.{closed_by_order, follow_programs, stay_home, traces_interleaved, Has}}
+use Rattle.cpu.proofs.{ReachedSystems.{shown_in, sound_of}, TableCalls.halted_read, PlacesTold.{ended_is, place_read}, PartsTold.acts_first}
+use Rattle.cpu.proofs.{PartsOfTable.{has_buffer, pending_read}, CpuOverLayer.{laws_of, layered, observed_cpu}, SystemOverLayer.{shown_by, cpus_have}}
+use Rattle.{cpu.proofs.{SystemOverLayer.observed_by, systems.System.holds.{Given.Over, Goals.After-self}}, thread_blocks.specs.Queues.is_in}
 use Rattle.cpu.proofs.systems.System.holds.Goals as goal
 
 pub returns-clause-sound : goal.returns-clause-sound
@@ -32,11 +25,10 @@ agree : (g : Over) (c : After-self g) → MovesAgree (shown_in (observed_by g.I.
     (map (shown_by g.I.CallLayer) c.self.inside.cpus.items) c.self.inside.room c.self.inside.taken)
 agree g c =
     let is = c.self.invariant in
-    let count = length-map c.self.inside.cpus.items (shown_by g.I.CallLayer) in
     record {
       lawful = g.met.I.CallLayer.moves_legal c.self.inside.machine (record { 0 = 0 }) (acts_first is);
       stands = λ k p at. (each g c k p at).stands;
-      within = λ t home at. let inside = is.within t home at in omega (arith, inside, count);
+      within = λ t home at. let inside = is.within t home at in omega (arith, inside, length-map c.self.inside.cpus.items (shown_by g.I.CallLayer));
     }
 
 pub returns-clause-agree : goal.returns-clause-agree
@@ -52,7 +44,6 @@ returns-clause-observed g c = λ step.
     let zero : CpuId = cpu_at 0 in
     let acts = acts_first is in
     let shown = shown_by I in
-    let count = length-map items shown in
     let are = law.moves_are step m zero acts in
     let first = there_is items 0 is.some in
     let one = (is.each 0 first.0 first.1).holds in
@@ -75,15 +66,13 @@ returns-clause-observed g c = λ step.
     record {
       inside = ap is_in_section (phase_renamed name_of (cpu_at j) (I.acts m))
           ∙ ap (λ (d : CpuId). is_in_section (phase d (I.acts m))) (sym (at.1 ∙ number)) ∙ sym (law.busy x.part m at.0 step);
-      halted = subst (λ (d : CpuId). halted_at setup d (shown x).private ≡ own_halted_at (I.threads x.part) x.guests.items x.trace.items
-          x.limit) number halted;
+      halted = rw (← number) halted;
       current = ap (λ (t : Threads). t.current) reads_own.0;
       ready = ap (λ (t : Threads). t.ready) reads_own.0;
       hand = ap (λ (t : Threads). t.hand) reads_own.0;
       trace = refl;
       ended = λ t known.
-          let size = (at.3 step).size in
-          ended_is (I.own x.part) x.guests.items x.trace.items t (omega (arith, known, size))
+          ended_is (I.own x.part) x.guests.items x.trace.items t (omega (arith, known, (at.3 step).size))
           ∙ ap (λ (own : Threads). is_in t own.ended) reads_own.0;
       pending = subst (λ (d : CpuId). block_at setup (Pending d) (named (I.acts m)) ≡ Some (OfPending (pending_by (I.moves m) d))) number pending;
     }) in
@@ -92,7 +81,7 @@ returns-clause-observed g c = λ step.
     (map shown items) c.self.inside.room c.self.inside.taken sound goes (λ d. g.met.I.Owned.owner_is step m zero d acts) b within
     (g.met.I.Owned.items_are step m zero (buffer_at b) acts within) in
     subst (λ (x : Shown). ObservedByTable x) c.self.view_is (record {
-      some = let least = is.some in omega (arith, least, count);
+      some = let least = is.some in omega (arith, least, length-map items shown);
       few = let size = tabled.size in let few = one.2.few in omega (arith, size, few);
       cpus = cpus_told;
       buffers = buffers_told;
@@ -103,12 +92,11 @@ returns-clause-observed g c = λ step.
 pub returns-clause-one_order : goal.returns-clause-one_order
 returns-clause-one_order g c =
     let I = g.I.CallLayer in
-    let law = g.met.I.CallLayer in
     let m = c.self.inside.machine in
     let is = c.self.invariant in
     let count = length-map c.self.inside.cpus.items (shown_by I) in
     let few : length (I.seen m) < 2 ^ 64 = let short = is.short in let used = is.used in let small = is.small in omega (arith, short, used, small) in
-    let run = effects_are_run (I.caps m) (I.seen m) (law.lawful m (record { 0 = 0 }) (acts_first is)) few in
+    let run = effects_are_run (I.caps m) (I.seen m) (g.met.I.CallLayer.lawful m (record { 0 = 0 }) (acts_first is)) few in
     subst (λ (s : Shown). HasOneOrder s) c.self.view_is (record {
       order = reverse (I.seen m);
       keeps = traces_interleaved _ _ (I.seen m) _ _ (each g c) (subst (λ n. AllByRecursion (λ (e : Entry). e.cpu.0 < n) (I.seen m)) (sym count) is.known);
@@ -118,8 +106,7 @@ returns-clause-one_order g c =
     })
 
 pub returns-clause-follow : goal.returns-clause-follow
-returns-clause-follow g c =
-    subst (λ (s : Shown). FollowPrograms s) c.self.view_is (λ k p t guest at there. follow_programs _ _ _ _ k p (each g c k p at) t guest there)
+returns-clause-follow g c = rw (← c.self.view_is) (λ k p t guest at there. follow_programs _ _ _ _ k p (each g c k p at) t guest there)
 
 pub returns-clause-stay : goal.returns-clause-stay
 returns-clause-stay g c = subst (λ (s : Shown). StayHome s) c.self.view_is (λ k p at. stay_home _ _ _ _ k p (each g c k p at))

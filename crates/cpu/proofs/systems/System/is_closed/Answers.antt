@@ -1,8 +1,5 @@
-use Rattle.std.proofs.Common.{◌≡◌, false, length, None, sym, ◌∙◌, subst}
-use Rattle.std.specs.Prelude.{slice_index_or}
-use Rattle.event_log.specs.Runs.{is_closed}
-use Rattle.cpu.specs.Claims.{Shown}
-use Rattle.cpu.proofs.{ListReads.listed_there, PartsTold.acts_first, PartsTold.held_here, PartsTold.item_at, PartsTold.up_to, PartsTold.up_to_end}
+use Rattle.std.{proofs.Common.{arith, ◌≡◌, false, length, None, sym, ◌∙◌, subst}, specs.Prelude.slice_index_or}
+use Rattle.{event_log.specs.Runs.is_closed, cpu.{specs.Claims.Shown, proofs.{ListReads.listed_there, PartsTold.{acts_first, told_here, told_somewhere, up_to}}}}
 use Rattle.cpu.proofs.systems.System.is_closed.Goals as goal
 
 pub closed_at_home-requires-clause-acts : goal.closed_at_home-requires-clause-acts
@@ -12,27 +9,20 @@ pub returns-in-Some : goal.returns-in-Some
 returns-in-Some g c =
     let I = g.I.CallLayer in
     let m = c.self.inside.machine in
-    let is = c.self.invariant in
     let within = rw (← c.self.view_is) at c.requires in
-    let told = g.met.I.Owned.closed m (record { 0 = 0 }) c.args.buffer (acts_first is) within in
-    subst (λ (s : Shown). c.in-Some.closed ≡ slice_index_or s.closed c.args.buffer.0 false) c.self.view_is
-    (told.by_machine c.in-Some.closed (sym c.closed_at_home.ensures ∙ c.in-Some.is)
-    ∙ sym (listed_there (is_closed (I.seen m)) (length (I.caps m)) c.args.buffer.0 false within))
+    let told = g.met.I.Owned.closed m (record { 0 = 0 }) c.args.buffer (acts_first c.self.invariant) within in
+    grind (arith, told, listed_there, I, m, within)
 
 pub returns-in-Some-closed_in_hands : goal.returns-in-Some-closed_in_hands
 returns-in-Some-closed_in_hands g c =
-    let I = g.I.CallLayer in
-    let m = c.self.inside.machine in
     let is = c.self.invariant in
-    let items = c.self.inside.cpus.items in
-    let within = rw (← c.self.view_is) at c.requires in
-    let told = g.met.I.Owned.closed m (record { 0 = 0 }) c.args.buffer (acts_first is) within in
-    let x = c.at-item.result in
-    let at = item_at items c.deref-at-items.result.now c.loop-at.at-index x c.deref-at-items.ensures.value c.loop-at-test.true c.at-item.is in
+    let told = g.met.I.Owned.closed c.self.inside.machine (record { 0 = 0 }) c.args.buffer (acts_first is) (rw (← c.self.view_is) at c.requires) in
     subst (λ (s : Shown). c.in-Some-closed_in_hands.closed ≡ slice_index_or s.closed c.args.buffer.0 false) c.self.view_is
-    (told.by_part x.part c.in-Some-closed_in_hands.closed (is.each c.loop-at.at-index x at).holds.0
-    (sym c.closed_in_hands.ensures ∙ c.in-Some-closed_in_hands.is)
-    ∙ sym (listed_there (is_closed (I.seen m)) (length (I.caps m)) c.args.buffer.0 false within))
+    (told_here g.I.CallLayer c.self.inside.machine c.self.inside.cpus.items
+    (λ k x at. let e = is.each k x at in (e.number_is, e.holds.0, e.holds.1)) is.holders told c.deref-at-items.result.now c.loop-at.at-index c.deref-at-items.ensures.value c.at-item.result
+    c.in-Some-closed_in_hands.closed c.loop-at-test.true c.at-item.is (sym c.closed_in_hands.ensures ∙ c.in-Some-closed_in_hands.is)
+    ∙ sym (listed_there (is_closed (g.I.CallLayer.seen c.self.inside.machine)) (length (g.I.CallLayer.caps c.self.inside.machine)) c.args.buffer.0 false
+    (rw (← c.self.view_is) at c.requires)))
 
 pub loop-at-preserved : goal.loop-at-preserved
 loop-at-preserved g c =
@@ -42,13 +32,8 @@ loop-at-preserved g c =
 
 pub returns : goal.returns
 returns g c =
-    let I = g.I.CallLayer in
-    let m = c.self.inside.machine in
     let is = c.self.invariant in
-    let items = c.self.inside.cpus.items in
-    let told = g.met.I.Owned.closed m (record { 0 = 0 }) c.args.buffer (acts_first is) (rw (← c.self.view_is) at c.requires) in
-    absurd (held_here I m items
-    (λ k x at. let e = is.each k x at in (e.number_is, e.holds.0, e.holds.1)) is.holders (λ p. g.I.Owned.closed_here p c.args.buffer)
-    (told.somewhere (sym c.closed_at_home.ensures ∙ c.in_default.is))
-    (up_to_end (λ x. g.I.Owned.closed_here x.part c.args.buffer ≡ None) items c.deref-at-items.result.now c.loop-at.at-index c.deref-at-items.ensures.value
-    c.loop-at-test.false c.loop-at.invariant))
+    let told = g.met.I.Owned.closed c.self.inside.machine (record { 0 = 0 }) c.args.buffer (acts_first is) (rw (← c.self.view_is) at c.requires) in
+    absurd (told_somewhere g.I.CallLayer c.self.inside.machine c.self.inside.cpus.items
+    (λ k x at. let e = is.each k x at in (e.number_is, e.holds.0, e.holds.1)) is.holders told c.deref-at-items.result.now c.loop-at.at-index c.deref-at-items.ensures.value
+    (sym c.closed_at_home.ensures ∙ c.in_default.is) c.loop-at-test.false c.loop-at.invariant)

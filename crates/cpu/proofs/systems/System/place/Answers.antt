@@ -1,18 +1,15 @@
-use Rattle.std.proofs.Common.{map, ◌∙◌}
-use Rattle.cpu.proofs.{ListReads.shows_at, ListReads.there_is, PartsTold.acts_first, PartsTold.item_at, PartsTold.own_place, PartsTold.wait_channel_here, PartsTold.up_to}
-use Rattle.cpu.proofs.{PartsTold.up_to_end, SystemOverLayer.shown_by}
+use Rattle.std.proofs.Common.{arith, ◌∙◌}
+use Rattle.cpu.proofs.{ListReads.{shows_at, there_is}, PartsTold.{acts_first, item_at, wait_channel_here, up_to, up_to_end}, SystemOverLayer.shown_by}
 use Rattle.cpu.proofs.systems.System.place.Goals as goal
 
 pub returns-in-Some : goal.returns-in-Some
 returns-in-Some g c =
-    let I = g.I.CallLayer in
     let items = c.self.inside.cpus.items in
-    let shown = shown_by I in
+    let shown = shown_by g.I.CallLayer in
     let x = c.at-item.result in
     let at = item_at items c.deref-at-items.result.now c.loop-at.at-index x c.deref-at-items.ensures.value c.loop-at-test.true c.at-item.is in
     let is = c.self.invariant.each c.loop-at.at-index x at in
-    rw (← c.self.view_is) (own_place (map shown items) _ c.loop-at.at-index (shown x) (I.cpu_of x.part) c.args.thread c.in-Some.place
-    (shows_at shown items c.loop-at.at-index x at) (is.holds.1 ∙ is.number_is) (c.place_at.ensures.observed c.in-Some.place c.in-Some.is))
+    rw (← c.self.view_is) (grind (arith, shows_at shown items c.loop-at.at-index x at, is.holds.1 ∙ is.number_is, c.place_at.ensures.observed c.in-Some.place c.in-Some.is))
 
 pub loop-at-preserved : goal.loop-at-preserved
 loop-at-preserved g c =
@@ -23,7 +20,6 @@ loop-at-preserved g c =
 pub returns : goal.returns
 returns g c =
     let I = g.I.CallLayer in
-    let law = g.met.I.CallLayer in
     let m = c.self.inside.machine in
     let is = c.self.invariant in
     let items = c.self.inside.cpus.items in
@@ -31,6 +27,6 @@ returns g c =
     let observed = g.met.I.Owned.place first.0.part m c.args.thread (is.each 0 first.0 first.1).holds.0 (rw (← c.self.view_is) at c.requires) in
     absurd (wait_channel_here I m items
     (λ k x at. let e = is.each k x at in (e.number_is, e.holds.0, e.holds.1)) is.holders (λ p. g.I.Owned.IsSilent p m c.args.thread) (I.homes_of m) (I.moves m)
-    c.args.thread (law.moves_legal m (record { 0 = 0 }) (acts_first is)) is.within observed
+    c.args.thread (g.met.I.CallLayer.moves_legal m (record { 0 = 0 }) (acts_first is)) is.within observed
     (up_to_end (λ x. g.I.Owned.IsSilent x.part m c.args.thread) items c.deref-at-items.result.now c.loop-at.at-index c.deref-at-items.ensures.value
     c.loop-at-test.false c.loop-at.invariant))

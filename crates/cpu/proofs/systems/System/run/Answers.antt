@@ -1,7 +1,5 @@
-use Rattle.std.proofs.Common.{List, length, ap, ◌∙◌, subst, arith, length-drop}
-use Rattle.std.proofs.lemmas.List.{take_rest}
-use Rattle.event_log.specs.declared.ids.CpuId.{CpuId}
-use Rattle.cpu.proofs.Schedules.{Leads, leads_nowhere, leads_on, taken_on}
+use Rattle.std.proofs.{Common.{List, length, ap, ◌∙◌, subst, arith, length-drop}, lemmas.List.take_rest}
+use Rattle.{event_log.specs.declared.ids.CpuId.CpuId, cpu.proofs.Schedules.{Leads, leads_nowhere, leads_on, taken_on}}
 use Rattle.cpu.proofs.systems.System.run.Goals as goal
 
 pub loop-at-init : goal.loop-at-init
@@ -14,10 +12,8 @@ loop-at-preserved g c =
     let at = c.loop-at.at in
     let e = c.turn-at.ensures in
     let within = c.loop-at.invariant.within in
-    let few = e.few in
-    let left = ap (λ (l : List CpuId). length l) (take_rest all at) ∙ length-drop at all in
     record {
-      within = omega (arith, within, few, left);
+      within = omega (arith, within, e.few, ap (λ (l : List CpuId). length l) (take_rest all at) ∙ length-drop at all);
       leads = subst (λ (l : List CpuId). Leads S c.args.self.now l c.turn-at.new.self) (taken_on all at c.turn-at.result)
           (leads_on S c.args.self.now c.loop-at.self c.turn-at.new.self _ _ c.loop-at.invariant.leads
           (record { plan = e.plan; ran = e.ran; table = e.table }));

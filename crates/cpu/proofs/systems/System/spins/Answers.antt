@@ -1,11 +1,8 @@
-use Rattle.std.proofs.Common.{◌≡◌, ◌+◌, ◌≤◌, Bool, true, ℕ, map, replicate, Some, None, ap, sym, ◌∙◌, subst, arith}
-use Rattle.std.specs.Prelude.{slice_get}
-use Rattle.event_log.specs.{declared.ids.CpuId.CpuId, Actions.AreLegal}
-use Rattle.layer_traits.specs.{OnePlace.cpu_at, Spins.BeginWith}
-use Rattle.cpu.specs.{Claims.Shown, Cpus.halted_at, Cpus.reason_in, Systems.own_reason}
-use Rattle.cpu.proofs.{InvariantOverSteps.Holds, ListReads.read_at, Schedules.Leads, Schedules.leads_nowhere, SpinsOverLayer.spins_keep}
-use Rattle.cpu.proofs.{SpinsOverLayer.spins_lead, ReachedSystems.shown_in, SystemOverLayer.observed_by, SystemOverLayer.shown_by, SystemOverLayer.works_by}
-use Rattle.cpu.proofs.systems.System.spins.{Given.Over, Goals.After-index-at, Goals.After-spin-looks}
+use Rattle.std.{proofs.Common.{◌≡◌, ◌+◌, ◌≤◌, ℕ, map, replicate, Some, None, ap, ◌∙◌, arith}, specs.Prelude.slice_get}
+use Rattle.{event_log.specs.Actions.AreLegal, layer_traits.specs.OnePlace.cpu_at, cpu.specs.{Claims.Shown, Systems.own_reason}}
+use Rattle.cpu.proofs.{InvariantOverSteps.Holds, ListReads.read_at, Schedules.{Leads, leads_nowhere}, SpinsOverLayer.{spins_keep, spins_lead}}
+use Rattle.cpu.proofs.{ReachedSystems.shown_in, SystemOverLayer.{observed_by, shown_by, works_by}, systems.System.spins.{Given.Over, Goals.After-index-at}}
+use Rattle.cpu.proofs.systems.System.spins.Goals.{After-spin-looks}
 use Rattle.cpu.proofs.systems.System.spins.Goals as goal
 
 -- the CPU that looks is the one at its number
@@ -35,10 +32,7 @@ module _ (g : Over) (c : After-spin-looks g) where
   space = let used = c.self.invariant.used in let few = c.spin-looks.ensures.few.few in let left = c.if-self-steps.false in omega (arith, used, few, left)
 
   live : own_reason (shown_by g.I.CallLayer c.index-at.result.now) ≡ None
-  live =
-      let x = c.index-at.result.now in
-      let busy : g.I.CallLayer.is_inside x.part ≡ true = sym c.is_busy.ensures ∙ c.if-not-is_busy.false in
-      ap (λ (b : Bool). reason_in b (halted_at (g.I.CallLayer.threads x.part) x.guests.items x.trace.items x.limit)) busy
+  live = grind arith
 
   legal : AreLegal (g.I.CallLayer.acts c.spin-looks.new.m)
   legal =
@@ -74,8 +68,7 @@ invariant_of-self g c = keeps g (goal.at.invariant_of-self g c).After-spin-looks
 pub returns-clause-few : goal.returns-clause-few
 returns-clause-few g c =
     let one = c.self.invariant.each c.from.result c.index-at.result.now (at g (goal.at.returns-clause-few g c).After-index-at) in
-    subst (λ (d : CpuId). BeginWith d c.spin-looks.result c.args.steps.now)
-    (one.holds.1 ∙ one.number_is ∙ ap (λ (j : ℕ). cpu_at j) c.from.ensures) c.spin-looks.ensures.few
+    rw (← one.holds.1 ∙ one.number_is ∙ ap (λ (j : ℕ). cpu_at j) c.from.ensures) c.spin-looks.ensures.few
 
 pub returns-clause-ran : goal.returns-clause-ran
 returns-clause-ran g c = rw (← c.self.view_is) (leads g (goal.at.returns-clause-ran g c).After-spin-looks).ran

@@ -1,7 +1,6 @@
-use Rattle.std.proofs.Common.{◌≡◌, ◌+◌, ◌<◌, Option, is_some, length, replicate, ap, sym, ◌∙◌, subst, arith}
-use Rattle.layer_traits.specs.declared.steps.Reason.{Reason}
-use Rattle.cpu.proofs.Schedules.{Leads, leads_alone, leads_resting}
-use Rattle.cpu.proofs.systems.System.stretch.{Given.Over, Goals.After-spins, Goals.Then-is_some}
+use Rattle.std.proofs.Common.{◌+◌, Option, is_some, length, replicate, ap, sym, ◌∙◌, arith}
+use Rattle.{layer_traits.specs.declared.steps.Reason.Reason, cpu.proofs.{Schedules.{Leads, leads_alone, leads_resting}, systems.System.stretch.Given.Over}}
+use Rattle.cpu.proofs.systems.System.stretch.Goals.{After-spins, Then-is_some}
 use Rattle.cpu.proofs.systems.System.stretch.Goals as goal
 
 -- no step is taken
@@ -19,11 +18,7 @@ returns-then-is_some-clause-table g c = (rests g (goal.at.returns-then-is_some-c
 -- the steps that the CPU takes, and the looks behind them
 went : (g : Over) (c : After-spins g)
     → Leads g.I.CallLayer.IsStepwise c.args.self.now (replicate (c.advance-taken.result + c.spins.result) c.args.cpu) c.spins.new.self
-went g c =
-    let one = c.advance-taken.ensures in
-    let more = c.spins.ensures in
-    leads_alone g.I.CallLayer.IsStepwise c.args.self.now c.advance-taken.new.self c.spins.new.self c.args.cpu c.advance-taken.result c.spins.result
-    (record { plan = one.plan; ran = one.ran; table = one.table }) (record { plan = more.plan; ran = more.ran; table = more.table })
+went g c = grind (arith, leads_alone)
 
 pub returns-clause-ran : goal.returns-clause-ran
 returns-clause-ran g c = (went g (goal.at.returns-clause-ran g c).After-spins).ran

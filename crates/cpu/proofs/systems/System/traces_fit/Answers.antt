@@ -1,13 +1,9 @@
 use Rattle.std.proofs.Common.{◌≤◌, length, subst, arith}
-use Rattle.cpu.specs.{Calm.TracesFit, Claims.CpuShown, Claims.Shown}
-use Rattle.cpu.proofs.{ListReads.shown_at, SystemOverLayer.shown_by}
+use Rattle.cpu.{specs.{Calm.TracesFit, Claims.{CpuShown, Shown}}, proofs.{ListReads.shown_at, SystemOverLayer.shown_by}}
 use Rattle.cpu.proofs.systems.System.traces_fit.Goals as goal
 
 pub returns : goal.returns
 returns g c =
-    let I = g.I.CallLayer in
-    let items = c.self.inside.cpus.items in
-    let shown = shown_by I in
     subst (λ (s : Shown). TracesFit s) c.self.view_is
-    (shown_at shown (λ k (p : CpuShown). length p.trace ≤ p.limit) items
+    (shown_at (shown_by g.I.CallLayer) (λ k (p : CpuShown). length p.trace ≤ p.limit) c.self.inside.cpus.items
     (λ k x at. let is = (c.self.invariant.each k x at).holds.2 in let room = is.room in omega (arith, room)))

@@ -1,12 +1,8 @@
-use Rattle.std.proofs.Common.{◌≡◌, ◌<◌, ◌^◌, ℕ, [], List, Option, length, map, refl, ap, sym, ◌∙◌, subst, arith}
-use Rattle.std.specs.Prelude.{slice_index_or}
-use Rattle.std.proofs.lemmas.{List.length-map, Option.slice_get-get_or, Option.slice_get_within}
-use Rattle.layer_traits.specs.OnePlace.{cpu_at}
-use Rattle.cpu.specs.{declared.cpus.Cpu.Cpu, declared.guests.Guest.Guest, Boots.AreGuests, Claims.cpu_shown, Claims.shown_of, Sound.BootsByTable}
-use Rattle.cpu.specs.{Tables.IsTabled, Tables.private, Tower.Composed.named}
-use Rattle.event_log.specs.{declared.ids.CpuId.CpuId, Actions.Action}
-use Rattle.cpu.proofs.{ListReads.shown_at, SystemsAtBoot.IsNew, SystemsAtBoot.starts_by_table, TableCalls.boots_tabled, InvariantAtBoot.all_one, InvariantAtBoot.boots_as, InvariantAtBoot.opens}
-use Rattle.cpu.proofs.{InvariantAtBoot.shows_all}
+use Rattle.std.proofs.{Common.{◌≡◌, ◌<◌, ◌^◌, ℕ, [], List, Option, length, map, refl, ap, sym, ◌∙◌, subst, arith}, lemmas.List.length-map}
+use Rattle.{std.{proofs.lemmas.Option.{slice_get-get_or, slice_get_within}, specs.Prelude.slice_index_or}, layer_traits.specs.OnePlace.cpu_at}
+use Rattle.cpu.specs.{declared.{cpus.Cpu.Cpu, guests.Guest.Guest}, Boots.AreGuests, Claims.{cpu_shown, shown_of}, Sound.BootsByTable, Tables.IsTabled}
+use Rattle.cpu.{specs.{Tables.private, Tower.Composed.named}, proofs.{ListReads.shown_at, SystemsAtBoot.{IsNew, starts_by_table}, TableCalls.boots_tabled}}
+use Rattle.{cpu.proofs.InvariantAtBoot.{all_one, boots_as, opens, shows_all}, event_log.specs.{declared.ids.CpuId.CpuId, Actions.Action}}
 use Rattle.cpu.proofs.systems.System.with_tables.Goals as goal
 
 pub assembled-requires : goal.assembled-requires
@@ -19,7 +15,6 @@ assembled-requires g c =
     let openable = c.requires.openable in
     let tables : List (List (Option Guest)) = map (λ t. t.items) c.args.tables.items in
     let so_many : length tables ≡ length c.args.tables.items = length-map c.args.tables.items (λ t. t.items) in
-    let small : c.args.room < 2 ^ 64 = c.ranges.room.fits in
     let shown = λ (x : Cpu g.row.I.Denot g.row.I-Machine.Denot). cpu_shown (I.threads x.part) x.guests.items x.trace.items x.limit (I.is_inside x.part)
     (I.own x.part) in
     let threads = ap (λ (l : List CpuId). length l) (sym c.in_ok-machine.ensures.opened.homes_are) in
@@ -62,7 +57,7 @@ assembled-requires g c =
                 (slice_index_or tables k []) (length c.args.caps.now) (I.opening m) are opened),
           );
     })
-    e.acts e.holders e.none e.opened.homes_are e.opened.none_seen small e.opened.room_is
+    e.acts e.holders e.none e.opened.homes_are e.opened.none_seen c.ranges.room.fits e.opened.room_is
 
 pub returns-clause-guests : goal.returns-clause-guests
 returns-clause-guests g c =

@@ -1,7 +1,5 @@
-use Rattle.std.proofs.Common.{◌≡◌, ◌∷◌, ◌<◌, [], List, Option, Some, drop, length, map, ap, ◌∙◌, subst, arith, vec_capacity}
-use Rattle.std.specs.Prelude.{slice_get, slice_index_or}
-use Rattle.std.proofs.lemmas.List.{length-append}
-use Rattle.cpu.specs.{declared.cpus.Cpu.Cpu, declared.guests.Guest.Guest, Boots.IsBooted, Boots.IsBootedAs}
+use Rattle.std.proofs.{Common.{◌≡◌, ◌∷◌, ◌<◌, [], Some, drop, length, map, ap, ◌∙◌, subst, arith, vec_capacity}, lemmas.List.length-append}
+use Rattle.{std.specs.Prelude.{slice_get, slice_index_or}, cpu.specs.{declared.cpus.Cpu.Cpu, Boots.IsBootedAs}}
 use Rattle.cpu.proofs.InvariantAtBoot.{at_end, drop_more, first_left}
 use Rattle.cpu.proofs.systems.opening.cpus_at_boot.Goals as goal
 
@@ -20,9 +18,7 @@ loop-number-preserved g c =
     record {
       tables_left = c.remove-guests.ensures.items ∙ ap (λ l. drop 1 l) inv.tables_left ∙ drop_more tables n within;
       so_many =
-          let long = ap (λ l. length l) grown ∙ length-append c.loop-number.cpus.items (x ∷ []) in
-          let before = inv.so_many in
-          omega (arith, long, before);
+          omega (arith, ap (λ l. length l) grown ∙ length-append c.loop-number.cpus.items (x ∷ []), inv.so_many);
       has_room = let room = inv.has_room in let more = c.put_cpu.ensures.capacity in omega (arith, room, more);
       booted = λ k z at. at_end (λ j (y : Cpu g.row.I.Denot g.row.I-Machine.Denot). IsBootedAs (λ p m. I.Fits p m) (λ m d. I.IsFresh m c.args.homes.now d)
           (λ m. length (I.caps m)) I.IsStepwise c.args.buffers c.args.homes.now j
@@ -30,9 +26,7 @@ loop-number-preserved g c =
           (I.own y.part) (I.threads y.part) (I.call_states y.part) (I.under_way y.part) y.number y.guests.items y.trace.items y.limit (vec_capacity y.trace))
           c.loop-number.cpus.items x inv.booted
           (rw inv.so_many (record {
-            booted = subst (λ (l : List (Option Guest)). IsBooted
-                (record { 0 = n }) l c.args.limit x.number x.guests.items x.trace.items x.limit (vec_capacity x.trace))
-                guests e.booted;
+            booted = grind (arith, n, x, e);
             cpu_is = e.cpu;
             threads_are = e.threads;
             nobody_calls = e.call_states;

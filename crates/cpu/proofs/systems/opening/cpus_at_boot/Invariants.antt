@@ -1,5 +1,4 @@
-use Rattle.std.proofs.Common.{◌≡◌, ◌≤◌, ℕ, [], Some, drop, length, map, vec_capacity}
-use Rattle.std.specs.Prelude.{slice_get, slice_index_or}
+use Rattle.std.{proofs.Common.{◌≡◌, ◌≤◌, ℕ, [], Some, drop, length, map, vec_capacity}, specs.Prelude.{slice_get, slice_index_or}}
 use Rattle.cpu.specs.{declared.cpus.Cpu.Cpu, Boots.IsBootedAs}
 use Rattle.cpu.proofs.systems.opening.cpus_at_boot.Given as goal
 

@@ -1,6 +1,4 @@
-use Rattle.std.proofs.Common.{List, Some, ap, sym, ◌∙◌}
-use Rattle.guest.specs.declared.instructions.Instruction.{Instruction}
-use Rattle.cpu.specs.Guests.{new_guest}
+use Rattle.std.proofs.Common.{arith, ◌∙◌}
 use Rattle.cpu.proofs.PlanGuests.{guest_away, guest_home}
 use Rattle.cpu.proofs.systems.plans.guest_at.Goals as goal
 
@@ -10,5 +8,4 @@ returns-then-home-number c =
 
 pub returns : goal.returns
 returns c =
-    ap Some (c.new.ensures ∙ ap (λ (p : List Instruction). new_guest p) (c.in_ok-program.ensures ∙ c.program.ensures.program))
-    ∙ guest_home c.args.boot.now c.args.number.0 c.args.thread.0 c.requires (sym c.home-home.ensures.home ∙ c.if-home-number.false)
+    grind (arith, guest_home)

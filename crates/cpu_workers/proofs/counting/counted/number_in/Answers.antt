@@ -1,7 +1,5 @@
-use Rattle.std.proofs.Common.{◌∙◌, ap, is_some, option_map, sym}
-use Rattle.std.specs.Borrow.{Bor}
-use Rattle.cpu_workers.specs.declared.counting.TheConstants.{NUMBER}
-use Rattle.cpu_workers.proofs.CountMachines.{block_counts, some_where_not_none, there_at_rest}
+use Rattle.std.{proofs.Common.{◌∙◌, ap, is_some, option_map, sym}, specs.Borrow.Bor}
+use Rattle.cpu_workers.{specs.declared.counting.TheConstants.NUMBER, proofs.CountMachines.{block_counts, some_where_not_none, there_at_rest}}
 use Rattle.cpu_workers.proofs.counting.counted.number_in.Goals as goal
 
 pub unwrap-requires : goal.unwrap-requires

@@ -1,5 +1,4 @@
-use Rattle.cpu_workers.specs.declared.counting.TheConstants.{NUMBER}
-use Rattle.cpu_workers.proofs.Counts.{came_cover, came_over, left_by_frees, number_is_left, number_read}
+use Rattle.cpu_workers.{specs.declared.counting.TheConstants.NUMBER, proofs.Counts.{came_cover, came_over, left_by_frees, number_is_left, number_read}}
 use Rattle.cpu_workers.proofs.counting.counted.number_left.Goals as goal
 
 pub close-blocks-requires-clause-covers : goal.close-blocks-requires-clause-covers

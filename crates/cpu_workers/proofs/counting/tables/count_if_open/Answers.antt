@@ -1,7 +1,6 @@
 use Rattle.std.proofs.Common.{◌≡◌, All, sym, subst, ◌∙◌, rules}
-use Rattle.table_machine.specs.SeatViews.{new_seat_views}
-use Rattle.cpu_workers.specs.{declared.counting.AddOne.AddOne, declared.counting.TheConstants.NUMBER, Counts.AllHaveMade, Counts.IsFresh}
-use Rattle.cpu_workers.proofs.{Counts.new_have_made_none, TableKeys.new_fresh}
+use Rattle.{table_machine.specs.SeatViews.new_seat_views, cpu_workers.specs.{declared.counting.{AddOne.AddOne, TheConstants.NUMBER}, Counts.AllHaveMade}}
+use Rattle.cpu_workers.{specs.Counts.IsFresh, proofs.{Counts.new_have_made_none, TableKeys.new_fresh}}
 use Rattle.cpu_workers.proofs.counting.tables.count_if_open.Goals as goal
 
 pub count_all-requires-clause-fresh : goal.count_all-requires-clause-fresh

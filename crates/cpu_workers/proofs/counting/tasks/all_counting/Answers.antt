@@ -1,5 +1,4 @@
-use Rattle.std.proofs.Common.{refl}
-use Rattle.cpu_workers.proofs.Filling.{filled_all, filled_none, filled_one, has_room}
+use Rattle.{std.proofs.Common.refl, cpu_workers.proofs.Filling.{filled_all, filled_none, filled_one, has_room}}
 use Rattle.cpu_workers.proofs.counting.tasks.all_counting.Goals as goal
 
 pub loop-key-init : goal.loop-key-init

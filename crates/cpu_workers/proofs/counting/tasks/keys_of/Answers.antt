@@ -1,5 +1,4 @@
-use Rattle.std.proofs.Common.{refl}
-use Rattle.cpu_workers.proofs.Filling.{both_are, filled_all, filled_none, filled_one, has_room}
+use Rattle.{std.proofs.Common.refl, cpu_workers.proofs.Filling.{both_are, filled_all, filled_none, filled_one, has_room}}
 use Rattle.cpu_workers.proofs.counting.tasks.keys_of.Goals as goal
 
 pub loop-task-init : goal.loop-task-init

@@ -1,9 +1,7 @@
 use Rattle.std.proofs.Common.{◌≡◌, length, refl, sym, ◌∙◌, subst, arith}
-use Rattle.event_log.specs.{Actions.acts_of, WordsLog.Idle, WordsLog.lock_phase}
-use Rattle.layer_traits.specs.{OneLock.opened, OnePlace.cpu_at, WordsProtocol.edit_of}
-use Rattle.cpu_workers.specs.{Natives.HaveLeftKeys, Natives.OpensWith}
-use Rattle.cpu_workers.proofs.{Crossing.tower_seat_send, Crossing.turn_send, NativeKeys.have_left, SeatViews.ready_at, TableKeys.as_many}
-use Rattle.cpu_workers.proofs.TableKeys.{left_fit, seat_views_are_of}
+use Rattle.{event_log.specs.{Actions.acts_of, WordsLog.{Idle, lock_phase}}, layer_traits.specs.{OneLock.opened, OnePlace.cpu_at, WordsProtocol.edit_of}}
+use Rattle.cpu_workers.{specs.Natives.{HaveLeftKeys, OpensWith}, proofs.{Crossing.{tower_seat_send, turn_send}, NativeKeys.have_left, SeatViews.ready_at}}
+use Rattle.cpu_workers.proofs.TableKeys.{as_many, left_fit, seat_views_are_of}
 use denote.Param.Send.{param_send, arg_send}
 use Rattle.cpu_workers.proofs.natives.run.call_tickets.Lts as lts
 use Rattle.cpu_workers.proofs.natives.run.call_tickets.Goals as goal

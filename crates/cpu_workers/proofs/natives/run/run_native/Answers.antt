@@ -1,10 +1,7 @@
 use Rattle.std.proofs.Common.{◌≡◌, ◌≤◌, List, length, ap, sym, ◌∙◌, subst, arith}
-use Rattle.event_log.specs.declared.ids.{CpuId.CpuId, TheConstants.CPUS}
-use Rattle.layer_traits.specs.{OneLock.opened, OnePlace.cpu_at, Openings.AreOpenable}
-use Rattle.table_machine.specs.SeatViews.{new_seat_views}
-use Rattle.cpu.proofs.ListReads.{listed_length}
-use Rattle.cpu_workers.specs.Natives.{HaveRun, OpensWith, left_of, own_homes}
-use Rattle.cpu_workers.proofs.{NativeKeys.all_covered, NativeKeys.all_over, NativeLists.are_openable, NativeRuns.have_run}
+use Rattle.{event_log.specs.declared.ids.{CpuId.CpuId, TheConstants.CPUS}, layer_traits.specs.{OneLock.opened, OnePlace.cpu_at, Openings.AreOpenable}}
+use Rattle.{table_machine.specs.SeatViews.new_seat_views, cpu.proofs.ListReads.listed_length, cpu_workers.specs.Natives.{HaveRun, OpensWith, left_of}}
+use Rattle.cpu_workers.{specs.Natives.own_homes, proofs.{NativeKeys.{all_covered, all_over}, NativeLists.are_openable, NativeRuns.have_run}}
 use Rattle.cpu_workers.proofs.natives.run.run_native.Goals as goal
 
 pub table_for-requires : goal.table_for-requires

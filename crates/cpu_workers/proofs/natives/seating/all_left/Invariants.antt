@@ -1,6 +1,5 @@
 use Rattle.std.proofs.Common.{◌≡◌, vec_capacity}
-use Rattle.cpu_workers.specs.Natives.{HasLeftMachine}
-use Rattle.cpu_workers.proofs.Filling.{Filling}
+use Rattle.cpu_workers.{specs.Natives.HasLeftMachine, proofs.Filling.Filling}
 use Rattle.cpu_workers.proofs.natives.seating.all_left.Given as goal
 
 abbrev pub invariant-loop-one : goal.invariant-loop-one

@@ -1,9 +1,6 @@
 use Rattle.std.proofs.Common.{◌+◌, ℕ, ap, subst, sym, ◌∙◌}
-use Rattle.layer_traits.proofs.PlanLemmas.{sections_acts}
-use Rattle.layer_traits.specs.WordsProtocol.{sections}
-use Rattle.table_machine.specs.SeatViews.{SeatView}
-use Rattle.cpu_workers.specs.{declared.counting.AddOne.AddOne, declared.counting.TheConstants.NUMBER, Counts.HasMade, Counts.made}
-use Rattle.cpu_workers.proofs.Counts.{has_made}
+use Rattle.{layer_traits.{proofs.PlanLemmas.sections_acts, specs.WordsProtocol.sections}, table_machine.specs.SeatViews.SeatView}
+use Rattle.cpu_workers.{specs.{declared.counting.{AddOne.AddOne, TheConstants.NUMBER}, Counts.{HasMade, made}}, proofs.Counts.has_made}
 use Rattle.cpu_workers.proofs.plan_words.TicketWordsPlanWords.work.Goals as goal
 
 pub returns : goal.returns

@@ -1,11 +1,8 @@
 use Rattle.std.proofs.Common.{◌≡◌, ◌+◌, ℕ, ap, subst, sym, ◌∙◌}
-use Rattle.event_log.specs.{Grants.grant_lock_phase, WordsLog.IsLegalWords, WordsLog.Idle, WordsLog.lock_phase}
-use Rattle.layer_traits.specs.{GrantProtocol.grant_sections, OneLock.opened, AsGrants.as_grants, Laws.AsGrants.sections_as_grants}
-use Rattle.layer_traits.specs.{Laws.AsGrants.stands_as_grants}
-use Rattle.layer_traits.proofs.Seen.{words_legal}
-use Rattle.table_machine.specs.SeatViews.{SeatView}
-use Rattle.cpu_workers.specs.{Counts.counting, declared.counting.AddOne.AddOne, declared.counting.TheConstants.NUMBER, Counts.HasMade, Counts.made}
-use Rattle.cpu_workers.proofs.Counts.{has_made}
+use Rattle.{event_log.specs.{Grants.grant_lock_phase, WordsLog.{IsLegalWords, Idle, lock_phase}}, layer_traits.specs.GrantProtocol.grant_sections}
+use Rattle.layer_traits.{specs.{OneLock.opened, AsGrants.as_grants, Laws.AsGrants.{sections_as_grants, stands_as_grants}}, proofs.Seen.words_legal}
+use Rattle.{table_machine.specs.SeatViews.SeatView, cpu_workers.specs.{Counts.{counting, HasMade, made}, declared.counting.AddOne.AddOne}}
+use Rattle.cpu_workers.{specs.declared.counting.TheConstants.NUMBER, proofs.Counts.has_made}
 use Rattle.cpu_workers.proofs.plan_words.WaiterWordsPlanWords.work.Goals as goal
 
 pub work_at-requires-clause-outside : goal.work_at-requires-clause-outside

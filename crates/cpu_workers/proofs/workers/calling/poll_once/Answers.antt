@@ -1,6 +1,5 @@
 use Rattle.std.proofs.Common.{◌≡◌, List, IfErr, subst, sym, ◌∙◌}
-use Rattle.layer_traits.specs.{declared.call_states.CallState.CallState, Places.Threads}
-use Rattle.cpu_workers.specs.Calls.{KeepsOn, MayPoll, under_way_of}
+use Rattle.{layer_traits.specs.{declared.call_states.CallState.CallState, Places.Threads}, cpu_workers.specs.Calls.{KeepsOn, MayPoll, under_way_of}}
 use Rattle.cpu_workers.proofs.Going.{on_goes}
 use Rattle.cpu_workers.proofs.workers.calling.poll_once.Goals as goal
 

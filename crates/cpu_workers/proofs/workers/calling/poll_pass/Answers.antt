@@ -1,6 +1,4 @@
-use Rattle.std.proofs.Common.{List, subst, sym}
-use Rattle.layer_traits.specs.declared.call_states.CallState.{CallState}
-use Rattle.cpu_workers.specs.Calls.{KeepsOn}
+use Rattle.{std.proofs.Common.{List, subst, sym}, layer_traits.specs.declared.call_states.CallState.CallState, cpu_workers.specs.Calls.KeepsOn}
 use Rattle.cpu_workers.proofs.Going.{ended_on, on_goes}
 use Rattle.cpu_workers.proofs.workers.calling.poll_pass.Goals as goal
 

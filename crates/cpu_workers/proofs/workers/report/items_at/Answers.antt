@@ -1,7 +1,6 @@
 use Rattle.std.proofs.Common.{◌≡◌, ◌≤◌, true, false, length, ap, ◌∙◌, sym, rules, arith}
-use Rattle.event_log.specs.History.{same_lock}
-use Rattle.cpu_workers.specs.{Closing.block_shown, Lawful.messages_in}
-use Rattle.cpu_workers.proofs.SeatViews.{opened_end, opened_here, opened_later}
+use Rattle.{event_log.specs.History.same_lock, cpu_workers.{specs.{Closing.block_shown, Lawful.messages_in}, proofs.SeatViews.{opened_end, opened_here}}}
+use Rattle.cpu_workers.proofs.SeatViews.{opened_later}
 use Rattle.cpu_workers.proofs.workers.report.items_at.Goals as goal
 
 pub returns-then-eq : goal.returns-then-eq

@@ -1,5 +1,4 @@
-use Rattle.std.proofs.Common.{refl}
-use Rattle.cpu_workers.proofs.Filling.{both_are, both_maps, filled_all, filled_none, filled_one, has_room}
+use Rattle.{std.proofs.Common.refl, cpu_workers.proofs.Filling.{both_are, both_maps, filled_all, filled_none, filled_one, has_room}}
 use Rattle.cpu_workers.proofs.workers.run.parted.Goals as goal
 
 pub loop-one-init : goal.loop-one-init

@@ -1,10 +1,8 @@
 use Rattle.std.proofs.Common.{◌≡◌, refl, sym, ◌∙◌, subst, arith}
-use Rattle.event_log.specs.{Grants.acts_of_grants, Grants.grant_lock_phase, WordsLog.Idle}
-use Rattle.layer_traits.specs.{OneLock.opened, OnePlace.cpu_at, WordsProtocol.edit_of, AsGrants.as_grants, Laws.AsGrants.acts_as_grants}
-use Rattle.layer_traits.proofs.Seen.{words_legal}
-use Rattle.cpu_workers.specs.{Closing.tower_rules, Seating.HaveLeft, Seating.OpensPlan}
-use Rattle.cpu_workers.proofs.{Crossing.tower_seat_send, Crossing.turn_send, SeatViews.have_left, SeatViews.ready_at, TableKeys.as_many}
-use Rattle.cpu_workers.proofs.TableKeys.{left_fit, seat_views_are_of}
+use Rattle.{event_log.specs.{Grants.{acts_of_grants, grant_lock_phase}, WordsLog.Idle}, layer_traits.specs.{OneLock.opened, OnePlace.cpu_at}}
+use Rattle.layer_traits.{specs.{WordsProtocol.edit_of, AsGrants.as_grants, Laws.AsGrants.acts_as_grants}, proofs.Seen.words_legal}
+use Rattle.cpu_workers.{specs.{Closing.tower_rules, Seating.{HaveLeft, OpensPlan}}, proofs.{Crossing.{tower_seat_send, turn_send}, SeatViews.have_left}}
+use Rattle.cpu_workers.proofs.{SeatViews.ready_at, TableKeys.{as_many, left_fit, seat_views_are_of}}
 use denote.Param.Send.{param_send, arg_send}
 use Rattle.cpu_workers.proofs.workers.run.run_grants.Lts as lts
 use Rattle.cpu_workers.proofs.workers.run.run_grants.Goals as goal

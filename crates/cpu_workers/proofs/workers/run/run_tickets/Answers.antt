@@ -1,8 +1,6 @@
 use Rattle.std.proofs.Common.{◌≡◌, refl, sym, ◌∙◌, subst, arith}
-use Rattle.event_log.specs.{Actions.acts_of, WordsLog.Idle, WordsLog.lock_phase}
-use Rattle.layer_traits.specs.{OnePlace.cpu_at, WordsProtocol.edit_of}
-use Rattle.cpu_workers.specs.{Seating.HaveLeft, Seating.OpensPlan}
-use Rattle.cpu_workers.proofs.{Crossing.tower_seat_send, Crossing.turn_send, SeatViews.have_left, SeatViews.ready_at, TableKeys.as_many}
+use Rattle.{event_log.specs.{Actions.acts_of, WordsLog.{Idle, lock_phase}}, layer_traits.specs.{OnePlace.cpu_at, WordsProtocol.edit_of}}
+use Rattle.cpu_workers.{specs.Seating.{HaveLeft, OpensPlan}, proofs.{Crossing.{tower_seat_send, turn_send}, SeatViews.{have_left, ready_at}, TableKeys.as_many}}
 use Rattle.cpu_workers.proofs.TableKeys.{left_fit, seat_views_are_of}
 use denote.Param.Send.{param_send, arg_send}
 use Rattle.cpu_workers.proofs.workers.run.run_tickets.Lts as lts

@@ -1,6 +1,4 @@
-use Rattle.std.proofs.Common.{map, sym, subst}
-use Rattle.cpu_workers.specs.Seating.{HaveLeft}
-use Rattle.cpu_workers.proofs.{SeatViews.all_covered, SeatViews.all_over, Observed.words_so}
+use Rattle.{std.proofs.Common.{map, sym, subst}, cpu_workers.{specs.Seating.HaveLeft, proofs.{SeatViews.{all_covered, all_over}, Observed.words_so}}}
 use Rattle.cpu_workers.proofs.workers.run.run_waiters.Goals as goal
 
 pub closed-requires-clause-covers : goal.closed-requires-clause-covers

@@ -1,7 +1,6 @@
 use Rattle.std.proofs.Common.{◌≡◌, [], All, sym, subst, rules, arith}
-use Rattle.table_machine.specs.SeatViews.{IsOf}
-use Rattle.cpu_workers.proofs.{Filling.both_same, Filling.filled_all, Filling.filled_none, Filling.filled_one, Filling.has_room, Joining.all_head}
-use Rattle.cpu_workers.proofs.{Joining.all_tail}
+use Rattle.{table_machine.specs.SeatViews.IsOf, cpu_workers.proofs.{Filling.{both_same, filled_all, filled_none, filled_one, has_room}, Joining.all_head}}
+use Rattle.cpu_workers.proofs.Joining.{all_tail}
 use Rattle.cpu_workers.proofs.workers.run.seats_at.Goals as goal
 
 pub loop-key-init : goal.loop-key-init

@@ -1,6 +1,5 @@
 use Rattle.std.proofs.Common.{◌≡◌, All, vec_capacity}
-use Rattle.table_machine.specs.SeatViews.{IsOf}
-use Rattle.cpu_workers.proofs.Filling.{Filling}
+use Rattle.{table_machine.specs.SeatViews.IsOf, cpu_workers.proofs.Filling.Filling}
 use Rattle.cpu_workers.proofs.workers.run.seats_at.Given as goal
 
 abbrev pub invariant-loop-key : goal.invariant-loop-key

@@ -1,6 +1,5 @@
 use Rattle.std.proofs.Common.{◌≡◌, vec_capacity}
-use Rattle.cpu_workers.specs.Seating.{IsApart}
-use Rattle.cpu_workers.proofs.Filling.{Filling}
+use Rattle.cpu_workers.{specs.Seating.IsApart, proofs.Filling.Filling}
 use Rattle.cpu_workers.proofs.workers.seating.all_apart.Given as goal
 
 abbrev pub invariant-loop-one : goal.invariant-loop-one

@@ -1,7 +1,6 @@
 use Rattle.std.proofs.Common.{◌≡◌, [], ◌∙◌, subst, arith}
-use Rattle.event_log.specs.declared.ids.CpuId.{CpuId}
-use Rattle.layer_traits.specs.OnePlace.{cpu_at}
-use Rattle.cpu_workers.proofs.{Joining.all_by_number, Joining.both_length, Joining.both_back, Seated.left_so}
+use Rattle.{event_log.specs.declared.ids.CpuId.CpuId, layer_traits.specs.OnePlace.cpu_at, cpu_workers.proofs.Joining.{all_by_number, both_length, both_back}}
+use Rattle.cpu_workers.proofs.Seated.{left_so}
 use Rattle.cpu_workers.proofs.workers.seating.run_each.Goals as goal
 
 pub work_all-requires-after_bounds : goal.work_all-requires-after_bounds

@@ -1,13 +1,8 @@
 use denote.Param.Send.{sendable}
-use Rattle.std.proofs.Crossing.{crosses}
-use Rattle.std.proofs.Common.{◌≡◌, ℕ, Some, refl, ap, arith}
-use Rattle.std.specs.Prelude.{slice_get}
-use Rattle.cpu.specs.Boots.{homes_for}
-use Rattle.layer_traits.specs.{OnePlace.cpu_at, QueueBlocks.StartsWell}
-use Rattle.fifo_buffer.specs.FifoFits.{BootsSo}
-use Rattle.cpu_workers.specs.Seating.{tower_acts}
-use Rattle.cpu_workers.proofs.{Crossing.fifo_send, Crossing.tower_sleeper_send, NativeLists.ok_so, Joining.found_within, TowerOpening.opens_tower}
-use Rattle.cpu_workers.proofs.{TowerOpening.seen_from_top}
+use Rattle.std.{proofs.{Crossing.crosses, Common.{◌≡◌, ℕ, Some, refl, ap, arith}}, specs.Prelude.slice_get}
+use Rattle.{cpu.specs.Boots.homes_for, layer_traits.specs.{OnePlace.cpu_at, QueueBlocks.StartsWell}, fifo_buffer.specs.FifoFits.BootsSo}
+use Rattle.cpu_workers.{specs.Seating.tower_acts, proofs.{Crossing.{fifo_send, tower_sleeper_send}, NativeLists.ok_so, Joining.found_within}}
+use Rattle.cpu_workers.proofs.TowerOpening.{opens_tower, seen_from_top}
 use Rattle.ipc_calls.proofs.ipc.Ipc.TheSendSync as ipc
 use Rattle.condvar.proofs.cond.Cond.TheSendSync as cond
 use Rattle.queuing_lock.proofs.qlock.QLock.TheSendSync as qlock

@@ -1,7 +1,5 @@
 use Rattle.std.proofs.Common.{List, Option, length, ap, sym, ◌∙◌, subst}
-use Rattle.event_log.specs.declared.ids.CpuId.{CpuId}
-use Rattle.cpu.specs.{declared.guests.Guest.Guest, Boots.AreGuests, Boots.homes_for}
-use Rattle.cpu.proofs.PlanGuests.{are_guests}
+use Rattle.{event_log.specs.declared.ids.CpuId.CpuId, cpu.{specs.{declared.guests.Guest.Guest, Boots.{AreGuests, homes_for}}, proofs.PlanGuests.are_guests}}
 use Rattle.cpu_workers.proofs.Seated.{at_boot_if, planned_by}
 use Rattle.cpu_workers.proofs.workers.seating.worker_over.Goals as goal
 

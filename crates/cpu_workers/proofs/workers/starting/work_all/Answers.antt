@@ -1,6 +1,5 @@
 use Rattle.std.proofs.Common.{◌≡◌, [], subst, ap, ◌∙◌}
-use Rattle.cpu_workers.specs.Reports.{HasRun}
-use Rattle.cpu_workers.proofs.Joining.{both_all, both_then}
+use Rattle.cpu_workers.{specs.Reports.HasRun, proofs.Joining.{both_all, both_then}}
 use Rattle.cpu_workers.proofs.workers.starting.work_all.Goals as goal
 
 pub run_all-requires-after_bounds : goal.run_all-requires-after_bounds

@@ -1,6 +1,5 @@
 use Rattle.std.proofs.Common.{◌≡◌, true}
-use Rattle.cpu_workers.specs.{declared.workers.gates.Go.TheVariants.Limit, declared.workers.gates.Go.TheVariants.Pass, Reports.MayTake, Reports.AskedAtEach}
-use Rattle.cpu_workers.proofs.Turning.{HasPassed, Holds, Ran}
+use Rattle.cpu_workers.{specs.{declared.workers.gates.Go.TheVariants.{Limit, Pass}, Reports.{MayTake, AskedAtEach}}, proofs.Turning.{HasPassed, Holds, Ran}}
 use Rattle.cpu_workers.proofs.workers.turns.work.Given as goal
 
 abbrev pub invariant-loop : goal.invariant-loop

@@ -1,7 +1,5 @@
-use Rattle.std.proofs.Common.{◌≡◌, ◌<◌, ◌++◌, ◌∷◌, [], length, get_or, take, sym, ap, ◌∙◌, arith}
-use Rattle.std.proofs.lemmas.List.{take_more}
-use Rattle.event_log.specs.declared.ids.TheConstants.{CAPACITY}
-use Rattle.event_log.proofs.RingLemmas.{length-window, get_or-window}
+use Rattle.std.proofs.{Common.{◌≡◌, ◌<◌, ◌++◌, ◌∷◌, [], length, get_or, take, sym, ap, ◌∙◌, arith}, lemmas.List.take_more}
+use Rattle.event_log.{specs.declared.ids.TheConstants.CAPACITY, proofs.RingLemmas.{length-window, get_or-window}}
 use Rattle.event_log.proofs.rings.Ring.items_in.Goals as goal
 
 -- the item that was read is the next one of the queue

@@ -1,6 +1,5 @@
 use Rattle.std.proofs.Common.{[], ◌∷◌, ◌++◌, ◌<◌, ◌+◌, length, ap, ◌∙◌, arith}
-use Rattle.event_log.specs.{declared.ids.TheConstants.CAPACITY, Rings.window}
-use Rattle.event_log.proofs.RingLemmas.{length-window, window_after_push}
+use Rattle.event_log.{specs.{declared.ids.TheConstants.CAPACITY, Rings.window}, proofs.RingLemmas.{length-window, window_after_push}}
 use Rattle.event_log.proofs.rings.Ring.put_in.Goals as goal
 
 -- the write is behind the last item, since the queue has room

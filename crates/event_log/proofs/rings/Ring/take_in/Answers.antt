@@ -1,6 +1,5 @@
 use Rattle.std.proofs.Common.{sym, ap, ◌∙◌, ◌∷◌, ◌+◌, ◌-◌, ◌%◌, arith, rules}
-use Rattle.event_log.specs.{declared.ids.TheConstants.CAPACITY, Rings.first, Rings.rest, Rings.window}
-use Rattle.event_log.proofs.RingLemmas.{window_before_pop}
+use Rattle.event_log.{specs.{declared.ids.TheConstants.CAPACITY, Rings.{first, rest, window}}, proofs.RingLemmas.window_before_pop}
 use Rattle.event_log.proofs.rings.Ring.take_in.Goals as goal
 
 -- the old items are the item at the start, then the new items

@@ -1,13 +1,10 @@
-use Rattle.std.proofs.Common.{◌≡◌, ◌∙◌, ap, arith, inl, inr, sym}
-use Rattle.std.proofs.lemmas.List.{get_or-set_same}
-use Rattle.event_log.specs.declared.ids.LockId.TheVariants.{Buffer}
-use Rattle.layer_traits.specs.BufferLaw.{buffer_of, going, left_recorded, plan_beneath, no_call, section_at, call_state_of}
-use Rattle.layer_traits.specs.{BufferProtocol.buffer_monitor_rules, BufferProtocol.buffer_rules, Conditions.cv_rules, QLocking.lock_caller, QLocking.lock_moves}
-use Rattle.layer_traits.specs.{QLocking.lock_rules, Payloads.told_by, Plans.table_of, QueueBlocks.homes_in, QueueRules.queue_rules}
-use Rattle.layer_traits.proofs.{CallLemmas.follows_raised, ToldLemmas.told_some}
-use Rattle.fifo_buffer.specs.SectionPolls.{outcome_of, recorded_if}
-use Rattle.fifo_buffer.proofs.{Callers.Caller, Recorded.recorded_left, Recorded.runs_awake, Recorded.runs_home, Events.caller_is, Polls.may_poll_section}
-use Rattle.fifo_buffer.proofs.{ConditionPolls.polled_section}
+use Rattle.std.proofs.{Common.{◌≡◌, ◌∙◌, ap, arith, inl, inr, sym}, lemmas.List.get_or-set_same}
+use Rattle.{event_log.specs.declared.ids.LockId.TheVariants.Buffer, layer_traits.specs.BufferLaw.{buffer_of, going, left_recorded, plan_beneath, no_call}}
+use Rattle.layer_traits.specs.{BufferLaw.{section_at, call_state_of}, BufferProtocol.{buffer_monitor_rules, buffer_rules}, Conditions.cv_rules}
+use Rattle.layer_traits.specs.{QLocking.{lock_caller, lock_moves, lock_rules}, Payloads.told_by, Plans.table_of, QueueBlocks.homes_in, QueueRules.queue_rules}
+use Rattle.{layer_traits.proofs.{CallLemmas.follows_raised, ToldLemmas.told_some}, fifo_buffer.specs.SectionPolls.{outcome_of, recorded_if}}
+use Rattle.fifo_buffer.proofs.{Callers.Caller, Recorded.{recorded_left, runs_awake, runs_home}, Events.caller_is, Polls.may_poll_section}
+use Rattle.fifo_buffer.proofs.ConditionPolls.{polled_section}
 use Rattle.layer_traits.specs.declared.moves.WaitList.TheVariants as wait_list
 use Rattle.fifo_buffer.proofs.fifo.Fifo.poll_section.Goals as goal
 
@@ -48,8 +45,8 @@ returns-clause-section_polled g c =
     let small = c.requires.known in
     let size = c.requires.sizes.call_states_are in
     let told = told_by outcome_of c.poll-answer.result c.poll-answer.new.payload.parcel in
-    let later : call_state_of c.record_answer.new.self.call_states t ≡ recorded_if call_state call_state.stage told
-    = ap (λ call_states. call_state_of call_states t) c.record_answer.ensures.call_states ∙ get_or-set_same c.args.self.now.call_states.call_states t.0
+    let later : call_state_of c.record_answer-ended.new.self.call_states t ≡ recorded_if call_state call_state.stage told
+    = ap (λ call_states. call_state_of call_states t) (rw c.requires.stage at c.record_answer-ended.ensures.call_states) ∙ get_or-set_same c.args.self.now.call_states.call_states t.0
     (recorded_if call_state call_state.stage told) no_call (omega (arith, small, size)) in
     let edit_is = c.section-edit.ensures ∙ ap (section_at t call) c.requires.stage in
     let seen = rw (edit_is, c.buffer-buffer.ensures) at c.poll-answer.ensures.seen in
@@ -74,7 +71,7 @@ returns-clause-section_polled g c =
     lawful awake (lock_caller (cv_rules buffer_monitor_rules) (section_at t call call_state.stage)) (caller_is t call call_state.stage)
     (record { own = C.own c.poll-answer.new.self; answer = told }) seen (λ some. ap C.seen (still (inl some)))
     (λ some. ap C.seen (still (inr some))) in
-    rw (c.record_answer.ensures.done, ← told_some outcome_of c.poll-answer.result c.poll-answer.new.payload.parcel, later) poll_section
+    rw (c.record_answer-ended.ensures.done, ← told_some outcome_of c.poll-answer.result c.poll-answer.new.payload.parcel, later) poll_section
 
 pub returns-clause-follows : goal.returns-clause-follows
 returns-clause-follows g c stepwise =
@@ -89,9 +86,10 @@ returns-clause-follows g c stepwise =
     let edit_is = c.section-edit.ensures ∙ ap (section_at t call) c.requires.stage in
     let follows = rw (edit_is, c.buffer-buffer.ensures) at (c.poll-answer.ensures.follows stepwise) in
     let told = told_by outcome_of c.poll-answer.result c.poll-answer.new.payload.parcel in
-    rw (← recorded_left t call call_state call_states c.record_answer.new.self.call_states call_state.stage
-    (C.own c.poll-answer.new.self) told c.record_answer.result
-    (c.record_answer.ensures.done ∙ sym (told_some outcome_of c.poll-answer.result c.poll-answer.new.payload.parcel)) c.record_answer.ensures.call_states)
+    rw (← recorded_left t call call_state call_states c.record_answer-ended.new.self.call_states call_state.stage
+    (C.own c.poll-answer.new.self) told c.record_answer-ended.result
+    (c.record_answer-ended.ensures.done ∙ sym (told_some outcome_of c.poll-answer.result c.poll-answer.new.payload.parcel))
+    (rw c.requires.stage at c.record_answer-ended.ensures.call_states))
     (follows_raised (λ d. C.ActsFor m d) (table_of (queue_rules (lock_rules buffer_rules) (lock_moves buffer_rules))) (C.opening m) cpu
     (left_recorded t call call_state call_states call_state.stage) (plan_beneath (homes_in (C.opening m)) cpu t call call_state.stage (C.own p)) (C.acts m)
     (C.acts c.poll-answer.new.m)

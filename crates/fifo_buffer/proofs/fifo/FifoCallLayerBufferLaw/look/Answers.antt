@@ -1,6 +1,4 @@
-use Rattle.std.proofs.Common.{[]}
-use Rattle.layer_traits.specs.QueueBlocks.{inner}
-use Rattle.fifo_buffer.proofs.Parts.{moves_grown, part_grown, seen_grown}
+use Rattle.{std.proofs.Common.{[]}, layer_traits.specs.QueueBlocks.inner, fifo_buffer.proofs.Parts.{moves_grown, part_grown, seen_grown}}
 use Rattle.fifo_buffer.proofs.fifo.FifoCallLayerBufferLaw.look.Goals as goal
 
 pub returns-clause-seen : goal.returns-clause-seen

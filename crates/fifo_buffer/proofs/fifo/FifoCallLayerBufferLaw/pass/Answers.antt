@@ -1,7 +1,6 @@
 use Rattle.std.proofs.Common.{◌++◌, is_some}
-use Rattle.layer_traits.specs.{QueueBlocks.homes_in, SleepLaw.done_if}
-use Rattle.fifo_buffer.specs.SectionPolls.{BufferOutcome}
-use Rattle.fifo_buffer.proofs.Passes.{lawful_before, part_passed, pass_done, pass_events, pass_grown, pass_moved, pass_seen, passed_own}
+use Rattle.{layer_traits.specs.{QueueBlocks.homes_in, SleepLaw.done_if}, fifo_buffer.{specs.SectionPolls.BufferOutcome, proofs.Passes.lawful_before}}
+use Rattle.fifo_buffer.proofs.Passes.{part_passed, pass_done, pass_events, pass_grown, pass_moved, pass_seen, passed_own}
 use Rattle.fifo_buffer.proofs.fifo.FifoCallLayerBufferLaw.pass.Goals as goal
 
 pub returns-clause-seen : goal.returns-clause-seen

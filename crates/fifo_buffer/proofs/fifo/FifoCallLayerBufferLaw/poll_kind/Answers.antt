@@ -1,39 +1,52 @@
-use Rattle.std.proofs.Common.{◌≡◌, ◌≢◌, ◌∙◌, List, ap, sym, subst, refl, true, false, Option, Some, inl, inr, ◌⊎◌, ◌≤◌, ◌+◌, None}
-use Rattle.std.proofs.Common.{if◌then◌else◌}
-use Rattle.event_log.specs.{declared.ids.CpuId.CpuId, declared.ids.Tid.Tid}
-use Rattle.layer_traits.specs.{declared.calls.Reply.Reply, declared.call_states.Stage.Stage}
-use Rattle.layer_traits.specs.{declared.call_states.CallState.CallState, BufferLaw.Buffering, BufferLaw.answer_in}
-use Rattle.layer_traits.specs.{BufferLaw.buffer_of, BufferLaw.buffering, BufferLaw.fifo_plan, BufferLaw.going, BufferLaw.plan_of, BufferLaw.replied}
-use Rattle.layer_traits.specs.{BufferLaw.call_state_of, BufferProtocol.buffer_rules, QLocking.lock_moves, QLocking.lock_rules, Places.home_of}
-use Rattle.layer_traits.specs.{Plans.Follows, Plans.Left, Plans.table_of, QueueRules.queue_rules, QueueBlocks.homes_in, QueueBlocks.inner, Queues.buffer_sections}
-use Rattle.thread_blocks.specs.Queues.{same_tid}
-use Rattle.fifo_buffer.specs.{SectionPolls.FitsAt, SectionPolls.MayPollSection, SectionPolls.SectionPolled, SectionPolls.Sizes, SectionPolls.is_at_once}
-use Rattle.fifo_buffer.specs.{Laws.OwnedLaws.block_there}
-use Rattle.fifo_buffer.proofs.{Chains.follows_for, Chains.one_follows, Chains.two_follows, Finish.called_by, Finish.finish, Finish.others_after}
-use Rattle.fifo_buffer.proofs.{First.first_may, First.goes_called, Recorded.runs_home, Parts.moves_grown, Parts.other_part, SectionPollTaken.SectionPollTaken}
-use Rattle.fifo_buffer.proofs.SectionPollTaken.{taken}
-use Rattle.fifo_buffer.proofs.Twice.{MarksOf, apart_call_state, ended_of, next_going, completes_as, exit_free, marks_of, later_effect, next_may}
-use Rattle.fifo_buffer.proofs.Twice.{other_call_state, sizes_of, why, why_slept}
-use Rattle.fifo_buffer.proofs.fifo.FifoCallLayerBufferLaw.poll_kind.{Given.Over, Goals.Start, Goals.After-poll_section-done, Goals.After-complete}
-use Rattle.fifo_buffer.proofs.fifo.FifoCallLayerBufferLaw.poll_kind.Goals.{else-first-via-then-first+then-done+else-at_once}
-use Rattle.fifo_buffer.proofs.fifo.FifoCallLayerBufferLaw.poll_kind.Goals.{else-first-via-then-first+else-done, else-first-via-else-first}
+use Rattle.std.proofs.Common.{◌≡◌, ◌≢◌, ◌∙◌, List, ap, sym, subst, refl, true, false, Option, Some, inl, inr, ◌⊎◌, None, if◌then◌else◌, Bool, IsSome, slice_set}
+use Rattle.{std.proofs.Common.arith, event_log.specs.declared.ids.{CpuId.CpuId, LockId.TheVariants.Buffer, Tid.Tid}}
+use Rattle.layer_traits.specs.{declared.{calls.Reply.Reply, call_states.{Stage.Stage, CallState.CallState}}, BufferLaw.{Buffering, answer_in, buffer_of}}
+use Rattle.layer_traits.specs.{BufferLaw.{buffering, fifo_plan, going, plan_of, replied, call_state_of}, BufferProtocol.buffer_rules, Framed.Framed}
+use Rattle.layer_traits.specs.{QLockLaw.{is_handed, slept_for}, QLocking.{lock_moves, lock_rules}, Places.home_of, Plans.{Follows, Left, table_of}}
+use Rattle.{layer_traits.specs.{QueueRules.queue_rules, QueueBlocks.{homes_in, inner}, Queues.buffer_sections}, thread_blocks.specs.Queues.same_tid}
+use Rattle.fifo_buffer.specs.{SectionPolls.{FitsAt, MayPollSection, SectionPolled, is_at_once}, Laws.OwnedLaws.block_there, Stances.called_at}
+use Rattle.fifo_buffer.proofs.{Chains.{follows_for, one_follows, two_follows}, Finish.{called_by, finish, others_after}, First.{acquires_at, first_may}}
+use Rattle.fifo_buffer.proofs.{First.goes_called, Recorded.runs_home, Parts.{moves_grown, other_part}, SectionPollTaken.{SectionPollTaken, taken}}
+use Rattle.fifo_buffer.proofs.Twice.{apart_call_state, ended_of, next_going, completes_as, exit_free, marks_of, later_effect, next_may, other_call_state}
+use Rattle.fifo_buffer.proofs.{Twice.{sizes_of, why, why_slept}, fifo.FifoCallLayerBufferLaw.poll_kind.{Given.Over, Goals.{Start, After-complete, in-Idle}}}
+use Rattle.fifo_buffer.proofs.fifo.FifoCallLayerBufferLaw.poll_kind.Goals.{in-Enters, in-Tries, in-Waits, in-AcquiresAgain, in-Signals, in-SignalsOwn}
+use Rattle.fifo_buffer.proofs.fifo.FifoCallLayerBufferLaw.poll_kind.Goals.{in-Releases, else-first-via-then-first+then-polled+else-polled-2}
+use Rattle.fifo_buffer.proofs.fifo.FifoCallLayerBufferLaw.poll_kind.Goals.{else-first-via-then-first+else-polled, else-first-via-else-first}
 use Rattle.fifo_buffer.proofs.fifo.FifoCallLayerBufferLaw.poll_kind.Goals as goal
-
-pub poll_section-done-requires-clause-buffer : goal.poll_section-done-requires-clause-buffer
-poll_section-done-requires-clause-buffer g c =
-    rw c.sections.invariant.still (block_there (g.C.ThreadLayer.opening c.args.m.now) c.requires.fits.1.boots (buffer_of c.args.call.now) c.requires.there)
 
 -- what is known when the poll begins
 module _ (g : Over) (c : Start g) where
   open g.C.ThreadLayer use {cpu_of, opening, own, seen, under_way}
 
   home : home_of (homes_in (opening c.args.m.now)) c.args.t ≡ Some (cpu_of c.args.self.now.lower)
-  home =
-      let law = g.met.C.ThreadLayer in
-      let m = c.args.m.now in
-      let p = c.args.self.now.lower in
-      runs_home (opening m) (cpu_of p) (seen m) (own p).lock.sleep.threads c.args.t (law.moves_legal m (cpu_of p) (law.own_cpu p m c.requires.fits.0))
-      (law.stands p m c.requires.fits.0).stands c.requires.runs
+  home = grind (arith, runs_home)
+
+  there : IsSome (opening c.args.m.now (Buffer (buffer_of c.args.call.now)))
+  there = block_there (opening c.args.m.now) c.requires.fits.1.boots (buffer_of c.args.call.now) c.requires.there
+
+pub poll_section-polled-requires-clause-buffer : goal.poll_section-polled-requires-clause-buffer
+poll_section-polled-requires-clause-buffer g c = rw c.sections.invariant.still (there g (goal.at.poll_section-polled-requires-clause-buffer g c).Start)
+
+pub poll_section-polled-requires-in-Enters-clause-buffer : goal.poll_section-polled-requires-in-Enters-clause-buffer
+poll_section-polled-requires-in-Enters-clause-buffer g c = rw c.sections.invariant.still (there g (goal.at.poll_section-polled-requires-in-Enters-clause-buffer g c).Start)
+
+pub poll_section-polled-requires-in-Tries-clause-buffer : goal.poll_section-polled-requires-in-Tries-clause-buffer
+poll_section-polled-requires-in-Tries-clause-buffer g c = rw c.sections.invariant.still (there g (goal.at.poll_section-polled-requires-in-Tries-clause-buffer g c).Start)
+
+pub poll_section-polled-requires-in-Waits-clause-buffer : goal.poll_section-polled-requires-in-Waits-clause-buffer
+poll_section-polled-requires-in-Waits-clause-buffer g c = rw c.sections.invariant.still (there g (goal.at.poll_section-polled-requires-in-Waits-clause-buffer g c).Start)
+
+pub poll_section-polled-requires-in-AcquiresAgain-clause-buffer : goal.poll_section-polled-requires-in-AcquiresAgain-clause-buffer
+poll_section-polled-requires-in-AcquiresAgain-clause-buffer g c = rw c.sections.invariant.still (there g (goal.at.poll_section-polled-requires-in-AcquiresAgain-clause-buffer g c).Start)
+
+pub poll_section-polled-requires-in-Signals-clause-buffer : goal.poll_section-polled-requires-in-Signals-clause-buffer
+poll_section-polled-requires-in-Signals-clause-buffer g c = rw c.sections.invariant.still (there g (goal.at.poll_section-polled-requires-in-Signals-clause-buffer g c).Start)
+
+pub poll_section-polled-requires-in-SignalsOwn-clause-buffer : goal.poll_section-polled-requires-in-SignalsOwn-clause-buffer
+poll_section-polled-requires-in-SignalsOwn-clause-buffer g c = rw c.sections.invariant.still (there g (goal.at.poll_section-polled-requires-in-SignalsOwn-clause-buffer g c).Start)
+
+pub poll_section-polled-requires-in-Releases-clause-buffer : goal.poll_section-polled-requires-in-Releases-clause-buffer
+poll_section-polled-requires-in-Releases-clause-buffer g c = rw c.sections.invariant.still (there g (goal.at.poll_section-polled-requires-in-Releases-clause-buffer g c).Start)
 
 pub sections-init : goal.sections-init
 sections-init g c =
@@ -59,72 +72,81 @@ sections-init g c =
       follows = tt;
     }
 
--- what one section did
-module _ (g : Over) (c : After-poll_section-done g) where
-  open g.C.ThreadLayer use {ActsFor, IsStepwise, acts, cpu_of, opening, own, seen, under_way}
-
-  abbrev states : List CallState
-  states = c.sections.self.call_states.call_states
-
-  abbrev states1 : List CallState
-  states1 = c.poll_section-done.new.self.call_states.call_states
+-- what one section did at the machine with which the poll began, of a part of its CPU
+module _ (g : Over) (c : Start g) (lower lower1 : g.row.C.Denot) (m1 : g.row.C-Machine.Denot) (states states1 : List CallState)
+    (done again : Bool) where
+  open g.C.ThreadLayer use {ActsFor, Fits, IsStepwise, MayHold, acts, cpu_of, opening, own, room, seen, site, under_way}
 
   -- the call state with which the call went on
   abbrev goes : CallState
   goes = going (call_state_of states c.args.t) c.args.call.now
 
-  polled : SectionPolled (homes_in (opening c.args.m.now)) (λ d. ActsFor c.args.m.now d) (inner (opening c.args.m.now)) (cpu_of c.args.self.now.lower)
-      c.args.t c.args.call.now goes (seen c.args.m.now) (seen c.poll_section-done.new.m) (own c.sections.self.lower)
-      (own c.poll_section-done.new.self.lower) (under_way c.poll_section-done.new.self.lower) c.poll_section-done.result (call_state_of states1 c.args.t)
-  polled = rw (c.sections.invariant.still, c.sections.invariant.cpu) at c.poll_section-done.ensures.section_polled
+  record Did : Type 0 where
+    polled : SectionPolled (homes_in (opening c.args.m.now)) (λ d. ActsFor c.args.m.now d) (inner (opening c.args.m.now)) (cpu_of c.args.self.now.lower)
+        c.args.t c.args.call.now goes (seen c.args.m.now) (seen m1) (own lower) (own lower1) (under_way lower1) done (call_state_of states1 c.args.t)
+    again_is : again ≡ is_at_once goes.stage (is_handed (own lower).lock.slept (own lower).lock.sleep.threads.current)
+    states_are : states1 ≡ slice_set states c.args.t.0 (call_state_of states1 c.args.t)
+    woken : IsSome (slept_for (own lower).waits c.args.t) → m1 ≡ c.args.m.now
+    handed : IsSome (slept_for (own lower).lock.slept c.args.t) → m1 ≡ c.args.m.now
+    framed : Framed (λ p k. Fits p k) (λ p. cpu_of p) (λ k. opening k) (λ k. site k) (λ k. room k) (λ k d. ActsFor k d) (λ k d. MayHold k d)
+        lower lower1 c.args.m.now m1
+    cpu : cpu_of lower1 ≡ cpu_of c.args.self.now.lower
+    followed : IsStepwise → Follows (λ d. ActsFor c.args.m.now d) (table_of (queue_rules (lock_rules buffer_rules) (lock_moves buffer_rules)))
+        (opening c.args.m.now) (cpu_of c.args.self.now.lower)
+        (plan_of (homes_in (opening c.args.m.now)) (cpu_of c.args.self.now.lower) c.args.t c.args.call.now goes.stage goes (buffering (own lower) states))
+        (acts c.args.m.now) (acts m1)
+        (record { own = buffering (own lower1) states1; answer = if done then replied c.args.call.now goes goes.stage else None })
 
-  abbrev section : SectionPollTaken
-  section = taken polled
+  module _ (did : Did) where
+    abbrev section : SectionPollTaken
+    section = taken did.polled
 
-  followed : IsStepwise → Follows (λ d. ActsFor c.args.m.now d) (table_of (queue_rules (lock_rules buffer_rules) (lock_moves buffer_rules)))
-      (opening c.args.m.now) (cpu_of c.args.self.now.lower)
-      (plan_of (homes_in (opening c.args.m.now)) (cpu_of c.args.self.now.lower) c.args.t c.args.call.now goes.stage goes
-      (buffering (own c.sections.self.lower) states)) (acts c.args.m.now) (acts c.poll_section-done.new.m)
-      (record {
-        own = buffering (own c.poll_section-done.new.self.lower) states1;
-        answer = if c.poll_section-done.result then replied c.args.call.now goes goes.stage else None;
-      })
-  followed stepwise = rw (c.sections.invariant.still, c.sections.invariant.cpu) at (c.poll_section-done.ensures.follows stepwise)
+    opening1 : opening m1 ≡ opening c.args.m.now
+    opening1 = did.framed.stays.opening
 
-  opening1 : opening c.poll_section-done.new.m ≡ opening c.args.m.now
-  opening1 = c.poll_section-done.ensures.framed.stays.opening ∙ ap opening c.sections.invariant.still
+    same1 : (u : Tid) → same_tid c.args.t u ≡ false → call_state_of states1 u ≡ call_state_of states u
+    same1 u other = other_call_state states states1 c.args.t u (call_state_of states1 c.args.t) did.states_are other
 
-  cpu1 : cpu_of c.poll_section-done.new.self.lower ≡ cpu_of c.args.self.now.lower
-  cpu1 = c.poll_section-done.ensures.framed.cpu ∙ c.sections.invariant.cpu
+    apart1 : (u : Tid) → u.0 ≢ c.args.t.0 → call_state_of states1 u ≡ call_state_of states u
+    apart1 u other = apart_call_state states states1 c.args.t u (call_state_of states1 c.args.t) did.states_are other
 
-  acts1 : (d : CpuId) → ActsFor c.args.m.now d → ActsFor c.poll_section-done.new.m d
-  acts1 d acts = c.poll_section-done.ensures.framed.stays.acts d (subst (λ x. ActsFor x d) (sym c.sections.invariant.still) acts)
-
-  home1 : home_of (homes_in (opening c.args.m.now)) c.args.t ≡ Some (cpu_of c.args.self.now.lower)
-  home1 = home g (goal.at.poll_section-done-requires-clause-buffer g c.before).Start
-
-  same1 : (u : Tid) → same_tid c.args.t u ≡ false → call_state_of states1 u ≡ call_state_of states u
-  same1 u other = other_call_state states states1 c.args.t u (call_state_of states1 c.args.t) c.poll_section-done.ensures.call_states other
-
-  apart1 : (u : Tid) → u.0 ≢ c.args.t.0 → call_state_of states1 u ≡ call_state_of c.args.self.now.call_states.call_states u
-  apart1 u other = apart_call_state states states1 c.args.t u (call_state_of states1 c.args.t) c.poll_section-done.ensures.call_states other
-      ∙ c.sections.invariant.on.apart u other
-
-  sizes1 : Sizes (own c.poll_section-done.new.self.lower) states1
-  sizes1 = sizes_of section states states1 c.poll_section-done.ensures.call_states c.sections.invariant.on.sizes
-
-  marks : MarksOf c.args.t goes.stage (own c.sections.self.lower)
-  marks = marks_of (inner (opening c.args.m.now)) (buffer_sections (seen c.args.m.now)) c.args.t c.args.call.now goes (own c.sections.self.lower)
-      (under_way c.sections.self.lower) c.sections.invariant.on.may.goes
-
-  is_at_once_at : is_at_once goes.stage c.at_once.result ≡ c.answers_at_once-at_once.result
-  is_at_once_at = ap (λ (s : Stage). is_at_once s c.at_once.result) (sym c.next_stage-stage.ensures) ∙ sym c.answers_at_once-at_once.ensures
+-- it did what its section poll says, where the call went on at the same machine
+did_of : (g : Over) (c : Start g) (lower : g.row.C.Denot) (m : g.row.C-Machine.Denot) (states : List CallState)
+    {lower1 l : g.row.C.Denot} {m1 n : g.row.C-Machine.Denot} {states1 s : List CallState}
+    {done r again b : Bool} {stage : Stage} → (let C = g.C.ThreadLayer in
+    let goes = going (call_state_of states c.args.t) c.args.call.now in
+    (still : m ≡ c.args.m.now) (cpu : C.cpu_of lower ≡ C.cpu_of c.args.self.now.lower)
+    (lower_is : lower1 ≡ l) (m_is : m1 ≡ n) (states_is : states1 ≡ s) (done_is : done ≡ r) (again_is : again ≡ b) (stage_is : stage ≡ goes.stage)
+    (at_once : b ≡ is_at_once stage (is_handed (C.own lower).lock.slept (C.own lower).lock.sleep.threads.current))
+    (polled : SectionPolled (homes_in (C.opening m)) (λ d. C.ActsFor m d) (inner (C.opening m)) (C.cpu_of lower) c.args.t c.args.call.now goes
+    (C.seen m) (C.seen n) (C.own lower) (C.own l) (C.under_way l) r (call_state_of s c.args.t))
+    (states_are : s ≡ slice_set states c.args.t.0 (call_state_of s c.args.t))
+    (woken : IsSome (slept_for (C.own lower).waits c.args.t) → n ≡ m)
+    (handed : IsSome (slept_for (C.own lower).lock.slept c.args.t) → n ≡ m)
+    (framed : Framed (λ p k. C.Fits p k) (λ p. C.cpu_of p) (λ k. C.opening k) (λ k. C.site k) (λ k. C.room k) (λ k d. C.ActsFor k d)
+    (λ k d. C.MayHold k d) lower l m n)
+    (followed : C.IsStepwise → Follows (C.ActsFor m) (table_of (queue_rules (lock_rules buffer_rules) (lock_moves buffer_rules))) (C.opening m)
+    (C.cpu_of lower) (plan_of (homes_in (C.opening m)) (C.cpu_of lower) c.args.t c.args.call.now goes.stage goes (buffering (C.own lower) states))
+    (C.acts m) (C.acts n)
+    (record { own = buffering (C.own l) s; answer = if r then replied c.args.call.now goes goes.stage else None }))
+    → Did g c lower lower1 m1 states states1 done again)
+did_of g c lower m states still cpu lower_is m_is states_is done_is again_is stage_is at_once polled states_are woken handed framed followed =
+    rw (lower_is, m_is, states_is, done_is, again_is) (record {
+      polled = rw (still, cpu) at polled;
+      again_is = at_once ∙ ap (λ s. is_at_once s (is_handed (g.C.ThreadLayer.own lower).lock.slept (g.C.ThreadLayer.own lower).lock.sleep.threads.current)) stage_is;
+      states_are = states_are;
+      woken = λ some. woken some ∙ still;
+      handed = λ some. handed some ∙ still;
+      framed = rw still at framed;
+      cpu = framed.cpu ∙ cpu;
+      followed = λ stepwise. rw (still, cpu) at (followed stepwise);
+    })
 
 -- a section that was over without an action is followed by the next one
 pub sections-preserved : goal.sections-preserved
 sections-preserved g c =
     let C = g.C.ThreadLayer in
-    let at = (goal.at.sections-preserved g c).After-poll_section-done in
+    let at = (goal.at.sections-preserved g c).Start in
     let m = c.args.m.now in
     let cpu = C.cpu_of c.args.self.now.lower in
     let t = c.args.t in
@@ -132,119 +154,230 @@ sections-preserved g c =
     let homes = homes_in (C.opening m) in
     let O = inner (C.opening m) in
     let before = c.sections.invariant in
-    let one = c.poll_section-done in
-    let p1 = one.new.self.lower in
-    let states1 = states1 g at in
+    let states = c.sections.self.call_states.call_states in
+    let states1 = c.match-stage.self.call_states.call_states in
+    let p1 = c.match-stage.self.lower in
+    let m1 = c.match-stage.m in
+    let in_call = goes_called O (buffer_sections (C.seen m)) t call (going (call_state_of states t) call) (C.own c.sections.self.lower)
+    (C.under_way c.sections.self.lower) before.on.may.goes in
+    let did : Did g at c.sections.self.lower p1 m1 states states1 c.match-stage.polled.ended c.match-stage.polled.at_once = elim c.match-stage.branch [
+      | in-Idle w ↦ (let e = w.poll_section-polled.ensures in did_of g at c.sections.self.lower c.sections.m c.sections.self.call_states.call_states
+          before.still before.cpu (ap (λ p. p.lower) w.self-is) w.m-is (ap (λ p. p.call_states.call_states) w.self-is) (ap (λ p. p.ended) w.polled-is) (ap (λ p. p.at_once) w.polled-is)
+          (acquires_at c.next_stage-stage.ensures in_call w.in-Idle.is) e.at_once
+          e.section_polled e.call_states e.woken e.handed e.framed e.follows)
+      | in-Enters w ↦ (let e = w.poll_section-polled-in-Enters.ensures in did_of g at c.sections.self.lower c.sections.m c.sections.self.call_states.call_states
+          before.still before.cpu (ap (λ p. p.lower) w.self-is) w.m-is (ap (λ p. p.call_states.call_states) w.self-is) (ap (λ p. p.ended) w.polled-is) (ap (λ p. p.at_once) w.polled-is)
+          (sym w.in-Enters.is ∙ c.next_stage-stage.ensures) e.at_once
+          e.section_polled e.call_states e.woken e.handed e.framed e.follows)
+      | in-Tries w ↦ (let e = w.poll_section-polled-in-Tries.ensures in did_of g at c.sections.self.lower c.sections.m c.sections.self.call_states.call_states
+          before.still before.cpu (ap (λ p. p.lower) w.self-is) w.m-is (ap (λ p. p.call_states.call_states) w.self-is) (ap (λ p. p.ended) w.polled-is) (ap (λ p. p.at_once) w.polled-is)
+          (sym w.in-Tries.is ∙ c.next_stage-stage.ensures) e.at_once
+          e.section_polled e.call_states e.woken e.handed e.framed e.follows)
+      | in-Waits w ↦ (let e = w.poll_section-polled-in-Waits.ensures in did_of g at c.sections.self.lower c.sections.m c.sections.self.call_states.call_states
+          before.still before.cpu (ap (λ p. p.lower) w.self-is) w.m-is (ap (λ p. p.call_states.call_states) w.self-is) (ap (λ p. p.ended) w.polled-is) (ap (λ p. p.at_once) w.polled-is)
+          (sym w.in-Waits.is ∙ c.next_stage-stage.ensures) e.at_once
+          e.section_polled e.call_states e.woken e.handed e.framed e.follows)
+      | in-AcquiresAgain w ↦ (let e = w.poll_section-polled-in-AcquiresAgain.ensures in did_of g at c.sections.self.lower c.sections.m c.sections.self.call_states.call_states
+          before.still before.cpu (ap (λ p. p.lower) w.self-is) w.m-is (ap (λ p. p.call_states.call_states) w.self-is) (ap (λ p. p.ended) w.polled-is) (ap (λ p. p.at_once) w.polled-is)
+          (sym w.in-AcquiresAgain.is ∙ c.next_stage-stage.ensures) e.at_once
+          e.section_polled e.call_states e.woken e.handed e.framed e.follows)
+      | in-Signals w ↦ (let e = w.poll_section-polled-in-Signals.ensures in did_of g at c.sections.self.lower c.sections.m c.sections.self.call_states.call_states
+          before.still before.cpu (ap (λ p. p.lower) w.self-is) w.m-is (ap (λ p. p.call_states.call_states) w.self-is) (ap (λ p. p.ended) w.polled-is) (ap (λ p. p.at_once) w.polled-is)
+          (sym w.in-Signals.is ∙ c.next_stage-stage.ensures) e.at_once
+          e.section_polled e.call_states e.woken e.handed e.framed e.follows)
+      | in-SignalsOwn w ↦ (let e = w.poll_section-polled-in-SignalsOwn.ensures in did_of g at c.sections.self.lower c.sections.m c.sections.self.call_states.call_states
+          before.still before.cpu (ap (λ p. p.lower) w.self-is) w.m-is (ap (λ p. p.call_states.call_states) w.self-is) (ap (λ p. p.ended) w.polled-is) (ap (λ p. p.at_once) w.polled-is)
+          (sym w.in-SignalsOwn.is ∙ c.next_stage-stage.ensures) e.at_once
+          e.section_polled e.call_states e.woken e.handed e.framed e.follows)
+      | in-Releases w ↦ (let e = w.poll_section-polled-in-Releases.ensures in did_of g at c.sections.self.lower c.sections.m c.sections.self.call_states.call_states
+          before.still before.cpu (ap (λ p. p.lower) w.self-is) w.m-is (ap (λ p. p.call_states.call_states) w.self-is) (ap (λ p. p.ended) w.polled-is) (ap (λ p. p.at_once) w.polled-is)
+          (sym w.in-Releases.is ∙ c.next_stage-stage.ensures) e.at_once
+          e.section_polled e.call_states e.woken e.handed e.framed e.follows)
+    ] in
+    let section = section g at c.sections.self.lower p1 m1 states states1 c.match-stage.polled.ended c.match-stage.polled.at_once did in
+    let goes = going (call_state_of states t) call in
     let later = call_state_of states1 t in
-    let at_once = is_at_once_at g at ∙ c.if-at_once.true in
+    let handed = is_handed (C.own c.sections.self.lower).lock.slept (C.own c.sections.self.lower).lock.sleep.threads.current in
+    let at_once = sym did.again_is ∙ c.if-polled-2.true in
     let called = before.on.may.called in
-    let next = next_going (section g at) c.at_once.result c.if-done.true at_once called in
-    let still : one.new.m ≡ m = elim (why (section g at) c.at_once.result c.if-done.true at_once called before.on.may.current c.at_once.ensures)
-    [ inl some ↦ one.ensures.woken some | inr some ↦ one.ensures.handed some ] ∙ before.still in
+    let next = next_going section handed c.if-polled.true at_once called in
+    let still : m1 ≡ m = elim (why section handed c.if-polled.true at_once called before.on.may.current refl)
+    [ inl some ↦ did.woken some | inr some ↦ did.handed some ] in
+    let same1 = same1 g at c.sections.self.lower p1 m1 states states1 c.match-stage.polled.ended c.match-stage.polled.at_once did in
+    let apart1 = apart1 g at c.sections.self.lower p1 m1 states states1 c.match-stage.polled.ended c.match-stage.polled.at_once did in
     record {
       still = still;
-      fits = one.ensures.framed.fits;
-      cpu = cpu1 g at;
+      fits = did.framed.fits;
+      cpu = did.cpu;
       on = record {
         may = subst (λ x. MayPollSection O (buffer_sections (C.seen x)) t call (going later call) (C.own p1) (C.under_way p1)) still
-            (subst (λ (x : CallState). MayPollSection O (buffer_sections (C.seen one.new.m)) t call x (C.own p1) (C.under_way p1)) (sym next)
-            (next_may (section g at) c.at_once.result c.if-done.true at_once called));
+            (subst (λ (x : CallState). MayPollSection O (buffer_sections (C.seen m1)) t call x (C.own p1) (C.under_way p1)) (sym next)
+            (next_may section handed c.if-polled.true at_once called));
         others = subst (λ x. (u : Tid) → home_of homes u ≡ Some cpu → same_tid t u ≡ false
             → FitsAt O (buffer_sections (C.seen x)) (C.own p1) states1 u) still
-            (others_after (section g at) (home1 g at) called (states g at) states1 refl (same1 g at) before.on.others);
-        sizes = sizes1 g at;
-        ended = (polled g at).ended ∙ before.on.ended;
-        effect = ap (λ (x : CallState). x.effect) next ∙ later_effect (section g at) c.at_once.result c.if-done.true at_once called ∙ before.on.effect;
-        apart = apart1 g at;
+            (others_after section (home g at) called states states1 refl same1 before.on.others);
+        sizes = sizes_of section states states1 did.states_are before.on.sizes;
+        ended = did.polled.ended ∙ before.on.ended;
+        effect = ap (λ (x : CallState). x.effect) next ∙ later_effect section handed c.if-polled.true at_once called ∙ before.on.effect;
+        apart = λ u other. apart1 u other ∙ before.on.apart u other;
       };
       begins = tt;
       follows = λ stepwise new got second.
           let Acts0 : CpuId → Type 0 = λ d. C.ActsFor m d in
           let table = table_of (queue_rules (lock_rules buffer_rules) (lock_moves buffer_rules)) in
-          let end = ended_of (section g at) c.if-done.true in
+          let end = ended_of section c.if-polled.true in
           let own1 = buffering (C.own p1) states1 in
           let second1 = subst (λ (x : CallState). Follows Acts0 table (C.opening m) cpu (plan_of homes cpu t call x.stage x own1) (C.acts m) new got) next
           second in
           subst (λ (o : Buffering). Follows Acts0 table (C.opening m) cpu (fifo_plan homes cpu t call o) (C.acts m) new got) (rw c.if-first.true at before.begins)
-          (two_follows Acts0 table (C.opening m) cpu homes t call (goes g at).stage (goes g at) (buffering (C.own c.sections.self.lower) (states g at))
-          (C.acts m) (C.acts one.new.m) new
-          (record { own = own1; answer = if one.result then replied call (goes g at) (goes g at).stage else None }) got c.at_once.result end.recorded_is.0
-          at_once end.recorded_is.1 (λ w. sym ((polled g at).over w) ∙ c.if-done.true)
-          (why_slept t (goes g at).stage (C.own c.sections.self.lower) c.at_once.result at_once (marks g at) before.on.may.current c.at_once.ensures)
-          end.free.0 end.free.1 (followed g at stepwise)
+          (two_follows Acts0 table (C.opening m) cpu homes t call goes.stage goes (buffering (C.own c.sections.self.lower) states)
+          (C.acts m) (C.acts m1) new
+          (record { own = own1; answer = if c.match-stage.polled.ended then replied call goes goes.stage else None }) got handed end.recorded_is.0
+          at_once end.recorded_is.1 (λ w. sym (did.polled.over w) ∙ c.if-polled.true)
+          (why_slept t goes.stage (C.own c.sections.self.lower) handed at_once
+          (marks_of O (buffer_sections (C.seen m)) t call goes (C.own c.sections.self.lower) (C.under_way c.sections.self.lower) before.on.may.goes)
+          before.on.may.current refl)
+          end.free.0 end.free.1 (did.followed stepwise)
           (subst (λ log. Follows Acts0 table (C.opening m) cpu (plan_of homes cpu t call later.stage later own1) log new got) (sym (ap C.acts still)) second1));
     }
 
 -- the poll's last section
 module _ (g : Over) (c : After-complete g) where
-  abbrev last : After-poll_section-done g
-  last = (goal.at.returns-in-sections-clause-framed g c).After-poll_section-done
+  abbrev at : Start g
+  at = (goal.at.returns-in-sections-clause-framed g c).Start
+
+  abbrev lower : g.row.C.Denot
+  lower = c.sections.self.lower
+
+  abbrev lower1 : g.row.C.Denot
+  lower1 = c.match-stage.self.lower
+
+  abbrev m1 : g.row.C-Machine.Denot
+  m1 = c.match-stage.m
+
+  abbrev states : List CallState
+  states = c.sections.self.call_states.call_states
+
+  abbrev states1 : List CallState
+  states1 = c.match-stage.self.call_states.call_states
+
+  in_call : called_at (going (call_state_of states c.args.t) c.args.call.now).stage ≡ true
+  in_call = grind (arith, goes_called)
+
+  did : Did g at lower lower1 m1 states states1 c.match-stage.polled.ended c.match-stage.polled.at_once
+  did = let before = c.sections.invariant in elim c.match-stage.branch [
+    | in-Idle w ↦ (let e = w.poll_section-polled.ensures in did_of g at c.sections.self.lower c.sections.m c.sections.self.call_states.call_states
+        before.still before.cpu (ap (λ p. p.lower) w.self-is) w.m-is (ap (λ p. p.call_states.call_states) w.self-is) (ap (λ p. p.ended) w.polled-is) (ap (λ p. p.at_once) w.polled-is)
+        (acquires_at c.next_stage-stage.ensures in_call w.in-Idle.is) e.at_once
+        e.section_polled e.call_states e.woken e.handed e.framed e.follows)
+    | in-Enters w ↦ (let e = w.poll_section-polled-in-Enters.ensures in did_of g at c.sections.self.lower c.sections.m c.sections.self.call_states.call_states
+        before.still before.cpu (ap (λ p. p.lower) w.self-is) w.m-is (ap (λ p. p.call_states.call_states) w.self-is) (ap (λ p. p.ended) w.polled-is) (ap (λ p. p.at_once) w.polled-is)
+        (sym w.in-Enters.is ∙ c.next_stage-stage.ensures) e.at_once
+        e.section_polled e.call_states e.woken e.handed e.framed e.follows)
+    | in-Tries w ↦ (let e = w.poll_section-polled-in-Tries.ensures in did_of g at c.sections.self.lower c.sections.m c.sections.self.call_states.call_states
+        before.still before.cpu (ap (λ p. p.lower) w.self-is) w.m-is (ap (λ p. p.call_states.call_states) w.self-is) (ap (λ p. p.ended) w.polled-is) (ap (λ p. p.at_once) w.polled-is)
+        (sym w.in-Tries.is ∙ c.next_stage-stage.ensures) e.at_once
+        e.section_polled e.call_states e.woken e.handed e.framed e.follows)
+    | in-Waits w ↦ (let e = w.poll_section-polled-in-Waits.ensures in did_of g at c.sections.self.lower c.sections.m c.sections.self.call_states.call_states
+        before.still before.cpu (ap (λ p. p.lower) w.self-is) w.m-is (ap (λ p. p.call_states.call_states) w.self-is) (ap (λ p. p.ended) w.polled-is) (ap (λ p. p.at_once) w.polled-is)
+        (sym w.in-Waits.is ∙ c.next_stage-stage.ensures) e.at_once
+        e.section_polled e.call_states e.woken e.handed e.framed e.follows)
+    | in-AcquiresAgain w ↦ (let e = w.poll_section-polled-in-AcquiresAgain.ensures in did_of g at c.sections.self.lower c.sections.m c.sections.self.call_states.call_states
+        before.still before.cpu (ap (λ p. p.lower) w.self-is) w.m-is (ap (λ p. p.call_states.call_states) w.self-is) (ap (λ p. p.ended) w.polled-is) (ap (λ p. p.at_once) w.polled-is)
+        (sym w.in-AcquiresAgain.is ∙ c.next_stage-stage.ensures) e.at_once
+        e.section_polled e.call_states e.woken e.handed e.framed e.follows)
+    | in-Signals w ↦ (let e = w.poll_section-polled-in-Signals.ensures in did_of g at c.sections.self.lower c.sections.m c.sections.self.call_states.call_states
+        before.still before.cpu (ap (λ p. p.lower) w.self-is) w.m-is (ap (λ p. p.call_states.call_states) w.self-is) (ap (λ p. p.ended) w.polled-is) (ap (λ p. p.at_once) w.polled-is)
+        (sym w.in-Signals.is ∙ c.next_stage-stage.ensures) e.at_once
+        e.section_polled e.call_states e.woken e.handed e.framed e.follows)
+    | in-SignalsOwn w ↦ (let e = w.poll_section-polled-in-SignalsOwn.ensures in did_of g at c.sections.self.lower c.sections.m c.sections.self.call_states.call_states
+        before.still before.cpu (ap (λ p. p.lower) w.self-is) w.m-is (ap (λ p. p.call_states.call_states) w.self-is) (ap (λ p. p.ended) w.polled-is) (ap (λ p. p.at_once) w.polled-is)
+        (sym w.in-SignalsOwn.is ∙ c.next_stage-stage.ensures) e.at_once
+        e.section_polled e.call_states e.woken e.handed e.framed e.follows)
+    | in-Releases w ↦ (let e = w.poll_section-polled-in-Releases.ensures in did_of g at c.sections.self.lower c.sections.m c.sections.self.call_states.call_states
+        before.still before.cpu (ap (λ p. p.lower) w.self-is) w.m-is (ap (λ p. p.call_states.call_states) w.self-is) (ap (λ p. p.ended) w.polled-is) (ap (λ p. p.at_once) w.polled-is)
+        (sym w.in-Releases.is ∙ c.next_stage-stage.ensures) e.at_once
+        e.section_polled e.call_states e.woken e.handed e.framed e.follows)
+  ]
+
+  abbrev last : SectionPollTaken
+  last = section g at lower lower1 m1 states states1 c.match-stage.polled.ended c.match-stage.polled.at_once did
+
+  -- the call state with which it went on
+  abbrev went : CallState
+  went = going (call_state_of states c.args.t) c.args.call.now
 
   abbrev answer : Option Reply
-  answer = answer_in (states1 g last) c.args.t c.complete.result
+  answer = answer_in states1 c.args.t c.complete.result
 
-  replies : answer ≡ (if c.poll_section-done.result then replied c.args.call.now (goes g last) (goes g last).stage else None)
-  replies = completes_as (section g last) c.next_stage-stage.result c.next_stage-stage.ensures answer c.complete.ensures.answer
+  replies : answer ≡ (if c.match-stage.polled.ended then replied c.args.call.now went went.stage else None)
+  replies = completes_as last c.next_stage-stage.result c.next_stage-stage.ensures answer c.complete.ensures.answer
+
+  opens : g.C.ThreadLayer.opening m1 ≡ g.C.ThreadLayer.opening c.args.m.now
+  opens = opening1 g at lower lower1 m1 states states1 c.match-stage.polled.ended c.match-stage.polled.at_once did
+
+  same : (u : Tid) → same_tid c.args.t u ≡ false → call_state_of states1 u ≡ call_state_of states u
+  same = same1 g at lower lower1 m1 states states1 c.match-stage.polled.ended c.match-stage.polled.at_once did
+
+  apart : (u : Tid) → u.0 ≢ c.args.t.0 → call_state_of states1 u ≡ call_state_of c.args.self.now.call_states.call_states u
+  apart u other = apart1 g at lower lower1 m1 states states1 c.match-stage.polled.ended c.match-stage.polled.at_once did u other ∙ c.sections.invariant.on.apart u other
 
 pub returns-in-sections-clause-moves : goal.returns-in-sections-clause-moves
 returns-in-sections-clause-moves g c =
     let C = g.C.ThreadLayer in
     let m = c.args.m.now in
-    let polled = polled g (last g c) in
-    rw (opening1 g (last g c)) (moves_grown (C.opening m) (λ d. C.ActsFor m d) _ (C.cpu_of c.args.self.now.lower) polled.mine polled.others
-    (C.seen m) (C.seen c.poll_section-done.new.m) (λ d both. both.0) polled.foreign polled.own_events polled.is)
+    let polled = (did g c).polled in
+    rw (opens g c) (moves_grown (C.opening m) (λ d. C.ActsFor m d) _ (C.cpu_of c.args.self.now.lower) polled.mine polled.others
+    (C.seen m) (C.seen c.match-stage.m) (λ d both. both.0) polled.foreign polled.own_events polled.is)
 
 pub returns-in-sections-clause-framed : goal.returns-in-sections-clause-framed
 returns-in-sections-clause-framed g c =
     let C = g.C.ThreadLayer in
     let law = g.met.C.ThreadLayer in
     let m = c.args.m.now in
+    let m1 = c.match-stage.m in
     let cpu = C.cpu_of c.args.self.now.lower in
-    let at = last g c in
     let before = c.sections.invariant in
-    let one = c.poll_section-done in
-    let polled = polled g at in
-    let lawful = rw (opening1 g at) at (law.lawful one.new.m cpu (acts1 g at cpu (law.own_cpu c.args.self.now.lower m c.requires.fits.0))) in
+    let did = did g c in
+    let polled = did.polled in
+    let lawful = rw (opens g c) at (law.lawful m1 cpu (did.framed.stays.acts cpu (law.own_cpu c.args.self.now.lower m c.requires.fits.0))) in
     record {
       fits = (
-        rw c.complete.ensures.lower one.ensures.framed.fits,
-        rw (c.complete.ensures.lower, c.complete.ensures.call_states, c.complete.ensures.calling, (opening1 g at), (cpu1 g at))
+        rw c.complete.ensures.lower did.framed.fits,
+        rw (c.complete.ensures.lower, c.complete.ensures.call_states, c.complete.ensures.calling, (opens g c), did.cpu)
             (record {
               boots = c.requires.fits.1.boots;
-              sizes = sizes1 g at;
-              calls = finish (section g at) (home1 g at) before.on.may.called (states g at) (states1 g at) refl (same1 g at) before.on.others
+              sizes = sizes_of (last g c) (states g c) (states1 g c) did.states_are before.on.sizes;
+              calls = finish (last g c) (home g (at g c)) before.on.may.called (states g c) (states1 g c) refl (same g c) before.on.others
                   (answer g c) (replies g c);
             }),
       );
-      cpu = ap C.cpu_of c.complete.ensures.lower ∙ cpu1 g at;
+      cpu = ap C.cpu_of c.complete.ensures.lower ∙ did.cpu;
       stays = record {
-        opening = opening1 g at;
-        site = one.ensures.framed.stays.site ∙ ap C.site before.still;
-        room = subst (λ x. C.room x ≤ C.room one.new.m + 1) before.still one.ensures.framed.stays.room;
-        acts = λ d both. (acts1 g at d both.0, rw (opening1 g at) both.1);
+        opening = opens g c;
+        site = did.framed.stays.site;
+        room = did.framed.stays.room;
+        acts = λ d both. (did.framed.stays.acts d both.0, rw (opens g c) both.1);
       };
       others = λ q other fits. (
-        one.ensures.framed.others q.lower (rw before.cpu other) (subst (λ x. C.Fits q.lower x) (sym before.still) fits.0),
-        rw (opening1 g at)
-            (other_part (C.opening m) cpu (C.cpu_of q.lower) other polled.mine polled.others (C.seen m) (C.seen one.new.m) polled.own_events
+        did.framed.others q.lower (rw before.cpu other) fits.0,
+        rw (opens g c)
+            (other_part (C.opening m) cpu (C.cpu_of q.lower) other polled.mine polled.others (C.seen m) (C.seen m1) polled.own_events
             (polled.foreign (C.cpu_of q.lower) (law.own_cpu q.lower m fits.0)) polled.is lawful (C.own q.lower) q.call_states.call_states
             (C.under_way q.lower) q.calling fits.1),
       );
-      holders = λ d other both held. subst (λ x. C.MayHold x d) before.still
-          (one.ensures.framed.holders d (rw before.cpu other) (subst (λ x. C.ActsFor x d) (sym before.still) both.0) held);
+      holders = λ d other both held. did.framed.holders d (rw before.cpu other) both.0 held;
     }
 
 pub returns-in-sections-clause-called : goal.returns-in-sections-clause-called
 returns-in-sections-clause-called g c there =
     let C = g.C.ThreadLayer in
     let m = c.args.m.now in
-    let at = last g c in
     let before = c.sections.invariant in
-    rw (opening1 g at, c.complete.ensures.call_states)
-    (called_by (section g at) (home1 g at) before.on.may.called (states g at) (states1 g at) refl (same1 g at) _ (λ d both. both.0)
-    c.args.self.now.call_states.call_states before.on.effect (apart1 g at)
-    (goes_called (inner (C.opening m)) (buffer_sections (C.seen m)) c.args.t c.args.call.now (goes g at) (C.own c.sections.self.lower)
-    (C.under_way c.sections.self.lower) before.on.may.goes) (answer g c) (replies g c))
+    rw (opens g c, c.complete.ensures.call_states)
+    (called_by (last g c) (home g (at g c)) before.on.may.called (states g c) (states1 g c) refl (same g c) _ (λ d both. both.0)
+    c.args.self.now.call_states.call_states before.on.effect (apart g c)
+    (in_call g c) (answer g c) (replies g c))
 
 pub returns-in-sections-clause-follows : goal.returns-in-sections-clause-follows
 returns-in-sections-clause-follows g c stepwise =
@@ -255,30 +388,32 @@ returns-in-sections-clause-follows g c stepwise =
     let t = c.args.t in
     let call = c.args.call.now in
     let homes = homes_in (C.opening m) in
-    let at = last g c in
+    let O = inner (C.opening m) in
     let before = c.sections.invariant in
-    let m1 = c.poll_section-done.new.m in
+    let m1 = c.match-stage.m in
+    let did = did g c in
+    let went = went g c in
     let Acts0 : CpuId → Type 0 = λ d. C.ActsFor m d in
     let table = table_of (queue_rules (lock_rules buffer_rules) (lock_moves buffer_rules)) in
     let got : Left Buffering Reply = record {
-      own = buffering (C.own c.poll_section-done.new.self.lower) (states1 g at);
-      answer = if c.poll_section-done.result then replied call (goes g at) (goes g at).stage else None;
+      own = buffering (C.own c.match-stage.self.lower) (states1 g c);
+      answer = if c.match-stage.polled.ended then replied call went went.stage else None;
     } in
-    let in_call = goes_called (inner (C.opening m)) (buffer_sections (C.seen m)) t call (goes g at) (C.own c.sections.self.lower)
-    (C.under_way c.sections.self.lower) before.on.may.goes in
+    let handed = is_handed (C.own c.sections.self.lower).lock.slept (C.own c.sections.self.lower).lock.sleep.threads.current in
+    let marks = marks_of O (buffer_sections (C.seen m)) t call went (C.own c.sections.self.lower) (C.under_way c.sections.self.lower) before.on.may.goes in
     let alone : c.sections.first ≡ true
-    → ((c.poll_section-done.result ≡ true) × (is_at_once (goes g at).stage c.at_once.result ≡ false)) ⊎ (c.poll_section-done.result ≡ false)
+    → ((c.match-stage.polled.ended ≡ true) × (is_at_once went.stage handed ≡ false)) ⊎ (c.match-stage.polled.ended ≡ false)
     → Follows Acts0 table (C.opening m) cpu (fifo_plan homes cpu t call (buffering (C.own p.lower) p.call_states.call_states)) (C.acts m) (C.acts m1) got
     = λ is exits.
-    let free = exit_free (section g at) c.at_once.result (marks g at) exits before.on.may.current c.at_once.ensures in
+    let free = exit_free (last g c) handed marks exits before.on.may.current refl in
     subst (λ (o : Buffering). Follows Acts0 table (C.opening m) cpu (fifo_plan homes cpu t call o) (C.acts m) (C.acts m1) got) (rw is at before.begins)
-    (one_follows Acts0 table (C.opening m) cpu homes t call (goes g at).stage (goes g at)
-    (buffering (C.own c.sections.self.lower) (states g at)) (C.acts m) (C.acts m1) got in_call free.0 free.1 (followed g at stepwise)) in
+    (one_follows Acts0 table (C.opening m) cpu homes t call went.stage went
+    (buffering (C.own c.sections.self.lower) (states g c)) (C.acts m) (C.acts m1) got (in_call g c) free.0 free.1 (did.followed stepwise)) in
     let done : Follows Acts0 table (C.opening m) cpu (fifo_plan homes cpu t call (buffering (C.own p.lower) p.call_states.call_states)) (C.acts m)
     (C.acts m1) got = elim c.else-first.branch [
-      | else-first-via-then-first+then-done+else-at_once w ↦ alone w.if-first.true (inl (w.if-done.true, is_at_once_at g at ∙ w.if-at_once.false))
-      | else-first-via-then-first+else-done w ↦ alone w.if-first.true (inr w.if-done.false)
-      | else-first-via-else-first w ↦ (rw w.if-first.false at before.follows) stepwise (C.acts m1) got (followed g at stepwise)
+      | else-first-via-then-first+then-polled+else-polled-2 w ↦ alone w.if-first.true (inl (w.if-polled.true, sym did.again_is ∙ w.if-polled-2.false))
+      | else-first-via-then-first+else-polled w ↦ alone w.if-first.true (inr w.if-polled.false)
+      | else-first-via-else-first w ↦ (rw w.if-first.false at before.follows) stepwise (C.acts m1) got (did.followed stepwise)
     ] in
     rw (c.complete.ensures.lower, c.complete.ensures.call_states, (replies g c))
     (follows_for Acts0 _ (λ d both. both.0) table (C.opening m) cpu

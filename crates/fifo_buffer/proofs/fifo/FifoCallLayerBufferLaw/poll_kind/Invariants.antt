@@ -1,10 +1,9 @@
 use Rattle.std.proofs.Common.{◌≡◌, List, if◌then◌else◌}
-use Rattle.event_log.specs.Actions.{Action}
-use Rattle.layer_traits.specs.BufferLaw.{Buffering, buffering, call_state_of, fifo_plan, going, plan_of}
-use Rattle.layer_traits.specs.{BufferProtocol.buffer_rules, Conditions.CvCall, declared.buffer_edits.BufferEdit.BufferEdit, declared.calls.Reply.Reply}
-use Rattle.layer_traits.specs.{declared.queue_edits.QueueEdit.QueueEdit, Plans.Follows, Plans.Left, Plans.table_of, QLocking.lock_moves, QLocking.lock_rules}
-use Rattle.layer_traits.specs.{QueueBlocks.homes_in, QueueBlocks.inner, QueueRules.queue_rules, Queues.buffer_sections}
-use Rattle.fifo_buffer.proofs.Goings.{AfterFirst, AtFirst, IsGoing}
+use Rattle.{event_log.specs.Actions.Action, layer_traits.specs.BufferLaw.{Buffering, buffering, call_state_of, fifo_plan, going, plan_of}}
+use Rattle.layer_traits.specs.{BufferProtocol.buffer_rules, Conditions.CvCall, declared.{buffer_edits.BufferEdit.BufferEdit, calls.Reply.Reply}}
+use Rattle.layer_traits.specs.{declared.queue_edits.QueueEdit.QueueEdit, Plans.{Follows, Left, table_of}, QLocking.{lock_moves, lock_rules}}
+use Rattle.{layer_traits.specs.{QueueBlocks.{homes_in, inner}, QueueRules.queue_rules, Queues.buffer_sections}, fifo_buffer.proofs.Goings.{AfterFirst, AtFirst}}
+use Rattle.fifo_buffer.proofs.Goings.{IsGoing}
 use Rattle.fifo_buffer.proofs.fifo.FifoCallLayerBufferLaw.poll_kind.Given as goal
 
 -- a section after which the poll goes on does nothing to the machine, and what the next section follows of its own plan is the poll's plan

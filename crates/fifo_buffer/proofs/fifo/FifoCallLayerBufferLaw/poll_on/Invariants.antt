@@ -1,11 +1,9 @@
 use Rattle.std.proofs.Common.{◌≡◌, [], ◌-◌, ◌<◌, IsSome}
-use Rattle.event_log.specs.declared.ids.LockId.TheVariants.{Buffer, Pending}
-use Rattle.layer_traits.specs.{declared.call_layers.CallLayer.Ghosts, BufferEffects.effects_in, BufferEffects.opening_locks, BufferLaw.buffering, BufferLaw.fifo_plan}
-use Rattle.layer_traits.specs.{BufferProtocol.buffer_monitor_rules, Conditions.cv_rules, QLockLaw.lock_kernel, QLocking.lock_after, QLocking.wait_list_in}
-use Rattle.layer_traits.specs.{QueueBlocks.homes_in, QueueBlocks.inner, Queues.buffer_sections, Queues.moves_in}
-use Rattle.layer_traits.proofs.PollRunLemmas.{SoFar}
-use Rattle.fifo_buffer.specs.{declared.fifo.Fifo.Fifo, FifoFits.BootsSo, FifoFits.PartFits, FifoFits.caps_in, SectionPolls.under_way_at}
-use Rattle.fifo_buffer.proofs.fifo.FifoCallLayerBufferLaw.poll_on.Given.{Over}
+use Rattle.{event_log.specs.declared.ids.LockId.TheVariants.{Buffer, Pending}, layer_traits.specs.declared.call_layers.CallLayer.Ghosts}
+use Rattle.layer_traits.specs.{BufferEffects.{effects_in, opening_locks}, BufferLaw.{buffering, fifo_plan}, BufferProtocol.buffer_monitor_rules}
+use Rattle.layer_traits.specs.{Conditions.cv_rules, QLockLaw.lock_kernel, QLocking.{lock_after, wait_list_in}, QueueBlocks.{homes_in, inner}}
+use Rattle.{layer_traits.{specs.Queues.{buffer_sections, moves_in}, proofs.PollRunLemmas.SoFar}, fifo_buffer.specs.{declared.fifo.Fifo.Fifo, FifoFits.BootsSo}}
+use Rattle.fifo_buffer.{specs.{FifoFits.{PartFits, caps_in}, SectionPolls.under_way_at}, proofs.fifo.FifoCallLayerBufferLaw.poll_on.Given.Over}
 use Rattle.fifo_buffer.proofs.fifo.FifoCallLayerBufferLaw.poll_on.Given as goal
 
 -- what a part of buffers tells as a layer of calls

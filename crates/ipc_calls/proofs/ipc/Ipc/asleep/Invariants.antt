@@ -1,6 +1,5 @@
 use Rattle.std.proofs.Common.{◌≡◌, ◌<◌, None}
-use Rattle.event_log.specs.declared.ids.BufId.{BufId}
-use Rattle.ipc_calls.specs.Parts.{wait_list_read}
+use Rattle.{event_log.specs.declared.ids.BufId.BufId, ipc_calls.specs.Parts.wait_list_read}
 use Rattle.ipc_calls.proofs.ipc.Ipc.asleep.Given as goal
 
 -- the thread is told to stand at none of the buffers before this one

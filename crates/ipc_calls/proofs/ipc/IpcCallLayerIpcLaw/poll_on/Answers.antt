@@ -1,8 +1,6 @@
-use Rattle.std.proofs.Common.{[], ◌<◌, ◌≤◌, length, refl, sym, arith}
-use Rattle.std.proofs.lemmas.Bool.{le-ltb}
-use Rattle.layer_traits.specs.{BufferLaw.buffer_of, PollRuns.once}
-use Rattle.ipc_calls.proofs.CallRuns.{ran_over}
-use Rattle.ipc_calls.proofs.ipc.IpcCallLayerIpcLaw.poll_on.{Given.Over, Goals.Then-buffer-self}
+use Rattle.std.proofs.{Common.{[], ◌<◌, ◌≤◌, length, refl, sym, arith}, lemmas.Bool.le-ltb}
+use Rattle.{layer_traits.specs.{BufferLaw.buffer_of, PollRuns.once}, ipc_calls.proofs.{CallRuns.ran_over, ipc.IpcCallLayerIpcLaw.poll_on.Given.Over}}
+use Rattle.ipc_calls.proofs.ipc.IpcCallLayerIpcLaw.poll_on.Goals.{Then-buffer-self}
 use Rattle.ipc_calls.proofs.ipc.IpcCallLayerIpcLaw.poll_on.Goals as goal
 
 -- a number that is no buffer's is refused

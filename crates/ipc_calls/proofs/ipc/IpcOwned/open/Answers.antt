@@ -1,5 +1,4 @@
-use Rattle.std.proofs.lemmas.Result.{IfOk-weaker}
-use Rattle.ipc_calls.proofs.Opened.{both_ok}
+use Rattle.{std.proofs.lemmas.Result.IfOk-weaker, ipc_calls.proofs.Opened.both_ok}
 use Rattle.ipc_calls.proofs.ipc.IpcOwned.open.Goals as goal
 
 -- nothing was done in a machine that was opened, and it has these homes

@@ -1,8 +1,6 @@
-use Rattle.std.proofs.Common.{◌≡◌, false, length, Some, inr, refl, ap, sym, ◌∙◌, subst}
-use Rattle.std.proofs.lemmas.Option.{same_Some}
-use Rattle.layer_traits.specs.{Places.Asleep, Places.At, Places.Pend, Places.home_of, Places.where_is, Observed.queue_place}
-use Rattle.event_log.specs.declared.ids.LockId.TheVariants.{Buffer}
-use Rattle.ipc_calls.specs.{Laws.PlaceLaws.sleeps_there, Laws.PlaceLaws.read_pends, Laws.PlaceLaws.read_sleeps, Parts.pends_read}
+use Rattle.std.proofs.{Common.{◌≡◌, false, length, Some, inr, refl, ap, sym, ◌∙◌, subst}, lemmas.Option.same_Some}
+use Rattle.{layer_traits.specs.{Places.{Asleep, At, Pend, home_of, where_is}, Observed.queue_place}, event_log.specs.declared.ids.LockId.TheVariants.Buffer}
+use Rattle.ipc_calls.specs.{Laws.PlaceLaws.{sleeps_there, read_pends, read_sleeps}, Parts.pends_read}
 use Rattle.ipc_calls.proofs.ipc.IpcOwned.place_at.Goals as goal
 
 -- the queue that is read is that of the thread's home
@@ -22,33 +20,28 @@ returns-then-pends-clause-observed g c x is =
     let law = g.met.B.CallLayer in
     let m = c.args.m.now in
     let p = c.args.self.now.lower in
-    let t = c.args.t in
     let fits = c.requires.fits in
-    let cpu = B.cpu_of p in
     let acts = law.own_cpu p m fits.0 in
     let home = c.home-home.result in
-    let home_is : home_of (B.homes_of m) t ≡ Some home = subst (λ homes. home_of homes t ≡ Some home) fits.1.homes_are c.home-home.ensures in
-    let pends : where_is (B.homes_of m) (B.moves m) t ≡ Pend home
+    let pends : where_is (B.homes_of m) (B.moves m) c.args.t ≡ Pend home
     = read_pends (λ q. B.Fits q m) (λ q. B.cpu_of q) (B.MayHold m) (B.homes_of m) (B.moves m)
-    t home p (λ q. O.queue_with q home) (O.queue_at m home) (law.moves_legal m cpu acts) fits.0
-    (g.met.B.OwnedBuffers.queues m cpu home acts ((law.starts m cpu acts).queues t home
-    (subst (λ homes. home_of homes t ≡ Some home) (sym (law.reads_homes m)) home_is))) (sym c.pends.ensures ∙ c.if-pends.true) in
+    c.args.t home p (λ q. O.queue_with q home) (O.queue_at m home) (law.moves_legal m (B.cpu_of p) acts) fits.0
+    (g.met.B.OwnedBuffers.queues m (B.cpu_of p) home acts ((law.starts m (B.cpu_of p) acts).queues c.args.t home
+    (subst (λ homes. home_of homes c.args.t ≡ Some home) (fits.1.homes_are ∙ sym (law.reads_homes m)) c.home-home.ensures)))
+    (sym c.pends.ensures ∙ c.if-pends.true) in
     inr (ap queue_place pends ∙ is)
 
 -- a part that finds nothing is silent
 pub returns-in_err-buffer-clause-silent : goal.returns-in_err-buffer-clause-silent
 returns-in_err-buffer-clause-silent g c none =
-    let B = g.B.CallLayer in
     let O = g.B.OwnedBuffers in
     let m = c.args.m.now in
     let p = c.args.self.now.lower in
-    let t = c.args.t in
     let home = c.home-home.result in
-    let home_is : home_of (B.homes_of m) t ≡ Some home
-    = subst (λ homes. home_of homes t ≡ Some home) c.requires.fits.1.homes_are c.home-home.ensures in
+    let home_is = subst (λ homes. home_of homes c.args.t ≡ Some home) c.requires.fits.1.homes_are c.home-home.ensures in
     record {
       away = c.in_default.ensures.away refl;
-      pends = λ d at. subst (λ e. pends_read t (O.queue_at m e) (O.queue_with p e) ≡ false) (same_Some home d (sym home_is ∙ at))
+      pends = λ d at. subst (λ e. pends_read c.args.t (O.queue_at m e) (O.queue_with p e) ≡ false) (same_Some home d (sym home_is ∙ at))
           (sym c.pends.ensures ∙ c.if-pends.false);
       wait_lists = c.in_err-buffer.ensures.none refl;
     }
@@ -61,16 +54,12 @@ returns-clause-observed g c x is =
     let law = g.met.B.CallLayer in
     let m = c.args.m.now in
     let p = c.args.self.now.lower in
-    let t = c.args.t in
-    let fits = c.requires.fits in
-    let cpu = B.cpu_of p in
-    let acts = law.own_cpu p m fits.0 in
+    let fits = c.requires.fits.0 in
     let buffer = c.in_ok-buffer.buffer in
-    let wait_list = c.in_ok-buffer.wait_list in
-    let within = c.in_ok-buffer.ensures.within (buffer, wait_list) refl in
-    let found = c.in_ok-buffer.ensures.found (buffer, wait_list) refl in
-    let sleeps : where_is (B.homes_of m) (B.moves m) t ≡ Asleep (At (Buffer buffer) wait_list)
+    let line = c.in_ok-buffer.wait_list in
+    let within = c.in_ok-buffer.ensures.within (buffer, line) refl in
+    let sleeps : where_is (B.homes_of m) (B.moves m) c.args.t ≡ Asleep (At (Buffer buffer) line)
     = read_sleeps (λ q. B.Fits q m) (λ q. B.cpu_of q) (B.MayHold m) (B.homes_of m) (B.moves m)
-    (length (B.caps m)) (B.wait_lists m) (law.lists p m fits.0) buffer within t wait_list p (λ q. O.wait_lists_with q buffer) (O.wait_lists_at m buffer) fits.0
-    (g.met.B.OwnedBuffers.waiters_law m cpu buffer acts within) found in
-    inr (ap queue_place sleeps ∙ (sleeps_there buffer wait_list ∙ (ap Some (sym c.waiters_of.ensures) ∙ is)))
+    (length (B.caps m)) (B.wait_lists m) (law.lists p m fits) buffer within c.args.t line p (λ q. O.wait_lists_with q buffer) (O.wait_lists_at m buffer) fits
+    (g.met.B.OwnedBuffers.waiters_law m (B.cpu_of p) buffer (law.own_cpu p m fits) within) (c.in_ok-buffer.ensures.found (buffer, line) refl) in
+    inr (ap queue_place sleeps ∙ (sleeps_there buffer line ∙ (ap Some (sym c.waiters_of.ensures) ∙ is)))

@@ -1,11 +1,6 @@
-use Rattle.std.proofs.Common.{◌≡◌, [], ◌<◌, ◌≤◌, IsSome, length, refl, rules, ◌∙◌, arith}
-use Rattle.std.proofs.lemmas.Result.{IfOk-weaker}
-use Rattle.event_log.specs.declared.ids.{CpuId.CpuId, LockId.TheVariants.Pending, TheConstants.CPUS}
-use Rattle.fifo_buffer.proofs.Opening.{boots_well, caps_are}
-use Rattle.layer_traits.specs.{BufferEffects.opening_locks, QueueBlocks.homes_in, QueueBlocks.inner, Renaming.viewed}
-use Rattle.layer_traits.proofs.KernelRenaming.{homes_viewed, viewed_there}
-use Rattle.queuing_lock.specs.Nested.{nested_lock_of}
-use Rattle.ipc_calls.proofs.Opened.{both_ok}
+use Rattle.std.proofs.{Common.{◌≡◌, [], ◌<◌, ◌≤◌, length, refl, rules, ◌∙◌, arith}, lemmas.Result.IfOk-weaker}
+use Rattle.{event_log.specs.declared.ids.LockId.TheVariants.Pending, fifo_buffer.proofs.Opening.{boots_well, caps_are}, layer_traits.specs.Renaming.viewed}
+use Rattle.{layer_traits.proofs.KernelRenaming.{homes_viewed, viewed_there}, queuing_lock.specs.Nested.nested_lock_of, ipc_calls.proofs.Opened.both_ok}
 use Rattle.ipc_calls.proofs.tower.FifoCondQLockOpensBuffers.open.Goals as goal
 
 -- the machine has the capacities and homes of the plan, nothing was done in it, its locks are those of the capacities that it tells,
@@ -16,31 +11,21 @@ returns g c =
     let r = c.open.result in
     let opens = c.open.ensures in
     let caps = c.args.caps.now in
-    let homes = c.args.homes.now in
     let most = c.requires.buffers in
     let few : length caps ≤ 256 = omega (arith, most) in
     let cpus = c.requires.most_cpus in
-    let planned = both_ok r (λ m. inner (viewed nested_lock_of (S.opening m)) ≡ opening_locks caps) (λ m. homes_in (S.opening m) ≡ homes) opens.locks opens.homes in
     record {
-      opened = IfOk-weaker r
-          (λ m. ((inner (viewed nested_lock_of (S.opening m)) ≡ opening_locks caps) × (homes_in (S.opening m) ≡ homes)) × ((S.seen m ≡ []) × (c.args.room ≤ S.room m))) _
-          (λ m it. record {
-            caps_are = caps_are (viewed nested_lock_of (S.opening m)) caps it.0.0 few;
-            homes_are = homes_viewed nested_lock_of (S.opening m) ∙ it.0.1;
-            none_seen = rw it.1.0 refl;
-            none_moved = rw it.1.0 refl;
-            room_is = it.1.1;
-          })
-          (both_ok r _ _ planned (both_ok r _ _ opens.seen opens.room));
-      boot = IfOk-weaker r (λ m. inner (viewed nested_lock_of (S.opening m)) ≡ opening_locks caps) _
-          (λ m is. boots_well (viewed nested_lock_of (S.opening m)) caps is few) opens.locks;
+      opened = IfOk-weaker r _ _ (λ m it. record {
+        caps_are = caps_are (viewed nested_lock_of (S.opening m)) caps it.0.0 few;
+        homes_are = homes_viewed nested_lock_of (S.opening m) ∙ it.0.1;
+        none_seen = rw it.1.0 refl;
+        none_moved = rw it.1.0 refl;
+        room_is = it.1.1;
+      }) (both_ok r _ _ (both_ok r _ _ opens.locks opens.homes) (both_ok r _ _ opens.seen opens.room));
+      boot = IfOk-weaker r _ _ (λ m is. boots_well (viewed nested_lock_of (S.opening m)) caps is few) opens.locks;
       queues = search rules;
-      fresh = IfOk-weaker r
-          (λ m. (((inner (viewed nested_lock_of (S.opening m)) ≡ opening_locks caps) × (homes_in (S.opening m) ≡ homes))
-          × ((S.seen m ≡ []) × ((d : CpuId) → d.0 < c.args.cpus → IsSome (S.opening m (Pending d)))))
-          × (((d : CpuId) → d.0 < CPUS → S.ActsFor m d) × ((d : CpuId) → S.IsOutside m d))) _
-          (λ m it d within.
-          let boots = boots_well (viewed nested_lock_of (S.opening m)) caps it.0.0.0 few in (
+      fresh = IfOk-weaker r _ _
+          (λ m it d within. let boots = boots_well (viewed nested_lock_of (S.opening m)) caps it.0.0.0 few in (
             (it.1.0 d (omega (arith, within, cpus)), boots),
             it.1.1 d,
             rw it.0.1.0 refl,
@@ -49,9 +34,10 @@ returns g c =
             viewed_there nested_lock_of (S.opening m) (Pending d) (it.0.1.1 d within),
             boots,
           ))
-          (both_ok r _ _ (both_ok r _ _ planned (both_ok r _ _ opens.seen opens.queues)) (both_ok r _ _ opens.acts opens.outside));
-      acts = IfOk-weaker r (λ m. ((d : CpuId) → d.0 < CPUS → S.ActsFor m d) × (inner (viewed nested_lock_of (S.opening m)) ≡ opening_locks caps)) _
-          (λ m it d within. (it.0 d within, boots_well (viewed nested_lock_of (S.opening m)) caps it.1 few)) (both_ok r _ _ opens.acts opens.locks);
+          (both_ok r _ _ (both_ok r _ _ (both_ok r _ _ opens.locks opens.homes) (both_ok r _ _ opens.seen opens.queues))
+          (both_ok r _ _ opens.acts opens.outside));
+      acts = IfOk-weaker r _ _ (λ m it d within. (it.0 d within, boots_well (viewed nested_lock_of (S.opening m)) caps it.1 few))
+          (both_ok r _ _ opens.acts opens.locks);
       none = search rules;
       holders = search rules;
     }

@@ -1,6 +1,5 @@
 use Rattle.std.proofs.Common.{◌%◌, ◌++◌, replicate, ap, sym, ◌∙◌}
-use Rattle.event_log.specs.{declared.ids.TheConstants.CPUS, Grants.grant_word, declared.events.Event.TheVariants.Look}
-use Rattle.layer_traits.proofs.SpinLemmas.{peeked}
+use Rattle.{event_log.specs.{declared.{ids.TheConstants.CPUS, events.Event.TheVariants.Look}, Grants.grant_word}, layer_traits.proofs.SpinLemmas.peeked}
 use Rattle.layer_traits.specs.{AsGrants.as_grants, Laws.AsGrants.stands_as_grants, WordsProtocol.words_legal}
 use Rattle.layer_traits.proofs.uses_grant_words.AnyGrantWords.spin.Goals as goal
 

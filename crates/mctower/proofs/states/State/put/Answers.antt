@@ -1,5 +1,4 @@
-use Rattle.std.proofs.Common.{sym}
-use Rattle.tracer.proofs.SinkLemmas.{outs_before, outs_then, all_out}
+use Rattle.{std.proofs.Common.sym, tracer.proofs.SinkLemmas.{outs_before, outs_then, all_out}}
 use Rattle.mctower.proofs.states.State.put.Goals as goal
 
 pub returns-in_err-put_threads-clause-out : goal.returns-in_err-put_threads-clause-out

@@ -1,6 +1,4 @@
-use Rattle.std.proofs.Common.{Ok, Err, refl}
-use Rattle.mctower.specs.{Output.between, Running.NoCondition}
-use Rattle.mctower.proofs.Unguarded.{fault_told, runs_on, state_of}
+use Rattle.{std.proofs.Common.{Ok, Err, refl}, mctower.{specs.{Output.between, Running.NoCondition}, proofs.Unguarded.{fault_told, runs_on, state_of}}}
 use Rattle.mctower.proofs.tower.PlanRunOverTower.over.Goals as goal
 
 pub returns-in_err-system : goal.returns-in_err-system

@@ -1,5 +1,4 @@
-use Rattle.std.proofs.lemmas.Result.{IfOk-weaker}
-use Rattle.plain_layers.proofs.PlainOpenings.{opens_fresh}
+use Rattle.{std.proofs.lemmas.Result.IfOk-weaker, plain_layers.proofs.PlainOpenings.opens_fresh}
 use Rattle.plain_layers.proofs.attempt_layers.SleeperAttemptPlainSchedSleepEditAttemptOpensAttempts.open.Goals as goal
 
 -- the buffers open empty

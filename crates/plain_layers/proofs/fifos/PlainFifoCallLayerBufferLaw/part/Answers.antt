@@ -1,10 +1,7 @@
-use Rattle.std.proofs.Common.{◌≡◌, ◌≢◌, ◌∙◌, List, None, ap, length, subst, sym}
-use Rattle.std.proofs.lemmas.List.{length-replicate}
-use Rattle.event_log.specs.declared.ids.{Tid.Tid, TheConstants.THREADS}
-use Rattle.layer_traits.specs.declared.call_states.{CallState.CallState, Stage.TheVariants.Idle}
-use Rattle.layer_traits.specs.{BufferLaw.call_state_of, BufferLaw.no_call, SleepLaw.Sleeping, SleepLaw.sleep_kernel}
-use Rattle.plain_layers.specs.{declared.attempts.Tried.Tried, Attempts.attempts}
-use Rattle.plain_layers.proofs.FifoLemmas.{no_events, nobody_waits, no_call_waits}
+use Rattle.std.proofs.{Common.{◌≡◌, ◌≢◌, ◌∙◌, List, None, ap, length, subst, sym}, lemmas.List.length-replicate}
+use Rattle.{event_log.specs.declared.ids.{Tid.Tid, TheConstants.THREADS}, layer_traits.specs.declared.call_states.{CallState.CallState, Stage.TheVariants.Idle}}
+use Rattle.{layer_traits.specs.{BufferLaw.{call_state_of, no_call}, SleepLaw.{Sleeping, sleep_kernel}}, plain_layers.specs.declared.attempts.Tried.Tried}
+use Rattle.plain_layers.{specs.Attempts.attempts, proofs.FifoLemmas.{no_events, nobody_waits, no_call_waits}}
 use Rattle.plain_layers.proofs.fifos.PlainFifoCallLayerBufferLaw.part.Goals as goal
 
 pub returns-clause-fits : goal.returns-clause-fits

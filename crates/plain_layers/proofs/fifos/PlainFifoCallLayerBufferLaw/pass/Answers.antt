@@ -1,9 +1,7 @@
 use Rattle.std.proofs.Common.{ℕ, ◌+◌, ◌/◌, ◌≤◌, ap, arith, subst, sym, ◌∙◌}
-use Rattle.event_log.specs.declared.ids.CpuId.{CpuId}
-use Rattle.layer_traits.specs.{BufferLaw.OthersSeen, Passes.PassPolled, QueueBlocks.homes_in, QueueBlocks.inner, Queues.buffer_sections, Queues.moves_in}
-use Rattle.layer_traits.specs.{Renaming.viewed, SleepLaw.sleep_kernel}
-use Rattle.plain_layers.specs.{Attempts.attempts, Fifos.IsOwned, Fifos.entries_in, Fifos.shown}
-use Rattle.plain_layers.proofs.FifoLemmas.{nothing_under, owned_after, passed_seen, passed_moves}
+use Rattle.{event_log.specs.declared.ids.CpuId.CpuId, layer_traits.specs.{BufferLaw.OthersSeen, Passes.PassPolled, QueueBlocks.{homes_in, inner}}}
+use Rattle.{layer_traits.specs.{Queues.{buffer_sections, moves_in}, Renaming.viewed, SleepLaw.sleep_kernel}, plain_layers.specs.Attempts.attempts}
+use Rattle.plain_layers.{specs.Fifos.{IsOwned, entries_in, shown}, proofs.FifoLemmas.{nothing_under, owned_after, passed_seen, passed_moves}}
 use Rattle.plain_layers.proofs.fifos.PlainFifoCallLayerBufferLaw.pass.Goals as goal
 
 half_of_one : (n k : ℕ) → n ≤ k + 1 → n / 2 ≤ k / 2 + 1

@@ -1,13 +1,10 @@
 use Rattle.std.proofs.Common.{◌≡◌, ◌≢◌, ◌<◌, ◌≤◌, ◌+◌, ◌/◌, ℕ, ap, arith, List, Option, None, length, option_map, slice_set, subst, sym, ◌∙◌}
-use Rattle.std.proofs.Math.ListN.{length-set}
-use Rattle.event_log.specs.declared.ids.{CpuId.CpuId, Tid.Tid, TheConstants.THREADS}
-use Rattle.layer_traits.specs.{BufferLaw.Called, BufferLaw.IsRefused, BufferLaw.MovesGrow, BufferLaw.answer_in, BufferLaw.call_state_of, BufferLaw.reply_with}
-use Rattle.layer_traits.specs.{QueueBlocks.homes_in, QueueBlocks.inner, Queues.buffer_sections, Queues.moves_in, Renaming.viewed, SleepLaw.sleep_kernel}
-use Rattle.layer_traits.specs.declared.{calls.Effect.Effect, calls.ReplyKind.ReplyKind, call_states.Stage.TheVariants.Idle, call_states.CallState.CallState}
-use Rattle.plain_layers.specs.{Attempts.attempts, Attempts.effect_in, Fifos.IsOwned, Fifos.caps_in, Fifos.entries_in, Fifos.reply_to, Fifos.call_state_after}
-use Rattle.plain_layers.specs.{Fifos.shown}
-use Rattle.plain_layers.proofs.FifoLemmas.{buffer_there, done_called, done_deferred, done_moves, done_refused, done_sleeps, owned_after, reply_left, reply_none}
-use Rattle.plain_layers.proofs.FifoLemmas.{runs_small, set_waits}
+use Rattle.{std.proofs.Math.ListN.length-set, event_log.specs.declared.ids.{CpuId.CpuId, Tid.Tid, TheConstants.THREADS}, layer_traits.specs.BufferLaw.Called}
+use Rattle.layer_traits.specs.{BufferLaw.{IsRefused, MovesGrow, answer_in, call_state_of, reply_with}, QueueBlocks.{homes_in, inner}, Queues.buffer_sections}
+use Rattle.layer_traits.specs.{Queues.moves_in, Renaming.viewed, SleepLaw.sleep_kernel, declared.calls.{Effect.Effect, ReplyKind.ReplyKind}}
+use Rattle.{layer_traits.specs.declared.call_states.{Stage.TheVariants.Idle, CallState.CallState}, plain_layers.specs.Attempts.{attempts, effect_in}}
+use Rattle.plain_layers.{specs.Fifos.{IsOwned, caps_in, entries_in, reply_to, call_state_after, shown}, proofs.FifoLemmas.{buffer_there, done_called}}
+use Rattle.plain_layers.proofs.FifoLemmas.{done_deferred, done_moves, done_refused, done_sleeps, owned_after, reply_left, reply_none, runs_small, set_waits}
 use Rattle.plain_layers.proofs.fifos.PlainFifoCallLayerBufferLaw.poll_kind.{Given.Over, Goals.After-from}
 use Rattle.plain_layers.proofs.fifos.PlainFifoCallLayerBufferLaw.poll_kind.Goals as goal
 

@@ -1,6 +1,6 @@
 use Rattle.std.proofs.Common.{ap, length, reverse, rules, subst, sym, ◌∙◌}
-use Rattle.plain_layers.specs.{declared.kernel.Lists.Lists, declared.kernel.Opening.Opening, Kernels.IsKernel}
-use Rattle.plain_layers.proofs.KernelLemmas.{OpensWith, kernel_fresh, homes_read, queue_is_there, buffer_opens}
+use Rattle.plain_layers.{specs.{declared.kernel.{Lists.Lists, Opening.Opening}, Kernels.IsKernel}, proofs.KernelLemmas.{OpensWith, kernel_fresh, homes_read}}
+use Rattle.plain_layers.proofs.KernelLemmas.{queue_is_there, buffer_opens}
 use Rattle.plain_layers.proofs.kernel.PlainKernel.open.Goals as goal
 
 pub returns : goal.returns

@@ -1,6 +1,4 @@
-use Rattle.std.proofs.Common.{IsSome, arith, subst, sym}
-use Rattle.layer_traits.specs.OneLock.{opened}
-use Rattle.plain_layers.specs.Tables.{IsSlot, opening_in, sections_noted}
+use Rattle.{std.proofs.Common.{IsSome, arith, subst, sym}, layer_traits.specs.OneLock.opened, plain_layers.specs.Tables.{IsSlot, opening_in, sections_noted}}
 use Rattle.plain_layers.proofs.TableLemmas.{block_is_there, slot_reads, slot_within}
 use Rattle.plain_layers.proofs.lock_table.LockTable.block.Goals as goal
 

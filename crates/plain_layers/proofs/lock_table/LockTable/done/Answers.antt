@@ -1,5 +1,4 @@
-use Rattle.plain_layers.proofs.TableLemmas.{block_is_there}
-use Rattle.plain_layers.specs.Tables.{opening_in, sections_noted}
+use Rattle.plain_layers.{proofs.TableLemmas.block_is_there, specs.Tables.{opening_in, sections_noted}}
 use Rattle.plain_layers.proofs.lock_table.LockTable.done.Goals as goal
 
 pub edit_at-answer-requires : goal.edit_at-answer-requires

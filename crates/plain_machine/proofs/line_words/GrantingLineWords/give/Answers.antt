@@ -1,7 +1,5 @@
-use Rattle.std.proofs.Common.{◌∙◌}
-use Rattle.std.proofs.Math.ListN.{length-set}
-use Rattle.plain_machine.proofs.GrantLemmas.{granted}
-use Rattle.event_log.proofs.Tickets.{next_rests}
+use Rattle.std.proofs.{Common.{◌∙◌}, Math.ListN.length-set}
+use Rattle.{plain_machine.proofs.GrantLemmas.granted, event_log.proofs.Tickets.next_rests}
 use Rattle.plain_machine.proofs.line_words.GrantingLineWords.give.Goals as goal
 
 pub returns : goal.returns

@@ -1,7 +1,5 @@
 use Rattle.std.proofs.Common.{reverse, ap, ◌∙◌}
-use Rattle.event_log.specs.Log.{events_in}
-use Rattle.plain_machine.specs.Machine.{told}
-use Rattle.plain_machine.proofs.NoteLemmas.{told_looks}
+use Rattle.{event_log.specs.Log.events_in, plain_machine.{specs.Machine.told, proofs.NoteLemmas.told_looks}}
 use Rattle.plain_machine.proofs.notes.Notes.looks.Goals as goal
 
 pub returns-clause-history : goal.returns-clause-history

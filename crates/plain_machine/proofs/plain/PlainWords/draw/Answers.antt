@@ -1,23 +1,14 @@
-use Rattle.std.proofs.Common.{[]}
-use Rattle.layer_traits.specs.OneLock.{opened}
-use Rattle.plain_machine.specs.Machine.{history}
-use Rattle.plain_machine.proofs.MachineLemmas.{at_lock, took}
+use Rattle.{std.proofs.Common.{[]}, plain_machine.{specs.Machine.history, proofs.MachineLemmas.took}}
 use Rattle.plain_machine.proofs.plain.PlainWords.draw.Goals as goal
 
 pub returns-clause-adds : goal.returns-clause-adds
 returns-clause-adds g c =
-    let w = c.args.self.now in
-    let m = at_lock g.K.LineWords.Fit g.E.SplitEdit.rules (opened w.opening.value.items) (history w.log) w.cells.items c.requires.cpu.1 c.args.lock
-    c.requires.lock in
-    let did = took m c.args.cpu c.requires.cpu.0 c.requires.outside c.take-ticket.result c.take-ticket.new.cells.items c.take-ticket.ensures
-    (history c.draw.new.self) c.draw.ensures.history in
+    let did = took c.requires.cpu.1 c.args.lock c.requires.lock c.args.cpu c.requires.cpu.0 c.requires.outside c.take-ticket.result
+    c.take-ticket.new.cells.items c.take-ticket.ensures (history c.draw.new.self) c.draw.ensures.history in
     record { others = []; foreign = λ cpu acts. tt; is = did.0 }
 
 pub returns-clause-acts : goal.returns-clause-acts
 returns-clause-acts g c = λ cpu acts.
-    let w = c.args.self.now in
-    let m = at_lock g.K.LineWords.Fit g.E.SplitEdit.rules (opened w.opening.value.items) (history w.log) w.cells.items c.requires.cpu.1 c.args.lock
-    c.requires.lock in
-    let did = took m c.args.cpu c.requires.cpu.0 c.requires.outside c.take-ticket.result c.take-ticket.new.cells.items c.take-ticket.ensures
-    (history c.draw.new.self) c.draw.ensures.history in
+    let did = took c.requires.cpu.1 c.args.lock c.requires.lock c.args.cpu c.requires.cpu.0 c.requires.outside c.take-ticket.result
+    c.take-ticket.new.cells.items c.take-ticket.ensures (history c.draw.new.self) c.draw.ensures.history in
     (acts.0, did.1)

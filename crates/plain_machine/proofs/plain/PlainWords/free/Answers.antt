@@ -1,18 +1,12 @@
-use Rattle.std.proofs.Common.{[]}
-use Rattle.layer_traits.specs.OneLock.{opened}
-use Rattle.plain_machine.specs.Machine.{history}
-use Rattle.plain_machine.proofs.MachineLemmas.{at_lock, gave}
+use Rattle.{std.proofs.Common.{[]}, plain_machine.{specs.Machine.history, proofs.MachineLemmas.gave}}
 use Rattle.plain_machine.proofs.plain.PlainWords.free.Goals as goal
 
 pub returns-clause-adds : goal.returns-clause-adds
 returns-clause-adds g c = record { others = []; foreign = λ cpu acts. tt; is = c.free.ensures.history }
 
 pub returns-clause-acts : goal.returns-clause-acts
-returns-clause-acts g c = λ cpu acts.
-    let w = c.args.self.now in
-    let m = at_lock g.K.LineWords.Fit g.E.SplitEdit.rules (opened w.opening.value.items) (history w.log) w.cells.items c.requires.cpu.1 c.args.lock
-    c.requires.lock in (
-      acts.0,
-      gave m c.args.cpu c.requires.inside.0 c.args.mark c.args.block c.requires.inside.1 c.requires.edited c.requires.allowed
-          c.give.new.cells.items c.give.ensures (history c.free.new.self) c.free.ensures.history,
-    )
+returns-clause-acts g c = λ cpu acts. (
+  acts.0,
+  gave c.requires.cpu.1 c.args.lock c.requires.lock c.args.cpu c.requires.inside.0 c.args.mark c.args.block c.requires.inside.1 c.requires.edited
+      c.requires.allowed c.give.new.cells.items c.give.ensures (history c.free.new.self) c.free.ensures.history,
+)

@@ -1,8 +1,6 @@
-use Rattle.std.proofs.Common.{◌%◌, ◌^◌, ap, refl, sym, ◌∙◌, subst}
-use Rattle.event_log.specs.{WordsLog.frees, WordsLog.lock_phase}
-use Rattle.layer_traits.specs.OneLock.{opened}
-use Rattle.plain_machine.specs.Machine.{IsSound, history}
-use Rattle.plain_machine.proofs.SpinLemmas.{grown_by, misses_by, spun_sound, waits_on}
+use Rattle.std.proofs.Common.{◌%◌, ◌^◌, ap, refl, ◌∙◌}
+use Rattle.{event_log.specs.WordsLog.{frees, lock_phase}, layer_traits.specs.OneLock.opened, plain_machine.{specs.Machine.history, proofs.SpinLemmas.grown_by}}
+use Rattle.plain_machine.proofs.SpinLemmas.{misses_by, spun_sound, waits_on}
 use Rattle.plain_machine.proofs.plain.PlainWords.spin.Goals as goal
 
 pub returns-clause-still : goal.returns-clause-still
@@ -37,7 +35,6 @@ returns-clause-acts g c = λ d acts.
     let misses = misses_by g.K.LineWords.Fit g.E.SplitEdit.rules (opened w.opening.value.items) w.cells.items c.args.cpu c.args.lock c.args.ticket read old
     c.requires.cpu.1 c.requires.lock c.requires.waiting c.serves.result c.if-serves.false c.serves.ensures in (
       acts.0,
-      subst (λ log. IsSound g.K.LineWords.Fit g.E.SplitEdit.rules (opened w.opening.value.items) log w.cells.items) (sym grown)
-          (spun_sound g.K.LineWords.Fit g.E.SplitEdit.rules (opened w.opening.value.items) w.cells.items c.args.cpu c.args.lock c.args.ticket read
+      rw grown (spun_sound g.K.LineWords.Fit g.E.SplitEdit.rules (opened w.opening.value.items) w.cells.items c.args.cpu c.args.lock c.args.ticket read
           old c.requires.waiting refl misses acts.1 c.steps_of-looks.result),
     )

@@ -1,17 +1,12 @@
-use Rattle.std.proofs.Common.{◌≡◌, refl, true, false, Option, Some, None, ◌≢◌, if◌then◌else◌, List, ◌<◌, is_some, option_map, slice_set, ap, sym, ◌∙◌, subst}
-use Rattle.std.proofs.Math.Path.{transport}
-use Rattle.event_log.specs.{declared.ids.BufId.BufId, declared.ids.CpuId.CpuId, declared.ids.TheConstants.THREADS, History.IsLawful}
-use Rattle.layer_traits.specs.{declared.locked.QOut.QOut, declared.locked.QOut.TheVariants.Acquired, declared.sleeps.Outcome.Outcome, QLocking.lock_caller}
-use Rattle.layer_traits.specs.{QLockLaw.LockPolled, QLockLaw.left_after, QLockLaw.locking, QLockLaw.slept_for, Payloads.lock_meant, Payloads.lock_told}
-use Rattle.layer_traits.specs.{Payloads.outcome_told, Plans.Left, Queues.QueueAllowed, Renaming.renamed_events, Renaming.renamed_sched, Renaming.viewed}
-use Rattle.layer_traits.specs.{SleepLaw.Sleeping}
-use Rattle.layer_traits.proofs.FrameLemmas.{untouched, viewed_stays}
-use Rattle.queuing_lock.specs.{Laws.NestedLaws.beneath, Laws.NestedLaws.here, Nested.edit_in, Nested.nested_lock_of, Parts.DeferredFits, Parts.SleptFits}
-use Rattle.queuing_lock.specs.{Parts.slept_left_by}
-use Rattle.queuing_lock.proofs.PartLemmas.{Before, caller_small, handed, deferred_after, locks, locks_follow, none, others_after, owed, slept_after, slept_asks}
-use Rattle.queuing_lock.proofs.PartLemmas.{slept_reported, under_is}
-use Rattle.queuing_lock.proofs.{PollLemmas.reported_is, PollLemmas.reported_told, PollLemmas.slept_told, SleptLemmas.slept_less}
-use Rattle.queuing_lock.proofs.qlock.QLockThreadLayerQLockLaw.poll.{Given.Over, Goals.Start, Goals.After-poll, Goals.After-complete}
+use Rattle.std.proofs.Common.{◌≡◌, refl, false, Option, Some, None, ◌≢◌, if◌then◌else◌, List, ◌<◌, is_some, option_map, slice_set, ap, sym, ◌∙◌, subst}
+use Rattle.{std.proofs.Math.Path.transport, event_log.specs.{declared.ids.{BufId.BufId, CpuId.CpuId, TheConstants.THREADS}, History.IsLawful}}
+use Rattle.layer_traits.specs.{declared.{locked.QOut.QOut, sleeps.Outcome.Outcome}, QLocking.lock_caller, QLockLaw.{left_after, locking, slept_for}}
+use Rattle.layer_traits.specs.{Payloads.{lock_meant, lock_told, outcome_told}, Plans.Left, Queues.QueueAllowed, Renaming.{renamed_events, renamed_sched}}
+use Rattle.{layer_traits.{specs.{Renaming.viewed, SleepLaw.Sleeping}, proofs.FrameLemmas.{untouched, viewed_stays}}, queuing_lock.specs.Laws.NestedLaws.beneath}
+use Rattle.queuing_lock.{specs.{Nested.{as_section, edit_in, nested_lock_of}, Parts.{DeferredFits, SleptFits, slept_left_by}}, proofs.PartLemmas.Before}
+use Rattle.queuing_lock.proofs.PartLemmas.{caller_small, handed, deferred_after, locks, locks_follow, none, others_after, owed, slept_after, slept_asks}
+use Rattle.queuing_lock.proofs.{PartLemmas.{slept_reported, under_is}, PollLemmas.{reported_is, reported_told, slept_told}, SleptLemmas.slept_less}
+use Rattle.queuing_lock.proofs.qlock.QLockThreadLayerQLockLaw.poll.{Given.Over, Goals.{Start, After-poll, After-complete}}
 use Rattle.layer_traits.specs.declared.scheds.SchedCall.TheVariants as call
 use Rattle.queuing_lock.proofs.qlock.QLockThreadLayerQLockLaw.poll.Goals as goal
 
@@ -53,8 +48,8 @@ returns-then-asks_again-clause-framed g c =
     record {
       fits = (
         c.requires.fits.0,
-        subst (λ l. SleptFits g.F.Locked.rules (viewed nested_lock_of (S.opening m)) was.c (renamed_events edit_in was.past) l) (sym c.over.ensures)
-            (slept_less g.F.Locked.rules (viewed nested_lock_of (S.opening m)) was.c c.caller-t.result (renamed_events edit_in was.past) was.slept was.fits),
+        rw c.over.ensures (slept_less g.F.Locked.rules (viewed nested_lock_of (S.opening m)) was.c c.caller-t.result (renamed_events edit_in was.past) was.slept
+            was.fits),
         was.deferred,
       );
       cpu = refl;
@@ -65,18 +60,10 @@ returns-then-asks_again-clause-framed g c =
 
 pub returns-then-asks_again-clause-seen : goal.returns-then-asks_again-clause-seen
 returns-then-asks_again-clause-seen g c =
-    let S = g.S.ThreadLayer in
-    let rules = g.F.Locked.rules in
-    let m = c.args.m.now in
     let was = before g (goal.at.returns-then-asks_again-clause-seen g c).Start in
-    let some : is_some (slept_for was.slept (lock_caller rules was.e)) ≡ true
-    = slept_asks was g.F.Locked.meant c.args.payload.now.parcel c.args.call.edit refl ∙ (sym c.asks_again.ensures ∙ c.if-asks_again.true) in
-    let over : c.over.new.self.buffers ≡ slice_set was.slept (lock_caller rules was.e).0 None = c.over.ensures
-    ∙ ap (λ t. slice_set was.slept t.0 None) (c.caller-t.ensures c.args.payload.now.parcel) in
-    subst (λ l. LockPolled rules (here rules (S.opening m)) (λ d. S.ActsFor m d) was.c was.b was.e (slept_for was.slept (lock_caller rules was.e))
-    (renamed_events edit_in was.past) (renamed_events edit_in was.past)
-    (record { sleep = was.own; slept = was.slept }) (option_map (renamed_sched edit_in) was.under)
-    (locking was.own l (Some (record { out = Acquired; slept = false; woke = None })))) (sym over) (handed was (λ d. S.ActsFor m d) some)
+    let some = slept_asks was g.F.Locked.meant c.args.payload.now.parcel c.args.call.edit refl ∙ (sym c.asks_again.ensures ∙ c.if-asks_again.true) in
+    let over = c.over.ensures ∙ ap (λ t. slice_set was.slept t.0 None) (c.caller-t.ensures c.args.payload.now.parcel) in
+    rw over (handed was (λ d. g.S.ThreadLayer.ActsFor c.args.m.now d) _ refl some was.may)
 
 -- it calls beneath
 
@@ -119,7 +106,7 @@ module _ (g : Over) (c : After-poll g) where
 
   -- the call that is under way beneath is under way here
   call_here : option_map (renamed_sched edit_in) (under_way c.poll.new.self) ≡ (if is_some gave.answer then None else Some (call.OnBuffer was.b was.e))
-  call_here = under_is told (under_way c.poll.new.self) c.poll.result was.b was.e c.poll.ensures.call
+  call_here = under_is told (under_way c.poll.new.self) c.poll.result (call.OnBuffer was.b (as_section was.e)) c.poll.ensures.call
 
   -- what is deferred agrees with it
   deferred : DeferredFits (option_map (renamed_sched edit_in) (under_way c.poll.new.self)) gave.own.deferred gave.own.threads.hand
@@ -131,8 +118,7 @@ module _ (g : Over) (c : After-poll g) where
       → SleptFits rules (viewed nested_lock_of (opening c.poll.new.m)) d (renamed_events edit_in (seen c.poll.new.m)) slept
   others d apart acts slept fits =
       transport (λ i. SleptFits rules (viewed nested_lock_of (sym c.poll.ensures.framed.stays.opening i)) d (renamed_events edit_in (seen c.poll.new.m)) slept)
-      (others_after rules (opening c.args.m.now) d was.c apart (ActsFor c.args.m.now) acts was.b was.e was.past (seen c.poll.new.m) was.own gave
-      c.poll.ensures.seen lawful slept fits)
+      (others_after rules (opening c.args.m.now) d was.c apart c.poll.ensures.seen acts lawful slept fits)
 
 -- the call goes on
 
@@ -173,11 +159,10 @@ returns-in-None-clause-seen g c =
 pub returns-in-None-clause-follows : goal.returns-in-None-clause-follows
 returns-in-None-clause-follows g c = λ step.
     let S = g.S.ThreadLayer in
-    let m = c.args.m.now in
     let p = (goal.at.returns-in-None-clause-follows g c).After-poll in
     let was = was g p in
-    locks_follow g.F.Locked.rules (S.opening m) (λ d. S.ActsFor m d) was.c (S.acts m) (S.acts c.poll.new.m) was.b was.e was.own was.slept (gave g p)
-    (none was (awake g p.before)) _ (went_on g c) (c.poll.ensures.follows step)
+    locks_follow g.F.Locked.rules (S.opening c.args.m.now) (S.ActsFor c.args.m.now) was.c (S.acts c.args.m.now) (S.acts c.poll.new.m) was.own was.slept was.b was.e
+    (gave g p) (none was (awake g p.before)) _ (went_on g c) (c.poll.ensures.follows step)
 
 -- the section answers
 
@@ -230,8 +215,7 @@ returns-in-Some-clause-seen g c =
 pub returns-in-Some-clause-follows : goal.returns-in-Some-clause-follows
 returns-in-Some-clause-follows g c = λ step.
     let S = g.S.ThreadLayer in
-    let m = c.args.m.now in
     let p = p g c in
     let was = was g p in
-    locks_follow g.F.Locked.rules (S.opening m) (λ d. S.ActsFor m d) was.c (S.acts m) (S.acts c.poll.new.m) was.b was.e was.own was.slept (gave g p)
-    (none was (awake g p.before)) _ (answers g c) (c.poll.ensures.follows step)
+    locks_follow g.F.Locked.rules (S.opening c.args.m.now) (S.ActsFor c.args.m.now) was.c (S.acts c.args.m.now) (S.acts c.poll.new.m) was.own was.slept was.b was.e
+    (gave g p) (none was (awake g p.before)) _ (answers g c) (c.poll.ensures.follows step)

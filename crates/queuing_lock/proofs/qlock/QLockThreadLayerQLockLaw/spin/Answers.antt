@@ -1,8 +1,5 @@
-use Rattle.std.proofs.Common.{ap, sym}
-use Rattle.std.proofs.Math.Path.{transport}
-use Rattle.layer_traits.specs.Renaming.{renamed_edit, renamed_events, viewed}
-use Rattle.layer_traits.proofs.SpinLemmas.{misses_renamed}
-use Rattle.queuing_lock.specs.{Nested.edit_in, Nested.nested_lock_of, Parts.SleptFits}
+use Rattle.{std.proofs.{Common.{ap, sym}, Math.Path.transport}, layer_traits.specs.Renaming.{renamed_edit, renamed_events, viewed}}
+use Rattle.{layer_traits.proofs.SpinLemmas.misses_renamed, queuing_lock.specs.{Nested.{edit_in, nested_lock_of}, Parts.SleptFits}}
 use Rattle.queuing_lock.proofs.qlock.QLockThreadLayerQLockLaw.spin.Goals as goal
 
 pub returns-clause-spun : goal.returns-clause-spun

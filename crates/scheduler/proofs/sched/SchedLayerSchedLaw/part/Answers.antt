@@ -1,6 +1,5 @@
 use Rattle.std.proofs.Common.{ap, sym, subst, subst₂, ◌∙◌}
-use Rattle.layer_traits.specs.{Places.Stands, Places.at_boot, Queues.kernel, Queues.moves_in, QueueBlocks.homes_in}
-use Rattle.layer_traits.proofs.PlaceLemmas.{stands_boot}
+use Rattle.layer_traits.{specs.{Places.{Stands, at_boot}, Queues.{kernel, moves_in}, QueueBlocks.homes_in}, proofs.PlaceLemmas.stands_boot}
 use Rattle.scheduler.specs.Parts.{UnderFits}
 use Rattle.scheduler.proofs.sched.SchedLayerSchedLaw.part.Goals as goal
 

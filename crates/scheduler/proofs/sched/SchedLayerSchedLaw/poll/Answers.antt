@@ -1,15 +1,10 @@
-use Rattle.std.proofs.Common.{◌≡◌, ◌≢◌, List, Option, false, Some, None, refl, ap, sym, ◌∙◌, subst, subst₂}
-use Rattle.std.proofs.lemmas.Bool.{ne_eqb}
-use Rattle.event_log.specs.{History.IsLawful, History.same_cpu, declared.ids.CpuId.CpuId}
-use Rattle.event_log.proofs.Same.{cpu_numbered}
-use Rattle.layer_traits.specs.{declared.scheds.SchedAnswer.TheVariants.Done, declared.queues.QueueAnswer.QueueAnswer, declared.queues.QueueCall.QueueCall}
-use Rattle.layer_traits.specs.{declared.scheds.SchedCall.SchedCall, Payloads.call_meant, Payloads.queue_told, Payloads.sched_meant, Payloads.told_by}
-use Rattle.layer_traits.specs.{Places.Threads, QueueBlocks.StartsWell, QueueBlocks.homes_in, Queues.QueueAllowed, Queues.kernel, Scheds.SchedPolled}
-use Rattle.layer_traits.specs.{Scheds.own_by, Scheds.queue_call}
-use Rattle.scheduler.specs.{Owns.local_after, Parts.PartFits}
-use Rattle.layer_traits.proofs.FrameLemmas.{untouched}
+use Rattle.std.proofs.{Common.{◌≡◌, ◌≢◌, List, Option, false, Some, None, refl, ap, sym, ◌∙◌, subst}, lemmas.Bool.ne_eqb}
+use Rattle.event_log.{specs.{History.{IsLawful, same_cpu}, declared.ids.CpuId.CpuId}, proofs.Same.cpu_numbered}
+use Rattle.layer_traits.specs.{declared.{queues.{QueueAnswer.QueueAnswer, QueueCall.QueueCall}, scheds.SchedCall.SchedCall}, Payloads.{call_meant, queue_told}}
+use Rattle.layer_traits.specs.{Payloads.{sched_meant, told_by}, Places.Threads, QueueBlocks.{StartsWell, homes_in}, Queues.{QueueAllowed, kernel}}
+use Rattle.{layer_traits.{specs.Scheds.{own_by, queue_call}, proofs.FrameLemmas.untouched}, scheduler.specs.{Owns.local_after, Parts.PartFits}}
 use Rattle.scheduler.proofs.StepLemmas.{call_may, done_fits, finish_ok, local_fits, local_polled, may_take, other_fits, waiting_fits}
-use Rattle.scheduler.proofs.sched.SchedLayerSchedLaw.poll.{Given.Over, Goals.Start, Goals.In-Err, Goals.In-Ok, Goals.After-pass_locally, Goals.After-poll}
+use Rattle.scheduler.proofs.sched.SchedLayerSchedLaw.poll.{Given.Over, Goals.{Start, In-Err, In-Ok, After-pass_locally, After-poll}}
 use Rattle.scheduler.proofs.sched.SchedLayerSchedLaw.poll.Goals as goal
 
 -- what the part knows of the machine when the poll begins
@@ -76,9 +71,7 @@ module _ (g : Over) (c : After-poll g) where
       let apart : same_cpu (cpu_of self.lower) cpu ≡ false = ap (λ d. same_cpu d cpu) c.requires.fits.1.cpu
       ∙ ne_eqb self.cpu.0 cpu.0 (λ e. other (sym (ap cpu_numbered e))) in (
         said.framed.others lower (λ e. other (sym part.cpu ∙ (e ∙ c.requires.fits.1.cpu))) fits,
-        subst (λ o. PartFits g.E.SplitEdit.rules g.E.Moves.moves o cpu (cpu_of lower) homes (under_way lower) (seen c.poll.new.m) own)
-            (sym said.framed.stays.opening)
-            (other_fits _ _ _ g.met.E.Moves.wakes_sleepers (opens g at.Start) (ActsFor c.args.m.now) (cpu_of self.lower) cpu _ _ _ (step_of g at.In-Ok) answer
+        rw said.framed.stays.opening (other_fits _ _ _ g.met.E.Moves.wakes_sleepers (opens g at.Start) (ActsFor c.args.m.now) (cpu_of self.lower) cpu _ _ _ (step_of g at.In-Ok) answer
             _ _ own acts apart said.seen (legal cpu acts) part),
       )
 
@@ -108,9 +101,7 @@ returns-in-Err-clause-framed g c =
     record {
       fits = (
         c.requires.fits.0,
-        subst (λ o. PartFits g.E.SplitEdit.rules g.E.Moves.moves (Q.opening m) self.cpu (Q.cpu_of self.lower) self.homes.items (Q.under_way self.lower) (Q.seen m) o)
-            (sym (passed g at.After-pass_locally))
-            (local_fits _ _ _ g.met.E.Moves.wakes_sleepers (opens g at.Start) (lawful g at.Start) c.requires.fits.1 (call_of g at.Start) c.requires.call
+        rw (passed g at.After-pass_locally) (local_fits _ _ _ g.met.E.Moves.wakes_sleepers (opens g at.Start) (lawful g at.Start) c.requires.fits.1 (call_of g at.Start) c.requires.call
             (is_local g at.In-Err)),
       );
       cpu = refl;
@@ -125,9 +116,7 @@ returns-in-Err-clause-seen g c =
     let Q = g.Q.Layer in
     let self = c.args.self.now in
     let m = c.args.m.now in
-    subst (λ o. SchedPolled (kernel g.E.SplitEdit.rules g.E.Moves.moves (Q.opening m)) (Q.ActsFor m) self.cpu (call_of g at.Start) (Some Done) (Q.seen m) (Q.seen m)
-    self.own o) (sym (passed g at.After-pass_locally))
-    (local_polled _ _ _ g.met.E.Moves.wakes_sleepers (opens g at.Start) (lawful g at.Start) c.requires.fits.1 (call_of g at.Start) c.requires.call
+    rw (passed g at.After-pass_locally) (local_polled _ _ _ g.met.E.Moves.wakes_sleepers (opens g at.Start) (lawful g at.Start) c.requires.fits.1 (call_of g at.Start) c.requires.call
     (is_local g at.In-Err) (Q.ActsFor m))
 
 -- a poll that waits
@@ -143,9 +132,7 @@ returns-in-None-clause-framed g c =
     record {
       fits = (
         said.framed.fits,
-        subst (λ o. PartFits g.E.SplitEdit.rules g.E.Moves.moves o self.cpu (Q.cpu_of part) self.homes.items (Q.under_way part) (Q.seen n) self.own)
-            (sym said.framed.stays.opening)
-            (waiting_fits _ _ _ g.met.E.Moves.wakes_sleepers (opens g at.Start) (lawful g at.Start) c.requires.fits.1 (call_of g at.Start) c.requires.call
+        rw said.framed.stays.opening (waiting_fits _ _ _ g.met.E.Moves.wakes_sleepers (opens g at.Start) (lawful g at.Start) c.requires.fits.1 (call_of g at.Start) c.requires.call
             (step_of g at.In-Ok) (is_shared g at.In-Ok) _ (acts g at.Start) (Q.seen n) said.seen (legal g at.After-poll self.cpu (acts g at.Start)) (Q.cpu_of part)
             (Q.under_way part) said.framed.cpu said.call),
       );
@@ -172,9 +159,7 @@ returns-in-Some-clause-framed g c =
     record {
       fits = (
         said.framed.fits,
-        subst₂ (λ o x. PartFits g.E.SplitEdit.rules g.E.Moves.moves o self.cpu (Q.cpu_of part) self.homes.items (Q.under_way part) (Q.seen n) x)
-            (sym said.framed.stays.opening) (sym own)
-            (done_fits _ _ _ g.met.E.Moves.wakes_sleepers (opens g at.Start) (lawful g at.Start) c.requires.fits.1 (call_of g at.Start) c.requires.call
+        rw (said.framed.stays.opening, own) (done_fits _ _ _ g.met.E.Moves.wakes_sleepers (opens g at.Start) (lawful g at.Start) c.requires.fits.1 (call_of g at.Start) c.requires.call
             (step_of g at.In-Ok) (is_shared g at.In-Ok) (acts g at.Start) said.seen (legal g at.After-poll self.cpu (acts g at.Start)) (Q.cpu_of part)
             (Q.under_way part) said.framed.cpu said.call),
       );

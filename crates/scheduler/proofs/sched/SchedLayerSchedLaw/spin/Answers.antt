@@ -1,7 +1,4 @@
-use Rattle.std.proofs.Common.{subst, sym}
-use Rattle.std.proofs.Math.Path.{transport}
-use Rattle.event_log.specs.declared.ids.CpuId.{CpuId}
-use Rattle.layer_traits.specs.Spins.{BeginWith, Misses}
+use Rattle.{std.proofs.{Common.{subst, sym}, Math.Path.transport}, event_log.specs.declared.ids.CpuId.CpuId, layer_traits.specs.Spins.{BeginWith, Misses}}
 use Rattle.scheduler.specs.Parts.{PartFits}
 use Rattle.scheduler.proofs.sched.SchedLayerSchedLaw.spin.Goals as goal
 

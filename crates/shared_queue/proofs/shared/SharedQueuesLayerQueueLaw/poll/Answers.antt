@@ -1,9 +1,7 @@
 use Rattle.std.proofs.Common.{◌≡◌, None, Some, if◌then◌else◌, is_some, sym, subst}
-use Rattle.event_log.specs.History.{IsLawful}
-use Rattle.layer_traits.proofs.NestedLemmas.{may_section, polled_event}
-use Rattle.layer_traits.specs.{Payloads.call_meant, Payloads.queue_told, Payloads.told_by, Polls.MayPoll, Polls.Polled, QueueBlocks.StartsWell}
-use Rattle.layer_traits.specs.{QueueRules.SectionAllowed, QueueRules.queue_rules}
-use Rattle.shared_queue.proofs.{FrameLemmas.call_proper, FrameLemmas.raised, MeantLemmas.meant_section}
+use Rattle.layer_traits.{proofs.NestedLemmas.{may_section, polled_event}, specs.{Payloads.{call_meant, queue_told, told_by}, Polls.{MayPoll, Polled}}}
+use Rattle.{layer_traits.specs.{QueueBlocks.StartsWell, QueueRules.{SectionAllowed, queue_rules}}, shared_queue.proofs.FrameLemmas.{call_proper, raised}}
+use Rattle.shared_queue.proofs.MeantLemmas.{meant_section}
 use Rattle.shared_queue.proofs.shared.SharedQueuesLayerQueueLaw.poll.Goals as goal
 
 -- a call that may be polled is a section that may
@@ -14,13 +12,11 @@ poll-requires-clause-call g c =
     let mv = g.E.Moves.moves in
     let m = c.args.m.now in
     let lower = c.args.self.now.lower in
-    let cpu = L.cpu_of lower in
-    let found = c.section_of.result in
     let is = c.section_of.ensures in
-    let call = call_meant g.E.SplitEdit.meant c.args.call c.args.payload.now in
     subst (λ s. MayPoll (SectionAllowed rules mv (L.opening m)) (L.seen m) (L.under_way lower) s)
-    (sym (meant_section g.E.SplitEdit.meant c.args.payload.now cpu c.args.call found.lock found.edit is.lock is.edit))
-    (may_section rules mv (L.opening m) (L.seen m) (L.under_way lower) cpu call c.requires.fits.2 c.requires.call)
+    (sym (meant_section g.E.SplitEdit.meant c.args.payload.now (L.cpu_of lower) c.args.call _ _ is.lock is.edit))
+    (may_section rules mv (L.opening m) (L.seen m) (L.under_way lower) (L.cpu_of lower) (call_meant g.E.SplitEdit.meant c.args.call c.args.payload.now)
+    c.requires.fits.2 c.requires.call)
 
 -- and its poll is a poll of the call
 pub returns-clause-seen : goal.returns-clause-seen
@@ -30,32 +26,26 @@ returns-clause-seen g c =
     let mv = g.E.Moves.moves in
     let m = c.args.m.now in
     let n = c.poll.new.m in
-    let lower = c.args.self.now.lower in
-    let cpu = L.cpu_of lower in
+    let cpu = L.cpu_of c.args.self.now.lower in
     let said = c.poll.ensures in
-    let found = c.section_of.result in
     let is = c.section_of.ensures in
     let call = call_meant g.E.SplitEdit.meant c.args.call c.args.payload.now in
     let result = told_by (queue_told g.E.SplitEdit.told) c.poll.result c.poll.new.payload in
-    let acts = said.framed.stays.acts cpu (g.met.L.Layer.own_cpu lower m c.requires.fits.0) in
-    let lawful : IsLawful (SectionAllowed rules mv (L.opening m)) (L.seen n)
-    = subst (λ o. IsLawful (SectionAllowed rules mv o) (L.seen n)) said.framed.stays.opening (g.met.L.Layer.lawful n cpu acts) in
+    let acts = said.framed.stays.acts cpu (g.met.L.Layer.own_cpu c.args.self.now.lower m c.requires.fits.0) in
     polled_event rules mv (L.opening m) c.requires.fits.1 g.met.E.Moves.wakes_sleepers (L.ActsFor m) (λ d. L.ActsFor m d × StartsWell (L.opening m))
-    (λ d both. both.0)
-    cpu call result (L.seen m) (L.seen n) lawful
+    (λ d both. both.0) cpu call result (L.seen m) (L.seen n) (rw said.framed.stays.opening at (g.met.L.Layer.lawful n cpu acts))
     (subst (λ s. Polled (queue_rules rules mv) (L.opening m) (L.ActsFor m) s result (L.seen m) (L.seen n))
-    (meant_section g.E.SplitEdit.meant c.args.payload.now cpu c.args.call found.lock found.edit is.lock is.edit) said.seen)
+    (meant_section g.E.SplitEdit.meant c.args.payload.now cpu c.args.call _ _ is.lock is.edit) said.seen)
 
 -- the queues keep nothing of their own
 pub returns-clause-framed : goal.returns-clause-framed
 returns-clause-framed g c =
     let L = g.L.Layer in
     let cpu = L.cpu_of c.args.self.now.lower in
-    let said = c.poll.ensures in
-    let found = c.section_of.result in
     let is = c.section_of.ensures in
     let call = call_meant g.E.SplitEdit.meant c.args.call c.args.payload.now in
+    let under = L.under_way c.poll.new.self in
     let ends = is_some c.poll.result in
-    raised L.opening L.under_way c.requires.fits.1 said.framed (call_proper cpu call ends (L.under_way c.poll.new.self)
-    (subst (λ s. L.under_way c.poll.new.self ≡ (if ends then None else Some s))
-    (meant_section g.E.SplitEdit.meant c.args.payload.now cpu c.args.call found.lock found.edit is.lock is.edit) said.call))
+    raised L.opening L.under_way c.requires.fits.1 c.poll.ensures.framed (call_proper cpu call ends under
+    (subst (λ s. under ≡ (if ends then None else Some s)) (meant_section g.E.SplitEdit.meant c.args.payload.now cpu c.args.call _ _ is.lock is.edit)
+    c.poll.ensures.call))

@@ -1,8 +1,6 @@
 use Rattle.std.proofs.Common.{sym, ◌∙◌}
-use Rattle.event_log.specs.declared.ids.LockId.TheVariants.{Pending}
-use Rattle.layer_traits.proofs.KernelRenaming.{homes_viewed, there_viewed}
-use Rattle.sleep_wakeup.specs.{Laws.NestedLaws.nothing_seen, Nested.state_of}
-use Rattle.sleep_wakeup.proofs.PollLemmas.{fresh_deferred, nobody_beneath}
+use Rattle.{event_log.specs.declared.ids.LockId.TheVariants.Pending, layer_traits.proofs.KernelRenaming.{homes_viewed, there_viewed}}
+use Rattle.sleep_wakeup.{specs.{Laws.NestedLaws.nothing_seen, Nested.state_of}, proofs.PollLemmas.{fresh_deferred, nobody_beneath}}
 use Rattle.sleep_wakeup.proofs.sleeper.SleeperThreadLayerSleepLaw.part.Goals as goal
 
 pub returns-clause-fits : goal.returns-clause-fits

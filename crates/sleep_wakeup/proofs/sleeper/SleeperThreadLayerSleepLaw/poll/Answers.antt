@@ -1,16 +1,13 @@
-use Rattle.std.proofs.Common.{◌≡◌, Option, Some, None, refl, map, option_map, ap, subst, sym, ◌∙◌}
-use Rattle.event_log.specs.{declared.ids.BufId.BufId, declared.ids.Tid.Tid, Actions.renamed}
-use Rattle.layer_traits.specs.declared.{payloads.Payload.Payload, scheds.SchedAnswer.SchedAnswer, scheds.SchedCall.SchedCall, sleeps.Outcome.Outcome}
-use Rattle.layer_traits.specs.{Payloads.sched_meant, Payloads.sched_told, Payloads.told_by, Places.Threads, Plans.Follows, Plans.Left, Plans.table_of}
-use Rattle.layer_traits.specs.{QueueBlocks.homes_in, QueueRules.queue_rules, Renaming.renamed_edit, Renaming.renamed_events, Renaming.viewed, Scheds.MaySched}
-use Rattle.layer_traits.specs.{Scheds.SchedPolled, Scheds.sched_plan, Scheds.left as sched_left, SleepLaw.MaySleep, SleepLaw.SleepPolled, SleepLaw.Sleeping}
-use Rattle.layer_traits.specs.{SleepLaw.due, SleepLaw.left_reported, SleepLaw.sleep_plan, Sleeping.sleep_moves, Sleeping.sleep_rules}
-use Rattle.sleep_wakeup.specs.{declared.deferred.DeferredOutcome.DeferredOutcome, declared.edits.SleepEdit.SleepEdit, Laws.NestedLaws.beneath}
-use Rattle.sleep_wakeup.specs.{Laws.NestedLaws.here, Nested.edit_in, Nested.nested_meant, Nested.nested_moves, Nested.nested_rules, Nested.nested_told}
-use Rattle.sleep_wakeup.specs.{Nested.state_of, Parts.Deferred, Parts.DeferredFits, Parts.as_edit, Parts.deferred_told, Parts.outcome_in, Parts.own_of}
-use Rattle.sleep_wakeup.proofs.PollLemmas.{hand_defers, nested_may, nested_sleep_follows, nested_sleeps, reported_is}
-use Rattle.sleep_wakeup.proofs.sleeper.SleeperThreadLayerSleepLaw.poll.{Given.Over, Goals.Start, Goals.In-None, Goals.In-Some, Goals.After-poll}
-use Rattle.sleep_wakeup.proofs.sleeper.SleeperThreadLayerSleepLaw.poll.{Goals.After-complete, Goals.After-complete-in-Some-send_home}
+use Rattle.std.proofs.Common.{◌≡◌, Option, Some, None, refl, option_map, ap, subst, sym, ◌∙◌}
+use Rattle.{event_log.specs.declared.ids.{BufId.BufId, Tid.Tid}, layer_traits.specs.declared.{payloads.Payload.Payload, scheds.SchedAnswer.SchedAnswer}}
+use Rattle.layer_traits.specs.{declared.{scheds.SchedCall.SchedCall, sleeps.Outcome.Outcome}, Payloads.{sched_meant, sched_told, told_by}, Places.Threads}
+use Rattle.layer_traits.specs.{Plans.Left, QueueBlocks.homes_in, Renaming.{renamed_events, viewed}, Scheds.{MaySched, SchedPolled, sched_plan}}
+use Rattle.layer_traits.specs.{Scheds.left as sched_left, SleepLaw.{MaySleep, SleepPolled, Sleeping, due, left_reported, sleep_plan}, Sleeping.sleep_moves}
+use Rattle.sleep_wakeup.specs.{declared.{deferred.DeferredOutcome.DeferredOutcome, edits.SleepEdit.SleepEdit}, Laws.NestedLaws.{beneath, here}, Nested.edit_in}
+use Rattle.sleep_wakeup.specs.{Nested.{nested_meant, nested_moves, nested_told, state_of}, Parts.{Deferred, DeferredFits, as_edit, deferred_told, outcome_in}}
+use Rattle.sleep_wakeup.{specs.Parts.own_of, proofs.PollLemmas.{FollowsBeneath, FollowsHere, hand_defers, nested_may, nested_sleep_follows, nested_sleeps}}
+use Rattle.sleep_wakeup.proofs.{PollLemmas.reported_is, sleeper.SleeperThreadLayerSleepLaw.poll.{Given.Over, Goals.{Start, In-None, In-Some, After-poll}}}
+use Rattle.sleep_wakeup.proofs.sleeper.SleeperThreadLayerSleepLaw.poll.Goals.{After-complete, After-complete_home}
 use Rattle.sleep_wakeup.proofs.sleeper.SleeperThreadLayerSleepLaw.poll.Goals as goal
 
 -- the thread in the hand of these threads
@@ -19,7 +16,7 @@ in_hand own = own.hand
 
 -- what the part owes and what its poll is, by the thread that stands in the hand
 module _ (g : Over) (c : Start g) (hand : Option Tid) (is : hand ≡ (g.S.Layer.own c.args.self.now.lower).hand) where
-  open g.S.Layer use {ActsFor, cpu_of, opening, own, seen, under_way}
+  open g.S.Layer use {ActsFor, acts, cpu_of, opening, own, seen, under_way}
   open g.E.Sleeps use {rules}
 
   abbrev lower : g.row.S.Denot
@@ -45,8 +42,8 @@ module _ (g : Over) (c : Start g) (hand : Option Tid) (is : hand ≡ (g.S.Layer.
   may =
       let met = g.met.S.Layer in
       let acts = met.own_cpu lower m c.requires.fits.0 in
-      nested_may rules (opening m) (cpu_of lower) (seen m) (own lower) buffer edit (met.opens m (cpu_of lower) acts) (met.lawful m (cpu_of lower) acts)
-      c.requires.fits.1 (met.stands lower m c.requires.fits.0) deferred (under_way lower) hand is fits c.requires.call
+      nested_may rules _ _ _ (own lower) buffer edit (met.opens m _ acts) (met.lawful m _ acts) c.requires.fits.1 (met.stands lower m c.requires.fits.0) deferred
+      (under_way lower) hand is fits c.requires.call
 
   module _ (after : g.row.S.Denot) (result : Option (SchedAnswer (Outcome g.row.E-Brought.Denot))) (payload : Payload) where
     abbrev answer : Option (SchedAnswer (Outcome g.row.E-Out.Denot))
@@ -62,25 +59,17 @@ module _ (g : Over) (c : Start g) (hand : Option Tid) (is : hand ≡ (g.S.Layer.
       sleeps : SchedPolled (beneath rules (opening m)) (ActsFor m) (cpu_of lower) call answer (seen m) (seen n) (own lower) (own after)
           → SleepPolled (here rules (opening m)) (ActsFor m) (cpu_of lower) buffer edit (renamed_events edit_in (seen m)) (renamed_events edit_in (seen n))
           (own_of deferred (own lower)) left
-      sleeps polled = subst (λ l. SleepPolled (here rules (opening m)) (ActsFor m) (cpu_of lower) buffer edit (renamed_events edit_in (seen m))
-          (renamed_events edit_in (seen n)) (own_of deferred (own lower)) l) leaves
-          (nested_sleeps rules (opening m) (ActsFor m) (cpu_of lower) buffer edit answer (seen m) (seen n) (own lower) (own after) deferred hand is
-          (hand_defers deferred (under_way lower) hand buffer edit
+      sleeps polled = rw (← leaves) (nested_sleeps rules (opening m) (ActsFor m) (cpu_of lower) answer (seen m) (seen n) (own lower) (own after) buffer edit
+          deferred hand is (hand_defers deferred (under_way lower) hand buffer edit
           (MaySleep (here rules (opening m)) (cpu_of lower) (renamed_events edit_in (seen m)) (own lower) buffer edit) fits c.requires.call (λ may. is ∙ may.hand))
-          (subst (λ s. SchedPolled (beneath rules (opening m)) (ActsFor m) (cpu_of lower) s answer (seen m) (seen n) (own lower) (own after)) calls polled))
+          (rw calls at polled))
 
-      follows : Follows (ActsFor m) (table_of (queue_rules (nested_rules rules) (nested_moves rules))) (opening m) (cpu_of lower)
-          (sched_plan (nested_moves rules) (homes_in (opening m)) (cpu_of lower) call (own lower)) (g.S.Layer.acts m) (g.S.Layer.acts n) (sched_left (own after) answer)
-          → Follows (ActsFor m) (table_of (queue_rules (sleep_rules rules) (sleep_moves rules))) (viewed state_of (opening m)) (cpu_of lower)
-          (sleep_plan (sleep_moves rules) (homes_in (viewed state_of (opening m))) (cpu_of lower) buffer edit (own_of deferred (own lower)))
-          (map (renamed (renamed_edit edit_in)) (g.S.Layer.acts m)) (map (renamed (renamed_edit edit_in)) (g.S.Layer.acts n)) left
-      follows followed = subst (λ l. Follows (ActsFor m) (table_of (queue_rules (sleep_rules rules) (sleep_moves rules))) (viewed state_of (opening m))
-          (cpu_of lower) (sleep_plan (sleep_moves rules) (homes_in (viewed state_of (opening m))) (cpu_of lower) buffer edit (own_of deferred (own lower)))
-          (map (renamed (renamed_edit edit_in)) (g.S.Layer.acts m)) (map (renamed (renamed_edit edit_in)) (g.S.Layer.acts n)) l) leaves
-          (nested_sleep_follows rules (opening m) (ActsFor m) (cpu_of lower) buffer edit (g.S.Layer.acts m) (g.S.Layer.acts n) deferred (own lower) (own after) hand
-          answer is (subst (λ s. Follows (ActsFor m) (table_of (queue_rules (nested_rules rules) (nested_moves rules))) (opening m) (cpu_of lower)
-          (sched_plan (nested_moves rules) (homes_in (opening m)) (cpu_of lower) s (own lower)) (g.S.Layer.acts m) (g.S.Layer.acts n) (sched_left (own after) answer))
-          calls followed))
+      follows : FollowsBeneath rules (opening m) (ActsFor m) (cpu_of lower) (acts m) (acts n)
+          (sched_plan (nested_moves rules) (homes_in (opening m)) (cpu_of lower) call (own lower)) (sched_left (own after) answer)
+          → FollowsHere rules (opening m) (ActsFor m) (cpu_of lower) (acts m) (acts n)
+          (sleep_plan (sleep_moves rules) (homes_in (viewed state_of (opening m))) (cpu_of lower) buffer edit (own_of deferred (own lower))) left
+      follows followed = rw (← leaves) (nested_sleep_follows rules (opening m) (ActsFor m) (cpu_of lower) (acts m) (acts n) (own lower) (own after) answer
+          deferred buffer edit hand is (rw calls at followed))
 
 -- nobody stands in the hand: the section is polled
 
@@ -136,14 +125,14 @@ module _ (g : Over) where
       c.poll.new.payload c.complete.new.payload c.hand-hand.result c.complete.new.deferred c.complete.result
       (c.hand-hand.ensures ∙ ap in_hand c.own_here-in-Some-poll.ensures) c.complete.ensures.deferred c.complete.ensures.answer c.complete.ensures.parcel
 
-  answers_home : (c : After-complete-in-Some-send_home g) → (let poll = c.send_home in let done = c.complete-in-Some-send_home in
+  answers_home : (c : After-complete_home g) → (let poll = c.send_home in let done = c.complete_home in
       left_at c.args.self.now.deferred poll.new.lower poll.result poll.new.payload ≡ kept_at done.new.deferred poll.new.lower done.result done.new.payload)
   answers_home c =
       let poll = c.send_home in
-      let done = c.complete-in-Some-send_home in
+      let done = c.complete_home in
       let hand = c.hand-hand-in-Some-send_home in
       ap (λ r. left_at c.args.self.now.deferred poll.new.lower r poll.new.payload) c.in-Some-send_home.is
-      ∙ reported_is g.E.Sleeps.told c.args.self.now.deferred (g.S.Layer.own poll.new.lower) c.args.call.buffer c.kept_edit-kept-in-Some.result
+      ∙ reported_is g.E.Sleeps.told c.args.self.now.deferred (g.S.Layer.own poll.new.lower) c.args.call.buffer c.kept_edit-kept.result
       c.in-Some-send_home.answer poll.new.payload done.new.payload hand.result done.new.deferred done.result
       (hand.ensures ∙ ap in_hand c.own_here-in-Some-send_home.ensures) done.ensures.deferred done.ensures.answer done.ensures.parcel
 
@@ -190,11 +179,11 @@ returns-clause-seen g c =
     let at = goal.at.returns-clause-seen g c in
     let poll = c.send_home in
     sleeps g at.Start (Some c.in-Some.t) (some g at.In-Some) poll.new.lower poll.result poll.new.payload poll.new.m refl
-    (answers_home g at.After-complete-in-Some-send_home) poll.ensures.seen
+    (answers_home g at.After-complete_home) poll.ensures.seen
 
 pub returns-clause-follows : goal.returns-clause-follows
 returns-clause-follows g c = λ step.
     let at = goal.at.returns-clause-follows g c in
     let poll = c.send_home in
     follows g at.Start (Some c.in-Some.t) (some g at.In-Some) poll.new.lower poll.result poll.new.payload poll.new.m refl
-    (answers_home g at.After-complete-in-Some-send_home) (poll.ensures.follows step)
+    (answers_home g at.After-complete_home) (poll.ensures.follows step)

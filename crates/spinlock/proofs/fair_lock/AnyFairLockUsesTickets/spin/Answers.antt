@@ -1,17 +1,16 @@
-use Rattle.layer_traits.proofs.Seen.{words_legal}
-use Rattle.spinlock.proofs.{LineLemmas.waits_by_ticket, MissLemmas.looks_missed}
+use Rattle.std.proofs.Common.{◌==◌, refl}
+use Rattle.{event_log.specs.{declared.events.Event.TheVariants.Look, Actions.act_of, WordsLog.lock_phase}, layer_traits.proofs.OneLockLemmas.lock_phase_own}
+use Rattle.{layer_traits.specs.WordsProtocol.edit_of, spinlock.proofs.{LineLemmas.waits_by_ticket, MissLemmas.all_missed}}
 use Rattle.spinlock.proofs.fair_lock.AnyFairLockUsesTickets.spin.Goals as goal
 
 pub spin-requires-clause-waiting : goal.spin-requires-clause-waiting
 spin-requires-clause-waiting g c =
-    let W = g.W.Words in
     let m = c.args.self.now in
-    waits_by_ticket (W.seen m) (words_legal (g.W.Edit.SplitEdit.rules.allowed (W.opening m)) (W.seen m) (g.met.W.Words.legal m c.args.cpu c.requires.cpu))
+    waits_by_ticket (g.W.Edit.SplitEdit.rules.allowed (g.W.Words.opening m)) (g.W.Words.seen m) (g.met.W.Words.legal m c.args.cpu c.requires.cpu)
     c.args.cpu c.args.lock c.args.ticket c.requires.waits c.requires.ticket
 
 pub returns-clause-misses : goal.returns-clause-misses
 returns-clause-misses g c =
-    let W = g.W.Words in
-    let adds = c.spin.ensures.adds in
-    looks_missed c.args.cpu c.args.lock c.args.ticket adds.0 c.spin.result (W.seen c.args.self.now) (W.seen c.spin.new.self) adds.1 c.spin.ensures.waits
-    c.requires.waits
+    let look = Look c.args.cpu c.args.lock c.args.ticket c.spin.ensures.adds.0 in
+    all_missed (act_of edit_of) (lock_phase c.args.cpu) look c.args.cpu c.args.lock c.args.ticket (c.spin.ensures.adds.0 == c.args.ticket) refl
+    (lock_phase_own look) c.spin.result _ _ c.spin.ensures.adds.1 c.spin.ensures.waits c.requires.waits

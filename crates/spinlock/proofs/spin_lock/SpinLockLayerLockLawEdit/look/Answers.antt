@@ -1,59 +1,79 @@
-use Rattle.std.proofs.Common.{◌≡◌, refl, subst}
-use Rattle.event_log.specs.{Actions.Try, Sections.cpu_of_section, Sections.sections_in}
-use Rattle.spinlock.proofs.StageLemmas.{stepped, others_fit, others_rest, tried_fits, tried_grows, tried_again, hit_found, grown_by_none}
-use Rattle.spinlock.specs.Stages.{StageFits, hit_by}
+use Rattle.std.proofs.Common.{◌≡◌, ℕ, Some, None, refl, ap}
+use Rattle.{event_log.specs.{declared.ids.LockId.LockId, Actions.Try, Sections.{cpu_of_section, sections_in}}, spinlock.proofs.StageLemmas.others_fit}
+use Rattle.spinlock.{proofs.StageLemmas.{others_rest, tried_fits, tried_again, unended, grown_by_none}, specs.declared.stages.TicketPhase.TicketPhase}
+use Rattle.spinlock.specs.declared.stages.TicketPhase.TheVariants.{Holding, Waiting}
 use Rattle.spinlock.proofs.spin_lock.SpinLockLayerLockLawEdit.look.Goals as goal
 
--- a section that waits tries again
-pub returns-in-Waiting-clause-framed : goal.returns-in-Waiting-clause-framed
-returns-in-Waiting-clause-framed g c =
-    let M = g.M.FairLock in
+-- the edit that was taken out is the one that waited
+same_edit : {E B : Type 0} {lock at : LockId} {edit kept : E} {ticket drawn : ℕ} (stage : TicketPhase E B) → stage ≡ Waiting lock edit ticket
+    → stage ≡ Waiting at kept drawn → edit ≡ kept
+same_edit stage is was = cc
+
+-- a section that waits tries again: it hits
+pub returns-in-Waiting-replace-clause-framed : goal.returns-in-Waiting-replace-clause-framed
+returns-in-Waiting-replace-clause-framed g c =
     let rules = g.M.Edit.SplitEdit.rules in
-    let m = c.args.m.now in
-    let n = c.enter-again.new.self in
     let cpu = c.args.self.now.cpu in
-    let said = c.enter-again.ensures in
-    let step = stepped (M.opening m) (M.opening n) said.opening (M.ActsFor m) cpu (M.acts m) (M.acts n) in
+    let said = c.enter.ensures in
     let acts = said.acts cpu c.requires.fits.0 in
-    let is = c.in-Waiting.is in
-    let fits = subst (λ s. StageFits rules (M.opening m) (M.acts m) cpu s) is c.requires.fits.1 in
+    let legal = g.met.M.FairLock.legal c.enter.new.self cpu acts in
+    let act = Try cpu c.in-Waiting.lock said.adds.0 in
+    let was = rw c.in-Waiting.is at c.requires.fits.1 in
+    let edit_is = same_edit c.replace.result c.in-Waiting-replace.is (rw c.in-Waiting.is at c.replace.ensures.value) in
     record {
       fits = (
         acts,
-        tried_fits rules (step (g.met.M.FairLock.legal n cpu acts)) c.in-Waiting.lock c.in-Waiting.edit c.in-Waiting.ticket said.adds.0 said.adds.1
-            fits.0.1 c.requires.fits.0 fits.1 fits.2 c.enter-again.result said.hits
-            c.hit.new.self (hit_found c.in-Waiting.lock c.in-Waiting.edit c.in-Waiting.ticket c.enter-again.result c.hit.new.self
-            (subst (λ s. c.hit.new.self ≡ hit_by c.enter-again.result s) is c.hit.ensures)),
+        tried_fits rules said.opening legal c.in-Waiting.lock c.in-Waiting.edit c.in-Waiting.ticket said.adds.0 said.adds.1 was.0.1 c.requires.fits.0 was.1
+            was.2 (Some c.in-Some.block) c.in-Some.ensures.hits (Holding c.in-Waiting.lock c.in-Waiting-replace.edit c.in-Some.block)
+            (ap (λ e. Holding c.in-Waiting.lock e c.in-Some.block) edit_is),
       );
       cpu = refl;
       stays = record { opening = said.opening; site = said.site; room = said.room; acts = said.acts };
-      others = λ p other fits. (
-        said.acts p.cpu fits.0,
-        others_fit rules (step (g.met.M.FairLock.legal n p.cpu (said.acts p.cpu fits.0))) (Try cpu c.in-Waiting.lock said.adds.0) refl said.adds.1 p.cpu p.stage
-            other fits.0 fits.1,
-      );
-      holders = others_rest rules (step (g.met.M.FairLock.legal n cpu acts)) (Try cpu c.in-Waiting.lock said.adds.0) refl said.adds.1;
+      others = λ p other fits. (said.acts p.cpu fits.0, others_fit rules said.opening legal act refl said.adds.1 p.cpu p.stage other fits.0 fits.1);
+      holders = others_rest rules said.opening legal act refl said.adds.1;
     }
 
-pub returns-in-Waiting-clause-seen : goal.returns-in-Waiting-clause-seen
-returns-in-Waiting-clause-seen g c =
-    let M = g.M.FairLock in
-    let m = c.args.m.now in
-    let n = c.enter-again.new.self in
-    let cpu = c.args.self.now.cpu in
-    let said = c.enter-again.ensures in
-    let step = stepped (M.opening m) (M.opening n) said.opening (M.ActsFor m) cpu (M.acts m) (M.acts n) in
-    tried_grows g.M.Edit.SplitEdit.rules (step (g.met.M.FairLock.legal n cpu (said.acts cpu c.requires.fits.0))) c.in-Waiting.lock said.adds.0 said.adds.1
+pub returns-in-Waiting-replace-clause-seen : goal.returns-in-Waiting-replace-clause-seen
+returns-in-Waiting-replace-clause-seen g c =
+    unended (Try c.args.self.now.cpu c.in-Waiting.lock c.enter.ensures.adds.0) (λ past. refl) c.enter.ensures.adds.1
 
-pub returns-in-Waiting-clause-tries : goal.returns-in-Waiting-clause-tries
-returns-in-Waiting-clause-tries g c = λ step looked.
-    let M = g.M.FairLock in
-    let m = c.args.m.now in
-    let n = c.enter-again.new.self in
+pub returns-in-Waiting-replace-clause-tries : goal.returns-in-Waiting-replace-clause-tries
+returns-in-Waiting-replace-clause-tries g c = λ step looked.
+    let said = c.enter.ensures in
+    tried_again (g.met.M.FairLock.legal c.enter.new.self c.args.self.now.cpu (said.acts c.args.self.now.cpu c.requires.fits.0)) c.in-Waiting.lock said.adds.0
+    said.adds.1
+
+-- or it misses
+pub returns-in_default-clause-framed : goal.returns-in_default-clause-framed
+returns-in_default-clause-framed g c =
+    let rules = g.M.Edit.SplitEdit.rules in
     let cpu = c.args.self.now.cpu in
-    let said = c.enter-again.ensures in
-    let step = stepped (M.opening m) (M.opening n) said.opening (M.ActsFor m) cpu (M.acts m) (M.acts n) in
-    tried_again g.M.Edit.SplitEdit.rules (step (g.met.M.FairLock.legal n cpu (said.acts cpu c.requires.fits.0))) c.in-Waiting.lock said.adds.0 said.adds.1
+    let said = c.enter.ensures in
+    let acts = said.acts cpu c.requires.fits.0 in
+    let legal = g.met.M.FairLock.legal c.enter.new.self cpu acts in
+    let act = Try cpu c.in-Waiting.lock said.adds.0 in
+    let was = rw c.in-Waiting.is at c.requires.fits.1 in
+    record {
+      fits = (
+        acts,
+        tried_fits rules said.opening legal c.in-Waiting.lock c.in-Waiting.edit c.in-Waiting.ticket said.adds.0 said.adds.1 was.0.1 c.requires.fits.0 was.1
+            was.2 None c.in_default.ensures.hits c.args.self.now.stage c.in-Waiting.is,
+      );
+      cpu = refl;
+      stays = record { opening = said.opening; site = said.site; room = said.room; acts = said.acts };
+      others = λ p other fits. (said.acts p.cpu fits.0, others_fit rules said.opening legal act refl said.adds.1 p.cpu p.stage other fits.0 fits.1);
+      holders = others_rest rules said.opening legal act refl said.adds.1;
+    }
+
+pub returns-in_default-clause-seen : goal.returns-in_default-clause-seen
+returns-in_default-clause-seen g c =
+    unended (Try c.args.self.now.cpu c.in-Waiting.lock c.enter.ensures.adds.0) (λ past. refl) c.enter.ensures.adds.1
+
+pub returns-in_default-clause-tries : goal.returns-in_default-clause-tries
+returns-in_default-clause-tries g c = λ step looked.
+    let said = c.enter.ensures in
+    tried_again (g.met.M.FairLock.legal c.enter.new.self c.args.self.now.cpu (said.acts c.args.self.now.cpu c.requires.fits.0)) c.in-Waiting.lock said.adds.0
+    said.adds.1
 
 -- and no other section does anything
 pub returns-in-Out-clause-seen : goal.returns-in-Out-clause-seen

@@ -1,17 +1,15 @@
-use Rattle.table_machine.proofs.{Asking.at_word, Holding.store_asks, Holding.add_asks, Holding.free_adds, Holding.free_key}
+use Rattle.{std.proofs.Common.{Some, None}, table_machine.proofs.{Asking.free_asks, Holding.{free_adds, free_key}}}
 use Rattle.table_machine.proofs.keys.Key.free.Goals as goal
 
 pub store-requires : goal.store-requires
-store-requires g c = store_asks g.E.SplitEdit.rules g.K.TableWords.kind
-    (at_word _ _ g.met.K.TableWords.lawful _ _ _ _ _ _ c.shared.invariant.0.words_are _ _ _ c.self.invariant)
-    c.args.self.now c.args.shared.now c.args.lock c.requires.inside.0 c.args.block c.args.edit c.self.view_is c.shared.view_is c.requires.of c.requires.lock
-    c.requires.inside.1 c.requires.edited c.requires.allowed _ _ _ (cc) (cc) (cc) (cc)
+store-requires g c = free_asks g.E.SplitEdit.rules g.K.TableWords.kind g.met.K.TableWords.lawful _ _ _ _ _ _ c.shared.invariant.0.words_are _ _ _
+    c.self.invariant _ _ c.self.view_is c.shared.view_is c.requires.of c.args.lock c.requires.lock c.requires.inside.0 c.args.block c.args.edit
+    c.requires.inside.1 c.requires.edited c.requires.allowed _ _ (Some _) (cc) (cc) (cc) (cc)
 
 pub fetch_add-requires : goal.fetch_add-requires
-fetch_add-requires g c = add_asks g.E.SplitEdit.rules g.K.TableWords.kind
-    (at_word _ _ g.met.K.TableWords.lawful _ _ _ _ _ _ c.shared.invariant.0.words_are _ _ _ c.self.invariant)
-    c.args.self.now c.args.shared.now c.args.lock c.requires.inside.0 c.args.block c.args.edit c.self.view_is c.shared.view_is c.requires.of c.requires.lock
-    c.requires.inside.1 c.requires.edited c.requires.allowed _ _ (cc) (cc) (cc) (cc)
+fetch_add-requires g c = free_asks g.E.SplitEdit.rules g.K.TableWords.kind g.met.K.TableWords.lawful _ _ _ _ _ _ c.shared.invariant.0.words_are _ _ _
+    c.self.invariant _ _ c.self.view_is c.shared.view_is c.requires.of c.args.lock c.requires.lock c.requires.inside.0 c.args.block c.args.edit
+    c.requires.inside.1 c.requires.edited c.requires.allowed _ _ None (cc) (cc) (cc) (cc)
 
 pub invariant_of-self : goal.invariant_of-self
 invariant_of-self g c = search (free_key g.E.SplitEdit.rules c.self.inside.cpu c.self.inside.ticket c.self.inside.token.table_id c.self.inside.token.me c.args.lock

@@ -1,4 +1,4 @@
-use Rattle.table_machine.proofs.{Stepping.notes_split, Meeting.one_table, Meeting.has_words}
+use Rattle.table_machine.proofs.{Stepping.notes_split, Asking.one_table, Meeting.has_words}
 use Rattle.table_machine.proofs.keys.Key.notes.Goals as goal
 
 pub split_seat-requires : goal.split_seat-requires

@@ -1,5 +1,5 @@
 use Rattle.std.proofs.Common.{sym, ap, ◌∙◌}
-use Rattle.table_machine.proofs.{Stepping.notes_join, Meeting.one_table, Meeting.has_words, Meeting.meet_asks, Meeting.meet_reads}
+use Rattle.table_machine.proofs.{Stepping.notes_join, Asking.one_table, Meeting.{has_words, meet_asks, meet_reads}}
 use Rattle.table_machine.proofs.keys.Key.take_in.Goals as goal
 
 pub join_seat-requires : goal.join_seat-requires

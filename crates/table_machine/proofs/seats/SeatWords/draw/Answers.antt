@@ -1,5 +1,4 @@
-use Rattle.event_log.specs.declared.events.Event.TheVariants.{Draw}
-use Rattle.table_machine.proofs.Asking.{seat_adds}
+use Rattle.{event_log.specs.declared.events.Event.TheVariants.Draw, table_machine.proofs.Asking.seat_adds}
 use Rattle.table_machine.proofs.seats.SeatWords.draw.Goals as goal
 
 pub returns-clause-adds : goal.returns-clause-adds

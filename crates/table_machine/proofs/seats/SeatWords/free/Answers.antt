@@ -1,5 +1,4 @@
-use Rattle.event_log.specs.declared.events.Event.TheVariants.{Free}
-use Rattle.table_machine.proofs.Asking.{seat_adds}
+use Rattle.{event_log.specs.declared.events.Event.TheVariants.Free, table_machine.proofs.Asking.seat_adds}
 use Rattle.table_machine.proofs.seats.SeatWords.free.Goals as goal
 
 pub returns-clause-adds : goal.returns-clause-adds

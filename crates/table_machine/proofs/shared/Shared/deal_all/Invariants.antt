@@ -1,5 +1,5 @@
 use Rattle.std.proofs.Common.{◌≡◌, ◌-◌, []}
-use Rattle.table_machine.specs.{Views.viewed, Views.cpus_from, SeatViews.new_seat_views}
+use Rattle.table_machine.specs.{Views.{viewed, cpus_from}, SeatViews.new_seat_views}
 use Rattle.table_machine.proofs.shared.Shared.deal_all.Given as goal
 
 abbrev pub invariant-loop-cpu : goal.invariant-loop-cpu

@@ -1,6 +1,6 @@
-use Rattle.std.proofs.Common.{refl, subst, [], ◌≡◌}
-use Rattle.table_machine.specs.{Views.viewed, Views.cpus_from, SeatViews.IsOver, SeatViews.Gathered}
-use Rattle.table_machine.proofs.{Stepping.enters, Meeting.has_words, Returning.yield_more, Returning.no_more, Returning.all_tail}
+use Rattle.std.proofs.Common.{refl, [], ◌≡◌}
+use Rattle.table_machine.{specs.{Views.{viewed, cpus_from}, SeatViews.IsOver}, proofs.{Stepping.enters, Meeting.has_words, Returning.{yield_more, no_more}}}
+use Rattle.table_machine.proofs.Returning.{all_tail}
 use Rattle.table_machine.proofs.shared.Shared.gathered.Goals as goal
 
 pub load_new_seat-seat-requires : goal.load_new_seat-seat-requires
@@ -26,4 +26,4 @@ returns-clause-gathered g c =
     let all : c.loop-key.yielded ≡ c.args.keys.items =
     no_more c.loop-key.yielded c.loop-key.key-iterator.rest.items c.args.keys.items c.loop-key.key-iterator.rest.len c.loop-key.invariant.all
     c.loop-key.key-iterator.rest.ok.0 c.in-None.ensures.steps.0 in
-    subst (λ l. Gathered c.args.self.now.start c.loop-key.seat.me.0 l) all c.loop-key.invariant.gathered
+    rw all at c.loop-key.invariant.gathered

@@ -1,6 +1,4 @@
-use Rattle.std.proofs.Common.{sym, subst}
-use Rattle.thread_blocks.specs.Queues.{IsQueue}
-use Rattle.thread_blocks.proofs.Distinct.{none}
+use Rattle.{std.proofs.Common.{sym, subst}, thread_blocks.{specs.Queues.IsQueue, proofs.Distinct.none}}
 use Rattle.thread_blocks.proofs.lists.ThreadList.clear.Goals as goal
 
 pub invariant_of-self : goal.invariant_of-self

@@ -1,6 +1,4 @@
-use Rattle.std.proofs.Common.{sym, subst}
-use Rattle.thread_blocks.specs.Queues.{IsQueue}
-use Rattle.thread_blocks.proofs.Distinct.{none}
+use Rattle.{std.proofs.Common.{sym, subst}, thread_blocks.{specs.Queues.IsQueue, proofs.Distinct.none}}
 use Rattle.thread_blocks.proofs.lists.ThreadList.new.Goals as goal
 
 pub invariant_of-result : goal.invariant_of-result

@@ -1,6 +1,5 @@
 use Rattle.std.proofs.Common.{sym, subst, ◌∙◌}
-use Rattle.thread_blocks.specs.Queues.{IsQueue}
-use Rattle.thread_blocks.proofs.Distinct.{front_out, behind, first_known, first_once}
+use Rattle.thread_blocks.{specs.Queues.IsQueue, proofs.Distinct.{front_out, behind, first_known, first_once}}
 use Rattle.thread_blocks.proofs.lists.ThreadList.pop.Goals as goal
 
 pub invariant_of-self : goal.invariant_of-self

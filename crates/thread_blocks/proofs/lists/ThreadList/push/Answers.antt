@@ -1,7 +1,5 @@
 use Rattle.std.proofs.Common.{◌≡◌, ◌<◌, false, length, sym, subst, arith}
-use Rattle.event_log.specs.declared.ids.TheConstants.{THREADS}
-use Rattle.thread_blocks.specs.Queues.{is_in, IsQueue}
-use Rattle.thread_blocks.proofs.Distinct.{has_room, pushed}
+use Rattle.{event_log.specs.declared.ids.TheConstants.THREADS, thread_blocks.{specs.Queues.{is_in, IsQueue}, proofs.Distinct.{has_room, pushed}}}
 use Rattle.thread_blocks.proofs.lists.ThreadList.push.Goals as goal
 
 pub push-requires : goal.push-requires

@@ -1,6 +1,5 @@
 use Rattle.std.proofs.Common.{◌++◌, ◌∷◌, [], ap, ◌∙◌}
-use Rattle.thread_blocks.specs.Queues.{is_in}
-use Rattle.thread_blocks.proofs.Holding.{walk_held, held_walk}
+use Rattle.thread_blocks.{specs.Queues.is_in, proofs.Holding.{walk_held, held_walk}}
 use Rattle.thread_blocks.proofs.queues.ThreadQueue.push_in.Goals as goal
 
 pub link_behind-requires-clause-new : goal.link_behind-requires-clause-new

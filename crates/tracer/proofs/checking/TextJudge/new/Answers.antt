@@ -1,5 +1,4 @@
-use Rattle.std.proofs.Common.{ap}
-use Rattle.tracer.specs.Judging.{lines_in, verdict_from, verdict_of}
+use Rattle.{std.proofs.Common.ap, tracer.specs.Judging.{lines_in, verdict_from, verdict_of}}
 use Rattle.tracer.proofs.checking.TextJudge.new.Goals as goal
 
 pub returns-clause-judged : goal.returns-clause-judged

@@ -1,6 +1,5 @@
 use Rattle.std.proofs.Common.{◌+◌, Some, refl}
-use Rattle.tracer.specs.declared.checking.TextJudge.{TextJudge}
-use Rattle.tracer.proofs.PartLemmas.{one_taken, refused}
+use Rattle.tracer.{specs.declared.checking.TextJudge.TextJudge, proofs.PartLemmas.{one_taken, refused}}
 use Rattle.tracer.proofs.checking.TextJudge.take_lines.Goals as goal
 
 pub returns-in-Err-clause-judged : goal.returns-in-Err-clause-judged

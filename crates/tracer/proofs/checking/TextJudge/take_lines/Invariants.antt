@@ -1,6 +1,5 @@
 -- The rest of the part is still to be judged, and is shorter each time.
-use Rattle.std.proofs.Common.{length}
-use Rattle.tracer.proofs.PartLemmas.{IsTakenTo}
+use Rattle.{std.proofs.Common.length, tracer.proofs.PartLemmas.IsTakenTo}
 use Rattle.tracer.proofs.checking.TextJudge.take_lines.Given as goal
 
 abbrev pub invariant-loop-line : goal.invariant-loop-line

@@ -1,5 +1,4 @@
-use Rattle.std.proofs.Common.{◌≡◌, ℕ, List, ◌++◌, take, sym, ap, ◌∙◌, append_assoc}
-use Rattle.std.proofs.lemmas.List.{take-append-drop}
+use Rattle.std.proofs.{Common.{◌≡◌, ℕ, List, ◌++◌, take, sym, ap, ◌∙◌, append_assoc}, lemmas.List.take-append-drop}
 use Rattle.tracer.proofs.SinkLemmas.{appends_then}
 use Rattle.tracer.proofs.sinks.Sink.put.Goals as goal
 

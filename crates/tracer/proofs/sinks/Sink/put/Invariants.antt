@@ -1,5 +1,4 @@
-use Rattle.std.proofs.Common.{◌≡◌, ℕ, List, ◌++◌, length, false}
-use Rattle.std.specs.Io.KnownBytes.{Appends}
+use Rattle.std.{proofs.Common.{◌≡◌, ℕ, List, ◌++◌, length, false}, specs.Io.KnownBytes.Appends}
 use Rattle.tracer.proofs.sinks.Sink.put.Given as goal
 
 abbrev pub invariant-loop-rest : goal.invariant-loop-rest

@@ -1,6 +1,5 @@
 use Rattle.std.proofs.Common.{rules, ◌≡◌, ◌≤◌, All, Ok, Err, IfOk, IfErr, length, refl, sym, ap, subst, ◌∙◌, vec_capacity}
-use Rattle.cpu_workers.specs.{Reports.Both, Tasks.task_of}
-use Rattle.cpu_workers.proofs.Joining.{all_head, all_tail, came_back, map_grows, map_length, no_more, yield_more}
+use Rattle.cpu_workers.{specs.{Reports.Both, Tasks.task_of}, proofs.Joining.{all_head, all_tail, came_back, map_grows, map_length, no_more, yield_more}}
 use Rattle.cpu_workers.proofs.pool.fn.run_in.scope.Goals as goal
 
 pub loop-task-preserved-then-is_some : goal.loop-task-preserved-then-is_some

@@ -1,8 +1,7 @@
 use Rattle.std.proofs.Common.{◌≡◌, false, List, map, reverse, ap, sym, ◌∙◌, subst}
-use Rattle.event_log.specs.{declared.entries.Entry.Entry, declared.ids.CpuId.CpuId, Actions.phase, Sections.sections_in}
-use Rattle.layer_traits.specs.{BufferEffects.effects_in, Plans.is_in_section, Queues.buffer_sections, Queues.event_of}
-use Rattle.cpu.specs.Cpus.{of_cpu}
-use Rattle.cpu_workers.specs.{Callers.CallerView, Orders.IsTraceOf}
+use Rattle.{event_log.specs.{declared.{entries.Entry.Entry, ids.CpuId.CpuId}, Actions.phase, Sections.sections_in}, layer_traits.specs.BufferEffects.effects_in}
+use Rattle.{layer_traits.specs.{Plans.is_in_section, Queues.{buffer_sections, event_of}}, cpu.specs.Cpus.of_cpu, cpu_workers.specs.Callers.CallerView}
+use Rattle.cpu_workers.specs.Orders.{IsTraceOf}
 use Rattle.cpu_workers.proofs.workers.callers.Caller.into_machine.Goals as goal
 
 pub returns-clause-trace : goal.returns-clause-trace

@@ -1,10 +1,6 @@
-use Rattle.std.proofs.Common.{◌∷◌, [], List, length, reverse, ap, sym, ◌∙◌, subst, arith}
-use Rattle.std.proofs.lemmas.List.{reverse-append}
-use Rattle.event_log.specs.declared.{entries.Entry.Entry, ids.CpuId.CpuId}
-use Rattle.layer_traits.specs.{BufferEffects.opening_locks, BufferLaw.buffer_of, BufferLaw.entry_of, QueueBlocks.inner}
-use Rattle.cpu.specs.Cpus.{of_cpu}
-use Rattle.cpu_workers.specs.Calls.{Returned}
-use Rattle.cpu_workers.proofs.Making.{newest_carries}
+use Rattle.std.proofs.{Common.{◌∷◌, [], List, length, reverse, ap, sym, ◌∙◌, subst, arith}, lemmas.List.reverse-append}
+use Rattle.{event_log.specs.declared.{entries.Entry.Entry, ids.CpuId.CpuId}, layer_traits.specs.{BufferEffects.opening_locks, BufferLaw.{buffer_of, entry_of}}}
+use Rattle.{layer_traits.specs.QueueBlocks.inner, cpu.specs.Cpus.of_cpu, cpu_workers.{specs.Calls.Returned, proofs.Making.newest_carries}}
 use Rattle.cpu_workers.proofs.workers.callers.Caller.make.Goals as goal
 
 pub invariant_of-self : goal.invariant_of-self

@@ -1,7 +1,6 @@
 use Rattle.std.proofs.Common.{List, refl, ap, ◌∙◌, arith}
-use Rattle.event_log.specs.declared.ids.TheConstants.{THREADS}
-use Rattle.layer_traits.specs.{declared.call_states.CallState.CallState, BufferLaw.call_state_of, BufferLaw.no_call}
-use Rattle.cpu_workers.proofs.Making.{same_everywhere}
+use Rattle.{event_log.specs.declared.ids.TheConstants.THREADS, layer_traits.specs.{declared.call_states.CallState.CallState, BufferLaw.call_state_of}}
+use Rattle.{layer_traits.specs.BufferLaw.no_call, cpu_workers.proofs.Making.same_everywhere}
 use Rattle.cpu_workers.proofs.workers.callers.Caller.new.Goals as goal
 
 pub invariant_of-result : goal.invariant_of-result

@@ -1,9 +1,6 @@
 use Rattle.std.proofs.Common.{ap, sym, ◌∙◌, subst}
-use Rattle.event_log.specs.{declared.events.Event.TheVariants.Draw, History.Adds, WordsLog.cpu_of_event}
-use Rattle.layer_traits.specs.OneLock.{opened}
-use Rattle.table_machine.specs.SeatViews.{SeatView}
-use Rattle.cpu_workers.specs.Seating.{Block, Edit}
-use Rattle.cpu_workers.proofs.Acting.{Acts}
+use Rattle.{event_log.specs.{declared.events.Event.TheVariants.Draw, History.Adds, WordsLog.cpu_of_event}, layer_traits.specs.OneLock.opened}
+use Rattle.{table_machine.specs.SeatViews.SeatView, cpu_workers.{specs.Seating.{Block, Edit}, proofs.Acting.Acts}}
 use Rattle.cpu_workers.proofs.workers.seats.TowerSeatWords.draw.Goals as goal
 
 pub draw-requires-clause-cpu : goal.draw-requires-clause-cpu

@@ -1,9 +1,6 @@
 use Rattle.std.proofs.Common.{◌≡◌, sym, ◌∙◌, subst}
-use Rattle.cpu.specs.Table.Steps.{halted_at}
-use Rattle.cpu.proofs.{CpuStates.valid_cpu, PassSteps.current_within, CpuOverLayer.laws_of, CpuOverLayer.layered, CpuOverLayer.runs_home}
-use Rattle.cpu.proofs.{CpuOverLayer.observed_cpu, TableCalls.halted_read}
-use Rattle.cpu_workers.specs.Working.{IsPlanned, Working}
-use Rattle.cpu_workers.proofs.Planning.{own_reason, planned}
+use Rattle.cpu.{specs.Table.Steps.halted_at, proofs.{CpuStates.valid_cpu, PassSteps.current_within, CpuOverLayer.{laws_of, layered, runs_home, observed_cpu}}}
+use Rattle.{cpu.proofs.TableCalls.halted_read, cpu_workers.{specs.Working.{IsPlanned, Working}, proofs.Planning.{own_reason, planned}}}
 use Rattle.cpu_workers.proofs.workers.worker.Worker.halted.Goals as goal
 
 pub halted-requires : goal.halted-requires

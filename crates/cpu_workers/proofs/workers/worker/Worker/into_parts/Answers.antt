@@ -1,6 +1,4 @@
-use Rattle.std.proofs.Common.{subst}
-use Rattle.event_log.specs.declared.ids.CpuId.{CpuId}
-use Rattle.cpu_workers.specs.Working.{Working}
+use Rattle.{std.proofs.Common.subst, event_log.specs.declared.ids.CpuId.CpuId, cpu_workers.specs.Working.Working}
 use Rattle.cpu_workers.proofs.workers.worker.Worker.into_parts.Goals as goal
 
 pub returns-clause-owns : goal.returns-clause-owns

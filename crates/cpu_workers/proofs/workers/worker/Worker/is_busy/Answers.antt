@@ -1,9 +1,6 @@
 use Rattle.std.proofs.Common.{◌≡◌, ap, sym, ◌∙◌, subst}
-use Rattle.event_log.specs.{declared.ids.CpuId.CpuId, Actions.phase}
-use Rattle.event_log.proofs.Renaming.{phase_renamed}
-use Rattle.layer_traits.specs.Plans.{is_in_section}
-use Rattle.cpu.specs.Tower.Views.{name_of}
-use Rattle.cpu_workers.specs.Working.{Working, is_inside}
+use Rattle.{event_log.{specs.{declared.ids.CpuId.CpuId, Actions.phase}, proofs.Renaming.phase_renamed}, layer_traits.specs.Plans.is_in_section}
+use Rattle.{cpu.specs.Tower.Views.name_of, cpu_workers.specs.Working.{Working, is_inside}}
 use Rattle.cpu_workers.proofs.workers.worker.Worker.is_busy.Goals as goal
 
 pub returns : goal.returns

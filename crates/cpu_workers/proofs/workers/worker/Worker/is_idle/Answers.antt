@@ -1,6 +1,5 @@
 use Rattle.std.proofs.Common.{◌≡◌, ◌∙◌, ap, sym, subst}
-use Rattle.layer_traits.specs.Places.{Threads}
-use Rattle.cpu_workers.specs.{Idling.is_idle, Working.Working}
+use Rattle.{layer_traits.specs.Places.Threads, cpu_workers.specs.{Idling.is_idle, Working.Working}}
 use Rattle.cpu_workers.proofs.workers.worker.Worker.is_idle.Goals as goal
 
 pub returns : goal.returns

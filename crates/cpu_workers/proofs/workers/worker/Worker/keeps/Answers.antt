@@ -1,9 +1,6 @@
 use Rattle.std.proofs.Common.{ap, ◌∙◌, subst, map, reverse}
-use Rattle.event_log.specs.{Actions.AreLegal, Sections.sections_in}
-use Rattle.layer_traits.specs.{BufferEffects.effects_in, Queues.buffer_sections, Queues.event_of}
-use Rattle.cpu.specs.Cpus.{of_cpu}
-use Rattle.cpu.proofs.CpuOverLayer.{laws_of, layered, observed_cpu}
-use Rattle.cpu_workers.specs.{Orders.HasFollowed, Orders.IsTraceOf, Working.Working}
+use Rattle.{event_log.specs.{Actions.AreLegal, Sections.sections_in}, layer_traits.specs.{BufferEffects.effects_in, Queues.{buffer_sections, event_of}}}
+use Rattle.{cpu.{specs.Cpus.of_cpu, proofs.CpuOverLayer.{laws_of, layered, observed_cpu}}, cpu_workers.specs.{Orders.{HasFollowed, IsTraceOf}, Working.Working}}
 use Rattle.cpu_workers.proofs.Planning.{has_followed}
 use Rattle.cpu_workers.proofs.workers.worker.Worker.keeps.Goals as goal
 

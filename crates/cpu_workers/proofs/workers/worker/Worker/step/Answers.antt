@@ -1,8 +1,6 @@
 use Rattle.std.proofs.Common.{ap, sym, ◌∙◌, subst}
-use Rattle.event_log.specs.declared.ids.CpuId.{CpuId}
-use Rattle.layer_traits.specs.{BufferEffects.opening_locks, QueueBlocks.inner}
-use Rattle.cpu.specs.{Table.Steps.cpu_step, Tables.private, Tower.Composed.named}
-use Rattle.cpu_workers.proofs.Planning.{planned, step_behind}
+use Rattle.{event_log.specs.declared.ids.CpuId.CpuId, layer_traits.specs.{BufferEffects.opening_locks, QueueBlocks.inner}, cpu.specs.Table.Steps.cpu_step}
+use Rattle.{cpu.specs.{Tables.private, Tower.Composed.named}, cpu_workers.proofs.Planning.{planned, step_behind}}
 use Rattle.cpu_workers.proofs.workers.worker.Worker.step.Goals as goal
 
 pub invariant_of-self : goal.invariant_of-self

@@ -1,0 +1,79 @@
+//! The table that a queue lies in. No call takes memory or waits.
+
+ghost use Rattle.std.specs.Prelude.{◌≡◌, ◌+◌, ◌<◌, ◌≤◌, [], IfSome, length};
+ghost use Rattle.{event_log.specs.declared.ids.TheConstants.THREADS, thread_blocks.specs.Links.{at, Changed, Hold}};
+
+use event_log::{Cells, THREADS, Ticks, Tid};
+use std::sync::ledger::Ledger;
+
+/// What the table says of a node: the node behind it, the one before it, and whether it stands in
+/// the queue. A node is a thread, or `None`: the end, which is the node before the first thread and
+/// behind the last. So there is no case for an empty queue, a first thread or a last one.
+#[derive(Clone, Copy)]
+pub struct Node {
+    pub next: Option<Tid>,
+    pub prev: Option<Tid>,
+    pub is_member: bool,
+}
+
+/// The end's own node, how many threads stand in the queue, and a node for each thread. What a call
+/// reads and writes of a node lies side by side, and the nodes of the first threads beside the end's,
+/// so few cache lines pass from processor to processor.
+#[derive(Drop)]
+pub struct Nodes {
+    pub end: Node,
+    pub count: usize,
+    pub cells: Cells<Node, THREADS>,
+}
+
+impl Nodes {
+    /// The table of the empty queue.
+    pub fn empty() -> Nodes
+        ensures { Hold result [] }
+    {
+        let untouched = Node {
+            next: None,
+            prev: None,
+            is_member: false,
+        };
+        Nodes {
+            end: untouched,
+            count: 0,
+            cells: Cells::filled(untouched),
+        }
+    }
+
+    /// What the table says of this node. At most one tick.
+    ///
+    /// Requires: there is a cell for each of the [`THREADS`] threads. A `node` that is a thread has
+    /// a number less than [`THREADS`].
+    pub fn get<L: Ledger>(&self, node: Option<Tid>, ticks: &mut Ticks<L>) -> Node
+        requires length { length self.now.cells ≡ THREADS }
+        requires node { IfSome node (λ t. t.0 < THREADS) }
+        ensures value { result ≡ at self.now node }
+        ensures ticks { ticks.new ≤ ticks.old + 1 }
+    {
+        match node {
+            None => self.end,
+            Some(t) => self.cells.get(usize::from(t.0), ticks),
+        }
+    }
+
+    /// Has the table say `value` of this node, and changes no other node. At most one tick.
+    ///
+    /// Requires: there is a cell for each of the [`THREADS`] threads. A `node` that is a thread has
+    /// a number less than [`THREADS`].
+    pub fn set<L: Ledger>(&mut self, node: Option<Tid>, value: Node, ticks: &mut Ticks<L>)
+        requires length { length self.old.cells ≡ THREADS }
+        requires node { IfSome node (λ t. t.0 < THREADS) }
+        ensures changed { Changed (at self.old) (at self.new) node value }
+        ensures length { length self.new.cells ≡ THREADS }
+        ensures count { self.new.count ≡ self.old.count }
+        ensures ticks { ticks.new ≤ ticks.old + 1 }
+    {
+        match node {
+            None => self.end = value,
+            Some(t) => self.cells.set(usize::from(t.0), value, ticks),
+        }
+    }
+}
