@@ -425,7 +425,7 @@ done
 tests=crates/plain_layers/out/plain_layers_tests
 if [ -x "$tests" ]; then
   program=$(realpath "$tests")
-  row 0 $'\ntest result: ok\n' '' "$one_stack; mctower count_tests::after_a_refused_allocation_or_start_the_number_is_0"
+  row 0 $'\ntest result: ok\n' '' "$one_stack; mctower tests::counts::after_a_refused_allocation_or_start_the_number_is_0"
 fi
 
 [ $((passed + failed)) -gt 0 ] || { echo "edge: build the program first: (cd crates/mctower && rt run -- count --cpus 1 --times 1)"; exit 1; }

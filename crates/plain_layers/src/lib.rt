@@ -38,40 +38,4 @@ pub use sleepers::{
 pub use wholes::whole;
 
 #[cfg(test)]
-mod attempt_tests;
-#[cfg(test)]
-mod backoff;
-#[cfg(test)]
-mod backoff_tests;
-#[cfg(test)]
-mod beneath_tests;
-#[cfg(test)]
-mod buffer_tests;
-#[cfg(test)]
-mod cond_sections;
-#[cfg(test)]
-mod cond_tests;
-#[cfg(test)]
-mod count_tests;
-#[cfg(test)]
-mod ipc_tests;
-#[cfg(test)]
-mod lock_sections;
-#[cfg(test)]
-mod lock_tests;
-#[cfg(test)]
-mod native_tests;
-#[cfg(test)]
-mod openings;
-#[cfg(test)]
-mod queue_tests;
-#[cfg(test)]
-mod sched_tests;
-#[cfg(test)]
-mod sleep_tests;
-#[cfg(test)]
-mod system_tests;
-#[cfg(test)]
-mod texts;
-#[cfg(test)]
-mod worker_tests;
+mod tests;

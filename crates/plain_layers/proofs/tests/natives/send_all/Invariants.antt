@@ -1,0 +1,11 @@
+use Rattle.std.proofs.Common.{◌≡◌, ◌≤◌, length}
+use Rattle.{event_log.specs.Streams.{sent_to, taken_from}, cpu_workers.specs.Callers.IsSameCaller}
+use Rattle.plain_layers.proofs.tests.natives.send_all.Given as goal
+
+abbrev pub invariant-loop-i : goal.invariant-loop-i
+invariant-loop-i g l = record {
+  same : IsSameCaller l.initial.caller l.caller;
+  sent : l.sent.items ≡ sent_to 0 l.caller.calls;
+  taken : taken_from 0 l.caller.calls ≡ taken_from 0 l.initial.caller.calls;
+  count : length l.sent.items ≤ l.i;
+}

@@ -1,0 +1,23 @@
+//! Tests of other crates, which stand here since a crate with any test is proved twice: of each layer over
+//! its real machine and over the one-step machines, of systems, of workers, natives and counts, and of what
+//! no run of the program shows of the lowest crates.
+
+mod attempts;
+mod backoff;
+mod backoff_systems;
+mod beneath;
+mod buffers;
+mod calls;
+mod cond_sections;
+mod conds;
+mod counts;
+mod lock_sections;
+mod locks;
+mod natives;
+mod openings;
+mod queues;
+mod scheds;
+mod sleeps;
+mod systems;
+mod texts;
+mod workers;
