@@ -105,7 +105,8 @@ module _ (site : Site) (u : Tid) (f : Effect) (known : IsSome (slice_get site.se
 
     -- the thread as the table has it: its section is done
     threads_are : (next : Stage) → thread_from (here stage) None None true e g ≡ in_call out next
-        → settled setup (parts (Some t) ready None (threads out) trace) ≡ settled setup (parts (Some t) ready None (slice_set (threads out) t.0 (in_call out next)) trace)
+        → settled setup (parts (Some t) ready None (threads out) trace)
+        ≡ settled setup (parts (Some t) ready None (slice_set (threads out) t.0 (in_call out next)) trace)
     threads_are next same =
         ap (λ p. settled setup (parts (Some t) ready None p.threads trace))
         (private_here runner (Some u) (Some out) trace (here stage) None None is is_slept is_waits)
@@ -151,4 +152,5 @@ module _ (site : Site) (u : Tid) (f : Effect) (known : IsSome (slice_get site.se
       line out Releases is _ _ sends_released
       (ap (λ x. parts (Some t) ready None (slice_set (threads out) t.0 (record { guest = x; call = None; ended = e })) trace)
       (grind arith)
-      ∙ sym (threads_are out Releases is Idle refl ∙ returns setup c ready (threads out) trace t g e (long out) (call_from call position (Some f) Releases) ready trace))
+      ∙ sym (threads_are out Releases is Idle refl
+      ∙ returns setup c ready (threads out) trace t g e (long out) (call_from call position (Some f) Releases) ready trace))

@@ -22,7 +22,8 @@ site_keeps : (site : Site) → Rest site.t site.slept site.waits site.call_state
     → call_state_of site.call_states site.t ≡ call_state_at site.caller stage effect
     → PlanPreserves site.setup site.c (fifo_plan site.setup.homes site.c site.t site.call (part_at site.runner None None))
 site_keeps site others {stage} {effect} given fits is =
-    rw (begun_plan site.setup site.c site.t site.call (part_at site.runner None None) given is) (section_keeps site effect (had_at site stage effect given is) others stage given fits)
+    rw (begun_plan site.setup site.c site.t site.call (part_at site.runner None None) given is)
+    (section_keeps site effect (had_at site stage effect given is) others stage given fits)
 
 module _ (caller : Caller) (others : Rest caller.t caller.slept caller.waits caller.call_states) where
   open caller use {setup, c, t, ready, ended, slept, waits as waiting, call_states, call, position, in_call_states, in_slept, in_waits}

@@ -153,7 +153,8 @@ module _ (site : Site) (effect : Option Effect) (is_effect : HasHad site effect)
   guests_by answer = grind (arith, set-get_or)
 
   -- what a poll leaves after which thread t runs on
-  abbrev pub left_on : (hand2 : Option Tid) (ready2 : List Tid) (deferred2 : Option TowerOut) (state2 : CallState) (answer : Option Reply) → Left Buffering Reply
+  abbrev pub left_on : (hand2 : Option Tid) (ready2 : List Tid) (deferred2 : Option TowerOut) (state2 : CallState) (answer : Option Reply)
+      → Left Buffering Reply
   left_on hand2 ready2 deferred2 state2 answer =
       record { own = own_at (Some t) hand2 ready2 ended deferred2 slept waits (slice_set call_states t.0 state2); answer = answer }
 
@@ -392,7 +393,8 @@ module _ (site : Site) (had : HasHad site None) where
       by_home site None had u (waking_so side u) (woken_to u) (waits_by side u) (λ hand. hand u refl) known
       ∙ sym (by_table site None had Waits (wait_out side (Some u)) (k site None had AcquiresAgain) trace refl)
 
-  wait_now : (side : Side) (o : Option Tid) → HandIsKnown setup (waited side o).own → after site None had (waited side o) ≡ by_answer site None had Waits (wait_out side o)
+  wait_now : (side : Side) (o : Option Tid) → HandIsKnown setup (waited side o).own
+      → after site None had (waited side o) ≡ by_answer site None had Waits (wait_out side o)
   wait_now Receivers None known = wait_alone Receivers
   wait_now Senders None known = wait_alone Senders
   wait_now Receivers (Some u) known = wait_waking Receivers u known
@@ -465,7 +467,8 @@ planned site had (releases f) = grind (arith, beneath_is)
 
 -- its thread is as the table has it
 pub stands_as : (site : Site) (effect : Option Effect) (had : HasHad site effect) (stage : Stage) → Stands stage None None None None effect
-    → thread_from (call_state site effect had stage) None None false (e site effect had) (g site effect had) ≡ with_call site effect had (k site effect had stage)
+    → thread_from (call_state site effect had stage) None None false (e site effect had) (g site effect had)
+    ≡ with_call site effect had (k site effect had stage)
 stands_as site effect had stage given = grind arith
 
 -- the table asks for the section under its own name
