@@ -1,6 +1,6 @@
 -- A message call that goes on for several steps: each poll and each look of it is a step of its CPU.
-use Rattle.std.proofs.Common.{◌≡◌, ◌++◌, ◌<◌, ◌≤◌, ◌+◌, ◌&&◌, ℕ, Bool, true, false, not, List, length, Option, Some, None, option_map, refl, ap, sym, ◌∙◌}
-use Rattle.std.proofs.{Common.{subst, arith, if◌then◌else◌, vec_capacity}, lemmas.List.{append-nil, length-set, Folds.list_all_at}}
+use Rattle.std.proofs.Common.{◌≡◌, ◌++◌, ◌<◌, ◌≤◌, ◌+◌, ℕ, Bool, true, false, not, List, length, Option, Some, None, option_map, refl, ap, sym, ◌∙◌}
+use Rattle.std.proofs.{Common.{subst, arith, vec_capacity}, lemmas.List.{append-nil, length-set, Folds.list_all_at}}
 use Rattle.{event_log.specs.declared.{entries.Entry.Entry, ids.{CpuId.CpuId, Tid.Tid}}, guest.specs.declared.instructions.Instruction.Instruction}
 use Rattle.{guest.specs.State.State, layer_traits.specs.declared.{call_layers.CallLayer.Ghosts, calls.{Call.Call, Effect.Effect, ReplyKind.ReplyKind}}}
 use Rattle.layer_traits.specs.{declared.{calls.Reply.Reply, call_states.CallState.CallState}, Places.one_if, BufferLaw.{answer_in, begun_of, buffer_of}}

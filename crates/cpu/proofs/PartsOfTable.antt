@@ -1,13 +1,14 @@
 -- What a system tells is what the step table has: its blocks, by the actions of all CPUs, and each CPU's threads.
-use Rattle.std.proofs.Common.{◌≡◌, inl, ℕ, ◌<◌, List, [], length, map, Option, Some, option_map, slice_index, refl, ap, sym, ◌∙◌, arith}
-use Rattle.{std.specs.Prelude.slice_get, event_log.specs.declared.ids.{BufId.BufId, CpuId.CpuId, LockId.{LockId, TheVariants.{Buffer as AtBuffer, Pending}}}}
-use Rattle.event_log.{specs.{Actions.Action, Buffers.items_of, Runs.is_closed, Sections.{block_after, sections_in}}, proofs.Renaming.sections_in_renamed}
+use Rattle.std.proofs.Common.{◌≡◌, inl, ℕ, ◌<◌, List, [], length, map, Option, Some, option_map, slice_index, refl, ap, sym, ◌∙◌, arith, subst, true}
+use Rattle.std.specs.Prelude.{slice_get}
+use Rattle.event_log.specs.{declared.ids.{BufId.BufId, CpuId.CpuId, LockId.{LockId, TheVariants.{Buffer as AtBuffer, Pending}}, Tid.Tid}, Actions.Action}
+use Rattle.event_log.{specs.{Buffers.{items_of, IsAllowedEffect}, Runs.is_closed, Sections.{block_after, sections_in}}, proofs.Renaming.sections_in_renamed}
 use Rattle.layer_traits.specs.{Acted.{ItemsAre, MovesAre, guarded, owner_after}, BufferEffects.contents_of, Places.pending_by}
 use Rattle.{layer_traits.proofs.PlanRenaming.block_viewed, cpu.specs.{Claims.{CpuShown, Shown, waiters_by, buffer_at, no_waiters}, Sound.IsSetupFor}}
-use Rattle.cpu.specs.{Sound.SoundByTable, Table.{Blocks.OfPending, Edits.{edited, kernel}, Setups.{Setup, opening as table_opening, opening_buffer}}}
-use Rattle.cpu.specs.{Table.Steps.block_at, Tables.bare, Observed.{BufferIsObserved, HasBuffer}, Tower.{Composed.{OpensAs, named}, Views.TowerBlock}}
-use Rattle.cpu.{specs.Tower.Views.{TowerName, answer_view, buffer_view, name_of, tower, view}, proofs.{ListReads.listed_there, ReachedSystems.Observed}}
-use Rattle.cpu.proofs.{ReachedSystems.shown_in, Tower.{Polls.opens_alike, SectionViews.tables_agree}}
+use Rattle.cpu.specs.{Sound.SoundByTable, Table.{Blocks.{OfPending, stands_in}, Edits.{edited, kernel, on_side}, Setups.{Setup, opening as table_opening}}}
+use Rattle.cpu.specs.{Table.{Setups.opening_buffer, Steps.block_at}, Tables.bare, Observed.{BufferIsObserved, HasBuffer}, Tower.Composed.{OpensAs, named}}
+use Rattle.cpu.{specs.Tower.Views.{TowerBlock, TowerName, answer_view, buffer_view, name_of, tower, view}, proofs.ListReads.listed_there}
+use Rattle.cpu.proofs.{ReachedSystems.{Observed, shown_in}, Tower.{Polls.opens_alike, SectionViews.tables_agree}}
 
 -- the table's block of a lock is the view of the layers'
 pub block_read : (setup : Setup) (opening : LockId → Option TowerBlock) (acts : List (Action TowerName)) (lock : LockId)
@@ -46,5 +47,10 @@ module _ (setup : Setup) (m : Observed) (c : CpuId) (opening : LockId → Option
           buffer = buffer_view held.lock;
           there = there;
           told = told;
-          awake = grind (arith, told, sound.awake setup is (buffer_at b) (buffer_view held.lock) there);
+          awake = record {
+            on = λ side free t m is_front waits e asks allowed.
+                (sound.awake setup is (buffer_at b) (buffer_view held.lock) there).on side (sym told.owner ∙ free) t m is_front
+                (subst (λ (l : List Tid). stands_in t l ≡ true) (λ i. on_side side (told.receivers i) (told.senders i)) waits) e asks
+                (subst (λ x. x) (λ i. IsAllowedEffect e (told.closed i) (told.capacity i) (told.items i) m) allowed);
+          };
         }

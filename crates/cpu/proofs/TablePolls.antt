@@ -116,36 +116,17 @@ module _ (cpu : TabledCpu) where
     free_so : call_state.stage ≡ at_stage.Idle → IsFree own (states guests) t
     free_so at_idle =
         let rest = at_rest _ _ _ _ _ _ (tabled.part.mine t polls.runs) at_idle in
-        record {
-          current = polls.runs;
-          hand = rest.hand;
-          deferred = rest.deferred;
-          slept = rest.slept;
-          waits = rest.waits;
-          at_idle = at_idle;
-          in_guests = in_guests;
-          in_call_states = subst (λ n. t.0 < n) (sym tabled.part.call_states) small;
-          in_slept = subst (λ n. t.0 < n) (sym tabled.part.slept) small;
-          in_waits = subst (λ n. t.0 < n) (sym tabled.part.waits) small;
-        }
+        let long = λ (n : ℕ) (is : n ≡ THREADS). subst (λ m. t.0 < m) (sym is) small in
+        assumption (rest, polls.runs, at_idle, in_guests, long _ tabled.part.call_states, long _ tabled.part.slept, long _ tabled.part.waits)
 
     begins_so : (setup : Setup) → IsSetupOf setup homes caps guests limit → call_state.stage ≡ at_stage.Idle → IsBeginning setup own (states guests) t c
     begins_so setup of at_idle =
-        let free = free_so at_idle in
-        record {
-          current = free.current;
-          hand = free.hand;
-          deferred = free.deferred;
-          slept = free.slept;
-          waits = free.waits;
-          at_idle = at_idle;
-          at = subst (λ x. x) (λ i. AsksFor (next_of (sym (of.programs_are t g polls.at) i) (sym (states_at guests t.0 g polls.at at_start) i))
-              (sym (states_at guests t.0 g polls.at at_start) i) c) (asks_for (next_of g.program g.thread) g.thread c polls.asks);
-          in_guests = free.in_guests;
-          in_call_states = free.in_call_states;
-          in_slept = free.in_slept;
-          in_waits = free.in_waits;
-        }
+        assumption (
+          free_so at_idle,
+          subst (λ x. x)
+              (λ i. AsksFor (next_of (sym (of.programs_are t g polls.at) i) (sym (states_at guests t.0 g polls.at at_start) i))
+              (sym (states_at guests t.0 g polls.at at_start) i) c) (asks_for (next_of g.program g.thread) g.thread c polls.asks),
+        )
 
     -- a call that has not begun has no section under way
     outside_so : (inside : Bool) → (under_way ≡ None → inside ≡ false) → call_state.stage ≡ at_stage.Idle → inside ≡ false

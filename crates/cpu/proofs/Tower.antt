@@ -3,7 +3,6 @@ pub mod Callers
 pub mod ChangedThread
 pub mod SettledAnswers
 pub mod SectionLines
-pub mod Composition
 pub mod Chains
 pub mod HandLines
 pub mod Plans

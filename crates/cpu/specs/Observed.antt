@@ -2,10 +2,11 @@
 use Rattle.std.specs.Prelude.{◌≡◌, ℕ, ◌<◌, ◌≤◌, true, false, List, [], length, Some, None, slice_get, slice_index, slice_index_or}
 use Rattle.event_log.specs.declared.{entries.Kind.Kind, ids.{BufId.BufId, LockId.TheVariants.{Buffer as AtBuffer, Pending}, Tid.Tid, TheConstants.THREADS}}
 use Rattle.event_log.specs.{declared.ids.CpuId.CpuId, Actions.phase, Buffers.{IsAllowedEffect, items_of}, Messages.Message, Runs.{Group, Receives, Sends}}
-use Rattle.{event_log.specs.Runs.group_of, layer_traits.specs.{declared.calls.Place.Place, Places.pending_by, Plans.is_in_section}}
+use Rattle.{event_log.specs.Runs.group_of, layer_traits.specs.{declared.{calls.Place.Place, locked.Side.Side}, Places.pending_by, Plans.is_in_section}}
 use Rattle.{thread_blocks.specs.Queues.is_in, cpu.specs.{Claims.{CpuShown, IsPlaceOf, Shown, waiters_at, buffer_at}, Cpus.halted_at as own_halted_at}}
 use Rattle.cpu.specs.{Sound.IsSetupFor, Systems.whole_of, Wakeups.Quiet.{IsLive, IsNextEffect, IsStuck}, Table.Blocks.{Buffer, OfBuffer, OfPending, front}}
 use Rattle.cpu.specs.Table.{Blocks.stands_in, Setups.{Private, Setup, home_of, stands_at, thread_at}, Steps.{Whole, block_at, cpu_numbered, halted_at}}
+use Rattle.cpu.specs.Table.Edits.{line_of, on_side}
 use Rattle.layer_traits.specs.declared.calls.Place.TheVariants as place
 
 -- CPU c of the table has a private state of which this holds
@@ -57,10 +58,9 @@ AllowsNow s b e m = IsAllowedEffect e (slice_index_or s.closed b false) (slice_i
 -- no wake-up is lost at buffer b, of what the system tells: while nobody owns its lock, the first of neither line waits although the buffer
 -- allows an effect of its call
 pub record IsAwake (s : Shown) (b : ℕ) (k : Buffer) : Type 0 where
-  pub senders : slice_index_or s.owners b None ≡ None → (t : Tid) (m : Message) → front k.send_line ≡ Some t
-      → stands_in t (waiters_at s b).senders ≡ true → (e : Kind) → group_of e ≡ Sends → AllowsNow s b e m → ⊥
-  pub receivers : slice_index_or s.owners b None ≡ None → (t : Tid) (m : Message) → front k.receive_line ≡ Some t
-      → stands_in t (waiters_at s b).receivers ≡ true → (e : Kind) → group_of e ≡ Receives → AllowsNow s b e m → ⊥
+  pub on : (side : Side) → slice_index_or s.owners b None ≡ None → (t : Tid) (m : Message) → front (line_of side k) ≡ Some t
+      → stands_in t (on_side side (waiters_at s b).receivers (waiters_at s b).senders) ≡ true
+      → (e : Kind) → group_of e ≡ on_side side Receives Sends → AllowsNow s b e m → ⊥
 
 -- the table has buffer b, and it is told as it is
 pub record HasBuffer (setup : Setup) (s : Shown) (b : ℕ) : Type 0 where

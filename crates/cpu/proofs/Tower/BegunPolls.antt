@@ -7,8 +7,8 @@ use Rattle.layer_traits.specs.{declared.call_states.Stage.TheVariants.{Idle, Acq
 use Rattle.{layer_traits.specs.BufferLaw.{begun_at, fifo_plan, going, going_at, plan_at, call_state_of}, cpu.specs.Table.Setups.{Private, new_thread}}
 use Rattle.cpu.specs.{Table.{Setups.{program_of, thread_at}, Choice.{Goes, choice}, Steps.{cpu_step, halted_at}}, Tower.{Views.tower, Privates.guest_at}}
 use Rattle.cpu.specs.Tower.{Privates.{private_after, private_of, thread_of, threads_in, tid}, Composed.{AsksFor, HandIsKnown, IsBeginning, IsGoing, IsLine}}
-use Rattle.cpu.{specs.Tower.Composed.{waits, named}, proofs.Tower.{Callers.{HasRoom, Site, awake, caller_in}, ChangedThread.{numbered_at, own_at, part_at}}}
-use Rattle.cpu.proofs.Tower.{SectionLines.{HasHad, from, own}, Composition.asks_line, Plans.plans_are_lines, PolledSystem.{Polled, Way}, Polls.begins_so}
+use Rattle.cpu.{specs.Tower.Composed.{asks, named}, proofs.Tower.{Callers.{HasRoom, Site, awake, caller_in}, ChangedThread.{numbered_at, own_at, part_at}}}
+use Rattle.cpu.proofs.Tower.{SectionLines.{HasHad, from, own}, SectionLines.section_line, Plans.plans_are_lines, PolledSystem.{Polled, Way}, Polls.begins_so}
 use Rattle.cpu.proofs.Tower.Polls.{choice_current, choice_hand, line_is_step, step_goes}
 
 -- the table's thread of a number
@@ -89,7 +89,7 @@ module _ (polled : Polled) (own : Buffering) (guests : List State) (trace : List
       let q : Private = from site None had Acquires in
       let plan = ap (λ s. plan_at setup.homes c t call (going_at s (call_state_of own.call_states t) call).stage
       (going_at s (call_state_of own.call_states t) call) pieces) beginning.at_idle in
-      let line = subst (λ x. IsLine setup c q x (private_after setup c t call pieces guests trace)) (sym plan) (asks_line site had) in
+      let line = subst (λ x. IsLine setup c q x (private_after setup c t call pieces guests trace)) (sym plan) (section_line site None had Acquires asks tt) in
       let way : Way Reply polled = record {
         p = p;
         q = q;

@@ -1,17 +1,17 @@
 -- The plan of a begun call is a line of the table: where its caller neither slept nor waited; and where it did, the poll goes on with the
 -- next section.
-use Rattle.std.proofs.Common.{◌≡◌, ◌≢◌, ℕ, ◌<◌, false, ◌&&◌, List, length, get_or, slice_set, Option, Some, None, is_some, refl, ap, sym, ◌∙◌, subst, arith}
-use Rattle.{std.proofs.lemmas.{Bool.ne_eqb, List.{get_or-set_same, get_or-set_other, length-set, set-get_or}}, thread_blocks.proofs.Members.same_tid_self}
-use Rattle.{thread_blocks.specs.Queues.is_in, event_log.specs.declared.{entries.Entry.Entry, ids.{BufId.BufId, CpuId.CpuId, Tid.Tid}}, guest.specs.State.State}
-use Rattle.{guest.specs.State.at_start, layer_traits.specs.declared.calls.{Call.Call as TowerCall, Effect.Effect, Reply.Reply}}
-use Rattle.layer_traits.specs.declared.{buffer_edits.{BufferEdit.BufferEdit, BufferOut.BufferOut}, call_states.{CallState.CallState, Stage.Stage}}
-use Rattle.layer_traits.specs.declared.call_states.Stage.TheVariants.{Acquires, Enters, Tries, Waits, AcquiresAgain, Signals, SignalsOwn, Releases}
-use Rattle.layer_traits.specs.{BufferProtocol.buffer_rules, BufferLaw.{BufferPlan, Buffering, buffer_of, fifo_plan, going, plan_at, no_call, call_state_of}}
-use Rattle.{layer_traits.specs.{Conditions.CvCall, CvLaw.{Waiting, cv_plan}, QLockLaw.slept_for, QLocking.lock_moves, Plans.Plan}, cpu.specs.Table.Setups.Setup}
-use Rattle.cpu.specs.Tower.{Views.{TowerAnswer, TowerName, TowerOut}, Composed.{IsLine, IsLined}, Privates.{guest_at, private_after, private_of, thread_from}}
-use Rattle.cpu.{specs.Tower.Privates.tid, proofs.Tower.{Callers.{Caller, Runner, Site, at_next, awake, call_state_at}, ChangedThread.{changed, goes, own_at}}}
-use Rattle.cpu.proofs.Tower.{ChangedThread.{part_at, parts, threads_at}, SectionLines.{HasHad, after, e, from, g, own, call_state, threads, with_call, k}}
-use Rattle.cpu.proofs.Tower.Composition.{asks_line, asks_again_line, enters_line, tries_line, waits_line, signals_line, own_signals_line, releases_line}
+use Rattle.std.proofs.Common.{◌≡◌, ◌≢◌, ℕ, ◌<◌, false, ◌&&◌, List, get_or, slice_set, Option, Some, None, is_some, refl, ap, sym, ◌∙◌, subst, arith}
+use Rattle.std.proofs.lemmas.{Bool.ne_eqb, List.{get_or-set_same, get_or-set_other, length-set, set-get_or}}
+use Rattle.{thread_blocks.{proofs.Members.same_tid_self, specs.Queues.is_in}, event_log.specs.declared.{entries.Entry.Entry, ids.{BufId.BufId, CpuId.CpuId}}}
+use Rattle.{event_log.specs.declared.ids.Tid.Tid, guest.specs.State.{State, at_start}, layer_traits.specs.declared.calls.Call.Call as TowerCall}
+use Rattle.layer_traits.specs.declared.{calls.Effect.Effect, buffer_edits.{BufferEdit.BufferEdit, BufferOut.BufferOut}, call_states.CallState.CallState}
+use Rattle.layer_traits.specs.{declared.call_states.Stage.{Stage, TheVariants.{Acquires, Enters, Tries, Waits, AcquiresAgain}}, BufferProtocol.buffer_rules}
+use Rattle.layer_traits.specs.{BufferLaw.{Buffering, buffer_of, fifo_plan, going, plan_at, no_call, call_state_of, going_at}, Conditions.CvCall, CvLaw.Waiting}
+use Rattle.{layer_traits.specs.{CvLaw.cv_plan, QLockLaw.slept_for, QLocking.lock_moves, Plans.Plan}, cpu.specs.{Table.Setups.Setup, Tower.Views.TowerAnswer}}
+use Rattle.cpu.specs.Tower.{Views.{TowerName, TowerOut}, Composed.{IsLine, IsLined, Stands, FitsStage, enters, tries, asks_again}, Privates.guest_at}
+use Rattle.cpu.{specs.Tower.Privates.{private_after, private_of, thread_from, tid}, proofs.Tower.Callers.{Caller, Runner, Site, at_next, awake, call_state_at}}
+use Rattle.cpu.proofs.Tower.{ChangedThread.{changed, goes, own_at, part_at, parts, threads_at}, SectionLines.{HasHad, after, own, call_state, threads, plan}}
+use Rattle.cpu.proofs.Tower.SectionLines.{section_line, stands_as}
 
 -- the plan of a poll of this call is a line of the table
 abbrev pub LineOf : Setup → CpuId → Tid → TowerCall → Buffering → List State → List Entry → Type 0
@@ -40,63 +40,36 @@ pub fifo_at : (setup : Setup) (c : CpuId) (t : Tid) (call : TowerCall) (own : Bu
     → fifo_plan setup.homes c t call own ≡ plan_at setup.homes c t call (going call_state call).stage (going call_state call) own
 fifo_at setup c t call own call_state is = ap (λ x. plan_at setup.homes c t call (going x call).stage (going x call) own) is
 
--- a line of a begun call
-module _ (site : Site) (effect : Option Effect) (had : HasHad site effect) (stage : Stage)
-    (is : call_state_of site.call_states site.t ≡ call_state site effect had stage) where
-  pub going_line : thread_from (call_state site effect had stage) None None false (e site effect had) (g site effect had)
-      ≡ with_call site effect had (k site effect had stage)
-      → (plan : BufferPlan Reply)
-      → plan_at site.setup.homes site.c site.t site.call (going (call_state site effect had stage) site.call).stage (going
-      (call_state site effect had stage) site.call)
-      (own site effect had) ≡ plan
-      → IsLine site.setup site.c (from site effect had stage) plan (after site effect had)
-      → LineOf site.setup site.c site.t site.call (own site effect had) site.guests site.trace
-  going_line same plan is_plan line =
-      let here = private_here site.runner None None site.trace (call_state site effect had stage) None None is site.is_slept site.is_waits
-      ∙ ap (λ x. parts (Some site.t) site.ready None (slice_set (threads site effect had) site.t.0 x) site.trace) same in
-      let way = fifo_at site.setup site.c site.t site.call (own site effect had) (call_state site effect had stage) is ∙ is_plan in
-      subst (λ x. x) (λ i. IsLine site.setup site.c (sym here i) (sym way i) (after site effect had)) line
+-- a call that has begun goes on as it stands
+pub begun_goes : {stage : Stage} {hand : Option Tid} {deferred : Option TowerOut} {s w : Option BufId} {effect : Option Effect}
+    → Stands stage hand deferred s w effect → (x : CallState) (call : TowerCall) → going_at stage x call ≡ x
+begun_goes given x call = grind arith
 
-module _ (site : Site) where
-  open site use {caller, setup, c, t, call_states, guests, trace, call}
+pub had_at : {hand : Option Tid} {deferred : Option TowerOut} {s w : Option BufId} (site : Site) (stage : Stage) (effect : Option Effect)
+    → Stands stage hand deferred s w effect → call_state_of site.call_states site.t ≡ call_state_at site.caller stage effect → HasHad site effect
+had_at site stage effect given is =
+    ap (λ x. (going x site.call).effect) is ∙ ap (λ x. x.effect) (begun_goes given (call_state_at site.caller stage effect) site.call)
 
-  abbrev pub SiteLine : Type 0
-  SiteLine = LineOf setup c t call (part_at site.runner None None) guests trace
+-- the plan of a poll of it is that of its stage
+pub begun_plan : {stage : Stage} {hand : Option Tid} {deferred : Option TowerOut} {s w : Option BufId} {position : ℕ} {effect : Option Effect} (setup : Setup)
+    (c : CpuId) (t : Tid) (call : TowerCall) (own : Buffering) → Stands stage hand deferred s w effect
+    → call_state_of own.call_states t ≡ record { stage = stage; call = Some call; position = position; effect = effect }
+    → fifo_plan setup.homes c t call own
+    ≡ plan_at setup.homes c t call stage (record { stage = stage; call = Some call; position = position; effect = effect }) own
+begun_plan {stage} {position = position} {effect = effect} setup c t call own given is =
+    let state : CallState = record { stage = stage; call = Some call; position = position; effect = effect } in
+    fifo_at setup c t call own state is ∙ ap (λ x. plan_at setup.homes c t call x.stage x own) (begun_goes given state call)
 
-  had_none : (stage : Stage) → (going (call_state_at caller stage None) call).effect ≡ None → call_state_of call_states t ≡ call_state_at caller stage None
-      → HasHad site None
-  had_none stage so is = ap (λ x. (going x call).effect) is ∙ so
-
-  pub site_asks : call_state_of call_states t ≡ call_state_at caller Acquires None → SiteLine
-  site_asks is = let had = had_none Acquires refl is in going_line site None had Acquires is refl _ refl (asks_line site had)
-
-  pub site_enters : call_state_of call_states t ≡ call_state_at caller Enters None → SiteLine
-  site_enters is = let had = had_none Enters refl is in going_line site None had Enters is refl _ refl (enters_line site had)
-
-  pub site_tries : IsLined call → call_state_of call_states t ≡ call_state_at caller Tries None → SiteLine
-  site_tries lined is = let had = had_none Tries refl is in going_line site None had Tries is refl _ refl (tries_line site had lined)
-
-  pub site_waits : call_state_of call_states t ≡ call_state_at caller Waits None → SiteLine
-  site_waits is = let had = had_none Waits refl is in going_line site None had Waits is refl _ refl (waits_line site had)
-
-  pub site_asks_again : call_state_of call_states t ≡ call_state_at caller AcquiresAgain None → SiteLine
-  site_asks_again is =
-      let had = had_none AcquiresAgain refl is in going_line site None had AcquiresAgain is refl _ refl (asks_again_line site had)
-
-  pub site_signals : (f : Effect) → call_state_of call_states t ≡ call_state_at caller Signals (Some f) → SiteLine
-  site_signals f is =
-      let had : HasHad site (Some f) = ap (λ x. (going x call).effect) is in
-      going_line site (Some f) had Signals is refl _ refl (signals_line site f had)
-
-  pub site_own_signals : (f : Effect) → call_state_of call_states t ≡ call_state_at caller SignalsOwn (Some f) → SiteLine
-  site_own_signals f is =
-      let had : HasHad site (Some f) = ap (λ x. (going x call).effect) is in
-      going_line site (Some f) had SignalsOwn is refl _ refl (own_signals_line site f had)
-
-  pub site_releases : (f : Effect) → call_state_of call_states t ≡ call_state_at caller Releases (Some f) → SiteLine
-  site_releases f is =
-      let had : HasHad site (Some f) = ap (λ x. (going x call).effect) is in
-      going_line site (Some f) had Releases is refl _ refl (releases_line site f had)
+-- the plan of a begun call whose caller neither slept nor waited is a line of the table
+pub site_line : (site : Site) (stage : Stage) (effect : Option Effect) → Stands stage None None None None effect → FitsStage stage (Some site.call)
+    → call_state_of site.call_states site.t ≡ call_state_at site.caller stage effect
+    → LineOf site.setup site.c site.t site.call (part_at site.runner None None) site.guests site.trace
+site_line site stage effect given fits is =
+    let had = had_at site stage effect given is in
+    let here = private_here site.runner None None site.trace (call_state_at site.caller stage effect) None None is site.is_slept site.is_waits
+    ∙ ap (λ x. parts (Some site.t) site.ready None (slice_set (threads site effect had) site.t.0 x) site.trace) (stands_as site effect had stage given) in
+    let way = begun_plan site.setup site.c site.t site.call (part_at site.runner None None) given is in
+    subst (λ x. x) (λ i. IsLine site.setup site.c (sym here i) (sym way i) (after site effect had)) (section_line site effect had stage given fits)
 
 -- Chains: the thread slept for the lock and was handed it, or waited and was woken.
 
@@ -112,7 +85,7 @@ module _ (caller : Caller) where
   abbrev then_own : List (Option BufId) → List (Option BufId) → Stage → Buffering
   then_own slept2 waits2 stage = own_at (Some t) None ready ended None slept2 waits2 (slice_set call_states t.0 (so stage))
 
-  now_call_state : (stage : Stage) → call_state_of (slice_set call_states t.0 (so stage)) t ≡ so stage
+  pub now_call_state : (stage : Stage) → call_state_of (slice_set call_states t.0 (so stage)) t ≡ so stage
   now_call_state stage = get_or-set_same call_states t.0 (so stage) no_call in_call_states
 
   -- the private state is the same
@@ -139,56 +112,59 @@ module _ (caller : Caller) where
   abbrev beneath : CvCall BufferEdit → Plan TowerName TowerAnswer (Waiting BufferOut) TowerOut
   beneath s = cv_plan (lock_moves buffer_rules) setup.homes c (buffer_of call) s was.cv
 
-  slept_set : slept_for (slice_set slept t.0 None) t ≡ None
-  slept_set = get_or-set_same slept t.0 None None in_slept
+  -- the thread was handed the lock, or was woken, and stands at the next stage
+  abbrev pub handed_own : Stage → Buffering
+  handed_own next = then_own (slice_set slept t.0 None) waits next
 
-  waits_set : slept_for (slice_set waits t.0 None) t ≡ None
-  waits_set = get_or-set_same waits t.0 None None in_waits
+  abbrev pub woken_own : Stage → Buffering
+  woken_own next = then_own slept (slice_set waits t.0 None) next
 
-  slept_long : t.0 < length (slice_set slept t.0 None)
-  slept_long = subst (λ n. t.0 < n) (sym (length-set slept t.0 None)) in_slept
+  abbrev pub handed_site : (next : Stage) → slept_for waits t ≡ None → Site
+  handed_site next w =
+      awake (at_next caller (slice_set slept t.0 None) waits next (subst (λ n. t.0 < n) (sym (length-set slept t.0 None)) in_slept) in_waits)
+      (get_or-set_same slept t.0 None None in_slept) w
+
+  abbrev pub woken_site : (next : Stage) → slept_for slept t ≡ None → Site
+  woken_site next s =
+      awake (at_next caller slept (slice_set waits t.0 None) next in_slept (subst (λ n. t.0 < n) (sym (length-set waits t.0 None)) in_waits)) s
+      (get_or-set_same waits t.0 None None in_waits)
 
   -- the plan of a thread that was handed the lock is that of its next section
   pub handed_plan : (b : BufId) → call_state_of call_states t ≡ so Acquires → slept_for slept t ≡ Some b → slept_for waits t ≡ None
-      → fifo_plan setup.homes c t call was ≡ fifo_plan setup.homes c t call (then_own (slice_set slept t.0 None) waits Enters)
+      → fifo_plan setup.homes c t call was ≡ fifo_plan setup.homes c t call (handed_own Enters)
   handed_plan b is s w = grind (arith, fifo_at, now_call_state)
 
-  pub handed_line : (b : BufId) → call_state_of call_states t ≡ so Acquires → slept_for slept t ≡ Some b → slept_for waits t ≡ None
-      → LineOf setup c t call was guests trace
-  handed_line b is s w =
-      let own2 = then_own (slice_set slept t.0 None) waits Enters in
-      chained_line Acquires Enters own2 is (now_call_state Enters) refl refl
-      (same_private Acquires Enters (slice_set slept t.0 None) waits (Some b) None is s w
-      (λ j other. get_or-set_other slept t.0 j None None other) (λ j other. refl) slept_set w refl)
-      (handed_plan b is s w)
-      (site_enters (awake (at_next caller (slice_set slept t.0 None) waits Enters slept_long in_waits) slept_set w) (now_call_state Enters))
-
   pub handed_again_plan : (b : BufId) → call_state_of call_states t ≡ so AcquiresAgain → slept_for slept t ≡ Some b → slept_for waits t ≡ None
-      → fifo_plan setup.homes c t call was ≡ fifo_plan setup.homes c t call (then_own (slice_set slept t.0 None) waits Tries)
+      → fifo_plan setup.homes c t call was ≡ fifo_plan setup.homes c t call (handed_own Tries)
   handed_again_plan b is s w = grind (arith, fifo_at, now_call_state)
-
-  pub handed_again_line : (b : BufId) → IsLined call → call_state_of call_states t ≡ so AcquiresAgain → slept_for slept t ≡ Some b → slept_for waits t ≡ None
-      → LineOf setup c t call was guests trace
-  handed_again_line b lined is s w =
-      let own2 = then_own (slice_set slept t.0 None) waits Tries in
-      chained_line AcquiresAgain Tries own2 is (now_call_state Tries) refl refl
-      (same_private AcquiresAgain Tries (slice_set slept t.0 None) waits (Some b) None is s w
-      (λ j other. get_or-set_other slept t.0 j None None other) (λ j other. refl) slept_set w refl)
-      (handed_again_plan b is s w)
-      (site_tries (awake (at_next caller (slice_set slept t.0 None) waits Tries slept_long in_waits) slept_set w) lined (now_call_state Tries))
 
   -- the plan of a thread that was woken is to ask for the lock again
   pub woken_plan : (b : BufId) → call_state_of call_states t ≡ so Waits → slept_for slept t ≡ None → slept_for waits t ≡ Some b
-      → fifo_plan setup.homes c t call was ≡ fifo_plan setup.homes c t call (then_own slept (slice_set waits t.0 None) AcquiresAgain)
+      → fifo_plan setup.homes c t call was ≡ fifo_plan setup.homes c t call (woken_own AcquiresAgain)
   woken_plan b is s w = grind (arith, fifo_at, now_call_state)
 
-  pub woken_line : (b : BufId) → call_state_of call_states t ≡ so Waits → slept_for slept t ≡ None → slept_for waits t ≡ Some b
+  handed_to : (stage next : Stage) (b : BufId) → Stands next None None None None None → FitsStage next (Some call) → call_state_of call_states t ≡ so stage
+      → slept_for slept t ≡ Some b → slept_for waits t ≡ None → (going (so stage) call).effect ≡ None → (going (so next) call).effect ≡ None
+      → thread_from (so next) None None false (is_in t ended) (guest_at guests t) ≡ thread_from (so stage) (Some b) None false (is_in t ended) (guest_at guests t)
+      → fifo_plan setup.homes c t call was ≡ fifo_plan setup.homes c t call (handed_own next) → LineOf setup c t call was guests trace
+  handed_to stage next b given fits is s w none none2 same goes =
+      chained_line stage next (handed_own next) is (now_call_state next) none none2
+      (same_private stage next (slice_set slept t.0 None) waits (Some b) None is s w (λ j other. get_or-set_other slept t.0 j None None other) (λ j other. refl)
+      (get_or-set_same slept t.0 None None in_slept) w same)
+      goes (site_line (handed_site next w) next None given fits (now_call_state next))
+
+  pub handed_line : (b : BufId) → call_state_of call_states t ≡ so Acquires → slept_for slept t ≡ Some b → slept_for waits t ≡ None
       → LineOf setup c t call was guests trace
-  woken_line b is s w =
-      let own2 = then_own slept (slice_set waits t.0 None) AcquiresAgain in
-      chained_line Waits AcquiresAgain own2 is (now_call_state AcquiresAgain) refl refl
+  handed_line b is s w = handed_to Acquires Enters b enters tt is s w refl refl refl (handed_plan b is s w)
+
+  pub handed_again_line : (b : BufId) → IsLined call → call_state_of call_states t ≡ so AcquiresAgain → slept_for slept t ≡ Some b → slept_for waits t ≡ None
+      → LineOf setup c t call was guests trace
+  handed_again_line b lined is s w = handed_to AcquiresAgain Tries b tries lined is s w refl refl refl (handed_again_plan b is s w)
+
+  pub woken_line : (b : BufId) → IsLined call → call_state_of call_states t ≡ so Waits → slept_for slept t ≡ None → slept_for waits t ≡ Some b
+      → LineOf setup c t call was guests trace
+  woken_line b lined is s w =
+      chained_line Waits AcquiresAgain (woken_own AcquiresAgain) is (now_call_state AcquiresAgain) refl refl
       (same_private Waits AcquiresAgain slept (slice_set waits t.0 None) None (Some b) is s w
-      (λ j other. refl) (λ j other. get_or-set_other waits t.0 j None None other) s waits_set refl)
-      (woken_plan b is s w)
-      (site_asks_again (awake (at_next caller slept (slice_set waits t.0 None) AcquiresAgain in_slept (subst (λ n. t.0 < n) (sym (length-set waits t.0 None)) in_waits)) s waits_set)
-      (now_call_state AcquiresAgain))
+      (λ j other. refl) (λ j other. get_or-set_other waits t.0 j None None other) s (get_or-set_same waits t.0 None None in_waits) refl)
+      (woken_plan b is s w) (site_line (woken_site AcquiresAgain s) AcquiresAgain None asks_again lined (now_call_state AcquiresAgain))

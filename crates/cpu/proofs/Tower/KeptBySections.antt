@@ -2,23 +2,20 @@
 use Rattle.std.proofs.Common.{◌≡◌, ◌≢◌, ◌⊎◌, inl, inr, ℕ, Bool, true, false, List, [], ◌∷◌, ◌++◌, length, slice_get, slice_set, Option, Some, None, refl, sym}
 use Rattle.std.proofs.{Common.{◌∙◌, subst, arith}, lemmas.{List.{get_or-set_same, get_or-set_other, length-set}, Bool.{cases_eq, eqb-false}}}
 use Rattle.event_log.specs.declared.ids.{BufId.BufId, CpuId.CpuId, LockId.{TheVariants.Buffer, LockId}, Tid.Tid, TheConstants.THREADS}
-use Rattle.{thread_blocks.specs.Queues.first, layer_traits.specs.declared.{calls.{Effect.Effect, Reply.Reply}, locked.QEdit.TheVariants.{Acquire, Inside}}}
-use Rattle.layer_traits.specs.declared.{locked.{QEdit.TheVariants.Release, Side.{Side, TheVariants.{Receivers, Senders}}}, conditions.CvEdit.TheVariants.Edit}
-use Rattle.layer_traits.specs.declared.{conditions.{CvEdit.TheVariants.SignalFront, CvLeave.TheVariants.{Leave, Wait}, CvOut.CvOut}, call_states.Stage.Stage}
-use Rattle.layer_traits.specs.declared.{call_states.CallState.CallState, buffer_edits.{BufferEdit.BufferEdit, BufferOut.{BufferOut, TheVariants.NotYet}}}
-use Rattle.layer_traits.specs.{BufferBlocks.{BufferState, buffer_answer}, BufferProtocol.buffer_rules, Conditions.CvCall, QLockLaw.slept_for}
-use Rattle.layer_traits.specs.{QLocking.{LockState, lock_answer}, Places.is_cpu, Plans.{Left, Plan, Act}, BufferLaw.{BufferPlan, Buffering, buffer_of}}
-use Rattle.{layer_traits.specs.BufferLaw.{first_of, other_side, no_call, side_of as tower_side, call_state_of, try_of}, cpu.specs.Table.Setups.Setup}
+use Rattle.{thread_blocks.specs.Queues.first, layer_traits.specs.declared.{calls.Effect.Effect, locked.Side.{Side, TheVariants.{Receivers, Senders}}}}
+use Rattle.layer_traits.specs.declared.{conditions.CvOut.CvOut, call_states.{Stage.Stage, CallState.CallState}, buffer_edits.BufferOut.BufferOut}
+use Rattle.layer_traits.specs.{declared.buffer_edits.BufferOut.TheVariants.NotYet, BufferBlocks.{BufferState, buffer_answer}, BufferProtocol.buffer_rules}
+use Rattle.layer_traits.specs.{QLockLaw.slept_for, QLocking.{LockState, lock_answer}, Places.is_cpu, Plans.{Left, Plan, Act}, BufferLaw.{Buffering, buffer_of}}
+use Rattle.{layer_traits.specs.BufferLaw.{first_of, no_call, call_state_of, try_of, section_at as call_section}, cpu.specs.Table.Setups.Setup}
 use Rattle.cpu.specs.Tower.{Views.{TowerAnswer, TowerBlock, TowerName, TowerOut, tower}, Privates.tid, Positions.{IsPart, MayStand, inside, outside}}
 use Rattle.cpu.specs.Tower.Composed.{FitsStage, IsKind, IsLined, IsUsed, Stands, asks, was_handed, enters, tries, waits as stands_waits, was_woken, asks_again}
 use Rattle.cpu.specs.Tower.Composed.{was_handed_again, signals, signals_own, releases, has_signalled, has_signalled_own, has_released}
 use Rattle.cpu.proofs.Tower.{ChangedThread.own_at, Callers.Site, SectionLines.{HasHad, Draws, Shuts, Tried, first_answer, try_answer, shut_effect, call_state}}
-use Rattle.cpu.proofs.Tower.{SectionLines.{fresh, react, lift, waking}, Composition.{asked_out, did_out, signal_out, left_out, wait_out, effect_is, over, plan}}
-use Rattle.cpu.proofs.Tower.Composition.{plan_to, asks_plan, asks_again_plan, enters_plan, tries_plan, waits_plan, signals_plan, own_signals_plan}
-use Rattle.cpu.proofs.Tower.Composition.{releases_plan}
+use Rattle.cpu.proofs.Tower.SectionLines.{react, lift, waking, asked_out, did_out, signal_out, left_out, over, plan, effect_by, effected_state, left_on}
+use Rattle.cpu.proofs.Tower.SectionLines.{left_gone, reacted, waited, planned}
 use Rattle.layer_traits.specs.declared.queue_edits.QueueEdit.TheVariants as queue
-use Rattle.layer_traits.specs.declared.queues.QueueAnswer.TheVariants as told
 use Rattle.layer_traits.specs.declared.call_states.Stage.TheVariants as at
+use Rattle.layer_traits.specs.declared.queue_edits.QueueBlock.TheVariants as block
 
 -- the threads but this one stand as they may, and the tables have a place for each thread
 pub record Rest (t : Tid) (slept waits : List (Option BufId)) (call_states : List CallState) : Type 0 where
@@ -76,205 +73,159 @@ pub record PlanPreserves {A : Type 0} (setup : Setup) (c : CpuId) (p : Plan Towe
   pub gives : (x : TowerBlock) → IsKind lock x → IsPart (react (Some (tower.answer name x))).own
 
 module _ (site : Site) (effect : Option Effect) (had : HasHad site effect) (others : Rest site.t site.slept site.waits site.call_states) where
+  open site use {setup, c, t, ready, ended, slept, waits as waiting, call_states, call, in_call_states, in_slept, in_waits, is_slept, is_waits}
+
   -- thread t runs on
   pub on : (hand2 : Option Tid) (ready2 : List Tid) (deferred2 : Option TowerOut) (state2 : CallState)
-      → MayStand state2.stage hand2 deferred2 None None state2.effect
-      → FitsStage state2.stage state2.call
-      → IsPart (own_at (Some site.t) hand2 ready2 site.ended deferred2 site.slept site.waits (slice_set site.call_states site.t.0 state2))
+      → MayStand state2.stage hand2 deferred2 None None state2.effect → FitsStage state2.stage state2.call
+      → IsPart (own_at (Some t) hand2 ready2 ended deferred2 slept waiting (slice_set call_states t.0 state2))
   on hand2 ready2 deferred2 state2 may fit =
-      runs_part site.t ready2 site.ended site.slept site.waits (slice_set site.call_states site.t.0 state2)
-      (rest_set site.t site.slept site.waits site.slept site.waits site.call_states state2 others (λ j other. refl) (λ j other. refl) refl refl)
-      (fit_is _ state2 (get_or-set_same site.call_states site.t.0 state2 no_call site.in_call_states) fit) hand2 deferred2
-      (stand_is hand2 deferred2 _ state2 _ None _ None (get_or-set_same site.call_states site.t.0 state2 no_call site.in_call_states) site.is_slept
-      site.is_waits may)
+      runs_part t ready2 ended slept waiting (slice_set call_states t.0 state2)
+      (rest_set t slept waiting slept waiting call_states state2 others (λ j other. refl) (λ j other. refl) refl refl)
+      (fit_is _ state2 (get_or-set_same call_states t.0 state2 no_call in_call_states) fit) hand2 deferred2
+      (stand_is hand2 deferred2 _ state2 _ None _ None (get_or-set_same call_states t.0 state2 no_call in_call_states) is_slept is_waits may)
 
-  -- it sleeps for the lock
-  pub asleep : (stage : Stage) → MayStand stage None None (Some (buffer_of site.call)) None effect → FitsStage stage (Some site.call)
-      → IsPart (own_at None None site.ready site.ended None (slice_set site.slept site.t.0 (Some (buffer_of site.call))) site.waits
-      (slice_set site.call_states site.t.0 (call_state site effect had stage)))
-  asleep stage may fit =
-      let slept2 : List (Option BufId) = slice_set site.slept site.t.0 (Some (buffer_of site.call)) in
-      gone_part site.t site.ready site.ended slept2 site.waits (slice_set site.call_states site.t.0 (call_state site effect had stage))
-      (rest_set site.t site.slept site.waits slept2 site.waits site.call_states (call_state site effect had stage) others
-      (λ j other. get_or-set_other site.slept site.t.0 j (Some (buffer_of site.call)) None other) (λ j other. refl)
-      (length-set site.slept site.t.0 (Some (buffer_of site.call))) refl)
-      (fit_is _ (call_state site effect had stage) (get_or-set_same site.call_states site.t.0
-      (call_state site effect had stage) no_call site.in_call_states) fit) None
-      (stand_is None None _ (call_state site effect had stage) _ (Some (buffer_of site.call)) _ None
-      (get_or-set_same site.call_states site.t.0 (call_state site effect had stage) no_call site.in_call_states)
-      (get_or-set_same site.slept site.t.0 (Some (buffer_of site.call)) None site.in_slept) site.is_waits may)
+  -- with nobody in the hand, or with a thread that its section woke
+  runs_on : (ready2 : List Tid) (stage : Stage) → Stands stage None None None None effect → FitsStage stage (Some call)
+      → IsPart (own_at (Some t) None ready2 ended None slept waiting (slice_set call_states t.0 (call_state site effect had stage)))
+  runs_on ready2 stage given fit = on None ready2 None (call_state site effect had stage) (inside stage None None None None effect given) fit
 
-  -- it waits
-  pub waiting : (hand2 : Option Tid) (ready2 : List Tid) (stage : Stage) → MayStand stage None None None (Some (buffer_of site.call)) effect
-      → FitsStage stage (Some site.call)
-      → IsPart (own_at None hand2 ready2 site.ended None site.slept (slice_set site.waits site.t.0 (Some (buffer_of site.call)))
-      (slice_set site.call_states site.t.0 (call_state site effect had stage)))
-  waiting hand2 ready2 stage may fit =
-      let waits2 : List (Option BufId) = slice_set site.waits site.t.0 (Some (buffer_of site.call)) in
-      gone_part site.t ready2 site.ended site.slept waits2 (slice_set site.call_states site.t.0 (call_state site effect had stage))
-      (rest_set site.t site.slept site.waits site.slept waits2 site.call_states (call_state site effect had stage) others (λ j other. refl)
-      (λ j other. get_or-set_other site.waits site.t.0 j (Some (buffer_of site.call)) None other) refl
-      (length-set site.waits site.t.0 (Some (buffer_of site.call))))
-      (fit_is _ (call_state site effect had stage) (get_or-set_same site.call_states site.t.0
-      (call_state site effect had stage) no_call site.in_call_states) fit) hand2
-      (stand_is None None _ (call_state site effect had stage) _ None _ (Some (buffer_of site.call))
-      (get_or-set_same site.call_states site.t.0 (call_state site effect had stage) no_call site.in_call_states) site.is_slept
-      (get_or-set_same site.waits site.t.0 (Some (buffer_of site.call)) None site.in_waits) may)
+  sends_on : (u : Tid) (out : TowerOut) (stage : Stage) → Stands stage (Some u) (Some out) None None effect → FitsStage stage (Some call)
+      → IsPart (own_at (Some t) (Some u) ready ended (Some out) slept waiting (slice_set call_states t.0 (call_state site effect had stage)))
+  sends_on u out stage given fit =
+      on (Some u) ready (Some out) (call_state site effect had stage) (inside stage (Some u) (Some out) None None effect given) fit
 
-  -- a section of the call
-  pub keeps : (stage : Stage) (s : CvCall BufferEdit) (p : BufferPlan Reply) → p ≡ fresh site effect had stage s
-      → Stands stage None None None None effect → FitsStage stage (Some site.call)
-      → ((x : LockState BufferState) → IsPart (react site effect had stage s (Some (told.Answer (lock_answer buffer_rules s x)))).own)
-      → PlanPreserves site.setup site.c p
-  keeps stage s p is may fit gives = record {
-    lock = Buffer (buffer_of site.call);
-    name = queue.Above s;
-    react = react site effect had stage s;
-    used = tt;
-    is = is;
-    stays = on None site.ready None (call_state site effect had stage) (inside stage None None None None effect may) fit;
-    gives = by_block;
-  }
-    where
-      by_block : (x : TowerBlock) → IsKind (Buffer (buffer_of site.call)) x
-          → IsPart (react site effect had stage s (Some (tower.answer (queue.Above s) x))).own
-      by_block x kind = grind (arith, gives)
+  -- it sleeps for the lock, or waits
+  gone_on : (hand2 : Option Tid) (ready2 : List Tid) (slept2 waits2 : List (Option BufId)) (stage : Stage) (s w : Option BufId)
+      → ((j : ℕ) → j ≢ t.0 → slept_for slept2 (tid j) ≡ slept_for slept (tid j)) → ((j : ℕ) → j ≢ t.0 → slept_for waits2 (tid j) ≡ slept_for waiting (tid j))
+      → length slept2 ≡ length slept → length waits2 ≡ length waiting → slept_for slept2 t ≡ s → slept_for waits2 t ≡ w
+      → Stands stage None None s w effect → FitsStage stage (Some call) → IsPart (left_gone site effect had hand2 ready2 slept2 waits2 stage).own
+  gone_on hand2 ready2 slept2 waits2 stage s w same_s same_w long_s long_w is_s is_w given fit =
+      let state2 : CallState = call_state site effect had stage in
+      let is = get_or-set_same call_states t.0 state2 no_call in_call_states in
+      gone_part t ready2 ended slept2 waits2 (slice_set call_states t.0 state2)
+      (rest_set t slept waiting slept2 waits2 call_states state2 others same_s same_w long_s long_w) (fit_is _ state2 is fit) hand2
+      (stand_is None None _ state2 _ s _ w is is_s is_w (inside stage None None s w effect given))
+
+  asleep : (stage : Stage) → Stands stage None None (Some (buffer_of call)) None effect → FitsStage stage (Some call)
+      → IsPart (left_gone site effect had None ready (slice_set slept t.0 (Some (buffer_of call))) waiting stage).own
+  asleep stage given fit =
+      gone_on None ready (slice_set slept t.0 (Some (buffer_of call))) waiting stage (Some (buffer_of call)) None
+      (λ j other. get_or-set_other slept t.0 j (Some (buffer_of call)) None other) (λ j other. refl) (length-set slept t.0 (Some (buffer_of call))) refl
+      (get_or-set_same slept t.0 (Some (buffer_of call)) None in_slept) is_waits given fit
+
+  waits_on : (hand2 : Option Tid) (ready2 : List Tid) (stage : Stage) → Stands stage None None None (Some (buffer_of call)) effect
+      → FitsStage stage (Some call) → IsPart (left_gone site effect had hand2 ready2 slept (slice_set waiting t.0 (Some (buffer_of call))) stage).own
+  waits_on hand2 ready2 stage given fit =
+      gone_on hand2 ready2 slept (slice_set waiting t.0 (Some (buffer_of call))) stage None (Some (buffer_of call)) (λ j other. refl)
+      (λ j other. get_or-set_other waiting t.0 j (Some (buffer_of call)) None other) refl (length-set waiting t.0 (Some (buffer_of call))) is_slept
+      (get_or-set_same waiting t.0 (Some (buffer_of call)) None in_waits) given fit
+
+  -- a thread was woken that is at home here, or is not
+  woke_on : (stage : Stage) (out : TowerOut) (u : Tid) → IsPart (lift site effect had stage out (waking site effect had (Some t) u true)).own
+      → IsPart (lift site effect had stage out (waking site effect had (Some t) u false)).own
+      → (b : Bool) → IsPart (lift site effect had stage out (waking site effect had (Some t) u b)).own
+  woke_on stage out u here there true = here
+  woke_on stage out u here there false = there
 
 -- Before the effect.
 
 module _ (site : Site) (had : HasHad site None) (others : Rest site.t site.slept site.waits site.call_states) where
-  asks_by : (o : Option Tid) → IsPart (react site None had at.Acquires (Acquire site.t) (Some (told.Answer (asked_out o)))).own
-  asks_by None = on site None had others None site.ready None (call_state site None had at.Enters) (inside at.Enters None None None None None enters) tt
-  asks_by (Some owner) = asleep site None had others at.Acquires (inside at.Acquires None None _ None None (was_handed _)) tt
+  open site use {t, ready, call, position}
 
-  pub asks_keeps : PlanPreserves site.setup site.c (plan site had at.Acquires)
-  asks_keeps = keeps site None had others at.Acquires (Acquire site.t) (plan site had at.Acquires) (asks_plan site had) asks tt
-      (λ x. asks_by x.owner)
+  abbrev Keeps : Stage → TowerOut → Type 0
+  Keeps stage out = IsPart (reacted site None had stage out).own
 
-  asks_again_by : IsLined site.call → (o : Option Tid) → IsPart (react site None had at.AcquiresAgain (Acquire site.t) (Some (told.Answer (asked_out o)))).own
-  asks_again_by lined None =
-      on site None had others None site.ready None (call_state site None had at.Tries) (inside at.Tries None None None None None tries) lined
-  asks_again_by lined (Some owner) =
-      asleep site None had others at.AcquiresAgain (inside at.AcquiresAgain None None _ None None (was_handed_again _)) lined
+  asks_by : (o : Option Tid) → Keeps at.Acquires (asked_out o)
+  asks_by None = runs_on site None had others ready at.Enters enters tt
+  asks_by (Some owner) = asleep site None had others at.Acquires (was_handed _) tt
 
-  pub asks_again_keeps : IsLined site.call → PlanPreserves site.setup site.c (plan site had at.AcquiresAgain)
-  asks_again_keeps lined =
-      keeps site None had others at.AcquiresAgain (Acquire site.t) (plan site had at.AcquiresAgain) (asks_again_plan site had) asks_again
-      lined (λ x. asks_again_by lined x.owner)
+  asks_again_by : IsLined call → (o : Option Tid) → Keeps at.AcquiresAgain (asked_out o)
+  asks_again_by lined None = runs_on site None had others ready at.Tries tries lined
+  asks_again_by lined (Some owner) = asleep site None had others at.AcquiresAgain (was_handed_again _) lined
 
-  abbrev FirstKeeps : BufferOut → Type 0
-  FirstKeeps o = IsPart (react site None had at.Enters (Inside (Edit (first_of site.t site.call))) (Some (told.Answer (did_out o)))).own
+  effects_by : (f : Effect) → IsPart (left_on site None had None ready None (effected_state site had f) None).own
+  effects_by f = on site None had others None ready None (effected_state site had f) (inside at.Signals None None None None (Some f) (signals f)) tt
 
-  first_by : (x : BufferState) → Draws site.t site.call x ⊎ Shuts site.t site.call x → FirstKeeps (buffer_answer (first_of site.t site.call) x)
+  first_by : (x : BufferState) → Draws t call x ⊎ Shuts t call x → Keeps at.Enters (did_out (buffer_answer (first_of t call) x))
   first_by x (inl draws) =
-      subst FirstKeeps (sym draws.is)
-      (on site None had others None site.ready None (record { stage = at.Tries; call = Some site.call; position = draws.pos; effect = None })
+      subst (λ o. Keeps at.Enters (did_out o)) (sym draws.is)
+      (on site None had others None ready None (record { stage = at.Tries; call = Some call; position = draws.pos; effect = None })
       (inside at.Tries None None None None None tries) draws.lined)
-  first_by x (inr shuts) =
-      let f : Effect = shut_effect shuts.op shuts.pos in
-      subst FirstKeeps (sym shuts.is)
-      (on site None had others None site.ready None (record { stage = at.Signals; call = Some site.call; position = site.position; effect = Some f })
-      (inside at.Signals None None None None (Some f) (signals f)) tt)
+  first_by x (inr shuts) = subst (λ o. Keeps at.Enters (did_out o)) (sym shuts.is) (effects_by (shut_effect shuts.op shuts.pos))
 
-  pub enters_keeps : PlanPreserves site.setup site.c (plan site had at.Enters)
-  enters_keeps =
-      keeps site None had others at.Enters (Inside (Edit (first_of site.t site.call))) (plan site had at.Enters) (enters_plan site had) enters tt
-      (λ x. first_by x.above (first_answer site.t site.call x.above))
-
-  tries_by : (x : BufferState) → IsLined site.call → (buffer_answer (try_of site.t site.call) x ≡ NotYet) ⊎ Tried site.t site.call x
-      → IsPart (react site None had at.Tries (Inside (Edit (try_of site.t site.call)))
-      (Some (told.Answer (did_out (buffer_answer (try_of site.t site.call) x))))).own
-  tries_by x lined (inl vain) =
-      rw vain (on site None had others None site.ready None (call_state site None had at.Waits) (inside at.Waits None None None None None stands_waits) lined)
+  tries_by : (x : BufferState) → IsLined call → (buffer_answer (try_of t call) x ≡ NotYet) ⊎ Tried t call x
+      → Keeps at.Tries (did_out (buffer_answer (try_of t call) x))
+  tries_by x lined (inl vain) = subst (λ o. Keeps at.Tries (did_out o)) (sym vain) (runs_on site None had others ready at.Waits stands_waits lined)
   tries_by x lined (inr tried) =
-      let f : Effect = effect_is site had tried.closed tried.op tried.message in
-      subst (λ o. IsPart (react site None had at.Tries (Inside (Edit (try_of site.t site.call))) (Some (told.Answer (did_out o)))).own) (sym tried.is)
-      (on site None had others None site.ready None (record { stage = at.Signals; call = Some site.call; position = site.position; effect = Some f })
-      (inside at.Signals None None None None (Some f) (signals f)) tt)
+      subst (λ o. Keeps at.Tries (did_out o)) (sym tried.is) (effects_by (effect_by call tried.closed tried.op tried.message position))
 
-  pub tries_keeps : IsLined site.call → PlanPreserves site.setup site.c (plan site had at.Tries)
-  tries_keeps lined =
-      keeps site None had others at.Tries (Inside (Edit (try_of site.t site.call))) (plan site had at.Tries) (tries_plan site had) tries lined
-      (λ x. tries_by x.above lined (try_answer site.t site.call x.above lined))
-
-  waits_by : IsLined site.call → (side : Side) (o : Option Tid)
-      → IsPart (react site None had at.Waits (Release (Wait site.t side)) (Some (told.Answer (wait_out side o)))).own
-  waits_by lined Receivers None = waiting site None had others None site.ready at.Waits (inside at.Waits None None None _ None (was_woken _)) lined
-  waits_by lined Senders None = waiting site None had others None site.ready at.Waits (inside at.Waits None None None _ None (was_woken _)) lined
-  waits_by lined Receivers (Some u) = waiting site None had others _ _ at.Waits (inside at.Waits None None None _ None (was_woken _)) lined
-  waits_by lined Senders (Some u) = waiting site None had others _ _ at.Waits (inside at.Waits None None None _ None (was_woken _)) lined
-
-  waits_at : IsLined site.call → (side : Side) (x : LockState BufferState)
-      → IsPart (react site None had at.Waits (Release (Wait site.t side)) (Some (told.Answer (lock_answer buffer_rules (Release (Wait site.t side)) x)))).own
-  waits_at lined side x = grind (arith, waits_by)
-
-  pub waits_keeps : IsLined site.call → PlanPreserves site.setup site.c (plan site had at.Waits)
-  waits_keeps lined =
-      keeps site None had others at.Waits (Release (Wait site.t (tower_side site.call))) (plan site had at.Waits) (waits_plan site had) stands_waits
-      lined (waits_at lined (tower_side site.call))
+  waits_by : IsLined call → (side : Side) (o : Option Tid) → IsPart (waited site had side o).own
+  waits_by lined Receivers None = waits_on site None had others None ready at.Waits (was_woken _) lined
+  waits_by lined Senders None = waits_on site None had others None ready at.Waits (was_woken _) lined
+  waits_by lined Receivers (Some u) = waits_on site None had others _ _ at.Waits (was_woken _) lined
+  waits_by lined Senders (Some u) = waits_on site None had others _ _ at.Waits (was_woken _) lined
 
 -- After the effect.
 
 module _ (site : Site) (f : Effect) (had : HasHad site (Some f)) (others : Rest site.t site.slept site.waits site.call_states) where
-  signals_woke : (v : CvOut BufferOut) (u : Tid) (b : Bool)
-      → IsPart (lift site (Some f) had at.Signals (signal_out v (Some u)) (waking site (Some f) had (Some site.t) u b)).own
-  signals_woke v u true =
-      on site (Some f) had others None (site.ready ++ u ∷ []) None (call_state site (Some f) had at.SignalsOwn)
-      (inside at.SignalsOwn None None None None (Some f) (signals_own f)) tt
-  signals_woke v u false =
-      on site (Some f) had others (Some u) site.ready (Some (signal_out v (Some u))) (call_state site (Some f) had at.Signals)
-      (inside at.Signals (Some u) (Some (signal_out v (Some u))) None None (Some f) (has_signalled u v f)) tt
+  open site use {setup, c, t, ready, ended, slept, waits as waiting, call_states}
 
-  signals_by : (side : Side) (v : CvOut BufferOut) (o : Option Tid)
-      → IsPart (react site (Some f) had at.Signals (Inside (SignalFront site.t side)) (Some (told.Answer (signal_out v o)))).own
-  signals_by side v None =
-      on site (Some f) had others None site.ready None (call_state site (Some f) had at.SignalsOwn)
-      (inside at.SignalsOwn None None None None (Some f) (signals_own f)) tt
-  signals_by side v (Some u) = signals_woke v u (is_cpu site.c (slice_get site.setup.homes u.0))
+  abbrev KeepsSome : Stage → TowerOut → Type 0
+  KeepsSome stage out = IsPart (reacted site (Some f) had stage out).own
 
-  pub signals_keeps : PlanPreserves site.setup site.c (plan_to site f had at.Signals)
-  signals_keeps =
-      keeps site (Some f) had others at.Signals (Inside (SignalFront site.t (other_side site.call))) (plan_to site f had at.Signals)
-      (signals_plan site f had) (signals f) tt
-      (λ x. signals_by (other_side site.call) _ _)
+  signals_by : (v : CvOut BufferOut) (o : Option Tid) → KeepsSome at.Signals (signal_out v o)
+  signals_by v None = runs_on site (Some f) had others ready at.SignalsOwn (signals_own f) tt
+  signals_by v (Some u) =
+      woke_on site (Some f) had others at.Signals (signal_out v (Some u)) u
+      (runs_on site (Some f) had others (ready ++ u ∷ []) at.SignalsOwn (signals_own f) tt)
+      (sends_on site (Some f) had others u (signal_out v (Some u)) at.Signals (has_signalled u v f) tt) (is_cpu c (slice_get setup.homes u.0))
 
-  own_signals_woke : (v : CvOut BufferOut) (u : Tid) (b : Bool)
-      → IsPart (lift site (Some f) had at.SignalsOwn (signal_out v (Some u)) (waking site (Some f) had (Some site.t) u b)).own
-  own_signals_woke v u true =
-      on site (Some f) had others None (site.ready ++ u ∷ []) None (call_state site (Some f) had at.Releases)
-      (inside at.Releases None None None None (Some f) (releases f)) tt
-  own_signals_woke v u false =
-      on site (Some f) had others (Some u) site.ready (Some (signal_out v (Some u))) (call_state site (Some f) had at.SignalsOwn)
-      (inside at.SignalsOwn (Some u) (Some (signal_out v (Some u))) None None (Some f) (has_signalled_own u v f)) tt
+  own_signals_by : (v : CvOut BufferOut) (o : Option Tid) → KeepsSome at.SignalsOwn (signal_out v o)
+  own_signals_by v None = runs_on site (Some f) had others ready at.Releases (releases f) tt
+  own_signals_by v (Some u) =
+      woke_on site (Some f) had others at.SignalsOwn (signal_out v (Some u)) u
+      (runs_on site (Some f) had others (ready ++ u ∷ []) at.Releases (releases f) tt)
+      (sends_on site (Some f) had others u (signal_out v (Some u)) at.SignalsOwn (has_signalled_own u v f) tt) (is_cpu c (slice_get setup.homes u.0))
 
-  own_signals_by : (side : Side) (v : CvOut BufferOut) (o : Option Tid)
-      → IsPart (react site (Some f) had at.SignalsOwn (Inside (SignalFront site.t side)) (Some (told.Answer (signal_out v o)))).own
-  own_signals_by side v None =
-      on site (Some f) had others None site.ready None (call_state site (Some f) had at.Releases) (inside at.Releases None None None None (Some f)
-      (releases f)) tt
-  own_signals_by side v (Some u) = own_signals_woke v u (is_cpu site.c (slice_get site.setup.homes u.0))
-
-  pub own_signals_keeps : PlanPreserves site.setup site.c (plan_to site f had at.SignalsOwn)
-  own_signals_keeps =
-      keeps site (Some f) had others at.SignalsOwn (Inside (SignalFront site.t (tower_side site.call))) (plan_to site f had at.SignalsOwn)
-      (own_signals_plan site f had) (signals_own f) tt
-      (λ x. own_signals_by (tower_side site.call) _ _)
-
-  returned_now : (ready2 : List Tid) → IsPart (own_at (Some site.t) None ready2 site.ended None site.slept site.waits
-      (slice_set site.call_states site.t.0 (over site f had)))
+  returned_now : (ready2 : List Tid) → IsPart (own_at (Some t) None ready2 ended None slept waiting (slice_set call_states t.0 (over site f had)))
   returned_now ready2 = on site (Some f) had others None ready2 None (over site f had) (outside (Some f)) tt
 
-  releases_woke : (u : Tid) (b : Bool) → IsPart (lift site (Some f) had at.Releases (left_out (Some u)) (waking site (Some f) had (Some site.t) u b)).own
-  releases_woke u true = returned_now (site.ready ++ u ∷ [])
-  releases_woke u false =
-      on site (Some f) had others (Some u) site.ready (Some (left_out (Some u))) (call_state site (Some f) had at.Releases)
-      (inside at.Releases (Some u) (Some (left_out (Some u))) None None (Some f) (has_released u f)) tt
+  releases_by : (o : Option Tid) → KeepsSome at.Releases (left_out o)
+  releases_by None = returned_now ready
+  releases_by (Some u) =
+      woke_on site (Some f) had others at.Releases (left_out (Some u)) u (returned_now (ready ++ u ∷ []))
+      (sends_on site (Some f) had others u (left_out (Some u)) at.Releases (has_released u f) tt) (is_cpu c (slice_get setup.homes u.0))
 
-  releases_by : (o : Option Tid) → IsPart (react site (Some f) had at.Releases (Release (Leave site.t)) (Some (told.Answer (left_out o)))).own
-  releases_by None = returned_now site.ready
-  releases_by (Some u) = releases_woke u (is_cpu site.c (slice_get site.setup.homes u.0))
+-- Each stage.
 
-  pub releases_keeps : PlanPreserves site.setup site.c (plan_to site f had at.Releases)
-  releases_keeps =
-      keeps site (Some f) had others at.Releases (Release (Leave site.t)) (plan_to site f had at.Releases) (releases_plan site f had) (releases f) tt
-      (λ x. releases_by (first x.sleepers))
+answers_keep : (site : Site) {effect : Option Effect} (had : HasHad site effect) (others : Rest site.t site.slept site.waits site.call_states) {stage : Stage}
+    → Stands stage None None None None effect → FitsStage stage (Some site.call) → (x : LockState BufferState)
+    → IsPart (reacted site effect had stage (lock_answer buffer_rules (call_section site.t site.call stage) x)).own
+answers_keep site had others asks fits x = asks_by site had others x.owner
+answers_keep site had others enters fits x = first_by site had others x.above (first_answer site.t site.call x.above)
+answers_keep site had others tries fits x = tries_by site had others x.above fits (try_answer site.t site.call x.above fits)
+answers_keep site had others stands_waits fits x = grind (arith, waits_by, fits)
+answers_keep site had others asks_again fits x = asks_again_by site had others fits x.owner
+answers_keep site had others (signals f) fits x = signals_by site f had others _ _
+answers_keep site had others (signals_own f) fits x = own_signals_by site f had others _ _
+answers_keep site had others (releases f) fits x = releases_by site f had others (first x.sleepers)
+
+-- the plan of a section preserves how all threads stand
+pub section_keeps : (site : Site) (effect : Option Effect) (had : HasHad site effect) → Rest site.t site.slept site.waits site.call_states → (stage : Stage)
+    → Stands stage None None None None effect → FitsStage stage (Some site.call) → PlanPreserves site.setup site.c (plan site effect had stage)
+section_keeps site effect had others stage given fits = record {
+  lock = Buffer (buffer_of site.call);
+  name = queue.Above (call_section site.t site.call stage);
+  react = react site effect had stage (call_section site.t site.call stage);
+  used = tt;
+  is = planned site had given;
+  stays = runs_on site effect had others site.ready stage given fits;
+  gives = by_block;
+}
+  where
+    by_block : (x : TowerBlock) → IsKind (Buffer (buffer_of site.call)) x
+        → IsPart (react site effect had stage (call_section site.t site.call stage)
+        (Some (tower.answer (queue.Above (call_section site.t site.call stage)) x))).own
+    by_block (block.Above x) kind = answers_keep site had others given fits x
+    by_block (block.Queue pending homes) kind = absurd kind

@@ -1,5 +1,5 @@
 -- The passes from thread to thread are lines of the table, or steps of it without an action.
-use Rattle.std.proofs.Common.{◌≡◌, ◌≢◌, ℕ, ◌+◌, ◌<◌, Bool, true, false, ◌&&◌, ◌||◌, List, [], ◌∷◌, ◌++◌, length, slice_get, slice_set, Option, Some, None}
+use Rattle.std.proofs.Common.{◌≡◌, ◌≢◌, ℕ, ◌+◌, ◌<◌, Bool, true, false, ◌&&◌, List, [], ◌∷◌, ◌++◌, length, slice_get, slice_set, Option, Some, None}
 use Rattle.std.proofs.{Common.{IsSome, refl, ap, sym, ◌∙◌, arith, inl, inr}, lemmas.{Bool.ne_eqb, List.append-nil}, Math.Bool.or-true}
 use Rattle.{event_log.specs.declared.{entries.Entry.Entry, ids.{BufId.BufId, CpuId.CpuId, LockId.TheVariants.Pending, Tid.Tid}}, guest.specs.State.State}
 use Rattle.{guest.specs.State.{after_yield, at_start, next_of}, thread_blocks.{specs.Queues.is_in, proofs.{Members.same_tid_self, Distinct.pushed_in}}}

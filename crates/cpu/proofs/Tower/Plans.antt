@@ -2,55 +2,39 @@
 use Rattle.std.proofs.Common.{◌≡◌, slice_get, Option, Some, IsSome, refl, subst}
 use Rattle.{event_log.specs.declared.ids.{BufId.BufId, Tid.Tid}, layer_traits.specs.declared.{calls.Effect.Effect, call_states.Stage.Stage}}
 use Rattle.{layer_traits.specs.{declared.call_states.CallState.CallState, QLockLaw.slept_for, BufferLaw.call_state_of}, cpu.specs.Tower.Views.TowerOut}
-use Rattle.cpu.specs.Tower.{Privates.threads_in, Composed.{FitsStage, PlansAreLines, Stands, asks, was_handed, enters, tries, waits, was_woken, asks_again}}
+use Rattle.cpu.specs.Tower.{Composed.{FitsStage, PlansAreLines, Stands, asks, was_handed, enters, tries, waits, was_woken, asks_again}}
 use Rattle.cpu.specs.Tower.Composed.{was_handed_again, signals, signals_own, releases, has_signalled, has_signalled_own, has_released}
 use Rattle.cpu.proofs.Tower.{Callers.{Caller, HasRoom, awake, caller_in, call_state_at}, ChangedThread.own_at, HandLines.has_signalled_line}
-use Rattle.cpu.proofs.Tower.{HandLines.{has_signalled_own_line, has_released_line}, Chains.{LineOf, site_asks, site_enters, site_tries, site_waits}}
-use Rattle.cpu.proofs.Tower.Chains.{site_asks_again, site_signals, site_own_signals, site_releases, handed_line, handed_again_line, woken_line}
+use Rattle.cpu.proofs.Tower.{HandLines.{has_signalled_own_line, has_released_line}, Chains.{LineOf, site_line, handed_line, handed_again_line, woken_line}}
 
 module _ (caller : Caller) where
   open caller use {setup, c, t, ready, ended, slept, waits as waiting, call_states, guests, trace, call}
 
-  by_stands : (stage : Stage) (hand : Option Tid) (deferred : Option TowerOut) (s w : Option BufId) (effect : Option Effect)
+  by_stands : {stage : Stage} {hand : Option Tid} {deferred : Option TowerOut} {s w : Option BufId} {effect : Option Effect}
       → Stands stage hand deferred s w effect
       → FitsStage stage (Some call) → call_state_of call_states t ≡ call_state_at caller stage effect → slept_for slept t ≡ s → slept_for waiting t ≡ w
       → ((u : Tid) → hand ≡ Some u → IsSome (slice_get setup.homes u.0))
       → LineOf setup c t call (own_at (Some t) hand ready ended deferred slept waiting call_states) guests trace
-  by_stands stage hand deferred s w effect asks fits is is_s is_w known =
-      site_asks (awake caller is_s is_w) is
-  by_stands stage hand deferred s w effect enters fits is is_s is_w known =
-      site_enters (awake caller is_s is_w) is
-  by_stands stage hand deferred s w effect tries fits is is_s is_w known =
-      site_tries (awake caller is_s is_w) fits is
-  by_stands stage hand deferred s w effect waits fits is is_s is_w known =
-      site_waits (awake caller is_s is_w) is
-  by_stands stage hand deferred s w effect asks_again fits is is_s is_w known =
-      site_asks_again (awake caller is_s is_w) is
-  by_stands stage hand deferred s w effect (signals f) fits is is_s is_w known =
-      site_signals (awake caller is_s is_w) f is
-  by_stands stage hand deferred s w effect (signals_own f) fits is is_s is_w known =
-      site_own_signals (awake caller is_s is_w) f is
-  by_stands stage hand deferred s w effect (releases f) fits is is_s is_w known =
-      site_releases (awake caller is_s is_w) f is
-  by_stands stage hand deferred s w effect (was_handed b) fits is is_s is_w known =
-      handed_line caller b is is_s is_w
-  by_stands stage hand deferred s w effect (was_handed_again b) fits is is_s is_w known =
-      handed_again_line caller b fits is is_s is_w
-  by_stands stage hand deferred s w effect (was_woken b) fits is is_s is_w known =
-      woken_line caller b is is_s is_w
-  by_stands stage hand deferred s w effect (has_signalled u v f) fits is is_s is_w known =
-      has_signalled_line (awake caller is_s is_w) u f (known u refl) v is
-  by_stands stage hand deferred s w effect (has_signalled_own u v f) fits is is_s is_w known =
-      has_signalled_own_line (awake caller is_s is_w) u f (known u refl) v is
-  by_stands stage hand deferred s w effect (has_released u f) fits is is_s is_w known =
-      has_released_line (awake caller is_s is_w) u f (known u refl) is
+  by_stands asks fits is is_s is_w known = site_line (awake caller is_s is_w) _ _ asks fits is
+  by_stands enters fits is is_s is_w known = site_line (awake caller is_s is_w) _ _ enters fits is
+  by_stands tries fits is is_s is_w known = site_line (awake caller is_s is_w) _ _ tries fits is
+  by_stands waits fits is is_s is_w known = site_line (awake caller is_s is_w) _ _ waits fits is
+  by_stands asks_again fits is is_s is_w known = site_line (awake caller is_s is_w) _ _ asks_again fits is
+  by_stands (signals f) fits is is_s is_w known = site_line (awake caller is_s is_w) _ _ (signals f) fits is
+  by_stands (signals_own f) fits is is_s is_w known = site_line (awake caller is_s is_w) _ _ (signals_own f) fits is
+  by_stands (releases f) fits is is_s is_w known = site_line (awake caller is_s is_w) _ _ (releases f) fits is
+  by_stands (was_handed b) fits is is_s is_w known = handed_line caller b is is_s is_w
+  by_stands (was_handed_again b) fits is is_s is_w known = handed_again_line caller b fits is is_s is_w
+  by_stands (was_woken b) fits is is_s is_w known = woken_line caller b fits is is_s is_w
+  by_stands (has_signalled u v f) fits is is_s is_w known = has_signalled_line (awake caller is_s is_w) u f (known u refl) v is
+  by_stands (has_signalled_own u v f) fits is is_s is_w known = has_signalled_own_line (awake caller is_s is_w) u f (known u refl) v is
+  by_stands (has_released u f) fits is is_s is_w known = has_released_line (awake caller is_s is_w) u f (known u refl) is
 
 pub plans_are_lines : PlansAreLines
 plans_are_lines setup c own guests trace t call going known =
     let call_state_now : CallState = call_state_of own.call_states t in
     let room : HasRoom own guests t = assumption in
-    let line = by_stands (caller_in setup c own guests t room trace call call_state_now.position) call_state_now.stage (threads_in own).hand
-    own.cv.lock.sleep.deferred (slept_for own.cv.lock.slept t) (slept_for own.cv.waits t) call_state_now.effect going.stands
+    let line = by_stands (caller_in setup c own guests t room trace call call_state_now.position) going.stands
     (subst (FitsStage call_state_now.stage) going.begun going.fits)
     (λ i. record { stage = call_state_now.stage; call = going.begun i; position = call_state_now.position; effect = call_state_now.effect }) refl refl known in
     rw going.current line

@@ -3,11 +3,11 @@ use Rattle.std.proofs.Common.{◌≡◌, Bool, true, false, List, [], ◌∷◌,
 use Rattle.event_log.specs.{declared.ids.{CpuId.CpuId, LockId.LockId, Tid.Tid}, History.same_lock, Actions.{Action, action_in, Phase, phase, renamed}}
 use Rattle.event_log.{specs.Sections.{Section, block_after, sections_in}, proofs.{Foreign.phase_others, Renaming.{next_action_renamed, others_renamed}}}
 use Rattle.{event_log.proofs.Renaming.phase_renamed, layer_traits.specs.declared.steps.{Reason.{Reason, TheVariants.TraceFull}, Step.TheVariants.Stepped}}
-use Rattle.layer_traits.specs.{declared.steps.Step.TheVariants.Halted, Along.IsStep, Looks.Tries, Plans.{Left, Acting, Follows, at_give, is_in_section, reply}}
-use Rattle.{layer_traits.{specs.BufferLaw.Buffering, proofs.{LookLemmas.tries_renamed, PlanRenaming.{map-append, reply_viewed}}}, cpu.specs.Table.Blocks.Block}
-use Rattle.cpu.specs.Table.{Blocks.Name, Edits.{edited, kernel}, Setups.{Setup, Private, opening as table_opening, thread_at, Call as TableCall}, Steps.acting}
-use Rattle.cpu.specs.Table.{Steps.{acting_on, after_reply, chosen, cpu_step, halted_at, halted_by, step_in}, Choice.{Alone, Choice, Goes, Halts, Ask, asked}}
-use Rattle.cpu.specs.{Table.Choice.{at_call, at_hand, at_ready, choice}, Tower.Views.{TowerBlock, TowerName, answer_view, name_of, tower, view}}
+use Rattle.layer_traits.specs.{declared.steps.Step.{TheVariants.Halted, Step}, Along.IsStep, Looks.Tries, Plans.{Left, Acting, Follows, at_give, is_in_section}}
+use Rattle.layer_traits.{specs.{Plans.reply, BufferLaw.Buffering}, proofs.{LookLemmas.tries_renamed, PlanRenaming.{map-append, reply_viewed}}}
+use Rattle.cpu.specs.Table.{Blocks.{Block, Name}, Edits.{edited, kernel}, Setups.{Setup, Private, opening as table_opening, thread_at, Call as TableCall}}
+use Rattle.cpu.specs.Table.{Steps.{acting, acting_on, after_reply, chosen, cpu_step, halted_at, halted_by, step_in}, Choice.{Alone, Choice, Goes, Halts, Ask}}
+use Rattle.cpu.specs.{Table.Choice.{asked, at_call, at_hand, at_ready, choice}, Tower.Views.{TowerBlock, TowerName, answer_view, name_of, tower, view}}
 use Rattle.cpu.{specs.Tower.Composed.{HaltsExactly, HandIsKnown, IsKind, named}, proofs.Tower.{PolledSystem.{Polled, Way}, SectionViews.tables_agree}}
 
 -- The blocks of the locks are of their kinds.
@@ -90,17 +90,20 @@ module _ {A : Type 0} (polled : Polled) (way : Way A polled) (got : Left Bufferi
 
 -- A step without an action.
 
+still_is_step : (ActsFor : CpuId → Type 0) (setup : Setup) (c : CpuId) (p q : Private) (log : List (Action Name)) (answer : Step)
+    → cpu_step setup c p log ≡ record { next = q; acts = []; answer = answer } → IsStep ActsFor (cpu_step setup c) p q log log answer
+still_is_step ActsFor setup c p q log answer is = record {
+  others = [];
+  foreign = λ d acts. tt;
+  next = ap (λ o. o.next) (sym is);
+  grows = ap (λ o. o.acts ++ log) (sym is);
+  answers = ap (λ o. o.answer) (sym is);
+}
+
 pub alone_is_step : (ActsFor : CpuId → Type 0) (setup : Setup) (c : CpuId) (p q : Private) (log : List (Action Name))
     → is_in_section (phase c log) ≡ false → choice setup c p ≡ Alone q → IsStep ActsFor (cpu_step setup c) p q log log Stepped
 alone_is_step ActsFor setup c p q log outside chose =
-    let is = ap (step_in setup c p log) outside ∙ ap (λ x. chosen setup c p x log) chose in
-    record {
-      others = [];
-      foreign = λ d acts. tt;
-      next = ap (λ o. o.next) (sym is);
-      grows = ap (λ o. o.acts ++ log) (sym is);
-      answers = ap (λ o. o.answer) (sym is);
-    }
+    still_is_step ActsFor setup c p q log Stepped (ap (step_in setup c p log) outside ∙ ap (λ x. chosen setup c p x log) chose)
 
 halts_by : (x : Choice) (reason : Reason) → halted_by x ≡ Some reason → x ≡ Halts reason
 halts_by x reason is = grind arith
@@ -108,14 +111,8 @@ halts_by x reason is = grind arith
 pub halted_is_step : (ActsFor : CpuId → Type 0) (setup : Setup) (c : CpuId) (p : Private) (log : List (Action Name)) (reason : Reason)
     → is_in_section (phase c log) ≡ false → halted_at setup c p ≡ Some reason → IsStep ActsFor (cpu_step setup c) p p log log (Halted reason)
 halted_is_step ActsFor setup c p log reason outside halted =
-    let is = ap (step_in setup c p log) outside ∙ ap (λ x. chosen setup c p x log) (halts_by (choice setup c p) reason halted) in
-    record {
-      others = [];
-      foreign = λ d acts. tt;
-      next = ap (λ o. o.next) (sym is);
-      grows = ap (λ o. o.acts ++ log) (sym is);
-      answers = ap (λ o. o.answer) (sym is);
-    }
+    still_is_step ActsFor setup c p p log (Halted reason)
+    (ap (step_in setup c p log) outside ∙ ap (λ x. chosen setup c p x log) (halts_by (choice setup c p) reason halted))
 
 pub halts_exactly : HaltsExactly
 halts_exactly setup c p log = grind arith

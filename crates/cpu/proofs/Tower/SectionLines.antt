@@ -1,24 +1,33 @@
--- The plan of a section of a call is a line of the table, where nobody is in the hand.
+-- The plan of each section of a call is a line of the table, where nobody is in the hand: its caller asks, enters, tries, waits, signals and
+-- releases.
 use Rattle.std.proofs.Common.{◌≡◌, ◌⊎◌, inl, inr, ℕ, ◌<◌, Bool, true, false, List, [], ◌∷◌, ◌++◌, length, slice_get, slice_set, Option, Some, None, IsSome}
-use Rattle.std.proofs.{Common.{is_some, if◌then◌else◌, refl, ap, sym, ◌∙◌, subst, arith, lt-ltb}, lemmas.List.{get_or-set_same, get_or-set_other, set-get_or}}
-use Rattle.event_log.specs.{declared.{entries.Entry.Entry, ids.{BufId.BufId, LockId.TheVariants.Buffer, Tid.Tid}}, History.same_cpu, Messages.Message}
-use Rattle.{event_log.specs.Messages.no_message, guest.specs.State.{State, next_of}, thread_blocks.specs.Queues.is_in}
+use Rattle.std.proofs.{Common.{is_some, if◌then◌else◌, refl, ap, sym, ◌∙◌, subst, arith, lt-ltb, ◌≢◌}, lemmas.List.{get_or-set_same, get_or-set_other}}
+use Rattle.std.proofs.lemmas.List.{set-get_or}
+use Rattle.event_log.specs.{declared.{entries.Entry.Entry, ids.{BufId.BufId, LockId.TheVariants.Buffer, Tid.Tid, CpuId.CpuId}}, History.same_cpu}
+use Rattle.{event_log.specs.Messages.{Message, no_message}, guest.specs.State.{State, next_of}, thread_blocks.specs.Queues.{is_in, first}}
 use Rattle.layer_traits.{proofs.CountLemmas.same_cpu_sym, specs.declared.calls.{Call.{Call as TowerCall, TheVariants.{Send, Recv, Close}}, Effect.Effect}}
-use Rattle.layer_traits.specs.declared.{calls.Reply.Reply, locked.QOut.QOut, conditions.CvOut.CvOut, buffer_edits.{BufferEdit.BufferEdit, BufferOut.BufferOut}}
+use Rattle.layer_traits.specs.declared.{calls.Reply.Reply, locked.{QOut.QOut, QEdit.TheVariants.Release, Side.{Side, TheVariants.{Receivers, Senders}}}}
+use Rattle.layer_traits.specs.declared.{conditions.{CvOut.CvOut, CvLeave.TheVariants.Wait}, buffer_edits.{BufferEdit.BufferEdit, BufferOut.BufferOut}}
 use Rattle.layer_traits.specs.declared.{buffer_edits.BufferOut.TheVariants.{Entered, NotYet, Done, WasShut}, call_states.{CallState.CallState, Stage.Stage}}
-use Rattle.layer_traits.specs.{declared.call_states.Stage.TheVariants.Idle, BufferBlocks.{BufferState, buffer_answer}, BufferProtocol.buffer_rules}
-use Rattle.layer_traits.specs.{BufferLaw.{BufferPlan, Buffering, buffer_of, first_of, going, left_recorded, no_call, call_state_of, try_of}, Conditions.CvCall}
-use Rattle.layer_traits.specs.{CvLaw.{Waiting, cv_plan, left_waiting}, QLockLaw.{Locking, left_after, slept_for}, QLocking.{LockState, lock_answer, lock_moves}}
-use Rattle.layer_traits.specs.{Places.{Threads, is_cpu}, Plans.{Left, Plan, Now, Act, raised}, SleepLaw.{Sleeping, left_done, sleep_plan}}
-use Rattle.cpu.specs.{Guests.after_answer, Table.{Blocks.{Answer, effect_of}, Setups.{Call, Thread, Private, home_of, program_of, thread_at}}}
-use Rattle.cpu.specs.Table.Choice.{after_section, at_buffer, recorded, returned_at, section_at, settled, slept_if, with_call as call_put, woken}
-use Rattle.cpu.specs.Tower.{Views.{TowerAnswer, TowerBlock, TowerName, TowerOut, answer_view, name_of, tower}, Composed.{HandIsKnown, IsKind, IsLine, IsLined}}
-use Rattle.cpu.specs.Tower.Privates.{asks_in, call_from, guest_at, guests_after, message_of, private_after, private_of, thread_from, trace_after}
-use Rattle.cpu.proofs.Tower.{Callers.Site, ChangedThread.{goes, gone, numbered_long, own_at, part_at, parts, threads_at}, SettledAnswers.{asks_for, calling}}
-use Rattle.cpu.proofs.Tower.SettledAnswers.{done_with, from_t, goes_on, recorded_is, put, returns}
+use Rattle.layer_traits.specs.declared.call_states.Stage.TheVariants.{Idle, Acquires, Enters, Tries, Waits, AcquiresAgain, Signals, SignalsOwn, Releases}
+use Rattle.layer_traits.specs.{BufferBlocks.{BufferState, buffer_answer}, BufferProtocol.buffer_rules, BufferLaw.{BufferPlan, Buffering, buffer_of, first_of}}
+use Rattle.layer_traits.specs.BufferLaw.{going, left_recorded, no_call, call_state_of, try_of, entry_of, plan_at, reply_of, section_at as call_section}
+use Rattle.layer_traits.specs.{Conditions.CvCall, CvLaw.{Waiting, cv_plan, left_waiting}, QLockLaw.{Locking, left_after, slept_for}, QLocking.LockState}
+use Rattle.layer_traits.specs.{QLocking.{lock_answer, lock_moves, wait_list_asked, asker_report}, Places.{Threads, is_cpu}, Plans.{Left, Plan, Now, Act}}
+use Rattle.{layer_traits.specs.{Plans.raised, SleepLaw.{Sleeping, left_done, sleep_plan}}, cpu.specs.{Guests.after_answer, Table.Blocks.effect_of}}
+use Rattle.cpu.specs.Table.{Setups.{Call, Thread, Private, home_of, program_of, thread_at}, Choice.{after_section, at_buffer, recorded, returned_at}}
+use Rattle.cpu.specs.{Table.Choice.{section_at, settled, slept_if, with_call as call_put, woken}, Tower.Views.{TowerAnswer, TowerBlock, TowerName, TowerOut}}
+use Rattle.cpu.specs.Tower.{Views.{answer_view, name_of, tower, report_in}, Composed.{HandIsKnown, IsKind, IsLine, IsLined, Stands, FitsStage, asks, enters}}
+use Rattle.cpu.specs.Tower.{Composed.{tries, waits as stands_waits, asks_again, signals, signals_own, releases}, Privates.{asks_in, call_from, guest_at}}
+use Rattle.cpu.{specs.Tower.Privates.{guests_after, message_of, private_after, private_of, thread_from, trace_after, tid}, proofs.Tower.Callers.Site}
+use Rattle.cpu.proofs.Tower.{Callers.call_state_at, ChangedThread.{goes, gone, numbered_long, own_at, part_at, parts, threads_at}, SettledAnswers.asks_for}
+use Rattle.cpu.proofs.Tower.SettledAnswers.{calling, done_with, from_t, goes_on, recorded_is, put, returns}
 use Rattle.event_log.specs.declared.entries.Kind.TheVariants as kind
 use Rattle.layer_traits.specs.declared.queue_edits.QueueEdit.TheVariants as queue
 use Rattle.layer_traits.specs.declared.queues.QueueAnswer.TheVariants as told
+use Rattle.layer_traits.specs.declared.locked.QOut.TheVariants as lock
+use Rattle.layer_traits.specs.declared.conditions.CvOut.TheVariants as cv
+use Rattle.layer_traits.specs.declared.queue_edits.QueueBlock.TheVariants as block
 
 -- What a call's sections are, by what it asks.
 
@@ -79,97 +88,99 @@ react_in (Act lock name react) = react
 abbrev pub HasHad : Site → Option Effect → Type 0
 HasHad site effect = (going (call_state_of site.call_states site.t) site.call).effect ≡ effect
 
+-- the outcome of a section that woke nobody, and of one that woke a thread, whose caller goes on
+abbrev pub calm_out : QOut (CvOut BufferOut) → TowerOut
+calm_out out = record { out = out; slept = false; woke = None }
+
+abbrev pub waking_out : QOut (CvOut BufferOut) → Tid → TowerOut
+waking_out out u = record { out = out; slept = false; woke = Some u }
+
+-- what is answered to an Acquire, to an edit inside, to a signal, a leave and a wait
+abbrev pub asked_out : Option Tid → TowerOut
+asked_out o = record { out = asker_report o; slept = is_some (wait_list_asked o); woke = None }
+
+abbrev pub did_out : BufferOut → TowerOut
+did_out o = calm_out (lock.Did (cv.Did o))
+
+abbrev pub signal_out : CvOut BufferOut → Option Tid → TowerOut
+signal_out v o = record { out = lock.Did v; slept = false; woke = o }
+
+abbrev pub left_out : Option Tid → TowerOut
+left_out o = record { out = lock.Released cv.Left; slept = false; woke = o }
+
+abbrev pub wait_out : Side → Option Tid → TowerOut
+wait_out side o = record { out = lock.Released (cv.Waited side); slept = true; woke = o }
+
 module _ (site : Site) (effect : Option Effect) (is_effect : HasHad site effect) where
+  open site use {setup, c, runner, t, ready, ended, slept, waits, call_states, guests, trace, call, position, in_guests, in_call_states, is_slept, is_waits}
+
   abbrev pub own : Buffering
-  own = part_at site.runner None None
+  own = part_at runner None None
 
   abbrev pub g : State
-  g = guest_at site.guests site.t
+  g = guest_at guests t
 
   abbrev pub e : Bool
-  e = is_in site.t site.ended
+  e = is_in t ended
 
   abbrev pub threads : List Thread
-  threads = threads_at own site.guests
+  threads = threads_at own guests
 
-  abbrev pub within : site.t.0 < length threads
-  within = subst (λ n. site.t.0 < n) (sym (numbered_long _ 0 site.guests)) site.in_guests
+  abbrev pub within : t.0 < length threads
+  within = subst (λ n. t.0 < n) (sym (numbered_long _ 0 guests)) in_guests
 
   abbrev pub buf : BufId
-  buf = buffer_of site.call
+  buf = buffer_of call
 
   abbrev pub call_state : Stage → CallState
-  call_state stage = record { stage = stage; call = Some site.call; position = site.position; effect = effect }
+  call_state stage = call_state_at site.caller stage effect
 
   abbrev pub k : Stage → Call
-  k stage = call_from site.call site.position effect stage
+  k stage = call_from call position effect stage
 
   -- the table's private state with the call at this stage
   abbrev pub from : Stage → Private
-  from stage = from_t site.setup site.c site.ready threads site.trace site.t g e within (k stage)
+  from stage = from_t setup c ready threads trace t g e within (k stage)
 
   abbrev pub after : Left Buffering Reply → Private
-  after left = private_after site.setup site.c site.t site.call own site.guests site.trace left
+  after left = private_after setup c t call own guests trace left
 
   abbrev pub guest_by : Option Reply → State
   guest_by None = g
-  guest_by (Some reply) = after_answer (Some reply) (next_of (program_of site.setup site.t) g) g
+  guest_by (Some reply) = after_answer (Some reply) (next_of (program_of setup t) g) g
 
-  pub guests_by : (answer : Option Reply) → guests_after site.setup site.t answer site.guests ≡ slice_set site.guests site.t.0 (guest_by answer)
+  pub guests_by : (answer : Option Reply) → guests_after setup t answer guests ≡ slice_set guests t.0 (guest_by answer)
   guests_by answer = grind (arith, set-get_or)
 
   -- what a poll leaves after which thread t runs on
+  abbrev pub left_on : (hand2 : Option Tid) (ready2 : List Tid) (deferred2 : Option TowerOut) (state2 : CallState) (answer : Option Reply)
+      → Left Buffering Reply
+  left_on hand2 ready2 deferred2 state2 answer =
+      record { own = own_at (Some t) hand2 ready2 ended deferred2 slept waits (slice_set call_states t.0 state2); answer = answer }
+
   pub runs_on : (hand2 : Option Tid) (ready2 : List Tid) (deferred2 : Option TowerOut) (state2 : CallState) (answer : Option Reply)
-      → after (record {
-        own = own_at (Some site.t) hand2 ready2 site.ended deferred2 site.slept site.waits (slice_set site.call_states site.t.0 state2);
-        answer = answer;
-      })
-      ≡ parts (Some site.t) ready2 hand2 (slice_set threads site.t.0 (thread_from state2 None None (is_some deferred2) e (guest_by answer)))
-      (trace_after site.c site.t buf effect state2.effect site.trace)
+      → after (left_on hand2 ready2 deferred2 state2 answer)
+      ≡ parts (Some t) ready2 hand2 (slice_set threads t.0 (thread_from state2 None None (is_some deferred2) e (guest_by answer)))
+      (trace_after c t buf effect state2.effect trace)
   runs_on hand2 ready2 deferred2 state2 answer =
-      (λ i. private_of (own_at (Some site.t) hand2 ready2 site.ended deferred2 site.slept site.waits (slice_set site.call_states site.t.0 state2))
-      (guests_by answer i)
-      (trace_after site.c site.t buf (is_effect i) (get_or-set_same site.call_states site.t.0 state2 no_call site.in_call_states i).effect site.trace))
-      ∙ goes site.runner None None hand2 ready2 deferred2 state2 (guest_by answer)
-      (trace_after site.c site.t buf effect state2.effect site.trace) None None site.is_slept site.is_waits
+      (λ i. private_of (own_at (Some t) hand2 ready2 ended deferred2 slept waits (slice_set call_states t.0 state2)) (guests_by answer i)
+      (trace_after c t buf (is_effect i) (get_or-set_same call_states t.0 state2 no_call in_call_states i).effect trace))
+      ∙ goes runner None None hand2 ready2 deferred2 state2 (guest_by answer) (trace_after c t buf effect state2.effect trace) None None is_slept is_waits
 
   -- what a poll leaves after which thread t sleeps for the lock, or waits
-  pub sleeps_now : (stage : Stage) → after (record {
-    own = own_at None None site.ready site.ended None
-        (slice_set site.slept site.t.0 (Some buf)) site.waits (slice_set site.call_states site.t.0 (call_state stage));
-    answer = None;
-  })
-      ≡ parts None site.ready None (slice_set threads site.t.0 (thread_from (call_state stage) (Some buf) None false e g))
-      (trace_after site.c site.t buf effect effect site.trace)
-  sleeps_now stage =
-      (λ i. private_of (own_at None None site.ready site.ended None (slice_set site.slept site.t.0 (Some buf)) site.waits
-      (slice_set site.call_states site.t.0 (call_state stage))) (guests_by None i)
-      (trace_after site.c site.t buf (is_effect i) (get_or-set_same site.call_states site.t.0
-      (call_state stage) no_call site.in_call_states i).effect site.trace))
-      ∙ gone site.runner None None None site.ready
-      (slice_set site.slept site.t.0 (Some buf)) site.waits (call_state stage) g
-      (trace_after site.c site.t buf effect effect site.trace) (Some buf) None (λ j other. get_or-set_other site.slept site.t.0 j (Some buf) None other)
-      (λ j other. refl)
-      (get_or-set_same site.slept site.t.0 (Some buf) None site.in_slept) site.is_waits
+  abbrev pub left_gone : (hand2 : Option Tid) (ready2 : List Tid) (slept2 waits2 : List (Option BufId)) (stage : Stage) → Left Buffering Reply
+  left_gone hand2 ready2 slept2 waits2 stage =
+      record { own = own_at None hand2 ready2 ended None slept2 waits2 (slice_set call_states t.0 (call_state stage)); answer = None }
 
-  pub waits_now : (hand2 : Option Tid) (ready2 : List Tid) (stage : Stage)
-      → after (record {
-        own = own_at None hand2 ready2 site.ended None site.slept (slice_set site.waits site.t.0 (Some buf))
-            (slice_set site.call_states site.t.0 (call_state stage));
-        answer = None;
-      })
-      ≡ parts None ready2 hand2 (slice_set threads site.t.0 (thread_from (call_state stage) None (Some buf) false e g))
-      (trace_after site.c site.t buf effect effect site.trace)
-  waits_now hand2 ready2 stage =
-      (λ i. private_of (own_at None hand2 ready2 site.ended None site.slept (slice_set site.waits site.t.0 (Some buf))
-      (slice_set site.call_states site.t.0 (call_state stage))) (guests_by None i)
-      (trace_after site.c site.t buf (is_effect i) (get_or-set_same site.call_states site.t.0
-      (call_state stage) no_call site.in_call_states i).effect site.trace))
-      ∙ gone site.runner None None hand2 ready2 site.slept
-      (slice_set site.waits site.t.0 (Some buf)) (call_state stage) g
-      (trace_after site.c site.t buf effect effect site.trace) None (Some buf) (λ j other. refl)
-      (λ j other. get_or-set_other site.waits site.t.0 j (Some buf) None other)
-      site.is_slept (get_or-set_same site.waits site.t.0 (Some buf) None site.in_waits)
+  pub gone_now : (hand2 : Option Tid) (ready2 : List Tid) (slept2 waits2 : List (Option BufId)) (stage : Stage) (s w : Option BufId)
+      → ((j : ℕ) → j ≢ t.0 → slept_for slept2 (tid j) ≡ slept_for slept (tid j)) → ((j : ℕ) → j ≢ t.0 → slept_for waits2 (tid j) ≡ slept_for waits (tid j))
+      → slept_for slept2 t ≡ s → slept_for waits2 t ≡ w
+      → after (left_gone hand2 ready2 slept2 waits2 stage)
+      ≡ parts None ready2 hand2 (slice_set threads t.0 (thread_from (call_state stage) s w false e g)) (trace_after c t buf effect effect trace)
+  gone_now hand2 ready2 slept2 waits2 stage s w same_s same_w is_s is_w =
+      (λ i. private_of (own_at None hand2 ready2 ended None slept2 waits2 (slice_set call_states t.0 (call_state stage))) (guests_by None i)
+      (trace_after c t buf (is_effect i) (get_or-set_same call_states t.0 (call_state stage) no_call in_call_states i).effect trace))
+      ∙ gone runner None None hand2 ready2 slept2 waits2 (call_state stage) g (trace_after c t buf effect effect trace) s w same_s same_w is_s is_w
 
   -- The plan of a section whose caller neither sleeps nor waits.
 
@@ -177,89 +188,336 @@ module _ (site : Site) (effect : Option Effect) (is_effect : HasHad site effect)
   Beneath = Plan TowerName TowerAnswer (Waiting BufferOut) TowerOut
 
   abbrev pub beneath : CvCall BufferEdit → Beneath
-  beneath s = raised (λ l. left_waiting ((lock_moves buffer_rules).caller s) buf site.waits l.own l.answer)
-      (raised (λ l. left_after ((lock_moves buffer_rules).caller s) buf site.slept l.own l.answer)
-      (sleep_plan (lock_moves buffer_rules) site.setup.homes site.c buf s own.cv.lock.sleep))
+  beneath s = raised (λ l. left_waiting ((lock_moves buffer_rules).caller s) buf waits l.own l.answer)
+      (raised (λ l. left_after ((lock_moves buffer_rules).caller s) buf slept l.own l.answer)
+      (sleep_plan (lock_moves buffer_rules) setup.homes c buf s own.cv.lock.sleep))
 
-  pub beneath_is : (s : CvCall BufferEdit) → slept_for site.waits ((lock_moves buffer_rules).caller s) ≡ None
-      → slept_for site.slept ((lock_moves buffer_rules).caller s) ≡ None → cv_plan (lock_moves buffer_rules) site.setup.homes site.c buf s own.cv ≡ beneath s
+  pub beneath_is : (s : CvCall BufferEdit) → slept_for waits ((lock_moves buffer_rules).caller s) ≡ None
+      → slept_for slept ((lock_moves buffer_rules).caller s) ≡ None → cv_plan (lock_moves buffer_rules) setup.homes c buf s own.cv ≡ beneath s
   beneath_is s w n = grind arith
 
   abbrev pub fresh : Stage → CvCall BufferEdit → BufferPlan Reply
-  fresh stage s = raised (left_recorded site.t site.call (call_state stage) site.call_states stage) (beneath s)
+  fresh stage s = raised (left_recorded t call (call_state stage) call_states stage) (beneath s)
 
   abbrev pub react : Stage → CvCall BufferEdit → Option TowerAnswer → Left Buffering Reply
   react stage s = react_in (fresh stage s)
 
-  pub line : (stage : Stage) (s : CvCall BufferEdit) (plan : BufferPlan Reply) → plan ≡ fresh stage s
-      → section_at site.t (k stage) stage ≡ name_of (queue.Above s) → after (react stage s None) ≡ from stage
-      → ((x : LockState BufferState) → HandIsKnown site.setup (react stage s (Some (told.Answer (lock_answer buffer_rules s x)))).own
-      → after (react stage s (Some (told.Answer (lock_answer buffer_rules s x))))
-      ≡ after_section site.setup site.c (from stage) (answer_view (told.Answer (lock_answer buffer_rules s x))))
-      → IsLine site.setup site.c (from stage) plan after
-  line stage s plan is name stays gives = record {
-    lock = Buffer buf;
-    name = queue.Above s;
-    react = react stage s;
-    is = is;
-    asks = asks_for site.setup site.c site.ready threads site.trace site.t g e within (k stage) ∙ ap (at_buffer buf) name;
-    used = tt;
-    stays = stays;
-    gives = by_block;
-  }
-    where
-      by_block : (x : TowerBlock) → IsKind (Buffer buf) x → HandIsKnown site.setup (react stage s (Some (tower.answer (queue.Above s) x))).own
-          → after (react stage s (Some (tower.answer (queue.Above s) x)))
-          ≡ after_section site.setup site.c (from stage) (answer_view (tower.answer (queue.Above s) x))
-      by_block x kind = grind arith
+  -- the plan of a stage, and what it makes of an answer
+  abbrev pub plan : Stage → BufferPlan Reply
+  plan stage = plan_at setup.homes c t call stage (call_state stage) own
+
+  abbrev pub reacted : Stage → TowerOut → Left Buffering Reply
+  reacted stage out = react stage (call_section t call stage) (Some (told.Answer out))
 
   abbrev pub locked : Left (Sleeping (QOut (CvOut BufferOut))) TowerOut → Left (Locking (CvOut BufferOut)) TowerOut
-  locked l = left_after site.t buf site.slept l.own l.answer
+  locked l = left_after t buf slept l.own l.answer
 
   abbrev pub waiting : Left (Locking (CvOut BufferOut)) TowerOut → Left (Waiting BufferOut) TowerOut
-  waiting l = left_waiting site.t buf site.waits l.own l.answer
+  waiting l = left_waiting t buf waits l.own l.answer
 
   -- what the part leaves after a section with this outcome, where the threads are now these
   abbrev pub lift : Stage → TowerOut → Threads → Left Buffering Reply
-  lift stage outcome own2 = left_recorded site.t site.call (call_state stage) site.call_states stage (waiting (locked (left_done outcome own2)))
+  lift stage outcome own2 = left_recorded t call (call_state stage) call_states stage (waiting (locked (left_done outcome own2)))
 
   -- with a thread woken that is at home here, or is not
   abbrev pub waking : Option Tid → Tid → Bool → Threads
-  waking current u b = record {
-    current = current;
-    hand = if b then None else Some u;
-    ready = if b then site.ready ++ u ∷ [] else site.ready;
-    ended = site.ended;
-  }
+  waking current u b = record { current = current; hand = if b then None else Some u; ready = if b then ready ++ u ∷ [] else ready; ended = ended }
 
   pub by_home : (u : Tid) (F : Bool → Left Buffering Reply) (H : Bool → Private) → ((b : Bool) → after (F b) ≡ H b)
-      → (HandIsKnown site.setup (F false).own → IsSome (slice_get site.setup.homes u.0))
-      → HandIsKnown site.setup (F (is_cpu site.c (slice_get site.setup.homes u.0))).own
-      → after (F (is_cpu site.c (slice_get site.setup.homes u.0))) ≡ H (same_cpu (home_of site.setup u) site.c)
+      → (HandIsKnown setup (F false).own → IsSome (slice_get setup.homes u.0))
+      → HandIsKnown setup (F (is_cpu c (slice_get setup.homes u.0))).own
+      → after (F (is_cpu c (slice_get setup.homes u.0))) ≡ H (same_cpu (home_of setup u) c)
   by_home u F H each hand known = grind (arith, same_cpu_sym)
 
   -- The table's side.
 
   abbrev pub with_call : Call → Thread
-  with_call next = calling site.setup site.c site.ready threads site.trace site.t g e within next
+  with_call next = calling setup c ready threads trace t g e within next
 
   abbrev pub stands : List Tid → Option Tid → Call → List Entry → Private
-  stands ready2 hand next trace2 = parts (Some site.t) ready2 hand (slice_set threads site.t.0 (with_call next)) trace2
+  stands ready2 hand next trace2 = parts (Some t) ready2 hand (slice_set threads t.0 (with_call next)) trace2
 
   abbrev pub putting : Call → Call → List Entry → Thread → Private
-  putting now next trace2 x = put site.setup site.c site.ready threads site.trace site.t g e within now next trace2 x
+  putting now next trace2 x = put setup c ready threads trace t g e within now next trace2 x
 
-  pub by_table : (stage : Stage) (a : Answer) (next : Call) (trace2 : List Entry)
-      → recorded site.c (from stage) site.t (k stage) (k stage).stage a.told ≡ putting (k stage) next trace2 (thread_at (from stage) site.t)
-      → after_section site.setup site.c (from stage) a
-      ≡ settled site.setup (woken site.setup site.c a.woke (slept_if a.slept (stands site.ready None next trace2)))
-  by_table stage a next trace2 is = recorded_is site.setup site.c site.ready threads site.trace site.t g e within (k stage) a next trace2 is
+  -- what the table makes of an answer
+  abbrev pub by_answer : Stage → TowerOut → Private
+  by_answer stage out = after_section setup c (from stage) (answer_view (told.Answer out))
 
-  pub stays_so : (next : Call) (ready2 : List Tid) (trace2 : List Entry) → ((p : Private) → returned_at site.setup p site.t next next.stage ≡ p)
-      → settled site.setup (stands ready2 None next trace2) ≡ stands ready2 None next trace2
-  stays_so next ready2 trace2 is = goes_on site.setup site.c site.ready threads site.trace site.t g e within next ready2 trace2 is
+  -- the section of a stage that told this leaves the call so
+  abbrev pub Records : Stage → TowerOut → Call → List Entry → Type 0
+  Records stage out next trace2 =
+      recorded c (from stage) t (k stage) (k stage).stage (report_in out.out) ≡ putting (k stage) next trace2 (thread_at (from stage) t)
+
+  pub by_table : (stage : Stage) (out : TowerOut) (next : Call) (trace2 : List Entry) → Records stage out next trace2
+      → by_answer stage out ≡ settled setup (woken setup c out.woke (slept_if out.slept (stands ready None next trace2)))
+  by_table stage out next trace2 is = recorded_is setup c ready threads trace t g e within (k stage) (answer_view (told.Answer out)) next trace2 is
+
+  pub stays_so : (next : Call) (ready2 : List Tid) (trace2 : List Entry) → ((p : Private) → returned_at setup p t next next.stage ≡ p)
+      → settled setup (stands ready2 None next trace2) ≡ stands ready2 None next trace2
+  stays_so next ready2 trace2 is = goes_on setup c ready threads trace t g e within next ready2 trace2 is
 
   pub has_returned : (now : Call) (ready2 : List Tid) (trace2 : List Entry)
-      → settled site.setup (stands ready2 None (record now { stage = Idle }) trace2)
-      ≡ parts (Some site.t) ready2 None (slice_set threads site.t.0 (done_with site.setup site.c site.ready threads site.trace site.t g e within now)) trace2
-  has_returned now ready2 trace2 = returns site.setup site.c site.ready threads site.trace site.t g e within now ready2 trace2
+      → settled setup (stands ready2 None (record now { stage = Idle }) trace2)
+      ≡ parts (Some t) ready2 None (slice_set threads t.0 (done_with setup c ready threads trace t g e within now)) trace2
+  has_returned now ready2 trace2 = returns setup c ready threads trace t g e within now ready2 trace2
+
+  -- Both sides after a section.
+
+  -- it woke nobody, and the call goes on
+  pub runs : (stage : Stage) (out : QOut (CvOut BufferOut)) (state2 : CallState) (next : Call) (trace2 : List Entry)
+      → Records stage (calm_out out) next trace2 → ((p : Private) → returned_at setup p t next next.stage ≡ p)
+      → parts (Some t) ready None (slice_set threads t.0 (thread_from state2 None None false e g)) (trace_after c t buf effect state2.effect trace)
+      ≡ stands ready None next trace2
+      → after (left_on None ready None state2 None) ≡ by_answer stage (calm_out out)
+  runs stage out state2 next trace2 is stays same =
+      runs_on None ready None state2 None ∙ same ∙ sym (by_table stage (calm_out out) next trace2 is ∙ stays_so next ready trace2 stays)
+
+  -- a thread that was woken is ready or in the hand, and the call goes on or is over
+  abbrev pub woke_to : Stage → Tid → Bool → Private
+  woke_to next u b = settled setup (if b then stands (ready ++ u ∷ []) None (k next) trace else stands ready (Some u) (k next) trace)
+
+  -- it woke a thread
+  pub wakes : (stage next : Stage) (out : QOut (CvOut BufferOut)) (u : Tid) → Records stage (waking_out out u) (k next) trace
+      → ((b : Bool) → after (lift stage (waking_out out u) (waking (Some t) u b)) ≡ woke_to next u b)
+      → HandIsKnown setup (lift stage (waking_out out u) (waking (Some t) u (is_cpu c (slice_get setup.homes u.0)))).own
+      → (HandIsKnown setup (lift stage (waking_out out u) (waking (Some t) u false)).own → IsSome (slice_get setup.homes u.0))
+      → after (lift stage (waking_out out u) (waking (Some t) u (is_cpu c (slice_get setup.homes u.0)))) ≡ by_answer stage (waking_out out u)
+  wakes stage next out u is each known hand =
+      by_home u (λ b. lift stage (waking_out out u) (waking (Some t) u b)) (woke_to next u) each hand known
+      ∙ sym (by_table stage (waking_out out u) (k next) trace is)
+
+-- Before the effect.
+
+module _ (site : Site) (had : HasHad site None) where
+  open site use {setup, c, t, ready, slept, waits, trace, call, position, in_slept, in_waits, is_slept, is_waits}
+
+  -- an answer of the layers is taken as the table takes it
+  abbrev Fits : Stage → TowerOut → Type 0
+  Fits stage out = after site None had (reacted site None had stage out) ≡ by_answer site None had stage out
+
+  -- it asks for the lock, and has it or sleeps for it
+  has_lock : (stage next : Stage) → Records site None had stage (asked_out None) (k site None had next) trace
+      → ((p : Private) → returned_at setup p t (k site None had next) (k site None had next).stage ≡ p)
+      → thread_from (call_state site None had next) None None false (e site None had) (g site None had) ≡ with_call site None had (k site None had next)
+      → after site None had (left_on site None had None ready None (call_state site None had next) None) ≡ by_answer site None had stage (asked_out None)
+  has_lock stage next is stays same =
+      runs site None had stage (asked_out None).out (call_state site None had next) (k site None had next) trace is stays
+      (ap (λ x. parts (Some t) ready None (slice_set (threads site None had) t.0 x) trace) same)
+
+  sleeps : (stage next : Stage) (owner : Tid) → Records site None had stage (asked_out (Some owner)) (k site None had next) trace
+      → thread_from (call_state site None had stage) (Some (buf site None had)) None false (e site None had) (g site None had)
+      ≡ with_call site None had (k site None had next)
+      → after site None had (left_gone site None had None ready (slice_set slept t.0 (Some (buf site None had))) waits stage)
+      ≡ by_answer site None had stage (asked_out (Some owner))
+  sleeps stage next owner is same =
+      gone_now site None had None ready (slice_set slept t.0 (Some (buf site None had))) waits stage (Some (buf site None had)) None
+      (λ j other. get_or-set_other slept t.0 j (Some (buf site None had)) None other) (λ j other. refl)
+      (get_or-set_same slept t.0 (Some (buf site None had)) None in_slept) is_waits
+      ∙ ap (λ x. parts None ready None (slice_set (threads site None had) t.0 x) trace) same
+      ∙ sym (by_table site None had stage (asked_out (Some owner)) (k site None had next) trace is)
+
+  ask : (o : Option Tid) → Fits Acquires (asked_out o)
+  ask None = has_lock Acquires Enters refl (λ p. refl) refl
+  ask (Some owner) = sleeps Acquires Enters owner refl refl
+
+  ask_again : (o : Option Tid) → Fits AcquiresAgain (asked_out o)
+  ask_again None = has_lock AcquiresAgain Tries refl (λ p. refl) refl
+  ask_again (Some owner) = sleeps AcquiresAgain Tries owner refl refl
+
+  -- it enters its line, or closes the buffer
+  abbrev pub effected_state : Effect → CallState
+  effected_state f = record { stage = Signals; call = Some call; position = position; effect = Some f }
+
+  abbrev effected_trace : Effect → List Entry
+  effected_trace f = trace ++ entry_of c t (buf site None had) f ∷ []
+
+  effects : (stage : Stage) (out : BufferOut) (f : Effect)
+      → Records site None had stage (did_out out) (call_from call position (Some f) Signals) (effected_trace f)
+      → after site None had (left_on site None had None ready None (effected_state f) None) ≡ by_answer site None had stage (did_out out)
+  effects stage out f is =
+      runs site None had stage (lock.Did (cv.Did out)) (effected_state f) (call_from call position (Some f) Signals) (effected_trace f) is (λ p. refl) refl
+
+  first_by : (x : BufferState) → Draws t call x ⊎ Shuts t call x → Fits Enters (did_out (buffer_answer (first_of t call) x))
+  first_by x (inl draws) =
+      subst (λ o. Fits Enters (did_out o)) (sym draws.is)
+      (runs site None had Enters (lock.Did (cv.Did (Entered draws.pos))) (record { stage = Tries; call = Some call; position = draws.pos; effect = None })
+      (call_from call draws.pos None Tries) trace (grind (arith, draws.lined)) (λ p. refl) refl)
+  first_by x (inr shuts) =
+      subst (λ o. Fits Enters (did_out o)) (sym shuts.is)
+      (effects Enters (WasShut shuts.op shuts.pos) (shut_effect shuts.op shuts.pos) (grind (arith, shuts.shuts)))
+
+  -- it tries
+  tries_by : (x : BufferState) → IsLined call → (buffer_answer (try_of t call) x ≡ NotYet) ⊎ Tried t call x
+      → Fits Tries (did_out (buffer_answer (try_of t call) x))
+  tries_by x lined (inl vain) =
+      subst (λ o. Fits Tries (did_out o)) (sym vain)
+      (runs site None had Tries (lock.Did (cv.Did NotYet)) (call_state site None had Waits) (k site None had Waits) trace refl (λ p. refl) refl)
+  tries_by x lined (inr tried) =
+      subst (λ o. Fits Tries (did_out o)) (sym tried.is)
+      (effects Tries (Done (effect_of (asks_in call) tried.closed) tried.op tried.message)
+      (effect_by call tried.closed tried.op tried.message position) (grind (arith, lined, tried.same)))
+
+  -- it waits, with the thread that it woke at home or in the hand
+  abbrev gone_so : Private
+  gone_so = slept_if true (stands site None had ready None (k site None had AcquiresAgain) trace)
+
+  abbrev woken_to : Tid → Bool → Private
+  woken_to u b = settled setup (if b then record gone_so { ready = ready ++ u ∷ [] } else record gone_so { hand = Some u })
+
+  waits_now : (hand2 : Option Tid) (ready2 : List Tid)
+      → after site None had (left_gone site None had hand2 ready2 slept (slice_set waits t.0 (Some (buf site None had))) Waits)
+      ≡ parts None ready2 hand2 gone_so.threads trace
+  waits_now hand2 ready2 =
+      gone_now site None had hand2 ready2 slept (slice_set waits t.0 (Some (buf site None had))) Waits None (Some (buf site None had)) (λ j other. refl)
+      (λ j other. get_or-set_other waits t.0 j (Some (buf site None had)) None other) is_slept
+      (get_or-set_same waits t.0 (Some (buf site None had)) None in_waits)
+
+  abbrev pub waited : Side → Option Tid → Left Buffering Reply
+  waited side o = react site None had Waits (Release (Wait t side)) (Some (told.Answer (wait_out side o)))
+
+  waits_by : (side : Side) (u : Tid) (b : Bool)
+      → after site None had (lift site None had Waits (wait_out side (Some u)) (waking site None had None u b)) ≡ woken_to u b
+  waits_by side u b = grind (arith, waits_now)
+
+  wait_alone : (side : Side) → after site None had (left_gone site None had None ready slept (slice_set waits t.0 (Some (buf site None had))) Waits)
+      ≡ by_answer site None had Waits (wait_out side None)
+  wait_alone side = waits_now None ready ∙ sym (by_table site None had Waits (wait_out side None) (k site None had AcquiresAgain) trace refl)
+
+  abbrev waking_so : Side → Tid → Bool → Left Buffering Reply
+  waking_so side u b = lift site None had Waits (wait_out side (Some u)) (waking site None had None u b)
+
+  wait_waking : (side : Side) (u : Tid) → HandIsKnown setup (waking_so side u (is_cpu c (slice_get setup.homes u.0))).own
+      → after site None had (waking_so side u (is_cpu c (slice_get setup.homes u.0))) ≡ by_answer site None had Waits (wait_out side (Some u))
+  wait_waking side u known =
+      by_home site None had u (waking_so side u) (woken_to u) (waits_by side u) (λ hand. hand u refl) known
+      ∙ sym (by_table site None had Waits (wait_out side (Some u)) (k site None had AcquiresAgain) trace refl)
+
+  wait_now : (side : Side) (o : Option Tid) → HandIsKnown setup (waited side o).own
+      → after site None had (waited side o) ≡ by_answer site None had Waits (wait_out side o)
+  wait_now Receivers None known = wait_alone Receivers
+  wait_now Senders None known = wait_alone Senders
+  wait_now Receivers (Some u) known = wait_waking Receivers u known
+  wait_now Senders (Some u) known = wait_waking Senders u known
+
+-- After the effect.
+
+module _ (site : Site) (f : Effect) (had : HasHad site (Some f)) where
+  open site use {setup, c, t, ready, trace, call, position}
+
+  -- an answer of the layers is taken as the table takes it
+  abbrev FitsSome : Stage → TowerOut → Type 0
+  FitsSome stage out = HandIsKnown setup (reacted site (Some f) had stage out).own
+      → after site (Some f) had (reacted site (Some f) had stage out) ≡ by_answer site (Some f) had stage out
+
+  signal_by : (v : CvOut BufferOut) (u : Tid) (b : Bool)
+      → after site (Some f) had (lift site (Some f) had Signals (signal_out v (Some u)) (waking site (Some f) had (Some t) u b))
+      ≡ woke_to site (Some f) had SignalsOwn u b
+  signal_by v u b = grind (arith, runs_on, stays_so)
+
+  own_signal_by : (v : CvOut BufferOut) (u : Tid) (b : Bool)
+      → after site (Some f) had (lift site (Some f) had SignalsOwn (signal_out v (Some u)) (waking site (Some f) had (Some t) u b))
+      ≡ woke_to site (Some f) had Releases u b
+  own_signal_by v u b = grind (arith, runs_on, stays_so)
+
+  signal : (v : CvOut BufferOut) (o : Option Tid) → FitsSome Signals (signal_out v o)
+  signal v None known =
+      runs site (Some f) had Signals (lock.Did v) (call_state site (Some f) had SignalsOwn) (k site (Some f) had SignalsOwn) trace refl (λ p. refl) refl
+  signal v (Some u) known = wakes site (Some f) had Signals SignalsOwn (lock.Did v) u refl (signal_by v u) known (λ hand. hand u refl)
+
+  own_signal : (v : CvOut BufferOut) (o : Option Tid) → FitsSome SignalsOwn (signal_out v o)
+  own_signal v None known =
+      runs site (Some f) had SignalsOwn (lock.Did v) (call_state site (Some f) had Releases) (k site (Some f) had Releases) trace refl (λ p. refl) refl
+  own_signal v (Some u) known = wakes site (Some f) had SignalsOwn Releases (lock.Did v) u refl (own_signal_by v u) known (λ hand. hand u refl)
+
+  -- it releases the lock, and its call returns
+  abbrev pub over : CallState
+  over = record { stage = Idle; call = None; position = position; effect = Some f }
+
+  returned_so : (ready2 : List Tid) → after site (Some f) had (left_on site (Some f) had None ready2 None over (Some (reply_of call f)))
+      ≡ settled setup (stands site (Some f) had ready2 None (k site (Some f) had Idle) trace)
+  returned_so ready2 =
+      runs_on site (Some f) had None ready2 None over (Some (reply_of call f))
+      ∙ (ap (λ x. parts (Some t) ready2 None (slice_set (threads site (Some f) had) t.0 (record { guest = x; call = None; ended = e site (Some f) had })) trace)
+      (grind arith)
+      ∙ sym (has_returned site (Some f) had (k site (Some f) had Releases) ready2 trace))
+
+  release_by : (u : Tid) (b : Bool)
+      → after site (Some f) had (lift site (Some f) had Releases (left_out (Some u)) (waking site (Some f) had (Some t) u b))
+      ≡ woke_to site (Some f) had Idle u b
+  release_by u b = grind (arith, returned_so, runs_on)
+
+  release : (o : Option Tid) → FitsSome Releases (left_out o)
+  release None known = returned_so ready ∙ sym (by_table site (Some f) had Releases (left_out None) (k site (Some f) had Idle) trace refl)
+  release (Some u) known = wakes site (Some f) had Releases Idle (lock.Released cv.Left) u refl (release_by u) known (λ hand. hand u refl)
+
+-- Each stage.
+
+-- where a call's next section is due, its plan is this section's
+pub planned : (site : Site) {effect : Option Effect} (had : HasHad site effect) {stage : Stage} → Stands stage None None None None effect
+    → plan site effect had stage ≡ fresh site effect had stage (call_section site.t site.call stage)
+planned site had asks = grind (arith, beneath_is)
+planned site had enters = grind (arith, beneath_is)
+planned site had tries = grind (arith, beneath_is)
+planned site had stands_waits = grind (arith, beneath_is)
+planned site had asks_again = grind (arith, beneath_is)
+planned site had (signals f) = grind (arith, beneath_is)
+planned site had (signals_own f) = grind (arith, beneath_is)
+planned site had (releases f) = grind (arith, beneath_is)
+
+-- its thread is as the table has it
+pub stands_as : (site : Site) (effect : Option Effect) (had : HasHad site effect) (stage : Stage) → Stands stage None None None None effect
+    → thread_from (call_state site effect had stage) None None false (e site effect had) (g site effect had)
+    ≡ with_call site effect had (k site effect had stage)
+stands_as site effect had stage given = grind arith
+
+-- the table asks for the section under its own name
+named_so : (t : Tid) (call : TowerCall) (position : ℕ) {effect : Option Effect} {stage : Stage} → Stands stage None None None None effect
+    → FitsStage stage (Some call) → section_at t (call_from call position effect stage) stage ≡ name_of (queue.Above (call_section t call stage))
+named_so t call position given fits = grind arith
+
+same_trace : (c : CpuId) (t : Tid) (b : BufId) (effect : Option Effect) (trace : List Entry) → trace_after c t b effect effect trace ≡ trace
+same_trace c t b effect trace = grind arith
+
+answers : (site : Site) {effect : Option Effect} (had : HasHad site effect) {stage : Stage} → Stands stage None None None None effect
+    → FitsStage stage (Some site.call) → (x : LockState BufferState)
+    → HandIsKnown site.setup (reacted site effect had stage (lock_answer buffer_rules (call_section site.t site.call stage) x)).own
+    → after site effect had (reacted site effect had stage (lock_answer buffer_rules (call_section site.t site.call stage) x))
+    ≡ by_answer site effect had stage (lock_answer buffer_rules (call_section site.t site.call stage) x)
+answers site had asks fits x known = ask site had x.owner
+answers site had enters fits x known = first_by site had x.above (first_answer site.t site.call x.above)
+answers site had tries fits x known = tries_by site had x.above fits (try_answer site.t site.call x.above fits)
+answers site had stands_waits fits x known = grind (arith, wait_now, known)
+answers site had asks_again fits x known = ask_again site had x.owner
+answers site had (signals f) fits x known = signal site f had _ _ known
+answers site had (signals_own f) fits x known = own_signal site f had _ _ known
+answers site had (releases f) fits x known = release site f had (first x.sleepers) known
+
+-- the plan of a section is a line of the table
+pub section_line : (site : Site) (effect : Option Effect) (had : HasHad site effect) (stage : Stage) → Stands stage None None None None effect
+    → FitsStage stage (Some site.call) → IsLine site.setup site.c (from site effect had stage) (plan site effect had stage) (after site effect had)
+section_line site effect had stage given fits = record {
+  lock = Buffer (buf site effect had);
+  name = queue.Above (call_section site.t site.call stage);
+  react = react site effect had stage (call_section site.t site.call stage);
+  is = planned site had given;
+  asks =
+      asks_for site.setup site.c site.ready (threads site effect had) site.trace site.t (g site effect had) (e site effect had) (within site effect had)
+      (k site effect had stage)
+      ∙ ap (at_buffer (buf site effect had)) (named_so site.t site.call site.position given fits);
+  used = tt;
+  stays =
+      runs_on site effect had None site.ready None (call_state site effect had stage) None
+      ∙ (λ i. parts (Some site.t) site.ready None (slice_set (threads site effect had) site.t.0 (stands_as site effect had stage given i))
+      (same_trace site.c site.t (buf site effect had) effect site.trace i));
+  gives = by_block;
+}
+  where
+    by_block : (x : TowerBlock) → IsKind (Buffer (buf site effect had)) x
+        → HandIsKnown site.setup (react site effect had stage (call_section site.t site.call stage)
+        (Some (tower.answer (queue.Above (call_section site.t site.call stage)) x))).own
+        → after site effect had (react site effect had stage (call_section site.t site.call stage)
+        (Some (tower.answer (queue.Above (call_section site.t site.call stage)) x)))
+        ≡ after_section site.setup site.c (from site effect had stage) (answer_view (tower.answer (queue.Above (call_section site.t site.call stage)) x))
+    by_block (block.Above x) kind known = answers site had given fits x known
+    by_block (block.Queue pending homes) kind known = absurd kind

@@ -1,5 +1,5 @@
 -- The layers' sections are the table's: of every section on every block.
-use Rattle.std.proofs.Common.{◌≡◌, true, ◌&&◌, List, ◌∷◌, length, nat_lt, if◌then◌else◌, ap, arith, lt-ltb}
+use Rattle.std.proofs.Common.{◌≡◌, true, List, ◌∷◌, length, nat_lt, ap, arith, lt-ltb}
 use Rattle.{event_log.specs.Messages.Message, thread_blocks.proofs.Distinct.without_none, layer_traits.specs.declared.locked.QEdit.TheVariants.Acquire}
 use Rattle.layer_traits.specs.declared.{locked.{QEdit.TheVariants.Inside, Side.TheVariants.{Receivers, Senders}}, conditions.CvEdit.TheVariants.Edit}
 use Rattle.layer_traits.specs.{declared.buffer_edits.BufferEdit.BufferEdit, Conditions.CvCall, QLocking.LockState, BufferBlocks.BufferState}

@@ -3,23 +3,23 @@ use Rattle.std.proofs.Common.{◌≡◌, Bool, true, false, ◌&&◌, List, [], 
 use Rattle.{std.proofs.lemmas.{Bool.{and_parts, and_from, false_from_ne_true}, Option.same_Some}, event_log.specs.declared.ids.Tid.Tid}
 use Rattle.thread_blocks.{specs.Queues.{first, rest}, proofs.{Members.{same_tid_self, same_tid_true}, Distinct.taken_absent}}
 use Rattle.{layer_traits.specs.{declared.locked.Side.TheVariants.{Receivers, Senders}, Sleeping.joined, BufferBlocks.is_first}, cpu.specs.Table.Blocks.Buffer}
-use Rattle.cpu.specs.Table.{Blocks.{Name, AcqQ, Enter, TryPut, TryTake, Shut, WaitOn, SigRecv, SigSend, RelQ, front_stands_in}, Edits.{may_put, may_take}}
-use Rattle.cpu.specs.{Table.Edits.{sender_is_due, receiver_is_due, shut, released, edited_buffer}, Wakeups.Order.{Progress, Begins, HasEntered, WasRefused}}
+use Rattle.cpu.specs.Table.{Blocks.{Name, AcqQ, Enter, TryPut, TryTake, Shut, WaitOn, SigRecv, SigSend, RelQ, front_stands_in}, Edits.{may_try}}
+use Rattle.cpu.specs.{Table.Edits.{is_due, shut, released, edited_buffer}, Wakeups.Order.{Progress, Begins, HasEntered, WasRefused}}
 use Rattle.cpu.{specs.Wakeups.Order.{Owes, progress_after, MayEdit}, proofs.Wakeups.Lists.{refuted, none_is_not, in_joined}}
 
 -- nobody is due
 abbrev pub IsCalm : Buffer → Type 0
-IsCalm k = (sender_is_due k ≡ false) × (receiver_is_due k ≡ false)
+IsCalm k = (is_due Senders k ≡ false) × (is_due Receivers k ≡ false)
 
 -- what the owner's progress says of those that are due: at the start of a section nobody is; once it has entered a line, at most it itself; once
 -- its try was in vain nobody is, and its try would be in vain again; and once it owes signals, only those that it owes a signal
 abbrev pub Fits : Buffer → Progress → Type 0
 Fits k Begins = IsCalm k
-Fits k (HasEntered Senders) = (sender_is_due k ≡ true → (t : Tid) → k.busy ≡ Some t → is_first t k.send_line ≡ true) × (receiver_is_due k ≡ false)
-Fits k (HasEntered Receivers) = (receiver_is_due k ≡ true → (t : Tid) → k.busy ≡ Some t → is_first t k.receive_line ≡ true) × (sender_is_due k ≡ false)
-Fits k (WasRefused Senders) = IsCalm k × ((t : Tid) → k.busy ≡ Some t → may_put t k ≡ false)
-Fits k (WasRefused Receivers) = IsCalm k × ((t : Tid) → k.busy ≡ Some t → may_take t k ≡ false)
-Fits k (Owes receivers senders) = (senders ≡ false → sender_is_due k ≡ false) × (receivers ≡ false → receiver_is_due k ≡ false)
+Fits k (HasEntered Senders) = (is_due Senders k ≡ true → (t : Tid) → k.busy ≡ Some t → is_first t k.send_line ≡ true) × (is_due Receivers k ≡ false)
+Fits k (HasEntered Receivers) = (is_due Receivers k ≡ true → (t : Tid) → k.busy ≡ Some t → is_first t k.receive_line ≡ true) × (is_due Senders k ≡ false)
+Fits k (WasRefused Senders) = IsCalm k × ((t : Tid) → k.busy ≡ Some t → may_try Senders t k ≡ false)
+Fits k (WasRefused Receivers) = IsCalm k × ((t : Tid) → k.busy ≡ Some t → may_try Receivers t k ≡ false)
+Fits k (Owes receivers senders) = (senders ≡ false → is_due Senders k ≡ false) × (receivers ≡ false → is_due Receivers k ≡ false)
 
 -- the invariant of a buffer
 pub record IsAwake (k : Buffer) (g : Progress) : Type 0 where

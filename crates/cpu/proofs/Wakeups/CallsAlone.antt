@@ -2,16 +2,16 @@
 use Rattle.std.proofs.Common.{◌≡◌, ℕ, ◌+◌, ◌<◌, ◌≤◌, Bool, true, false, not, ◌&&◌, List, [], ◌∷◌, ◌++◌, slice_get, Option, Some, None, option_map}
 use Rattle.std.proofs.{Common.{if◌then◌else◌, refl, sym, ap, ◌∙◌, subst, arith}, lemmas.Bool.lt-ltb}
 use Rattle.event_log.specs.declared.{ids.{CpuId.CpuId, Tid.Tid, LockId.TheVariants.Buffer as AtBuffer, TheConstants.THREADS}, entries.Entry.Entry}
-use Rattle.{event_log.specs.{History.same_cpu, Runs.{Sends, Receives}, Sections.Section}, thread_blocks.specs.Queues.first}
-use Rattle.layer_traits.specs.declared.{locked.Side.TheVariants.{Receivers, Senders}, call_states.Stage.TheVariants.{Idle, Acquires, Enters, Tries, Signals}}
-use Rattle.{layer_traits.specs.{declared.call_states.Stage.TheVariants.{SignalsOwn, Releases}, BufferBlocks.may_join}, cpu.specs.Table.Blocks.Buffer}
-use Rattle.cpu.specs.Table.{Blocks.{OfBuffer, Name, RelQ, Pend, side_of, Reported, Nothing, Position, Answer}, Edits.{edited_buffer, acquired, entered}}
-use Rattle.cpu.specs.Table.{Edits.{reports, wakes, answer, answer_of_acquire, answer_of_buffer}, Setups.{Setup, Call, Private, thread_at, home_of}}
-use Rattle.cpu.specs.Table.{Setups.{home_threads, have_ended, stands_at}, Choice.{section_at, first_signal, second_signal, asked, Goes, choice, with_call}}
-use Rattle.cpu.specs.Table.{Choice.{entry_of, effected, recorded, woken, guest_after, returned, returned_at, settled, after_section}, Steps.{Whole, steps_by}}
-use Rattle.cpu.{specs.Wakeups.{Alone.{IsInCall, steps_to_move}, Order.block_of}, proofs.Wakeups.{Agreement.at_same, CpuStep.pending_there, CpuAlone.steps_more}}
-use Rattle.cpu.proofs.Wakeups.CpuAlone.{section_of, Stands, after_three, two_steps, here_two, three_steps, stands_after, InCall, with_new, goes_on, asks_for}
-use Rattle.cpu.proofs.Wakeups.CpuAlone.{after_is, settled_is, block_next}
+use Rattle.{event_log.specs.{History.same_cpu, Runs.{Sends, Receives, Group}, Sections.Section}, thread_blocks.specs.Queues.first}
+use Rattle.layer_traits.specs.declared.{locked.Side.{TheVariants.{Receivers, Senders}, Side}, call_states.Stage.TheVariants.{Idle, Acquires, Enters, Tries}}
+use Rattle.{layer_traits.specs.{declared.call_states.Stage.TheVariants.{Signals, SignalsOwn, Releases}, BufferBlocks.may_join}, cpu.specs.Table.Blocks.Buffer}
+use Rattle.cpu.specs.Table.{Blocks.{OfBuffer, Name, RelQ, Pend, side_of, Reported, Nothing, Position, Answer, Enter}, Edits.{edited_buffer, acquired, entered}}
+use Rattle.cpu.specs.Table.{Edits.{reports, wakes, answer, answer_of_acquire, answer_of_buffer, line_of, drawn_position}, Setups.{Setup, Call, Private}}
+use Rattle.cpu.specs.Table.{Setups.{thread_at, home_of, home_threads, have_ended, stands_at}, Choice.{section_at, first_signal, second_signal, asked, Goes}}
+use Rattle.cpu.specs.Table.Choice.{choice, with_call, entry_of, effected, recorded, woken, guest_after, returned, returned_at, settled, after_section}
+use Rattle.cpu.specs.{Table.{Choice.{first_section, recorded_entry, recorded_position}, Steps.{Whole, steps_by}}, Wakeups.Alone.{IsInCall, steps_to_move}}
+use Rattle.cpu.{specs.Wakeups.Order.block_of, proofs.Wakeups.{Agreement.at_same, CpuStep.pending_there, CpuAlone.{steps_more, section_of, Stands, after_three}}}
+use Rattle.cpu.proofs.Wakeups.CpuAlone.{two_steps, here_two, three_steps, stands_after, InCall, with_new, goes_on, asks_for, after_is, settled_is, block_next}
 
 module _ (setup : Setup) (c : CpuId) (t : Tid) where
   -- after n steps of CPU c its thread t stands in this call, which goes on; the call's buffer holds this
@@ -78,30 +78,20 @@ module _ (setup : Setup) (c : CpuId) (t : Tid) where
     may_enter : (line : List Tid) → line ≡ [] → may_join t line ≡ true
     may_enter line empty = ap (may_join t) empty ∙ ap (λ b. b && true) (lt-ltb t.0 THREADS small)
 
-    pub enters_send : (s : Whole) (n left : ℕ) (k : Buffer) (call : Call) (traced : List Entry) → k.send_line ≡ []
-        → Gets s n k (record call { asks = Sends; stage = Enters }) traced (left + 3)
-        → Gets s (n + 3) (entered t Senders k) (record call { asks = Sends; position = k.send_positions; stage = Tries }) traced left
-    enters_send s n left k call traced empty gets =
-        let more : Call = record call { asks = Sends; position = k.send_positions; stage = Tries } in
-        advance s n k (entered t Senders k) (record call { asks = Sends; stage = Enters }) more traced traced left (reports
-        (Position k.send_positions)) gets refl
-        (ap (λ b. if b then entered t Senders k else k) (may_enter k.send_line empty)) refl
+    pub enters_line : (side : Side) (asks : Group) → first_section t asks ≡ Enter t side
+        → ((p : Private) (call : Call) (told : Reported) → recorded_entry c p t call asks told ≡ recorded_position p t call told)
+        → (s : Whole) (n left : ℕ) (k : Buffer) (call : Call) (traced : List Entry) → line_of side k ≡ []
+        → Gets s n k (record call { asks = asks; stage = Enters }) traced (left + 3)
+        → Gets s (n + 3) (entered t side k) (record call { asks = asks; position = drawn_position side k; stage = Tries }) traced left
+    enters_line side asks first records s n left k call traced empty gets =
+        let now : Call = record call { asks = asks; stage = Enters } in
+        let more : Call = record call { asks = asks; position = drawn_position side k; stage = Tries } in
+        advance s n k (entered t side k) now more traced traced left (reports (Position (drawn_position side k))) gets
+        (ap (λ e. answer_of_buffer e k) first)
+        (ap (λ e. edited_buffer e k) first ∙ ap (λ b. if b then entered t side k else k) (may_enter (line_of side k) empty)) refl
         (λ p inside.
-        answer_recorded p (with_call p t (Some more)) (record call { asks = Sends; stage = Enters }) more traced traced (Position k.send_positions) inside refl
-        (new_in p (record call { asks = Sends; stage = Enters }) more traced inside) refl)
-
-    pub enters_receive : (s : Whole) (n left : ℕ) (k : Buffer) (call : Call) (traced : List Entry) → k.receive_line ≡ []
-        → Gets s n k (record call { asks = Receives; stage = Enters }) traced (left + 3)
-        → Gets s (n + 3) (entered t Receivers k) (record call { asks = Receives; position = k.receive_positions; stage = Tries }) traced left
-    enters_receive s n left k call traced empty gets =
-        let more : Call = record call { asks = Receives; position = k.receive_positions; stage = Tries } in
-        advance s n k (entered t Receivers k) (record call { asks = Receives; stage = Enters }) more traced traced left
-        (reports (Position k.receive_positions)) gets refl
-        (ap (λ b. if b then entered t Receivers k else k) (may_enter k.receive_line empty)) refl
-        (λ p inside.
-        answer_recorded p (with_call p t (Some more)) (record call { asks = Receives; stage = Enters }) more traced traced
-        (Position k.receive_positions) inside refl
-        (new_in p (record call { asks = Receives; stage = Enters }) more traced inside) refl)
+        answer_recorded p (with_call p t (Some more)) now more traced traced (Position (drawn_position side k)) inside
+        (records p now (Position (drawn_position side k))) (new_in p now more traced inside) refl)
 
   -- the state after an effect: the entry is written
   effect_in : (p : Private) (call now : Call) (op : ℕ) (traced : List Entry) → InCall setup c p t call traced

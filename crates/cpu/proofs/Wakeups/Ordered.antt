@@ -1,11 +1,11 @@
 -- Sections in the order of their calls lose no wake-up.
 use Rattle.std.proofs.Common.{◌≡◌, ℕ, Bool, true, false, List, [], ◌∷◌, length, slice_get, Option, Some, option_map, nat_lt, if◌then◌else◌, refl, sym, ap}
-use Rattle.{std.proofs.{Common.{subst, arith}, lemmas.Bool.{and_from, lt-ltb, or_right}}, event_log.specs.declared.ids.BufId.BufId}
-use Rattle.event_log.specs.{declared.{ids.LockId.TheVariants.Buffer as AtBuffer, entries.Kind.Kind}, Messages.Message, Runs.{Sends, Receives, group_of}}
-use Rattle.event_log.{specs.{History.same_lock, Sections.Section}, proofs.Same.same_lock_true}
-use Rattle.cpu.specs.Table.{Blocks.{Buffer, Block, OfBuffer, Name}, Edits.{edited, can_put, can_take}, Setups.Setup}
-use Rattle.cpu.specs.Wakeups.Order.{Progress, progress, progress_by, block_of, KeepsOrderAt, IsInOrder}
-use Rattle.cpu.{specs.Wakeups.Lost.{Allows, NoWakeUpIsLost, OrderLosesNoWakeUp}, proofs.Wakeups.{Lists.refuted, Awake.{Fits, IsAwake, stays_awake}}}
+use Rattle.std.proofs.{Common.{subst, arith}, lemmas.Bool.{and_from, lt-ltb, or_right}}
+use Rattle.event_log.specs.{declared.{ids.{BufId.BufId, LockId.TheVariants.Buffer as AtBuffer}, entries.Kind.Kind}, Messages.Message, Runs.{Sends, Receives}}
+use Rattle.{event_log.{specs.{Runs.group_of, History.same_lock, Sections.Section}, proofs.Same.same_lock_true}, cpu.specs.Table.Blocks.{Buffer, Block}}
+use Rattle.cpu.specs.{Table.{Blocks.{OfBuffer, Name}, Edits.{edited, may_go, is_due, on_side}, Setups.Setup}, Wakeups.Order.{Progress, progress, progress_by}}
+use Rattle.cpu.{specs.Wakeups.{Order.{block_of, KeepsOrderAt, IsInOrder}, Lost.{Allows, NoWakeUpIsLost, OrderLosesNoWakeUp}}, proofs.Wakeups.Lists.refuted}
+use Rattle.{cpu.proofs.Wakeups.Awake.{Fits, IsAwake, stays_awake, IsCalm}, layer_traits.specs.declared.locked.Side.{Side, TheVariants.{Receivers, Senders}}}
 
 -- what is in an option of blocks, if it is a buffer
 abbrev pub buffer_or : Buffer → Option Block → Buffer
@@ -31,24 +31,26 @@ buffer_awake setup (s ∷ past) order b k is = by_test (same_lock (AtBuffer b) s
         grind (arith, same_buffer, stays_awake, may, now)
     by_test false here now before = before k now
 
--- all that an allowed effect says of the buffer
-pub putting : (k : Buffer) (e : Kind) (m : Message) → group_of e ≡ Sends → Allows k e m → can_put k ≡ true
-putting k e m asks allowed = grind (arith, or_right, lt-ltb)
-
 some_items : (items : List Message) (m : Message) → slice_get items 0 ≡ Some m → nat_lt 0 (length items) ≡ true
 some_items [] m is = absurd (cc is)
 some_items (x ∷ items) m is = lt-ltb 0 (length (x ∷ items)) (omega arith)
 
-pub taking : (k : Buffer) (e : Kind) (m : Message) → group_of e ≡ Receives → Allows k e m → can_take k ≡ true
-taking k e m asks allowed = grind (arith, or_right, some_items)
+-- all that an allowed effect says of the buffer
+pub going : (side : Side) (k : Buffer) (e : Kind) (m : Message) → group_of e ≡ on_side side Receives Sends → Allows k e m → may_go side k ≡ true
+going Senders k e m asks allowed = grind (arith, or_right, lt-ltb)
+going Receivers k e m asks allowed = grind (arith, or_right, some_items)
+
+-- nobody is due on a side of a calm buffer
+pub calm_on : (k : Buffer) → IsCalm k → (side : Side) → is_due side k ≡ false
+calm_on k calm Senders = calm.0
+calm_on k calm Receivers = calm.1
 
 -- a buffer that is awake, with a free lock, has lost no wake-up
 pub calm_loses_nothing : (k : Buffer) (g : Progress) → IsAwake k g → NoWakeUpIsLost k
 calm_loses_nothing k g awake = record {
-  senders = λ free t m is there e asks allowed.
-      refuted (subst (Fits k) (awake.idle free).0 awake.fits).0 (and_from _ (can_put k) (grind (arith, is, there)) (putting k e m asks allowed));
-  receivers = λ free t m is there e asks allowed.
-      refuted (subst (Fits k) (awake.idle free).0 awake.fits).1 (and_from _ (can_take k) (grind (arith, is, there)) (taking k e m asks allowed));
+  on = λ side free t m is there e asks allowed.
+      refuted (calm_on k (subst (Fits k) (awake.idle free).0 awake.fits) side)
+      (and_from _ (may_go side k) (grind (arith, is, there)) (going side k e m asks allowed));
 }
 
 pub order_loses_no_wake_up : OrderLosesNoWakeUp

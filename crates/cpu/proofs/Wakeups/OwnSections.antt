@@ -46,19 +46,10 @@ module _ (b : BufId) (u : Tid) where
       → Pair b u (acquired u o k) g (acquired_visit b visit) (if (answer_of_acquire o).slept then Asleep (At (AtBuffer b) wait_list.Sleepers) else Home)
   own_acquire k g None Outside is idle due pair = grind (arith, paired, and_from, buffer_self, marked_none, and_right)
   own_acquire k g None (Waiting d side) is idle due was = grind (arith, paired, and_from, buffer_self)
-  own_acquire k g (Some owner) Outside is idle due pair = paired (λ e. absurd (not_outside b u k g Outside refl pair e))
-      (λ ins awake. refuted awake (sleeps_here b wait_list.Sleepers)) (λ on. and_from (is_buffer b b) true (buffer_self b) refl)
-      (grown_list u k.sleepers (no_sleepers k g Outside pair) ∙ ap (marked u) (sym (sleeps_here b wait_list.Sleepers)))
-      (pair.senders ∙ ap (marked u) (sym (and_right (is_buffer b b) false refl))) (pair.receivers ∙ ap (marked u) (sym (and_right (is_buffer b b) false refl)))
-      (pair.send_line ∙ marked_none u false refl ∙ sym (marked_none u (is_buffer b b && false) (and_right (is_buffer b b) false refl)))
-      (pair.receive_line ∙ marked_none u false refl ∙ sym (marked_none u (is_buffer b b && false) (and_right (is_buffer b b) false refl)))
-  own_acquire k g (Some owner) (Waiting d side) is idle due was =
-      let pair : Pair b u k g (Waiting b side) Home = subst (λ x. Pair b u k g (Waiting x side) Home) due was in
-      paired (λ e. absurd (not_outside b u k g (Waiting b side) refl pair e)) (λ ins awake. refuted awake (sleeps_here b wait_list.Sleepers))
-      (λ on. and_from (is_buffer b b) true (buffer_self b) refl)
-      (grown_list u k.sleepers (no_sleepers k g (Waiting b side) pair) ∙ ap (marked u) (sym (sleeps_here b wait_list.Sleepers)))
-      (pair.senders ∙ ap (marked u) (sym (and_right (is_buffer b b) false refl)))
-      (pair.receivers ∙ ap (marked u) (sym (and_right (is_buffer b b) false refl))) pair.send_line pair.receive_line
+  own_acquire k g (Some owner) Outside is idle due pair =
+      grind (arith, paired, not_outside, sleeps_here, and_from, buffer_self, grown_list, no_sleepers, marked_none, and_right)
+  own_acquire k g (Some owner) (Waiting d side) is idle due pair =
+      grind (arith, paired, not_outside, sleeps_here, and_from, buffer_self, grown_list, no_sleepers, marked_none, and_right)
   own_acquire k g o visit is idle due pair = absurd due
 
   -- the pair of a thread that has the lock and goes on, from its places in the two lines
@@ -82,22 +73,7 @@ module _ (b : BufId) (u : Tid) where
 
   own_enter : (k : Buffer) (g : Progress) (side : Side) (joins : Bool) → may_join u (line_of side k) ≡ joins → k.busy ≡ Some u → Pair b u k g (In b Begins) Home
       → Pair b u (if joins then entered u side k else k) (HasEntered side) (In b (HasEntered side)) Home
-  own_enter k g Senders true is owner pair =
-      let sends = entered_list k.send_line true is (pair.send_line ∙ unlined Begins Senders refl) ∙ sym (lined (HasEntered Senders) Senders refl) in
-      let receives = pair.receive_line ∙ unlined Begins Receivers refl ∙ sym (unlined (HasEntered Senders) Receivers refl) in
-      at_work k g (HasEntered Senders) Begins (HasEntered Senders) (k.send_line ++ u ∷ []) k.receive_line owner refl pair sends receives
-  own_enter k g Senders false is owner pair =
-      let sends = entered_list k.send_line false is (pair.send_line ∙ unlined Begins Senders refl) ∙ sym (lined (HasEntered Senders) Senders refl) in
-      let receives = pair.receive_line ∙ unlined Begins Receivers refl ∙ sym (unlined (HasEntered Senders) Receivers refl) in
-      at_work k g (HasEntered Senders) Begins (HasEntered Senders) k.send_line k.receive_line owner refl pair sends receives
-  own_enter k g Receivers true is owner pair =
-      let receives = entered_list k.receive_line true is (pair.receive_line ∙ unlined Begins Receivers refl) ∙ sym (lined (HasEntered Receivers) Receivers refl) in
-      let sends = pair.send_line ∙ unlined Begins Senders refl ∙ sym (unlined (HasEntered Receivers) Senders refl) in
-      at_work k g (HasEntered Receivers) Begins (HasEntered Receivers) k.send_line (k.receive_line ++ u ∷ []) owner refl pair sends receives
-  own_enter k g Receivers false is owner pair =
-      let receives = entered_list k.receive_line false is (pair.receive_line ∙ unlined Begins Receivers refl) ∙ sym (lined (HasEntered Receivers) Receivers refl) in
-      let sends = pair.send_line ∙ unlined Begins Senders refl ∙ sym (unlined (HasEntered Receivers) Senders refl) in
-      at_work k g (HasEntered Receivers) Begins (HasEntered Receivers) k.send_line k.receive_line owner refl pair sends receives
+  own_enter k g side joins is owner pair = grind (arith, at_work, not_counted, same_tid_self, count_append, unlined, lined, is)
 
   -- the thread gives the lock back, and is inside no longer
   own_release : (k : Buffer) (g : Progress) (visit next : Visit) (x : Where) → Pair b u k g visit Home → is_inside b next ≡ false → sleeps_in b wait_list.Sleepers x ≡ false
@@ -112,17 +88,7 @@ module _ (b : BufId) (u : Tid) where
 
   own_wait : (k : Buffer) (g : Progress) (side : Side) → Pair b u k g (In b (WasRefused side)) Home
       → Pair b u (released (waiting u side k)) Begins (Waiting b side) (Asleep (At (AtBuffer b) (list_of side)))
-  own_wait k g Senders pair =
-      own_release k g (In b (WasRefused Senders)) (Waiting b Senders) (Asleep (At (AtBuffer b) wait_list.Senders)) pair (and_right (is_buffer b b) false refl) (and_right (is_buffer b b) false refl)
-      pair.send_line pair.receive_line (joined u k.waiting_senders) k.waiting_receivers
-      (grown_list u k.waiting_senders (no_senders k g (In b (WasRefused Senders)) pair) ∙ ap (marked u) (sym (and_from (is_buffer b b) true (buffer_self b) refl)))
-      (no_receivers k g (In b (WasRefused Senders)) pair ∙ sym (marked_none u (is_buffer b b && false) (and_right (is_buffer b b) false refl)))
-  own_wait k g Receivers pair =
-      own_release k g (In b (WasRefused Receivers)) (Waiting b Receivers) (Asleep (At (AtBuffer b) wait_list.Receivers)) pair (and_right (is_buffer b b) false refl) (and_right (is_buffer b b) false refl)
-      pair.send_line pair.receive_line k.waiting_senders (joined u k.waiting_receivers)
-      (no_senders k g (In b (WasRefused Receivers)) pair ∙ sym (marked_none u (is_buffer b b && false) (and_right (is_buffer b b) false refl)))
-      (grown_list u k.waiting_receivers (no_receivers k g (In b (WasRefused Receivers)) pair)
-      ∙ ap (marked u) (sym (and_from (is_buffer b b) true (buffer_self b) refl)))
+  own_wait k g side pair = grind (arith, own_release, grown_list, no_senders, no_receivers, and_from, and_right, buffer_self, marked_none)
 
   -- what the thread's own section makes of the pair, where it is due
   own_at : (name : Name) (k : Buffer) (g : Progress) (visit : Visit) → caller_in name ≡ Some u

@@ -7,15 +7,15 @@ use Rattle.event_log.specs.{Messages.Message, Runs.{Group, Sends, Receives, Clos
 use Rattle.{guest.specs.declared.instructions.Instruction.Instruction, thread_blocks.{specs.Queues.{first, rest}, proofs.Members.same_tid_self}}
 use Rattle.layer_traits.specs.declared.{locked.Side.TheVariants.{Receivers, Senders}, call_states.Stage.TheVariants.{Enters, Tries, Signals}}
 use Rattle.{layer_traits.specs.BufferBlocks.{is_first, first_item}, cpu.specs.Table.Blocks.{Buffer, OfBuffer, Reported, Done, WasClosed, DidShut, NotYet}}
-use Rattle.cpu.specs.Table.{Blocks.{front, front_stands_in, side_of}, Edits.{can_put, can_take, due_receiver, due_sender, entered, put, taken, shut}}
+use Rattle.cpu.specs.Table.{Blocks.{front, front_stands_in, side_of}, Edits.{may_go, due_on, entered, put, taken, shut}}
 use Rattle.cpu.specs.Table.{Edits.{report_of_put, report_of_take, reports, wakes, edited_buffer, answer_of_buffer}, Setups.{Setup, Call, Private, stands_at}}
 use Rattle.cpu.specs.Table.{Setups.{home_threads, have_ended}, Steps.{Whole, IsReached, block_at, steps_by}, Choice.{Goes, new_call, with_call, at_call}}
 use Rattle.cpu.specs.{Table.Choice.{choice, first_signal, second_signal, effected, entry_of, recorded_try}, Wakeups.{Lost.Allows, Order.progress, Quiet.AreFew}}
 use Rattle.cpu.specs.Wakeups.Alone.{IsCallOn, HasEmptyLine, IsInCall, IsReady, HasReturned, CallsReturnAlone, first_waiter, steps_to_move, steps_to_return}
-use Rattle.cpu.proofs.Wakeups.{Lists.refuted, Ordered.{buffer_awake, putting, taking}, Awake.{IsCalm, Fits, IsAwake}, PostsAndVisits.{is_local, post, visit}}
+use Rattle.cpu.proofs.Wakeups.{Lists.refuted, Ordered.{buffer_awake, going}, Awake.{IsCalm, Fits, IsAwake}, PostsAndVisits.{is_local, post, visit}}
 use Rattle.cpu.proofs.Wakeups.{Agreement.{Agrees, runs, known_of, within}, ReachedStates.{reached_sound, systems_keep_order, free_locks_have_no_sleepers}}
-use Rattle.cpu.proofs.Wakeups.{FilledHand.reached_filled, WithinCapacity.holds_no_more, CpuAlone.with_new, CallsAlone.{Gets, Returned, acquires, enters_send}}
-use Rattle.cpu.proofs.Wakeups.CallsAlone.{enters_receive, tries, ending}
+use Rattle.cpu.proofs.Wakeups.{FilledHand.reached_filled, WithinCapacity.holds_no_more, CpuAlone.with_new, CallsAlone.{Gets, Returned, acquires, enters_line}}
+use Rattle.cpu.proofs.Wakeups.CallsAlone.{tries, ending}
 
 module _ (setup : Setup) (room : ℕ) (s : Whole) (c : CpuId) (p : Private) (t : Tid) (few : AreFew setup)
     (reached : IsReached setup room s) (ready : IsReady setup c s p t) where
@@ -105,30 +105,30 @@ module _ (setup : Setup) (room : ℕ) (s : Whole) (c : CpuId) (p : Private) (t :
 
     -- a send has its effect, and its signals are due
     sent : (m : Message) (told : Reported) (now : Call) → choice setup c p ≡ Goes (with_call p t (Some (new_call Sends b m)))
-        → k.send_line ≡ [] → can_put k ≡ true → report_of_put k.closed k.effects m ≡ told → b ≡ now.buffer
+        → k.send_line ≡ [] → may_go Senders k ≡ true → report_of_put k.closed k.effects m ≡ told → b ≡ now.buffer
         → ((q : Private) → recorded_try c q t (queued Sends b m k.send_positions) told ≡ effected c q t now k.effects)
         → Gets setup c t s 9 (put m (entered t Senders (record k { busy = Some t }))) (record now { effect = Some k.effects; stage = Signals })
         (p.trace ++ entry_of c t now k.effects now.message ∷ []) 12
     sent m told now goes line can tells_so same_buffer recorded_so =
         let call = new_call Sends b m in
         let got = acquires setup c t s 0 18 k call p.trace free (first_gets Sends b k m goes space block) in
-        let entered_now = enters_send setup c t small s 3 15 (record k { busy = Some t }) call p.trace line got in
-        let may = first_after k.send_line (can_put k) line can in
+        let entered_now = enters_line setup c t small Senders Sends refl (λ q x told. refl) s 3 15 (record k { busy = Some t }) call p.trace line got in
+        let may = first_after k.send_line (may_go Senders k) line can in
         let at = entered t Senders (record k { busy = Some t }) in
         tries setup c t s 6 12 at (put m at) (queued Sends b m k.send_positions) now p.trace told same_buffer
         (ap (λ d. reports (if d then report_of_put k.closed k.effects m else NotYet)) may ∙ ap reports tells_so)
         (ap (λ d. if d then put m at else at) may) recorded_so entered_now
 
     received : (m : Message) (told : Reported) (now : Call) → choice setup c p ≡ Goes (with_call p t (Some (new_call Receives b m)))
-        → k.receive_line ≡ [] → can_take k ≡ true → report_of_take k.items k.effects ≡ told → b ≡ now.buffer
+        → k.receive_line ≡ [] → may_go Receivers k ≡ true → report_of_take k.items k.effects ≡ told → b ≡ now.buffer
         → ((q : Private) → recorded_try c q t (queued Receives b m k.receive_positions) told ≡ effected c q t now k.effects)
         → Gets setup c t s 9 (taken (entered t Receivers (record k { busy = Some t }))) (record now { effect = Some k.effects; stage = Signals })
         (p.trace ++ entry_of c t now k.effects now.message ∷ []) 12
     received m told now goes line can tells_so same_buffer recorded_so =
         let call = new_call Receives b m in
         let got = acquires setup c t s 0 18 k call p.trace free (first_gets Receives b k m goes space block) in
-        let entered_now = enters_receive setup c t small s 3 15 (record k { busy = Some t }) call p.trace line got in
-        let may = first_after k.receive_line (can_take k) line can in
+        let entered_now = enters_line setup c t small Receivers Receives refl (λ q x told. refl) s 3 15 (record k { busy = Some t }) call p.trace line got in
+        let may = first_after k.receive_line (may_go Receivers k) line can in
         let at = entered t Receivers (record k { busy = Some t }) in
         tries setup c t s 6 12 at (taken at) (queued Receives b m k.receive_positions) now p.trace told same_buffer
         (ap (λ d. reports (if d then report_of_take k.items k.effects else NotYet)) may ∙ ap reports tells_so)
@@ -136,7 +136,7 @@ module _ (setup : Setup) (room : ℕ) (s : Whole) (c : CpuId) (p : Private) (t :
 
     -- the signals of a send, whose own line is empty, and of a receive
     sent_back : (m : Message) (now : Call) (traced : List Entry) (woke : Option Tid) → now.asks ≡ Sends
-        → k.send_line ≡ [] → due_receiver (put m (entered t Senders (record k { busy = Some t }))) ≡ woke
+        → k.send_line ≡ [] → due_on Receivers (put m (entered t Senders (record k { busy = Some t }))) ≡ woke
         → Gets setup c t s 9 (put m (entered t Senders (record k { busy = Some t }))) (record now { stage = Signals }) traced 12
         → Returned setup c t s (9 + (9 + (steps_to_move setup c woke + 0))) traced
     sent_back m now traced woke is line wakes_so gets =
@@ -149,7 +149,7 @@ module _ (setup : Setup) (room : ℕ) (s : Whole) (c : CpuId) (p : Private) (t :
         (omega (arith, most_moved woke)) gets
 
     received_back : (now : Call) (traced : List Entry) (woke : Option Tid) → now.asks ≡ Receives
-        → k.receive_line ≡ [] → due_sender (taken (entered t Receivers (record k { busy = Some t }))) ≡ woke
+        → k.receive_line ≡ [] → due_on Senders (taken (entered t Receivers (record k { busy = Some t }))) ≡ woke
         → Gets setup c t s 9 (taken (entered t Receivers (record k { busy = Some t }))) (record now { stage = Signals }) traced 12
         → Returned setup c t s (9 + (9 + (steps_to_move setup c woke + 0))) traced
     received_back now traced woke is line wakes_so gets =
@@ -185,7 +185,7 @@ module _ (setup : Setup) (room : ℕ) (s : Whole) (c : CpuId) (p : Private) (t :
         let begin = begins_as Sends b (stands_at setup p t) refl at_call in
         let now = record (queued Sends b begin.0 k.send_positions) { message = begin.0 } in
         let woke = first_waiter Receivers k in
-        let done = sent begin.0 (Done k.effects begin.0) now begin.1 line (putting k SendKind m refl allowed)
+        let done = sent begin.0 (Done k.effects begin.0) now begin.1 line (going Senders k SendKind m refl allowed)
         (ap (λ d. report_of_put d k.effects begin.0) allowed.0) refl (λ q. refl) in
         ends_at (9 + (9 + (steps_to_move setup c woke + 0))) (steps_to_return setup c SendKind k) SendKind b (omega arith)
         (told _ SendKind b (entry_of c t now k.effects begin.0) (refl, refl, refl)
@@ -194,7 +194,7 @@ module _ (setup : Setup) (room : ℕ) (s : Whole) (c : CpuId) (p : Private) (t :
     returns SendClosed m at_call allowed line =
         let begin = begins_as Sends b (stands_at setup p t) refl at_call in
         let now = record (queued Sends b begin.0 k.send_positions) { closed = true } in
-        let done = sent begin.0 (WasClosed k.effects) now begin.1 line (putting k SendClosed m refl allowed)
+        let done = sent begin.0 (WasClosed k.effects) now begin.1 line (going Senders k SendClosed m refl allowed)
         (ap (λ d. report_of_put d k.effects begin.0) allowed) refl (λ q. refl) in
         told 18 SendClosed b (entry_of c t now k.effects begin.0) (refl, refl, refl)
         (sent_back begin.0 (record now { effect = Some k.effects }) _ None refl line
@@ -203,7 +203,7 @@ module _ (setup : Setup) (room : ℕ) (s : Whole) (c : CpuId) (p : Private) (t :
         let begin = begins_as Receives b (stands_at setup p t) refl at_call in
         let now = record (queued Receives b begin.0 k.receive_positions) { message = first_item k.items } in
         let woke = first_waiter Senders k in
-        let done = received begin.0 (Done k.effects (first_item k.items)) now begin.1 line (taking k RecvKind m refl allowed)
+        let done = received begin.0 (Done k.effects (first_item k.items)) now begin.1 line (going Receivers k RecvKind m refl allowed)
         (grind (arith, allowed)) refl (λ q. refl) in
         ends_at (9 + (9 + (steps_to_move setup c woke + 0))) (steps_to_return setup c RecvKind k) RecvKind b (omega arith)
         (told _ RecvKind b (entry_of c t now k.effects (first_item k.items)) (refl, refl, refl)
@@ -213,7 +213,7 @@ module _ (setup : Setup) (room : ℕ) (s : Whole) (c : CpuId) (p : Private) (t :
     returns RecvClosed m at_call allowed line =
         let begin = begins_as Receives b (stands_at setup p t) refl at_call in
         let now = record (queued Receives b begin.0 k.receive_positions) { closed = true } in
-        let done = received begin.0 (WasClosed k.effects) now begin.1 line (taking k RecvClosed m refl allowed)
+        let done = received begin.0 (WasClosed k.effects) now begin.1 line (going Receivers k RecvClosed m refl allowed)
         (ap (λ l. report_of_take l k.effects) allowed.1) refl (λ q. refl) in
         told 18 RecvClosed b (entry_of c t now k.effects begin.0) (refl, refl, refl)
         (received_back (record now { effect = Some k.effects }) _ None refl line

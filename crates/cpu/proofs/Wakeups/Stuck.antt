@@ -7,34 +7,20 @@ use Rattle.event_log.{specs.{Runs.{Sends, Receives, Closes, group_of}, History.s
 use Rattle.{guest.specs.{declared.instructions.Instruction.Instruction, State.State}, thread_blocks.{specs.Queues.first, proofs.Members.same_tid_self}}
 use Rattle.layer_traits.specs.declared.{steps.Reason.Reason, locked.Side.{Side, TheVariants.{Receivers, Senders}}, call_states.Stage.TheVariants.AcquiresAgain}
 use Rattle.layer_traits.specs.Places.{Where, Home, Hand, Pend as IsPending, Asleep, At, is_home, is_hand, is_thread, one_if, count_in}
-use Rattle.{layer_traits.proofs.ListsLemmas.counted_in, cpu.specs.Table.{Blocks.{Buffer, OfBuffer, side_of}, Edits.line_of, Setups.{Setup, Call, Private}}}
-use Rattle.cpu.specs.{Table.{Setups.{thread_at, home_of, stands_at}, Steps.{Whole, block_at, halted_at}}, Wakeups.Order.Progress}
-use Rattle.cpu.specs.Wakeups.{Order.progress, Lost.Allows, Quiet.{HomesExist, IsQuietBy, IsQuiet, IsNextEffect, IsStuckCall, IsLive, IsStuck}}
-use Rattle.cpu.{specs.Wakeups.Quiet.QuietIsStuck, proofs.Wakeups.{Lists.refuted, Ordered.{buffer_awake, calm_loses_nothing}, PostsAndVisits.{Waiting, Visit}}}
-use Rattle.cpu.proofs.Wakeups.PostsAndVisits.{Outside, list_of, sleeps_in, is_side, is_pending, names, goes_on, starts_here, stands, is_lined, is_local}
-use Rattle.cpu.proofs.Wakeups.{PostsAndVisits.{post, visit, marked}, ThreadAtBuffer.{Pair, buffer_self, buffer_true, sleeps_here, marked_some, front_counted}}
-use Rattle.cpu.proofs.Wakeups.{BuffersAndThreads.Good, Placed.{IsPlaced, buffer_there}, Agreement.{visit_of_call, seat, Agrees}}
-use Rattle.cpu.proofs.Wakeups.{EndedThreads.{is_before, HasLine, FitsGroup, Says}, ReachedStates.fair_good, SystemInv.{SystemInv, reached_inv, cpu_there}}
+use Rattle.{layer_traits.proofs.ListsLemmas.counted_in, cpu.specs.Table.{Blocks.{Buffer, OfBuffer, side_of}, Edits.{line_of, waiting_of}, Setups.{Setup, Call}}}
+use Rattle.cpu.specs.{Table.{Setups.{Private, thread_at, home_of, stands_at}, Steps.{Whole, block_at, halted_at}}, Wakeups.Order.{Progress, progress}}
+use Rattle.cpu.specs.Wakeups.{Lost.Allows, Quiet.{HomesExist, IsQuietBy, IsQuiet, IsNextEffect, IsStuckCall, IsLive, IsStuck, QuietIsStuck}}
+use Rattle.cpu.proofs.Wakeups.{Lists.refuted, Ordered.{buffer_awake, calm_loses_nothing}, PostsAndVisits.{Waiting, Visit, Outside, list_of, sleeps_in, is_side}}
+use Rattle.cpu.proofs.Wakeups.{PostsAndVisits.{is_pending, names, goes_on, starts_here, stands, is_lined, is_local, post, visit, marked}, ThreadAtBuffer.Pair}
+use Rattle.cpu.proofs.Wakeups.ThreadAtBuffer.{buffer_self, buffer_true, sleeps_here, marked_some, front_counted, line_count, wait_count}
+use Rattle.cpu.proofs.Wakeups.{BuffersAndThreads.Good, Placed.{IsPlaced, buffer_there}, Agreement.{visit_of_call, seat, Agrees}, EndedThreads.is_before}
+use Rattle.cpu.proofs.Wakeups.{EndedThreads.{HasLine, FitsGroup, Says}, ReachedStates.fair_good, SystemInv.{SystemInv, reached_inv, cpu_there}}
 use Rattle.layer_traits.specs.declared.moves.WaitList.TheVariants as wait_list
 
 -- where a thread sleeps: for the lock of a buffer, or on a side of it
 pub data Sleeps (x : Where) : Type 0 where
   at_lock : (b : BufId) → x ≡ Asleep (At (AtBuffer b) wait_list.Sleepers) → Sleeps x
   at_wait : (b : BufId) (side : Side) → x ≡ Asleep (At (AtBuffer b) (list_of side)) → Sleeps x
-
--- Lines and waiting lists by side.
-
-abbrev waiting_of : Side → Buffer → List Tid
-waiting_of Senders k = k.waiting_senders
-waiting_of Receivers k = k.waiting_receivers
-
-line_count : (b : BufId) (u : Tid) (k : Buffer) (g : Progress) (visit : Visit) (x : Where) → Pair b u k g visit x
-    → (side : Side) → count_in u (line_of side k) ≡ marked u (is_lined b side visit)
-line_count b u k g visit x pair side = grind arith
-
-wait_count : (b : BufId) (u : Tid) (k : Buffer) (g : Progress) (visit : Visit) (x : Where) → Pair b u k g visit x
-    → (side : Side) → count_in u (waiting_of side k) ≡ marked u (sleeps_in b (list_of side) x)
-wait_count b u k g visit x pair side = grind arith
 
 -- a buffer that allows no effect of a call which has a line is open
 refused_open : (asks : Group) → HasLine asks → (k : Buffer) → ((m : Message) (e : Kind) → group_of e ≡ asks → Allows k e m → ⊥) → k.closed ≡ false

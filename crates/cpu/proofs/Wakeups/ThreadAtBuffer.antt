@@ -1,19 +1,19 @@
 -- One thread and one buffer: that its places at the buffer are those that its post and its visit say, by count, and that it owns the
 -- lock exactly where its visit says. Everything here speaks of plain values; the log comes later.
 use Rattle.std.proofs.Common.{◌≡◌, ◌<◌, ◌≤◌, Bool, true, false, ◌&&◌, List, [], ◌∷◌, Option, Some, None, nat_lt, if◌then◌else◌, refl, sym, ap, ◌∙◌, subst}
-use Rattle.{std.proofs.{Common.arith, lemmas.{Bool.{eq-eqb, eqb-true, and_parts, and_right}, Option.same_Some}}, event_log.specs.declared.ids.CpuId.CpuId}
-use Rattle.event_log.specs.{declared.ids.{Tid.Tid, BufId.BufId, LockId.TheVariants.Buffer as AtBuffer, TheConstants.THREADS}, Messages.Message}
+use Rattle.std.proofs.{Common.arith, lemmas.{Bool.{eq-eqb, eqb-true, and_parts, and_right}, Option.same_Some}}
+use Rattle.event_log.specs.{declared.ids.{CpuId.CpuId, Tid.Tid, BufId.BufId, LockId.TheVariants.Buffer as AtBuffer, TheConstants.THREADS}, Messages.Message}
 use Rattle.{event_log.{specs.History.same_cpu, proofs.Same.buffer_numbered}, thread_blocks.{specs.Queues.{same_tid, first, rest}, proofs.Members.same_tid_self}}
 use Rattle.{thread_blocks.proofs.Members.same_tid_true, layer_traits.specs.declared.locked.Side.{Side, TheVariants.{Receivers, Senders}}}
 use Rattle.layer_traits.specs.{declared.moves.WaitList.WaitList, ListsAgree.{is_at, same_list}, Places.{Where, Asleep, At, wait_channel_of, is_thread, one_if}}
 use Rattle.layer_traits.{specs.{Places.count_in, Sleeping.joined, BufferBlocks.may_join}, proofs.CountLemmas.{same_tid_sym, count_append, count_front}}
 use Rattle.layer_traits.proofs.{CountLemmas.{in_counted, not_counted, count_behind}, ListsLemmas.{count_without, at_wait_channel, wait_channel_here}}
-use Rattle.cpu.specs.Table.{Blocks.{Buffer, Name, AcqQ, Enter, TryPut, TryTake, Shut, WaitOn, SigRecv, SigSend, RelQ, front_stands_in}, Edits.can_put}
-use Rattle.cpu.specs.Table.Edits.{can_take, may_put, may_take, due_sender, due_receiver, without_any, acquired, line_of, entered, put, taken, shut, waiting}
-use Rattle.cpu.specs.{Table.{Edits.{released, edited_buffer, answer_of_buffer}, Setups.{Setup, home_of}}, Wakeups.Order.{Progress, Begins, HasEntered}}
-use Rattle.cpu.{specs.Wakeups.Order.{WasRefused, Owes, progress_after, receivers_signalled, senders_signalled, MayEdit}, proofs.Wakeups.Lists.refuted}
-use Rattle.cpu.proofs.Wakeups.{Lists.first_is, PostsAndVisits.{Visit, is_buffer, sleeps_in, sleeps_at, is_inside, is_starting, is_lined, InStep, is_caller}}
-use Rattle.cpu.proofs.Wakeups.PostsAndVisits.{post_by, post_woken, post_moved, visit_moved, marked}
+use Rattle.cpu.specs.Table.{Blocks.{Buffer, Name, AcqQ, Enter, TryPut, TryTake, Shut, WaitOn, SigRecv, SigSend, RelQ, front_stands_in}, Edits.{may_go, may_try}}
+use Rattle.cpu.specs.Table.Edits.{due_on, without_any, acquired, line_of, entered, put, taken, shut, waiting, released, edited_buffer, answer_of_buffer, is_due}
+use Rattle.cpu.specs.{Table.{Edits.{on_side, signalled, waiting_of}, Setups.{Setup, home_of}}, Wakeups.Order.{Progress, Begins, HasEntered, WasRefused, Owes}}
+use Rattle.cpu.{specs.Wakeups.Order.{progress_after, progress_signalled, MayEdit}, proofs.Wakeups.{Lists.{refuted, first_is}, PostsAndVisits.Visit}}
+use Rattle.cpu.proofs.Wakeups.PostsAndVisits.{is_buffer, sleeps_in, sleeps_at, is_inside, is_starting, is_lined, InStep, is_caller, post_by, post_woken}
+use Rattle.cpu.proofs.Wakeups.PostsAndVisits.{post_moved, visit_moved, marked, list_of}
 use Rattle.layer_traits.specs.declared.moves.WaitList.TheVariants as wait_list
 
 -- a thread and a buffer's lock: by who owns it, the lists of its sleepers and of those who wait to send and to receive, and the two lines
@@ -44,6 +44,15 @@ pub paired : {b : BufId} {u : Tid} {busy : Option Tid} {asleep senders_in receiv
     → count_in u sends ≡ marked u (is_lined b Senders visit) → count_in u receives ≡ marked u (is_lined b Receivers visit)
     → PairOf b u busy asleep senders_in receivers_in sends receives g visit post
 paired owner inside starts sleepers senders receivers send_line receive_line = grind arith
+
+-- its places by side
+pub line_count : (b : BufId) (u : Tid) (k : Buffer) (g : Progress) (visit : Visit) (x : Where) → Pair b u k g visit x
+    → (side : Side) → count_in u (line_of side k) ≡ marked u (is_lined b side visit)
+line_count b u k g visit x pair side = grind arith
+
+pub wait_count : (b : BufId) (u : Tid) (k : Buffer) (g : Progress) (visit : Visit) (x : Where) → Pair b u k g visit x
+    → (side : Side) → count_in u (waiting_of side k) ≡ marked u (sleeps_in b (list_of side) x)
+wait_count b u k g visit x pair side = grind arith
 
 -- Marks and counts.
 
@@ -106,16 +115,21 @@ module _ (b : BufId) (u : Tid) (k : Buffer) (g : Progress) (visit : Visit) (post
   pub first_sleeps : is_thread u (first k.sleepers) ≡ true → (nat_lt u.0 THREADS ≡ true) × (sleeps_in b wait_list.Sleepers post ≡ true)
   first_sleeps is = marked_some u (sleeps_in b wait_list.Sleepers post) (subst (λ n. 0 < n) pair.sleepers (front_counted u k.sleepers is))
 
-  pub due_sends : is_thread u (due_sender k) ≡ true → (nat_lt u.0 THREADS ≡ true) × (sleeps_in b wait_list.Senders post ≡ true)
-  due_sends is = marked_some u (sleeps_in b wait_list.Senders post) (subst (λ n. 0 < n) pair.senders (woken_waits u k.send_line k.waiting_senders (can_put k) is))
+  pub due_waits : (side : Side) → is_thread u (due_on side k) ≡ true → (nat_lt u.0 THREADS ≡ true) × (sleeps_in b (list_of side) post ≡ true)
+  due_waits side is =
+      marked_some u (sleeps_in b (list_of side) post)
+      (subst (λ n. 0 < n) (wait_count b u k g visit post pair side) (woken_waits u (line_of side k) (waiting_of side k) (may_go side k) is))
 
-  pub due_receives : is_thread u (due_receiver k) ≡ true → (nat_lt u.0 THREADS ≡ true) × (sleeps_in b wait_list.Receivers post ≡ true)
-  due_receives is =
-      marked_some u (sleeps_in b wait_list.Receivers post) (subst (λ n. 0 < n) pair.receivers (woken_waits u k.receive_line k.waiting_receivers (can_take k) is))
+  sleeps_so : (list : WaitList) → (nat_lt u.0 THREADS ≡ true) × (sleeps_in b list post ≡ true) → (nat_lt u.0 THREADS ≡ true) × (sleeps_at b post ≡ true)
+  sleeps_so list at = grind (arith, and_parts)
 
   -- whoever is woken sleeps at the buffer, and its number is a thread's
   pub woken_sleeps : (name : Name) → is_thread u (answer_of_buffer name k).woke ≡ true → (nat_lt u.0 THREADS ≡ true) × (sleeps_at b post ≡ true)
-  woken_sleeps name is = grind (arith, refuted, first_sleeps, due_receives, due_sends, and_parts)
+  woken_sleeps (SigRecv t) is = sleeps_so wait_list.Receivers (due_waits Receivers is)
+  woken_sleeps (SigSend t) is = sleeps_so wait_list.Senders (due_waits Senders is)
+  woken_sleeps (WaitOn t side) is = sleeps_so wait_list.Sleepers (first_sleeps is)
+  woken_sleeps (RelQ t) is = sleeps_so wait_list.Sleepers (first_sleeps is)
+  woken_sleeps name is = grind (arith, refuted)
 
 -- A section of another thread on the buffer.
 
@@ -141,11 +155,11 @@ module _ (setup : Setup) (c : CpuId) (b : BufId) (u t : Tid) (other : same_tid t
       → Pair b u (if joins then entered t side k else k) (HasEntered side) visit post
   other_enter k g side joins owner pair = grind (arith, with_lines, count_behind)
 
-  other_put : (k : Buffer) (g : Progress) (m : Message) (may : Bool) → may_put t k ≡ may → k.busy ≡ Some t → Pair b u k g visit post
+  other_put : (k : Buffer) (g : Progress) (m : Message) (may : Bool) → may_try Senders t k ≡ may → k.busy ≡ Some t → Pair b u k g visit post
       → Pair b u (if may then put m k else k) (if may then Owes true true else WasRefused Senders) visit post
   other_put k g m may is owner pair = grind (arith, and_parts, with_lines, first_is, count_front)
 
-  other_take : (k : Buffer) (g : Progress) (may : Bool) → may_take t k ≡ may → k.busy ≡ Some t → Pair b u k g visit post
+  other_take : (k : Buffer) (g : Progress) (may : Bool) → may_try Receivers t k ≡ may → k.busy ≡ Some t → Pair b u k g visit post
       → Pair b u (if may then taken k else k) (if may then Owes true true else WasRefused Receivers) visit post
   other_take k g may is owner pair = grind (arith, and_parts, with_lines, first_is, count_front)
 
@@ -176,37 +190,16 @@ module _ (setup : Setup) (c : CpuId) (b : BufId) (u t : Tid) (other : same_tid t
   other_wait k g Senders owner pair = other_release (waiting t Senders k) g owner (grind (arith, paired, other_joined, pair))
   other_wait k g Receivers owner pair = other_release (waiting t Receivers k) g owner (grind (arith, paired, other_joined, pair))
 
-  other_sig_recv : (k : Buffer) (g h : Progress) → k.busy ≡ Some t → Pair b u k g visit post
-      → Pair b u (edited_buffer (SigRecv t) k) h visit (if is_thread u (due_receiver k) then post_woken setup c u else post)
-  other_sig_recv k g h owner pair = by_test (is_thread u (due_receiver k)) refl
+  other_signal : (k : Buffer) (g h : Progress) (side : Side) → k.busy ≡ Some t → Pair b u k g visit post
+      → Pair b u (signalled side k) h visit (if is_thread u (due_on side k) then post_woken setup c u else post)
+  other_signal k g h side owner pair = by_test (is_thread u (due_on side k)) refl
     where
-      by_test : (w : Bool) → is_thread u (due_receiver k) ≡ w → Pair b u (edited_buffer (SigRecv t) k) h visit (if w then post_woken setup c u else post)
+      by_test : (w : Bool) → is_thread u (due_on side k) ≡ w → Pair b u (signalled side k) h visit (if w then post_woken setup c u else post)
       by_test true is =
-          let on = (due_receives b u k g visit post pair is).1 in
-          let off = one_list b wait_list.Receivers wait_list.Sleepers post refl on in
-          let no_lock = woken_awake b wait_list.Sleepers (same_cpu (home_of setup u) c) c in
-          paired (λ e. not_mine u t k.busy owner other e) (λ ins awake. pair.inside ins off) (λ now. refuted no_lock now)
-          (pair.sleepers ∙ ap (marked u) (off ∙ sym no_lock))
-          (pair.senders ∙ ap (marked u) (one_list b wait_list.Receivers wait_list.Senders post refl on ∙ sym (woken_awake b wait_list.Senders (same_cpu (home_of setup u) c) c)))
-          (signal_left u (due_receiver k) k.waiting_receivers ∙ ap (λ x. if x then 0 else count_in u k.waiting_receivers) is ∙ sym (marked_none u _ (woken_awake b wait_list.Receivers (same_cpu (home_of setup u) c) c)))
-          pair.send_line pair.receive_line
-      by_test false is = grind (arith, paired, owner, signal_left)
-
-  other_sig_send : (k : Buffer) (g h : Progress) → k.busy ≡ Some t → Pair b u k g visit post
-      → Pair b u (edited_buffer (SigSend t) k) h visit (if is_thread u (due_sender k) then post_woken setup c u else post)
-  other_sig_send k g h owner pair = by_test (is_thread u (due_sender k)) refl
-    where
-      by_test : (w : Bool) → is_thread u (due_sender k) ≡ w → Pair b u (edited_buffer (SigSend t) k) h visit (if w then post_woken setup c u else post)
-      by_test true is =
-          let on = (due_sends b u k g visit post pair is).1 in
-          let off = one_list b wait_list.Senders wait_list.Sleepers post refl on in
-          let no_lock = woken_awake b wait_list.Sleepers (same_cpu (home_of setup u) c) c in
-          paired (λ e. not_mine u t k.busy owner other e) (λ ins awake. pair.inside ins off) (λ now. refuted no_lock now)
-          (pair.sleepers ∙ ap (marked u) (off ∙ sym no_lock))
-          (signal_left u (due_sender k) k.waiting_senders ∙ ap (λ x. if x then 0 else count_in u k.waiting_senders) is ∙ sym (marked_none u _ (woken_awake b wait_list.Senders (same_cpu (home_of setup u) c) c)))
-          (pair.receivers ∙ ap (marked u) (one_list b wait_list.Senders wait_list.Receivers post refl on ∙ sym (woken_awake b wait_list.Receivers (same_cpu (home_of setup u) c) c)))
-          pair.send_line pair.receive_line
-      by_test false is = grind (arith, paired, owner, signal_left)
+          let on = (due_waits b u k g visit post pair side is).1 in
+          let off = one_list b (list_of side) wait_list.Sleepers post (grind arith) on in
+          grind (arith, paired, owner, not_mine, on, off, one_list, woken_awake, signal_left, marked_none, is)
+      by_test false is = grind (arith, paired, owner, signal_left, is)
 
 other_section : (setup : Setup) (c : CpuId) (b : BufId) (u : Tid) (name : Name) (k : Buffer) (g : Progress) (visit : Visit) (post : Where)
     → is_caller u name ≡ false → MayEdit name k g → Pair b u k g visit post
@@ -216,12 +209,12 @@ other_section setup c b u (AcqQ t) k g visit post other may pair =
     (other_acquire setup c b u t other visit post k g k.busy refl pair)
 other_section setup c b u (Enter t side) k g visit post other may pair =
     other_enter setup c b u t other visit post k g side (may_join t (line_of side k)) may.0 pair
-other_section setup c b u (TryPut t m) k g visit post other may pair = other_put setup c b u t other visit post k g m (may_put t k) refl may.0 pair
-other_section setup c b u (TryTake t) k g visit post other may pair = other_take setup c b u t other visit post k g (may_take t k) refl may.0 pair
+other_section setup c b u (TryPut t m) k g visit post other may pair = other_put setup c b u t other visit post k g m (may_try Senders t k) refl may.0 pair
+other_section setup c b u (TryTake t) k g visit post other may pair = other_take setup c b u t other visit post k g (may_try Receivers t k) refl may.0 pair
 other_section setup c b u (Shut t) k g visit post other may pair = other_shut setup c b u t other visit post k g may.0 pair
 other_section setup c b u (WaitOn t side) k g visit post other may pair = other_wait setup c b u t other visit post k g side may.0 pair
-other_section setup c b u (SigRecv t) k g visit post other may pair = other_sig_recv setup c b u t other visit post k g (receivers_signalled g) may.0 pair
-other_section setup c b u (SigSend t) k g visit post other may pair = other_sig_send setup c b u t other visit post k g (senders_signalled g) may.0 pair
+other_section setup c b u (SigRecv t) k g visit post other may pair = other_signal setup c b u t other visit post k g (progress_signalled Receivers g) Receivers may.0 pair
+other_section setup c b u (SigSend t) k g visit post other may pair = other_signal setup c b u t other visit post k g (progress_signalled Senders g) Senders may.0 pair
 other_section setup c b u (RelQ t) k g visit post other may pair = other_release setup c b u t other visit post k g may.0 pair
 other_section setup c b u name k g visit post other may pair = absurd may
 

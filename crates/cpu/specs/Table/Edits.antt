@@ -14,33 +14,33 @@ has_room k = nat_lt (length k.items) k.capacity
 abbrev pub has_items : Buffer → Bool
 has_items k = nat_lt 0 (length k.items)
 
--- the first of the send line has something to do, and so the first of the receive line: where the buffer is closed, to answer that
-abbrev pub can_put : Buffer → Bool
-can_put k = k.closed || has_room k
+-- what is a side's, of what is the receivers' and what is the senders'
+abbrev pub on_side : {A : Type 0} → Side → (receivers senders : A) → A
+on_side Receivers receivers senders = receivers
+on_side Senders receivers senders = senders
 
-abbrev pub can_take : Buffer → Bool
-can_take k = k.closed || has_items k
+-- the line of a side, and those who wait on it
+abbrev pub line_of : Side → Buffer → List Tid
+line_of side k = on_side side k.receive_line k.send_line
+
+abbrev pub waiting_of : Side → Buffer → List Tid
+waiting_of side k = on_side side k.waiting_receivers k.waiting_senders
+
+-- the first of a side's line has something to do: where the buffer is closed, to answer that
+abbrev pub may_go : Side → Buffer → Bool
+may_go side k = k.closed || on_side side (has_items k) (has_room k)
 
 -- whether a try of this thread has its effect: it is first in its line and has something to do
-abbrev pub may_put : Tid → Buffer → Bool
-may_put t k = is_first t k.send_line && can_put k
-
-abbrev pub may_take : Tid → Buffer → Bool
-may_take t k = is_first t k.receive_line && can_take k
+abbrev pub may_try : Side → Tid → Buffer → Bool
+may_try side t k = is_first t (line_of side k) && may_go side k
 
 -- the first of a line waits and has something to do: whoever signals its side wakes it
-abbrev pub sender_is_due : Buffer → Bool
-sender_is_due k = front_stands_in k.send_line k.waiting_senders && can_put k
-
-abbrev pub receiver_is_due : Buffer → Bool
-receiver_is_due k = front_stands_in k.receive_line k.waiting_receivers && can_take k
+abbrev pub is_due : Side → Buffer → Bool
+is_due side k = front_stands_in (line_of side k) (waiting_of side k) && may_go side k
 
 -- whom a signal wakes
-abbrev pub due_sender : Buffer → Option Tid
-due_sender k = if sender_is_due k then front k.send_line else None
-
-abbrev pub due_receiver : Buffer → Option Tid
-due_receiver k = if receiver_is_due k then front k.receive_line else None
+abbrev pub due_on : Side → Buffer → Option Tid
+due_on side k = if is_due side k then front (line_of side k) else None
 
 -- the list without this thread, if there is one
 abbrev pub without_any : Option Tid → List Tid → List Tid
@@ -52,11 +52,6 @@ abbrev pub acquired : Tid → Option Tid → Buffer → Buffer
 acquired t None k = record k { busy = Some t }
 acquired t (Some owner) k = record k { sleepers = joined t k.sleepers }
 
--- the line of a side
-abbrev pub line_of : Side → Buffer → List Tid
-line_of Senders k = k.send_line
-line_of Receivers k = k.receive_line
-
 -- t stands at the end of a line, and its position is drawn
 abbrev pub entered : Tid → Side → Buffer → Buffer
 entered t Senders k = record k { send_line = k.send_line ++ t ∷ []; send_positions = counted k.send_positions }
@@ -64,8 +59,7 @@ entered t Receivers k = record k { receive_line = k.receive_line ++ t ∷ []; re
 
 -- the position that is drawn next in a line
 abbrev pub drawn_position : Side → Buffer → ℕ
-drawn_position Senders k = k.send_positions
-drawn_position Receivers k = k.receive_positions
+drawn_position side k = on_side side k.receive_positions k.send_positions
 
 -- the first of the send line has put its message behind the items, unless the buffer is closed, and left the line
 abbrev pub put : Message → Buffer → Buffer
@@ -84,6 +78,11 @@ abbrev pub waiting : Tid → Side → Buffer → Buffer
 waiting t Senders k = record k { waiting_senders = joined t k.waiting_senders }
 waiting t Receivers k = record k { waiting_receivers = joined t k.waiting_receivers }
 
+-- whom a signal to a side woke waits no longer
+abbrev pub signalled : Side → Buffer → Buffer
+signalled Senders k = record k { waiting_senders = without_any (due_on Senders k) k.waiting_senders }
+signalled Receivers k = record k { waiting_receivers = without_any (due_on Receivers k) k.waiting_receivers }
+
 -- the lock passes to its first sleeper, or nobody owns it
 abbrev pub released : Buffer → Buffer
 released k = record k { busy = front k.sleepers; sleepers = behind k.sleepers }
@@ -92,12 +91,12 @@ released k = record k { busy = front k.sleepers; sleepers = behind k.sleepers }
 abbrev pub edited_buffer : Name → Buffer → Buffer
 edited_buffer (AcqQ t) k = acquired t k.busy k
 edited_buffer (Enter t side) k = if may_join t (line_of side k) then entered t side k else k
-edited_buffer (TryPut t m) k = if may_put t k then put m k else k
-edited_buffer (TryTake t) k = if may_take t k then taken k else k
+edited_buffer (TryPut t m) k = if may_try Senders t k then put m k else k
+edited_buffer (TryTake t) k = if may_try Receivers t k then taken k else k
 edited_buffer (Shut t) k = shut k
 edited_buffer (WaitOn t side) k = released (waiting t side k)
-edited_buffer (SigRecv t) k = record k { waiting_receivers = without_any (due_receiver k) k.waiting_receivers }
-edited_buffer (SigSend t) k = record k { waiting_senders = without_any (due_sender k) k.waiting_senders }
+edited_buffer (SigRecv t) k = signalled Receivers k
+edited_buffer (SigSend t) k = signalled Senders k
 edited_buffer (RelQ t) k = released k
 edited_buffer (Pend s) k = k
 edited_buffer TakeAll k = k
@@ -142,12 +141,12 @@ report_of_take (m ∷ items) op = Done op m
 abbrev pub answer_of_buffer : Name → Buffer → Answer
 answer_of_buffer (AcqQ t) k = answer_of_acquire k.busy
 answer_of_buffer (Enter t side) k = reports (Position (drawn_position side k))
-answer_of_buffer (TryPut t m) k = reports (if may_put t k then report_of_put k.closed k.effects m else NotYet)
-answer_of_buffer (TryTake t) k = reports (if may_take t k then report_of_take k.items k.effects else NotYet)
+answer_of_buffer (TryPut t m) k = reports (if may_try Senders t k then report_of_put k.closed k.effects m else NotYet)
+answer_of_buffer (TryTake t) k = reports (if may_try Receivers t k then report_of_take k.items k.effects else NotYet)
 answer_of_buffer (Shut t) k = reports (DidShut k.effects k.closes)
 answer_of_buffer (WaitOn t side) k = sleeps (front k.sleepers)
-answer_of_buffer (SigRecv t) k = wakes (due_receiver k)
-answer_of_buffer (SigSend t) k = wakes (due_sender k)
+answer_of_buffer (SigRecv t) k = wakes (due_on Receivers k)
+answer_of_buffer (SigSend t) k = wakes (due_on Senders k)
 answer_of_buffer (RelQ t) k = wakes (front k.sleepers)
 answer_of_buffer (Pend s) k = reports Nothing
 answer_of_buffer TakeAll k = reports Nothing

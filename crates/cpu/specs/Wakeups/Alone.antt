@@ -6,7 +6,7 @@ use Rattle.event_log.specs.{Messages.Message, Runs.{Group, Sends, Receives, Clos
 use Rattle.{guest.specs.declared.instructions.Instruction.{Instruction, TheVariants.{Send, Recv, Close}}, layer_traits.specs.declared.locked.Side.Side}
 use Rattle.{layer_traits.specs.declared.locked.Side.TheVariants.{Receivers, Senders}, cpu.specs.Table.Blocks.{Buffer, OfBuffer, front, front_stands_in}}
 use Rattle.cpu.specs.Table.{Setups.{Call, Setup, Private, home_of, thread_at, stands_at}, Steps.{Whole, IsReached, block_at, halted_at, steps_by}}
-use Rattle.cpu.specs.Wakeups.{Lost.Allows, Quiet.AreFew}
+use Rattle.cpu.specs.{Table.Edits.{line_of, waiting_of}, Wakeups.{Lost.Allows, Quiet.AreFew}}
 
 -- the instruction is a send, a receive, or a close, of this buffer
 abbrev pub IsCallOn : Group → BufId → Instruction → Type 0
@@ -59,8 +59,7 @@ pub record IsInCall (s : Whole) (c : CpuId) (t : Tid) : Type 0 where
 
 -- the first of a line, where it waits
 abbrev pub first_waiter : Side → Buffer → Option Tid
-first_waiter Receivers k = if front_stands_in k.receive_line k.waiting_receivers then front k.receive_line else None
-first_waiter Senders k = if front_stands_in k.send_line k.waiting_senders then front k.send_line else None
+first_waiter side k = if front_stands_in (line_of side k) (waiting_of side k) then front (line_of side k) else None
 
 -- whether the first of a line waits and is of another CPU
 abbrev pub is_away : Setup → CpuId → Option Tid → Bool

@@ -3,7 +3,8 @@ use Rattle.std.specs.Prelude.{◌≡◌, ℕ, ◌≤◌, ◌<◌, true, List, []
 use Rattle.event_log.specs.{declared.{ids.{CpuId.CpuId, Tid.Tid, BufId.BufId, LockId.TheVariants.Buffer as AtBuffer}, entries.Kind.Kind}, Messages.Message}
 use Rattle.event_log.specs.{Buffers.IsAllowedEffect, Runs.{Sends, Receives, group_of}, History.own_events, Actions.{Action, cpu_of_action}, Sections.Section}
 use Rattle.{event_log.specs.Sections.sections_in, cpu.specs.Table.{Blocks.{Buffer, OfBuffer, Name, front, stands_in}, Setups.{Setup, Private}, Steps.Whole}}
-use Rattle.cpu.specs.{Table.Steps.{IsReached, block_at, AlongTable}, Wakeups.Order.{block_of, IsInOrder}}
+use Rattle.cpu.specs.{Table.{Steps.{IsReached, block_at, AlongTable}, Edits.{line_of, waiting_of, on_side}}, Wakeups.Order.{block_of, IsInOrder}}
+use Rattle.layer_traits.specs.declared.locked.Side.{Side, TheVariants.{Receivers, Senders}}
 
 -- the buffer allows an effect of this kind with this message
 abbrev pub Allows : Buffer → Kind → Message → Type 0
@@ -12,10 +13,8 @@ Allows k e m = IsAllowedEffect e k.closed k.capacity k.items m
 -- while nobody owns the lock, the first of neither line waits although the buffer allows an effect of its call: one that serves it, or
 -- the answer that the buffer is closed
 pub record NoWakeUpIsLost (k : Buffer) : Type 0 where
-  pub senders : k.busy ≡ None → (t : Tid) (m : Message) → front k.send_line ≡ Some t → stands_in t k.waiting_senders ≡ true
-      → (e : Kind) → group_of e ≡ Sends → Allows k e m → ⊥
-  pub receivers : k.busy ≡ None → (t : Tid) (m : Message) → front k.receive_line ≡ Some t → stands_in t k.waiting_receivers ≡ true
-      → (e : Kind) → group_of e ≡ Receives → Allows k e m → ⊥
+  pub on : (side : Side) → k.busy ≡ None → (t : Tid) (m : Message) → front (line_of side k) ≡ Some t → stands_in t (waiting_of side k) ≡ true
+      → (e : Kind) → group_of e ≡ on_side side Receives Sends → Allows k e m → ⊥
 
 -- after these actions no wake-up is lost
 abbrev pub LosesNoWakeUp : Setup → List (Action Name) → Type 0

@@ -3,7 +3,7 @@ use Rattle.std.specs.Prelude.{◌≡◌, ◌≢◌, Bool, true, false, List, [],
 use Rattle.event_log.specs.{declared.ids.LockId.{LockId, TheVariants.{Pending, Buffer as AtBuffer}}, History.{same_lock, IsLawful}, Sections.Section}
 use Rattle.{event_log.specs.Sections.block_after, layer_traits.specs.declared.locked.Side.{Side, TheVariants.{Receivers, Senders}}}
 use Rattle.cpu.specs.Table.Blocks.{Buffer, Block, OfBuffer, OfPending, Name, AcqQ, Enter, TryPut, TryTake, Shut, WaitOn, SigRecv, SigSend, RelQ, Pend, TakeAll}
-use Rattle.cpu.specs.Table.{Edits.{edited, may_put, may_take}, Setups.{Setup, opening}}
+use Rattle.cpu.specs.Table.{Edits.{edited, may_try}, Setups.{Setup, opening}}
 
 -- what the owner of a buffer's lock has done since it got it: nothing, it entered a line, a try of it was in vain, or it took effect and
 -- owes the signals that are true. While nobody owns the lock nothing has been done.
@@ -13,24 +13,21 @@ pub data Progress : Type 0 where
   WasRefused : (side : Side) → Progress
   Owes : (receivers senders : Bool) → Progress
 
-abbrev pub receivers_signalled : Progress → Progress
-receivers_signalled (Owes receivers senders) = Owes false senders
-receivers_signalled g = g
-
-abbrev pub senders_signalled : Progress → Progress
-senders_signalled (Owes receivers senders) = Owes receivers false
-senders_signalled g = g
+abbrev pub progress_signalled : Side → Progress → Progress
+progress_signalled Receivers (Owes receivers senders) = Owes false senders
+progress_signalled Senders (Owes receivers senders) = Owes receivers false
+progress_signalled side g = g
 
 -- the progress after a section on the buffer
 abbrev pub progress_after : Name → Buffer → Progress → Progress
 progress_after (AcqQ t) k g = g
 progress_after (Enter t side) k g = HasEntered side
-progress_after (TryPut t m) k g = if may_put t k then Owes true true else WasRefused Senders
-progress_after (TryTake t) k g = if may_take t k then Owes true true else WasRefused Receivers
+progress_after (TryPut t m) k g = if may_try Senders t k then Owes true true else WasRefused Senders
+progress_after (TryTake t) k g = if may_try Receivers t k then Owes true true else WasRefused Receivers
 progress_after (Shut t) k g = Owes true true
 progress_after (WaitOn t side) k g = Begins
-progress_after (SigRecv t) k g = receivers_signalled g
-progress_after (SigSend t) k g = senders_signalled g
+progress_after (SigRecv t) k g = progress_signalled Receivers g
+progress_after (SigSend t) k g = progress_signalled Senders g
 progress_after (RelQ t) k g = Begins
 progress_after (Pend s) k g = g
 progress_after TakeAll k g = g

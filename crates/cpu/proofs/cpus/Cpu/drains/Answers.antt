@@ -1,4 +1,4 @@
-use Rattle.std.proofs.Common.{rules, ◌≡◌, ◌+◌, ◌-◌, ◌<◌, ◌≤◌, refl, ◌∙◌, arith}
+use Rattle.std.proofs.Common.{rules, ◌≡◌, ◌+◌, ◌-◌, ◌<◌, ◌≤◌, refl, arith}
 use Rattle.cpu.{specs.CpuSteps.RunsAt, proofs.{CpuRuns.{AgreesAt, runs_agree, runs_room, stepped_so}, CpuOverLayer.{laws_of, layered, runs_within}}}
 use Rattle.cpu.proofs.cpus.Cpu.drains.{Given.Over, Goals.{At-loop-taken, Then-look, After-pass}}
 use Rattle.cpu.proofs.cpus.Cpu.drains.Goals as goal

@@ -1,4 +1,4 @@
-use Rattle.std.proofs.Common.{arith, ap, subst, refl, ◌∙◌}
+use Rattle.std.proofs.Common.{arith, ap, subst, refl}
 use Rattle.{event_log.specs.declared.ids.CpuId.CpuId, layer_traits.specs.{Looks.Tries, Places.Threads}, cpu.{specs.Cpus.chosen, proofs.CpuStates.valid_cpu}}
 use Rattle.cpu.proofs.{CpuOverLayer.left_framed, StepsBesideGuests.{look_grows, others_same, others_grow}, PassSteps.seen_stays, TableCalls.looked_steps}
 use Rattle.cpu.proofs.cpus.Cpu.look.Goals as goal

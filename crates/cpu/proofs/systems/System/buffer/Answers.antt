@@ -16,9 +16,9 @@ returns-in-Some-buffer_here g c =
     let is = c.self.invariant in
     let told = g.met.I.Owned.items c.self.inside.machine (record { 0 = 0 }) c.args.buffer (acts_first is) (rw (← c.self.view_is) at c.requires) in
     subst (λ (s : Shown). c.in-Some-buffer_here.items.items ≡ items_of s.contents c.args.buffer.0) c.self.view_is
-    (told_here g.I.CallLayer c.self.inside.machine c.self.inside.cpus.items
-    (λ k x at. let e = is.each k x at in (e.number_is, e.holds.0, e.holds.1)) is.holders told c.deref-at-items.result.now c.loop-at.at-index c.deref-at-items.ensures.value c.at-item.result
-    c.in-Some-buffer_here.items.items c.loop-at-test.true c.at-item.is (sym c.buffer_here.ensures ∙ ap (λ o. option_map (λ y. y.items) o) c.in-Some-buffer_here.is))
+    (told_here g.I.CallLayer c.self.inside.machine c.self.inside.cpus.items is.each is.holders told c.deref-at-items.result.now c.loop-at.at-index
+    c.deref-at-items.ensures.value c.at-item.result c.in-Some-buffer_here.items.items c.loop-at-test.true c.at-item.is
+    (sym c.buffer_here.ensures ∙ ap (λ o. option_map (λ y. y.items) o) c.in-Some-buffer_here.is))
 
 pub loop-at-preserved : goal.loop-at-preserved
 loop-at-preserved g c =
@@ -30,6 +30,5 @@ pub returns : goal.returns
 returns g c =
     let is = c.self.invariant in
     let told = g.met.I.Owned.items c.self.inside.machine (record { 0 = 0 }) c.args.buffer (acts_first is) (rw (← c.self.view_is) at c.requires) in
-    absurd (told_somewhere g.I.CallLayer c.self.inside.machine c.self.inside.cpus.items
-    (λ k x at. let e = is.each k x at in (e.number_is, e.holds.0, e.holds.1)) is.holders told c.deref-at-items.result.now c.loop-at.at-index c.deref-at-items.ensures.value
-    (sym c.buffer_in.ensures ∙ ap (λ o. option_map (λ y. y.items) o) c.in_default.is) c.loop-at-test.false c.loop-at.invariant)
+    absurd (told_somewhere g.I.CallLayer c.self.inside.machine c.self.inside.cpus.items is.each is.holders told c.deref-at-items.result.now c.loop-at.at-index
+    c.deref-at-items.ensures.value (sym c.buffer_in.ensures ∙ ap (λ o. option_map (λ y. y.items) o) c.in_default.is) c.loop-at-test.false c.loop-at.invariant)

@@ -17,9 +17,9 @@ returns-in-Some-busy_here g c =
     let is = c.self.invariant in
     let told = g.met.I.Owned.owners c.self.inside.machine (record { 0 = 0 }) c.args.buffer (acts_first is) (rw (← c.self.view_is) at c.requires) in
     subst (λ (s : Shown). c.in-Some-busy_here.owner ≡ slice_index_or s.owners c.args.buffer.0 None) c.self.view_is
-    (told_here g.I.CallLayer c.self.inside.machine c.self.inside.cpus.items
-    (λ k x at. let e = is.each k x at in (e.number_is, e.holds.0, e.holds.1)) is.holders told c.deref-at-items.result.now c.loop-at.at-index c.deref-at-items.ensures.value c.at-item.result
-    c.in-Some-busy_here.owner c.loop-at-test.true c.at-item.is (sym c.busy_here.ensures ∙ c.in-Some-busy_here.is)
+    (told_here g.I.CallLayer c.self.inside.machine c.self.inside.cpus.items is.each is.holders told c.deref-at-items.result.now c.loop-at.at-index
+    c.deref-at-items.ensures.value c.at-item.result c.in-Some-busy_here.owner c.loop-at-test.true c.at-item.is
+    (sym c.busy_here.ensures ∙ c.in-Some-busy_here.is)
     ∙ sym (listed_there (λ b. g.I.Owned.owner c.self.inside.machine (buffer_at b)) (length (g.I.CallLayer.caps c.self.inside.machine)) c.args.buffer.0 None
     (rw (← c.self.view_is) at c.requires)))
 
@@ -33,6 +33,5 @@ pub returns : goal.returns
 returns g c =
     let is = c.self.invariant in
     let told = g.met.I.Owned.owners c.self.inside.machine (record { 0 = 0 }) c.args.buffer (acts_first is) (rw (← c.self.view_is) at c.requires) in
-    absurd (told_somewhere g.I.CallLayer c.self.inside.machine c.self.inside.cpus.items
-    (λ k x at. let e = is.each k x at in (e.number_is, e.holds.0, e.holds.1)) is.holders told c.deref-at-items.result.now c.loop-at.at-index c.deref-at-items.ensures.value
-    (sym c.busy_in.ensures ∙ c.in_default.is) c.loop-at-test.false c.loop-at.invariant)
+    absurd (told_somewhere g.I.CallLayer c.self.inside.machine c.self.inside.cpus.items is.each is.holders told c.deref-at-items.result.now c.loop-at.at-index
+    c.deref-at-items.ensures.value (sym c.busy_in.ensures ∙ c.in_default.is) c.loop-at-test.false c.loop-at.invariant)

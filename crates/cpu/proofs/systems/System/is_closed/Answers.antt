@@ -18,9 +18,9 @@ returns-in-Some-closed_in_hands g c =
     let is = c.self.invariant in
     let told = g.met.I.Owned.closed c.self.inside.machine (record { 0 = 0 }) c.args.buffer (acts_first is) (rw (← c.self.view_is) at c.requires) in
     subst (λ (s : Shown). c.in-Some-closed_in_hands.closed ≡ slice_index_or s.closed c.args.buffer.0 false) c.self.view_is
-    (told_here g.I.CallLayer c.self.inside.machine c.self.inside.cpus.items
-    (λ k x at. let e = is.each k x at in (e.number_is, e.holds.0, e.holds.1)) is.holders told c.deref-at-items.result.now c.loop-at.at-index c.deref-at-items.ensures.value c.at-item.result
-    c.in-Some-closed_in_hands.closed c.loop-at-test.true c.at-item.is (sym c.closed_in_hands.ensures ∙ c.in-Some-closed_in_hands.is)
+    (told_here g.I.CallLayer c.self.inside.machine c.self.inside.cpus.items is.each is.holders told c.deref-at-items.result.now c.loop-at.at-index
+    c.deref-at-items.ensures.value c.at-item.result c.in-Some-closed_in_hands.closed c.loop-at-test.true c.at-item.is
+    (sym c.closed_in_hands.ensures ∙ c.in-Some-closed_in_hands.is)
     ∙ sym (listed_there (is_closed (g.I.CallLayer.seen c.self.inside.machine)) (length (g.I.CallLayer.caps c.self.inside.machine)) c.args.buffer.0 false
     (rw (← c.self.view_is) at c.requires)))
 
@@ -34,6 +34,5 @@ pub returns : goal.returns
 returns g c =
     let is = c.self.invariant in
     let told = g.met.I.Owned.closed c.self.inside.machine (record { 0 = 0 }) c.args.buffer (acts_first is) (rw (← c.self.view_is) at c.requires) in
-    absurd (told_somewhere g.I.CallLayer c.self.inside.machine c.self.inside.cpus.items
-    (λ k x at. let e = is.each k x at in (e.number_is, e.holds.0, e.holds.1)) is.holders told c.deref-at-items.result.now c.loop-at.at-index c.deref-at-items.ensures.value
-    (sym c.closed_at_home.ensures ∙ c.in_default.is) c.loop-at-test.false c.loop-at.invariant)
+    absurd (told_somewhere g.I.CallLayer c.self.inside.machine c.self.inside.cpus.items is.each is.holders told c.deref-at-items.result.now c.loop-at.at-index
+    c.deref-at-items.ensures.value (sym c.closed_at_home.ensures ∙ c.in_default.is) c.loop-at-test.false c.loop-at.invariant)

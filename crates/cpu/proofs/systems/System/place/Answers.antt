@@ -25,8 +25,7 @@ returns g c =
     let items = c.self.inside.cpus.items in
     let first = there_is items 0 is.some in
     let observed = g.met.I.Owned.place first.0.part m c.args.thread (is.each 0 first.0 first.1).holds.0 (rw (← c.self.view_is) at c.requires) in
-    absurd (wait_channel_here I m items
-    (λ k x at. let e = is.each k x at in (e.number_is, e.holds.0, e.holds.1)) is.holders (λ p. g.I.Owned.IsSilent p m c.args.thread) (I.homes_of m) (I.moves m)
-    c.args.thread (g.met.I.CallLayer.moves_legal m (record { 0 = 0 }) (acts_first is)) is.within observed
+    absurd (wait_channel_here I m items is.each is.holders (λ p. g.I.Owned.IsSilent p m c.args.thread) (I.homes_of m) (I.moves m) c.args.thread
+    (g.met.I.CallLayer.moves_legal m (record { 0 = 0 }) (acts_first is)) is.within observed
     (up_to_end (λ x. g.I.Owned.IsSilent x.part m c.args.thread) items c.deref-at-items.result.now c.loop-at.at-index c.deref-at-items.ensures.value
     c.loop-at-test.false c.loop-at.invariant))

@@ -1,4 +1,4 @@
-use Rattle.std.{proofs.{Common.{◌≡◌, ◌+◌, ◌-◌, ℕ, drop, ◌∙◌, arith}, lemmas.List.length-take}, specs.Prelude.slice_index_or}
+use Rattle.std.{proofs.{Common.{◌≡◌, ◌+◌, ◌-◌, drop, arith}, lemmas.List.length-take}, specs.Prelude.slice_index_or}
 use Rattle.cpu.proofs.Schedules.{leads_alone, leads_nowhere, turn_taken}
 use Rattle.cpu.proofs.systems.System.turn.Goals as goal
 
