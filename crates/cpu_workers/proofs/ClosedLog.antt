@@ -1,27 +1,25 @@
 -- What one legal words log of the tower's locks says: its effects may come one after the other, and what its sections leave is the
 -- step table's, and in the buffers what its effects leave.
-use Rattle.std.proofs.Common.{◌≡◌, ℕ, suc, ◌<◌, ◌≤◌, Bool, true, false, List, [], ◌∷◌, length, map, slice_get, slice_index, Option, Some, None, option_map}
-use Rattle.std.proofs.Common.{if◌then◌else◌, inl, refl, ap, sym, ◌∙◌, subst, arith}
+use Rattle.std.proofs.Common.{◌≡◌, ℕ, suc, ◌<◌, ◌≤◌, List, [], ◌∷◌, length, map, slice_get, slice_index, Option, Some, None, option_map, inl, refl, ap, sym}
+use Rattle.std.proofs.Common.{◌∙◌, subst, arith}
 use Rattle.event_log.specs.{declared.ids.{BufId.BufId, CpuId.CpuId, LockId.{LockId, TheVariants.{Pending, Buffer as AtBuffer}}}, Actions.{Action, AreLegal}}
-use Rattle.event_log.specs.{Actions.{acts_of, renamed}, Buffers.items_of, Runs.is_closed, History.{IsLawful, same_lock}, Sections.{Section, block_after}}
-use Rattle.event_log.{specs.Sections.{renamed_section, sections_in}, proofs.{Foreign.sections_acts, Renaming.{legal_renamed, sections_in_renamed}}}
-use Rattle.{event_log.proofs.{Same.same_lock_true, Tickets.legal_acts}, layer_traits.specs.declared.buffer_edits.BufferEdit.BufferEdit}
-use Rattle.layer_traits.specs.declared.{conditions.{CvEdit.CvEdit, CvLeave.CvLeave}, queue_edits.{QueueBlock.QueueBlock, QueueEdit.QueueEdit}}
-use Rattle.layer_traits.specs.{declared.queues.QueueEvent.QueueEvent, Acted.{ItemsAre, guarded}, BufferEffects.{MayTakeEffect, contents_of, effects_in}}
-use Rattle.layer_traits.specs.{BufferProtocol.{BufferLock, buffer_monitor_rules}, Conditions.{CvCall, cv_rules}, IpcLaw.OpensSo, QLockLaw.lock_kernel}
-use Rattle.layer_traits.specs.{QLocking.lock_edited, OneLock.opened, QueueBlocks.{StartsWell, above_of}, QueueRules.{AreProper, queue_edited}}
-use Rattle.layer_traits.specs.{Queues.{QueueAllowed, buffer_sections, event_of}, Renaming.{renamed_edit, renamed_events, viewed, viewed_block}}
-use Rattle.layer_traits.{specs.{Sleeping.sleep_edited, WordsProtocol.{MayCome, edit_of, sections}, Laws.Openings.opens_so}, proofs.KernelRenaming.homes_viewed}
-use Rattle.layer_traits.proofs.{KernelRenaming.{proper_renamed, seen_renamed, starts_viewed, viewed_there}, NestedLemmas.{lawful_events, lawful_proper}}
-use Rattle.{layer_traits.proofs.{PlanRenaming.block_viewed, Seen.{sections_allowed, words_legal}}, sleep_wakeup.specs.Laws.NestedLaws.nested_lawful}
-use Rattle.{sleep_wakeup.specs.Nested.{nested_edited, nested_moves, nested_rules, state_of}, queuing_lock.specs.declared.edits.QLockEdit.QLockEdit}
-use Rattle.{queuing_lock.specs.{Laws.NestedLaws.locks_lawful, Nested.{busy_rules, nested_lock_of}}, fifo_buffer.specs.Laws.OwnedLaws.items_acted}
-use Rattle.{fifo_buffer.{specs.Laws.Tallies.effects_lawful, proofs.Opening.{boots_well, caps_are}}, table_machine.specs.SeatViews.TableView}
-use Rattle.cpu.specs.{Table.{Setups.{Setup, opening as table_opening}, Steps.block_at}, Tower.{Composed.named, Views.{TowerBlock, TowerName, view}}}
-use Rattle.{cpu.proofs.{TableCalls.opens_so as opens_as, PartsOfTable.block_read}, cpu_workers.specs.Closing.{LockBlock, LockEdit, StartsSo, WordsOfTower}}
-use Rattle.cpu_workers.specs.{Closing.{acts_in, blocks_read, seen_above, tower_rules}, Lawful.messages_in, Orders.effects_of}
-use Rattle.layer_traits.specs.declared.queue_edits.QueueBlock.TheVariants as block
-use Rattle.layer_traits.specs.declared.queue_edits.QueueEdit.TheVariants as edit
+use Rattle.event_log.specs.{Actions.{acts_of, renamed}, Buffers.items_of, Runs.is_closed, History.IsLawful, Sections.{Section, block_after, renamed_section}}
+use Rattle.event_log.{specs.Sections.sections_in, proofs.{Foreign.sections_acts, Renaming.{legal_renamed, sections_in_renamed}, Same.same_lock_true}}
+use Rattle.{event_log.proofs.Tickets.legal_acts, layer_traits.specs.declared.{buffer_edits.BufferEdit.BufferEdit, conditions.{CvEdit.CvEdit, CvLeave.CvLeave}}}
+use Rattle.layer_traits.specs.{declared.{queue_edits.{QueueBlock.QueueBlock, QueueEdit.QueueEdit}, queues.QueueEvent.QueueEvent}, Acted.{ItemsAre, guarded}}
+use Rattle.layer_traits.specs.{BufferEffects.{MayTakeEffect, contents_of, effects_in}, BufferProtocol.{BufferLock, buffer_monitor_rules}, Conditions.CvCall}
+use Rattle.layer_traits.specs.{Conditions.cv_rules, IpcLaw.OpensSo, QLockLaw.lock_kernel, QLocking.lock_edited, OneLock.opened, QueueBlocks.StartsWell}
+use Rattle.layer_traits.specs.{QueueBlocks.above_of, QueueRules.{AreProper, queue_edited}, Queues.{QueueAllowed, buffer_sections, event_of}}
+use Rattle.layer_traits.specs.{Renaming.{renamed_edit, renamed_events, viewed, viewed_block}, Sleeping.sleep_edited, WordsProtocol.{MayCome, edit_of, sections}}
+use Rattle.layer_traits.{specs.Laws.Openings.opens_so, proofs.KernelRenaming.{homes_viewed, proper_renamed, seen_renamed, starts_viewed, viewed_there}}
+use Rattle.layer_traits.proofs.{NestedLemmas.{lawful_events, lawful_proper}, PlanRenaming.block_viewed, Seen.{sections_allowed, words_legal}}
+use Rattle.sleep_wakeup.specs.{Laws.NestedLaws.nested_lawful, Nested.{nested_edited, nested_moves, nested_rules, state_of}}
+use Rattle.queuing_lock.specs.{declared.edits.QLockEdit.QLockEdit, Laws.NestedLaws.locks_lawful, Nested.{busy_rules, nested_lock_of}}
+use Rattle.fifo_buffer.{specs.Laws.{OwnedLaws.items_acted, Tallies.effects_lawful}, proofs.Opening.{boots_well, caps_are}}
+use Rattle.{table_machine.specs.SeatViews.TableView, cpu.specs.{Table.{Setups.{Setup, opening as table_opening}, Steps.block_at}, Tower.Composed.named}}
+use Rattle.cpu.{specs.Tower.Views.{TowerBlock, TowerName, view}, proofs.{TableCalls.opens_so as opens_as, PartsOfTable.block_read}}
+use Rattle.cpu_workers.specs.{Closing.{LockBlock, LockEdit, StartsSo, WordsOfTower, acts_in, blocks_read, seen_above, tower_rules}, Lawful.messages_in}
+use Rattle.cpu_workers.specs.Orders.{effects_of}
 use Rattle.sleep_wakeup.specs.Nested as sleep
 use Rattle.queuing_lock.specs.Laws.Edits as locked
 use Rattle.queuing_lock.specs.Nested as lock
@@ -32,12 +30,7 @@ module _ {D E A B : Type 0} (low : D → A → A) (high : E → B → B) (name :
     (edits : (d : D) (a : A) → sees (low d a) ≡ high (name d) (sees a)) where
   edits_seen : (e : QueueEdit D) (b : QueueBlock A)
       → viewed_block sees (queue_edited low e b) ≡ queue_edited high (renamed_edit name e) (viewed_block sees b)
-  edits_seen (edit.Push t) (block.Queue queue homes) = refl
-  edits_seen (edit.Push t) (block.Above a) = refl
-  edits_seen edit.TakeAll (block.Queue queue homes) = refl
-  edits_seen edit.TakeAll (block.Above a) = refl
-  edits_seen (edit.Above d) (block.Queue queue homes) = refl
-  edits_seen (edit.Above d) (block.Above a) = ap (λ x. block.Above x) (edits d a)
+  edits_seen e b = grind (arith, edits)
 
   -- what the same sections under other names leave is seen so
   block_seen : (opening : LockId → Option (QueueBlock A)) (at : LockId) (past : List (Section (QueueEdit D)))
@@ -52,12 +45,7 @@ module _ {D E A B : Type 0} (low : D → A → A) (high : E → B → B) (name :
 module _ {E B : Type 0} (edited : E → B → B) (opening : LockId → Option B) (at : LockId) where
   after_none : (past : List (Section E)) → opening at ≡ None → block_after edited opening at past ≡ None
   after_none [] none = none
-  after_none (s ∷ past) none = go (same_lock at s.lock) (after_none past none)
-    where
-      go : (b : Bool) → block_after edited opening at past ≡ None
-          → (if b then option_map (edited s.edit) (block_after edited opening at past) else block_after edited opening at past) ≡ None
-      go true is = ap (option_map (edited s.edit)) is
-      go false is = is
+  after_none (s ∷ past) none = grind (arith, after_none past none)
 
 -- a list of blocks that has each lock's in the order of another list has it for the lock
 given_back : {B : Type 0} (left : LockId → Option B) (at : LockId) (start blocks : List (LockId × B)) → length blocks ≡ length start
@@ -66,18 +54,10 @@ given_back : {B : Type 0} (left : LockId → Option B) (at : LockId) (start bloc
 given_back left at [] [] count each none = sym (none refl)
 given_back left at [] (x ∷ blocks) count each none = absurd (omega (arith, count))
 given_back left at (o ∷ start) [] count each none = absurd (omega (arith, count))
-given_back {B} left at (o ∷ start) (x ∷ blocks) count each none =
+given_back left at (o ∷ start) (x ∷ blocks) count each none =
     let here = each 0 o refl in
     let is : x ≡ (o.0, here.0) = cc here.1 in
-    let later = given_back left at start blocks (omega (arith, count)) (λ i z found. each (suc i) z found) in
-    subst (λ (y : LockId × B). (if same_lock y.0 at then Some y.1 else opened blocks at) ≡ left at) (sym is)
-    (go (same_lock o.0 at) refl here.0 here.2
-    (λ other. later (λ nothing. none (ap (λ (b : Bool). if b then Some o.1 else opened start at) other ∙ nothing))))
-  where
-    go : (b : Bool) → same_lock o.0 at ≡ b → (y : B) → left o.0 ≡ Some y → (same_lock o.0 at ≡ false → opened blocks at ≡ left at)
-        → (if b then Some y else opened blocks at) ≡ left at
-    go true same y leaves later = sym leaves ∙ ap left (same_lock_true o.0 at same)
-    go false other y leaves later = later other
+    grind (arith, is, here.2, same_lock_true o.0 at, given_back left at start blocks (omega (arith, count)) (λ i z found. each (suc i) z found))
 
 module _ (setup : Setup) (table_view : TableView (QueueBlock LockBlock)) (so : StartsSo setup table_view) (log : WordsOfTower)
     (legal : IsLawful (MayCome (tower_rules.allowed (opened table_view.start))) log) where
@@ -200,9 +180,7 @@ module _ (setup : Setup) (table_view : TableView (QueueBlock LockBlock)) (so : S
         events acts starts proper events_are lawful_calls)
 
     messages_read : (o : Option TowerBlock) (held : BufferLock) → above_of o ≡ Some held → messages_in (option_map view o) ≡ held.above.items
-    messages_read None held is = absurd (cc is)
-    messages_read (Some (block.Queue queue homes)) held is = absurd (cc is)
-    messages_read (Some (block.Above state)) held is = let same : state ≡ held = cc is in ap (λ (x : BufferLock). x.above.items) same
+    messages_read o held is = grind arith
 
     pub messages_left : (b : BufId) → b.0 < length setup.caps
         → items_of (contents_of setup.caps (effects_of setup.caps acts)) b.0 ≡ messages_in (blocks_read blocks (AtBuffer b))

@@ -1,20 +1,17 @@
 -- The number of an owned machine at rest: that of its actions which gave the lock on.
-use Rattle.std.{proofs.Common.{◌≡◌, ℕ, ◌+◌, ◌%◌, ◌^◌, true, false, List, [], ◌∷◌, Option, Some, None, refl, sym, ap, ◌∙◌, if◌then◌else◌}, specs.Prelude.IsSome}
-use Rattle.event_log.specs.{declared.ids.{CpuId.CpuId, LockId.LockId}, History.same_lock, Sections.{Section, block_after, sections_in}, Actions.{Action, Take}}
-use Rattle.{event_log.specs.Actions.{Try, Give, Rests, gives, phase}, layer_traits.specs.{Owned.IsObserved, Plans.is_in_section}}
-use Rattle.cpu_workers.{specs.{declared.counting.AddOne.AddOne, Counts.{counting, sections_at}}, proofs.Counts.number_is}
+use Rattle.std.{proofs.Common.{arith, ◌≡◌, ℕ, ◌%◌, ◌^◌, true, List, [], ◌∷◌, Option, Some, None, refl, sym, ap, ◌∙◌}, specs.Prelude.IsSome}
+use Rattle.event_log.specs.{declared.ids.{CpuId.CpuId, LockId.LockId}, Sections.{Section, block_after, sections_in}, Actions.{Action, Rests, gives, phase}}
+use Rattle.{layer_traits.specs.{Owned.IsObserved, Plans.is_in_section}, cpu_workers.specs.{declared.counting.AddOne.AddOne, Counts.{counting, sections_at}}}
+use Rattle.cpu_workers.proofs.Counts.{number_is}
 
 -- as many sections as gives
 pub gives_are_sections : {E : Type 0} (lock : LockId) (acts : List (Action E)) → sections_at lock (sections_in acts) ≡ gives lock acts
 gives_are_sections lock [] = refl
-gives_are_sections lock (Take cpu at ∷ acts) = gives_are_sections lock acts
-gives_are_sections lock (Try cpu at hit ∷ acts) = gives_are_sections lock acts
-gives_are_sections lock (Give cpu at name ∷ acts) = ap (λ n. if same_lock lock at then n + 1 else n) (gives_are_sections lock acts)
+gives_are_sections lock (a ∷ acts) = grind (arith, gives_are_sections lock acts)
 
 -- an option that is not None is Some
 pub some_where_not_none : {X : Type 0} (o : Option X) → (o ≡ None → ⊥) → IsSome o
-some_where_not_none None not_none = absurd (not_none refl)
-some_where_not_none (Some x) not_none = refl
+some_where_not_none o not_none = grind arith
 
 -- a block that the sections of a number that was 0 leave is the number of gives
 pub block_counts : (opening : LockId → Option ℕ) (lock : LockId) (acts : List (Action AddOne)) (past : List (Section AddOne)) (block : ℕ)
@@ -29,7 +26,4 @@ pub there_at_rest : {P A : Type 0} (Fits : P → Type 0) (cpu_of : P → CpuId) 
     (home truth : Option A) → ((c : CpuId) → MayHold c → is_in_section (phase c acts) ≡ true) → IsObserved Fits cpu_of MayHold here home truth
     → ((c : CpuId) → phase c acts ≡ Rests) → home ≡ None → ⊥
 there_at_rest Fits cpu_of MayHold acts here home truth holding shown rests away =
-    let held = shown.somewhere away in
-    let inside : is_in_section (phase held.cpu acts) ≡ true = holding held.cpu held.inside in
-    let rested : is_in_section (phase held.cpu acts) ≡ false = ap is_in_section (rests held.cpu) in
-    absurd (cc (inside, rested))
+    let held = shown.somewhere away in grind (arith, holding held.cpu held.inside, rests held.cpu)

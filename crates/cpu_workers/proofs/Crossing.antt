@@ -5,150 +5,131 @@ use denote.Ref.{NamedLft}
 use denote.Hole.{as_row}
 use denote.Param.SendFields.{declared_send}
 use denote.Param.Send.{IsSend, IsSync, sendable, array_send, enum_send, enum_sync, recorded_send, recorded_sync, view_send}
-use Rattle.{std.proofs.Crossing.crosses, layer_traits.specs.Payloads.{buffer_meant, buffer_told, cv_meant, cv_told, lock_told, queue_meant, queue_told}}
-use Rattle.{queuing_lock.specs.Nested.section_meant, sleep_wakeup.specs.Nested.{nested_meant, nested_told}, event_log.specs.declared.ids.TheConstants.THREADS}
-use Rattle.table_machine.proofs.Crossing.{ghost_send, seat_send}
-use Rattle.thread_blocks.specs.contracts.queues.ThreadQueue as queue
-use Rattle.thread_blocks.proofs.queues.ThreadQueue.TheSendSync as queue_crosses
-use Rattle.layer_traits.proofs.block_box.BlockBox.TheSendSync as box_crosses
-use Rattle.layer_traits.specs.contracts.queue_edits.QueueBlock as block
-use Rattle.layer_traits.proofs.buffer_edits.BareBufferOut.TheSendSync as bare_out_crosses
-use Rattle.layer_traits.proofs.conditions.CvOut.TheSendSync as cv_out_crosses
-use Rattle.layer_traits.proofs.locked.QOut.TheSendSync as lock_out_crosses
-use Rattle.layer_traits.proofs.sleeps.Outcome.TheSendSync as outcome_crosses
-use Rattle.layer_traits.proofs.payloads.Parcel.TheSendSync as parcel_crosses
-use Rattle.layer_traits.proofs.payloads.Payload.TheSendSync as payload_crosses
-use Rattle.std.specs.contracts.option.Option as option
-use Rattle.layer_traits.specs.contracts.calls.Call as call
-use Rattle.layer_traits.specs.contracts.call_states.CallState as call_state
-use Rattle.layer_traits.proofs.call_states.Stage.TheSendSync as stage_crosses
-use Rattle.layer_traits.proofs.calls.Effect.TheSendSync as effect_crosses
-use Rattle.fifo_buffer.specs.contracts.call_state_table.CallStates as call_states
-use Rattle.layer_traits.specs.contracts.payloads.Ghost as ghost_of
-use Rattle.sleep_wakeup.proofs.edits.SleepBlock.TheSendSync as sleep_block
-use Rattle.queuing_lock.proofs.edits.QBlock.TheSendSync as lock_block
-use Rattle.layer_traits.proofs.buffer_blocks.BufferBlock.TheSendSync as buffer_block
-use Rattle.spinlock.specs.contracts.spin_lock.SpinLock as spin_lock
-use Rattle.spinlock.proofs.stages.TicketPhase.TheSendSync as ticket_phase
-use Rattle.table_machine.specs.contracts.seats.Seat as table_seat
-use Rattle.layer_traits.specs.contracts.queue_edits.QueueEdit as edit_row
-use Rattle.sleep_wakeup.specs.contracts.edits.SleepEdit as sleep_edit_row
-use Rattle.queuing_lock.specs.contracts.edits.QLockEdit as lock_edit_row
-use Rattle.layer_traits.specs.contracts.conditions.CvEdit as cv_edit_row
-use Rattle.layer_traits.specs.contracts.conditions.CvLeave as cv_leave_row
-use Rattle.layer_traits.specs.contracts.buffer_edits.BufferEdit as buffer_edit_row
-use Rattle.layer_traits.specs.contracts.buffer_edits.BareBufferEdit as bare_edit_row
-use Rattle.layer_traits.specs.contracts.edits.Mark as mark_row
-use Rattle.sleep_wakeup.specs.contracts.edits.SleepBlock as sleep_block_row
-use Rattle.queuing_lock.specs.contracts.edits.QBlock as lock_block_row
-use Rattle.layer_traits.specs.contracts.buffer_blocks.BufferBlock as buffer_block_row
-use Rattle.layer_traits.specs.contracts.queues.QueueAnswer as queue_answer
-use Rattle.layer_traits.specs.contracts.queues.BareQueueAnswer as bare_answer
-use Rattle.layer_traits.specs.contracts.sleeps.Outcome as outcome
-use Rattle.layer_traits.specs.contracts.locked.QOut as lock_out
-use Rattle.layer_traits.specs.contracts.conditions.CvOut as cv_out
-use Rattle.layer_traits.specs.contracts.buffer_edits.BufferOut as buffer_out
-use Rattle.layer_traits.specs.contracts.buffer_edits.BareBufferOut as bare_out
-use Rattle.sleep_wakeup.specs.contracts.deferred.DeferredOutcome as deferred
-use Rattle.sleep_wakeup.specs.contracts.sleeper.Sleeper as sleeper
-use Rattle.fifo_buffer.specs.contracts.fifo.Fifo as fifo
-use Rattle.cpu_workers.specs.contracts.workers.seats.TowerSeat as seat
-use Rattle.cpu_workers.specs.contracts.workers.seats.TowerSeat.TheInside as inside
+use Rattle.{std.{proofs.Crossing.crosses, specs.contracts.option.Option.the_row as option_row}, layer_traits.specs.Payloads.{buffer_meant, buffer_told}}
+use Rattle.layer_traits.specs.{Payloads.{cv_meant, cv_told, lock_told, queue_meant, queue_told}, contracts.queue_edits.QueueBlock.the_field as block_field}
+use Rattle.layer_traits.specs.contracts.queue_edits.{QueueBlock.{the_row as block_row, the_type as block_type}, QueueEdit.the_row as edit_row}
+use Rattle.layer_traits.specs.contracts.{calls.Call.the_row as call_row, call_states.CallState.{the_row as call_state_row, the_type as call_state_type}}
+use Rattle.layer_traits.specs.contracts.{payloads.Ghost.the_row as ghost_of_row, conditions.{CvEdit.the_row as cv_edit_row, CvLeave.the_row as cv_leave_row}}
+use Rattle.layer_traits.specs.contracts.{conditions.CvOut.the_row as cv_out_row, buffer_edits.BufferEdit.the_row as buffer_edit_row}
+use Rattle.layer_traits.specs.contracts.buffer_edits.{BareBufferEdit.the_row as bare_edit_row, BufferOut.the_row as buffer_out_row}
+use Rattle.layer_traits.specs.contracts.{buffer_edits.BareBufferOut.the_row as bare_out_row, edits.Mark.the_row as mark_row}
+use Rattle.layer_traits.specs.contracts.{buffer_blocks.BufferBlock.the_row as buffer_block_row, queues.QueueAnswer.the_row as queue_answer_row}
+use Rattle.layer_traits.specs.contracts.{queues.BareQueueAnswer.the_row as bare_answer_row, sleeps.Outcome.the_row as outcome_row}
+use Rattle.layer_traits.{specs.contracts.locked.QOut.the_row as lock_out_row, proofs.block_box.BlockBox.TheSendSync.the_send as box_send}
+use Rattle.layer_traits.proofs.{block_box.BlockBox.TheSendSync.the_sync as box_sync, buffer_edits.BareBufferOut.TheSendSync.the_send as bare_out_send}
+use Rattle.layer_traits.proofs.{conditions.CvOut.TheSendSync.the_send as cv_out_send, locked.QOut.TheSendSync.the_send as lock_out_send}
+use Rattle.layer_traits.proofs.{sleeps.Outcome.TheSendSync.the_send as outcome_send, payloads.Parcel.TheSendSync.the_send as parcel_send}
+use Rattle.layer_traits.proofs.{payloads.Payload.TheSendSync.the_send as payload_send, call_states.Stage.TheSendSync.the_send as stage_send}
+use Rattle.layer_traits.proofs.{calls.Effect.TheSendSync.the_send as effect_send, buffer_blocks.BufferBlock.TheSendSync.the_send as buffer_block_send}
+use Rattle.{layer_traits.proofs.buffer_blocks.BufferBlock.TheSendSync.the_sync as buffer_block_sync, queuing_lock.specs.Nested.section_meant}
+use Rattle.queuing_lock.specs.contracts.edits.{QLockEdit.the_row as lock_edit_row, QBlock.the_row as lock_block_row}
+use Rattle.{queuing_lock.proofs.edits.QBlock.TheSendSync.{the_send as lock_block_send, the_sync as lock_block_sync}, sleep_wakeup.specs.Nested.nested_meant}
+use Rattle.sleep_wakeup.specs.{Nested.nested_told, contracts.edits.{SleepEdit.the_row as sleep_edit_row, SleepBlock.the_row as sleep_block_row}}
+use Rattle.sleep_wakeup.specs.contracts.{deferred.DeferredOutcome.{the_row as deferred_row, the_type as deferred_type}, sleeper.Sleeper.the_row as sleeper_row}
+use Rattle.sleep_wakeup.{specs.contracts.sleeper.Sleeper.the_type as sleeper_type, proofs.edits.SleepBlock.TheSendSync.the_send as sleep_block_send}
+use Rattle.{sleep_wakeup.proofs.edits.SleepBlock.TheSendSync.the_sync as sleep_block_sync, event_log.specs.declared.ids.TheConstants.THREADS}
+use Rattle.table_machine.{proofs.Crossing.{ghost_send, seat_send}, specs.contracts.seats.Seat.the_field as table_seat_field}
+use Rattle.thread_blocks.{specs.contracts.queues.ThreadQueue.the_row as queue_row, proofs.queues.ThreadQueue.TheSendSync.the_send as queue_send}
+use Rattle.thread_blocks.proofs.queues.ThreadQueue.TheSendSync.{the_sync as queue_sync}
+use Rattle.fifo_buffer.specs.contracts.{call_state_table.CallStates.{the_row as call_states_row, the_type as call_states_type}, fifo.Fifo.the_row as fifo_row}
+use Rattle.{fifo_buffer.specs.contracts.fifo.Fifo.the_type as fifo_type, spinlock.specs.contracts.spin_lock.SpinLock.the_row as spin_lock_row}
+use Rattle.spinlock.{specs.contracts.spin_lock.SpinLock.the_type as spin_lock_type, proofs.stages.TicketPhase.TheSendSync.the_send as ticket_phase_send}
+use Rattle.cpu_workers.specs.contracts.workers.seats.TowerSeat.{the_row as seat_row, TheInside.the_type as inside_type}
 
-deferred_send : (E A : RattleType) → IsSend A → IsSend (deferred.the_row E A)
-deferred_send E A s = declared_send (deferred.the_type E A)
-    (search (sendable, crosses), (ghost_send E, (outcome_crosses.the_send A s, (parcel_crosses.the_send, tt))))
+deferred_send : (E A : RattleType) → IsSend A → IsSend (deferred_row E A)
+deferred_send E A s = declared_send (deferred_type E A)
+    (search (sendable, crosses), (ghost_send E, (outcome_send A s, (parcel_send, tt))))
 
-sleeper_send : (E S B O H A : RattleType) → IsSend S → IsSend A → IsSend (sleeper.the_row E S B O H A)
-sleeper_send E S B O H A s answer = declared_send (sleeper.the_type E S B O H A)
+sleeper_send : (E S B O H A : RattleType) → IsSend S → IsSend A → IsSend (sleeper_row E S B O H A)
+sleeper_send E S B O H A s answer = declared_send (sleeper_type E S B O H A)
     (search (sendable, crosses), (search (sendable, crosses, deferred_send) depth 9, tt))
 
 abbrev lock_edit_of : RattleType → RattleType
-lock_edit_of edit = lock_edit_row.the_row (cv_edit_row.the_row edit) cv_leave_row.the_row
+lock_edit_of edit = lock_edit_row (cv_edit_row edit) cv_leave_row
 
 abbrev lock_out_of : RattleType → RattleType
-lock_out_of out = lock_out.the_row (cv_out.the_row out)
+lock_out_of out = lock_out_row (cv_out_row out)
 
 -- so a sleeper of the tower does, over a scheduler that does
 pub tower_sleeper_send : (S : RattleType) → IsSend S
-    → IsSend (sleeper.the_row (lock_edit_of buffer_edit_row.the_row) S (lock_block_row.the_row buffer_block_row.the_row) (lock_out_of buffer_out.the_row)
-    (lock_edit_of bare_edit_row.the_row) (lock_out_of bare_out.the_row))
-tower_sleeper_send S s = sleeper_send (lock_edit_of buffer_edit_row.the_row) S (lock_block_row.the_row buffer_block_row.the_row)
-    (lock_out_of buffer_out.the_row) (lock_edit_of bare_edit_row.the_row) (lock_out_of bare_out.the_row) s
-    (lock_out_crosses.the_send _ (cv_out_crosses.the_send _ bare_out_crosses.the_send))
+    → IsSend (sleeper_row (lock_edit_of buffer_edit_row) S (lock_block_row buffer_block_row) (lock_out_of buffer_out_row)
+    (lock_edit_of bare_edit_row) (lock_out_of bare_out_row))
+tower_sleeper_send S s = sleeper_send (lock_edit_of buffer_edit_row) S (lock_block_row buffer_block_row)
+    (lock_out_of buffer_out_row) (lock_edit_of bare_edit_row) (lock_out_of bare_out_row) s
+    (lock_out_send _ (cv_out_send _ bare_out_send))
 
 -- a thread's call is meant, and has no bytes: so its state goes from thread to thread, and so does the table of them
-call_state_send : IsSend call_state.the_row
-call_state_send = declared_send call_state.the_type (
-  stage_crosses.the_send,
-  (ghost_send (option.the_row call.the_row), (search (sendable, crosses), (search (sendable, crosses, effect_crosses.the_send) depth 9, tt))),
+call_state_send : IsSend call_state_row
+call_state_send = declared_send call_state_type (
+  stage_send,
+  (ghost_send (option_row call_row), (search (sendable, crosses), (search (sendable, crosses, effect_send) depth 9, tt))),
 )
 
-call_states_send : IsSend call_states.the_row
-call_states_send = declared_send call_states.the_type (array_send call_state.the_row THREADS call_state_send, tt)
+call_states_send : IsSend call_states_row
+call_states_send = declared_send call_states_type (array_send call_state_row THREADS call_state_send, tt)
 
 -- and so does a part of the buffers, over conditions that do: whose call is under way is meant, and has no bytes
-pub fifo_send : (C : RattleType) → IsSend C → IsSend (fifo.the_row C)
-fifo_send C s = declared_send (fifo.the_type C)
-    (search (sendable, crosses), (call_states_send, (search (sendable, crosses, ghost_send) depth 9, (payload_crosses.the_send, tt))))
+pub fifo_send : (C : RattleType) → IsSend C → IsSend (fifo_row C)
+fifo_send C s = declared_send (fifo_type C)
+    (search (sendable, crosses), (call_states_send, (search (sendable, crosses, ghost_send) depth 9, (payload_send, tt))))
 
-field_send : (B : RattleType) → IsSend B → IsSend (block.the_field B).row
-field_send B s = enum_send (shape (block.the_type B))
-    ((box_crosses.the_send queue.the_row queue_crosses.the_send, (search (sendable, crosses), tt)), ((box_crosses.the_send B s, tt), tt))
+field_send : (B : RattleType) → IsSend B → IsSend (block_field B).row
+field_send B s = enum_send (shape (block_type B))
+    ((box_send queue_row queue_send, (search (sendable, crosses), tt)), ((box_send B s, tt), tt))
 
-field_sync : (B : RattleType) → IsSync B → IsSync (block.the_field B).row
-field_sync B s = enum_sync (shape (block.the_type B))
-    ((box_crosses.the_sync queue.the_row queue_crosses.the_sync, (search (sendable, crosses), tt)), ((box_crosses.the_sync B s, tt), tt))
+field_sync : (B : RattleType) → IsSync B → IsSync (block_field B).row
+field_sync B s = enum_sync (shape (block_type B))
+    ((box_sync queue_row queue_sync, (search (sendable, crosses), tt)), ((box_sync B s, tt), tt))
 
-pub block_send : (B : RattleType) → IsSend B → IsSend (block.the_row B)
-block_send B s = recorded_send (block.the_field B).row _ _ (block.the_type B).to_one (field_send B s)
+pub block_send : (B : RattleType) → IsSend B → IsSend (block_row B)
+block_send B s = recorded_send (block_field B).row _ _ (block_type B).to_one (field_send B s)
 
-pub block_sync : (B : RattleType) → IsSync B → IsSync (block.the_row B)
-block_sync B s = recorded_sync (block.the_field B).row _ _ (block.the_type B).to_one (field_sync B s)
+pub block_sync : (B : RattleType) → IsSync B → IsSync (block_row B)
+block_sync B s = recorded_sync (block_field B).row _ _ (block_type B).to_one (field_sync B s)
 
-seat_part : (a : NamedLft) (E K B O H A : RattleType) (g : _) (k : _) → IsSend B → IsSync B → IsSend (as_row (table_seat.the_field a E K B O H A g k))
+seat_part : (a : NamedLft) (E K B O H A : RattleType) (g : _) (k : _) → IsSend B → IsSync B → IsSend (as_row (table_seat_field a E K B O H A g k))
 seat_part a E K B O H A g k s y = seat_send a E K B O H A g k s y
 
 abbrev edit_over : RattleType → RattleType
-edit_over edit = edit_row.the_row (sleep_edit_row.the_row (lock_edit_of edit))
+edit_over edit = edit_row (sleep_edit_row (lock_edit_of edit))
 
 abbrev edit : RattleType
-edit = edit_over buffer_edit_row.the_row
+edit = edit_over buffer_edit_row
 
-tower_block_send : IsSend (block.the_row (sleep_block_row.the_row (lock_block_row.the_row buffer_block_row.the_row)))
-tower_block_send = block_send _ (sleep_block.the_send _ (lock_block.the_send _ buffer_block.the_send))
+tower_block_send : IsSend (block_row (sleep_block_row (lock_block_row buffer_block_row)))
+tower_block_send = block_send _ (sleep_block_send _ (lock_block_send _ buffer_block_send))
 
 abbrev answer : RattleType
-answer = queue_answer.the_row (outcome.the_row (lock_out_of buffer_out.the_row))
+answer = queue_answer_row (outcome_row (lock_out_of buffer_out_row))
 
 abbrev handed : RattleType
-handed = edit_over bare_edit_row.the_row
+handed = edit_over bare_edit_row
 
 abbrev brought : RattleType
-brought = bare_answer.the_row (outcome.the_row (lock_out_of bare_out.the_row))
+brought = bare_answer_row (outcome_row (lock_out_of bare_out_row))
 
 abbrev guarded : RattleType
-guarded = block.the_row (sleep_block_row.the_row (lock_block_row.the_row buffer_block_row.the_row))
+guarded = block_row (sleep_block_row (lock_block_row buffer_block_row))
 
 -- a seat goes from thread to thread, whatever its words are
-pub tower_seat_send : (a : NamedLft) (K : RattleType) (k : _) → IsSend (seat.the_row a K k)
-tower_seat_send a K k = view_send _ _ _ _ _ (declared_send (inside.the_type a K k) (
+pub tower_seat_send : (a : NamedLft) (K : RattleType) (k : _) → IsSend (seat_row a K k)
+tower_seat_send a K k = view_send _ _ _ _ _ (declared_send (inside_type a K k) (
   seat_part a edit K _ answer handed brought (record {
     rules = _;
     meant = queue_meant (nested_meant (section_meant (cv_meant buffer_meant)));
     told = queue_told (nested_told (lock_told (cv_told buffer_told)));
   }) _
-      tower_block_send (block_sync _ (sleep_block.the_sync _ (lock_block.the_sync _ buffer_block.the_sync))),
+      tower_block_send (block_sync _ (sleep_block_sync _ (lock_block_sync _ buffer_block_sync))),
   tt,
 ))
 
 -- and so does a lock over it
 pub turn_send : (a : NamedLft) (K : RattleType) (k : _) (LockProtocol : RattleType)
-    → IsSend (spin_lock.the_row (seat.the_row a K k) LockProtocol edit (mark_row.the_row edit) guarded answer handed brought)
-turn_send a K k LockProtocol = declared_send (spin_lock.the_type (seat.the_row a K k) LockProtocol edit (mark_row.the_row edit) guarded answer handed brought) (
+    → IsSend (spin_lock_row (seat_row a K k) LockProtocol edit (mark_row edit) guarded answer handed brought)
+turn_send a K k LockProtocol = declared_send (spin_lock_type (seat_row a K k) LockProtocol edit (mark_row edit) guarded answer handed brought) (
   search (sendable, crosses),
   (
-    ticket_phase.the_send (ghost_of.the_row edit) guarded (ghost_send edit) tower_block_send,
+    ticket_phase_send (ghost_of_row edit) guarded (ghost_send edit) tower_block_send,
     (search (sendable, crosses, tower_seat_send) depth 9, (search (sendable, crosses), tt)),
   ),
 )

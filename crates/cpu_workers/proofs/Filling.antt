@@ -1,7 +1,8 @@
 -- Loops that go over a list and put one thing for each of its elements into another, which has room for all.
-use Rattle.std.proofs.Common.{◌≡◌, ℕ, zero, suc, ◌+◌, ◌<◌, ◌≤◌, List, [], ◌∷◌, ◌++◌, length, map, drop, Some, refl, ap, sym, ◌∙◌, subst, length-append, arith}
-use Rattle.{std.{proofs.lemmas.List.length-drop, specs.Prelude.{slice_get, slice_index_or}}, cpu.proofs.InvariantAtBoot.{at_end, drop_more}}
-use Rattle.cpu_workers.{specs.Reports.Both, proofs.Joining.{both_length, both_more, no_more, room_for, yield_more}}
+use Rattle.std.proofs.Common.{◌≡◌, ℕ, zero, suc, ◌+◌, ◌<◌, ◌≤◌, List, [], ◌∷◌, ◌++◌, length, map, drop, Some, ap, sym, ◌∙◌, subst, length-append, arith}
+use Rattle.std.{proofs.lemmas.List.length-drop, specs.Prelude.{slice_get, slice_index_or}}
+use Rattle.{cpu.proofs.InvariantAtBoot.{at_end, drop_more}, cpu_workers.{specs.Reports.Both, proofs.Joining.{both_length, both_more, no_more, room_for}}}
+use Rattle.cpu_workers.proofs.Joining.{yield_more}
 
 -- How far such a loop has come: these elements are done, and for each the other list has what belongs to it.
 pub record Filling {A B : Type 0} (Fits : A → B → Type 0) (all past rest : List A) (done : List B) (capacity : ℕ) : Type 0 where
@@ -32,28 +33,20 @@ module _ {A B : Type 0} {Fits : A → B → Type 0} {all rest : List A} {done : 
 
 module _ {A B C : Type 0} where
   pub both_maps : (f : B → C) (h : A → C) (xs : List A) (ys : List B) → Both (λ x y. f y ≡ h x) xs ys → map f ys ≡ map h xs
-  both_maps f h [] [] same = refl
-  both_maps f h [] (y ∷ ys) same = absurd same
-  both_maps f h (x ∷ xs) [] same = absurd same
-  both_maps f h (x ∷ xs) (y ∷ ys) same = ap (λ l. f y ∷ l) (both_maps f h xs ys same.1) ∙ ap (λ z. z ∷ map h xs) same.0
+  both_maps f h [] ys same = grind arith
+  both_maps f h (x ∷ xs) ys same = grind (arith, both_maps f h xs)
 
   pub both_mapped : (Fits : C → B → Type 0) (h : A → C) (xs : List A) (ys : List B) → Both (λ x y. Fits (h x) y) xs ys → Both Fits (map h xs) ys
-  both_mapped Fits h [] [] fits = tt
-  both_mapped Fits h [] (y ∷ ys) fits = absurd fits
-  both_mapped Fits h (x ∷ xs) [] fits = absurd fits
-  both_mapped Fits h (x ∷ xs) (y ∷ ys) fits = (fits.0, both_mapped Fits h xs ys fits.1)
+  both_mapped Fits h [] ys fits = grind arith
+  both_mapped Fits h (x ∷ xs) ys fits = grind (arith, both_mapped Fits h xs)
 
 pub both_are : {A B : Type 0} (h : A → B) (xs : List A) (ys : List B) → Both (λ x y. y ≡ h x) xs ys → ys ≡ map h xs
-both_are h [] [] same = refl
-both_are h [] (y ∷ ys) same = absurd same
-both_are h (x ∷ xs) [] same = absurd same
-both_are h (x ∷ xs) (y ∷ ys) same = ap (λ l. y ∷ l) (both_are h xs ys same.1) ∙ ap (λ z. z ∷ map h xs) same.0
+both_are h [] ys same = grind arith
+both_are h (x ∷ xs) ys same = grind (arith, both_are h xs)
 
 pub both_same : {A : Type 0} (xs ys : List A) → Both (λ x y. y ≡ x) xs ys → ys ≡ xs
-both_same [] [] same = refl
-both_same [] (y ∷ ys) same = absurd same
-both_same (x ∷ xs) [] same = absurd same
-both_same (x ∷ xs) (y ∷ ys) same = ap (λ l. y ∷ l) (both_same xs ys same.1) ∙ ap (λ z. z ∷ xs) same.0
+both_same [] ys same = grind arith
+both_same (x ∷ xs) ys same = grind (arith, both_same xs)
 
 -- Loops by number, which take their elements from the front of a list.
 

@@ -1,13 +1,11 @@
 -- How a call of native code goes on, poll by poll.
-use Rattle.std.proofs.Common.{◌≡◌, List, [], ◌∷◌, ◌++◌, Option, Some, None, option_map, option_to_list, is_some, true, false, refl, ◌≢◌, if◌then◌else◌, ap, sym}
-use Rattle.std.proofs.Common.{◌∙◌, subst, inl, inr, ◌⊎◌, append_assoc}
+use Rattle.std.proofs.Common.{arith, ◌≡◌, List, [], ◌∷◌, ◌++◌, Option, Some, None, option_map, option_to_list, is_some, true, false, refl, ◌≢◌, if◌then◌else◌}
+use Rattle.std.proofs.Common.{ap, sym, ◌∙◌, subst, append_assoc}
 use Rattle.event_log.{specs.declared.{entries.Entry.Entry, ids.{CpuId.CpuId, Tid.Tid}}, proofs.Same.same_cpu_self}
 use Rattle.layer_traits.specs.declared.{calls.{Call.Call, Effect.Effect, Reply.Reply}, call_states.{CallState.CallState, Stage.{Stage, TheVariants.Idle}}}
-use Rattle.layer_traits.specs.declared.call_states.Stage.TheVariants.{Acquires, Enters, Tries, Waits, AcquiresAgain, Signals, SignalsOwn, Releases}
-use Rattle.layer_traits.specs.{declared.passes.Pass.{Pass, TheVariants.{Switch, YieldNow, Drain, MakeReady, End}}, BufferLaw.{Answered, Called, IsEffectOf}}
-use Rattle.layer_traits.specs.BufferLaw.{OthersSeen, RunsOn, buffer_of, call_state_of, entry_of, Calling, begun, begun_at, going, going_at, still_calling}
-use Rattle.{layer_traits.specs.{Places.Threads, Passes.pass_after}, cpu.{specs.{Cpus.of_cpu, Guests.entries_of}, proofs.GuestLists.cpu_same}}
-use Rattle.cpu_workers.specs.Calls.{IsOn, IsOne, Returned, Went}
+use Rattle.layer_traits.specs.{declared.passes.Pass.{Pass, TheVariants.End}, BufferLaw.{Answered, Called, IsEffectOf, OthersSeen, RunsOn, buffer_of}}
+use Rattle.layer_traits.specs.{BufferLaw.{call_state_of, entry_of, Calling, begun, begun_at, going, going_at, still_calling}, Places.Threads, Passes.pass_after}
+use Rattle.{cpu.{specs.{Cpus.of_cpu, Guests.entries_of}, proofs.GuestLists.cpu_same}, cpu_workers.specs.Calls.{Ends, IsOn, IsOne, KeepsOn, Returned, Went}}
 
 -- what a poll leaves of a call, before its answer is read
 pub record Half (cpu : CpuId) (t : Tid) (call : Call) (effect : Option Effect) (old new : List Entry) : Type 0 where
@@ -39,13 +37,12 @@ module _ (ActsFor : CpuId → Type 0) (cpu : CpuId) (acts : ActsFor cpu) where
       went_more cpu old now new mine seen.others (cpu_same ActsFor cpu seen.others now seen.foreign acts) seen.is went
 
   module _ (t : Tid) (call : Call) where
-    pub on_goes : (call_state : CallState) (old now new : List Entry) → OthersSeen ActsFor now new → IsOn cpu t call call_state old now
-        → IsOn cpu t call call_state old new
-    on_goes call_state old now new seen on = record {
-      may = on.may;
-      one = on.one;
-      went = went_on old now new _ seen on.went;
-    }
+    -- however far the call had come, it has come as far after entries of others
+    pub keeps_on : {call_states left : List CallState} {now new : List Entry} → OthersSeen ActsFor now new → left ≡ call_states
+        → KeepsOn cpu t call call_states left now new
+    keeps_on {call_states} {left} {now} {new} seen same =
+        subst (λ (l : List CallState). KeepsOn cpu t call call_states l now new) (sym same)
+        (λ old on. record { may = on.may; one = on.one; went = went_on old now new _ seen on.went })
 
     -- a poll of the call has had its effect, or the call had it before, or has yet to have it
     pub polled : (call_states left : List CallState) (old now new : List Entry) (answer : Option Reply)
@@ -76,15 +73,7 @@ module _ (ActsFor : CpuId → Type 0) (cpu : CpuId) (acts : ActsFor cpu) where
 
 -- a call that goes on is the one that its thread has begun
 going_kept : (stage : Stage) (s : CallState) (call : Call) → begun_at stage s.call ≡ Some call → (going_at stage s call ≡ s) × (s.call ≡ Some call)
-going_kept Idle s call is = absurd (cc is)
-going_kept Acquires s call is = (refl, is)
-going_kept Enters s call is = (refl, is)
-going_kept Tries s call is = (refl, is)
-going_kept Waits s call is = (refl, is)
-going_kept AcquiresAgain s call is = (refl, is)
-going_kept Signals s call is = (refl, is)
-going_kept SignalsOwn s call is = (refl, is)
-going_kept Releases s call is = (refl, is)
+going_kept stage s call is = grind arith
 
 module _ (cpu : CpuId) (t : Tid) (call : Call) where
   -- a poll without an answer
@@ -117,66 +106,43 @@ module _ (cpu : CpuId) (t : Tid) (call : Call) where
         went = subst (λ (x : CallState). Went cpu old old (entries_of cpu t (buffer_of call) x.effect)) is (record { more = []; grows = refl; own = refl });
       }
 
-module _ (ActsFor : CpuId → Type 0) (cpu : CpuId) (acts : ActsFor cpu) (t : Tid) (call : Call) where
-  pub goes : (call_states left : List CallState) (now new : List Entry) (answer : Option Reply) → answer ≡ None
-      → Called ActsFor cpu t call call_states left now new answer → (old : List Entry) → IsOn cpu t call (call_state_of call_states t) old now
-      → IsOn cpu t call (call_state_of left t) old new
-  goes call_states left now new answer none called old on =
+module _ (ActsFor : CpuId → Type 0) (cpu : CpuId) (acts : ActsFor cpu) {t : Tid} {call : Call} {call_states left : List CallState} {now new : List Entry}
+    {answer : Option Reply} where
+  pub goes : answer ≡ None → Called ActsFor cpu t call call_states left now new answer → KeepsOn cpu t call call_states left now new
+  goes none called old on =
       still_on cpu t call (call_state_of left t) old new (subst (λ a. Answered call (call_state_of left t) a) none called.answers)
       (polled ActsFor cpu acts t call call_states left old now new answer called on)
 
-  pub ends : (call_states left : List CallState) (now new : List Entry) (answer : Option Reply) (reply : Reply) → answer ≡ Some reply
-      → Called ActsFor cpu t call call_states left now new answer → (old : List Entry) → IsOn cpu t call (call_state_of call_states t) old now
-      → Returned cpu t call reply old new
-  ends call_states left now new answer reply some called old on =
+  pub ends : {reply : Reply} → answer ≡ Some reply → Called ActsFor cpu t call call_states left now new answer → Ends cpu t call reply call_states now new
+  ends {reply} some called old on =
       returned cpu t call (call_state_of left t) reply old new (subst (λ a. Answered call (call_state_of left t) a) some called.answers)
       (polled ActsFor cpu acts t call call_states left old now new answer called on)
 
   -- the call is over
-  pub idles : (call_states left : List CallState) (now new : List Entry) (answer : Option Reply) (reply : Reply) → answer ≡ Some reply
-      → Called ActsFor cpu t call call_states left now new answer → (call_state_of left t).stage ≡ Idle
-  idles call_states left now new answer reply some called = (subst (λ a. Answered call (call_state_of left t) a) some called.answers).0
+  pub idles : {reply : Reply} → answer ≡ Some reply → Called ActsFor cpu t call call_states left now new answer → (call_state_of left t).stage ≡ Idle
+  idles some called = (subst (λ a. Answered call (call_state_of left t) a) some called.answers).0
 
 -- who runs after a poll is the thread of the call
 pub runs_on : {A : Type 0} (t : Tid) (own left : Threads) (answer : Option A) → RunsOn t own left answer → is_some left.current ≡ true
     → left.current ≡ Some t
-runs_on t own left answer runs some = go runs.current
-  where
-    go : (left.current ≡ Some t) ⊎ ((left.current ≡ None) × (answer ≡ None)) → left.current ≡ Some t
-    go (inl is) = is
-    go (inr sleeps) = absurd (cc (ap (λ o. is_some o) sleeps.0, some))
+runs_on t own left answer runs some = grind (arith, runs.current)
 
 -- what is under way after a poll of the call
 pub calls_on : (t : Tid) (current : Option Tid) (answer : Option Reply) → answer ≡ None → current ≡ Some t → still_calling t current answer ≡ Some (Calling t)
-calls_on t current answer none runs = rw (none, runs) refl
+calls_on t current answer none runs = grind arith
 
 pub done_rests : (t : Tid) (current : Option Tid) (answer : Option Reply) (reply : Reply) → answer ≡ Some reply → still_calling t current answer ≡ None
-done_rests t None answer reply some = rw some refl
-done_rests t (Some u) answer reply some = rw some refl
+done_rests t current answer reply some = grind arith
 
 pub sleeps : (t : Tid) (current : Option Tid) (answer : Option Reply) → answer ≡ None → is_some current ≡ false → still_calling t current answer ≡ None
-sleeps t None answer none nobody = rw none refl
-sleeps t (Some u) answer none nobody = absurd (cc nobody)
+sleeps t current answer none nobody = grind arith
 
--- a pass that ends no thread leaves who has ended
-keeps_ended : (pass : Pass) (queue : List Tid) (own : Threads) → pass ≢ End → (pass_after pass queue own).ended ≡ own.ended
-keeps_ended Switch queue own not = refl
-keeps_ended YieldNow queue own not = refl
-keeps_ended Drain queue own not = refl
-keeps_ended (MakeReady t) queue own not = refl
-keeps_ended End queue own not = absurd (not refl)
-
--- and so does one poll of it
+-- one poll of a pass that ends no thread leaves who has ended
 pub ended_on : {A : Type 0} (pass : Pass) (queue : List Tid) (own left : Threads) (answer : Option A) → pass ≢ End
     → left ≡ (if is_some answer then pass_after pass queue own else own) → left.ended ≡ own.ended
-ended_on pass queue own left None not is = ap (λ (o : Threads). o.ended) is
-ended_on pass queue own left (Some a) not is = ap (λ (o : Threads). o.ended) is ∙ keeps_ended pass queue own not
+ended_on pass queue own left answer not is = grind arith
 
 -- the thread whose call answers runs on
 pub answers_run : (t : Tid) (own left : Threads) (answer : Option Reply) (reply : Reply) → answer ≡ Some reply → RunsOn t own left answer
     → left.current ≡ Some t
-answers_run t own left answer reply is ran = go ran.current
-  where
-    go : (left.current ≡ Some t) ⊎ ((left.current ≡ None) × (answer ≡ None)) → left.current ≡ Some t
-    go (inl runs) = runs
-    go (inr (none, silent)) = absurd (cc (is, silent))
+answers_run t own left answer reply is ran = grind (arith, ran.current)

@@ -13,12 +13,11 @@ pub mod Observed
 pub mod Crossing
 pub mod CountCrossing
 pub mod CountMachines
-pub mod Acting
 pub mod Counts
 pub mod Going
 pub mod Making
 pub mod NativeKeys
 pub mod NativeLists
-pub mod NativeOrder
+pub mod TableOrder
 pub mod NativeRuns
 pub mod TowerOpening

@@ -1,5 +1,5 @@
 -- A caller's calls: what one call leaves, and what each reply says of it.
-use Rattle.std.proofs.Common.{◌≡◌, ℕ, zero, suc, Bool, true, false, ◌==◌, List, [], ◌∷◌, replicate, slice_index_or, refl, sym, ◌∙◌, subst, if◌then◌else◌}
+use Rattle.std.proofs.Common.{arith, ◌≡◌, ℕ, Bool, List, [], ◌∷◌, sym, ◌∙◌, subst}
 use Rattle.event_log.specs.{declared.{entries.{Entry.Entry, Kind.Kind}, ids.{BufId.BufId, CpuId.CpuId}}, Buffers.IsAllowedEffect, History.IsLawful}
 use Rattle.{event_log.specs.{Messages.Message, Runs.{Closes, Receives, Sends, group_of}}, layer_traits.specs.declared.calls.Call.TheVariants.{Send, Recv}}
 use Rattle.layer_traits.specs.{declared.calls.{Call.TheVariants.Close, Effect.Effect, Reply.Reply}, BufferEffects.{MayTakeEffect, entry}}
@@ -11,24 +11,14 @@ use Rattle.layer_traits.specs.declared.calls.Reply.TheVariants as reply
 -- What an allowed effect carries.
 
 carries : (k : Kind) (closed : Bool) (capacity : ℕ) (items : List Message) (value : Message) → IsAllowedEffect k closed capacity items value → CarriesNone k value
-carries kind.Send closed capacity items value allowed = tt
-carries kind.Recv closed capacity items value allowed = tt
-carries kind.Close closed capacity items value allowed = allowed
-carries kind.SendClosed closed capacity items value allowed = tt
-carries kind.RecvClosed closed capacity items value allowed = allowed.2
+carries k closed capacity items value allowed = grind arith
 
 -- a CPU's newest effect is one that may come
 pub newest_carries : (caps : List ℕ) (cpu : CpuId) (seen : List Entry) (e : Entry) (rest : List Entry) → IsLawful (MayTakeEffect caps) seen
     → of_cpu cpu seen ≡ e ∷ rest → CarriesNone e.kind e.value
 newest_carries caps cpu [] e rest lawful is = absurd (cc is)
-newest_carries caps cpu (x ∷ past) e rest lawful is = go (x.cpu.0 == cpu.0) is (λ at. newest_carries caps cpu past e rest lawful.1 at)
-  where
-    go : (b : Bool) → (if b then x ∷ of_cpu cpu past else of_cpu cpu past) ≡ e ∷ rest → (of_cpu cpu past ≡ e ∷ rest → CarriesNone e.kind e.value)
-        → CarriesNone e.kind e.value
-    go true at later =
-        let same : x ≡ e = cc at in
-        subst (λ (y : Entry). CarriesNone y.kind y.value) same (carries x.kind _ _ _ x.value lawful.0.allowed)
-    go false at later = later at
+newest_carries caps cpu (x ∷ past) e rest lawful is =
+    grind (arith, newest_carries caps cpu past e rest lawful.1, carries x.kind _ _ _ x.value lawful.0.allowed)
 
 -- What a reply says.
 
@@ -42,40 +32,20 @@ made_so old new b f k value kind_is value_is grows = record {
 
 -- a send's kind, by its reply
 sent_kind : (k : Kind) → group_of k ≡ Sends → (reply_to_send k ≡ reply.Closed → ⊥) → k ≡ kind.Send
-sent_kind kind.Send sends not_closed = refl
-sent_kind kind.SendClosed sends not_closed = absurd (not_closed refl)
-sent_kind kind.Recv sends not_closed = absurd (cc sends)
-sent_kind kind.RecvClosed sends not_closed = absurd (cc sends)
-sent_kind kind.Close sends not_closed = absurd (cc sends)
+sent_kind k sends not_closed = grind arith
 
 refused_kind : (k : Kind) → group_of k ≡ Sends → reply_to_send k ≡ reply.Closed → k ≡ kind.SendClosed
-refused_kind kind.Send sends closed = absurd (cc closed)
-refused_kind kind.SendClosed sends closed = refl
-refused_kind kind.Recv sends closed = absurd (cc sends)
-refused_kind kind.RecvClosed sends closed = absurd (cc sends)
-refused_kind kind.Close sends closed = absurd (cc sends)
+refused_kind k sends closed = grind arith
 
 -- a receive's kind and message
 got_kind : (k : Kind) (value m : Message) → group_of k ≡ Receives → reply_to_recv k value ≡ reply.Got m → (k ≡ kind.Recv) × (value ≡ m)
-got_kind kind.Send value m receives got = absurd (cc receives)
-got_kind kind.SendClosed value m receives got = absurd (cc receives)
-got_kind kind.Recv value m receives got = (refl, cc got)
-got_kind kind.RecvClosed value m receives got = absurd (cc got)
-got_kind kind.Close value m receives got = absurd (cc receives)
+got_kind k value m receives got = grind arith
 
 none_kind : (k : Kind) (value : Message) → group_of k ≡ Receives → ((m : Message) → reply_to_recv k value ≡ reply.Got m → ⊥) → k ≡ kind.RecvClosed
-none_kind kind.Send value receives none = absurd (cc receives)
-none_kind kind.SendClosed value receives none = absurd (cc receives)
-none_kind kind.Recv value receives none = absurd (none value refl)
-none_kind kind.RecvClosed value receives none = refl
-none_kind kind.Close value receives none = absurd (cc receives)
+none_kind k value receives none = grind (arith, none value)
 
 close_kind : (k : Kind) → group_of k ≡ Closes → k ≡ kind.Close
-close_kind kind.Send closes = absurd (cc closes)
-close_kind kind.SendClosed closes = absurd (cc closes)
-close_kind kind.Recv closes = absurd (cc closes)
-close_kind kind.RecvClosed closes = absurd (cc closes)
-close_kind kind.Close closes = refl
+close_kind k closes = grind arith
 
 module _ (old new : CallerView) (b : BufId) where
   pub sent : (m : Message) (r : Reply) → HasCalled old new (Send b m) r → (r ≡ reply.Closed → ⊥) → HasMade old new kind.Send b m
@@ -100,10 +70,3 @@ module _ (old new : CallerView) (b : BufId) where
   closed r called =
       let k = close_kind called.effect.kind called.is in
       made_so old new b called.effect kind.Close (0 ∷ []) k (subst (λ (x : Kind). CarriesNone x called.effect.value) k called.carries) called.grows
-
--- Threads before their first call.
-
-pub same_everywhere : {X : Type 0} (x : X) (n k : ℕ) → slice_index_or (replicate n x) k x ≡ x
-same_everywhere x zero k = refl
-same_everywhere x (suc n) zero = refl
-same_everywhere x (suc n) (suc k) = same_everywhere x n k

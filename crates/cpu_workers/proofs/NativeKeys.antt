@@ -1,9 +1,9 @@
 -- Natives at one table of words: what each leaves there, and that the table may be closed.
-use Rattle.std.proofs.{Common.{◌≡◌, ℕ, ◌<◌, All, List, length, map, Some, slice_get, sym, ◌∙◌, subst}, lemmas.{List.length-map, Option.get_or_from_slice_get}}
-use Rattle.{event_log.specs.{Actions.Action, History.IsLawful}, layer_traits.specs.{OneLock.opened, OnePlace.cpu_at, WordsProtocol.MayCome}}
-use Rattle.{table_machine.specs.SeatViews.{Covers, IsOver, TableView, new_seat_views, site_of}, cpu.proofs.ListReads.{shows_at, there_is}}
-use Rattle.cpu_workers.specs.{Callers.CallerView, Closing.{Key, tower_rules}, Natives.{HasLeftCalls, HaveLeftKeys}, Seating.{Block, Edit, tower_acts}}
-use Rattle.cpu_workers.proofs.{Joining.found_within, SeatViews.{SameActs, left_at}, TableKeys.as_many}
+use Rattle.std.proofs.{lemmas.{Option.slice_get_within, List.length-map}, Common.{◌≡◌, ℕ, List, length, map, Some, slice_get, ◌∙◌, subst}}
+use Rattle.cpu_workers.{proofs.{TableKeys.{Back, as_many}, SeatViews.{SameActs, left_at}}, specs.{Callers.CallerView, Closing.{Key, tower_rules}}}
+use Rattle.{cpu_workers.specs.{Natives.{HasLeftCalls, HaveLeftKeys}, Seating.{Block, Edit, tower_acts}}, event_log.specs.{Actions.Action, History.IsLawful}}
+use Rattle.{layer_traits.specs.{OneLock.opened, OnePlace.cpu_at, WordsProtocol.MayCome}, table_machine.specs.SeatViews.{TableView, new_seat_views, site_of}}
+use Rattle.cpu.proofs.ListReads.{shows_at, there_is}
 
 module _ {N X : Type 0} (Kept : N → N → CallerView → Type 0) (caps : List ℕ) (table_view : TableView Block) (natives : List N) (left : List X)
     (machine : X → Key) (native_of : X → N) (acts : Key → List (Action Edit)) (same : SameActs acts) where
@@ -21,7 +21,7 @@ module _ {N X : Type 0} (Kept : N → N → CallerView → Type 0) (caps : List 
         count = length-map left native_of ∙ many;
         keys_count = length-map left machine ∙ many;
         each = λ k native at.
-            let one = left_at table_view left machine acts same (length natives) seats new count site owns k (found_within natives k native at) in
+            let one = left_at table_view left machine acts same (length natives) seats new count site owns k (slice_get_within natives k native at) in
             let x = one.0 in
             let gone = subst (λ (l : List (Action Edit)). HasLeftCalls Kept caps (cpu_at k) native (native_of x) (tower_acts l)) one.3
             (has k x native one.1 at) in (
@@ -33,17 +33,12 @@ module _ {N X : Type 0} (Kept : N → N → CallerView → Type 0) (caps : List 
             );
       }
 
--- The table may be closed.
-
-module _ {N : Type 0} (Kept : N → N → CallerView → Type 0) (caps : List ℕ) (table_view : TableView Block) (natives after : List N) (keys : List Key)
-    (have : HaveLeftKeys Kept caps table_view natives after keys) where
-  pub all_covered : table_view.cpus ≡ length natives → Covers table_view.cpus keys
-  all_covered same c below =
-      let native = there_is natives c.0 (subst (λ n. c.0 < n) same below) in
-      let one = have.each c.0 native.0 native.1 in (c.0, one.1, one.3, one.4.cpu_is)
-
-  pub all_over : All (IsOver table_view) keys
-  all_over k d within =
-      let native = there_is natives k (subst (λ n. k < n) have.keys_count within) in
-      let one = have.each k native.0 native.1 in
-      subst (λ (x : Key). IsOver table_view x) (sym (get_or_from_slice_get keys k one.1 d one.3)) one.4.over
+-- So their keys are those of all CPUs, and over.
+pub natives_back : {N : Type 0} {Kept : N → N → CallerView → Type 0} {caps : List ℕ} {table_view : TableView Block} {natives after : List N} {keys : List Key}
+    → HaveLeftKeys Kept caps table_view natives after keys → Back table_view (length natives) keys
+natives_back {natives = natives} have = record {
+  count = have.keys_count;
+  each = λ k below.
+      let native = there_is natives k below in
+      let one = have.each k native.0 native.1 in (one.1, one.3, one.4.cpu_is, one.4.over);
+}

@@ -1,14 +1,10 @@
 -- Natives and what they leave, by their places in the lists.
-use Rattle.std.proofs.Common.{◌≡◌, ℕ, zero, suc, ◌+◌, ◌<◌, ◌≤◌, false, All, List, [], ◌∷◌, ◌++◌, length, Some, slice_get, ap, sym, ◌∙◌, subst, arith}
-use Rattle.std.{proofs.lemmas.Option.get_or_from_slice_get, specs.{List.AllByRecursion, Prelude.{IfOk, Result, Ok, Err}}}
+use Rattle.std.proofs.{Common.{◌≡◌, ℕ, zero, suc, ◌+◌, ◌<◌, ◌≤◌, false, All, List, [], ◌∷◌, ◌++◌}}
+use Rattle.std.{proofs.Common.{length, Some, slice_get, ap, sym, ◌∙◌, subst, arith}, specs.{List.AllByRecursion, Prelude.{IfOk, Result}}}
 use Rattle.event_log.specs.{declared.ids.{CpuId.CpuId, TheConstants.{BUFFERS, CPUS}}, Actions.{Action, phase}, Buffers.IsCapacity}
 use Rattle.{layer_traits.specs.{OnePlace.cpu_at, Openings.AreOpenable, Plans.is_in_section}, cpu.specs.{Claims.listed, Tower.Views.TowerName}}
 use Rattle.{cpu.proofs.{ListReads.listed_length, PlanGuests.listed_more}, cpu_workers.specs.{Callers.CallerView, Natives.{HasKept, HasLeftCalls}}}
-use Rattle.cpu_workers.{specs.{Natives.{HasLeftMachine, IsNewCaller, own_homes}, Orders.IsTraceOf}, proofs.Joining.{all_by_number, found_within}}
-
--- what holds of all holds of the one at this place
-pub all_at : {X : Type 0} (P : X → Type 0) (xs : List X) (k : ℕ) (x : X) → All P xs → slice_get xs k ≡ Some x → P x
-all_at P xs k x all at = subst P (get_or_from_slice_get xs k x x at) (all k x (found_within xs k x at))
+use Rattle.cpu_workers.{specs.{Natives.{HasLeftMachine, IsNewCaller, own_homes}, Orders.IsTraceOf}, proofs.Joining.{all_at, all_by_number}}
 
 -- natives at new callers are ready, if the buffers are as they need them
 pub all_ready : {N T : Type 0} (Needs : N → List ℕ → Type 0) (caller : T → CallerView) (native : T → N) (caps : List ℕ) (natives : List N) (tasks : List T)
@@ -40,8 +36,7 @@ calls_so Kept caps c n first last after new done acts site before same fresh ran
 
 -- what follows from a fact of a result is one of it
 pub ok_so : {R E : Type 0} (P Q : R → Type 0) (r : Result R E) → ((x : R) → P x → Q x) → IfOk r P → IfOk r Q
-ok_so P Q (Ok x) so holds = so x holds
-ok_so P Q (Err e) so holds = tt
+ok_so P Q r so holds = grind (arith, so)
 
 -- The homes of natives.
 

@@ -1,11 +1,11 @@
 -- Natives that came back from one table have run.
 use Rattle.std.proofs.Common.{◌≡◌, ℕ, zero, suc, ◌*◌, ◌^◌, ◌<◌, ◌≤◌, List, [], ◌∷◌, length, map, Some, slice_get, refl, ap, ◌∙◌, subst, arith}
-use Rattle.{std.proofs.lemmas.{List.length-map, Nat.mul-le}, event_log.specs.declared.{entries.Entry.Entry, ids.{CpuId.CpuId, LockId.LockId}}}
-use Rattle.{event_log.{specs.declared.ids.TheConstants.{BUFFERS, CPUS}, proofs.Streams.taken_put}, layer_traits.specs.{OneLock.opened, OnePlace.cpu_at}}
+use Rattle.std.proofs.lemmas.{List.length-map, Nat.mul-le}
+use Rattle.cpu_workers.specs.{Natives.{HasRunNative, HaveLeftKeys, HaveRun, OpensWith, left_of, own_homes}, declared.workers.callers.TheConstants.MOST_CALLS}
+use Rattle.cpu_workers.{specs.{Callers.CallerView, Closing.{Key, StartsSo, acts_in, tower_rules}, Orders.IsTraceOf, Seating.Block}, proofs.TableOrder.HasCome}
+use Rattle.{cpu_workers.proofs.TableOrder.ordered, event_log.specs.declared.{entries.Entry.Entry, ids.{CpuId.CpuId, LockId.LockId, TheConstants.BUFFERS}}}
+use Rattle.{event_log.{specs.declared.ids.TheConstants.CPUS, proofs.Streams.taken_put}, layer_traits.specs.{OneLock.opened, OnePlace.cpu_at}}
 use Rattle.{table_machine.specs.SeatViews.{Closes, TableView}, cpu.{specs.Table.Setups.Setup, proofs.ListReads.{shows_at, there_is}}}
-use Rattle.cpu_workers.specs.{declared.workers.callers.TheConstants.MOST_CALLS, Callers.CallerView, Closing.{Key, StartsSo, acts_in, tower_rules}}
-use Rattle.cpu_workers.specs.{Natives.{HasLeftKey, HaveLeftKeys, HaveRun, OpensWith, left_of, own_homes}, Orders.IsTraceOf, Seating.Block}
-use Rattle.cpu_workers.proofs.NativeOrder.{HasCome, calls_ordered}
 
 -- One of each.
 
@@ -62,12 +62,25 @@ module _ {N : Type 0} (Kept : N → N → CallerView → Type 0) (caps : List �
     pub key : Key
     pub last_at : slice_get after k ≡ Some last
     pub key_at : slice_get keys k ≡ Some key
-    pub left : HasLeftKey Kept caps table_view (cpu_at k) native last key
-    pub is : left.calls.caller ≡ caller
+    pub cpu_is : key.cpu ≡ cpu_at k
+    pub run : HasRunNative Kept caps k native last caller
+    pub trace : IsTraceOf (cpu_at k) caps (acts_in key.seen) caller.calls
+    pub short : length caller.calls ≤ MOST_CALLS
 
   callers : Chosen Stands natives
-  callers = chosen Stands natives (λ k native at. let one = have.each k native at in
-      (one.4.calls.caller, record { last = one.0; key = one.1; last_at = one.2; key_at = one.3; left = one.4; is = refl }))
+  callers = chosen Stands natives (λ k native at. let one = have.each k native at in let calls = one.4.calls in (
+    calls.caller,
+    record {
+      last = one.0;
+      key = one.1;
+      last_at = one.2;
+      key_at = one.3;
+      cpu_is = one.4.cpu_is;
+      run = record { cpu_is = calls.cpu_is; thread_is = calls.thread_is; caps_are = calls.caps_are; kept = calls.kept };
+      trace = calls.trace;
+      short = calls.few;
+    },
+  ))
 
   abbrev calls : List (List Entry)
   calls = map (λ v. v.calls) callers.list
@@ -81,32 +94,19 @@ module _ {N : Type 0} (Kept : N → N → CallerView → Type 0) (caps : List �
         key = stands.key;
         trace = one.0.calls;
         key_at = stands.key_at;
-        cpu_is = stands.left.cpu_is;
+        cpu_is = stands.cpu_is;
         trace_at = shows_at (λ (v : CallerView). v.calls) callers.list c.0 one.0 one.1;
-        own = subst (λ (v : CallerView). IsTraceOf c caps (acts_in stands.key.seen) v.calls) stands.is stands.left.calls.trace;
-        room = subst (λ (v : CallerView). length v.calls ≤ MOST_CALLS) stands.is stands.left.calls.few;
+        own = stands.trace;
+        room = stands.short;
       }
 
   pub have_run : HaveRun Kept caps natives after (left_of (length caps) blocks)
   have_run =
-      let all = calls_ordered setup table_view starts keys blocks closes calls (length-map callers.list (λ v. v.calls) ∙ callers.count) come in
+      let all = ordered setup table_view starts keys blocks closes calls (length-map callers.list (λ v. v.calls) ∙ callers.count) come in
       record {
         callers = callers.list;
         nobody_else = callers.count;
-        each = λ k native at.
-            let one = callers.each k native at in
-            let stands = one.2 in (
-              stands.last,
-              one.0,
-              stands.last_at,
-              one.1,
-              record {
-                cpu_is = subst (λ (v : CallerView). v.cpu ≡ cpu_at k) stands.is stands.left.calls.cpu_is;
-                thread_is = subst (λ (v : CallerView). v.thread.0 ≡ k) stands.is stands.left.calls.thread_is;
-                caps_are = subst (λ (v : CallerView). v.caps ≡ caps) stands.is stands.left.calls.caps_are;
-                kept = subst (λ (v : CallerView). Kept native stands.last v) stands.is stands.left.calls.kept;
-              },
-            );
+        each = λ k native at. let one = callers.each k native at in let stands = one.2 in (stands.last, one.0, stands.last_at, one.1, stands.run);
         count = have.count;
         order = all.order;
         keeps = all.keeps;

@@ -1,15 +1,15 @@
 -- The workers of a plan at one table of words: what each leaves there, and that the table may be closed.
-use Rattle.std.proofs.Common.{◌≡◌, ℕ, ◌+◌, ◌<◌, ◌≤◌, true, false, All, List, [], length, map, drop, get_or, Option, Some, None, refl, ap, sym, ◌∙◌, subst}
-use Rattle.std.{proofs.lemmas.{List.{length-map, drop_all}, Option.get_or_from_slice_get}, specs.Prelude.{IfOk, Result, Ok, Err, slice_get, if◌then◌else◌}}
-use Rattle.{atomic_table.specs.Seated.TableId, boot.specs.Plan.BootPlan, event_log.specs.declared.{entries.Entry.Entry, ids.{CpuId.CpuId, LockId.LockId}}}
-use Rattle.event_log.specs.{Actions.{Action, Phase, Rests, Waits, Holds, acts_of, phase, renamed}, History.{IsLawful, same_lock}, Sections.sections_in}
-use Rattle.{event_log.{specs.WordsLog.{Idle, lock_phase}, proofs.{Renaming.phase_renamed, ListLemmas.from_index}}, layer_traits.specs.OneLock.opened}
-use Rattle.layer_traits.specs.{OnePlace.cpu_at, Plans.is_in_section, Renaming.renamed_edit, WordsProtocol.{MayCome, edit_of}}
-use Rattle.{queuing_lock.specs.Nested.edit_in as lock_call, sleep_wakeup.specs.Nested.edit_in as slept_edit, spinlock.specs.Laws.LineLaws.rests_outside}
-use Rattle.{table_machine.specs.SeatViews.{TableView, Covers, IsOver, new_seat_view, new_seat_views, site_of}, cpu.specs.Tower.Composed.named}
-use Rattle.{cpu.{specs.Tower.Views.{TowerName, name_of}, proofs.ListReads.{shows_at, there_is}}, cpu_workers.specs.declared.workers.seating.Left.Left}
-use Rattle.cpu_workers.specs.{declared.workers.{gates.Go.Go, stops.Stop.Stop}, Closing.{Key, tower_rules}, Seating.{Block, Edit, HasLeft, HaveLeft, IsReady}}
-use Rattle.cpu_workers.{specs.Seating.tower_acts, proofs.TableKeys.{as_many, seat_views_at}}
+use Rattle.std.proofs.Common.{arith, ◌≡◌, ℕ, ◌+◌, ◌<◌, ◌≤◌, true, false, List, [], length, map, drop, get_or, Option, Some, None, refl, ap, sym, ◌∙◌, subst}
+use Rattle.std.{proofs.lemmas.List.{length-map, drop_all}, specs.Prelude.{IfOk, Result, Ok, Err, slice_get}}
+use Rattle.cpu_workers.{proofs.TableKeys.{Back, one_site, as_many, seat_views_at}, specs.declared.workers.{seating.Left.Left, gates.Go.Go, stops.Stop.Stop}}
+use Rattle.{cpu_workers.specs.{Closing.{Key, tower_rules}, Seating.{Block, Edit, HasLeft, HaveLeft, IsReady, tower_acts}}, boot.specs.Plan.BootPlan}
+use Rattle.event_log.specs.{declared.{entries.Entry.Entry, ids.{CpuId.CpuId, LockId.LockId}}, Actions.{Action, Phase, Rests, acts_of, phase, renamed}}
+use Rattle.event_log.{specs.{History.{IsLawful, same_lock}, Sections.sections_in, WordsLog.{Idle, lock_phase}}, proofs.Renaming.phase_renamed}
+use Rattle.{event_log.proofs.ListLemmas.from_index, layer_traits.specs.{OneLock.opened, OnePlace.cpu_at, Plans.is_in_section, Renaming.renamed_edit}}
+use Rattle.{layer_traits.specs.WordsProtocol.{MayCome, edit_of}, queuing_lock.specs.Nested.edit_in as lock_call}
+use Rattle.{sleep_wakeup.specs.Nested.edit_in as slept_edit, spinlock.specs.Laws.LineLaws.rests_outside, table_machine.specs.SeatViews.{TableView, IsOver}}
+use Rattle.{table_machine.specs.SeatViews.{new_seat_view, new_seat_views, site_of}, cpu.specs.Tower.{Composed.named, Views.{TowerName, name_of}}}
+use Rattle.cpu.proofs.ListReads.{shows_at, there_is}
 
 -- a new key is one for a CPU before its first action, however the machine tells its actions and that a CPU is outside
 pub ready_at : (Opens : (LockId → Option Block) → Type 0) (table_view : TableView Block) (n : ℕ) (IsOutside : Key → Type 0) (acts : Key → List (Action Edit))
@@ -25,21 +25,8 @@ ready_at Opens table_view n IsOutside acts new k key at outside none opens =
 
 -- What is left.
 
-pub one_site : (t u : TableId) → site_of t ≡ site_of u → t ≡ u
-one_site t u same =
-    let words : t.words ≡ u.words = cc same in
-    let slots : t.slots ≡ u.slots = cc same in
-    let views : t.views_name ≡ u.views_name = cc same in
-    let atom : t.atom ≡ u.atom = cc same in
-    let block : t.block ≡ u.block = cc same in
-    let offset : t.offset ≡ u.offset = cc same in
-    let names : t.slot_names ≡ u.slot_names = cc same in
-    λ i. record { words = words i; slots = slots i; views_name = views i; atom = atom i; block = block i; offset = offset i; slot_names = names i }
-
 pub rests_so : (f : Phase) → is_in_section f ≡ false → f ≡ Rests
-rests_so Rests none = refl
-rests_so (Waits lock) none = absurd (cc none)
-rests_so (Holds lock) none = absurd (cc none)
+rests_so f none = grind arith
 
 -- a CPU whose sections are over, as the tower tells them, is outside all locks
 pub outside_now : (c : CpuId) (key : Key) → is_in_section (phase c (tower_acts (acts_of edit_of key.seen))) ≡ false → lock_phase c key.seen ≡ Idle
@@ -50,9 +37,9 @@ outside_now c key over =
     (ap is_in_section (sym (phase_renamed (renamed_edit lock_call) c once ∙ phase_renamed (renamed_edit slept_edit) c acts)) ∙ over))
 
 -- so is a worker that has stopped
-stopped : (plan : BootPlan) (May : CpuId → Go → ℕ → Type 0) (turns : ℕ) (c : CpuId) (acts : List (Action TowerName)) (site : List ℕ) (trace : List Entry)
-    (taken : ℕ) (stop : Stop) → HasLeft plan May turns c acts site trace taken stop → is_in_section (phase c acts) ≡ false
-stopped plan May turns c acts site trace taken stop left =
+stopped : {plan : BootPlan} {May : CpuId → Go → ℕ → Type 0} {turns : ℕ} {c : CpuId} {acts : List (Action TowerName)} {site : List ℕ} {trace : List Entry}
+    {taken : ℕ} {stop : Stop} → HasLeft plan May turns c acts site trace taken stop → is_in_section (phase c acts) ≡ false
+stopped {c = c} {acts = acts} left =
     ap is_in_section (sym (phase_renamed name_of c acts)) ∙ ap (λ (l : List (Action TowerName)). is_in_section (phase c (named l))) left.apart.acts_are
     ∙ ap (λ (d : CpuId). is_in_section (phase d (named left.last.acts))) (sym (left.ran.same.cpu ∙ left.at_boot.cpu_is)) ∙ left.ran.rests
 
@@ -117,22 +104,17 @@ module _ (plan : BootPlan) (May : CpuId → Go → ℕ → Type 0) (turns : ℕ)
               shows_at (λ y. y.trace.items) left c.0 x one.1,
               shows_at (λ y. y.did.taken) left c.0 x one.1,
               shows_at (λ y. y.did.stop) left c.0 x one.1,
-              record { cpu_is = one.2; over = one.4 (stopped plan May turns c _ _ _ _ _ gone); left = gone },
+              record { cpu_is = one.2; over = one.4 (stopped gone); left = gone },
             );
       }
 
--- The table may be closed.
-
-module _ (plan : BootPlan) (May : CpuId → Go → ℕ → Type 0) (turns : ℕ) (table_view : TableView Block) (keys : List Key) (traces : List (List Entry)) (taken : List ℕ)
-    (stops : List Stop) (have : HaveLeft plan May turns table_view keys traces taken stops) where
-  pub all_covered : table_view.cpus ≡ plan.cpus → Covers table_view.cpus keys
-  all_covered same c below =
-      let one = have.each c (subst (λ n. c.0 < n) same below) in (c.0, one.0, one.4, one.8.cpu_is)
-
-  pub all_over : All (IsOver table_view) keys
-  all_over k d within =
-      let one = have.each (cpu_at k) (subst (λ n. k < n) have.count within) in
-      subst (λ (x : Key). IsOver table_view x) (sym (get_or_from_slice_get keys k one.0 d one.4)) one.8.over
+-- So their keys are those of all CPUs, and over.
+pub workers_back : {plan : BootPlan} {May : CpuId → Go → ℕ → Type 0} {turns : ℕ} {table_view : TableView Block} {keys : List Key} {traces : List (List Entry)}
+    {taken : List ℕ} {stops : List Stop} → HaveLeft plan May turns table_view keys traces taken stops → Back table_view plan.cpus keys
+workers_back have = record {
+  count = have.count;
+  each = λ k below. let one = have.each (cpu_at k) below in (one.0, one.4, one.8.cpu_is, one.8.over);
+}
 
 -- what holds of a part that is known holds of it where it is given
 pub ok_with : {R E S : Type 0} (of : R → S) (P : S → Type 0) (r : Result R E) (s : S) → IfOk r (λ x. of x ≡ s) → P s → IfOk r (λ x. P (of x))
@@ -143,13 +125,11 @@ ok_with of P (Err e) s is holds = tt
 
 module _ {B : Type 0} (lock : LockId) (blocks : List (LockId × B)) (i : ℕ) where
   pub opened_here : (o : LockId × B) → i < length blocks → o ≡ get_or blocks i o → same_lock o.0 lock ≡ true → opened (drop i blocks) lock ≡ Some o.1
-  opened_here o within is same =
-      ap (λ l. opened l lock) (from_index blocks i o within is) ∙ ap (λ b. if b then Some o.1 else opened (drop (i + 1) blocks) lock) same
+  opened_here o within is same = grind (arith, from_index blocks i o within is)
 
   pub opened_later : (o : LockId × B) → i < length blocks → o ≡ get_or blocks i o → same_lock o.0 lock ≡ false
       → opened (drop i blocks) lock ≡ opened (drop (i + 1) blocks) lock
-  opened_later o within is other =
-      ap (λ l. opened l lock) (from_index blocks i o within is) ∙ ap (λ b. if b then Some o.1 else opened (drop (i + 1) blocks) lock) other
+  opened_later o within is other = grind (arith, from_index blocks i o within is)
 
   pub opened_end : length blocks ≤ i → opened (drop i blocks) lock ≡ None
   opened_end past = ap (λ (l : List (LockId × B)). opened l lock) (drop_all i blocks past)

@@ -9,54 +9,26 @@ use Rattle.cpu.proofs.{InvariantAtBoot.boots, ListReads.shows_at, PlanGuests.by_
 use Rattle.{cpu.proofs.GuestLists.guest_with, cpu_workers.specs.{declared.workers.{gates.Go.Go, turns.Did.Did}, Reports.HasRun, Seating.{HasLeft, IsApart}}}
 use Rattle.cpu_workers.specs.{Seating.IsAtBoot, Working.{Charge, IsPlanned, Working}}
 
--- what a CPU was made with, and what it is
-pub record Made : Type 0 where
-  pub homes : List CpuId
-  pub buffers : ℕ
-  pub number : CpuId
-  pub guests : List (Option Guest)
-  pub most : ℕ
-  pub its : CpuId
-  pub table : List (Option Guest)
-  pub trace : List Entry
-  pub limit : ℕ
-  pub capacity : ℕ
-
-abbrev pub made_of : List CpuId → ℕ → CpuId → List (Option Guest) → ℕ → CpuId → List (Option Guest) → List Entry → ℕ → ℕ → Made
-made_of homes buffers number guests most its table trace limit capacity = record {
-  homes = homes;
-  buffers = buffers;
-  number = number;
-  guests = guests;
-  most = most;
-  its = its;
-  table = table;
-  trace = trace;
-  limit = limit;
-  capacity = capacity;
-}
-
-module _ (x : Made) (are : AreGuests x.homes x.buffers x.number x.guests)
-    (made : IsBooted x.number x.guests x.most x.its x.table x.trace x.limit x.capacity) where
-  pub boots_over : (homes : List CpuId) (count : ℕ) (seen : List Entry) (threads : Threads) (call_states : List CallState) (under_way : Option UnderWay)
-      → length x.homes ≤ THREADS → homes ≡ x.homes → count ≡ x.buffers → seen ≡ [] → threads ≡ at_boot x.homes x.number
-      → call_states ≡ replicate THREADS no_call → under_way ≡ None → IsCpu homes count seen threads call_states under_way x.its x.table x.trace x.limit
-      x.capacity
-  boots_over homes count seen threads call_states under_way few same counted none threads_are call_states_are nothing =
+module _ {homes : List CpuId} {buffers : ℕ} {number : CpuId} {guests : List (Option Guest)} {most : ℕ} {its : CpuId} {table : List (Option Guest)}
+    {trace : List Entry} {limit capacity : ℕ} (are : AreGuests homes buffers number guests)
+    (made : IsBooted number guests most its table trace limit capacity) where
+  pub boots_over : {its_homes : List CpuId} {count : ℕ} {seen : List Entry} {threads : Threads} {call_states : List CallState} {under_way : Option UnderWay}
+      → length homes ≤ THREADS → its_homes ≡ homes → count ≡ buffers → seen ≡ [] → threads ≡ at_boot homes number → call_states ≡ replicate THREADS no_call
+      → under_way ≡ None → IsCpu its_homes count seen threads call_states under_way its table trace limit capacity
+  boots_over few same counted none threads_are call_states_are nothing =
       rw (same, counted, none, threads_are, call_states_are, nothing, made.number_is, made.guests_are, made.nothing, made.limit_is)
-      (boots x.homes x.buffers x.number x.guests x.most x.capacity are few made.reserved)
+      (boots homes buffers number guests most capacity are few made.reserved)
 
-  pub tabled_over : (homes : List CpuId) (caps : List ℕ) (own : Buffering) (under_way : Option UnderWay) (opening : LockId → Option TowerBlock)
-      → homes ≡ x.homes
-      → own ≡ buffering_at_start x.homes x.number → under_way ≡ None → OpensSo caps x.homes x.number opening
-      → IsTabled homes caps x.its own under_way x.table opening
-  tabled_over homes caps own under_way opening same own_is nothing opens =
-      rw (same, own_is, nothing, made.number_is, made.guests_are) (boots_tabled x.homes caps x.number x.guests x.buffers opening are opens)
+  pub tabled_over : {its_homes : List CpuId} {caps : List ℕ} {own : Buffering} {under_way : Option UnderWay} {opening : LockId → Option TowerBlock}
+      → its_homes ≡ homes → own ≡ buffering_at_start homes number → under_way ≡ None → OpensSo caps homes number opening
+      → IsTabled its_homes caps its own under_way table opening
+  tabled_over {caps = caps} {opening = opening} same own_is nothing opens =
+      rw (same, own_is, nothing, made.number_is, made.guests_are) (boots_tabled homes caps number guests buffers opening are opens)
 
-  pub private_over : (own : Buffering) (p : Private) → p ≡ private own x.table x.trace → own ≡ buffering_at_start x.homes x.number
-      → (setup : Setup) → setup.homes ≡ x.homes → p ≡ boot_of setup x.number
-  private_over own p is own_is setup same =
-      is ∙ (λ i. private (own_is i) (made.guests_are i) (made.nothing i)) ∙ private_boots setup x.homes x.buffers x.number x.guests same are
+  pub private_over : {own : Buffering} {p : Private} → p ≡ private own table trace → own ≡ buffering_at_start homes number → (setup : Setup)
+      → setup.homes ≡ homes → p ≡ boot_of setup number
+  private_over is own_is setup same =
+      is ∙ (λ i. private (own_is i) (made.guests_are i) (made.nothing i)) ∙ private_boots setup homes buffers number guests same are
 
 -- The workers of a plan.
 
@@ -88,10 +60,10 @@ at_boot_if plan number homes charge acts (Ok w) planned homes_are none cpu plan_
 at_boot_if plan number homes charge acts (Err e) planned homes_are none cpu plan_is boots acts_are = tt
 
 -- a worker that ran from boot leaves this
-pub left_so : (plan : BootPlan) (May : CpuId → Go → ℕ → Type 0) (turns : ℕ) (c : CpuId) (first last : Working) (acts : List (Action TowerName)) (site : List ℕ)
-    (trace : List Entry) (did its : Did) → IsAtBoot plan c first → HasRun May turns first last did.taken did.stop → IsApart last acts site trace → its ≡ did
+pub left_so : {plan : BootPlan} {May : CpuId → Go → ℕ → Type 0} {turns : ℕ} {c : CpuId} {first last : Working} {acts : List (Action TowerName)} {site : List ℕ}
+    {trace : List Entry} {did its : Did} → IsAtBoot plan c first → HasRun May turns first last did.taken did.stop → IsApart last acts site trace → its ≡ did
     → HasLeft plan May turns c acts site trace its.taken its.stop
-left_so plan May turns c first last acts site trace did its boot ran apart same = record {
+left_so {May = May} {turns} {first = first} {last} boot ran apart same = record {
   first = first;
   last = last;
   at_boot = boot;

@@ -1,8 +1,9 @@
 -- The keys of a new table of words, and what belongs to each.
 use Rattle.std.proofs.Common.{◌≡◌, ℕ, zero, suc, ◌<◌, ◌≤◌, All, List, length, Some, slice_get, refl, ap, sym, ◌∙◌, subst, arith}
-use Rattle.table_machine.{specs.SeatViews.{TableView, SeatView, IsOf, new_seat_view, new_seat_views}, proofs.Fresh.length_new}
+use Rattle.std.proofs.lemmas.Option.{get_or_from_slice_get}
+use Rattle.table_machine.{specs.SeatViews.{TableView, SeatView, IsOf, new_seat_view, new_seat_views, Covers, IsOver, site_of}, proofs.Fresh.length_new}
 use Rattle.{cpu.proofs.{InvariantAtBoot.at_end, ListReads.there_is}, cpu_workers.{specs.{Counts.IsFresh, Reports.Both}, proofs.Joining.all_by_number}}
-use Rattle.cpu_workers.proofs.Joining.{both_back, both_length}
+use Rattle.{cpu_workers.proofs.Joining.{both_back, both_length}, atomic_table.specs.Seated.TableId, layer_traits.specs.OnePlace.cpu_at}
 
 pub seat_views_at : {E B : Type 0} (table_view : TableView B) (n k : ℕ) (d : SeatView E B) → slice_get (new_seat_views table_view n) k ≡ Some d → d ≡ new_seat_view table_view k
 seat_views_at table_view zero k d at = absurd (cc at)
@@ -31,11 +32,37 @@ came_at {E = E} table_view Fits n came all k below =
     let of = both_back Fits (new_seat_views table_view n) came all k there.0 there.1 in
     (there.0, there.1, subst (λ (d : SeatView E _). Fits d there.0) (seat_views_at table_view n k of.0 of.1) of.2)
 
+-- The keys that came back from such a table are those of all CPUs, and over: so the table may be closed with them.
+pub record Back {E B : Type 0} (table_view : TableView B) (n : ℕ) (keys : List (SeatView E B)) : Type 0 where
+  pub count : length keys ≡ n
+  pub each : (k : ℕ) → k < n → (key : SeatView E B) × (slice_get keys k ≡ Some key) × (key.cpu ≡ cpu_at k) × IsOver table_view key
+
+module _ {E B : Type 0} {table_view : TableView B} {n : ℕ} {keys : List (SeatView E B)} (back : Back table_view n keys) where
+  pub all_covered : table_view.cpus ≡ n → Covers table_view.cpus keys
+  all_covered same c below = let one = back.each c.0 (subst (λ m. c.0 < m) same below) in (c.0, one.0, one.1, one.2)
+
+  pub all_over : All (IsOver table_view) keys
+  all_over k d below =
+      let one = back.each k (subst (λ m. k < m) back.count below) in
+      subst (λ (x : SeatView E B). IsOver table_view x) (sym (get_or_from_slice_get keys k one.0 d one.1)) one.3
+
 module _ {E B : Type 0} (table_view : TableView B) (n : ℕ) {seats : List (SeatView E B)} (new : seats ≡ new_seat_views table_view n) where
   -- they are as many as the CPUs
   pub as_many : length seats ≡ n
   as_many = ap (λ (l : List (SeatView E B)). length l) new ∙ length_new E table_view n
 
   -- and so is what was left at each
-  pub left_fit : {left count most : ℕ} → left ≡ length seats → count ≡ n → count ≤ most → left ≤ most
-  left_fit same counted room = let many = as_many in omega (arith, same, counted, room, many)
+  pub left_fit : {left count : ℕ} → left ≡ length seats → count ≡ n → (most : ℕ) → count ≤ most → left ≤ most
+  left_fit same counted most room = let many = as_many in omega (arith, same, counted, room, many)
+
+-- a table's names tell which it is
+pub one_site : (t u : TableId) → site_of t ≡ site_of u → t ≡ u
+one_site t u same =
+    let words : t.words ≡ u.words = cc same in
+    let slots : t.slots ≡ u.slots = cc same in
+    let views : t.views_name ≡ u.views_name = cc same in
+    let atom : t.atom ≡ u.atom = cc same in
+    let block : t.block ≡ u.block = cc same in
+    let offset : t.offset ≡ u.offset = cc same in
+    let names : t.slot_names ≡ u.slot_names = cc same in
+    λ i. record { words = words i; slots = slots i; views_name = views i; atom = atom i; block = block i; offset = offset i; slot_names = names i }

@@ -1,11 +1,12 @@
-use Rattle.cpu_workers.{specs.declared.counting.TheConstants.NUMBER, proofs.Counts.{came_cover, came_over, left_by_frees, number_is_left, number_read}}
+use Rattle.cpu_workers.{specs.declared.counting.TheConstants.NUMBER, proofs.Counts.{left_by_frees, made_back, number_is_left, number_read}}
+use Rattle.{cpu_workers.proofs.TableKeys.{all_covered, all_over}, std.proofs.Common.refl}
 use Rattle.cpu_workers.proofs.counting.counted.number_left.Goals as goal
 
 pub close-blocks-requires-clause-covers : goal.close-blocks-requires-clause-covers
-close-blocks-requires-clause-covers g c = came_cover NUMBER c.args.times c.args.shared c.args.keys.items c.requires.came
+close-blocks-requires-clause-covers g c = all_covered (made_back NUMBER c.args.times c.requires.came) refl
 
 pub close-blocks-requires-clause-keys : goal.close-blocks-requires-clause-keys
-close-blocks-requires-clause-keys g c = came_over NUMBER c.args.times c.args.shared c.args.keys.items c.requires.came
+close-blocks-requires-clause-keys g c = all_over (made_back NUMBER c.args.times c.requires.came)
 
 pub returns-clause-number : goal.returns-clause-number
 returns-clause-number g c =

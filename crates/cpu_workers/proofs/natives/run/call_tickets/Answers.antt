@@ -1,4 +1,4 @@
-use Rattle.std.proofs.Common.{◌≡◌, length, refl, sym, ◌∙◌, subst, arith}
+use Rattle.std.proofs.Common.{◌≡◌, length, refl, sym, ◌∙◌, subst}
 use Rattle.{event_log.specs.{Actions.acts_of, WordsLog.{Idle, lock_phase}}, layer_traits.specs.{OneLock.opened, OnePlace.cpu_at, WordsProtocol.edit_of}}
 use Rattle.cpu_workers.{specs.Natives.{HaveLeftKeys, OpensWith}, proofs.{Crossing.{tower_seat_send, turn_send}, NativeKeys.have_left, SeatViews.ready_at}}
 use Rattle.cpu_workers.proofs.TableKeys.{as_many, left_fit, seat_views_are_of}
@@ -10,15 +10,11 @@ pub seats_at-requires : goal.seats_at-requires
 seats_at-requires g c = rw c.requires.keys (seat_views_are_of c.args.shared.now (length c.args.natives.items))
 
 pub call_over-requires-clause-few : goal.call_over-requires-clause-few
-call_over-requires-clause-few g c =
-    let len = as_many c.args.shared.now (length c.args.natives.items) (c.in_ok-seats.ensures ∙ c.requires.keys) in
-    let most = c.requires.few in
-    omega (arith, len, most)
+call_over-requires-clause-few g c = λ κs within.
+    left_fit c.args.shared.now (length c.args.natives.items) (c.in_ok-seats.ensures ∙ c.requires.keys) refl refl _ c.requires.few
 
 pub call_over-requires-clause-count : goal.call_over-requires-clause-count
-call_over-requires-clause-count g c = λ κs within.
-    let len = as_many c.args.shared.now (length c.args.natives.items) (c.in_ok-seats.ensures ∙ c.requires.keys) in
-    omega (arith, len)
+call_over-requires-clause-count g c = λ κs within. sym (as_many c.args.shared.now (length c.args.natives.items) (c.in_ok-seats.ensures ∙ c.requires.keys))
 
 pub call_over-requires-clause-ready : goal.call_over-requires-clause-ready
 call_over-requires-clause-ready g c = λ κs within k m at.
@@ -28,15 +24,12 @@ call_over-requires-clause-ready g c = λ κs within k m at.
     (subst (λ j. OpensWith j c.args.caps.now c.args.homes.now (opened c.args.shared.now.start))
     (sym (as_many c.args.shared.now n (c.in_ok-seats.ensures ∙ c.requires.keys))) c.requires.opens)
 
-pub parted-requires-clause-keys : goal.parted-requires-clause-keys
-parted-requires-clause-keys g c =
-    let e = c.in_ok-back.ensures.keys in
-    (e.0, left_fit c.args.shared.now (length c.args.natives.items) (c.in_ok-seats.ensures ∙ c.requires.keys) c.in_ok-left.ensures.count (c.len.ensures ∙ c.args.natives.ok.0) e.1)
-
-pub parted-requires-clause-natives : goal.parted-requires-clause-natives
-parted-requires-clause-natives g c =
-    let e = c.in_ok-back.ensures.natives in
-    (e.0, left_fit c.args.shared.now (length c.args.natives.items) (c.in_ok-seats.ensures ∙ c.requires.keys) c.in_ok-left.ensures.count (c.len.ensures ∙ c.args.natives.ok.0) e.1)
+pub parted-requires : goal.parted-requires
+parted-requires g c =
+    let e = c.in_ok-back.ensures in
+    let fits = left_fit c.args.shared.now (length c.args.natives.items) (c.in_ok-seats.ensures ∙ c.requires.keys) c.in_ok-left.ensures.count
+    (c.len.ensures ∙ c.args.natives.ok.0) in
+    record { keys = (e.keys.0, fits _ e.keys.1); natives = (e.natives.0, fits _ e.natives.1) }
 
 pub returns : goal.returns
 returns g c =

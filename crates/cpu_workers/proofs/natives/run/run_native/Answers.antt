@@ -1,61 +1,45 @@
-use Rattle.std.proofs.Common.{◌≡◌, ◌≤◌, List, length, ap, sym, ◌∙◌, subst, arith}
-use Rattle.{event_log.specs.declared.ids.{CpuId.CpuId, TheConstants.CPUS}, layer_traits.specs.{OneLock.opened, OnePlace.cpu_at, Openings.AreOpenable}}
+use Rattle.std.proofs.Common.{◌≡◌, List, length, ap, sym, ◌∙◌, subst, arith}
+use Rattle.{event_log.specs.declared.ids.CpuId.CpuId, layer_traits.specs.{OneLock.opened, OnePlace.cpu_at, Openings.AreOpenable}}
 use Rattle.{table_machine.specs.SeatViews.new_seat_views, cpu.proofs.ListReads.listed_length, cpu_workers.specs.Natives.{HaveRun, OpensWith, left_of}}
-use Rattle.cpu_workers.{specs.Natives.own_homes, proofs.{NativeKeys.{all_covered, all_over}, NativeLists.are_openable, NativeRuns.have_run}}
+use Rattle.cpu_workers.{specs.Natives.own_homes, proofs.{NativeKeys.natives_back, NativeLists.are_openable, NativeRuns.have_run, TableKeys.all_covered}}
+use Rattle.cpu_workers.proofs.TableKeys.{all_over}
 use Rattle.cpu_workers.proofs.natives.run.run_native.Goals as goal
 
 pub table_for-requires : goal.table_for-requires
 table_for-requires g c =
     let m = c.len-count.result in
-    let len = c.len-count.ensures in
-    let ok = c.args.natives.ok.0 in
-    let count : m ≡ length c.args.natives.items = omega (arith, len, ok) in
+    let count = c.len-count.ensures ∙ c.args.natives.ok.0 in
     let some = c.requires.some in
     let few = c.requires.few in
-    let most : m ≤ CPUS = omega (arith, count, few) in
     subst (λ (l : List CpuId). AreOpenable m c.args.caps.now l) (sym (c.as_slice.ensures.value ∙ c.native_homes-homes.ensures))
-    (are_openable m c.args.caps.now (omega (arith, count, some)) most c.requires.buffers c.requires.capacities)
+    (are_openable m c.args.caps.now (omega (arith, count, some)) (omega (arith, count, few)) c.requires.buffers c.requires.capacities)
 
 pub call_tickets-requires-clause-threads : goal.call_tickets-requires-clause-threads
 call_tickets-requires-clause-threads g c = λ κs within.
-    let len = c.len-count.ensures in
-    let ok = c.args.natives.ok.0 in
+    let count = c.len-count.ensures ∙ c.args.natives.ok.0 in
     let few = c.requires.few in
     let long = ap (λ (l : List CpuId). length l) (c.as_slice-2.ensures.value ∙ c.native_homes-homes.ensures) ∙ listed_length cpu_at c.len-count.result 0 in
-    omega (arith, len, ok, few, long)
+    omega (arith, count, few, long)
 
 pub call_tickets-requires-clause-keys : goal.call_tickets-requires-clause-keys
 call_tickets-requires-clause-keys g c = λ κs within.
-    let len = c.len-count.ensures in
-    let ok = c.args.natives.ok.0 in
-    let count : c.len-count.result ≡ length c.args.natives.items = omega (arith, len, ok) in
-    subst (λ m. c.in_ok-open.open.1.items ≡ new_seat_views c.in_ok-open.open.0 m) count c.in_ok-open.ensures.keys
+    subst (λ m. c.in_ok-open.open.1.items ≡ new_seat_views c.in_ok-open.open.0 m) (c.len-count.ensures ∙ c.args.natives.ok.0) c.in_ok-open.ensures.keys
 
 pub call_tickets-requires-clause-opens : goal.call_tickets-requires-clause-opens
 call_tickets-requires-clause-opens g c = λ κs within.
-    let len = c.len-count.ensures in
-    let ok = c.args.natives.ok.0 in
-    let count : c.len-count.result ≡ length c.args.natives.items = omega (arith, len, ok) in
-    subst (λ m. OpensWith m c.args.caps.now c.as_slice-2.result.now (opened c.in_ok-open.open.0.start)) count
+    subst (λ m. OpensWith m c.args.caps.now c.as_slice-2.result.now (opened c.in_ok-open.open.0.start)) (c.len-count.ensures ∙ c.args.natives.ok.0)
     (subst (λ (h : List CpuId). OpensWith c.len-count.result c.args.caps.now h (opened c.in_ok-open.open.0.start))
     (c.as_slice.ensures.value ∙ sym c.as_slice-2.ensures.value) c.in_ok-open.ensures.opens)
 
 pub closed-requires-clause-covers : goal.closed-requires-clause-covers
-closed-requires-clause-covers g c =
-    let len = c.len-count.ensures in
-    let ok = c.args.natives.ok.0 in
-    let count : c.len-count.result ≡ length c.args.natives.items = omega (arith, len, ok) in
-    all_covered g.N.Native.Kept c.args.caps.now c.in_ok-open.open.0 c.args.natives.items _ _ c.in_ok-back.ensures (c.in_ok-open.ensures.cpus ∙ count)
+closed-requires-clause-covers g c = all_covered (natives_back c.in_ok-back.ensures) (c.in_ok-open.ensures.cpus ∙ c.len-count.ensures ∙ c.args.natives.ok.0)
 
 pub closed-requires-clause-keys : goal.closed-requires-clause-keys
-closed-requires-clause-keys g c =
-    all_over g.N.Native.Kept c.args.caps.now c.in_ok-open.open.0 c.args.natives.items _ _ c.in_ok-back.ensures
+closed-requires-clause-keys g c = all_over (natives_back c.in_ok-back.ensures)
 
 pub returns : goal.returns
 returns g c =
-    let len = c.len-count.ensures in
-    let ok = c.args.natives.ok.0 in
-    let count : c.len-count.result ≡ length c.args.natives.items = omega (arith, len, ok) in
+    let count = c.len-count.ensures ∙ c.args.natives.ok.0 in
     let table_view = c.in_ok-open.open.0 in
     let back = c.in_ok-back.back in
     let r = c.closed.result in

@@ -1,7 +1,7 @@
-use denote.Param.Send.{sendable}
-use Rattle.std.{proofs.{Crossing.crosses, Common.{◌≡◌, ℕ, Some, refl, ap}}, specs.Prelude.slice_get}
+use Rattle.std.{proofs.{lemmas.Option.slice_get_within, Crossing.crosses, Common.{◌≡◌, ℕ, Some, refl, ap}}, specs.Prelude.slice_get}
 use Rattle.{layer_traits.specs.{OnePlace.cpu_at, QueueBlocks.StartsWell}, fifo_buffer.specs.FifoFits.BootsSo, cpu_workers.specs.Seating.tower_acts}
-use Rattle.cpu_workers.proofs.{Crossing.{fifo_send, tower_sleeper_send}, NativeLists.ok_so, Joining.found_within, TowerOpening.{opens_tower, seen_from_top}}
+use Rattle.cpu_workers.proofs.{Crossing.{fifo_send, tower_sleeper_send}, NativeLists.ok_so, TowerOpening.{opens_tower, seen_from_top}}
+use denote.Param.Send.{sendable}
 use Rattle.ipc_calls.proofs.ipc.Ipc.TheSendSync as ipc
 use Rattle.condvar.proofs.cond.Cond.TheSendSync as cond
 use Rattle.queuing_lock.proofs.qlock.QLock.TheSendSync as qlock
@@ -15,7 +15,7 @@ call_each-requires-clause-unused g c = λ κs within k m at.
     let ready = c.requires.ready k m at in
     let opens = ready.opens in
     let tower = opens_tower c.args.caps.now c.args.homes.now (cpu_at k) (g.L.Layer.opening m) c.requires.buffers opens.homes_are
-    (opens.queues (cpu_at k) (found_within c.args.machines.items k m at)) opens.locks in
+    (opens.queues (cpu_at k) (slice_get_within c.args.machines.items k m at)) opens.locks in
     record {
       fresh = (
         (((ready.acts, opens.starts), tower.boots), ready.rests, rw ready.unseen refl, rw ready.unseen refl, tower.homes_are, tower.queue, tower.boots),

@@ -4,37 +4,25 @@ use Rattle.cpu_workers.proofs.natives.seating.tasks_over.Goals as goal
 
 pub remove-machine-requires : goal.remove-machine-requires
 remove-machine-requires g c =
-    some_left c.args.machines.items c.loop-number.number c.loop-number.invariant.machines_left
-    (within c.loop-number-test.true c.len-count.ensures c.args.machines.ok.0) c.loop-number.machines.ok.0
+    some_left _ _ c.loop-number.invariant.machines_left (within c.loop-number-test.true c.len-count.ensures c.args.machines.ok.0) c.loop-number.machines.ok.0
 
 pub remove-native-requires : goal.remove-native-requires
 remove-native-requires g c =
-    some_left c.args.natives.items c.loop-number.number c.loop-number.invariant.natives_left
-    (within c.loop-number-test.true c.len-count.ensures (c.args.machines.ok.0 ∙ sym c.requires.count)) c.loop-number.natives.ok.0
+    some_left _ _ c.loop-number.invariant.natives_left (within c.loop-number-test.true c.len-count.ensures (c.args.machines.ok.0 ∙ sym c.requires.count))
+    c.loop-number.natives.ok.0
 
-pub new-caller-requires-clause-fresh : goal.new-caller-requires-clause-fresh
-new-caller-requires-clause-fresh g c =
-    (c.requires.unused c.loop-number.number c.remove-machine.result
-    (taken_at c.args.machines.items c.loop-number.number c.loop-number.invariant.machines_left
-    (within c.loop-number-test.true c.len-count.ensures c.args.machines.ok.0) c.remove-machine.result c.remove-machine.ensures.value)).fresh
-
-pub new-caller-requires-clause-buffers : goal.new-caller-requires-clause-buffers
-new-caller-requires-clause-buffers g c =
-    ap (λ l. length l) (c.requires.unused c.loop-number.number c.remove-machine.result
-    (taken_at c.args.machines.items c.loop-number.number c.loop-number.invariant.machines_left
-    (within c.loop-number-test.true c.len-count.ensures c.args.machines.ok.0) c.remove-machine.result c.remove-machine.ensures.value)).caps
-
-pub new-caller-requires-clause-seen : goal.new-caller-requires-clause-seen
-new-caller-requires-clause-seen g c =
-    (c.requires.unused c.loop-number.number c.remove-machine.result
-    (taken_at c.args.machines.items c.loop-number.number c.loop-number.invariant.machines_left
-    (within c.loop-number-test.true c.len-count.ensures c.args.machines.ok.0) c.remove-machine.result c.remove-machine.ensures.value)).unseen
-
-pub new-caller-requires-clause-opens : goal.new-caller-requires-clause-opens
-new-caller-requires-clause-opens g c =
-    (c.requires.unused c.loop-number.number c.remove-machine.result
-    (taken_at c.args.machines.items c.loop-number.number c.loop-number.invariant.machines_left
-    (within c.loop-number-test.true c.len-count.ensures c.args.machines.ok.0) c.remove-machine.result c.remove-machine.ensures.value)).opens
+pub new-caller-requires : goal.new-caller-requires
+new-caller-requires g c =
+    let below = within c.loop-number-test.true c.len-count.ensures c.args.machines.ok.0 in
+    let unused = c.requires.unused c.loop-number.number _ (taken_at _ _ c.loop-number.invariant.machines_left below _ c.remove-machine.ensures.value) in
+    record {
+      threads = c.requires.threads;
+      fresh = unused.fresh;
+      buffers = ap (λ l. length l) unused.caps;
+      seen = unused.unseen;
+      room = c.requires.room;
+      opens = unused.opens;
+    }
 
 pub push_reserved-requires : goal.push_reserved-requires
 push_reserved-requires g c =

@@ -1,6 +1,6 @@
 use Rattle.std.proofs.Common.{◌≡◌, refl, sym, ◌∙◌, subst, arith}
 use Rattle.{event_log.specs.{Actions.acts_of, WordsLog.{Idle, lock_phase}}, layer_traits.specs.{OnePlace.cpu_at, WordsProtocol.edit_of}}
-use Rattle.cpu_workers.{specs.Seating.{HaveLeft, OpensPlan}, proofs.{Crossing.{tower_seat_send, turn_send}, SeatViews.{have_left, ready_at}, TableKeys.as_many}}
+use Rattle.cpu_workers.{specs.Seating.{HaveLeft, OpensPlan}, proofs.{Crossing.{tower_seat_send, turn_send}, SeatViews.{have_left, ready_at}}}
 use Rattle.cpu_workers.proofs.TableKeys.{left_fit, seat_views_are_of}
 use denote.Param.Send.{param_send, arg_send}
 use Rattle.cpu_workers.proofs.workers.run.run_tickets.Lts as lts
@@ -13,40 +13,28 @@ pub run_over-requires-clause-plan : goal.run_over-requires-clause-plan
 run_over-requires-clause-plan g c = λ κs within. c.cpus.ensures.within
 
 pub run_over-requires-clause-count : goal.run_over-requires-clause-count
-run_over-requires-clause-count g c =
-    let len = as_many c.args.shared.now c.args.boot.now.cpus (c.in_ok-seats.ensures ∙ c.requires.keys) in
-    omega (arith, len)
+run_over-requires-clause-count g c = λ κs within.
+    left_fit c.args.shared.now c.args.boot.now.cpus (c.in_ok-seats.ensures ∙ c.requires.keys) refl refl c.args.boot.now.cpus (omega arith)
 
 pub run_over-requires-clause-few : goal.run_over-requires-clause-few
-run_over-requires-clause-few g c =
-    let len = as_many c.args.shared.now c.args.boot.now.cpus (c.in_ok-seats.ensures ∙ c.requires.keys) in
-    let most = c.cpus.ensures.within.most_cpus in
-    omega (arith, len, most)
+run_over-requires-clause-few g c = λ κs within.
+    left_fit c.args.shared.now c.args.boot.now.cpus (c.in_ok-seats.ensures ∙ c.requires.keys) refl refl _ c.cpus.ensures.within.most_cpus
 
 pub run_over-requires-clause-ready : goal.run_over-requires-clause-ready
 run_over-requires-clause-ready g c = λ κs within k m at.
     ready_at (OpensPlan c.args.boot.now) c.args.shared.now c.args.boot.now.cpus (λ x. lock_phase (cpu_at k) x.seen ≡ Idle)
     (λ x. acts_of edit_of x.seen) (c.in_ok-seats.ensures ∙ c.requires.keys) k m at refl refl c.requires.opens
 
-pub parted-requires-clause-keys : goal.parted-requires-clause-keys
-parted-requires-clause-keys g c =
-    let e = c.in_ok-back.ensures.keys in
-    (e.0, left_fit c.args.shared.now c.args.boot.now.cpus (c.in_ok-seats.ensures ∙ c.requires.keys) c.in_ok-left.ensures.count c.cpus.ensures.cpus e.1)
-
-pub parted-requires-clause-traces : goal.parted-requires-clause-traces
-parted-requires-clause-traces g c =
-    let e = c.in_ok-back.ensures.traces in
-    (e.0, left_fit c.args.shared.now c.args.boot.now.cpus (c.in_ok-seats.ensures ∙ c.requires.keys) c.in_ok-left.ensures.count c.cpus.ensures.cpus e.1)
-
-pub parted-requires-clause-stops : goal.parted-requires-clause-stops
-parted-requires-clause-stops g c =
-    let e = c.in_ok-back.ensures.stops in
-    (e.0, left_fit c.args.shared.now c.args.boot.now.cpus (c.in_ok-seats.ensures ∙ c.requires.keys) c.in_ok-left.ensures.count c.cpus.ensures.cpus e.1)
-
-pub parted-requires-clause-taken : goal.parted-requires-clause-taken
-parted-requires-clause-taken g c =
-    let e = c.in_ok-back.ensures.taken in
-    (e.0, left_fit c.args.shared.now c.args.boot.now.cpus (c.in_ok-seats.ensures ∙ c.requires.keys) c.in_ok-left.ensures.count c.cpus.ensures.cpus e.1)
+pub parted-requires : goal.parted-requires
+parted-requires g c =
+    let e = c.in_ok-back.ensures in
+    let fits = left_fit c.args.shared.now c.args.boot.now.cpus (c.in_ok-seats.ensures ∙ c.requires.keys) c.in_ok-left.ensures.count c.cpus.ensures.cpus in
+    record {
+      keys = (e.keys.0, fits _ e.keys.1);
+      traces = (e.traces.0, fits _ e.traces.1);
+      stops = (e.stops.0, fits _ e.stops.1);
+      taken = (e.taken.0, fits _ e.taken.1);
+    }
 
 pub returns : goal.returns
 returns g c =

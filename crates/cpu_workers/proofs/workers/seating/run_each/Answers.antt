@@ -1,6 +1,5 @@
 use Rattle.std.proofs.Common.{◌≡◌, [], ◌∙◌, subst, arith}
-use Rattle.{event_log.specs.declared.ids.CpuId.CpuId, layer_traits.specs.OnePlace.cpu_at, cpu_workers.proofs.Joining.{all_by_number, both_length, both_back}}
-use Rattle.cpu_workers.proofs.Seated.{left_so}
+use Rattle.{event_log.specs.declared.ids.CpuId.CpuId, cpu_workers.proofs.{Joining.{all_by_number, both_length, both_back}, Seated.left_so}}
 use Rattle.cpu_workers.proofs.workers.seating.run_each.Goals as goal
 
 pub work_all-requires-after_bounds : goal.work_all-requires-after_bounds
@@ -39,4 +38,4 @@ returns-clause-left g c = λ k x at.
     let d = both_back _ c.in_ok-came.came.items c.all_apart.result.items c.all_apart.ensures k x at in
     let e = both_back _ c.in_ok-workers.workers.items c.in_ok-came.came.items c.in_ok-came.ensures k d.0 d.1 in
     let n = c.in_ok-workers.ensures.each k e.0 e.1 in
-    left_so c.args.boot.now (g.G.Gate.MayAnswer c.args.gate.now) c.args.turns (cpu_at k) e.0 d.0.worker _ _ _ d.0.did x.did n.0 e.2 d.2.0 d.2.2
+    left_so n.0 e.2 d.2.0 d.2.2

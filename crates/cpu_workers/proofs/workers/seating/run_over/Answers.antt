@@ -1,8 +1,8 @@
-use denote.Param.Send.{sendable}
-use Rattle.std.{proofs.{Crossing.crosses, Common.{◌≡◌, ℕ, Some, refl, ap, arith}}, specs.Prelude.slice_get}
+use Rattle.std.{proofs.{lemmas.Option.slice_get_within, Crossing.crosses, Common.{◌≡◌, ℕ, Some, refl, ap, arith}}, specs.Prelude.slice_get}
 use Rattle.{cpu.specs.Boots.homes_for, layer_traits.specs.{OnePlace.cpu_at, QueueBlocks.StartsWell}, fifo_buffer.specs.FifoFits.BootsSo}
-use Rattle.cpu_workers.{specs.Seating.tower_acts, proofs.{Crossing.{fifo_send, tower_sleeper_send}, NativeLists.ok_so, Joining.found_within}}
-use Rattle.cpu_workers.proofs.TowerOpening.{opens_tower, seen_from_top}
+use Rattle.cpu_workers.{specs.Seating.tower_acts, proofs.{Crossing.{fifo_send, tower_sleeper_send}, NativeLists.ok_so, TowerOpening.opens_tower}}
+use Rattle.cpu_workers.proofs.TowerOpening.{seen_from_top}
+use denote.Param.Send.{sendable}
 use Rattle.ipc_calls.proofs.ipc.Ipc.TheSendSync as ipc
 use Rattle.condvar.proofs.cond.Cond.TheSendSync as cond
 use Rattle.queuing_lock.proofs.qlock.QLock.TheSendSync as qlock
@@ -16,7 +16,7 @@ run_each-requires-clause-unused g c = λ κs within k m at.
     let ready = c.requires.ready k m at in
     let opens = ready.opens in
     let caps = c.args.boot.now.caps in
-    let short = found_within c.args.machines.items k m at in
+    let short = slice_get_within c.args.machines.items k m at in
     let count = c.requires.count in
     let tower = opens_tower caps (homes_for c.args.boot.now) (cpu_at k) (g.L.Layer.opening m) c.requires.plan.caps.most opens.homes
     (opens.queues (cpu_at k) (omega (arith, short, count))) opens.locks in

@@ -4,14 +4,12 @@ use Rattle.cpu_workers.proofs.workers.seating.workers_over.Goals as goal
 
 pub remove-machine-requires : goal.remove-machine-requires
 remove-machine-requires g c =
-    some_left c.args.machines.items c.loop-number.number c.loop-number.invariant.machines_left
-    (within c.loop-number-test.true c.len-count.ensures c.args.machines.ok.0) c.loop-number.machines.ok.0
+    some_left _ _ c.loop-number.invariant.machines_left (within c.loop-number-test.true c.len-count.ensures c.args.machines.ok.0) c.loop-number.machines.ok.0
 
 pub worker_over-requires-clause-unused : goal.worker_over-requires-clause-unused
 worker_over-requires-clause-unused g c =
-    c.requires.unused c.loop-number.number c.remove-machine.result
-    (taken_at c.args.machines.items c.loop-number.number c.loop-number.invariant.machines_left
-    (within c.loop-number-test.true c.len-count.ensures c.args.machines.ok.0) c.remove-machine.result c.remove-machine.ensures.value)
+    let below = within c.loop-number-test.true c.len-count.ensures c.args.machines.ok.0 in
+    c.requires.unused c.loop-number.number _ (taken_at _ _ c.loop-number.invariant.machines_left below _ c.remove-machine.ensures.value)
 
 pub push_reserved-requires : goal.push_reserved-requires
 push_reserved-requires g c =

@@ -1,34 +1,19 @@
-use Rattle.std.proofs.Common.{ap, ◌∙◌, subst, map, reverse}
-use Rattle.{event_log.specs.{Actions.AreLegal, Sections.sections_in}, layer_traits.specs.{BufferEffects.effects_in, Queues.{buffer_sections, event_of}}}
-use Rattle.{cpu.{specs.Cpus.of_cpu, proofs.CpuOverLayer.{laws_of, layered, observed_cpu}}, cpu_workers.specs.{Orders.{HasFollowed, IsTraceOf}, Working.Working}}
-use Rattle.cpu_workers.proofs.Planning.{has_followed}
+use Rattle.std.proofs.Common.{ap, ◌∙◌, map, reverse}
+use Rattle.{event_log.specs.Sections.sections_in, layer_traits.specs.{BufferEffects.effects_in, Queues.{buffer_sections, event_of}}}
+use Rattle.{cpu.{specs.Cpus.of_cpu, proofs.CpuOverLayer.{laws_of, layered, observed_cpu}}, cpu_workers.proofs.Planning.has_followed}
 use Rattle.cpu_workers.proofs.workers.worker.Worker.keeps.Goals as goal
 
-pub returns-clause-trace : goal.returns-clause-trace
-returns-clause-trace g c =
+pub returns : goal.returns
+returns g c =
     let I = g.I.CallLayer in
     let law = g.met.I.CallLayer in
     let m = c.self.inside.machine in
     let p = c.self.inside.cpu in
     let is = c.self.invariant in
+    let cpu = layered (laws_of law) m p is.fits is.number is.is (λ step. is.tabled) in
     let seen = law.seen_is is.stepwise m ∙ ap (λ o. effects_in o (buffer_sections (map event_of (sections_in (I.acts m))))) is.opens in
-    subst (λ (w : Working). IsTraceOf w.cpu w.plan.caps w.acts w.private.trace) c.self.view_is
-    (is.is.kept ∙ ap (λ l. reverse (of_cpu p.number l)) seen)
-
-pub returns-clause-legal : goal.returns-clause-legal
-returns-clause-legal g c =
-    let I = g.I.CallLayer in
-    let law = g.met.I.CallLayer in
-    let m = c.self.inside.machine in
-    let p = c.self.inside.cpu in
-    let is = c.self.invariant in
-    subst (λ (w : Working). AreLegal w.acts) c.self.view_is (law.legal m (I.cpu_of p.part) (law.own_cpu p.part m is.fits))
-
-pub returns-clause-follows : goal.returns-clause-follows
-returns-clause-follows g c =
-    let I = g.I.CallLayer in
-    let m = c.self.inside.machine in
-    let p = c.self.inside.cpu in
-    let is = c.self.invariant in
-    let cpu = layered (laws_of g.met.I.CallLayer) m p is.fits is.number is.is (λ step. is.tabled) in
-    subst (λ (w : Working). HasFollowed w) c.self.view_is (has_followed (observed_cpu cpu is.stepwise) (I.acts m) (I.site m))
+    rw (← c.self.view_is) (record {
+      trace = is.is.kept ∙ ap (λ l. reverse (of_cpu p.number l)) seen;
+      legal = law.legal m (I.cpu_of p.part) (law.own_cpu p.part m is.fits);
+      follows = has_followed (observed_cpu cpu is.stepwise) (I.acts m) (I.site m);
+    })

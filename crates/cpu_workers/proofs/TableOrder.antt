@@ -1,0 +1,124 @@
+-- From those who came back to a closed table to the one order of their calls.
+use Rattle.std.proofs.Common.{◌≡◌, ℕ, ◌+◌, ◌*◌, ◌^◌, ◌<◌, ◌≤◌, List, [], length, Some, slice_get, slice_index_or, ap, sym, ◌∙◌, subst, arith, zero, suc, ◌∷◌}
+use Rattle.std.proofs.{Common.{◌++◌, map, refl}, lemmas.{Option.get_or_from_slice_get, List.{length-append, length-map, length-set}}}
+use Rattle.event_log.specs.{declared.{entries.Entry.Entry, ids.{CpuId.CpuId, LockId.{LockId, TheVariants.Buffer as AtBuffer}}}, Actions.{Action, cpu_of_action}}
+use Rattle.event_log.{specs.{Actions.{acts_of, renamed}, History.{AreOthers, own_events}, Messages.Message, WordsLog.cpu_of_event}, proofs.Foreign.own_none}
+use Rattle.event_log.proofs.{Foreign.{acts_of-append, others_acts, own_append}, Renaming.others_renamed}
+use Rattle.layer_traits.specs.{declared.queue_edits.QueueBlock.QueueBlock, BufferEffects.contents_of, OnePlace.cpu_at, Renaming.renamed_edit}
+use Rattle.{layer_traits.{specs.WordsProtocol.edit_of, proofs.PlanRenaming.map-append}, table_machine.specs.SeatViews.{TableView, Closes}}
+use Rattle.{cpu.specs.{Claims.{buffer_at, listed}, Table.Setups.Setup, Tower.Views.TowerName}, cpu_workers.specs.Closing.{Key, LockBlock, StartsSo, acts_in}}
+use Rattle.cpu_workers.specs.{Closing.{blocks_read, tower_rules, WordsOfTower}, Lawful.messages_in, Natives.left_of, Orders.{IsTraceOf, effects_of}}
+use Rattle.cpu_workers.proofs.{ClosedLog.{effects_may, messages_left}, OneOrder.{HasOrder, none_own, one_order, trace_in}}
+use Rattle.sleep_wakeup.specs.Nested as sleep
+use Rattle.queuing_lock.specs.Nested as lock
+
+-- Lists of actions.
+
+-- the actions of a longer log
+acts_append : (more past : WordsOfTower) → acts_in (more ++ past) ≡ acts_in more ++ acts_in past
+acts_append more past =
+    ap (λ l. map (renamed (renamed_edit lock.edit_in)) (map (renamed (renamed_edit sleep.edit_in)) l)) (acts_of-append edit_of more past)
+    ∙ ap (map (renamed (renamed_edit lock.edit_in))) (map-append (renamed (renamed_edit sleep.edit_in)) (acts_of edit_of more) (acts_of edit_of past))
+    ∙ map-append (renamed (renamed_edit lock.edit_in)) (map (renamed (renamed_edit sleep.edit_in)) (acts_of edit_of more))
+    (map (renamed (renamed_edit sleep.edit_in)) (acts_of edit_of past))
+
+-- and whose they are
+acts_others : (c : CpuId) (more : WordsOfTower) → AreOthers cpu_of_event c more → AreOthers cpu_of_action c (acts_in more)
+acts_others c more others =
+    others_renamed (renamed_edit lock.edit_in) c (map (renamed (renamed_edit sleep.edit_in)) (acts_of edit_of more))
+    (others_renamed (renamed_edit sleep.edit_in) c (acts_of edit_of more) (others_acts edit_of c more others))
+
+-- a list that went on from another and has no more of this CPU's events
+no_more_own : {E : Type 0} (by : E → CpuId) (c : CpuId) (log more past : List E) → log ≡ more ++ past → own_events by c log ≡ own_events by c past
+    → AreOthers by c more
+no_more_own by c log more past is same =
+    none_own by c more (nothing (own_events by c more) (own_events by c past) (sym (own_append by c more past) ∙ sym (ap (own_events by c) is) ∙ same))
+  where
+    nothing : {X : Type 0} (xs ys : List X) → xs ++ ys ≡ ys → xs ≡ []
+    nothing [] ys none = refl
+    nothing (x ∷ xs) ys none = absurd (omega (arith, length-append xs ys, ap length none))
+
+-- What the buffers hold.
+
+contents_wide : (caps : List ℕ) (es : List Entry) → length (contents_of caps es) ≡ length caps
+contents_wide caps [] = length-map caps (λ (k : ℕ). [])
+contents_wide caps (e ∷ es) = length-set (contents_of caps es) e.buffer.0 _ ∙ contents_wide caps es
+
+-- a list whose elements are these values is the list of them
+listed_so : {X : Type 0} (d : X) (f : ℕ → X) (n k : ℕ) (xs : List X) → length xs ≡ n → ((i : ℕ) → i < n → slice_index_or xs i d ≡ f (k + i))
+    → xs ≡ listed f k n
+listed_so d f zero k [] count each = refl
+listed_so d f zero k (x ∷ xs) count each = absurd (omega (arith, count))
+listed_so d f (suc n) k [] count each = absurd (omega (arith, count))
+listed_so d f (suc n) k (x ∷ xs) count each =
+    let here : k + 0 ≡ k = omega arith in
+    let first : x ≡ f k = each 0 (omega arith) ∙ ap f here in
+    let rest = listed_so d f n (k + 1) xs (omega (arith, count))
+    (λ i within. let next : k + suc i ≡ k + 1 + i = omega arith in each (suc i) (omega (arith, within)) ∙ ap f next) in
+    λ i. first i ∷ rest i
+
+-- The table.
+
+-- what a CPU left: its key, and its trace, which is its effects in what the key has seen
+pub record HasCome (setup : Setup) (keys : List Key) (traces : List (List Entry)) (c : CpuId) : Type 0 where
+  pub key : Key
+  pub trace : List Entry
+  pub key_at : slice_get keys c.0 ≡ Some key
+  pub cpu_is : key.cpu ≡ c
+  pub trace_at : slice_get traces c.0 ≡ Some trace
+  pub own : IsTraceOf c setup.caps (acts_in key.seen) trace
+  pub room : length trace ≤ setup.trace_room
+
+-- a list goes on from what a CPU has seen of it, which has all of its own
+pub record Goes (acts past : List (Action TowerName)) (c : CpuId) : Type 0 where
+  pub more : List (Action TowerName)
+  pub is : acts ≡ more ++ past
+  pub others : AreOthers cpu_of_action c more
+
+module _ (setup : Setup) (table_view : TableView (QueueBlock LockBlock)) (so : StartsSo setup table_view) (keys : List Key)
+    (blocks : List (LockId × QueueBlock LockBlock)) (closes : Closes tower_rules table_view keys blocks) where
+  abbrev pub acts : List (Action TowerName)
+  acts = acts_in closes.log
+
+  -- a CPU's own actions are all among those that it has seen
+  pub goes_on : (c : CpuId) (key : Key) → slice_get keys c.0 ≡ Some key → key.cpu ≡ c → Goes acts (acts_in key.seen) c
+  goes_on c key at is =
+      let whole = closes.keys c.0 key at in
+      let theirs : AreOthers cpu_of_event key.cpu whole.ends.more = no_more_own cpu_of_event key.cpu closes.log whole.ends.more key.seen whole.ends.is
+      whole.whole in
+      record {
+        more = acts_in whole.ends.more;
+        is = ap acts_in whole.ends.is ∙ acts_append whole.ends.more key.seen;
+        others = subst (λ (d : CpuId). AreOthers cpu_of_action d (acts_in whole.ends.more)) is (acts_others key.cpu whole.ends.more theirs);
+      }
+
+  -- and no other CPU acts
+  pub rest : (c : CpuId) → setup.cpus ≤ c.0 → AreOthers cpu_of_action c acts
+  rest c beyond = let past = so.cpus in acts_others c closes.log (none_own cpu_of_event c closes.log (closes.rest c (omega (arith, beyond, past))))
+
+  contents_are : contents_of setup.caps (effects_of setup.caps acts) ≡ left_of (length setup.caps) blocks
+  contents_are =
+      listed_so [] (λ b. messages_in (blocks_read blocks (AtBuffer (buffer_at b)))) (length setup.caps) 0
+      (contents_of setup.caps (effects_of setup.caps acts))
+      (contents_wide setup.caps (effects_of setup.caps acts))
+      (λ b within. let zero_plus : b ≡ 0 + b = omega arith in
+      messages_left setup table_view so closes.log closes.legal blocks closes.count closes.blocks_are (buffer_at b) within
+      ∙ ap (λ k. messages_in (blocks_read blocks (AtBuffer (buffer_at k)))) zero_plus)
+
+  -- the traces have one order, that of the effects of the list, which is a run and ends in what is left
+  pub ordered : (traces : List (List Entry)) → length traces ≡ setup.cpus → ((c : CpuId) → c.0 < setup.cpus → HasCome setup keys traces c)
+      → HasOrder setup.caps traces (effects_of setup.caps acts) (left_of (length setup.caps) blocks)
+  ordered traces count each =
+      let few = so.small in
+      subst (λ (l : List (List Message)). HasOrder setup.caps traces (effects_of setup.caps acts) l) contents_are
+      (one_order setup.caps acts traces setup.trace_room (effects_may setup table_view so closes.log closes.legal)
+      (λ c beyond. own_none cpu_of_action c acts (rest c (omega (arith, beyond, count))))
+      (λ k within. let one = each (cpu_at k) (omega (arith, within, count)) in
+      let goes = goes_on (cpu_at k) one.key one.key_at one.cpu_is in
+      get_or_from_slice_get traces k one.trace [] one.trace_at
+      ∙ trace_in setup.caps (cpu_at k) goes.more (acts_in one.key.seen) acts one.trace goes.is goes.others one.own)
+      (λ k d within. let one = each (cpu_at k) (omega (arith, within, count)) in
+      let room = one.room in
+      let long = ap (λ (l : List Entry). length l) (get_or_from_slice_get traces k one.trace d one.trace_at) in
+      omega (arith, room, long))
+      (subst (λ (n : ℕ). n * setup.trace_room < 2 ^ 64) (sym count) few))
