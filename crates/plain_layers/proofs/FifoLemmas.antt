@@ -20,8 +20,8 @@ use Rattle.{layer_traits.proofs.Seen.lawful_rest, sleep_wakeup.proofs.BootLemmas
 use Rattle.plain_layers.specs.{declared.attempts.{Tried.{TheVariants.Refused, Tried}, Attempt.Attempt}, Attempts.{PlainState, allows, effect_at, effect_in}}
 use Rattle.plain_layers.specs.{Attempts.{wait_list_by, told, attempts}, Fifos.{ask_of, attempt_of, effect_by, locked_after, reply_to, call_state_after}}
 use Rattle.plain_layers.specs.{Fifos.{IsOwned, PlainLocked, caps_in, entries_in, fresh_buffer, fresh_buffers}, Wholes.{IsDoneWhole, asked}}
-use Rattle.plain_layers.{specs.Laws.FifoTallies.{block_of, no_position, plain_tally, reported_if}, proofs.WholeLemmas.{no_foreign_events}}
-use Rattle.fifo_buffer.specs.{Laws.BlockSteps.{put_counts, take_counts}, Tallies.{Tally}}
+use Rattle.plain_layers.{specs.Laws.FifoTallies.{block_of, no_position, plain_tally, reported_if}, proofs.WholeLemmas.no_foreign_events}
+use Rattle.fifo_buffer.specs.{Laws.BlockSteps.{put_counts, take_counts}, Tallies.Tally}
 use Rattle.plain_layers.specs.declared.attempts.Ask.TheVariants as ask
 use Rattle.layer_traits.specs.declared.moves.WaitList.TheVariants as wait_list
 use Rattle.layer_traits.specs.declared.scheds.SchedCall.TheVariants as sched

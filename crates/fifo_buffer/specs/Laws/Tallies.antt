@@ -1,7 +1,7 @@
 -- A buffer's block tells its effects after any lawful sections; so each effect may come after those before it.
 use Rattle.std.proofs.Common.{◌≡◌, ℕ, Bool, true, false, ◌&&◌, ◌==◌, List, [], ◌∷◌, Option, Some, None, if◌then◌else◌, refl, ap, sym, ◌∙◌, subst}
 use Rattle.event_log.specs.declared.{entries.{Kind.{Kind, TheVariants.Close}, Entry.Entry}, ids.{BufId.BufId, CpuId.CpuId, LockId.{LockId, TheVariants.Buffer}}}
-use Rattle.event_log.specs.{declared.ids.Tid.Tid, History.{IsLawful}, Messages.{Message, no_message}, Runs.{Group, Sends, Receives, Closes}}
+use Rattle.event_log.specs.{declared.ids.Tid.Tid, History.IsLawful, Messages.{Message, no_message}, Runs.{Group, Sends, Receives, Closes}}
 use Rattle.{event_log.proofs.Same.same_lock_self, layer_traits.specs.declared.buffer_edits.BufferEdit.{BufferEdit, TheVariants.{Enter, TryPut, TryTake, Shut}}}
 use Rattle.layer_traits.specs.declared.{conditions.CvEdit.TheVariants.{Edit, SignalFront}, locked.{QEdit.TheVariants.{Acquire, Inside, Release}, Side.Side}}
 use Rattle.layer_traits.specs.declared.{locked.Side.TheVariants.{Receivers, Senders}, queues.QueueCall.{QueueCall, TheVariants.{Push, TakeAll, OnBuffer}}}
