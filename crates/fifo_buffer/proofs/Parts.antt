@@ -1,42 +1,26 @@
 -- How the effects and the moves of the buffers grow with events, and that a part keeps fitting over events of other CPUs.
-use Rattle.std.proofs.Common.{◌≡◌, ◌≢◌, ℕ, Bool, true, false, List, [], ◌∷◌, ◌++◌, Option, Some, None, option_to_list, if◌then◌else◌, refl, ap, sym, ◌∙◌, subst}
-use Rattle.{std.{proofs.Common.{append_assoc, arith}, specs.List.AllByRecursion}, event_log.specs.declared.{entries.Entry.Entry, ids.BufId.BufId}}
-use Rattle.event_log.specs.{declared.ids.{CpuId.CpuId, LockId.{LockId, TheVariants.Buffer}, Tid.Tid}, History.{AreForeign, AreOthers, IsLawful, same_cpu}}
-use Rattle.{event_log.proofs.{Same.same_cpu_true, Foreign.others_both}, layer_traits.specs.declared.buffer_edits.BufferEdit.{BufferEdit, TheVariants.Enter}}
-use Rattle.layer_traits.specs.declared.{buffer_edits.{BufferEdit.TheVariants.{TryPut, TryTake, Shut}, BufferOut.BufferOut}, calls.Call.Call}
-use Rattle.layer_traits.specs.declared.{conditions.CvEdit.TheVariants.{Edit, SignalFront}, locked.{QEdit.TheVariants.{Acquire, Inside, Release}, Side.Side}}
-use Rattle.layer_traits.specs.declared.{locked.Side.TheVariants.{Receivers, Senders}, queue_edits.QueueBlock.QueueBlock, queues.QueueCall.QueueCall}
-use Rattle.layer_traits.specs.declared.{queues.QueueCall.TheVariants.{Push, TakeAll, OnBuffer}, scheds.SchedCall.SchedCall, call_states.CallState.CallState}
-use Rattle.layer_traits.specs.{BufferBlocks.{effect_kind, first_item, is_next}, BufferEffects.{effect_of, effect_on, effects_in, entry}, BufferLaw.MovesGrow}
-use Rattle.layer_traits.specs.{BufferLaw.{OthersSeen, cpu_of_entry, recorded, call_state_of}, BufferProtocol.{BufferLock, BufferSection, buffer_monitor_rules}}
-use Rattle.layer_traits.specs.{Conditions.{CvCall, cv_rules}, CvLaw.Waiting, QLockLaw.{lock_kernel, slept_for}, Places.home_of, Protocol.section}
-use Rattle.layer_traits.specs.{QueueBlocks.{homes_in, inner}, Queues.{QueueAllowed, buffer_sections, cpu_of_queue_event, moves_in, with_section}}
-use Rattle.{layer_traits.proofs.CallLemmas.{moves_append, moves_others, moves_over}, fifo_buffer.specs.{FifoFits.PartFits, Stances.CallStateFits}}
-use Rattle.fifo_buffer.{specs.SectionPolls.{BufferEvent, BufferOutcome, CallsFit, Goes, IsDeferred, Midway}, proofs.Events.keeps_fits}
+use Rattle.std.proofs.Common.{◌≡◌, ◌≢◌, ℕ, Bool, false, List, [], ◌∷◌, ◌++◌, Option, Some, None, option_to_list, refl, ap, sym, ◌∙◌, subst, append_assoc, arith}
+use Rattle.std.specs.List.{AllByRecursion}
+use Rattle.event_log.specs.{declared.{entries.Entry.Entry, ids.{BufId.BufId, CpuId.CpuId, LockId.{LockId, TheVariants.Buffer}, Tid.Tid}}, History.AreForeign}
+use Rattle.event_log.{specs.History.{AreOthers, IsLawful, same_cpu}, proofs.{Same.same_cpu_true, Foreign.others_both}}
+use Rattle.layer_traits.specs.declared.{buffer_edits.{BufferEdit.BufferEdit, BufferOut.BufferOut}, calls.Call.Call, locked.Side.Side}
+use Rattle.layer_traits.specs.declared.{queue_edits.QueueBlock.QueueBlock, queues.QueueCall.{QueueCall, TheVariants.{Push, TakeAll, OnBuffer}}}
+use Rattle.layer_traits.specs.{declared.{scheds.SchedCall.SchedCall, call_states.CallState.CallState}, BufferEffects.{effect_of, effect_on, effects_in}}
+use Rattle.layer_traits.specs.{BufferLaw.{MovesGrow, OthersSeen, cpu_of_entry, recorded, call_state_of}, BufferProtocol.{BufferLock, BufferSection}}
+use Rattle.layer_traits.specs.{BufferProtocol.buffer_monitor_rules, Conditions.{CvCall, cv_rules}, CvLaw.Waiting, QLockLaw.{lock_kernel, slept_for}}
+use Rattle.layer_traits.specs.{Places.home_of, Protocol.section, QueueBlocks.{homes_in, inner}, Queues.{QueueAllowed, buffer_sections, cpu_of_queue_event}}
+use Rattle.layer_traits.{specs.Queues.{moves_in, with_section}, proofs.CallLemmas.{moves_append, moves_others, moves_over}}
+use Rattle.fifo_buffer.specs.{FifoFits.PartFits, Stances.CallStateFits, Laws.Tallies.effect_position, SectionPolls.{BufferEvent, BufferOutcome, CallsFit, Goes}}
+use Rattle.fifo_buffer.{specs.SectionPolls.{IsDeferred, Midway}, proofs.Events.keeps_fits}
 
 -- an effect has its section's CPU
 one_entry : (d cpu : CpuId) (b : BufId) (call : CvCall BufferEdit) (position : Side → Tid → ℕ) (x : Option BufferLock) → same_cpu cpu d ≡ false
     → AreOthers cpu_of_entry d (option_to_list (effect_on cpu b call position x))
-one_entry d cpu b call position None other = tt
-one_entry d cpu b (Acquire t) position (Some lock) other = tt
-one_entry d cpu b (Inside (Edit (Enter t side))) position (Some lock) other = tt
-one_entry d cpu b (Inside (Edit (TryPut t m))) position (Some lock) other = go (is_next Senders t lock.above)
+one_entry d cpu b call position x other = go (effect_on cpu b call position x) refl
   where
-    go : (v : Bool)
-        → AreOthers cpu_of_entry d (option_to_list (if v then Some
-        (entry cpu t (effect_kind Senders lock.above) b m lock.above.effects (position Senders t)) else None))
-    go true = (other, tt)
-    go false = tt
-one_entry d cpu b (Inside (Edit (TryTake t))) position (Some lock) other = go (is_next Receivers t lock.above)
-  where
-    go : (v : Bool)
-        → AreOthers cpu_of_entry d (option_to_list (if v then Some
-        (entry cpu t (effect_kind Receivers lock.above) b (first_item lock.above.items) lock.above.effects (position Receivers t)) else None))
-    go true = (other, tt)
-    go false = tt
-one_entry d cpu b (Inside (Edit (Shut t))) position (Some lock) other = (other, tt)
-one_entry d cpu b (Inside (SignalFront t side)) position (Some lock) other = tt
-one_entry d cpu b (Release leave) position (Some lock) other = tt
+    go : (o : Option Entry) → effect_on cpu b call position x ≡ o → AreOthers cpu_of_entry d (option_to_list o)
+    go None is = tt
+    go (Some e) is = (rw (effect_position cpu b call position x e is).0 other, tt)
 
 module _ (O : LockId → Option BufferLock) where
   -- the effects of one event, and of some

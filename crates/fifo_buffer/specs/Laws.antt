@@ -1,5 +1,6 @@
 -- Lemmas that clauses of impls cite. They are proved here: no reader of a contract needs to believe them.
 pub mod BlockSteps
+pub mod BlockTallies
 pub mod Tallies
 pub mod FifoLaws
 pub mod OwnedLaws

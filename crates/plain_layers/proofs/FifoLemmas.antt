@@ -19,8 +19,9 @@ use Rattle.layer_traits.{specs.Scheds.pass_call, proofs.{PlaceLemmas.{current_at
 use Rattle.{layer_traits.proofs.Seen.lawful_rest, sleep_wakeup.proofs.BootLemmas.there_inside, plain_layers.specs.declared.attempts.Tried.TheVariants.Acted}
 use Rattle.plain_layers.specs.{declared.attempts.{Tried.{TheVariants.Refused, Tried}, Attempt.Attempt}, Attempts.{PlainState, allows, effect_at, effect_in}}
 use Rattle.plain_layers.specs.{Attempts.{wait_list_by, told, attempts}, Fifos.{ask_of, attempt_of, effect_by, locked_after, reply_to, call_state_after}}
-use Rattle.plain_layers.specs.{Fifos.{IsOwned, PlainLocked, caps_in, entries_in, fresh_buffer, fresh_buffers}, FifoTallies.{FifoTally, reported_if}}
-use Rattle.plain_layers.{specs.{Laws.FifoTallies.{kind_asked, plain_tally}, Wholes.{IsDoneWhole, asked}}, proofs.WholeLemmas.no_foreign_events}
+use Rattle.plain_layers.specs.{Fifos.{IsOwned, PlainLocked, caps_in, entries_in, fresh_buffer, fresh_buffers}, Wholes.{IsDoneWhole, asked}}
+use Rattle.plain_layers.{specs.Laws.FifoTallies.{block_of, no_position, plain_tally, reported_if}, proofs.WholeLemmas.no_foreign_events}
+use Rattle.fifo_buffer.specs.{Laws.BlockSteps.{put_counts, take_counts}, Tallies.Tally}
 use Rattle.plain_layers.specs.declared.attempts.Ask.TheVariants as ask
 use Rattle.layer_traits.specs.declared.moves.WaitList.TheVariants as wait_list
 use Rattle.layer_traits.specs.declared.scheds.SchedCall.TheVariants as sched
@@ -179,11 +180,11 @@ effect_of a x f is = go (allows a.ask x) is
 effect_kinds : (t : Tid) (call : Call) (x : PlainState) (f : Effect) → effect_in (told (attempt_of t call) x) ≡ Some f → IsEffectOf call f
 effect_kinds t (Send b m) x f is =
     let one : f ≡ effect_at (ask.Send m) x = sym (effect_of (attempt_of t (Send b m)) x f is) in
-    (ap (λ (e : Effect). group_of e.kind) one ∙ kind_asked (ask.Send m) x, ap (λ (e : Effect). e.value) one)
+    (ap (λ (e : Effect). group_of e.kind) one ∙ put_counts x.closed, ap (λ (e : Effect). e.value) one)
 effect_kinds t (Recv b) x f is =
-    ap (λ (e : Effect). group_of e.kind) (sym (effect_of (attempt_of t (Recv b)) x f is)) ∙ kind_asked ask.Receive x
+    ap (λ (e : Effect). group_of e.kind) (sym (effect_of (attempt_of t (Recv b)) x f is)) ∙ take_counts x.items
 effect_kinds t (Close b) x f is =
-    ap (λ (e : Effect). group_of e.kind) (sym (effect_of (attempt_of t (Close b)) x f is)) ∙ kind_asked ask.Close x
+    ap (λ (e : Effect). group_of e.kind) (sym (effect_of (attempt_of t (Close b)) x f is))
 
 -- who had no effect sleeps
 slept_current : (out : Tried) (own : Threads) → effect_in out ≡ None → (own_slept (wait_list_by out) own).current ≡ None
@@ -346,7 +347,7 @@ module _ (opening : LockId → Option (QueueBlock PlainLocked)) (c : CpuId) (b :
           by true nothing = absurd (cc nothing)
           by false nothing = refl
 
-      refused : (k : Call) (x : PlainState) → FifoTally (caps_in (inner opening)) (buffer_of k).0 E x
+      refused : (k : Call) (x : PlainState) → Tally (caps_in (inner opening)) (buffer_of k).0 E no_position (block_of x)
           → effect_in (told (attempt_of t k) x) ≡ None → IsRefused k (caps_in (inner opening)) E
       refused (Send at m) x tally nothing =
           let full = or_parts x.closed (nat_lt (length x.items) x.capacity) (barred (Send at m) x nothing) in (
@@ -371,7 +372,7 @@ module _ (opening : LockId → Option (QueueBlock PlainLocked)) (c : CpuId) (b :
           → IsRefused call (caps_in (inner opening)) (entries_in (inner opening) (buffer_sections old))
       go None is out = absurd cc
       go (Some state) is out = refused call state.above
-          (subst (λ (d : BufId). FifoTally (caps_in (inner opening)) d.0 E state.above) at
+          (subst (λ (d : BufId). Tally (caps_in (inner opening)) d.0 E no_position (block_of state.above)) at
           (plain_tally (inner opening) (caps_in (inner opening)) (buffer_sections old) fresh b state is))
           (subst (λ e. effect_in (told e state.above) ≡ None) attempt (effect_is (Some state) out ∙ none))
 

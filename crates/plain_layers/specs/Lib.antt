@@ -5,7 +5,6 @@ pub mod Attempts
 pub mod Wholes
 pub mod Fifos
 pub mod FifoOwned
-pub mod FifoTallies
 pub mod Naps
 pub mod QueueSections
 pub mod LockSections

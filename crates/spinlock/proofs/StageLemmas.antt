@@ -6,8 +6,8 @@ use Rattle.event_log.specs.{Sections.{cpu_of_section, block_after, sections_in},
 use Rattle.event_log.{specs.Actions.{action_in, cpu_of_action, phase, spot_of}, proofs.{Exclusion.{one_holds, phase_own}, Foreign.{phase_others, spot_others}}}
 use Rattle.{event_log.proofs.{Foreign.{sections_in-append, others_sections_in}, Same.{same_cpu_self, same_lock_true}}, layer_traits.proofs.Seen.stays_on}
 use Rattle.layer_traits.specs.{Looks.Tries, Plans.{Follows, table_of, at_give, section_plan, answered, is_in_section}, Protocol.{Rules, StaysAllowed, section}}
-use Rattle.{layer_traits.specs.Polls.Polled, spinlock.specs.{declared.stages.TicketPhase.{TicketPhase, TheVariants.{Out, Waiting, Holding}}, Stages.StageFits}}
-use Rattle.spinlock.specs.Stages.{hit_by}
+use Rattle.{layer_traits.specs.{Framed.{Framed, Stays}, Polls.Polled}, spinlock.specs.Stages.{StageFits, hit_by}}
+use Rattle.spinlock.specs.declared.stages.TicketPhase.{TicketPhase, TheVariants.{Out, Waiting, Holding}}
 
 cpu_differs : (a b : CpuId) → b ≢ a → same_cpu a b ≡ false
 cpu_differs a b other = ne_eqb a.0 b.0 (λ e. other (ap (λ (k : ℕ). record { 0 = k }) (sym e)))
@@ -65,7 +65,7 @@ grown adds legal = rw adds.is at legal
 module _ {E B O : Type 0} (rules : Rules E B O) {opening opening' : LockId → Option B} (same : opening' ≡ opening) {ActsFor : CpuId → Type 0} {cpu : CpuId}
     {old new : List (Action E)} (legal : AreLegal new) where
   -- the parts of other CPUs still fit
-  pub others_fit : (a : Action E) → cpu_of_action a ≡ cpu → Adds ActsFor cpu_of_action a old new → (q : CpuId) (stage : TicketPhase E B) → q ≢ cpu → ActsFor q
+  others_fit : (a : Action E) → cpu_of_action a ≡ cpu → Adds ActsFor cpu_of_action a old new → (q : CpuId) (stage : TicketPhase E B) → q ≢ cpu → ActsFor q
       → StageFits rules opening old q stage → StageFits rules opening' new q stage
   others_fit a acts adds q stage other acts_q fits =
       let more = a ∷ adds.others in
@@ -75,7 +75,7 @@ module _ {E B O : Type 0} (rules : Rules E B O) {opening opening' : LockId → O
       (λ lock. block_stays rules.edited opening q lock more old (grown adds legal) others) fits)
 
   -- no other CPU comes to wait or to hold
-  pub others_rest : (a : Action E) → cpu_of_action a ≡ cpu → Adds ActsFor cpu_of_action a old new → (q : CpuId) → q ≢ cpu → ActsFor q
+  others_rest : (a : Action E) → cpu_of_action a ≡ cpu → Adds ActsFor cpu_of_action a old new → (q : CpuId) → q ≢ cpu → ActsFor q
       → is_in_section (phase q new) ≡ true → is_in_section (phase q old) ≡ true
   others_rest a acts adds q other acts_q inside =
       let others : AreOthers cpu_of_action q (a ∷ adds.others) = (rw acts (cpu_differs cpu q other), adds.foreign q acts_q) in
@@ -157,6 +157,21 @@ module _ {E B O : Type 0} (rules : Rules E B O) {opening opening' : LockId → O
   left_follows lock edit adds acts holds block found out answers =
       follows lock edit (Give cpu lock edit) adds (Some out) (Holds lock) (grown adds legal).0 refl
       (rw (found_still lock edit adds acts holds ∙ found) (ap Some answers))
+
+-- the frame of a call with one action of its CPU, after which its own part fits
+pub acted_framed : {P M E B O : Type 0} (rules : Rules E B O) (acts : M → List (Action E)) (stage_of : P → TicketPhase E B)
+    {opening : M → LockId → Option B} {site : M → List ℕ} {room : M → ℕ} {ActsFor : M → CpuId → Type 0} {cpu_of : P → CpuId} {p p' : P} {m n : M}
+    → AreLegal (acts n) → Stays opening site room ActsFor m n → ActsFor m (cpu_of p) → (a : Action E) → cpu_of_action a ≡ cpu_of p
+    → Adds (ActsFor m) cpu_of_action a (acts m) (acts n) → cpu_of p' ≡ cpu_of p → StageFits rules (opening n) (acts n) (cpu_of p') (stage_of p')
+    → Framed (λ q k. ActsFor k (cpu_of q) × StageFits rules (opening k) (acts k) (cpu_of q) (stage_of q)) cpu_of opening site room ActsFor
+    (λ k c. is_in_section (phase c (acts k)) ≡ true) p p' m n
+acted_framed rules acts stage_of {ActsFor = ActsFor} {cpu_of = cpu_of} {p = p} {n = n} legal stays own a its adds cpu fits = record {
+  fits = (subst (λ c. ActsFor n c) (sym cpu) (stays.acts (cpu_of p) own), fits);
+  cpu = cpu;
+  stays = stays;
+  others = λ q other fits. (stays.acts (cpu_of q) fits.0, others_fit rules stays.opening legal a its adds (cpu_of q) (stage_of q) other fits.0 fits.1);
+  holders = others_rest rules stays.opening legal a its adds;
+}
 
 -- an action that ends no section brings foreign sections alone
 pub unended : {E : Type 0} {ActsFor : CpuId → Type 0} {old new : List (Action E)} (a : Action E)

@@ -1,12 +1,12 @@
 -- The laws of the layer of buffers, from those of the conditions beneath.
-use Rattle.std.proofs.Common.{◌≡◌, ℕ, ◌<◌, Bool, true, false, List, [], ◌∷◌, length, Option, Some, None, option_map, slice_get, if◌then◌else◌, refl, ap, sym}
+use Rattle.std.proofs.Common.{◌≡◌, ℕ, ◌<◌, List, [], ◌∷◌, length, Option, Some, None, option_map, slice_get, refl, ap, sym}
 use Rattle.std.proofs.{Common.{◌∙◌, arith, ◌⊎◌, inl, inr}, lemmas.Option.slice_get_within}
-use Rattle.event_log.specs.{declared.ids.{BufId.BufId, CpuId.CpuId, LockId.{LockId, TheVariants.{Pending, Buffer}}, Tid.Tid}, History.{IsLawful, same_lock}}
+use Rattle.event_log.specs.{declared.ids.{BufId.BufId, CpuId.CpuId, LockId.{LockId, TheVariants.{Pending, Buffer}}, Tid.Tid}, History.IsLawful}
 use Rattle.layer_traits.specs.declared.{buffer_edits.{BufferEdit.BufferEdit, BufferOut.BufferOut}, moves.WaitList.WaitList, queue_edits.QueueBlock.QueueBlock}
 use Rattle.layer_traits.specs.{declared.{scheds.SchedCall.SchedCall, call_states.CallState.CallState}, BufferEffects.{MayTakeEffect, effects_in, fresh_lock}}
 use Rattle.layer_traits.specs.{BufferEffects.opening_locks, BufferProtocol.{BufferLock, BufferSection, buffer_monitor_rules}, Conditions.{CvCall, cv_rules}}
 use Rattle.layer_traits.specs.{CvLaw.Waiting, IpcLaw.WaitListsAgree, ListsAgree.is_at, QLockLaw.{LocksAgree, lock_kernel}, QLocking.{wait_list_in, lock_after}}
-use Rattle.layer_traits.specs.{QLocking.lock_edited, Places.{Asleep, At, count_in, one_if, wait_channel_of, where_is}, QueueBlocks.{homes_in, inner}}
+use Rattle.layer_traits.specs.{Places.{Asleep, At, count_in, one_if, wait_channel_of, where_is}, QueueBlocks.{homes_in, inner}}
 use Rattle.{layer_traits.{specs.Queues.{QueueAllowed, buffer_sections, moves_in}, proofs.ListsLemmas.wait_channel_here}, fifo_buffer.specs.FifoFits.BootsSo}
 use Rattle.fifo_buffer.specs.{FifoFits.{PartFits, caps_in}, Laws.Tallies.effects_lawful, SectionPolls.{BufferEvent, under_way_at}}
 use Rattle.layer_traits.specs.declared.scheds.SchedCall.TheVariants as sched
@@ -18,15 +18,10 @@ pub fifo_lawful : (opening : LockId → Option (QueueBlock BufferLock)) (past : 
 fifo_lawful opening past boots lawful = effects_lawful opening (caps_in opening) boots past lawful
 
 -- a lock that is there after some sections was there at the start
-none_after : (s : BufferSection) (x : Option BufferLock) (b : Bool) → x ≡ None
-    → (if b then option_map (lock_edited (cv_rules buffer_monitor_rules) s.edit) x else x) ≡ None
-none_after s x true none = ap (option_map (lock_edited (cv_rules buffer_monitor_rules) s.edit)) none
-none_after s x false none = none
-
 was_there : (O : LockId → Option BufferLock) (past : List BufferSection) (lock : LockId) → O lock ≡ None
     → lock_after (cv_rules buffer_monitor_rules) O lock past ≡ None
 was_there O [] lock none = none
-was_there O (s ∷ past) lock none = none_after s (lock_after (cv_rules buffer_monitor_rules) O lock past) (same_lock lock s.lock) (was_there O past lock none)
+was_there O (s ∷ past) lock none = grind (arith, was_there O past lock none)
 
 -- only the buffers of the capacities have locks
 only_buffers : (caps : List ℕ) (lock : LockId) → (opening_locks caps lock ≡ None) ⊎ ((b : BufId) × (lock ≡ Buffer b) × (b.0 < length caps))

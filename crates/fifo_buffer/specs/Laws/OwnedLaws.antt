@@ -1,30 +1,17 @@
 -- What the conditions beneath tell of their locks, the buffers tell of their items, owners and waiting lists.
-use Rattle.std.proofs.Common.{◌≡◌, ◌<◌, Bool, true, false, List, [], ◌∷◌, ◌++◌, length, map, Option, Some, None, IsSome, option_map, option_to_list}
-use Rattle.std.{proofs.{Common.{slice_index, if◌then◌else◌, refl, ap, sym, ◌∙◌, subst}, lemmas.Option.slice_get-get_or}, specs.List.AllByRecursion}
+use Rattle.std.proofs.Common.{◌≡◌, ◌<◌, List, [], ◌∷◌, ◌++◌, length, map, Option, Some, None, IsSome, option_map, option_to_list}
+use Rattle.std.{proofs.{Common.{slice_index, refl, ap, sym, ◌∙◌, subst}, lemmas.Option.slice_get-get_or}, specs.List.AllByRecursion}
 use Rattle.event_log.specs.declared.{entries.Entry.Entry, ids.{BufId.BufId, CpuId.CpuId, LockId.{LockId, TheVariants.Buffer}, Tid.Tid, TheConstants.CPUS}}
-use Rattle.event_log.specs.{Buffers.items_of, History.{IsLawful, same_lock}, Runs.is_closed, Sections.sections_in}
+use Rattle.event_log.specs.{Buffers.items_of, History.IsLawful, Runs.is_closed, Sections.sections_in}
 use Rattle.layer_traits.specs.declared.{buffer_edits.BufferEdit.BufferEdit, moves.WaitList.WaitList, queue_edits.QueueBlock.QueueBlock}
 use Rattle.layer_traits.specs.{declared.queues.QueueCall.{QueueCall, TheVariants.{Push, TakeAll, OnBuffer}}, Acted.{BufferActs, ItemsAre}}
-use Rattle.layer_traits.specs.{BufferEffects.{contents_of, drawn, effect_of, effects_in, fresh_lock}, BufferProtocol.{BufferLock, BufferSection, buffer_at}}
-use Rattle.layer_traits.specs.{BufferProtocol.buffer_monitor_rules, Conditions.{CvCall, cv_rules}, QLockLaw.lock_kernel, QLocking.{wait_list_in, lock_after}}
+use Rattle.layer_traits.specs.{BufferEffects.{contents_of, drawn, effect_of, effects_in, fresh_lock}, BufferProtocol.{BufferLock, buffer_at}}
+use Rattle.layer_traits.specs.{BufferProtocol.buffer_monitor_rules, Conditions.{CvCall, cv_rules}, QLockLaw.lock_kernel, QLocking.wait_list_in}
 use Rattle.layer_traits.specs.{QLocking.{lock_edited, owner_in}, Owned.IsObserved, Protocol.section, QueueBlocks.{StartsWell, above_of, inner}}
 use Rattle.layer_traits.specs.{QueueRules.AreProper, Queues.{IsKnownEvent, QueueAllowed, buffer_sections, event_of, with_section}, Observed.IsObservedAs}
-use Rattle.{layer_traits.proofs.{ActedLemmas.lock_is, OwnedLemmas.{shown_under, observed_as, viewed_shown}}, fifo_buffer.specs.FifoFits.{BootsSo, caps_in}}
-use Rattle.fifo_buffer.specs.{Laws.Tallies.{all_tallied, effect_position}, OwnedLaws.{buffer_lock_of, closed_of, items_in, owner_of, wait_lists_of}}
-use Rattle.fifo_buffer.specs.SectionPolls.{BufferEvent}
-
--- a lock that was there at the start is there after some sections
-some_after : (s : BufferSection) (x : Option BufferLock) (b : Bool) → IsSome x
-    → IsSome (if b then option_map (lock_edited (cv_rules buffer_monitor_rules) s.edit) x else x)
-some_after s x false some = some
-some_after s None true some = absurd cc
-some_after s (Some lock) true some = refl
-
-stays_there : (O : LockId → Option BufferLock) (past : List BufferSection) (lock : LockId) → IsSome (O lock)
-    → IsSome (lock_after (cv_rules buffer_monitor_rules) O lock past)
-stays_there O [] lock some = some
-stays_there O (s ∷ past) lock some =
-    some_after s (lock_after (cv_rules buffer_monitor_rules) O lock past) (same_lock lock s.lock) (stays_there O past lock some)
+use Rattle.layer_traits.proofs.{Alone.block_there as stays_there, ActedLemmas.lock_is, OwnedLemmas.{shown_under, observed_as, viewed_shown}}
+use Rattle.fifo_buffer.specs.{FifoFits.{BootsSo, caps_in}, Laws.Tallies.{all_tallied, effect_position}, OwnedLaws.{buffer_lock_of, closed_of, items_in}}
+use Rattle.fifo_buffer.specs.{OwnedLaws.{owner_of, wait_lists_of}, SectionPolls.BufferEvent}
 
 module _ (opening : LockId → Option (QueueBlock BufferLock)) (boots : BootsSo opening) (b : BufId) (within : b.0 < length (caps_in opening)) where
   -- a buffer of the capacities has a lock, at the start
@@ -42,7 +29,9 @@ module _ (opening : LockId → Option (QueueBlock BufferLock)) (boots : BootsSo 
 
   -- and after any events
   pub found : (past : List BufferEvent) → (lock : BufferLock) × (buffer_lock_of opening past b ≡ Some lock)
-  found past = go (buffer_lock_of opening past b) refl (stays_there (inner opening) (buffer_sections past) (Buffer b) inner_there)
+  found past =
+      go (buffer_lock_of opening past b) refl
+      (stays_there (lock_edited (cv_rules buffer_monitor_rules)) (inner opening) (Buffer b) (buffer_sections past) inner_there)
     where
       go : (o : Option BufferLock) → buffer_lock_of opening past b ≡ o → IsSome o → (lock : BufferLock) × (buffer_lock_of opening past b ≡ Some lock)
       go None is some = absurd cc

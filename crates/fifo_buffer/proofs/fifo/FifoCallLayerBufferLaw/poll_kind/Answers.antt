@@ -1,9 +1,11 @@
-use Rattle.std.proofs.Common.{◌≡◌, ◌≢◌, ◌∙◌, List, ap, sym, subst, refl, true, false, Option, Some, inl, inr, ◌⊎◌, None, if◌then◌else◌, Bool, IsSome, slice_set}
+use Rattle.std.proofs.Common.{◌≡◌, ◌≢◌, ◌∙◌, List, ap, sym, subst, refl, true, false, Option, Some, inl, inr, ◌⊎◌, None, if◌then◌else◌, IsSome, slice_set}
 use Rattle.{std.proofs.Common.arith, event_log.specs.declared.ids.{CpuId.CpuId, LockId.TheVariants.Buffer, Tid.Tid}}
 use Rattle.layer_traits.specs.{declared.{calls.Reply.Reply, call_states.{Stage.Stage, CallState.CallState}}, BufferLaw.{Buffering, answer_in, buffer_of}}
 use Rattle.layer_traits.specs.{BufferLaw.{buffering, fifo_plan, going, plan_of, replied, call_state_of}, BufferProtocol.buffer_rules, Framed.Framed}
 use Rattle.layer_traits.specs.{QLockLaw.{is_handed, slept_for}, QLocking.{lock_moves, lock_rules}, Places.home_of, Plans.{Follows, Left, table_of}}
 use Rattle.{layer_traits.specs.{QueueRules.queue_rules, QueueBlocks.{homes_in, inner}, Queues.buffer_sections}, thread_blocks.specs.Queues.same_tid}
+use Rattle.fifo_buffer.proofs.Frames.{framed_over}
+use Rattle.fifo_buffer.specs.declared.fifo.{Fifo.Fifo, SectionPoll.SectionPoll}
 use Rattle.fifo_buffer.specs.{SectionPolls.{FitsAt, MayPollSection, SectionPolled, is_at_once}, Laws.OwnedLaws.block_there, Stances.called_at}
 use Rattle.fifo_buffer.proofs.{Chains.{follows_for, one_follows, two_follows}, Finish.{called_by, finish, others_after}, First.{acquires_at, first_may}}
 use Rattle.fifo_buffer.proofs.{First.goes_called, Recorded.runs_home, Parts.{moves_grown, other_part}, SectionPollTaken.{SectionPollTaken, taken}}
@@ -24,30 +26,6 @@ module _ (g : Over) (c : Start g) where
   there : IsSome (opening c.args.m.now (Buffer (buffer_of c.args.call.now)))
   there = block_there (opening c.args.m.now) c.requires.fits.1.boots (buffer_of c.args.call.now) c.requires.there
 
-pub poll_section-polled-requires-clause-buffer : goal.poll_section-polled-requires-clause-buffer
-poll_section-polled-requires-clause-buffer g c = rw c.sections.invariant.still (there g (goal.at.poll_section-polled-requires-clause-buffer g c).Start)
-
-pub poll_section-polled-requires-in-Enters-clause-buffer : goal.poll_section-polled-requires-in-Enters-clause-buffer
-poll_section-polled-requires-in-Enters-clause-buffer g c = rw c.sections.invariant.still (there g (goal.at.poll_section-polled-requires-in-Enters-clause-buffer g c).Start)
-
-pub poll_section-polled-requires-in-Tries-clause-buffer : goal.poll_section-polled-requires-in-Tries-clause-buffer
-poll_section-polled-requires-in-Tries-clause-buffer g c = rw c.sections.invariant.still (there g (goal.at.poll_section-polled-requires-in-Tries-clause-buffer g c).Start)
-
-pub poll_section-polled-requires-in-Waits-clause-buffer : goal.poll_section-polled-requires-in-Waits-clause-buffer
-poll_section-polled-requires-in-Waits-clause-buffer g c = rw c.sections.invariant.still (there g (goal.at.poll_section-polled-requires-in-Waits-clause-buffer g c).Start)
-
-pub poll_section-polled-requires-in-AcquiresAgain-clause-buffer : goal.poll_section-polled-requires-in-AcquiresAgain-clause-buffer
-poll_section-polled-requires-in-AcquiresAgain-clause-buffer g c = rw c.sections.invariant.still (there g (goal.at.poll_section-polled-requires-in-AcquiresAgain-clause-buffer g c).Start)
-
-pub poll_section-polled-requires-in-Signals-clause-buffer : goal.poll_section-polled-requires-in-Signals-clause-buffer
-poll_section-polled-requires-in-Signals-clause-buffer g c = rw c.sections.invariant.still (there g (goal.at.poll_section-polled-requires-in-Signals-clause-buffer g c).Start)
-
-pub poll_section-polled-requires-in-SignalsOwn-clause-buffer : goal.poll_section-polled-requires-in-SignalsOwn-clause-buffer
-poll_section-polled-requires-in-SignalsOwn-clause-buffer g c = rw c.sections.invariant.still (there g (goal.at.poll_section-polled-requires-in-SignalsOwn-clause-buffer g c).Start)
-
-pub poll_section-polled-requires-in-Releases-clause-buffer : goal.poll_section-polled-requires-in-Releases-clause-buffer
-poll_section-polled-requires-in-Releases-clause-buffer g c = rw c.sections.invariant.still (there g (goal.at.poll_section-polled-requires-in-Releases-clause-buffer g c).Start)
-
 pub sections-init : goal.sections-init
 sections-init g c =
     let C = g.C.ThreadLayer in
@@ -58,6 +36,7 @@ sections-init g c =
     c.requires.fits.1.calls c.requires.runs c.requires.hand c.requires.same c.requires.goes_on in
     record {
       still = refl;
+      there = there g (goal.at.sections-init g c).Start;
       fits = c.requires.fits.0;
       cpu = refl;
       on = record {
@@ -73,67 +52,71 @@ sections-init g c =
     }
 
 -- what one section did at the machine with which the poll began, of a part of its CPU
-module _ (g : Over) (c : Start g) (lower lower1 : g.row.C.Denot) (m1 : g.row.C-Machine.Denot) (states states1 : List CallState)
-    (done again : Bool) where
+module _ (g : Over) (c : Start g) (p p1 : Fifo g.row.C.Denot) (m1 : g.row.C-Machine.Denot) (report : SectionPoll) where
   open g.C.ThreadLayer use {ActsFor, Fits, IsStepwise, MayHold, acts, cpu_of, opening, own, room, seen, site, under_way}
 
-  -- the call state with which the call went on
+  -- the call states before it and after it, and the one with which the call went on
+  abbrev before : List CallState
+  before = p.call_states.call_states
+
+  abbrev after : List CallState
+  after = p1.call_states.call_states
+
   abbrev goes : CallState
-  goes = going (call_state_of states c.args.t) c.args.call.now
+  goes = going (call_state_of before c.args.t) c.args.call.now
 
   record Did : Type 0 where
     polled : SectionPolled (homes_in (opening c.args.m.now)) (λ d. ActsFor c.args.m.now d) (inner (opening c.args.m.now)) (cpu_of c.args.self.now.lower)
-        c.args.t c.args.call.now goes (seen c.args.m.now) (seen m1) (own lower) (own lower1) (under_way lower1) done (call_state_of states1 c.args.t)
-    again_is : again ≡ is_at_once goes.stage (is_handed (own lower).lock.slept (own lower).lock.sleep.threads.current)
-    states_are : states1 ≡ slice_set states c.args.t.0 (call_state_of states1 c.args.t)
-    woken : IsSome (slept_for (own lower).waits c.args.t) → m1 ≡ c.args.m.now
-    handed : IsSome (slept_for (own lower).lock.slept c.args.t) → m1 ≡ c.args.m.now
-    framed : Framed (λ p k. Fits p k) (λ p. cpu_of p) (λ k. opening k) (λ k. site k) (λ k. room k) (λ k d. ActsFor k d) (λ k d. MayHold k d)
-        lower lower1 c.args.m.now m1
-    cpu : cpu_of lower1 ≡ cpu_of c.args.self.now.lower
+        c.args.t c.args.call.now goes (seen c.args.m.now) (seen m1) (own p.lower) (own p1.lower) (under_way p1.lower) report.ended
+        (call_state_of after c.args.t)
+    again_is : report.at_once ≡ is_at_once goes.stage (is_handed (own p.lower).lock.slept (own p.lower).lock.sleep.threads.current)
+    states_are : after ≡ slice_set before c.args.t.0 (call_state_of after c.args.t)
+    woken : IsSome (slept_for (own p.lower).waits c.args.t) → m1 ≡ c.args.m.now
+    handed : IsSome (slept_for (own p.lower).lock.slept c.args.t) → m1 ≡ c.args.m.now
+    framed : Framed (λ q k. Fits q k) (λ q. cpu_of q) (λ k. opening k) (λ k. site k) (λ k. room k) (λ k d. ActsFor k d) (λ k d. MayHold k d)
+        p.lower p1.lower c.args.m.now m1
+    cpu : cpu_of p1.lower ≡ cpu_of c.args.self.now.lower
     followed : IsStepwise → Follows (λ d. ActsFor c.args.m.now d) (table_of (queue_rules (lock_rules buffer_rules) (lock_moves buffer_rules)))
         (opening c.args.m.now) (cpu_of c.args.self.now.lower)
-        (plan_of (homes_in (opening c.args.m.now)) (cpu_of c.args.self.now.lower) c.args.t c.args.call.now goes.stage goes (buffering (own lower) states))
+        (plan_of (homes_in (opening c.args.m.now)) (cpu_of c.args.self.now.lower) c.args.t c.args.call.now goes.stage goes (buffering (own p.lower) before))
         (acts c.args.m.now) (acts m1)
-        (record { own = buffering (own lower1) states1; answer = if done then replied c.args.call.now goes goes.stage else None })
+        (record { own = buffering (own p1.lower) after; answer = if report.ended then replied c.args.call.now goes goes.stage else None })
 
   module _ (did : Did) where
     abbrev section : SectionPollTaken
     section = taken did.polled
 
-    opening1 : opening m1 ≡ opening c.args.m.now
-    opening1 = did.framed.stays.opening
+    same1 : (u : Tid) → same_tid c.args.t u ≡ false → call_state_of after u ≡ call_state_of before u
+    same1 u other = other_call_state before after c.args.t u (call_state_of after c.args.t) did.states_are other
 
-    same1 : (u : Tid) → same_tid c.args.t u ≡ false → call_state_of states1 u ≡ call_state_of states u
-    same1 u other = other_call_state states states1 c.args.t u (call_state_of states1 c.args.t) did.states_are other
-
-    apart1 : (u : Tid) → u.0 ≢ c.args.t.0 → call_state_of states1 u ≡ call_state_of states u
-    apart1 u other = apart_call_state states states1 c.args.t u (call_state_of states1 c.args.t) did.states_are other
+    apart1 : (u : Tid) → u.0 ≢ c.args.t.0 → call_state_of after u ≡ call_state_of before u
+    apart1 u other = apart_call_state before after c.args.t u (call_state_of after c.args.t) did.states_are other
 
 -- it did what its section poll says, where the call went on at the same machine
-did_of : (g : Over) (c : Start g) (lower : g.row.C.Denot) (m : g.row.C-Machine.Denot) (states : List CallState)
-    {lower1 l : g.row.C.Denot} {m1 n : g.row.C-Machine.Denot} {states1 s : List CallState}
-    {done r again b : Bool} {stage : Stage} → (let C = g.C.ThreadLayer in
+did_of : (g : Over) (c : Start g) (p : Fifo g.row.C.Denot) (m : g.row.C-Machine.Denot) {p1 l : Fifo g.row.C.Denot} {m1 n : g.row.C-Machine.Denot}
+    {report r : SectionPoll} {stage : Stage} → (let C = g.C.ThreadLayer in
+    let states = p.call_states.call_states in
     let goes = going (call_state_of states c.args.t) c.args.call.now in
-    (still : m ≡ c.args.m.now) (cpu : C.cpu_of lower ≡ C.cpu_of c.args.self.now.lower)
-    (lower_is : lower1 ≡ l) (m_is : m1 ≡ n) (states_is : states1 ≡ s) (done_is : done ≡ r) (again_is : again ≡ b) (stage_is : stage ≡ goes.stage)
-    (at_once : b ≡ is_at_once stage (is_handed (C.own lower).lock.slept (C.own lower).lock.sleep.threads.current))
-    (polled : SectionPolled (homes_in (C.opening m)) (λ d. C.ActsFor m d) (inner (C.opening m)) (C.cpu_of lower) c.args.t c.args.call.now goes
-    (C.seen m) (C.seen n) (C.own lower) (C.own l) (C.under_way l) r (call_state_of s c.args.t))
-    (states_are : s ≡ slice_set states c.args.t.0 (call_state_of s c.args.t))
-    (woken : IsSome (slept_for (C.own lower).waits c.args.t) → n ≡ m)
-    (handed : IsSome (slept_for (C.own lower).lock.slept c.args.t) → n ≡ m)
-    (framed : Framed (λ p k. C.Fits p k) (λ p. C.cpu_of p) (λ k. C.opening k) (λ k. C.site k) (λ k. C.room k) (λ k d. C.ActsFor k d)
-    (λ k d. C.MayHold k d) lower l m n)
+    (still : m ≡ c.args.m.now) (cpu : C.cpu_of p.lower ≡ C.cpu_of c.args.self.now.lower)
+    (self_is : p1 ≡ l) (m_is : m1 ≡ n) (report_is : report ≡ r) (stage_is : stage ≡ goes.stage)
+    (at_once : r.at_once ≡ is_at_once stage (is_handed (C.own p.lower).lock.slept (C.own p.lower).lock.sleep.threads.current))
+    (polled : SectionPolled (homes_in (C.opening m)) (λ d. C.ActsFor m d) (inner (C.opening m)) (C.cpu_of p.lower) c.args.t c.args.call.now goes
+    (C.seen m) (C.seen n) (C.own p.lower) (C.own l.lower) (C.under_way l.lower) r.ended (call_state_of l.call_states.call_states c.args.t))
+    (states_are : l.call_states.call_states ≡ slice_set states c.args.t.0 (call_state_of l.call_states.call_states c.args.t))
+    (woken : IsSome (slept_for (C.own p.lower).waits c.args.t) → n ≡ m)
+    (handed : IsSome (slept_for (C.own p.lower).lock.slept c.args.t) → n ≡ m)
+    (framed : Framed (λ q k. C.Fits q k) (λ q. C.cpu_of q) (λ k. C.opening k) (λ k. C.site k) (λ k. C.room k) (λ k d. C.ActsFor k d)
+    (λ k d. C.MayHold k d) p.lower l.lower m n)
     (followed : C.IsStepwise → Follows (C.ActsFor m) (table_of (queue_rules (lock_rules buffer_rules) (lock_moves buffer_rules))) (C.opening m)
-    (C.cpu_of lower) (plan_of (homes_in (C.opening m)) (C.cpu_of lower) c.args.t c.args.call.now goes.stage goes (buffering (C.own lower) states))
+    (C.cpu_of p.lower) (plan_of (homes_in (C.opening m)) (C.cpu_of p.lower) c.args.t c.args.call.now goes.stage goes (buffering (C.own p.lower) states))
     (C.acts m) (C.acts n)
-    (record { own = buffering (C.own l) s; answer = if r then replied c.args.call.now goes goes.stage else None }))
-    → Did g c lower lower1 m1 states states1 done again)
-did_of g c lower m states still cpu lower_is m_is states_is done_is again_is stage_is at_once polled states_are woken handed framed followed =
-    rw (lower_is, m_is, states_is, done_is, again_is) (record {
+    (record { own = buffering (C.own l.lower) l.call_states.call_states; answer = if r.ended then replied c.args.call.now goes goes.stage else None }))
+    → Did g c p p1 m1 report)
+did_of g c p m still cpu self_is m_is report_is stage_is at_once polled states_are woken handed framed followed =
+    rw (self_is, m_is, report_is) (record {
       polled = rw (still, cpu) at polled;
-      again_is = at_once ∙ ap (λ s. is_at_once s (is_handed (g.C.ThreadLayer.own lower).lock.slept (g.C.ThreadLayer.own lower).lock.sleep.threads.current)) stage_is;
+      again_is = at_once
+          ∙ ap (λ s. is_at_once s (is_handed (g.C.ThreadLayer.own p.lower).lock.slept (g.C.ThreadLayer.own p.lower).lock.sleep.threads.current)) stage_is;
       states_are = states_are;
       woken = λ some. woken some ∙ still;
       handed = λ some. handed some ∙ still;
@@ -160,41 +143,26 @@ sections-preserved g c =
     let m1 = c.match-stage.m in
     let in_call = goes_called O (buffer_sections (C.seen m)) t call (going (call_state_of states t) call) (C.own c.sections.self.lower)
     (C.under_way c.sections.self.lower) before.on.may.goes in
-    let did : Did g at c.sections.self.lower p1 m1 states states1 c.match-stage.polled.ended c.match-stage.polled.at_once = elim c.match-stage.branch [
-      | in-Idle w ↦ (let e = w.poll_section-polled.ensures in did_of g at c.sections.self.lower c.sections.m c.sections.self.call_states.call_states
-          before.still before.cpu (ap (λ p. p.lower) w.self-is) w.m-is (ap (λ p. p.call_states.call_states) w.self-is) (ap (λ p. p.ended) w.polled-is) (ap (λ p. p.at_once) w.polled-is)
-          (acquires_at c.next_stage-stage.ensures in_call w.in-Idle.is) e.at_once
-          e.section_polled e.call_states e.woken e.handed e.framed e.follows)
-      | in-Enters w ↦ (let e = w.poll_section-polled-in-Enters.ensures in did_of g at c.sections.self.lower c.sections.m c.sections.self.call_states.call_states
-          before.still before.cpu (ap (λ p. p.lower) w.self-is) w.m-is (ap (λ p. p.call_states.call_states) w.self-is) (ap (λ p. p.ended) w.polled-is) (ap (λ p. p.at_once) w.polled-is)
-          (sym w.in-Enters.is ∙ c.next_stage-stage.ensures) e.at_once
-          e.section_polled e.call_states e.woken e.handed e.framed e.follows)
-      | in-Tries w ↦ (let e = w.poll_section-polled-in-Tries.ensures in did_of g at c.sections.self.lower c.sections.m c.sections.self.call_states.call_states
-          before.still before.cpu (ap (λ p. p.lower) w.self-is) w.m-is (ap (λ p. p.call_states.call_states) w.self-is) (ap (λ p. p.ended) w.polled-is) (ap (λ p. p.at_once) w.polled-is)
-          (sym w.in-Tries.is ∙ c.next_stage-stage.ensures) e.at_once
-          e.section_polled e.call_states e.woken e.handed e.framed e.follows)
-      | in-Waits w ↦ (let e = w.poll_section-polled-in-Waits.ensures in did_of g at c.sections.self.lower c.sections.m c.sections.self.call_states.call_states
-          before.still before.cpu (ap (λ p. p.lower) w.self-is) w.m-is (ap (λ p. p.call_states.call_states) w.self-is) (ap (λ p. p.ended) w.polled-is) (ap (λ p. p.at_once) w.polled-is)
-          (sym w.in-Waits.is ∙ c.next_stage-stage.ensures) e.at_once
-          e.section_polled e.call_states e.woken e.handed e.framed e.follows)
-      | in-AcquiresAgain w ↦ (let e = w.poll_section-polled-in-AcquiresAgain.ensures in did_of g at c.sections.self.lower c.sections.m c.sections.self.call_states.call_states
-          before.still before.cpu (ap (λ p. p.lower) w.self-is) w.m-is (ap (λ p. p.call_states.call_states) w.self-is) (ap (λ p. p.ended) w.polled-is) (ap (λ p. p.at_once) w.polled-is)
-          (sym w.in-AcquiresAgain.is ∙ c.next_stage-stage.ensures) e.at_once
-          e.section_polled e.call_states e.woken e.handed e.framed e.follows)
-      | in-Signals w ↦ (let e = w.poll_section-polled-in-Signals.ensures in did_of g at c.sections.self.lower c.sections.m c.sections.self.call_states.call_states
-          before.still before.cpu (ap (λ p. p.lower) w.self-is) w.m-is (ap (λ p. p.call_states.call_states) w.self-is) (ap (λ p. p.ended) w.polled-is) (ap (λ p. p.at_once) w.polled-is)
-          (sym w.in-Signals.is ∙ c.next_stage-stage.ensures) e.at_once
-          e.section_polled e.call_states e.woken e.handed e.framed e.follows)
-      | in-SignalsOwn w ↦ (let e = w.poll_section-polled-in-SignalsOwn.ensures in did_of g at c.sections.self.lower c.sections.m c.sections.self.call_states.call_states
-          before.still before.cpu (ap (λ p. p.lower) w.self-is) w.m-is (ap (λ p. p.call_states.call_states) w.self-is) (ap (λ p. p.ended) w.polled-is) (ap (λ p. p.at_once) w.polled-is)
-          (sym w.in-SignalsOwn.is ∙ c.next_stage-stage.ensures) e.at_once
-          e.section_polled e.call_states e.woken e.handed e.framed e.follows)
-      | in-Releases w ↦ (let e = w.poll_section-polled-in-Releases.ensures in did_of g at c.sections.self.lower c.sections.m c.sections.self.call_states.call_states
-          before.still before.cpu (ap (λ p. p.lower) w.self-is) w.m-is (ap (λ p. p.call_states.call_states) w.self-is) (ap (λ p. p.ended) w.polled-is) (ap (λ p. p.at_once) w.polled-is)
-          (sym w.in-Releases.is ∙ c.next_stage-stage.ensures) e.at_once
-          e.section_polled e.call_states e.woken e.handed e.framed e.follows)
+    let stage_is = c.next_stage-stage.ensures in
+    let did : Did g at c.sections.self c.match-stage.self m1 c.match-stage.polled = elim c.match-stage.branch [
+      | in-Idle w ↦ (let e = w.poll_section-polled.ensures in did_of g at c.sections.self c.sections.m before.still before.cpu w.self-is
+          w.m-is w.polled-is (acquires_at stage_is in_call w.in-Idle.is) e.at_once e.section_polled e.call_states e.woken e.handed e.framed e.follows)
+      | in-Enters w ↦ (let e = w.poll_section-polled-in-Enters.ensures in did_of g at c.sections.self c.sections.m before.still before.cpu w.self-is
+          w.m-is w.polled-is (sym w.in-Enters.is ∙ stage_is) e.at_once e.section_polled e.call_states e.woken e.handed e.framed e.follows)
+      | in-Tries w ↦ (let e = w.poll_section-polled-in-Tries.ensures in did_of g at c.sections.self c.sections.m before.still before.cpu w.self-is
+          w.m-is w.polled-is (sym w.in-Tries.is ∙ stage_is) e.at_once e.section_polled e.call_states e.woken e.handed e.framed e.follows)
+      | in-Waits w ↦ (let e = w.poll_section-polled-in-Waits.ensures in did_of g at c.sections.self c.sections.m before.still before.cpu w.self-is
+          w.m-is w.polled-is (sym w.in-Waits.is ∙ stage_is) e.at_once e.section_polled e.call_states e.woken e.handed e.framed e.follows)
+      | in-AcquiresAgain w ↦ (let e = w.poll_section-polled-in-AcquiresAgain.ensures in did_of g at c.sections.self c.sections.m before.still before.cpu
+          w.self-is w.m-is w.polled-is (sym w.in-AcquiresAgain.is ∙ stage_is) e.at_once e.section_polled e.call_states e.woken e.handed e.framed e.follows)
+      | in-Signals w ↦ (let e = w.poll_section-polled-in-Signals.ensures in did_of g at c.sections.self c.sections.m before.still before.cpu w.self-is
+          w.m-is w.polled-is (sym w.in-Signals.is ∙ stage_is) e.at_once e.section_polled e.call_states e.woken e.handed e.framed e.follows)
+      | in-SignalsOwn w ↦ (let e = w.poll_section-polled-in-SignalsOwn.ensures in did_of g at c.sections.self c.sections.m before.still before.cpu w.self-is
+          w.m-is w.polled-is (sym w.in-SignalsOwn.is ∙ stage_is) e.at_once e.section_polled e.call_states e.woken e.handed e.framed e.follows)
+      | in-Releases w ↦ (let e = w.poll_section-polled-in-Releases.ensures in did_of g at c.sections.self c.sections.m before.still before.cpu w.self-is
+          w.m-is w.polled-is (sym w.in-Releases.is ∙ stage_is) e.at_once e.section_polled e.call_states e.woken e.handed e.framed e.follows)
     ] in
-    let section = section g at c.sections.self.lower p1 m1 states states1 c.match-stage.polled.ended c.match-stage.polled.at_once did in
+    let section = section g at c.sections.self c.match-stage.self m1 c.match-stage.polled did in
     let goes = going (call_state_of states t) call in
     let later = call_state_of states1 t in
     let handed = is_handed (C.own c.sections.self.lower).lock.slept (C.own c.sections.self.lower).lock.sleep.threads.current in
@@ -203,10 +171,11 @@ sections-preserved g c =
     let next = next_going section handed c.if-polled.true at_once called in
     let still : m1 ≡ m = elim (why section handed c.if-polled.true at_once called before.on.may.current refl)
     [ inl some ↦ did.woken some | inr some ↦ did.handed some ] in
-    let same1 = same1 g at c.sections.self.lower p1 m1 states states1 c.match-stage.polled.ended c.match-stage.polled.at_once did in
-    let apart1 = apart1 g at c.sections.self.lower p1 m1 states states1 c.match-stage.polled.ended c.match-stage.polled.at_once did in
+    let same1 = same1 g at c.sections.self c.match-stage.self m1 c.match-stage.polled did in
+    let apart1 = apart1 g at c.sections.self c.match-stage.self m1 c.match-stage.polled did in
     record {
       still = still;
+      there = rw still (there g at);
       fits = did.framed.fits;
       cpu = did.cpu;
       on = record {
@@ -229,7 +198,8 @@ sections-preserved g c =
           let own1 = buffering (C.own p1) states1 in
           let second1 = subst (λ (x : CallState). Follows Acts0 table (C.opening m) cpu (plan_of homes cpu t call x.stage x own1) (C.acts m) new got) next
           second in
-          subst (λ (o : Buffering). Follows Acts0 table (C.opening m) cpu (fifo_plan homes cpu t call o) (C.acts m) new got) (rw c.if-first.true at before.begins)
+          subst (λ (o : Buffering). Follows Acts0 table (C.opening m) cpu (fifo_plan homes cpu t call o) (C.acts m) new got)
+          (rw c.if-first.true at before.begins)
           (two_follows Acts0 table (C.opening m) cpu homes t call goes.stage goes (buffering (C.own c.sections.self.lower) states)
           (C.acts m) (C.acts m1) new
           (record { own = own1; answer = if c.match-stage.polled.ended then replied call goes goes.stage else None }) got handed end.recorded_is.0
@@ -246,15 +216,6 @@ module _ (g : Over) (c : After-complete g) where
   abbrev at : Start g
   at = (goal.at.returns-in-sections-clause-framed g c).Start
 
-  abbrev lower : g.row.C.Denot
-  lower = c.sections.self.lower
-
-  abbrev lower1 : g.row.C.Denot
-  lower1 = c.match-stage.self.lower
-
-  abbrev m1 : g.row.C-Machine.Denot
-  m1 = c.match-stage.m
-
   abbrev states : List CallState
   states = c.sections.self.call_states.call_states
 
@@ -264,44 +225,28 @@ module _ (g : Over) (c : After-complete g) where
   in_call : called_at (going (call_state_of states c.args.t) c.args.call.now).stage ≡ true
   in_call = grind (arith, goes_called)
 
-  did : Did g at lower lower1 m1 states states1 c.match-stage.polled.ended c.match-stage.polled.at_once
-  did = let before = c.sections.invariant in elim c.match-stage.branch [
-    | in-Idle w ↦ (let e = w.poll_section-polled.ensures in did_of g at c.sections.self.lower c.sections.m c.sections.self.call_states.call_states
-        before.still before.cpu (ap (λ p. p.lower) w.self-is) w.m-is (ap (λ p. p.call_states.call_states) w.self-is) (ap (λ p. p.ended) w.polled-is) (ap (λ p. p.at_once) w.polled-is)
-        (acquires_at c.next_stage-stage.ensures in_call w.in-Idle.is) e.at_once
-        e.section_polled e.call_states e.woken e.handed e.framed e.follows)
-    | in-Enters w ↦ (let e = w.poll_section-polled-in-Enters.ensures in did_of g at c.sections.self.lower c.sections.m c.sections.self.call_states.call_states
-        before.still before.cpu (ap (λ p. p.lower) w.self-is) w.m-is (ap (λ p. p.call_states.call_states) w.self-is) (ap (λ p. p.ended) w.polled-is) (ap (λ p. p.at_once) w.polled-is)
-        (sym w.in-Enters.is ∙ c.next_stage-stage.ensures) e.at_once
-        e.section_polled e.call_states e.woken e.handed e.framed e.follows)
-    | in-Tries w ↦ (let e = w.poll_section-polled-in-Tries.ensures in did_of g at c.sections.self.lower c.sections.m c.sections.self.call_states.call_states
-        before.still before.cpu (ap (λ p. p.lower) w.self-is) w.m-is (ap (λ p. p.call_states.call_states) w.self-is) (ap (λ p. p.ended) w.polled-is) (ap (λ p. p.at_once) w.polled-is)
-        (sym w.in-Tries.is ∙ c.next_stage-stage.ensures) e.at_once
-        e.section_polled e.call_states e.woken e.handed e.framed e.follows)
-    | in-Waits w ↦ (let e = w.poll_section-polled-in-Waits.ensures in did_of g at c.sections.self.lower c.sections.m c.sections.self.call_states.call_states
-        before.still before.cpu (ap (λ p. p.lower) w.self-is) w.m-is (ap (λ p. p.call_states.call_states) w.self-is) (ap (λ p. p.ended) w.polled-is) (ap (λ p. p.at_once) w.polled-is)
-        (sym w.in-Waits.is ∙ c.next_stage-stage.ensures) e.at_once
-        e.section_polled e.call_states e.woken e.handed e.framed e.follows)
-    | in-AcquiresAgain w ↦ (let e = w.poll_section-polled-in-AcquiresAgain.ensures in did_of g at c.sections.self.lower c.sections.m c.sections.self.call_states.call_states
-        before.still before.cpu (ap (λ p. p.lower) w.self-is) w.m-is (ap (λ p. p.call_states.call_states) w.self-is) (ap (λ p. p.ended) w.polled-is) (ap (λ p. p.at_once) w.polled-is)
-        (sym w.in-AcquiresAgain.is ∙ c.next_stage-stage.ensures) e.at_once
-        e.section_polled e.call_states e.woken e.handed e.framed e.follows)
-    | in-Signals w ↦ (let e = w.poll_section-polled-in-Signals.ensures in did_of g at c.sections.self.lower c.sections.m c.sections.self.call_states.call_states
-        before.still before.cpu (ap (λ p. p.lower) w.self-is) w.m-is (ap (λ p. p.call_states.call_states) w.self-is) (ap (λ p. p.ended) w.polled-is) (ap (λ p. p.at_once) w.polled-is)
-        (sym w.in-Signals.is ∙ c.next_stage-stage.ensures) e.at_once
-        e.section_polled e.call_states e.woken e.handed e.framed e.follows)
-    | in-SignalsOwn w ↦ (let e = w.poll_section-polled-in-SignalsOwn.ensures in did_of g at c.sections.self.lower c.sections.m c.sections.self.call_states.call_states
-        before.still before.cpu (ap (λ p. p.lower) w.self-is) w.m-is (ap (λ p. p.call_states.call_states) w.self-is) (ap (λ p. p.ended) w.polled-is) (ap (λ p. p.at_once) w.polled-is)
-        (sym w.in-SignalsOwn.is ∙ c.next_stage-stage.ensures) e.at_once
-        e.section_polled e.call_states e.woken e.handed e.framed e.follows)
-    | in-Releases w ↦ (let e = w.poll_section-polled-in-Releases.ensures in did_of g at c.sections.self.lower c.sections.m c.sections.self.call_states.call_states
-        before.still before.cpu (ap (λ p. p.lower) w.self-is) w.m-is (ap (λ p. p.call_states.call_states) w.self-is) (ap (λ p. p.ended) w.polled-is) (ap (λ p. p.at_once) w.polled-is)
-        (sym w.in-Releases.is ∙ c.next_stage-stage.ensures) e.at_once
-        e.section_polled e.call_states e.woken e.handed e.framed e.follows)
+  did : Did g at c.sections.self c.match-stage.self c.match-stage.m c.match-stage.polled
+  did = let before = c.sections.invariant in let stage_is = c.next_stage-stage.ensures in elim c.match-stage.branch [
+    | in-Idle w ↦ (let e = w.poll_section-polled.ensures in did_of g at c.sections.self c.sections.m before.still before.cpu w.self-is
+        w.m-is w.polled-is (acquires_at stage_is in_call w.in-Idle.is) e.at_once e.section_polled e.call_states e.woken e.handed e.framed e.follows)
+    | in-Enters w ↦ (let e = w.poll_section-polled-in-Enters.ensures in did_of g at c.sections.self c.sections.m before.still before.cpu w.self-is
+        w.m-is w.polled-is (sym w.in-Enters.is ∙ stage_is) e.at_once e.section_polled e.call_states e.woken e.handed e.framed e.follows)
+    | in-Tries w ↦ (let e = w.poll_section-polled-in-Tries.ensures in did_of g at c.sections.self c.sections.m before.still before.cpu w.self-is
+        w.m-is w.polled-is (sym w.in-Tries.is ∙ stage_is) e.at_once e.section_polled e.call_states e.woken e.handed e.framed e.follows)
+    | in-Waits w ↦ (let e = w.poll_section-polled-in-Waits.ensures in did_of g at c.sections.self c.sections.m before.still before.cpu w.self-is
+        w.m-is w.polled-is (sym w.in-Waits.is ∙ stage_is) e.at_once e.section_polled e.call_states e.woken e.handed e.framed e.follows)
+    | in-AcquiresAgain w ↦ (let e = w.poll_section-polled-in-AcquiresAgain.ensures in did_of g at c.sections.self c.sections.m before.still before.cpu w.self-is
+        w.m-is w.polled-is (sym w.in-AcquiresAgain.is ∙ stage_is) e.at_once e.section_polled e.call_states e.woken e.handed e.framed e.follows)
+    | in-Signals w ↦ (let e = w.poll_section-polled-in-Signals.ensures in did_of g at c.sections.self c.sections.m before.still before.cpu w.self-is
+        w.m-is w.polled-is (sym w.in-Signals.is ∙ stage_is) e.at_once e.section_polled e.call_states e.woken e.handed e.framed e.follows)
+    | in-SignalsOwn w ↦ (let e = w.poll_section-polled-in-SignalsOwn.ensures in did_of g at c.sections.self c.sections.m before.still before.cpu w.self-is
+        w.m-is w.polled-is (sym w.in-SignalsOwn.is ∙ stage_is) e.at_once e.section_polled e.call_states e.woken e.handed e.framed e.follows)
+    | in-Releases w ↦ (let e = w.poll_section-polled-in-Releases.ensures in did_of g at c.sections.self c.sections.m before.still before.cpu w.self-is
+        w.m-is w.polled-is (sym w.in-Releases.is ∙ stage_is) e.at_once e.section_polled e.call_states e.woken e.handed e.framed e.follows)
   ]
 
   abbrev last : SectionPollTaken
-  last = section g at lower lower1 m1 states states1 c.match-stage.polled.ended c.match-stage.polled.at_once did
+  last = section g at c.sections.self c.match-stage.self c.match-stage.m c.match-stage.polled did
 
   -- the call state with which it went on
   abbrev went : CallState
@@ -313,14 +258,14 @@ module _ (g : Over) (c : After-complete g) where
   replies : answer ≡ (if c.match-stage.polled.ended then replied c.args.call.now went went.stage else None)
   replies = completes_as last c.next_stage-stage.result c.next_stage-stage.ensures answer c.complete.ensures.answer
 
-  opens : g.C.ThreadLayer.opening m1 ≡ g.C.ThreadLayer.opening c.args.m.now
-  opens = opening1 g at lower lower1 m1 states states1 c.match-stage.polled.ended c.match-stage.polled.at_once did
+  opens : g.C.ThreadLayer.opening c.match-stage.m ≡ g.C.ThreadLayer.opening c.args.m.now
+  opens = did.framed.stays.opening
 
   same : (u : Tid) → same_tid c.args.t u ≡ false → call_state_of states1 u ≡ call_state_of states u
-  same = same1 g at lower lower1 m1 states states1 c.match-stage.polled.ended c.match-stage.polled.at_once did
+  same = same1 g at c.sections.self c.match-stage.self c.match-stage.m c.match-stage.polled did
 
   apart : (u : Tid) → u.0 ≢ c.args.t.0 → call_state_of states1 u ≡ call_state_of c.args.self.now.call_states.call_states u
-  apart u other = apart1 g at lower lower1 m1 states states1 c.match-stage.polled.ended c.match-stage.polled.at_once did u other ∙ c.sections.invariant.on.apart u other
+  apart u other = apart1 g at c.sections.self c.match-stage.self c.match-stage.m c.match-stage.polled did u other ∙ c.sections.invariant.on.apart u other
 
 pub returns-in-sections-clause-moves : goal.returns-in-sections-clause-moves
 returns-in-sections-clause-moves g c =
@@ -341,33 +286,18 @@ returns-in-sections-clause-framed g c =
     let did = did g c in
     let polled = did.polled in
     let lawful = rw (opens g c) at (law.lawful m1 cpu (did.framed.stays.acts cpu (law.own_cpu c.args.self.now.lower m c.requires.fits.0))) in
-    record {
-      fits = (
-        rw c.complete.ensures.lower did.framed.fits,
-        rw (c.complete.ensures.lower, c.complete.ensures.call_states, c.complete.ensures.calling, (opens g c), did.cpu)
-            (record {
-              boots = c.requires.fits.1.boots;
-              sizes = sizes_of (last g c) (states g c) (states1 g c) did.states_are before.on.sizes;
-              calls = finish (last g c) (home g (at g c)) before.on.may.called (states g c) (states1 g c) refl (same g c) before.on.others
-                  (answer g c) (replies g c);
-            }),
-      );
-      cpu = ap C.cpu_of c.complete.ensures.lower ∙ did.cpu;
-      stays = record {
-        opening = opens g c;
-        site = did.framed.stays.site;
-        room = did.framed.stays.room;
-        acts = λ d both. (did.framed.stays.acts d both.0, rw (opens g c) both.1);
-      };
-      others = λ q other fits. (
-        did.framed.others q.lower (rw before.cpu other) fits.0,
-        rw (opens g c)
-            (other_part (C.opening m) cpu (C.cpu_of q.lower) other polled.mine polled.others (C.seen m) (C.seen m1) polled.own_events
-            (polled.foreign (C.cpu_of q.lower) (law.own_cpu q.lower m fits.0)) polled.is lawful (C.own q.lower) q.call_states.call_states
-            (C.under_way q.lower) q.calling fits.1),
-      );
-      holders = λ d other both held. did.framed.holders d (rw before.cpu other) both.0 held;
-    }
+    framed_over _ did.framed before.cpu c.complete.ensures.lower
+    (rw (c.complete.ensures.lower, c.complete.ensures.call_states, c.complete.ensures.calling, (opens g c), did.cpu)
+    (record {
+      boots = c.requires.fits.1.boots;
+      sizes = sizes_of (last g c) (states g c) (states1 g c) did.states_are before.on.sizes;
+      calls = finish (last g c) (home g (at g c)) before.on.may.called (states g c) (states1 g c) refl (same g c) before.on.others
+          (answer g c) (replies g c);
+    }))
+    (λ q other fits part. rw (opens g c)
+    (other_part (C.opening m) cpu (C.cpu_of q.lower) other polled.mine polled.others (C.seen m) (C.seen m1) polled.own_events
+    (polled.foreign (C.cpu_of q.lower) (law.own_cpu q.lower m fits)) polled.is lawful (C.own q.lower) q.call_states.call_states
+    (C.under_way q.lower) q.calling part))
 
 pub returns-in-sections-clause-called : goal.returns-in-sections-clause-called
 returns-in-sections-clause-called g c there =

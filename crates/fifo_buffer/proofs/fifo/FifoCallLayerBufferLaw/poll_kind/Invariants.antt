@@ -1,15 +1,16 @@
-use Rattle.std.proofs.Common.{◌≡◌, List, if◌then◌else◌}
-use Rattle.{event_log.specs.Actions.Action, layer_traits.specs.BufferLaw.{Buffering, buffering, call_state_of, fifo_plan, going, plan_of}}
-use Rattle.layer_traits.specs.{BufferProtocol.buffer_rules, Conditions.CvCall, declared.{buffer_edits.BufferEdit.BufferEdit, calls.Reply.Reply}}
-use Rattle.layer_traits.specs.{declared.queue_edits.QueueEdit.QueueEdit, Plans.{Follows, Left, table_of}, QLocking.{lock_moves, lock_rules}}
-use Rattle.{layer_traits.specs.{QueueBlocks.{homes_in, inner}, QueueRules.queue_rules, Queues.buffer_sections}, fifo_buffer.proofs.Goings.{AfterFirst, AtFirst}}
-use Rattle.fifo_buffer.proofs.Goings.{IsGoing}
+use Rattle.std.proofs.Common.{◌≡◌, List, IsSome, if◌then◌else◌}
+use Rattle.{event_log.specs.{declared.ids.LockId.TheVariants.Buffer, Actions.Action}, layer_traits.specs.BufferLaw.{buffer_of, Buffering, buffering}}
+use Rattle.layer_traits.specs.{BufferLaw.{call_state_of, fifo_plan, going, plan_of}, BufferProtocol.buffer_rules, Conditions.CvCall}
+use Rattle.layer_traits.specs.{declared.{buffer_edits.BufferEdit.BufferEdit, calls.Reply.Reply, queue_edits.QueueEdit.QueueEdit}, Plans.{Follows, Left}}
+use Rattle.layer_traits.specs.{Plans.table_of, QLocking.{lock_moves, lock_rules}, QueueBlocks.{homes_in, inner}, QueueRules.queue_rules, Queues.buffer_sections}
+use Rattle.fifo_buffer.proofs.Goings.{AfterFirst, AtFirst, IsGoing}
 use Rattle.fifo_buffer.proofs.fifo.FifoCallLayerBufferLaw.poll_kind.Given as goal
 
 -- a section after which the poll goes on does nothing to the machine, and what the next section follows of its own plan is the poll's plan
 abbrev pub invariant-sections : goal.invariant-sections
 invariant-sections g l = record {
   still : l.m ≡ l.initial.m;
+  there : IsSome (g.C.ThreadLayer.opening l.m (Buffer (buffer_of l.call)));
   fits : g.C.ThreadLayer.Fits l.self.lower l.m;
   cpu : g.C.ThreadLayer.cpu_of l.self.lower ≡ g.C.ThreadLayer.cpu_of l.initial.self.lower;
   on : IsGoing (homes_in (g.C.ThreadLayer.opening l.initial.m)) (inner (g.C.ThreadLayer.opening l.initial.m))

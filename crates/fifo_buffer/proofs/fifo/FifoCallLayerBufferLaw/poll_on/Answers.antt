@@ -1,5 +1,5 @@
 use mathlib.Core.Bool.{beq}
-use Rattle.std.proofs.Common.{◌≡◌, ◌≢◌, ◌∙◌, ◌+◌, ◌<◌, ◌≤◌, ℕ, Bool, true, false, not, ap, sym, subst, List, Option, None, is_some, arith}
+use Rattle.std.proofs.Common.{◌≡◌, ◌≢◌, ◌∙◌, ◌+◌, ◌<◌, ◌≤◌, ℕ, Bool, true, false, not, ap, sym, subst, List, Option, None, is_some, arith, rules}
 use Rattle.{event_log.specs.declared.ids.{CpuId.CpuId, Tid.Tid}, layer_traits.specs.{declared.calls.{Call.Call, Reply.Reply}, BufferLaw.BufferPlan}}
 use Rattle.layer_traits.{specs.{BufferLaw.{Buffering, fifo_plan}, LayerPolls.{IsQuietAt, LookedAt, PolledAt, PolledOnAt}}, proofs.PollRunLemmas.MayPoll}
 use Rattle.layer_traits.proofs.PollRunLemmas.{SoFar, kept, left, may_poll, nothing_yet, quiet_yet, one_look, one_more, quiet_after_look, quiet_after_poll}
@@ -37,57 +37,26 @@ module _ (g : Over) (c : Start g) (actions : ℕ) (p : Fifo g.row.C.Denot) (m : 
   has_room : actions < c.args.most → 0 < g.C.ThreadLayer.room m
   has_room few = room_left c.args.most actions (g.C.ThreadLayer.room c.args.m.now) (g.C.ThreadLayer.room m) few c.requires.room left_so_far.0
 
-pub poll_kind-reply-requires-clause-fits : goal.poll_kind-reply-requires-clause-fits
-poll_kind-reply-requires-clause-fits g c =
+pub poll_kind-reply-requires : goal.poll_kind-reply-requires
+poll_kind-reply-requires g c =
     let loop = c.loop-actions in
-    (may g (goal.at.poll_kind-reply-requires-clause-fits g c).Start loop.actions loop.self loop.m loop.invariant.so_far).fits
-
-pub poll_kind-reply-requires-clause-there : goal.poll_kind-reply-requires-clause-there
-poll_kind-reply-requires-clause-there g c =
-    let loop = c.loop-actions in
-    rw (left_so_far g (goal.at.poll_kind-reply-requires-clause-there g c).Start loop.actions loop.self loop.m loop.invariant.so_far).1 c.requires.there
-
-pub poll_kind-reply-requires-clause-room : goal.poll_kind-reply-requires-clause-room
-poll_kind-reply-requires-clause-room g c =
-    let loop = c.loop-actions in
-    has_room g (goal.at.poll_kind-reply-requires-clause-room g c).Start loop.actions loop.self loop.m loop.invariant.so_far loop.invariant.few
-
-pub poll_kind-reply-requires-clause-runs : goal.poll_kind-reply-requires-clause-runs
-poll_kind-reply-requires-clause-runs g c =
-    let loop = c.loop-actions in
-    (may g (goal.at.poll_kind-reply-requires-clause-runs g c).Start loop.actions loop.self loop.m loop.invariant.so_far).runs
-
-pub poll_kind-reply-requires-clause-hand : goal.poll_kind-reply-requires-clause-hand
-poll_kind-reply-requires-clause-hand g c =
-    let loop = c.loop-actions in
-    (may g (goal.at.poll_kind-reply-requires-clause-hand g c).Start loop.actions loop.self loop.m loop.invariant.so_far).hand
-
-pub poll_kind-reply-requires-clause-same : goal.poll_kind-reply-requires-clause-same
-poll_kind-reply-requires-clause-same g c =
-    let loop = c.loop-actions in
-    (may g (goal.at.poll_kind-reply-requires-clause-same g c).Start loop.actions loop.self loop.m loop.invariant.so_far).same
-
-pub poll_kind-reply-requires-clause-goes_on : goal.poll_kind-reply-requires-clause-goes_on
-poll_kind-reply-requires-clause-goes_on g c =
-    let loop = c.loop-actions in
-    (may g (goal.at.poll_kind-reply-requires-clause-goes_on g c).Start loop.actions loop.self loop.m loop.invariant.so_far).goes_on
+    let at = (goal.at.poll_kind-reply-requires g c).Start in
+    let may = may g at loop.actions loop.self loop.m loop.invariant.so_far in
+    record {
+      fits = may.fits;
+      there = rw (left_so_far g at loop.actions loop.self loop.m loop.invariant.so_far).1 c.requires.there;
+      room = has_room g at loop.actions loop.self loop.m loop.invariant.so_far loop.invariant.few;
+      runs = may.runs;
+      hand = may.hand;
+      same = may.same;
+      goes_on = may.goes_on;
+    }
 
 -- a poll
 module _ (g : Over) (c : After-poll_kind-reply g) where
   polled : PolledAt (tells g) plan c.args.t c.args.call.now c.loop-actions.self c.loop-actions.m c.poll_kind-reply.new.self c.poll_kind-reply.new.m
       c.poll_kind-reply.result
-  polled = record {
-    nothing = c.poll_kind-reply.ensures.nothing;
-    called = c.poll_kind-reply.ensures.called;
-    runs = c.poll_kind-reply.ensures.runs;
-    under_way = c.poll_kind-reply.ensures.under_way;
-    moves = c.poll_kind-reply.ensures.moves;
-    prompt = c.poll_kind-reply.ensures.prompt;
-    framed = c.poll_kind-reply.ensures.framed;
-    homes = c.poll_kind-reply.ensures.homes;
-    caps = c.poll_kind-reply.ensures.caps;
-    follows = c.poll_kind-reply.ensures.follows;
-  }
+  polled = search rules
 
   ran : PolledOnAt (tells g) plan c.args.t c.args.call.now c.args.self.now c.args.m.now (c.loop-actions.actions + 1) c.poll_kind-reply.new.self
       c.poll_kind-reply.new.m c.poll_kind-reply.result
@@ -153,20 +122,7 @@ loop-actions-preserved g c =
 module _ (g : Over) (c : Then-look g) (so_far : SoFar (tells g) plan c.args.t c.args.call.now c.args.self.now c.args.m.now
     (c.loop-actions.actions + 1) c.poll_kind-reply.new.self c.poll_kind-reply.new.m) where
   looked : LookedAt (tells g) plan c.poll_kind-reply.new.self c.poll_kind-reply.new.m c.look.new.self c.look.new.m
-  looked = record {
-    waits = c.look.ensures.waits c.if-look.true;
-    framed = c.look.ensures.framed;
-    threads = c.look.ensures.threads;
-    call_states = c.look.ensures.call_states;
-    own = c.look.ensures.own;
-    inside = c.look.ensures.inside;
-    under_way = c.look.ensures.under_way;
-    seen = c.look.ensures.seen;
-    moves = c.look.ensures.moves;
-    homes = c.look.ensures.homes;
-    caps = c.look.ensures.caps;
-    tries = λ stepwise. c.look.ensures.tries stepwise c.if-look.true;
-  }
+  looked = search rules
 
   ran_looking : PolledOnAt (tells g) plan c.args.t c.args.call.now c.args.self.now c.args.m.now (c.loop-actions.actions + 1 + 1) c.look.new.self c.look.new.m
       None
@@ -208,17 +164,4 @@ returns-then-look-2-clause-polled_on g c =
     one_look (tells g) plan c.args.t c.args.call.now c.args.self.now c.args.m.now (c.loop-actions.actions + 1 + 1) c.look.new.self c.look.new.m
     c.look-then-look.new.self c.look-then-look.new.m
     (so_far_looking g at.Then-look (so_far_polled g at.Else-is_some-had (polled g at.After-poll_kind-reply))) (omega arith)
-    (record {
-      waits = c.look-then-look.ensures.waits c.if-look-2.true;
-      framed = c.look-then-look.ensures.framed;
-      threads = c.look-then-look.ensures.threads;
-      call_states = c.look-then-look.ensures.call_states;
-      own = c.look-then-look.ensures.own;
-      inside = c.look-then-look.ensures.inside;
-      under_way = c.look-then-look.ensures.under_way;
-      seen = c.look-then-look.ensures.seen;
-      moves = c.look-then-look.ensures.moves;
-      homes = c.look-then-look.ensures.homes;
-      caps = c.look-then-look.ensures.caps;
-      tries = λ stepwise. c.look-then-look.ensures.tries stepwise c.if-look-2.true;
-    })
+    (search rules)

@@ -1,6 +1,6 @@
 use Rattle.std.proofs.Common.{◌≡◌, ℕ, Some, None, refl, ap}
-use Rattle.{event_log.specs.{declared.ids.LockId.LockId, Actions.Try, Sections.{cpu_of_section, sections_in}}, spinlock.proofs.StageLemmas.others_fit}
-use Rattle.spinlock.{proofs.StageLemmas.{others_rest, tried_fits, tried_again, unended, grown_by_none}, specs.declared.stages.TicketPhase.TicketPhase}
+use Rattle.{event_log.specs.{declared.ids.LockId.LockId, Actions.Try, Sections.{cpu_of_section, sections_in}}, spinlock.proofs.StageLemmas.acted_framed}
+use Rattle.spinlock.{proofs.StageLemmas.{tried_fits, tried_again, unended, grown_by_none}, specs.declared.stages.TicketPhase.TicketPhase}
 use Rattle.spinlock.specs.declared.stages.TicketPhase.TheVariants.{Holding, Waiting}
 use Rattle.spinlock.proofs.spin_lock.SpinLockLayerLockLawEdit.look.Goals as goal
 
@@ -12,26 +12,16 @@ same_edit stage is was = cc
 -- a section that waits tries again: it hits
 pub returns-in-Waiting-replace-clause-framed : goal.returns-in-Waiting-replace-clause-framed
 returns-in-Waiting-replace-clause-framed g c =
-    let rules = g.M.Edit.SplitEdit.rules in
     let cpu = c.args.self.now.cpu in
     let said = c.enter.ensures in
-    let acts = said.acts cpu c.requires.fits.0 in
-    let legal = g.met.M.FairLock.legal c.enter.new.self cpu acts in
-    let act = Try cpu c.in-Waiting.lock said.adds.0 in
+    let legal = g.met.M.FairLock.legal c.enter.new.self cpu (said.acts cpu c.requires.fits.0) in
     let was = rw c.in-Waiting.is at c.requires.fits.1 in
     let edit_is = same_edit c.replace.result c.in-Waiting-replace.is (rw c.in-Waiting.is at c.replace.ensures.value) in
-    record {
-      fits = (
-        acts,
-        tried_fits rules said.opening legal c.in-Waiting.lock c.in-Waiting.edit c.in-Waiting.ticket said.adds.0 said.adds.1 was.0.1 c.requires.fits.0 was.1
-            was.2 (Some c.in-Some.block) c.in-Some.ensures.hits (Holding c.in-Waiting.lock c.in-Waiting-replace.edit c.in-Some.block)
-            (ap (λ e. Holding c.in-Waiting.lock e c.in-Some.block) edit_is),
-      );
-      cpu = refl;
-      stays = record { opening = said.opening; site = said.site; room = said.room; acts = said.acts };
-      others = λ p other fits. (said.acts p.cpu fits.0, others_fit rules said.opening legal act refl said.adds.1 p.cpu p.stage other fits.0 fits.1);
-      holders = others_rest rules said.opening legal act refl said.adds.1;
-    }
+    acted_framed g.M.Edit.SplitEdit.rules g.M.FairLock.acts _ legal (record { opening = said.opening; site = said.site; room = said.room; acts = said.acts })
+    c.requires.fits.0 (Try cpu c.in-Waiting.lock said.adds.0) refl said.adds.1 refl
+    (tried_fits g.M.Edit.SplitEdit.rules said.opening legal c.in-Waiting.lock c.in-Waiting.edit c.in-Waiting.ticket said.adds.0 said.adds.1 was.0.1
+    c.requires.fits.0 was.1 was.2 (Some c.in-Some.block) c.in-Some.ensures.hits (Holding c.in-Waiting.lock c.in-Waiting-replace.edit c.in-Some.block)
+    (ap (λ e. Holding c.in-Waiting.lock e c.in-Some.block) edit_is))
 
 pub returns-in-Waiting-replace-clause-seen : goal.returns-in-Waiting-replace-clause-seen
 returns-in-Waiting-replace-clause-seen g c =
@@ -46,24 +36,14 @@ returns-in-Waiting-replace-clause-tries g c = λ step looked.
 -- or it misses
 pub returns-in_default-clause-framed : goal.returns-in_default-clause-framed
 returns-in_default-clause-framed g c =
-    let rules = g.M.Edit.SplitEdit.rules in
     let cpu = c.args.self.now.cpu in
     let said = c.enter.ensures in
-    let acts = said.acts cpu c.requires.fits.0 in
-    let legal = g.met.M.FairLock.legal c.enter.new.self cpu acts in
-    let act = Try cpu c.in-Waiting.lock said.adds.0 in
+    let legal = g.met.M.FairLock.legal c.enter.new.self cpu (said.acts cpu c.requires.fits.0) in
     let was = rw c.in-Waiting.is at c.requires.fits.1 in
-    record {
-      fits = (
-        acts,
-        tried_fits rules said.opening legal c.in-Waiting.lock c.in-Waiting.edit c.in-Waiting.ticket said.adds.0 said.adds.1 was.0.1 c.requires.fits.0 was.1
-            was.2 None c.in_default.ensures.hits c.args.self.now.stage c.in-Waiting.is,
-      );
-      cpu = refl;
-      stays = record { opening = said.opening; site = said.site; room = said.room; acts = said.acts };
-      others = λ p other fits. (said.acts p.cpu fits.0, others_fit rules said.opening legal act refl said.adds.1 p.cpu p.stage other fits.0 fits.1);
-      holders = others_rest rules said.opening legal act refl said.adds.1;
-    }
+    acted_framed g.M.Edit.SplitEdit.rules g.M.FairLock.acts _ legal (record { opening = said.opening; site = said.site; room = said.room; acts = said.acts })
+    c.requires.fits.0 (Try cpu c.in-Waiting.lock said.adds.0) refl said.adds.1 refl
+    (tried_fits g.M.Edit.SplitEdit.rules said.opening legal c.in-Waiting.lock c.in-Waiting.edit c.in-Waiting.ticket said.adds.0 said.adds.1 was.0.1
+    c.requires.fits.0 was.1 was.2 None c.in_default.ensures.hits c.args.self.now.stage c.in-Waiting.is)
 
 pub returns-in_default-clause-seen : goal.returns-in_default-clause-seen
 returns-in_default-clause-seen g c =

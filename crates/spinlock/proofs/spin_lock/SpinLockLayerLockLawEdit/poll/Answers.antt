@@ -1,28 +1,18 @@
 use Rattle.std.proofs.Common.{refl, ap, ◌∙◌}
-use Rattle.{event_log.specs.{Actions.{Take, Try, Give}, Sections.Section}, spinlock.proofs.StageLemmas.{others_fit, others_rest, joined_fits, joined_follows}}
+use Rattle.{event_log.specs.{Actions.{Take, Try, Give}, Sections.Section}, spinlock.proofs.StageLemmas.{acted_framed, joined_fits, joined_follows}}
 use Rattle.spinlock.proofs.StageLemmas.{tried_fits, tried_follows, left_fits, left_polled, left_follows, unended, unanswered}
 use Rattle.spinlock.proofs.spin_lock.SpinLockLayerLockLawEdit.poll.Goals as goal
 
 -- a section begins, which stays allowed: its CPU joins the line
 pub returns-in-Out-clause-framed : goal.returns-in-Out-clause-framed
 returns-in-Out-clause-framed g c =
-    let rules = g.M.Edit.SplitEdit.rules in
     let cpu = c.args.self.now.cpu in
     let said = c.join-ticket.ensures in
-    let acts = said.acts cpu c.requires.fits.0 in
-    let legal = g.met.M.FairLock.legal c.join-ticket.new.self cpu acts in
-    let act = Take cpu c.args.call.lock in
-    record {
-      fits = (
-        acts,
-        rw (c.of-edit.ensures ∙ c.whole.ensures) (joined_fits rules said.opening legal c.args.call.lock _ c.join-ticket.result said.adds said.ticket
-            c.requires.fits.0 (rw c.in-Out.is at c.requires.call) c.requires.there),
-      );
-      cpu = refl;
-      stays = record { opening = said.opening; site = said.site; room = said.room; acts = said.acts };
-      others = λ p other fits. (said.acts p.cpu fits.0, others_fit rules said.opening legal act refl said.adds p.cpu p.stage other fits.0 fits.1);
-      holders = others_rest rules said.opening legal act refl said.adds;
-    }
+    let legal = g.met.M.FairLock.legal c.join-ticket.new.self cpu (said.acts cpu c.requires.fits.0) in
+    acted_framed g.M.Edit.SplitEdit.rules g.M.FairLock.acts _ legal (record { opening = said.opening; site = said.site; room = said.room; acts = said.acts })
+    c.requires.fits.0 (Take cpu c.args.call.lock) refl said.adds refl
+    (rw (c.of-edit.ensures ∙ c.whole.ensures) (joined_fits g.M.Edit.SplitEdit.rules said.opening legal c.args.call.lock _ c.join-ticket.result said.adds
+    said.ticket c.requires.fits.0 (rw c.in-Out.is at c.requires.call) c.requires.there))
 
 pub returns-in-Out-clause-seen : goal.returns-in-Out-clause-seen
 returns-in-Out-clause-seen g c = unanswered g.M.Edit.SplitEdit.rules (g.M.FairLock.opening c.args.m.now) _
@@ -38,24 +28,14 @@ returns-in-Out-clause-follows g c = λ step.
 -- the CPU tries to enter: the section goes on
 pub returns-in-Waiting-clause-framed : goal.returns-in-Waiting-clause-framed
 returns-in-Waiting-clause-framed g c =
-    let rules = g.M.Edit.SplitEdit.rules in
     let cpu = c.args.self.now.cpu in
     let said = c.enters.ensures in
-    let acts = said.acts cpu c.requires.fits.0 in
-    let legal = g.met.M.FairLock.legal c.enters.new.m cpu acts in
-    let act = Try cpu c.in-Waiting.lock said.adds.0 in
+    let legal = g.met.M.FairLock.legal c.enters.new.m cpu (said.acts cpu c.requires.fits.0) in
     let fits = rw c.in-Waiting.is at c.requires.fits.1 in
-    record {
-      fits = (
-        acts,
-        tried_fits rules said.opening legal c.in-Waiting.lock c.in-Waiting.edit c.in-Waiting.ticket said.adds.0 said.adds.1 fits.0.1 c.requires.fits.0 fits.1
-            fits.2 said.hits.0 said.hits.2 c.enters.new.stage (rw c.in-Waiting.is at said.hits.1),
-      );
-      cpu = refl;
-      stays = record { opening = said.opening; site = said.site; room = said.room; acts = said.acts };
-      others = λ p other fits. (said.acts p.cpu fits.0, others_fit rules said.opening legal act refl said.adds.1 p.cpu p.stage other fits.0 fits.1);
-      holders = others_rest rules said.opening legal act refl said.adds.1;
-    }
+    acted_framed g.M.Edit.SplitEdit.rules g.M.FairLock.acts _ legal (record { opening = said.opening; site = said.site; room = said.room; acts = said.acts })
+    c.requires.fits.0 (Try cpu c.in-Waiting.lock said.adds.0) refl said.adds.1 refl
+    (tried_fits g.M.Edit.SplitEdit.rules said.opening legal c.in-Waiting.lock c.in-Waiting.edit c.in-Waiting.ticket said.adds.0 said.adds.1 fits.0.1
+    c.requires.fits.0 fits.1 fits.2 said.hits.0 said.hits.2 c.enters.new.stage (rw c.in-Waiting.is at said.hits.1))
 
 pub returns-in-Waiting-clause-seen : goal.returns-in-Waiting-clause-seen
 returns-in-Waiting-clause-seen g c = unanswered g.M.Edit.SplitEdit.rules (g.M.FairLock.opening c.args.m.now) _
@@ -83,20 +63,13 @@ returns-in-Holding-replace-clause-seen g c =
 
 pub returns-in-Holding-replace-clause-framed : goal.returns-in-Holding-replace-clause-framed
 returns-in-Holding-replace-clause-framed g c =
-    let rules = g.M.Edit.SplitEdit.rules in
     let cpu = c.args.self.now.cpu in
     let said = c.leave.ensures in
-    let acts = said.acts cpu c.requires.fits.0 in
-    let legal = g.met.M.FairLock.legal c.leave.new.self cpu acts in
+    let legal = g.met.M.FairLock.legal c.leave.new.self cpu (said.acts cpu c.requires.fits.0) in
     let mark = g.M.FairLock.edit_in c.mark-mark.result in
-    let act = Give cpu c.in-Holding-replace.lock mark in
-    record {
-      fits = (acts, rw c.replace.ensures.after (left_fits rules said.opening legal c.in-Holding-replace.lock mark said.adds));
-      cpu = refl;
-      stays = record { opening = said.opening; site = said.site; room = said.room; acts = said.acts };
-      others = λ p other fits. (said.acts p.cpu fits.0, others_fit rules said.opening legal act refl said.adds p.cpu p.stage other fits.0 fits.1);
-      holders = others_rest rules said.opening legal act refl said.adds;
-    }
+    acted_framed g.M.Edit.SplitEdit.rules g.M.FairLock.acts _ legal (record { opening = said.opening; site = said.site; room = said.room; acts = said.acts })
+    c.requires.fits.0 (Give cpu c.in-Holding-replace.lock mark) refl said.adds refl
+    (rw c.replace.ensures.after (left_fits g.M.Edit.SplitEdit.rules said.opening legal c.in-Holding-replace.lock mark said.adds))
 
 pub returns-in-Holding-replace-clause-follows : goal.returns-in-Holding-replace-clause-follows
 returns-in-Holding-replace-clause-follows g c = λ step.
