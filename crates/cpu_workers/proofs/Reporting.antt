@@ -3,7 +3,7 @@ use Rattle.std.proofs.Common.{◌≡◌, ℕ, ◌+◌, ◌<◌, true, false, Lis
 use Rattle.cpu_workers.proofs.{TableOrder.{goes_on, ordered, rest, Goes}, Turning.{took_of, within_others}, ClosedLog.{acts_legal, buffers_left, queues_left}}
 use Rattle.cpu_workers.{proofs.{Lasting.all_ended, OneOrder.HasOrder}, specs.declared.workers.{gates.Go.{Go, TheVariants.Limit}, stops.Stop.Stop}}
 use Rattle.cpu_workers.specs.Lawful.{AreLeft, HasGone, IsLawfulReport, IsCpuReportOf, IsReport, CpuReport, Shown, ReportsTrue, left_in, held_at}
-use Rattle.cpu_workers.specs.{Logs.IsReportOfWords, Orders.{FollowsProgram, effects_of}, Working.{Charge, log}, Closing.{HasSeen, HaveCome, IsReported, Key}}
+use Rattle.cpu_workers.specs.{Logs.IsReportOfWords, Orders.{FollowsProgram, effects_of}, Working.Charge, Closing.{HasSeen, HaveCome, IsReported, Key}}
 use Rattle.cpu_workers.specs.{Closing.{LockBlock, ReportsAreLawful, StartsSo, acts_in, tower_rules}, Reports.{IsTrueStop, TookWithin, WentBy, Within}}
 use Rattle.{cpu_workers.specs.Seating.{HasLeft, IsApart}, event_log.specs.declared.{entries.Entry.Entry, ids.{CpuId.CpuId, LockId.LockId}}}
 use Rattle.event_log.specs.{declared.ids.LockId.TheVariants.{Pending, Buffer as AtBuffer}, Actions.{Action, cpu_of_action, phase, renamed}, History.AreOthers}
@@ -11,7 +11,7 @@ use Rattle.event_log.proofs.{Foreign.{own_none, phase_others}, Streams.taken_put
 use Rattle.layer_traits.{specs.{declared.queue_edits.QueueBlock.QueueBlock, Plans.is_in_section}, proofs.PlanRenaming.map-append}
 use Rattle.{table_machine.specs.SeatViews.{TableView, Closes}, cpu.specs.{Claims.{buffer_at, listed}, Cpus.of_thread, Table.{Blocks.Name, Setups.Setup}}}
 use Rattle.cpu.specs.{Table.{Setups.{Private, at_boot, thread_at}, Steps.{cpu_step, halted_at}}, Tower.{Composed.named, Views.{TowerName, name_of}}}
-use Rattle.cpu.{specs.{Wakeups.Lost.IsWorked, Sound.setup_for, Tables.private}, proofs.{TableQuiet.ended_at, Wakeups.CpusByTable.cpus_lose_no_wake_up}}
+use Rattle.cpu.{specs.{Wakeups.Lost.IsWorked, Sound.setup_for}, proofs.{TableQuiet.ended_at, Wakeups.CpusByTable.cpus_lose_no_wake_up}}
 use Rattle.boot.specs.Plan.{BootPlan}
 use Rattle.layer_traits.specs.declared.steps.Reason.TheVariants as reason
 

@@ -1,6 +1,5 @@
 use Rattle.std.proofs.Common.{subst, sym, ◌∙◌}
-use Rattle.{layer_traits.specs.Places.Threads, cpu_workers.specs.Calls.MayPoll}
-use Rattle.cpu_workers.proofs.Going.{keeps_on}
+use Rattle.{layer_traits.specs.Places.Threads, cpu_workers.{specs.Calls.MayPoll, proofs.Going.keeps_on}}
 use Rattle.cpu_workers.proofs.workers.calling.poll_once.Goals as goal
 
 -- a look leaves what is under way, and the call

@@ -1,5 +1,4 @@
-use Rattle.std.proofs.Common.{vec_capacity}
-use Rattle.cpu_workers.{specs.Tasks.task_of, proofs.Joining.Made}
+use Rattle.{std.proofs.Common.vec_capacity, cpu_workers.{specs.Tasks.task_of, proofs.Joining.Made}}
 use Rattle.cpu_workers.proofs.pool.fn.run_in.scope.Given as goal
 
 abbrev pub invariant-loop-task : goal.invariant-loop-task
