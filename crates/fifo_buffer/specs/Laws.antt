@@ -2,5 +2,6 @@
 pub mod BlockSteps
 pub mod BlockTallies
 pub mod Tallies
+pub mod WaitLists
 pub mod FifoLaws
 pub mod OwnedLaws
