@@ -9,5 +9,4 @@ pub mod PlainOpenings
 pub mod QueueSectionLemmas
 pub mod TextLemmas
 pub mod StreamLemmas
-mod Rows
-mod CallStates
+mod CallScriptLemmas

@@ -9,4 +9,5 @@ pub mod Naps
 pub mod QueueSections
 pub mod LockSections
 pub mod CondSections
+pub mod CallScripts
 pub mod Laws

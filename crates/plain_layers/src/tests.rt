@@ -7,6 +7,7 @@ mod backoff;
 mod backoff_systems;
 mod beneath;
 mod buffers;
+mod call_scripts;
 mod calls;
 mod cond_sections;
 mod conds;

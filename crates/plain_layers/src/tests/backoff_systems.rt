@@ -2,7 +2,7 @@
 //! buffers, though no poll of the lock is one action or one call.
 
 use crate::tests::backoff::Backoff;
-use crate::tests::calls::{CallRow, Row, sections_go};
+use crate::tests::calls::{Task, sections_go};
 use event_log::NoMemory;
 use ipc_calls::{TowerEdit, TowerLaws};
 use plain_machine::Plain;
@@ -78,7 +78,7 @@ quiet true, closed false, busy None
 /// Runs the rows over the tower on locks with backoff.
 fn backoff_goes(rt: &impl Abort, alloc: Global) -> Result<(), NoMemory> {
     let _laws: TowerLaws = PhantomData;
-    sections_go::<Backoff<Ticket<Plain<TowerEdit>>>>(rt, alloc, Row::OfCalls(CallRow::Systems))
+    sections_go::<Backoff<Ticket<Plain<TowerEdit>>>>(rt, alloc, Task::Systems)
 }
 
 #[test]

@@ -1,11 +1,10 @@
 use Rattle.std.proofs.Common.{◌≡◌, Option, None, Some, refl, sym, subst, arith}
 use Rattle.layer_traits.{specs.{BufferLaw.{Calling, MayGoOn, UnderWay, call_state_of}, IpcLaw.ipc_plan, LayerPolls.PolledOnAt}, proofs.PollRunLemmas.IsOn}
-use Rattle.{layer_traits.proofs.PollRunLemmas.{is_on, kept, may_go_on}, plain_layers.proofs.{CallStates.may_begin, tests.calls.sends_by_runs.Given.Over}}
-use Rattle.plain_layers.proofs.tests.calls.sends_by_runs.Goals.{After-eq-runs}
+use Rattle.{layer_traits.proofs.PollRunLemmas.{is_on, kept, may_go_on}, plain_layers.proofs.tests.calls.sends_by_runs.{Given.Over, Goals.After-eq-runs}}
 use Rattle.plain_layers.proofs.tests.calls.sends_by_runs.Goals as goal
 
 pub poll_on-first-requires-clause-same : goal.poll_on-first-requires-clause-same
-poll_on-first-requires-clause-same g c = may_begin (g.I.CallLayer.call_states c.args.part.now) c.args.t c.args.send.now c.requires.call_states
+poll_on-first-requires-clause-same g c = c.requires.may_call c.args.send.now
 
 -- the call is under way when the second run begins
 on_then : (g : Over) (c : After-eq-runs g) → c.poll_on-first.result.reply ≡ None → (g.I.CallLayer.threads c.poll_on-first.new.self).current ≡ Some c.args.t

@@ -1,7 +1,0 @@
-use Rattle.plain_layers.proofs.tests.buffers.receiver_learns.Goals as goal
-
-pub waits-requires-clause-same : goal.waits-requires-clause-same
-waits-requires-clause-same g c = rw c.switch.ensures.call_states (c.requires.home_free _)
-
-pub goes_on-shut-requires-clause-away_same : goal.goes_on-shut-requires-clause-away_same
-goes_on-shut-requires-clause-away_same g c = rw c.switch-else-not-switch.ensures.call_states (c.requires.away_free _)
