@@ -16,6 +16,7 @@ mod locks;
 mod natives;
 mod openings;
 mod queues;
+mod rows;
 mod scheds;
 mod sleeps;
 mod systems;
