@@ -7,7 +7,7 @@ pub mod Fifos
 pub mod FifoOwned
 pub mod FifoTallies
 pub mod Naps
-pub mod QueueSections
+pub mod TwoCpus
 pub mod LockSections
 pub mod CondSections
 pub mod Laws

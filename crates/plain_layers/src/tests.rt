@@ -15,7 +15,6 @@ mod lock_sections;
 mod locks;
 mod natives;
 mod openings;
-mod queues;
 mod rows;
 mod scheds;
 mod sleeps;

@@ -1,7 +1,7 @@
 //! Scripts: tables of rows, each of which polls a call on one of two CPUs and says what is then seen.
 
 ghost use Rattle.std.specs.Prelude.{◌≡◌, ◌≢◌, ℕ, ◌+◌, ◌<◌, ◌≤◌, None, Some, true};
-ghost use Rattle.{event_log.specs.declared.ids.CpuId.CpuId, layer_traits.specs.Passes.MayPass, plain_layers.specs.QueueSections.{cpu_one, cpu_zero}};
+ghost use Rattle.{event_log.specs.declared.ids.CpuId.CpuId, layer_traits.specs.Passes.MayPass, plain_layers.specs.TwoCpus.{cpu_one, cpu_zero}};
 ghost use Rattle.plain_layers.specs.declared.tests.rows.TheConstants.{ROOM};
 
 use event_log::{CpuId, Tid};

@@ -3,7 +3,7 @@
 ghost use Rattle.std.specs.Prelude.{◌≡◌, ◌<◌, [], ◌∷◌, IsSome, IfOk, MatchOption, None, Some};
 ghost use Rattle.event_log.specs.declared.ids.{CpuId.CpuId, LockId.TheVariants.Pending, TheConstants.CPUS};
 ghost use Rattle.layer_traits.specs.{QueueBlocks.{homes_in, inner}, Scheds.BufferIsThere};
-ghost use Rattle.plain_layers.specs.{Naps.waiters_of, QueueSections.{cpu_one, cpu_zero}, declared.tests.rows.TheConstants.ROOM};
+ghost use Rattle.plain_layers.specs.{Naps.waiters_of, TwoCpus.{cpu_one, cpu_zero}, declared.tests.rows.TheConstants.ROOM};
 
 use crate::tests::openings::{Opens, SchedLaws};
 use crate::tests::rows::{

@@ -4,7 +4,7 @@ ghost use Rattle.std.specs.Prelude.{◌≡◌, ◌<◌, [], ◌∷◌, Some, IsS
 ghost use Rattle.event_log.specs.declared.ids.{CpuId.CpuId, LockId.TheVariants.{Buffer, Pending}, TheConstants.CPUS};
 ghost use Rattle.layer_traits.specs.{declared.scheds.SchedCall.TheVariants.{OnBuffer, Pass as ThePass}, QueueBlocks.{homes_in, inner}, Passes.MayPass};
 ghost use Rattle.layer_traits.specs.{Renaming.viewed, SleepLaw.{MayCall, MaySleep, sleep_kernel}, Sleeping.NobodySleeps};
-ghost use Rattle.{plain_layers.specs.{QueueSections.{buffer_zero, cpu_one, cpu_zero}, declared.tests.rows.TheConstants.ROOM}, sleep_wakeup.specs.Nested.state_of};
+ghost use Rattle.{plain_layers.specs.{TwoCpus.{buffer_zero, cpu_one, cpu_zero}, declared.tests.rows.TheConstants.ROOM}, sleep_wakeup.specs.Nested.state_of};
 
 use crate::PlainSched;
 use crate::tests::openings::{Opens, SchedLaws};

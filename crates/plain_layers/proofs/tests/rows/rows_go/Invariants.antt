@@ -1,5 +1,5 @@
 use Rattle.std.proofs.Common.{◌≡◌, ◌+◌, ◌≤◌}
-use Rattle.plain_layers.specs.QueueSections.{cpu_one, cpu_zero}
+use Rattle.plain_layers.specs.TwoCpus.{cpu_one, cpu_zero}
 use Rattle.plain_layers.proofs.tests.rows.rows_go.Given as goal
 
 -- so many turns took at most so much room
