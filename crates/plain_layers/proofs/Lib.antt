@@ -6,7 +6,6 @@ pub mod LockSectionLemmas
 pub mod CondSectionLemmas
 pub mod OpeningLemmas
 pub mod PlainOpenings
-pub mod QueueSectionLemmas
 pub mod TextLemmas
 pub mod StreamLemmas
 mod CallScriptLemmas

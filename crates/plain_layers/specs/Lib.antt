@@ -6,7 +6,7 @@ pub mod Wholes
 pub mod Fifos
 pub mod FifoOwned
 pub mod Naps
-pub mod QueueSections
+pub mod TwoCpus
 pub mod LockSections
 pub mod CondSections
 pub mod CallScripts

@@ -16,7 +16,7 @@ mod lock_sections;
 mod locks;
 mod natives;
 mod openings;
-mod queues;
+mod rows;
 mod scheds;
 mod sleeps;
 mod systems;

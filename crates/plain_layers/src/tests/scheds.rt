@@ -1,16 +1,25 @@
 //! Schedulers, run over ticket locks and over each one-step machine in its layer's place.
 
-ghost use Rattle.std.specs.Prelude.{◌≡◌, ◌≢◌, ◌+◌, ◌<◌, ◌≤◌, [], IsSome, IfOk, MatchOption, None, Some, is_some, true, length};
-ghost use Rattle.event_log.specs.declared.ids.{CpuId.CpuId, LockId.TheVariants.{Buffer, Pending}, TheConstants.{CPUS, THREADS}};
-ghost use Rattle.layer_traits.specs.{declared.scheds.SchedCall.TheVariants.Pass as ThePass, Passes.MayPass, QueueBlocks.{StartsWell, homes_in, inner}};
-ghost use Rattle.{plain_layers.specs.{Naps.waiters_of, QueueSections.cpu_zero}, shared_queue.specs.Opening.AreQueues};
+ghost use Rattle.std.specs.Prelude.{◌≡◌, ◌<◌, [], ◌∷◌, IsSome, IfOk, MatchOption, None, Some};
+ghost use Rattle.event_log.specs.declared.ids.{CpuId.CpuId, LockId.TheVariants.Pending, TheConstants.CPUS};
+ghost use Rattle.layer_traits.specs.{QueueBlocks.{homes_in, inner}, Scheds.BufferIsThere};
+ghost use Rattle.plain_layers.specs.{Naps.waiters_of, TwoCpus.{cpu_one, cpu_zero}, declared.tests.rows.TheConstants.ROOM};
 
 use crate::tests::openings::{Opens, SchedLaws};
+use crate::tests::rows::{
+    Act, HOMES, Polls, ROOM, Row, Seat, Side, T0, T1, T2, Told, may_edit, may_pass, rows_go,
+};
 use crate::{PlainLock, PlainQueues, PlainSched};
+use Act::{Continues, Looks, Rests};
+use Polls::{One, Section};
+use Sees::{
+    Answers, Busy, Ended, GoesOn, HasQueue, Holds, NobodyReady, Pends, Ready, Runs, Sleeps,
+};
+use Side::{Away, Home};
 use event_log::{BufId, CPUS, CpuId, LockId, NoMemory, Tid};
 use layer_traits::{
-    BareQueueAnswer, Layer, Moves, OwnedLayer, OwnedLocks, Pass, Payload, QueueAnswer, QueueBlock,
-    QueueEdit, SchedCall, SchedLaw, SplitEdit, WaitList,
+    BareQueueAnswer, Law, Layer, Moves, OwnedLayer, OwnedLocks, Pass, Payload, QueueAnswer,
+    QueueBlock, QueueEdit, SchedAnswer, SchedCall, SchedLaw, SplitEdit, WaitList,
 };
 use plain_machine::{GrantLockWords, GrantPlain, Plain};
 use scheduler::Sched;
@@ -18,7 +27,6 @@ use shared_queue::SharedQueues;
 use spinlock::{Grant, Ticket};
 use std::alloc::Global;
 use std::marker::PhantomData;
-use std::process::Abort;
 use std::test::Fail;
 
 /// A nap at buffer 0: its caller sleeps in the one place there, or wakes who sleeps in it.
@@ -100,469 +108,403 @@ pub(crate) type NapLaws = PhantomData<
     ),
 >;
 
-/// A machine with one buffer, in which nobody sleeps, and with room for 40 events.
-fn machine<S: Opens<Nap>>(alloc: Global, cpus: u8, homes: &[CpuId]) -> Result<S::Machine, NoMemory>
-    requires { AreQueues cpus homes.now 1 }
+/// A row of a script of schedulers.
+type Step = Row<Act<SchedCall<Nap>>, Sees>;
+
+/// What is seen behind the last poll of a row. All but `GoesOn` are seen where a call has answered in it.
+#[derive(Clone, Copy)]
+enum Sees {
+    /// The call has not answered.
+    GoesOn,
+    /// A nap answered this: whether its caller fell asleep, and whom it woke.
+    Answers(bool, Option<Tid>),
+    /// Who runs.
+    Runs(Option<Tid>),
+    /// Who stands in hand.
+    Holds(Option<Tid>),
+    /// A thread is ready.
+    Ready(Tid),
+    /// Nobody is ready.
+    NobodyReady,
+    /// A thread has ended.
+    Ended(Tid),
+    /// Whether a call has begun.
+    Busy(bool),
+    /// The machine tells who sleeps at buffer 0, and the part does not have its block.
+    Sleeps(Option<Tid>),
+    /// The machine tells whether a thread waits in CPU 0's queue, and the part does not have the queue.
+    Pends(Tid, bool),
+    /// Whether the part has CPU 0's queue, in which thread 0 does not wait.
+    HasQueue(bool),
+}
+
+const SWITCH: Act<SchedCall<Nap>> = Act::Begins(SchedCall::Pass(Pass::Switch));
+
+const YIELD: Act<SchedCall<Nap>> = Act::Begins(SchedCall::Pass(Pass::YieldNow));
+
+const DRAIN: Act<SchedCall<Nap>> = Act::Begins(SchedCall::Pass(Pass::Drain));
+
+const END: Act<SchedCall<Nap>> = Act::Begins(SchedCall::Pass(Pass::End));
+
+/// Thread 0 is pushed to its home.
+const PUSH: Act<SchedCall<Nap>> = Act::Begins(SchedCall::Pass(Pass::MakeReady(T0)));
+
+/// Thread 0 goes to sleep.
+const SLEEP: Act<SchedCall<Nap>> = Act::Begins(SchedCall::OnBuffer(
+    BufId(0),
+    Nap {
+        by: T0,
+        wakes: false,
+    },
+));
+
+/// Thread 1 wakes who sleeps.
+const WAKE: Act<SchedCall<Nap>> = Act::Begins(SchedCall::OnBuffer(
+    BufId(0),
+    Nap {
+        by: T1,
+        wakes: true,
+    },
+));
+
+/// Two threads at home on one CPU take turns.
+const TURNS: [Step; 7] = [
+    Row(Home, SWITCH, One, Runs(Some(T0))),
+    Row(Home, YIELD, Section, Runs(None)),
+    Row(Home, Rests, One, Ready(T2)),
+    Row(Home, Rests, One, Ready(T0)),
+    Row(Home, SWITCH, One, Runs(Some(T2))),
+    Row(Home, END, One, Ended(T2)),
+    Row(Home, Rests, One, Busy(false)),
+];
+
+/// Thread 0 goes to sleep on CPU 0, where thread 2 then ends, and is woken by CPU 1, which pushes it to its
+/// home. CPU 0 takes it out of the queue, alone, and runs it again.
+const GOES_HOME: [Step; 18] = [
+    Row(Home, SWITCH, One, Runs(Some(T0))),
+    Row(Home, SLEEP, Section, Answers(true, None)),
+    Row(Home, Rests, One, Runs(None)),
+    Row(Home, Rests, One, Sleeps(Some(T0))),
+    Row(Home, Rests, One, Pends(T0, false)),
+    Row(Away, SWITCH, One, Runs(Some(T1))),
+    Row(Away, WAKE, Section, Answers(false, Some(T0))),
+    Row(Away, Rests, One, Holds(Some(T0))),
+    Row(Away, PUSH, Section, Holds(None)),
+    Row(Home, Rests, One, Sleeps(None)),
+    Row(Home, Rests, One, Pends(T0, true)),
+    Row(Home, SWITCH, One, Runs(Some(T2))),
+    Row(Home, END, One, Ended(T2)),
+    Row(Home, Rests, One, NobodyReady),
+    Row(Home, DRAIN, Section, Ready(T0)),
+    Row(Home, SWITCH, One, Runs(Some(T0))),
+    Row(Home, Rests, One, NobodyReady),
+    Row(Home, Rests, One, Busy(false)),
+];
+
+/// CPU 1 pushes thread 0, which it has in hand, into the queue of CPU 0, while CPU 0 takes that queue. The
+/// push came first, so the queue that is taken holds the thread.
+const MEET: [Step; 15] = [
+    Row(Home, SWITCH, One, Runs(Some(T0))),
+    Row(Home, SLEEP, Section, Runs(None)),
+    Row(Home, SWITCH, One, Runs(Some(T2))),
+    Row(Home, END, One, Busy(false)),
+    Row(Away, SWITCH, One, Runs(Some(T1))),
+    Row(Away, WAKE, Section, Holds(Some(T0))),
+    Row(Away, Rests, One, Busy(false)),
+    Row(Away, PUSH, One, GoesOn),
+    Row(Home, DRAIN, One, GoesOn),
+    Row(Home, Continues, One, GoesOn),
+    Row(Away, Continues, One, GoesOn),
+    Row(Away, Continues, One, Holds(None)),
+    Row(Home, Continues, One, GoesOn),
+    Row(Home, Continues, One, Ready(T0)),
+    Row(Home, Rests, One, Busy(false)),
+];
+
+/// The threads of CPU 0 end, and it takes its queue. A look takes the place of the second poll, after which
+/// the queue is in its hands.
+const LOOKS: [Step; 11] = [
+    Row(Home, SWITCH, One, Runs(Some(T0))),
+    Row(Home, END, One, Ended(T0)),
+    Row(Home, SWITCH, One, Runs(Some(T2))),
+    Row(Home, END, One, Ended(T2)),
+    Row(Home, Rests, One, Busy(false)),
+    Row(Home, DRAIN, One, GoesOn),
+    Row(Home, Rests, One, Busy(true)),
+    Row(Home, Rests, One, HasQueue(false)),
+    Row(Home, Looks(true), One, HasQueue(true)),
+    Row(Home, Continues, One, Busy(false)),
+    Row(Home, Looks(false), One, Busy(false)),
+];
+
+/// The threads of CPU 0 end, and it takes its empty queue twice.
+const DRAINS: [Step; 6] = [
+    Row(Home, SWITCH, One, Runs(Some(T0))),
+    Row(Home, END, One, Ended(T0)),
+    Row(Home, SWITCH, One, Runs(Some(T2))),
+    Row(Home, END, One, Ended(T2)),
+    Row(Home, DRAIN, Section, NobodyReady),
+    Row(Home, DRAIN, Section, NobodyReady),
+];
+
+/// What goes alike over each machine.
+const ALIKE: [&[Step]; 2] = [&TURNS, &GOES_HOME];
+
+/// What goes so where a section takes three polls. Where it takes one, a push and the taking of one queue
+/// are each over at once, and cannot meet.
+const IN_POLLS: [&[Step]; 4] = [&TURNS, &GOES_HOME, &MEET, &LOOKS];
+
+/// The call that an act polls: one that has begun goes on, and else one begins where it may come.
+fn next_call<S: Layer<SchedLaw<Nap>>>(
+    part: &S,
+    m: &S::Machine,
+    begun: Option<SchedCall<Nap>>,
+    act: Act<SchedCall<Nap>>,
+) -> Option<SchedCall<Nap>>
+    requires begun { S.under_way part.now ≡ begun }
+    requires free { inner (S.opening m.now) waiters_of ≡ Some None }
+    ensures there { MatchOption result (Unit {0}) (λ call. BufferIsThere (S.opening m.now) call) }
+    ensures may { MatchOption result (Unit {0}) (λ call. (payload : _) → ⟦<SchedLaw<Nap> as Law>⟧.MayPoll (S.opening m.now) (S.cpu_of part.now)
+        (S.seen m.now) (S.own part.now) (S.under_way part.now) call payload) }
+{
+    let _ = m;
+    match (begun, act) {
+        (Some(SchedCall::Pass(pass)), Act::Continues) => Some(SchedCall::Pass(pass)),
+        (Some(SchedCall::OnBuffer(BufId(0), nap)), Act::Continues) => {
+            Some(SchedCall::OnBuffer(BufId(0), nap))
+        }
+        (None, Act::Begins(SchedCall::Pass(pass))) if may_pass(part.own_here(), pass) => {
+            Some(SchedCall::Pass(pass))
+        }
+        (None, Act::Begins(SchedCall::OnBuffer(BufId(0), nap)))
+            if may_edit(part.own_here(), nap.by) => { Some(SchedCall::OnBuffer(BufId(0), nap)) }
+        _ => None,
+    }
+}
+
+/// Whether this is seen.
+fn is_seen<S: OwnedLayer<SchedLaw<Nap>>>(part: &S, m: &S::Machine, sees: Sees) -> bool
+    requires fits { S.Fits part.now m.now }
+    requires free { inner (S.opening m.now) waiters_of ≡ Some None }
+    requires queue { IsSome (S.opening m.now (Pending cpu_zero)) }
+{
+    let own = part.own_here();
+    match sees {
+        Sees::GoesOn | Sees::Answers(_, _) => false,
+        Sees::Runs(current) => own.current() == current,
+        Sees::Holds(hand) => own.hand() == hand,
+        Sees::Ready(t) => own.is_ready(t),
+        Sees::NobodyReady => !own.has_ready(),
+        Sees::Ended(t) => own.has_ended(t),
+        Sees::Busy(busy) => part.is_busy() == busy,
+        Sees::Sleeps(sleeper) => {
+            S::block_in(m, BufId(0)) == Some(&sleeper) && part.block_here(BufId(0)).is_none()
+        }
+        Sees::Pends(t, pends) => {
+            S::pends_in(m, CpuId(0), t) == Some(pends) && part.pends_here(CpuId(0), t).is_none()
+        }
+        Sees::HasQueue(has) => part.pends_here(CpuId(0), T0) == has.then_some(false),
+    }
+}
+
+/// A CPU's part, and the call that it has begun.
+#[derive(Drop)]
+struct SchedSeat<S> {
+    part: S,
+    begun: Option<SchedCall<Nap>>,
+}
+
+impl<S: OwnedLayer<SchedLaw<Nap>>> Seat for SchedSeat<S> {
+    type Machine = S::Machine;
+
+    type Act = Act<SchedCall<Nap>>;
+
+    type Told = Told<SchedAnswer<(bool, Option<Tid>)>>;
+
+    type Sees = Sees;
+
+    ghost Sits = { λ seat m. S.Fits seat.part m × (S.under_way seat.part ≡ seat.begun) × (inner (S.opening m) waiters_of ≡ Some None)
+        × IsSome (S.opening m (Pending cpu_zero)) };
+
+    ghost cpu_of = { λ seat. S.cpu_of seat.part };
+
+    ghost room = { S.room };
+
+    fn go_on() -> Act<SchedCall<Nap>> {
+        Act::Continues
+    }
+
+    fn act(
+        &mut self,
+        m: &mut S::Machine,
+        act: Act<SchedCall<Nap>>,
+    ) -> Told<SchedAnswer<(bool, Option<Tid>)>> {
+        match act {
+            Act::Rests => Told::Nothing,
+            Act::Looks(looks) => told_if(self.part.look(m) == looks),
+            _ => {
+                let Some(call) = next_call(&self.part, m, self.begun, act) else {
+                    return Told::Refused;
+                };
+                match self.part.poll(m, call, &mut Payload::new()) {
+                    None => {
+                        self.begun = Some(call);
+                        Told::GoesOn
+                    }
+                    Some(answer) => {
+                        self.begun = None;
+                        Told::Answered(answer)
+                    }
+                }
+            }
+        }
+    }
+
+    fn goes(
+        &self,
+        m: &S::Machine,
+        told: Told<SchedAnswer<(bool, Option<Tid>)>>,
+        sees: Sees,
+        is_last: bool,
+    ) -> bool {
+        match (told, sees) {
+            (Told::Refused, _) => false,
+            (Told::GoesOn, Sees::GoesOn) => true,
+            (Told::GoesOn, _) => !is_last,
+            (Told::Answered(SchedAnswer::Answer(told)), Sees::Answers(slept, woke)) => {
+                is_last && told == (slept, woke)
+            }
+            _ => is_last && is_seen(&self.part, m, sees),
+        }
+    }
+}
+
+/// What is told where there was no call.
+fn told_if(goes: bool) -> Told<SchedAnswer<(bool, Option<Tid>)>> {
+    if goes { Told::Nothing } else { Told::Refused }
+}
+
+/// The seat of a CPU at boot.
+fn seat<S: Layer<SchedLaw<Nap>>>(m: &S::Machine, cpu: CpuId) -> SchedSeat<S>
+    requires acts { S.ActsFor m.now cpu }
+    requires outside { S.IsOutside m.now cpu }
+    requires seen { S.seen m.now ≡ [] }
+    requires homes { homes_in (S.opening m.now) ≡ cpu_zero ∷ cpu_one ∷ cpu_zero ∷ [] }
+    requires queue { IsSome (S.opening m.now (Pending cpu)) }
+    ensures cpu { S.cpu_of result.part ≡ cpu }
+    ensures call { S.under_way result.part ≡ result.begun }
+    ensures fits { S.Fits result.part m.now }
+{
+    let _ = m;
+    SchedSeat {
+        part: S::part(cpu, &HOMES, 1),
+        begun: None,
+    }
+}
+
+/// A machine with one buffer, in which nobody sleeps.
+fn machine<S: Opens<Nap>>(alloc: Global) -> Result<S::Machine, NoMemory>
     ensures acts { IfOk result (λ m. (c : CpuId) → c.0 < CPUS → S.ActsFor m c) }
     ensures outside { IfOk result (λ m. (c : CpuId) → S.IsOutside m c) }
     ensures seen { IfOk result (λ m. S.seen m ≡ []) }
-    ensures room { IfOk result (λ m. S.room m ≡ 40) }
-    ensures homes { IfOk result (λ m. homes_in (S.opening m) ≡ homes.now) }
-    ensures queues { IfOk result (λ m. (c : CpuId) → c.0 < cpus → IsSome (S.opening m (Pending c))) }
+    ensures room { IfOk result (λ m. S.room m ≡ ROOM) }
+    ensures homes { IfOk result (λ m. homes_in (S.opening m) ≡ cpu_zero ∷ cpu_one ∷ cpu_zero ∷ []) }
+    ensures queues { IfOk result (λ m. (c : CpuId) → c.0 < 2 → IsSome (S.opening m (Pending c))) }
     ensures free { IfOk result (λ m. inner (S.opening m) waiters_of ≡ Some None) }
 {
     let mut blocks = Vec::new(alloc);
     blocks.push(None)?;
-    S::open(alloc, blocks, cpus, homes, 40)
+    S::open(alloc, blocks, 2, &HOMES, ROOM)
 }
 
-/// Whether what the part's CPU has of its own lets a pass come.
-fn may_pass<S: Layer<SchedLaw<Nap>>>(part: &S, pass: Pass) -> bool
-    ensures { result ≡ true → MayPass pass (S.own part.now) }
-{
-    let own = part.own_here();
-    match pass {
-        Pass::Switch => own.current().is_none() && own.hand().is_none() && own.has_ready(),
-        Pass::YieldNow => own.current().is_some() && own.hand().is_none(),
-        Pass::Drain => own.current().is_none() && own.hand().is_none() && !own.has_ready(),
-        Pass::MakeReady(t) => own.hand() == Some(t),
-        Pass::End => own.current().is_some() && own.hand().is_none(),
-    }
+/// How a script went.
+#[derive(Drop)]
+struct Ran<M> {
+    /// The first row that went otherwise, if one did.
+    missed: Option<usize>,
+    /// The machine behind it.
+    machine: M,
 }
 
-/// Whether a call of the part's CPU has begun and not ended.
-fn has_begun<S: Layer<SchedLaw<Nap>>>(part: &S) -> bool
-    ensures { result ≡ is_some (S.under_way part.now) }
-{
-    part.is_busy()
-}
-
-/// Polls a pass, if it may come, until it answers, and tells at which poll it did; 0 where none of
-/// three polls answered.
-fn passed_at<S: Layer<SchedLaw<Nap>>>(part: &mut S, m: &mut S::Machine, pass: Pass) -> u8
-    requires fits { S.Fits part.old m.old }
-    requires room { 3 ≤ S.room m.old }
-    requires free { inner (S.opening m.old) waiters_of ≡ Some None }
-    ensures fits { S.Fits part.new m.new }
-    ensures room { S.room m.old ≤ S.room m.new + 3 }
-    ensures opening { S.opening m.new ≡ S.opening m.old }
-    ensures cpu { S.cpu_of part.new ≡ S.cpu_of part.old }
-    ensures others { (p : S) → S.cpu_of p ≢ S.cpu_of part.old → S.Fits p m.old → S.Fits p m.new }
-{
-    if has_begun(part) || !may_pass(part, pass) {
-        return 0;
-    }
-    let mut payload = Payload::new();
-    if part.poll(m, SchedCall::Pass(pass), &mut payload).is_some() {
-        return 1;
-    }
-    if part.poll(m, SchedCall::Pass(pass), &mut payload).is_some() {
-        return 2;
-    }
-    if part.poll(m, SchedCall::Pass(pass), &mut payload).is_some() {
-        3
-    } else {
-        0
-    }
-}
-
-/// The same of a nap.
-fn napped_at<S: Layer<SchedLaw<Nap>>>(part: &mut S, m: &mut S::Machine, nap: Nap) -> u8
-    requires fits { S.Fits part.old m.old }
-    requires room { 3 ≤ S.room m.old }
-    requires free { inner (S.opening m.old) waiters_of ≡ Some None }
-    ensures fits { S.Fits part.new m.new }
-    ensures room { S.room m.old ≤ S.room m.new + 3 }
-    ensures opening { S.opening m.new ≡ S.opening m.old }
-    ensures cpu { S.cpu_of part.new ≡ S.cpu_of part.old }
-    ensures others { (p : S) → S.cpu_of p ≢ S.cpu_of part.old → S.Fits p m.old → S.Fits p m.new }
-{
-    let own = part.own_here();
-    if has_begun(part) || own.current() != Some(nap.by) || own.hand().is_some() {
-        return 0;
-    }
-    let mut payload = Payload::new();
-    if part
-        .poll(m, SchedCall::OnBuffer(BufId(0), nap), &mut payload)
-        .is_some()
-    {
-        return 1;
-    }
-    if part
-        .poll(m, SchedCall::OnBuffer(BufId(0), nap), &mut payload)
-        .is_some()
-    {
-        return 2;
-    }
-    if part
-        .poll(m, SchedCall::OnBuffer(BufId(0), nap), &mut payload)
-        .is_some()
-    {
-        3
-    } else {
-        0
-    }
-}
-
-/// Thread `t` sleeps at buffer 0, or waits in CPU 0's queue: the machine tells it, and no part has the
-/// block or the queue in its hands.
-fn is_observed<S: OwnedLayer<SchedLaw<Nap>>>(part: &S, m: &S::Machine, t: Tid, pends: bool) -> bool
-    requires fits { S.Fits part.now m.now }
-    requires free { inner (S.opening m.now) waiters_of ≡ Some None }
-    requires queue { IsSome (S.opening m.now (Pending (record { 0 = 0 }))) }
-{
-    let sleeper = if pends { None } else { Some(t) };
-    if S::block_in(m, BufId(0)) != Some(&sleeper) || part.block_here(BufId(0)).is_some() {
-        return false;
-    }
-    S::pends_in(m, CpuId(0), t) == Some(pends) && part.pends_here(CpuId(0), t).is_none()
-}
-
-/// A look takes the place of the second poll of the taking of CPU 0's queue, which is then in its
-/// hands.
-fn looks_again<S: OwnedLayer<SchedLaw<Nap>>>(rt: &impl Abort, part: &mut S, m: &mut S::Machine)
-    requires fits { S.Fits part.old m.old }
-    requires room { 4 ≤ S.room m.old }
-{
-    assert!(rt; !has_begun(part) && !polled(part, m, Pass::Drain));
-    assert!(rt; has_begun(part) && part.pends_here(CpuId(0), Tid(0)).is_none());
-    assert!(rt; part.look(m) && part.pends_here(CpuId(0), Tid(0)) == Some(false));
-    assert!(rt; polled(part, m, Pass::Drain) && !part.look(m));
-}
-
-/// The part of `cpu` at boot.
-fn part<S: Layer<SchedLaw<Nap>>>(m: &S::Machine, cpu: CpuId, homes: &[CpuId]) -> S
-    requires few { length homes.now ≤ THREADS }
-    requires small { cpu.0 < CPUS }
-    requires acts { (c : CpuId) → c.0 < CPUS → S.ActsFor m.now c }
-    requires outside { (c : CpuId) → S.IsOutside m.now c }
-    requires seen { S.seen m.now ≡ [] }
-    requires homes { homes_in (S.opening m.now) ≡ homes.now }
-    requires queue { IsSome (S.opening m.now (Pending cpu)) }
-    ensures cpu { S.cpu_of result ≡ cpu }
-    ensures fits { S.Fits result m.now }
-{
-    let _ = m;
-    S::part(cpu, homes, 1)
-}
-
-/// Two threads at home on one CPU take turns; a call of the shared queues is done in so many polls.
-fn take_turns<S: Layer<SchedLaw<Nap>>>(rt: &impl Abort, part: &mut S, m: &mut S::Machine, polls: u8)
-    requires fits { S.Fits part.old m.old }
-    requires room { 12 ≤ S.room m.old }
-    requires free { inner (S.opening m.old) waiters_of ≡ Some None }
-{
-    assert!(rt; passed_at(part, m, Pass::Switch) == 1);
-    assert!(rt; part.own_here().current() == Some(Tid(0)));
-    assert!(rt; passed_at(part, m, Pass::YieldNow) == polls);
-    assert!(rt; part.own_here().current().is_none());
-    assert!(rt; part.own_here().is_ready(Tid(1)) && part.own_here().is_ready(Tid(0)));
-    assert!(rt; passed_at(part, m, Pass::Switch) == 1);
-    assert!(rt; part.own_here().current() == Some(Tid(1)));
-    assert!(rt; passed_at(part, m, Pass::End) == 1);
-    assert!(rt; part.own_here().has_ended(Tid(1)) && !has_begun(part));
-}
-
-/// The front of the ready threads, which is `t`, runs and goes to sleep.
-fn falls_asleep<S: Layer<SchedLaw<Nap>>>(
-    rt: &impl Abort,
-    part: &mut S,
-    m: &mut S::Machine,
-    t: Tid,
-    polls: u8,
-)
-    requires fits { S.Fits part.old m.old }
-    requires room { 6 ≤ S.room m.old }
-    requires free { inner (S.opening m.old) waiters_of ≡ Some None }
-    ensures fits { S.Fits part.new m.new }
-    ensures room { S.room m.old ≤ S.room m.new + 6 }
-    ensures opening { S.opening m.new ≡ S.opening m.old }
-    ensures cpu { S.cpu_of part.new ≡ S.cpu_of part.old }
-    ensures others { (p : S) → S.cpu_of p ≢ S.cpu_of part.old → S.Fits p m.old → S.Fits p m.new }
-{
-    assert!(rt; passed_at(part, m, Pass::Switch) == 1);
-    let nap = Nap {
-        by: t,
-        wakes: false,
-    };
-    assert!(rt; napped_at(part, m, nap) == polls);
-    assert!(rt; part.own_here().current().is_none());
-}
-
-/// The front of the ready threads, which is `t`, runs and wakes `sleeper`, which stands in hand.
-fn wakes<S: Layer<SchedLaw<Nap>>>(
-    rt: &impl Abort,
-    part: &mut S,
-    m: &mut S::Machine,
-    t: Tid,
-    sleeper: Tid,
-    polls: u8,
-)
-    requires fits { S.Fits part.old m.old }
-    requires room { 6 ≤ S.room m.old }
-    requires free { inner (S.opening m.old) waiters_of ≡ Some None }
-    ensures fits { S.Fits part.new m.new }
-    ensures room { S.room m.old ≤ S.room m.new + 6 }
-    ensures opening { S.opening m.new ≡ S.opening m.old }
-    ensures cpu { S.cpu_of part.new ≡ S.cpu_of part.old }
-    ensures others { (p : S) → S.cpu_of p ≢ S.cpu_of part.old → S.Fits p m.old → S.Fits p m.new }
-{
-    assert!(rt; passed_at(part, m, Pass::Switch) == 1);
-    let nap = Nap { by: t, wakes: true };
-    assert!(rt; napped_at(part, m, nap) == polls);
-    assert!(rt; part.own_here().hand() == Some(sleeper));
-}
-
-/// The thread in hand is pushed to its home.
-fn sends_home<S: Layer<SchedLaw<Nap>>>(
-    rt: &impl Abort,
-    part: &mut S,
-    m: &mut S::Machine,
-    t: Tid,
-    polls: u8,
-)
-    requires fits { S.Fits part.old m.old }
-    requires room { 3 ≤ S.room m.old }
-    requires free { inner (S.opening m.old) waiters_of ≡ Some None }
-    ensures room { S.room m.old ≤ S.room m.new + 3 }
-    ensures opening { S.opening m.new ≡ S.opening m.old }
-    ensures others { (p : S) → S.cpu_of p ≢ S.cpu_of part.old → S.Fits p m.old → S.Fits p m.new }
-{
-    assert!(rt; passed_at(part, m, Pass::MakeReady(t)) == polls);
-    assert!(rt; part.own_here().hand().is_none());
-}
-
-/// Thread `t` comes out of the pending queue and runs again.
-fn runs_again<S: Layer<SchedLaw<Nap>>>(
-    rt: &impl Abort,
-    part: &mut S,
-    m: &mut S::Machine,
-    t: Tid,
-    polls: u8,
-)
-    requires fits { S.Fits part.old m.old }
-    requires room { 6 ≤ S.room m.old }
-    requires free { inner (S.opening m.old) waiters_of ≡ Some None }
-{
-    assert!(rt; passed_at(part, m, Pass::Drain) == polls);
-    assert!(rt; part.own_here().is_ready(t));
-    assert!(rt; passed_at(part, m, Pass::Switch) == 1);
-    assert!(rt; part.own_here().current() == Some(t));
-}
-
-/// Polls a pass once, where it is under way or may come, and tells whether it is done.
-fn polled<S: Layer<SchedLaw<Nap>>>(part: &mut S, m: &mut S::Machine, pass: Pass) -> bool
-    requires fits { S.Fits part.old m.old }
-    requires call { MatchOption (S.under_way part.old) (Unit {0}) (λ s. s ≡ ThePass pass) }
-    requires room { 0 < S.room m.old }
-    ensures fits { S.Fits part.new m.new }
-    ensures call { MatchOption (S.under_way part.new) (Unit {0}) (λ s. s ≡ ThePass pass) }
-    ensures room { S.room m.old ≤ S.room m.new + 1 }
-    ensures cpu { S.cpu_of part.new ≡ S.cpu_of part.old }
-    ensures others { (p : S) → S.cpu_of p ≢ S.cpu_of part.old → S.Fits p m.old → S.Fits p m.new }
-{
-    if !has_begun(part) && !may_pass(part, pass) {
-        return false;
-    }
-    part.poll(m, SchedCall::Pass(pass), &mut Payload::new())
-        .is_some()
-}
-
-/// The second CPU pushes thread 1, which it has in hand, into the queue of the first CPU, while the
-/// first CPU takes that queue. The push came first, so the queue that is taken holds the thread.
-fn meet_at_one_queue<S: Layer<SchedLaw<Nap>>>(
-    rt: &impl Abort,
-    first: &mut S,
-    second: &mut S,
-    m: &mut S::Machine,
-)
-    requires first { S.Fits first.old m.old }
-    requires second { S.Fits second.old m.old }
-    requires apart { S.cpu_of first.old ≢ S.cpu_of second.old }
-    requires others { S.cpu_of second.old ≢ S.cpu_of first.old }
-    requires room { 7 ≤ S.room m.old }
-{
-    assert!(rt; !has_begun(first) && !has_begun(second));
-    let push = Pass::MakeReady(Tid(1));
-    assert!(rt; !polled(second, m, push) && !polled(first, m, Pass::Drain));
-    assert!(rt; !polled(first, m, Pass::Drain) && !polled(second, m, push));
-    assert!(rt; polled(second, m, push) && second.own_here().hand().is_none());
-    assert!(rt; !polled(first, m, Pass::Drain) && polled(first, m, Pass::Drain));
-    assert!(rt; first.own_here().is_ready(Tid(1)));
-}
-
-/// Two threads at home on one CPU, over a machine of this layer.
-fn turns_are_taken<S: Opens<Nap> + Drop>(
-    rt: &impl Abort,
+/// Runs a script over a machine of these schedulers.
+fn script_runs<S: Opens<Nap> + Drop>(
     alloc: Global,
-    polls: u8,
-) -> Result<(), NoMemory>
+    rows: &[Step],
+    section: usize,
+) -> Result<Ran<S::Machine>, NoMemory>
 where
     S::Machine: Drop,
+    ensures acts { IfOk result (λ ran. S.ActsFor ran.machine cpu_zero) }
+    ensures lock { IfOk result (λ ran. IsSome (S.opening ran.machine (Pending cpu_zero))) }
 {
-    let homes = [CpuId(0), CpuId(0)];
-    let mut m = machine::<S>(alloc, 1, &homes)?;
-    let mut first: S = part(&m, CpuId(0), &homes);
-    take_turns(rt, &mut first, &mut m, polls);
-    Ok(())
+    let mut m = machine::<S>(alloc)?;
+    let mut home: SchedSeat<S> = seat(&m, CpuId(0));
+    let mut away: SchedSeat<S> = seat(&m, CpuId(1));
+    let missed = rows_go(&mut home, &mut away, &mut m, rows, section);
+    Ok(Ran { missed, machine: m })
 }
 
-/// Thread 0 of CPU 0 is woken by CPU 1, which sends it home.
-fn a_thread_goes_home<S: Opens<Nap> + Drop>(
-    rt: &impl Abort,
-    alloc: Global,
-    polls: u8,
-) -> Result<(), NoMemory>
-where
-    S::Machine: Drop,
-{
-    let homes = [CpuId(0), CpuId(1)];
-    let mut m = machine::<S>(alloc, 2, &homes)?;
-    let mut first: S = part(&m, CpuId(0), &homes);
-    let mut second: S = part(&m, CpuId(1), &homes);
-    falls_asleep(rt, &mut first, &mut m, Tid(0), polls);
-    assert!(rt; is_observed(&first, &m, Tid(0), false));
-    wakes(rt, &mut second, &mut m, Tid(1), Tid(0), polls);
-    sends_home(rt, &mut second, &mut m, Tid(0), polls);
-    assert!(rt; is_observed(&first, &m, Tid(0), true));
-    runs_again(rt, &mut first, &mut m, Tid(0), polls);
-    Ok(())
-}
-
-/// Two CPUs meet at CPU 0's queue, where a call takes three polls.
-fn cpus_meet<S: Opens<Nap> + Drop>(rt: &impl Abort, alloc: Global) -> Result<(), NoMemory>
-where
-    S::Machine: Drop,
-{
-    let homes = [CpuId(1), CpuId(0)];
-    let mut m = machine::<S>(alloc, 2, &homes)?;
-    let mut first: S = part(&m, CpuId(0), &homes);
-    let mut second: S = part(&m, CpuId(1), &homes);
-    falls_asleep(rt, &mut first, &mut m, Tid(1), 3);
-    wakes(rt, &mut second, &mut m, Tid(0), Tid(1), 3);
-    meet_at_one_queue(rt, &mut first, &mut second, &mut m);
-    Ok(())
-}
-
-/// CPU 0, whose threads are all elsewhere, takes its queue.
-fn a_look_is_a_poll<S: Opens<Nap> + Drop>(rt: &impl Abort, alloc: Global) -> Result<(), NoMemory>
-where
-    S::Machine: Drop,
-{
-    let homes = [CpuId(1)];
-    let mut m = machine::<S>(alloc, 2, &homes)?;
-    let mut first: S = part(&m, CpuId(0), &homes);
-    looks_again(rt, &mut first, &mut m);
-    Ok(())
-}
-
-/// What a machine does of all this where a call of the shared queues takes so many polls. Where it takes
-/// one, a push and the taking of one queue are each over at once, and cannot meet.
-fn in_polls<S: Opens<Nap> + Drop>(rt: &impl Abort, alloc: Global, polls: u8) -> Result<(), NoMemory>
-where
-    S::Machine: Drop,
-{
-    turns_are_taken::<S>(rt, alloc, polls)?;
-    a_thread_goes_home::<S>(rt, alloc, polls)?;
-    if polls == 1 {
-        return Ok(());
-    }
-    cpus_meet::<S>(rt, alloc)?;
-    a_look_is_a_poll::<S>(rt, alloc)
-}
-
-/// Schedulers over critical sections of so many polls. A test names the sections alone: the proof of a
+/// The same over schedulers on these critical sections. A test names the sections alone: the proof of a
 /// function that names a whole nest of types takes longer than that of all rows.
-fn sections_go<L: OwnedLocks<QueueEdit<Nap>> + Drop>(
-    rt: &impl Abort,
+fn sections_run<L: OwnedLocks<QueueEdit<Nap>> + Drop>(
     alloc: Global,
-    polls: u8,
-) -> Result<(), NoMemory>
+    rows: &[Step],
+    section: usize,
+) -> Result<Ran<L::Machine>, NoMemory>
 where
     L::Machine: Drop,
+    ensures acts { IfOk result (λ ran. L.ActsFor ran.machine cpu_zero) }
+    ensures lock { IfOk result (λ ran. IsSome (L.opening ran.machine (Pending cpu_zero))) }
 {
     let _laws: SchedLaws<Nap> = PhantomData;
-    in_polls::<Sched<SharedQueues<L>>>(rt, alloc, polls)
+    script_runs::<Sched<SharedQueues<L>>>(alloc, rows, section)
 }
 
 #[test]
 fn schedulers_run_over_ticket_locks(rt: HostRuntime) -> Result<(), Fail> {
     let _laws: SchedLaws<Nap> = PhantomData;
-    sections_go::<Ticket<Plain<QueueEdit<Nap>>>>(&rt, rt.alloc(), 3)?;
+    for (script, rows) in IN_POLLS.iter().enumerate() {
+        let ran = sections_run::<Ticket<Plain<QueueEdit<Nap>>>>(rt.alloc(), rows, 3)?;
+        assert_eq!(rt; (script, ran.missed), (script, None));
+    }
     Ok(())
 }
 
 #[test]
 fn one_step_sections_do_a_call_in_one_poll(rt: HostRuntime) -> Result<(), Fail> {
     let _laws: SchedLaws<Nap> = PhantomData;
-    sections_go::<PlainLock<QueueEdit<Nap>>>(&rt, rt.alloc(), 1)?;
+    for (script, rows) in ALIKE.iter().enumerate() {
+        let ran = sections_run::<PlainLock<QueueEdit<Nap>>>(rt.alloc(), rows, 1)?;
+        assert_eq!(rt; (script, ran.missed), (script, None));
+    }
     Ok(())
 }
 
 #[test]
 fn one_step_queues_do_a_call_in_one_poll(rt: HostRuntime) -> Result<(), Fail> {
     let _laws: NapLaws = PhantomData;
-    in_polls::<Sched<PlainQueues<Nap>>>(&rt, rt.alloc(), 1)?;
+    for (script, rows) in ALIKE.iter().enumerate() {
+        let ran = script_runs::<Sched<PlainQueues<Nap>>>(rt.alloc(), rows, 1)?;
+        assert_eq!(rt; (script, ran.missed), (script, None));
+    }
     Ok(())
 }
 
 #[test]
 fn one_step_schedulers_do_a_call_in_one_poll(rt: HostRuntime) -> Result<(), Fail> {
-    in_polls::<PlainSched<Nap>>(&rt, rt.alloc(), 1)?;
+    for (script, rows) in ALIKE.iter().enumerate() {
+        let ran = script_runs::<PlainSched<Nap>>(rt.alloc(), rows, 1)?;
+        assert_eq!(rt; (script, ran.missed), (script, None));
+    }
     Ok(())
 }
 
-/// Whether two drains of a CPU's empty queue each answer at their third poll.
-fn drains_twice<S: Layer<SchedLaw<Nap>>>(part: &mut S, m: &mut S::Machine) -> bool
-    requires fits { S.Fits part.old m.old }
-    requires room { 6 ≤ S.room m.old }
-    requires free { inner (S.opening m.old) waiters_of ≡ Some None }
-    ensures fits { S.Fits part.new m.new }
-    ensures opening { S.opening m.new ≡ S.opening m.old }
-    ensures cpu { S.cpu_of part.new ≡ S.cpu_of part.old }
-{
-    let first = passed_at(part, m, Pass::Drain);
-    let second = passed_at(part, m, Pass::Drain);
-    first == 3 && second == 3
-}
-
-/// A machine behind two drains of CPU 0's empty queue, each in its third poll; `None` where one took
-/// other polls.
-fn behind_two_drains<S: Opens<Nap> + Drop>(alloc: Global) -> Result<Option<S::Machine>, NoMemory>
-where
-    S::Machine: Drop,
-    ensures acts { IfOk result (λ left. MatchOption left (Unit {0}) (λ m. S.ActsFor m cpu_zero)) }
-    ensures lock { IfOk result (λ left. MatchOption left (Unit {0}) (λ m. IsSome (S.opening m (Pending cpu_zero)))) }
-{
-    let homes = [CpuId(1)];
-    let mut m = machine::<S>(alloc, 2, &homes)?;
-    let mut drains: S = part(&m, CpuId(0), &homes);
-    if !drains_twice(&mut drains, &mut m) {
-        return Ok(None);
-    }
-    Ok(Some(m))
-}
-
-/// The same of schedulers over these critical sections, whose machine it is.
-fn sections_behind_two_drains<L: OwnedLocks<QueueEdit<Nap>> + Drop>(
-    alloc: Global,
-) -> Result<Option<L::Machine>, NoMemory>
-where
-    L::Machine: Drop,
-    ensures acts { IfOk result (λ left. MatchOption left (Unit {0}) (λ m. L.ActsFor m cpu_zero)) }
-    ensures lock { IfOk result (λ left. MatchOption left (Unit {0}) (λ m. IsSome (L.opening m (Pending cpu_zero)))) }
-{
+/// The words of CPU 0's pending lock behind two drains, which has a grant word for each waiter; and the
+/// first row that went otherwise, if one did.
+fn words_behind_two_drains(alloc: Global) -> Result<(Option<usize>, GrantLockWords), NoMemory> {
     let _laws: SchedLaws<Nap> = PhantomData;
-    behind_two_drains::<Sched<SharedQueues<L>>>(alloc)
-}
-
-/// The words of CPU 0's pending lock there, which has a grant word for each waiter.
-fn words_behind_two_drains(alloc: Global) -> Result<Option<GrantLockWords>, NoMemory> {
-    let _laws: SchedLaws<Nap> = PhantomData;
-    match sections_behind_two_drains::<Grant<GrantPlain<QueueEdit<Nap>>>>(alloc)? {
-        None => Ok(None),
-        Some(m) => Ok(Some(m.words(LockId::Pending(CpuId(0))))),
-    }
+    let ran = sections_run::<Grant<GrantPlain<QueueEdit<Nap>>>>(alloc, &DRAINS, 3)?;
+    Ok((ran.missed, ran.machine.words(LockId::Pending(CpuId(0)))))
 }
 
 #[test]
@@ -572,6 +514,6 @@ fn two_drains_grant_the_third_place(rt: HostRuntime) -> Result<(), Fail> {
     words[1] = 2;
     words[2] = 3;
     let behind = words_behind_two_drains(rt.alloc())?;
-    assert_eq!(rt; behind, Some(GrantLockWords { next: 2, words }));
+    assert_eq!(rt; behind, (None, GrantLockWords { next: 2, words }));
     Ok(())
 }
