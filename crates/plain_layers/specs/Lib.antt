@@ -8,6 +8,5 @@ pub mod FifoOwned
 pub mod FifoTallies
 pub mod Naps
 pub mod QueueSections
-pub mod LockSections
-pub mod CondSections
+pub mod LockScripts
 pub mod Laws
