@@ -2,8 +2,7 @@ pub mod TableLemmas
 pub mod KernelLemmas
 pub mod WholeLemmas
 pub mod FifoLemmas
-pub mod LockSectionLemmas
-pub mod CondSectionLemmas
+pub mod LockScriptLemmas
 pub mod OpeningLemmas
 pub mod PlainOpenings
 pub mod TextLemmas

@@ -7,7 +7,6 @@ pub mod Fifos
 pub mod FifoOwned
 pub mod Naps
 pub mod TwoCpus
-pub mod LockSections
-pub mod CondSections
+pub mod LockScripts
 pub mod CallScripts
 pub mod Laws

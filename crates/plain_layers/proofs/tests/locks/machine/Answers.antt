@@ -18,7 +18,7 @@ returns-clause-rest g c =
 pub returns-clause-buffer : goal.returns-clause-buffer
 returns-clause-buffer g c =
     let S = g.S.Layer in
-    let blocks : c.in_ok-blocks.blocks.items ≡ resting (unowned 7) ∷ []
+    let blocks : c.in_ok-blocks.blocks.items ≡ resting (unowned (record { 0 = 0 })) ∷ []
     = c.in_ok-blocks.ensures ∙ ap (map resting) (c.in_ok-locked.ensures ∙ ap (map unowned) c.in_ok-above.ensures) in
     let there : IsSome (slice_get c.in_ok-blocks.blocks.items 0) = subst (λ l. IsSome (slice_get l 0)) (sym blocks) refl in
     if_ok c.open.result (λ m. (b : BufId) → inner (S.opening m) (Buffer b) ≡ slice_get c.in_ok-blocks.blocks.items b.0) _ c.open.ensures.blocks
