@@ -128,7 +128,7 @@ abbrev pub CallsFit : List CpuId → CpuId → (LockId → Option BufferLock) �
 CallsFit homes c O past own call_states under_way None = IsIdle homes c O past own call_states under_way
 CallsFit homes c O past own call_states under_way (Some t) = IsCalling homes c O past own call_states under_way t
 
--- a poll that ended its section: the thread runs on, with the call state that has heard the answer
+-- a poll that ended its section: the thread runs on, with the call state that was told the answer
 pub record Ended (O : LockId → Option BufferLock) (past : List BufferSection) (t : Tid) (call_state : CallState) (own : Waiting BufferOut)
     (under_way : Option (SchedCall (CvCall BufferEdit))) (later : CallState) : Type 0 where
   pub none : under_way ≡ None

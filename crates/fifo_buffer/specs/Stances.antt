@@ -134,7 +134,7 @@ abbrev pub waits_by : BufId → QOut (CvOut BufferOut) → Option BufId
 waits_by b (Released out) = waits_reported b out
 waits_by b other = None
 
--- and of its call state: whoever sleeps or waits has not heard yet
+-- and of its call state: whoever sleeps or waits was not told yet
 abbrev pub recorded_in : CallState → Stage → CvOut BufferOut → CallState
 recorded_in call_state stage (answer.Did out) = recorded call_state stage (Released (answer.Did out))
 recorded_in call_state stage (answer.Signalled side front) = recorded call_state stage (Released (answer.Signalled side front))

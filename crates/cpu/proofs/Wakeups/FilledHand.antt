@@ -21,7 +21,7 @@ module _ (setup : Setup) (c : CpuId) where
   settled_empty : (p : Private) → p.hand ≡ None → (hand current : Option Tid) → (returned_in setup p hand current).hand ≡ None
   settled_empty p empty hand current = grind arith
 
-  -- the call of a thread that has heard is there, and it runs with the hand as it was
+  -- the call of a thread that was told is there, and it runs with the hand as it was
   record RecordedSome (p q : Private) (t : Tid) : Type 0 where
     pub hand : q.hand ≡ p.hand
     pub current : q.current ≡ p.current

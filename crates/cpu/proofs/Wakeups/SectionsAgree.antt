@@ -64,7 +64,7 @@ abbrev pub is_release : Stage → Bool
 is_release Releases = true
 is_release stage = false
 
--- the state after a section was heard: all but the call is as it was, and the call stands where its next visit says
+-- the state after a section was told: all but the call is as it was, and the call stands where its next visit says
 pub record Recorded (p q : Private) (t : Tid) (next : Visit) (ends : Bool) : Type 0 where
   pub same : Same p q t
   pub call : visit_of_call (thread_at q t).call ≡ next
