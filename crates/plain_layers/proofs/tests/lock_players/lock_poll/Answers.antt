@@ -33,6 +33,7 @@ returns-clause-owns g c =
     let m = c.args.m.now in
     let edit = c.args.edit in
     let poll = c.poll-answer in
-    λ some asks. rw poll.ensures.framed.stays.opening (asker_locks (cv_rules ghosts.monitor_rules) (Q.opening m) (Q.ActsFor m) (Q.cpu_of old) (record { 0 = 0 }) _ edit
+    λ some asks. rw poll.ensures.framed.stays.opening
+    (asker_locks (cv_rules ghosts.monitor_rules) (Q.opening m) (Q.ActsFor m) (Q.cpu_of old) (record { 0 = 0 }) _ edit
     (meant_alone _ (λ reads parcel. refl) edit c.new.result.parcel) (Q.seen m) (Q.seen poll.new.m) (Q.own old) (Q.own poll.new.self)
     (Q.under_way poll.new.self) _ poll.result poll.ensures.seen (λ local. ap Q.seen {x = poll.new.m} (poll.ensures.still local)) some asks)
