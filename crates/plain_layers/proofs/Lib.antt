@@ -2,6 +2,7 @@ pub mod TableLemmas
 pub mod KernelLemmas
 pub mod WholeLemmas
 pub mod FifoLemmas
+pub mod LockOwnerLemmas
 pub mod LockScriptLemmas
 pub mod OpeningLemmas
 pub mod PlainOpenings

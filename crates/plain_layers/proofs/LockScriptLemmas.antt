@@ -13,7 +13,7 @@ use Rattle.layer_traits.specs.{Passes.passed_on, Payloads.{cv_meant, lock_meant}
 use Rattle.layer_traits.specs.QLocking.{wait_list_slept, lock_after, lock_answer, lock_caller, lock_moves, lock_out, lock_slept, owner_in, asker_report}
 use Rattle.layer_traits.specs.{QLocking.IsOwners, QLockLaw.{Handed, IsAcquire, LockPolled, Locking, Locks, MayCallLock, MayGo, MayLock, left_after}}
 use Rattle.layer_traits.specs.{QLockLaw.{left_locked, lock_kernel, locking, slept_for}, Places.Threads, Plans.Left, QueueBlocks.{homes_in, inner}}
-use Rattle.layer_traits.specs.{Queues.{Kernel, buffer_sections}, Scheds.own_answered, SleepLaw.{Does, MayCall, MayDo, PollResult, Sends, Sleeping, Waits}}
+use Rattle.layer_traits.specs.{Queues.{buffer_sections}, Scheds.own_answered, SleepLaw.{Does, MayCall, MayDo, PollResult, Sends, Sleeping, Waits}}
 use Rattle.{layer_traits.{specs.SleepLaw.{left_with, must_send}, proofs.PlaceLemmas.woken_current}, plain_layers.specs.LockScripts.{CondStands, HasPlaces}}
 use Rattle.plain_layers.specs.LockScripts.{IsSteady, Lets, LockStands, MayBegin, PartPlays, Played}
 use Rattle.layer_traits.specs.declared.conditions.CvOut.TheVariants as answer

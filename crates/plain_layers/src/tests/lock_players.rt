@@ -4,6 +4,8 @@
 ghost use Rattle.std.specs.Prelude.{◌≡◌, ◌<◌, true, false, Some, None, IsSome, if◌then◌else◌};
 ghost use Rattle.layer_traits.specs.{Conditions.cv_rules, CvLaw.MayCallCond, Passes.MayPass, QLockLaw.{IsAcquire, MayCallLock, lock_kernel}, QLocking.IsOwners};
 ghost use Rattle.{layer_traits.specs.QLocking.lock_caller, plain_layers.specs.LockScripts.{CondStands, HasPlaces, IsOpened, Lets, LockStands, PartPlays}};
+ghost use Rattle.{event_log.specs.declared.ids.LockId.TheVariants.Buffer, plain_layers.specs.declared.tests.lock_scripts.Seen.TheVariants.Acquired};
+ghost use Rattle.layer_traits.specs.{Framed.Framed, QLocking.owner_of, QueueBlocks.inner, Queues.buffer_sections};
 ghost use Rattle.layer_traits.specs.declared.scheds.SchedCall.TheVariants as sched;
 
 use crate::tests::lock_scripts::{Act, Fact, Plays, Seen};
@@ -110,13 +112,19 @@ fn is_callers(edit: &Call, t: Tid, owner: Option<Tid>) -> bool
     }
 }
 
-/// What an answer shows, or whether its caller runs where there is none.
-fn seen_of(answer: Option<Outcome<QOut<CvOut<Tid>>>>, runs: bool) -> Seen {
+/// What an answer to a call shows, or whether the call goes on where there is none.
+fn seen_of(edit: &Call, answer: Option<Outcome<QOut<CvOut<Tid>>>>, goes_on: bool) -> Seen
+    ensures answers { result ≡ Acquired → IsSome answer }
+    ensures asks { result ≡ Acquired → IsAcquire edit.now }
+{
     let Some(outcome) = answer else {
-        return if runs { Seen::GoesOn } else { Seen::Sleeps };
+        return if goes_on { Seen::GoesOn } else { Seen::Sleeps };
     };
     match outcome.out {
-        QOut::Acquired => Seen::Acquired,
+        QOut::Acquired => match edit {
+            QEdit::Acquire(_) => Seen::Acquired,
+            QEdit::Inside(_) | QEdit::Release(_) => Seen::Otherwise,
+        },
         QOut::Did(CvOut::Did(read)) => Seen::Read(read),
         QOut::Did(CvOut::Signalled(_, _)) => Seen::Signalled(outcome.woke),
         QOut::Released(CvOut::Left) => Seen::Left(outcome.woke),
@@ -303,6 +311,73 @@ fn cond_lets<C: OwnedThreadLayer<CvLaw<Reads>>>(
     lets(kept, part.current(), part.hand(), owner, edit)
 }
 
+/// One poll of a call on a queuing lock: if an Acquire answers, its caller owns the lock.
+///
+/// Requires: the part and the machine agree, and this is kept of the part. The machine has room for one more
+/// event. The call is the kept thread's, and may be polled.
+fn lock_poll<Q: ThreadLayer<QLockLaw<CvEdit<Reads>>>>(
+    part: &mut Q,
+    m: &mut Q::Machine,
+    kept: &mut Kept,
+    act: Act,
+    edit: Call,
+) -> Option<Outcome<QOut<CvOut<Tid>>>>
+    requires fits { PartPlays (Q.Fits part.old m.old) (Q.opening m.old) (LockStands (cv_rules ⟦<Reads as Guarded>⟧.monitor_rules) (Q.own part.old) (Q.under_way part.old)
+        kept.old.begun kept.old.thread kept.old.slept) }
+    requires room { 0 < Q.room m.old }
+    requires may { MayCallLock (cv_rules ⟦<Reads as Guarded>⟧.monitor_rules) (lock_kernel (cv_rules ⟦<Reads as Guarded>⟧.monitor_rules) (Q.opening m.old))
+        (Q.cpu_of part.old) (Q.seen m.old) (Q.own part.old) (Q.under_way part.old) (record { 0 = 0 }) edit }
+    requires caller { lock_caller (cv_rules ⟦<Reads as Guarded>⟧.monitor_rules) edit ≡ kept.old.thread }
+    ensures framed { Framed Q.Fits Q.cpu_of Q.opening Q.site Q.room Q.ActsFor Q.MayHold part.old part.new m.old m.new }
+    ensures stands { LockStands (cv_rules ⟦<Reads as Guarded>⟧.monitor_rules) (Q.own part.new) (Q.under_way part.new) kept.new.begun kept.new.thread kept.new.slept }
+    ensures thread { kept.new.thread ≡ kept.old.thread }
+    ensures owns { IsSome result → IsAcquire edit → owner_of (cv_rules ⟦<Reads as Guarded>⟧.monitor_rules) (inner (Q.opening m.new))
+        (buffer_sections (Q.seen m.new)) (Buffer (record { 0 = 0 })) ≡ Some (lock_caller (cv_rules ⟦<Reads as Guarded>⟧.monitor_rules) edit) }
+{
+    let call = BufferCall {
+        buffer: BufId(0),
+        edit,
+    };
+    let answer = part.poll(m, call, &mut Payload::new());
+    let runs = part.current().is_some();
+    *kept = kept.polled(act, edit, answer.is_some(), runs);
+    answer
+}
+
+/// The same of a call on a lock with conditions.
+///
+/// Requires: the part and the machine agree, and this is kept of the part. The machine has room for one more
+/// event. The call is the kept thread's, and may be polled. If the thread waits, it sleeps for no lock.
+fn cond_poll<C: ThreadLayer<CvLaw<Reads>>>(
+    part: &mut C,
+    m: &mut C::Machine,
+    kept: &mut Kept,
+    act: Act,
+    edit: Call,
+) -> Option<Outcome<QOut<CvOut<Tid>>>>
+    requires fits { PartPlays (C.Fits part.old m.old) (C.opening m.old) (CondStands ⟦<Reads as Guarded>⟧.monitor_rules (C.own part.old) (C.under_way part.old)
+        kept.old.begun kept.old.thread kept.old.slept kept.old.waits) }
+    requires room { 0 < C.room m.old }
+    requires may { MayCallCond ⟦<Reads as Guarded>⟧.monitor_rules (lock_kernel (cv_rules ⟦<Reads as Guarded>⟧.monitor_rules) (C.opening m.old))
+        (C.cpu_of part.old) (C.seen m.old) (C.own part.old) (C.under_way part.old) (record { 0 = 0 }) edit }
+    requires caller { lock_caller (cv_rules ⟦<Reads as Guarded>⟧.monitor_rules) edit ≡ kept.old.thread }
+    requires apart { IsSome kept.old.waits → kept.old.slept ≡ None }
+    ensures framed { Framed C.Fits C.cpu_of C.opening C.site C.room C.ActsFor C.MayHold part.old part.new m.old m.new }
+    ensures stands { CondStands ⟦<Reads as Guarded>⟧.monitor_rules (C.own part.new) (C.under_way part.new) kept.new.begun kept.new.thread kept.new.slept kept.new.waits }
+    ensures thread { kept.new.thread ≡ kept.old.thread }
+    ensures owns { IsSome result → IsAcquire edit → owner_of (cv_rules ⟦<Reads as Guarded>⟧.monitor_rules) (inner (C.opening m.new))
+        (buffer_sections (C.seen m.new)) (Buffer (record { 0 = 0 })) ≡ Some (lock_caller (cv_rules ⟦<Reads as Guarded>⟧.monitor_rules) edit) }
+{
+    let call = BufferCall {
+        buffer: BufId(0),
+        edit,
+    };
+    let answer = part.poll(m, call, &mut Payload::new());
+    let runs = part.current().is_some();
+    *kept = kept.polled(act, edit, answer.is_some(), runs);
+    answer
+}
+
 /// Whether this is told of the lock of buffer 0, or of the CPU whose part it is and which has this thread.
 fn tells<L: SleeperLaw<Above = Tid>, Q: OwnedThreadLayer<L>>(
     part: &Q,
@@ -361,6 +436,9 @@ impl<Q: OwnedThreadLayer<QLockLaw<CvEdit<Reads>>>> Plays for LockPlayer<Q> {
     ghost Fits = { λ p m. PartPlays (Q.Fits p.part m) (Q.opening m) (LockStands (cv_rules ⟦<Reads as Guarded>⟧.monitor_rules) (Q.own p.part) (Q.under_way p.part)
         p.kept.begun p.kept.thread p.kept.slept) };
 
+    ghost Owns = { λ p m. owner_of (cv_rules ⟦<Reads as Guarded>⟧.monitor_rules) (inner (Q.opening m)) (buffer_sections (Q.seen m))
+        (Buffer (record { 0 = 0 })) ≡ Some p.kept.thread };
+
     fn act(&mut self, m: &mut Q::Machine, act: Act) -> Seen {
         if act == Act::Look {
             return if self.part.look(m) {
@@ -383,14 +461,8 @@ impl<Q: OwnedThreadLayer<QLockLaw<CvEdit<Reads>>>> Plays for LockPlayer<Q> {
                 if buffer != BufId(0) || !lock_lets::<Q>(&self.part, m, &self.kept, &edit) {
                     return Seen::Otherwise;
                 }
-                let call = BufferCall {
-                    buffer: BufId(0),
-                    edit,
-                };
-                let answer = self.part.poll(m, call, &mut Payload::new());
-                let runs = self.part.current().is_some();
-                self.kept = self.kept.polled(act, edit, answer.is_some(), runs);
-                seen_of(answer, runs)
+                let answer = lock_poll::<Q>(&mut self.part, m, &mut self.kept, act, edit);
+                seen_of(&edit, answer, self.kept.begun.is_some())
             }
         }
     }
@@ -409,6 +481,9 @@ impl<C: OwnedThreadLayer<CvLaw<Reads>>> Plays for CondPlayer<C> {
 
     ghost Fits = { λ p m. PartPlays (C.Fits p.part m) (C.opening m) (CondStands ⟦<Reads as Guarded>⟧.monitor_rules (C.own p.part) (C.under_way p.part)
         p.kept.begun p.kept.thread p.kept.slept p.kept.waits) };
+
+    ghost Owns = { λ p m. owner_of (cv_rules ⟦<Reads as Guarded>⟧.monitor_rules) (inner (C.opening m)) (buffer_sections (C.seen m))
+        (Buffer (record { 0 = 0 })) ≡ Some p.kept.thread };
 
     fn act(&mut self, m: &mut C::Machine, act: Act) -> Seen {
         if act == Act::Look {
@@ -432,14 +507,8 @@ impl<C: OwnedThreadLayer<CvLaw<Reads>>> Plays for CondPlayer<C> {
                 if buffer != BufId(0) || !cond_lets::<C>(&self.part, m, &self.kept, &edit) {
                     return Seen::Otherwise;
                 }
-                let call = BufferCall {
-                    buffer: BufId(0),
-                    edit,
-                };
-                let answer = self.part.poll(m, call, &mut Payload::new());
-                let runs = self.part.current().is_some();
-                self.kept = self.kept.polled(act, edit, answer.is_some(), runs);
-                seen_of(answer, runs)
+                let answer = cond_poll::<C>(&mut self.part, m, &mut self.kept, act, edit);
+                seen_of(&edit, answer, self.kept.begun.is_some())
             }
         }
     }

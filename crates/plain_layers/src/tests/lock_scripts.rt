@@ -1,8 +1,9 @@
 //! Scripts of locks: rows say what each CPU's thread does poll after poll, and what is to be seen. One runner
 //! goes through a script over any parts that can play it. No call takes memory or waits.
 
-ghost use Rattle.std.specs.Prelude.{ℕ, ◌+◌, ◌<◌, ◌≤◌};
+ghost use Rattle.std.specs.Prelude.{◌≡◌, ℕ, ◌+◌, ◌<◌, ◌≤◌};
 ghost use Rattle.{event_log.specs.declared.ids.CpuId.CpuId, plain_layers.specs.LockScripts.{AllFit, Played}};
+ghost use Rattle.plain_layers.specs.declared.tests.lock_scripts.Seen.TheVariants.{Acquired};
 
 use event_log::{CpuId, Tid};
 
@@ -106,13 +107,17 @@ pub(crate) trait Plays: Sized {
     /// The part and the machine agree, and the part knows what its thread has begun.
     ghost Fits: { Self → Self.Machine → Type 0 };
 
+    /// The part's thread owns the lock of buffer 0.
+    ghost Owns: { Self → Self.Machine → Type 0 };
+
     /// One poll of an act, where it may be polled now.
     ///
     /// Requires: the part and the machine agree. The machine has room for one more event.
     fn act(&mut self, m: &mut Self::Machine, act: Act) -> Seen
         requires fits { Fits self.old m.old }
         requires room { 0 < room m.old }
-        ensures { Played Fits cpu_of room self.old self.new m.old m.new };
+        ensures played { Played Fits cpu_of room self.old self.new m.old m.new }
+        ensures owns { result ≡ Acquired → Owns self.new m.new };
 
     /// Whether this is told.
     ///
