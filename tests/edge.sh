@@ -400,7 +400,7 @@ source_row() {
 waiting() {
   local crate
   for crate in $(sed -n 's/^\([a-z_]*\):.*/\1/p' crates.txt); do
-    find "crates/$crate/src" -name '*.rt' ! -name '*tests.rt' -exec cat {} + | sed -e 's|//.*||' -e 's/\<Wait(//g' | grep -wE 'Wait|Mutex|Condvar' > /dev/null && echo "$crate"
+    find "crates/$crate/src" -name '*.rt' ! -name 'tests.rt' ! -path '*/src/tests/*' -exec cat {} + | sed -e 's|//.*||' -e 's/\<Wait(//g' | grep -wE 'Wait|Mutex|Condvar' > /dev/null && echo "$crate"
   done
 }
 # Each file of the folder $1 in which the refusal of an allocation is made up, once for each time: `AllocError` or `AllocFailed` stands there as a value, or is
