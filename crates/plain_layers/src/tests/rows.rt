@@ -77,11 +77,11 @@ pub(crate) const ROOM: usize = 40;
 /// The homes of threads 0, 1 and 2.
 pub(crate) const HOMES: [CpuId; 3] = [CpuId(0), CpuId(1), CpuId(0)];
 
-pub(crate) const T0: Tid = Tid(0);
+pub(crate) const THREAD_0: Tid = Tid(0);
 
-pub(crate) const T1: Tid = Tid(1);
+pub(crate) const THREAD_1: Tid = Tid(1);
 
-pub(crate) const T2: Tid = Tid(2);
+pub(crate) const THREAD_2: Tid = Tid(2);
 
 /// Whether what a CPU has of its own lets a pass come.
 pub(crate) fn may_pass(own: &OwnThreads, pass: Pass) -> bool

@@ -7,7 +7,8 @@ ghost use Rattle.plain_layers.specs.{Naps.waiters_of, TwoCpus.{cpu_one, cpu_zero
 
 use crate::tests::openings::{Opens, SchedLaws};
 use crate::tests::rows::{
-    Act, HOMES, Polls, ROOM, Row, Seat, Side, T0, T1, T2, Told, may_edit, may_pass, rows_go,
+    Act, HOMES, Polls, ROOM, Row, Seat, Side, THREAD_0, THREAD_1, THREAD_2, Told, may_edit,
+    may_pass, rows_go,
 };
 use crate::{PlainLock, PlainQueues, PlainSched};
 use Act::{Continues, Looks, Rests};
@@ -147,13 +148,13 @@ const DRAIN: Act<SchedCall<Nap>> = Act::Begins(SchedCall::Pass(Pass::Drain));
 const END: Act<SchedCall<Nap>> = Act::Begins(SchedCall::Pass(Pass::End));
 
 /// Thread 0 is pushed to its home.
-const PUSH: Act<SchedCall<Nap>> = Act::Begins(SchedCall::Pass(Pass::MakeReady(T0)));
+const PUSH: Act<SchedCall<Nap>> = Act::Begins(SchedCall::Pass(Pass::MakeReady(THREAD_0)));
 
 /// Thread 0 goes to sleep.
 const SLEEP: Act<SchedCall<Nap>> = Act::Begins(SchedCall::OnBuffer(
     BufId(0),
     Nap {
-        by: T0,
+        by: THREAD_0,
         wakes: false,
     },
 ));
@@ -162,41 +163,41 @@ const SLEEP: Act<SchedCall<Nap>> = Act::Begins(SchedCall::OnBuffer(
 const WAKE: Act<SchedCall<Nap>> = Act::Begins(SchedCall::OnBuffer(
     BufId(0),
     Nap {
-        by: T1,
+        by: THREAD_1,
         wakes: true,
     },
 ));
 
 /// Two threads at home on one CPU take turns.
 const TURNS: [Step; 7] = [
-    Row(Home, SWITCH, One, Runs(Some(T0))),
+    Row(Home, SWITCH, One, Runs(Some(THREAD_0))),
     Row(Home, YIELD, Section, Runs(None)),
-    Row(Home, Rests, One, Ready(T2)),
-    Row(Home, Rests, One, Ready(T0)),
-    Row(Home, SWITCH, One, Runs(Some(T2))),
-    Row(Home, END, One, Ended(T2)),
+    Row(Home, Rests, One, Ready(THREAD_2)),
+    Row(Home, Rests, One, Ready(THREAD_0)),
+    Row(Home, SWITCH, One, Runs(Some(THREAD_2))),
+    Row(Home, END, One, Ended(THREAD_2)),
     Row(Home, Rests, One, Busy(false)),
 ];
 
 /// Thread 0 goes to sleep on CPU 0, where thread 2 then ends, and is woken by CPU 1, which pushes it to its
 /// home. CPU 0 takes it out of the queue, alone, and runs it again.
 const GOES_HOME: [Step; 18] = [
-    Row(Home, SWITCH, One, Runs(Some(T0))),
+    Row(Home, SWITCH, One, Runs(Some(THREAD_0))),
     Row(Home, SLEEP, Section, Answers(true, None)),
     Row(Home, Rests, One, Runs(None)),
-    Row(Home, Rests, One, Sleeps(Some(T0))),
-    Row(Home, Rests, One, Pends(T0, false)),
-    Row(Away, SWITCH, One, Runs(Some(T1))),
-    Row(Away, WAKE, Section, Answers(false, Some(T0))),
-    Row(Away, Rests, One, Holds(Some(T0))),
+    Row(Home, Rests, One, Sleeps(Some(THREAD_0))),
+    Row(Home, Rests, One, Pends(THREAD_0, false)),
+    Row(Away, SWITCH, One, Runs(Some(THREAD_1))),
+    Row(Away, WAKE, Section, Answers(false, Some(THREAD_0))),
+    Row(Away, Rests, One, Holds(Some(THREAD_0))),
     Row(Away, PUSH, Section, Holds(None)),
     Row(Home, Rests, One, Sleeps(None)),
-    Row(Home, Rests, One, Pends(T0, true)),
-    Row(Home, SWITCH, One, Runs(Some(T2))),
-    Row(Home, END, One, Ended(T2)),
+    Row(Home, Rests, One, Pends(THREAD_0, true)),
+    Row(Home, SWITCH, One, Runs(Some(THREAD_2))),
+    Row(Home, END, One, Ended(THREAD_2)),
     Row(Home, Rests, One, NobodyReady),
-    Row(Home, DRAIN, Section, Ready(T0)),
-    Row(Home, SWITCH, One, Runs(Some(T0))),
+    Row(Home, DRAIN, Section, Ready(THREAD_0)),
+    Row(Home, SWITCH, One, Runs(Some(THREAD_0))),
     Row(Home, Rests, One, NobodyReady),
     Row(Home, Rests, One, Busy(false)),
 ];
@@ -204,12 +205,12 @@ const GOES_HOME: [Step; 18] = [
 /// CPU 1 pushes thread 0, which it has in hand, into the queue of CPU 0, while CPU 0 takes that queue. The
 /// push came first, so the queue that is taken holds the thread.
 const MEET: [Step; 15] = [
-    Row(Home, SWITCH, One, Runs(Some(T0))),
+    Row(Home, SWITCH, One, Runs(Some(THREAD_0))),
     Row(Home, SLEEP, Section, Runs(None)),
-    Row(Home, SWITCH, One, Runs(Some(T2))),
+    Row(Home, SWITCH, One, Runs(Some(THREAD_2))),
     Row(Home, END, One, Busy(false)),
-    Row(Away, SWITCH, One, Runs(Some(T1))),
-    Row(Away, WAKE, Section, Holds(Some(T0))),
+    Row(Away, SWITCH, One, Runs(Some(THREAD_1))),
+    Row(Away, WAKE, Section, Holds(Some(THREAD_0))),
     Row(Away, Rests, One, Busy(false)),
     Row(Away, PUSH, One, GoesOn),
     Row(Home, DRAIN, One, GoesOn),
@@ -217,17 +218,17 @@ const MEET: [Step; 15] = [
     Row(Away, Continues, One, GoesOn),
     Row(Away, Continues, One, Holds(None)),
     Row(Home, Continues, One, GoesOn),
-    Row(Home, Continues, One, Ready(T0)),
+    Row(Home, Continues, One, Ready(THREAD_0)),
     Row(Home, Rests, One, Busy(false)),
 ];
 
 /// The threads of CPU 0 end, and it takes its queue. A look takes the place of the second poll, after which
 /// the queue is in its hands.
 const LOOKS: [Step; 11] = [
-    Row(Home, SWITCH, One, Runs(Some(T0))),
-    Row(Home, END, One, Ended(T0)),
-    Row(Home, SWITCH, One, Runs(Some(T2))),
-    Row(Home, END, One, Ended(T2)),
+    Row(Home, SWITCH, One, Runs(Some(THREAD_0))),
+    Row(Home, END, One, Ended(THREAD_0)),
+    Row(Home, SWITCH, One, Runs(Some(THREAD_2))),
+    Row(Home, END, One, Ended(THREAD_2)),
     Row(Home, Rests, One, Busy(false)),
     Row(Home, DRAIN, One, GoesOn),
     Row(Home, Rests, One, Busy(true)),
@@ -239,10 +240,10 @@ const LOOKS: [Step; 11] = [
 
 /// The threads of CPU 0 end, and it takes its empty queue twice.
 const DRAINS: [Step; 6] = [
-    Row(Home, SWITCH, One, Runs(Some(T0))),
-    Row(Home, END, One, Ended(T0)),
-    Row(Home, SWITCH, One, Runs(Some(T2))),
-    Row(Home, END, One, Ended(T2)),
+    Row(Home, SWITCH, One, Runs(Some(THREAD_0))),
+    Row(Home, END, One, Ended(THREAD_0)),
+    Row(Home, SWITCH, One, Runs(Some(THREAD_2))),
+    Row(Home, END, One, Ended(THREAD_2)),
     Row(Home, DRAIN, Section, NobodyReady),
     Row(Home, DRAIN, Section, NobodyReady),
 ];
@@ -303,7 +304,7 @@ fn is_seen<S: OwnedLayer<SchedLaw<Nap>>>(part: &S, m: &S::Machine, sees: Sees) -
         Sees::Pends(t, pends) => {
             S::pends_in(m, CpuId(0), t) == Some(pends) && part.pends_here(CpuId(0), t).is_none()
         }
-        Sees::HasQueue(has) => part.pends_here(CpuId(0), T0) == has.then_some(false),
+        Sees::HasQueue(has) => part.pends_here(CpuId(0), THREAD_0) == has.then_some(false),
     }
 }
 

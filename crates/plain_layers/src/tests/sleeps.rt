@@ -9,7 +9,8 @@ ghost use Rattle.{plain_layers.specs.{TwoCpus.{buffer_zero, cpu_one, cpu_zero}, 
 use crate::PlainSched;
 use crate::tests::openings::{Opens, SchedLaws};
 use crate::tests::rows::{
-    Act, HOMES, Polls, ROOM, Row, Seat, Side, T0, T1, T2, Told, may_edit, may_pass, rows_go,
+    Act, HOMES, Polls, ROOM, Row, Seat, Side, THREAD_0, THREAD_1, THREAD_2, Told, may_edit,
+    may_pass, rows_go,
 };
 use Act::Rests;
 use Polls::{One, Section};
@@ -126,9 +127,9 @@ const END: Act<SchedCall<Nap>> = Act::Begins(SchedCall::Pass(Pass::End));
 const SLEEP: Act<SchedCall<Nap>> = Act::Begins(SchedCall::OnBuffer(
     BufId(0),
     Nap {
-        caller: T0,
+        caller: THREAD_0,
         sleeps: true,
-        other: T0,
+        other: THREAD_0,
     },
 ));
 
@@ -136,9 +137,9 @@ const SLEEP: Act<SchedCall<Nap>> = Act::Begins(SchedCall::OnBuffer(
 const WAKE_ACROSS: Act<SchedCall<Nap>> = Act::Begins(SchedCall::OnBuffer(
     BufId(0),
     Nap {
-        caller: T1,
+        caller: THREAD_1,
         sleeps: false,
-        other: T0,
+        other: THREAD_0,
     },
 ));
 
@@ -146,9 +147,9 @@ const WAKE_ACROSS: Act<SchedCall<Nap>> = Act::Begins(SchedCall::OnBuffer(
 const WAKE_AT_HOME: Act<SchedCall<Nap>> = Act::Begins(SchedCall::OnBuffer(
     BufId(0),
     Nap {
-        caller: T2,
+        caller: THREAD_2,
         sleeps: false,
-        other: T0,
+        other: THREAD_0,
     },
 ));
 
@@ -156,39 +157,39 @@ const WAKE_AT_HOME: Act<SchedCall<Nap>> = Act::Begins(SchedCall::OnBuffer(
 /// then thread 1 of another CPU wakes it in as many, after which it stands in that CPU's hand alone, and sends
 /// it home in as many more.
 const ACROSS: [Step; 10] = [
-    Row(Away, SWITCH, One, Runs(Some(T1))),
-    Row(Home, SWITCH, One, Runs(Some(T0))),
+    Row(Away, SWITCH, One, Runs(Some(THREAD_1))),
+    Row(Home, SWITCH, One, Runs(Some(THREAD_0))),
     Row(Home, SLEEP, Section, Slept),
     Row(Home, Rests, One, Runs(None)),
-    Row(Away, WAKE_ACROSS, Section, Takes(T0)),
+    Row(Away, WAKE_ACROSS, Section, Takes(THREAD_0)),
     Row(Home, Rests, One, Runs(None)),
     Row(Home, Rests, One, HoldsNobody),
-    Row(Home, Rests, One, Ready(T0, false)),
-    Row(Away, Act::Continues, Section, Woke(T0)),
+    Row(Home, Rests, One, Ready(THREAD_0, false)),
+    Row(Away, Act::Continues, Section, Woke(THREAD_0)),
     Row(Away, Rests, One, HoldsNobody),
 ];
 
 /// Thread 0 falls asleep, and thread 2 of the same CPU wakes it: it is ready there after that same poll, and
 /// thread 2 may end.
 const AT_HOME: [Step; 9] = [
-    Row(Home, SWITCH, One, Runs(Some(T0))),
+    Row(Home, SWITCH, One, Runs(Some(THREAD_0))),
     Row(Home, SLEEP, Section, Slept),
-    Row(Home, SWITCH, One, Runs(Some(T2))),
-    Row(Home, WAKE_AT_HOME, Section, Woke(T0)),
-    Row(Home, Rests, One, Ready(T0, true)),
-    Row(Home, Rests, One, Runs(Some(T2))),
+    Row(Home, SWITCH, One, Runs(Some(THREAD_2))),
+    Row(Home, WAKE_AT_HOME, Section, Woke(THREAD_0)),
+    Row(Home, Rests, One, Ready(THREAD_0, true)),
+    Row(Home, Rests, One, Runs(Some(THREAD_2))),
     Row(Home, Rests, One, HoldsNobody),
-    Row(Home, END, One, Ended(T2)),
+    Row(Home, END, One, Ended(THREAD_2)),
     Row(Home, Rests, One, Runs(None)),
 ];
 
 /// Thread 0 sleeps: the machine tells in which line, and the part has no block in its hands.
 const OBSERVED: [Step; 5] = [
-    Row(Home, SWITCH, One, Runs(Some(T0))),
+    Row(Home, SWITCH, One, Runs(Some(THREAD_0))),
     Row(Home, SLEEP, Section, Slept),
-    Row(Home, Rests, One, Waits(T0)),
+    Row(Home, Rests, One, Waits(THREAD_0)),
     Row(Home, Rests, One, Block(7)),
-    Row(Home, Rests, One, PendsNot(T0)),
+    Row(Home, Rests, One, PendsNot(THREAD_0)),
 ];
 
 /// Each script.
