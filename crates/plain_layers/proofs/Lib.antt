@@ -3,6 +3,7 @@ pub mod KernelLemmas
 pub mod WholeLemmas
 pub mod FifoLemmas
 pub mod LockOwnerLemmas
+pub mod QueueSectionLemmas
 pub mod LockScriptLemmas
 pub mod OpeningLemmas
 pub mod PlainOpenings

@@ -15,6 +15,7 @@ mod lock_scripts;
 mod locks;
 mod natives;
 mod openings;
+mod queues;
 mod rows;
 mod scheds;
 mod sleeps;

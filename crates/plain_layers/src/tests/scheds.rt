@@ -32,9 +32,9 @@ use std::test::Fail;
 
 /// A nap at buffer 0: its caller sleeps in the one place there, or wakes who sleeps in it.
 #[derive(Clone, Copy)]
-struct Nap {
-    by: Tid,
-    wakes: bool,
+pub(crate) struct Nap {
+    pub(crate) by: Tid,
+    pub(crate) wakes: bool,
 }
 
 impl SplitEdit for Nap {
@@ -100,7 +100,7 @@ impl Moves for Nap {
 
 /// The laws of schedulers for naps, with the types that their clauses name: those of one-step queues name
 /// these besides.
-type NapLaws = PhantomData<
+pub(crate) type NapLaws = PhantomData<
     (
         SchedLaws<Nap>,
         QueueBlock<Option<Tid>>,
