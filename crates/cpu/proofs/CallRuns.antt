@@ -3,10 +3,12 @@ use Rattle.std.proofs.Common.{◌≡◌, ◌++◌, ◌<◌, ◌≤◌, ◌+◌, 
 use Rattle.std.proofs.{Common.{subst, arith, vec_capacity}, lemmas.List.{append-nil, length-set, Folds.list_all_at}}
 use Rattle.{event_log.specs.declared.{entries.Entry.Entry, ids.{CpuId.CpuId, Tid.Tid}}, guest.specs.declared.instructions.Instruction.Instruction}
 use Rattle.{guest.specs.State.State, layer_traits.specs.declared.{call_layers.CallLayer.Ghosts, calls.{Call.Call, Effect.Effect, ReplyKind.ReplyKind}}}
-use Rattle.layer_traits.specs.{declared.{calls.Reply.Reply, call_states.CallState.CallState}, Places.one_if, BufferLaw.{answer_in, begun_of, buffer_of}}
+use Rattle.layer_traits.specs.{declared.{calls.Reply.Reply, call_states.CallState.CallState}, Places.one_if}
+use Rattle.layer_traits.specs.BufferLaw.{Answered, answer_in, begun_of, buffer_of}
 use Rattle.layer_traits.specs.{BufferLaw.call_state_of, IpcLaw.ipc_plan, LayerPolls.{IsQuietAt, LookedAt, PolledAt, PolledOnAt}, Looks.Tries, PollRuns.PolledOn}
 use Rattle.{layer_traits.specs.QueueBlocks.homes_in, cpu.specs.declared.{cpus.{Choice.TheVariants.Polls, Cpu.Cpu}, guests.{Guest.Guest, GuestStage.GuestStage}}}
 use Rattle.cpu.specs.{declared.guests.{GuestStage.TheVariants.Begun, Todo.Todo}, Cpus.{IsCpu, begins_at, begun_count, chosen, chosen_at, chosen_by, chosen_for}}
+use Rattle.cpu.specs.Cpus.{GuestsWent, Replies, guest_calls, guests_rest}
 use Rattle.cpu.specs.{Cpus.{chosen_todo, fresh_at, guest_at, is_begun_guest, of_cpu, of_thread, programs_of, with_guest}, CpuSteps.{RunsAt, SteppedAt}}
 use Rattle.cpu.specs.{CpuSteps.stops_at, Guests.{HasComeIn, entries_of, fresh_effect, had, is_begun, is_calling, polled, stage_after, todo_of}}
 use Rattle.cpu.proofs.{CallSteps.{PolledCpu, PollsAt, noted_call, poll_buffer, poll_call_states, poll_within, polls_at}, CpuOverLayer.{IsLayered, PartLaws}}
@@ -14,6 +16,11 @@ use Rattle.cpu.proofs.{CpuOverLayer.{layered, acts_for, left_framed, observed_cp
 use Rattle.cpu.proofs.{CpuStates.valid_cpu, GuestLists.{at_same, count_with, guest_within, programs_with}, PassSteps.seen_stays, StepsBesideGuests.called_grows}
 use Rattle.cpu.proofs.{StepsBesideGuests.{follows_grow, look_grows, others_grow, others_same}, ListReads.set_twice, TableCalls.{ObservedPoll, call_steps}}
 use Rattle.cpu.proofs.TableCalls.{call_tabled, hand_preserved, looked_steps}
+
+-- a call that is answered has had an effect
+replies_so : (call : Call) (state : CallState) (answer : Option Reply) → Answered call state answer → Replies call state.effect answer
+replies_so call state None answered = tt
+replies_so call state (Some reply) answered = answered.1
 
 module _ {P L M : Type 0} {I : Ghosts P L M} (laws : PartLaws I) (m : M) (p : Cpu P M) (cpu : IsLayered I m p) (live : stops_at I p ≡ None) where
   -- a look that took the CPU to r, with all else of the CPU as it was
@@ -25,7 +32,8 @@ module _ {P L M : Type 0} {I : Ghosts P L M} (laws : PartLaws I) (m : M) (p : Cp
     is = rw (looked.homes, looked.caps, looked.threads, looked.call_states, looked.under_way, number, limit, guests)
         (subst (λ (l : List Entry). IsCpu (I.homes_of m) (length (I.caps m)) (I.seen n) (I.threads p.part) (I.call_states p.part) (I.under_way p.part)
         p.number p.guests.items l p.limit (vec_capacity r.trace)) (sym trace) (grind (arith, seen_stays (valid_cpu cpu.is) (I.seen n) (others_same (λ d. I.ActsFor m d) p.number (I.seen m) (I.seen n) looked.seen (acts_for cpu)), capacity)));
-    leaves = left_framed I m n p r cpu.number number limit looked.framed looked.caps looked.homes (ap programs_of guests) (others_grow _ _ _ _ looked.seen)
+    leaves = left_framed I m n p r cpu.number number limit looked.framed looked.caps looked.homes (ap programs_of guests)
+        (guests_rest guests trace) (others_grow _ _ _ _ looked.seen)
         (rw cpu.number at looked.moves)
         (λ step. look_grows (λ d. I.ActsFor m d) p.number (I.acts m) (I.acts n) true
         (λ yes. subst (λ (d : CpuId). Tries (λ e. I.ActsFor m e) d (I.acts m) (I.acts n)) cpu.number (looked.tries step)) (λ no. absurd (cc no)));
@@ -90,6 +98,15 @@ module _ {P L M : Type 0} {I : Ghosts P L M} (laws : PartLaws I) (m : M) (p : Cp
       trace_is = trace_is;
     }
 
+    -- the call goes on, has its effect or returns
+    went : GuestsWent p.number p.guests.items p.trace.items r.guests.items r.trace.items
+    went =
+        let polls = polls_at (valid_cpu cpu.is) t call chose in
+        guest_calls t polls.guest call ((call_state_of (I.call_states r.part) t).effect) (answer_in (I.call_states r.part) t told) polls.at polls.asks
+        (replies_so call (call_state_of (I.call_states r.part) t) (answer_in (I.call_states r.part) t told) (polled_so.called there).answers) guests_is
+        (trace_is
+        ∙ ap (λ (o : Option Guest). p.trace.items ++ entries_of p.number t (buffer_of call) (fresh_at o ((call_state_of (I.call_states r.part) t).effect))) polls.at)
+
     pub poll_steps : SteppedAt I m p n r
     poll_steps = record {
       live = live;
@@ -97,6 +114,7 @@ module _ {P L M : Type 0} {I : Ghosts P L M} (laws : PartLaws I) (m : M) (p : Cp
       is = rw (polled_so.homes, polled_so.caps, number, limit) (noted_call (valid_cpu cpu.is) t call chose _ polled_cpu);
       leaves = left_framed I m n p r cpu.number number limit polled_so.framed polled_so.caps polled_so.homes
           (ap programs_of guests_is ∙ programs_with p.guests.items t.0 _ (λ x. refl))
+          went
           (called_grows _ _ _ _ _ _ _ _ _ (rw cpu.number at (polled_so.called there)))
           (rw cpu.number at polled_so.moves)
           (λ step. rw (← cpu.number) (follows_grow _ _ _ _ _ _ _ _ (polled_so.follows step)));

@@ -3,9 +3,9 @@ use Rattle.std.proofs.Common.{◌≡◌, ◌<◌, length, false, Some, None, ap,
 use Rattle.{event_log.specs.{declared.ids.{CpuId.CpuId, Tid.Tid}, Actions.phase}, layer_traits.specs.contracts.call_layers.CallLayer.TheBound.Met}
 use Rattle.layer_traits.specs.{declared.call_layers.{CallLaw.Ghosts as LawGhosts, CallLayer.Ghosts}, BufferLaw.MovesGrow, Framed.Framed, Places.AreMoves}
 use Rattle.layer_traits.{specs.{Places.{Stands, home_of}, Plans.is_in_section, QueueBlocks.homes_in}, proofs.PlaceLemmas.current_at}
-use Rattle.cpu.specs.{declared.cpus.Cpu.Cpu, Cpus.{ActsGrow, SeenGrows, programs_of}, CpuSteps.{IsCpuAt, IsTabledAt, Leaves}, Tower.Privates.threads_in}
-use Rattle.cpu.proofs.{PassSteps.current_within, CpuStates.valid_cpu, StepsBesideGuests.{none_grow, none_moved, none_seen}, TableCalls.ObservedCpu}
-use Rattle.cpu.proofs.TableCalls.{ObservedOutset, hand_known}
+use Rattle.cpu.specs.{declared.cpus.Cpu.Cpu, Cpus.{ActsGrow, GuestsWent, SeenGrows, programs_of}, CpuSteps.{IsCpuAt, IsTabledAt, Leaves}}
+use Rattle.cpu.{specs.Tower.Privates.threads_in, proofs.{PassSteps.current_within, CpuStates.valid_cpu, StepsBesideGuests.{none_grow, none_moved, none_seen}}}
+use Rattle.cpu.proofs.TableCalls.{ObservedCpu, ObservedOutset, hand_known}
 use borrow.Fn.World.{World}
 use denote.RattleType.{RattleType}
 use mir.Syntax.{Dict}
@@ -89,12 +89,14 @@ module _ {P L M : Type 0} {I : Ghosts P L M} {m : M} {p : Cpu P M} (at : IsLayer
 
 -- a step that touches neither the machine nor the CPU's part
 pub left_alone : {P L M : Type 0} (I : Ghosts P L M) (m : M) (p q : Cpu P M) → I.cpu_of p.part ≡ p.number → q.number ≡ p.number → q.limit ≡ p.limit
-    → q.part ≡ p.part → programs_of q.guests.items ≡ programs_of p.guests.items → Leaves I m p m q
-left_alone I m p q at number limit part programs = record {
+    → q.part ≡ p.part → programs_of q.guests.items ≡ programs_of p.guests.items
+    → GuestsWent p.number p.guests.items p.trace.items q.guests.items q.trace.items → Leaves I m p m q
+left_alone I m p q at number limit part programs guests = record {
   number = number;
   limit = limit;
   cpu = ap I.cpu_of part ∙ at;
   programs = programs;
+  guests = guests;
   seen = none_seen _ _ _ _ refl;
   moves = none_moved _ _ _ _ refl;
   grows = λ step. none_grow _ _ _ _ refl;
@@ -111,13 +113,15 @@ left_alone I m p q at number limit part programs = record {
 -- a step of the CPU's part
 pub left_framed : {P L M : Type 0} (I : Ghosts P L M) (m n : M) (p q : Cpu P M) → I.cpu_of p.part ≡ p.number → q.number ≡ p.number → q.limit ≡ p.limit
     → Framed I.Fits I.cpu_of I.opening I.site I.room I.ActsFor I.MayHold p.part q.part m n → I.caps n ≡ I.caps m → I.homes_of n ≡ I.homes_of m
-    → programs_of q.guests.items ≡ programs_of p.guests.items → SeenGrows (I.ActsFor m) p.number (I.seen m) (I.seen n)
+    → programs_of q.guests.items ≡ programs_of p.guests.items → GuestsWent p.number p.guests.items p.trace.items q.guests.items q.trace.items
+    → SeenGrows (I.ActsFor m) p.number (I.seen m) (I.seen n)
     → MovesGrow (I.ActsFor m) p.number (I.moves m) (I.moves n) → (I.IsStepwise → ActsGrow (I.ActsFor m) p.number (I.acts m) (I.acts n)) → Leaves I m p n q
-left_framed I m n p q at number limit framed caps homes programs seen moves grows = record {
+left_framed I m n p q at number limit framed caps homes programs guests seen moves grows = record {
   number = number;
   limit = limit;
   cpu = framed.cpu ∙ at;
   programs = programs;
+  guests = guests;
   seen = seen;
   moves = moves;
   grows = grows;

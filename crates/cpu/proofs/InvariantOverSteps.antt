@@ -9,7 +9,7 @@ use Rattle.cpu.{specs.{Claims.CpuShown, Systems.{IsAt, IsSystem}}, proofs.{CpuSt
 use Rattle.cpu.proofs.{ListReads.{all_both, all_by, all_left, all_right, set_again, set_else, set_there}, PassSteps.seen_stays, ReachedSystems.Observed}
 
 -- where the holder acts for each CPU that there may be, no effect is foreign
-no_others : (ActsFor : CpuId → Type 0) (others : List Entry) → ((c : CpuId) → c.0 < CPUS → ActsFor c) → AllByRecursion (λ e. e.cpu.0 < CPUS) others
+pub no_others : (ActsFor : CpuId → Type 0) (others : List Entry) → ((c : CpuId) → c.0 < CPUS → ActsFor c) → AllByRecursion (λ e. e.cpu.0 < CPUS) others
     → AreForeign ActsFor cpu_of_entry others → others ≡ []
 no_others ActsFor [] all known foreign = refl
 no_others ActsFor (e ∷ others) all known foreign =

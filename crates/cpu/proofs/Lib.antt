@@ -34,3 +34,5 @@ pub mod SpinsOverLayer
 pub mod CpuRuns
 pub mod CallRuns
 pub mod RunsOverLayer
+pub mod Moments
+pub mod RealTime

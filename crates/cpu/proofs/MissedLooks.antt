@@ -1,10 +1,11 @@
 -- Looks of one CPU that all missed: each is a step of the step table that leaves the CPU's private state, and so many of them are so many
 -- steps of the system.
 use Rattle.std.proofs.Common.{◌≡◌, ℕ, zero, suc, ◌+◌, ◌<◌, ◌≤◌, false, List, [], ◌∷◌, ◌++◌, map, replicate, Some, None, refl, ap, sym, ◌∙◌, subst, arith}
-use Rattle.std.{proofs.lemmas.Bool.ne_eqb, specs.Prelude.{◌==◌, slice_get}}
+use Rattle.std.{proofs.lemmas.Bool.ne_eqb, specs.Prelude.{slice_get}}
 use Rattle.event_log.specs.{declared.ids.{CpuId.CpuId, LockId.LockId}, Actions.{Action, Try, AreLegal}}
-use Rattle.{layer_traits.specs.declared.steps.Step.TheVariants.Stepped, cpu.specs.{Claims.{CpuShown, Shown}, Systems.{SamePlan, SteppedByTable, own_reason}}}
-use Rattle.cpu.{specs.Table.Blocks.Name, proofs.{ListReads.{set_again, shows_at}, Schedules.{Leads, leads_live, leads_nowhere}}}
+use Rattle.{layer_traits.specs.declared.steps.Step.TheVariants.Stepped}
+use Rattle.cpu.specs.{Claims.{CpuShown, IsMoment, Shown}, Systems.{SamePlan, SteppedByTable, own_reason}}
+use Rattle.cpu.{specs.Table.Blocks.Name, proofs.{ListReads.{set_again, shows_at}, Moments.calls_stay, Schedules.{Leads, leads_live, leads_nowhere}}}
 
 -- One look.
 
@@ -36,6 +37,21 @@ replicate_end : {X : Type 0} (n : ℕ) (x : X) → replicate n x ++ x ∷ [] ≡
 replicate_end zero x = refl
 replicate_end (suc n) x = ap (λ l. x ∷ l) (replicate_end n x)
 
+amid_moment : (s : Shown) (log : List (Action Name)) (taken : ℕ) → s.taken ≤ taken → IsMoment s → IsMoment (amid s log taken)
+amid_moment s log taken later now =
+    let one = now.one_order in
+    record {
+      one_order = record {
+        keeps = one.keeps;
+        run = one.run;
+        fifo = one.fifo;
+        closed = one.closed;
+        few = let few = one.few in omega (arith, few, later);
+      };
+      follow = now.follow;
+      stay = now.stay;
+    }
+
 -- r is the system s after so many looks of CPU c, which has a section under way, and each look missed
 pub record AreMisses (IsStepwise : Type 0) (c : CpuId) (s : Shown) (looks : ℕ) (r : Shown) : Type 0 where
   pub cpus : r.cpus ≡ s.cpus
@@ -44,6 +60,9 @@ pub record AreMisses (IsStepwise : Type 0) (c : CpuId) (s : Shown) (looks : ℕ)
   pub used : r.taken ≤ r.room
   pub tries : IsStepwise → (lock : LockId) × (r.log ≡ replicate looks (Try c lock false) ++ s.log)
   pub legal : AreLegal r.log
+  pub order : r.order ≡ s.order
+  pub before : IsMoment s
+  pub now : IsMoment r
 
 module _ (IsStepwise : Type 0) (c : CpuId) (s : Shown) (here : CpuShown) (at : slice_get s.cpus c.0 ≡ Some here) (live : own_reason here ≡ None) where
   -- they are steps of the schedule
@@ -53,6 +72,7 @@ module _ (IsStepwise : Type 0) (c : CpuId) (s : Shown) (here : CpuShown) (at : s
       let has_room : s.taken < s.room = omega (arith, taken, is.used, is.room) in
       let one_more : r.taken ≡ s.taken + 1 = omega (arith, taken) in
       leads_live IsStepwise s s r [] c (leads_nowhere IsStepwise s) same (grind (arith, ne_eqb, at, live, has_room)) one_more
+      (calls_stay c s r is.order is.cpus) is.now
       (λ step. missed_one c (is.tries step).0 s r here at is.cpus is.room one_more (is.tries step).1 is.legal has_room)
   misses_lead (suc more) r same is =
       let taken = is.taken in
@@ -70,9 +90,12 @@ module _ (IsStepwise : Type 0) (c : CpuId) (s : Shown) (here : CpuShown) (at : s
         used = omega (arith, has_room);
         tries = λ step. ((is.tries step).0, ap (λ (l : List (Action Name)). behind l) (is.tries step).1);
         legal = legal_behind r.log is.legal;
+        order = refl;
+        before = is.before;
+        now = amid_moment s (behind r.log) (s.taken + suc more) (omega arith) is.before;
       }))
       (record { caps = same.caps; homes = same.homes; programs = same.programs; count = same.count; limits = same.limits; room = same.room })
-      (grind (arith, ne_eqb, at, live, has_room)) one_more
+      (grind (arith, ne_eqb, at, live, has_room)) one_more (calls_stay c before r is.order is.cpus) is.now
       (λ step. missed_one c (is.tries step).0 before r here at is.cpus is.room one_more (first_is r.log _ _ (is.tries step).1) is.legal has_room))
     where
       legal_behind : (log : List (Action Name)) → AreLegal log → AreLegal (behind log)

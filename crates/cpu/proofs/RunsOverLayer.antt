@@ -1,16 +1,13 @@
 -- A system over a layer of message calls, after steps of one of its CPUs, one behind the other.
-use Rattle.std.proofs.{lemmas.{Bool.ne_eqb, List.replicate-append-replicate, Option.slice_get_within}, Common.{◌≡◌, ℕ, ◌+◌, ◌<◌, ◌≤◌, List, [], ◌∷◌, ◌++◌, map}}
-use Rattle.std.{proofs.Common.{replicate, Some, None, slice_set, refl, sym, subst, arith}, specs.{Prelude.{slice_get, Option}, List.AllByRecursion}}
-use Rattle.event_log.specs.{declared.ids.{BufId.BufId, CpuId.CpuId, Tid.Tid, TheConstants.CPUS}, Actions.AreLegal}
-use Rattle.{layer_traits.specs.declared.{call_layers.CallLayer.Ghosts, steps.Step.TheVariants.Stepped}, cpu.specs.{declared.cpus.Cpu.Cpu, Claims.Shown}}
-use Rattle.cpu.{specs.{CpuSteps.{RunsAt, SteppedAt}, Systems.{SteppedByTable, reason_of}}, proofs.{InvariantOverSteps.Holds, ListReads.{set_again, set_there}}}
-use Rattle.cpu.proofs.{ListReads.{set_twice, shows_at}, ReachedSystems.shown_in, Schedules.{Leads, leads_live, leads_nowhere}, SystemOverLayer.by_table}
-use Rattle.cpu.proofs.SystemOverLayer.{observed_by, plan_preserved, shown_by, went_on, works_by}
-
--- what the laws of a layer say of a machine that a part agrees with
-pub record MachineLaws {P L M : Type 0} (I : Ghosts P L M) : Type 0 where
-  pub legal : (part : P) (n : M) → I.Fits part n → AreLegal (I.acts n)
-  pub known : (part : P) (n : M) → I.Fits part n → AllByRecursion (λ e. e.cpu.0 < CPUS) (I.seen n)
+use Rattle.std.proofs.{lemmas.{Bool.ne_eqb, List.replicate-append-replicate, Option.{same_Some, slice_get-map, slice_get_within}}, Common.{◌≡◌, ℕ, ◌+◌, ◌<◌}}
+use Rattle.std.proofs.Common.{◌≤◌, List, [], ◌∷◌, ◌++◌, map, replicate, reverse, Some, None, slice_set, refl, ap, sym, ◌∙◌, subst, arith}
+use Rattle.std.specs.Prelude.{slice_get, Option, option_map}
+use Rattle.{event_log.specs.declared.ids.{BufId.BufId, CpuId.CpuId, Tid.Tid}, layer_traits.specs.{OnePlace.cpu_at, declared.call_layers.CallLayer.Ghosts}}
+use Rattle.{layer_traits.specs.declared.steps.Step.TheVariants.Stepped, cpu.specs.{declared.cpus.Cpu.Cpu, Claims.{CpuShown, Shown}, CpuSteps.RunsAt}}
+use Rattle.cpu.specs.{CpuSteps.SteppedAt, Cpus.{GuestsWent, SeenGrows}, Linear.{CallsGoOn, OrderGrows}, Systems.{SteppedByTable, reason_of}}
+use Rattle.cpu.proofs.{InvariantOverSteps.Holds, ListReads.{set_again, set_else, set_there, set_twice, shows_at}, Moments.{MachineLaws, moment, order_grows}}
+use Rattle.cpu.proofs.{ReachedSystems.shown_in, Schedules.{Leads, leads_live, leads_nowhere}, SystemOverLayer.{by_table, observed_by, plan_preserved, shown_by}}
+use Rattle.cpu.proofs.SystemOverLayer.{went_on, works_by}
 
 module _ {P L M : Type 0} (I : Ghosts P L M) (laws : MachineLaws I) (owner : M → BufId → Option Tid) (threads room k : ℕ) (c : CpuId) (same : k ≡ c.0) where
   -- a system with this machine and these CPUs, after so many steps
@@ -20,13 +17,44 @@ module _ {P L M : Type 0} (I : Ghosts P L M) (laws : MachineLaws I) (owner : M �
   -- CPU c, at number k, took a step
   module _ (m n : M) (cpus : List (Cpu P M)) (taken : ℕ) (x y : Cpu P M) (is : Holds (works_by I owner threads) m cpus room taken)
       (at : slice_get cpus k ≡ Some x) (live : taken < room) (step : SteppedAt I m x n y) where
+    acts : I.ActsFor n (I.cpu_of y.part)
+    acts = laws.own_cpu y.part n step.fits
+
     keeps_one : Holds (works_by I owner threads) n (slice_set cpus k y) room (taken + 1)
     keeps_one =
-        went_on I owner threads m n cpus room taken k c x y is at same step.leaves live (laws.legal y.part n step.fits) step.steps step.fits step.is step.table
-        (laws.known y.part n step.fits)
+        went_on I owner threads m n cpus room taken k c x y is at same step.leaves live (laws.legal n (I.cpu_of y.part) acts) step.steps step.fits step.is
+        step.table (laws.known n (I.cpu_of y.part) acts)
 
     pub by_one : I.IsStepwise → SteppedByTable c (shows m cpus taken) (shows n (slice_set cpus k y) (taken + 1)) Stepped
-    by_one = by_table I owner threads m n cpus room taken k c x y is at same step.leaves live (laws.legal y.part n step.fits) step.steps
+    by_one = by_table I owner threads m n cpus room taken k c x y is at same step.leaves live (laws.legal n (I.cpu_of y.part) acts) step.steps
+
+    -- the order goes on by at most one call, of this CPU
+    pub grows_one : OrderGrows c (reverse (I.seen m)) (reverse (I.seen n))
+    grows_one =
+        let number : x.number ≡ c = (is.each k x at).number_is ∙ ap (λ (j : ℕ). cpu_at j) same in
+        order_grows (λ d. I.ActsFor m d) c (I.seen m) (I.seen n) is.acts_for (laws.known n (I.cpu_of y.part) acts)
+        (subst (λ (d : CpuId). SeenGrows (λ a. I.ActsFor m a) d (I.seen m) (I.seen n)) number step.leaves.seen)
+
+    -- the calls go on
+    pub calls_one : CallsGoOn c (shows m cpus taken) (shows n (slice_set cpus k y) (taken + 1))
+    calls_one = record {
+      order = grows_one;
+      own = λ p q at_p at_q.
+          let number : x.number ≡ c = (is.each k x at).number_is ∙ ap (λ (j : ℕ). cpu_at j) same in
+          let was : shown_by I x ≡ p = same_Some (shown_by I x) p (sym (subst (λ (j : ℕ). slice_get (map (shown_by I) cpus) j ≡ Some (shown_by I x)) same
+          (shows_at (shown_by I) cpus k x at)) ∙ at_p) in
+          let there : slice_get (slice_set cpus k y) k ≡ Some y = set_there cpus k y (slice_get_within cpus k x at) in
+          let now : shown_by I y ≡ q =
+          same_Some (shown_by I y) q (sym (subst (λ (j : ℕ). slice_get (map (shown_by I) (slice_set cpus k y)) j ≡ Some (shown_by I y)) same
+          (shows_at (shown_by I) (slice_set cpus k y) k y there)) ∙ at_q) in
+          subst (λ (d : CpuId). GuestsWent d p.guests p.trace q.guests q.trace) number
+          (subst (λ (z : CpuShown). GuestsWent x.number p.guests p.trace z.guests z.trace) now
+          (subst (λ (z : CpuShown). GuestsWent x.number z.guests z.trace y.guests.items y.trace.items) was step.leaves.guests));
+      others = λ j other.
+          slice_get-map (shown_by I) (slice_set cpus k y) j
+          ∙ ap (λ o. option_map (shown_by I) o) (set_else cpus k j y (λ e. other (e ∙ same)))
+          ∙ sym (slice_get-map (shown_by I) cpus j);
+    }
 
     leads_one : (s : Shown) (schedule : List CpuId) → Leads I.IsStepwise s schedule (shows m cpus taken)
         → Leads I.IsStepwise s (schedule ++ c ∷ []) (shows n (slice_set cpus k y) (taken + 1))
@@ -34,7 +62,8 @@ module _ {P L M : Type 0} (I : Ghosts P L M) (laws : MachineLaws I) (owner : M �
         let there = subst (λ (j : ℕ). slice_get (map (shown_by I) cpus) j ≡ Some (shown_by I x)) same (shows_at (shown_by I) cpus k x at) in
         let none : reason_of c (shows m cpus taken) ≡ None = grind (arith, ne_eqb, there, step.live) in
         leads_live I.IsStepwise s (shows m cpus taken) (shows n (slice_set cpus k y) (taken + 1)) schedule c before
-        (plan_preserved I owner threads m n cpus room taken (taken + 1) k x y at step.leaves) none refl by_one
+        (plan_preserved I owner threads m n cpus room taken (taken + 1) k x y at step.leaves) none refl calls_one
+        (moment I laws owner threads n (slice_set cpus k y) room (taken + 1) keeps_one) by_one
 
   -- it took so many, which are steps of a schedule, and all holds as before
   pub record WentSo (m : M) (cpus : List (Cpu P M)) (taken steps : ℕ) (n : M) (y : Cpu P M) : Type 0 where

@@ -2,7 +2,8 @@
 use Rattle.std.proofs.Common.{◌≡◌, ℕ, zero, suc, ◌+◌, ◌-◌, ◌<◌, List, [], ◌∷◌, ◌++◌, length, replicate, take, drop, Option, Some, None, true, is_some, refl, ap}
 use Rattle.std.proofs.{Common.{sym, ◌∙◌, subst, append_assoc, arith}, Math.Seq.take-add, lemmas.List.{append-nil, replicate-append-replicate, take_rest}}
 use Rattle.{std.specs.Prelude.slice_index_or, event_log.specs.declared.ids.CpuId.CpuId, layer_traits.specs.declared.steps.{Reason.Reason, Step.Step}}
-use Rattle.{layer_traits.specs.{declared.steps.Step.TheVariants.{Halted, Stepped}, Spins.BeginWith}, cpu.specs.{Claims.Shown, Sound.IsReachedByTable}}
+use Rattle.layer_traits.specs.{declared.steps.Step.TheVariants.{Halted, Stepped}, Spins.BeginWith}
+use Rattle.cpu.specs.{Claims.{IsMoment, Shown}, Linear.CallsGoOn, Sound.IsReachedByTable}
 use Rattle.cpu.specs.{Sound.{RanByTable, after_steps}, Systems.{Ran, SamePlan, SteppedByTable, HaltsByTable, WentOn, goes, halted_in, reason_of, starts}}
 use Rattle.cpu.specs.{Systems.{stayed, took, whole_of}, Table.{Setups.Setup, Steps.{IsReached, Whole, steps, system_step}}}
 use Rattle.cpu.proofs.{ReachedSystems.{after_more, goes_on, setup_on}, TableHalts.reasons_step}
@@ -33,9 +34,10 @@ leads_more IsStepwise s r t schedule c answer leads same went by = record {
 
 -- a step more that is taken
 pub leads_live : (IsStepwise : Type 0) (s r t : Shown) (schedule : List CpuId) (c : CpuId) → Leads IsStepwise s schedule r → SamePlan r t → reason_of c r ≡ None
-    → t.taken ≡ r.taken + 1 → (IsStepwise → SteppedByTable c r t Stepped) → Leads IsStepwise s (schedule ++ c ∷ []) t
-leads_live IsStepwise s r t schedule c leads same live taken by =
-    leads_more IsStepwise s r t schedule c Stepped leads same (took live taken by) by
+    → t.taken ≡ r.taken + 1 → CallsGoOn c r t → IsMoment t → (IsStepwise → SteppedByTable c r t Stepped)
+    → Leads IsStepwise s (schedule ++ c ∷ []) t
+leads_live IsStepwise s r t schedule c leads same live taken grows now by =
+    leads_more IsStepwise s r t schedule c Stepped leads same (took live taken grows now by) by
 
 -- a step that is not taken
 pub leads_halted : (IsStepwise : Type 0) (c : CpuId) (s : Shown) → c.0 < length s.cpus → is_some (reason_of c s) ≡ true

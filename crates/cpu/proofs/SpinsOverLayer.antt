@@ -1,12 +1,12 @@
 -- A system over a layer of message calls, after looks of one of its CPUs that all missed.
-use Rattle.std.proofs.Common.{◌≡◌, ◌≢◌, ℕ, zero, suc, ◌+◌, ◌<◌, ◌≤◌, false, List, [], ◌∷◌, ◌++◌, length, map, replicate, Option, Some, None, refl, ap, sym, ◌∙◌}
-use Rattle.std.{proofs.{Common.{subst, arith}, lemmas.{Bool.ne_eqb, Option.slice_get_within}}, specs.Prelude.slice_get}
-use Rattle.event_log.specs.{declared.ids.{BufId.BufId, CpuId.CpuId, LockId.LockId, Tid.Tid}, Actions.{Action, Try, AreLegal, cpu_of_action, phase}}
-use Rattle.event_log.{specs.History.AreOthers, proofs.{Foreign.phase_others, Renaming.legal_renamed}}
-use Rattle.{layer_traits.specs.{declared.call_layers.CallLayer.Ghosts, OnePlace.cpu_at, Spins.{Misses, Spun}}, cpu.specs.{declared.cpus.Cpu.Cpu, Claims.Shown}}
-use Rattle.cpu.{specs.{Systems.own_reason, Tower.{Composed.named, Views.{TowerName, name_of}}}, proofs.{InvariantOverSteps.Holds, ListReads.shows_at}}
-use Rattle.cpu.proofs.{MissedLooks.misses_lead, ReachedSystems.shown_in, Schedules.{Leads, leads_nowhere, reached_alone}, SystemOverLayer.observed_by}
-use Rattle.cpu.proofs.SystemOverLayer.{shown_by, works_by}
+use Rattle.std.proofs.Common.{◌≡◌, ◌≢◌, ℕ, zero, suc, ◌+◌, ◌<◌, ◌≤◌, false, List, [], ◌∷◌, ◌++◌, length, map, replicate, reverse, Option, Some, None, refl, ap}
+use Rattle.std.{proofs.{Common.{sym, ◌∙◌, subst, arith}, lemmas.{Bool.ne_eqb, Option.slice_get_within}}, specs.Prelude.slice_get}
+use Rattle.event_log.specs.{declared.{entries.Entry.Entry, ids.{BufId.BufId, CpuId.CpuId, LockId.LockId, Tid.Tid}}, Actions.{Action, Try, AreLegal}}
+use Rattle.event_log.{specs.{Actions.{cpu_of_action, phase}, History.AreOthers}, proofs.{Foreign.phase_others, Renaming.legal_renamed}}
+use Rattle.{layer_traits.specs.{declared.call_layers.CallLayer.Ghosts, OnePlace.cpu_at, Spins.{Misses, Spun}}, cpu.specs.declared.cpus.Cpu.Cpu}
+use Rattle.cpu.{specs.{Claims.{IsMoment, Shown}, Systems.own_reason, Tower.{Composed.named, Views.{TowerName, name_of}}}, proofs.InvariantOverSteps.Holds}
+use Rattle.cpu.proofs.{ListReads.shows_at, Moments.{MachineLaws, moment}, MissedLooks.misses_lead, ReachedSystems.shown_in, Schedules.{Leads, leads_nowhere}}
+use Rattle.cpu.proofs.{Schedules.reached_alone, SystemOverLayer.{observed_by, shown_by, works_by}}
 
 -- tries under the table's names
 named_misses : (looks : ℕ) (c : CpuId) (lock : LockId) (past : List (Action TowerName))
@@ -19,7 +19,8 @@ misses_of : (N : Type 0) (looks : ℕ) (c d : CpuId) (lock : LockId) → c.0 ≢
 misses_of N zero c d lock other = tt
 misses_of N (suc looks) c d lock other = (ne_eqb c.0 d.0 other, misses_of N looks c d lock other)
 
-module _ {P L M : Type 0} (I : Ghosts P L M) (owner : M → BufId → Option Tid) (threads : ℕ) (m n : M) (cpus : List (Cpu P M)) (room taken : ℕ) where
+module _ {P L M : Type 0} (I : Ghosts P L M) (laws : MachineLaws I) (owner : M → BufId → Option Tid) (threads : ℕ) (m n : M) (cpus : List (Cpu P M))
+    (room taken : ℕ) where
   -- the system with one of the machines, after so many steps
   abbrev shows : M → ℕ → Shown
   shows o done = shown_in (observed_by I owner o) (map (shown_by I) cpus) room done
@@ -31,6 +32,25 @@ module _ {P L M : Type 0} (I : Ghosts P L M) (owner : M → BufId → Option Tid
       (space : taken + looks ≤ room) (legal : AreLegal (I.acts n)) where
     number : I.cpu_of x.part ≡ c
     number = (is.each k x at).holds.1 ∙ (is.each k x at).number_is ∙ ap (λ (j : ℕ). cpu_at j) same
+
+    before : IsMoment (shows m taken)
+    before = moment I laws owner threads m cpus room taken is
+
+    -- no call takes effect
+    after : IsMoment (shows n (taken + looks))
+    after =
+        let one = before.one_order in
+        record {
+          one_order = record {
+            keeps = rw spun.seen one.keeps;
+            run = rw (caps, spun.seen) one.run;
+            fifo = rw (caps, spun.seen) one.fifo;
+            closed = rw (caps, spun.seen) one.closed;
+            few = let few = one.few in let same = ap (λ (l : List Entry). length (reverse l)) spun.seen in omega (arith, few, same);
+          };
+          follow = before.follow;
+          stay = rw homes before.stay;
+        }
 
     -- the looks are steps of the schedule
     pub spins_lead : Leads I.IsStepwise (shows m taken) (replicate looks c) (shows n (taken + looks))
@@ -57,6 +77,9 @@ module _ {P L M : Type 0} (I : Ghosts P L M) (owner : M → BufId → Option Tid
                     ∙ (λ i. replicate (is_more i) (Try (number i) (tries step).lock false) ++ named (I.acts m)),
               );
               legal = legal_renamed name_of (I.acts n) legal;
+              order = ap (λ (l : List Entry). reverse l) spun.seen;
+              before = before;
+              now = after;
             })
 
     -- and all holds as before

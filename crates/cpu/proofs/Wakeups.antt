@@ -22,3 +22,4 @@ pub mod CallsAlone
 pub mod ReadyCalls
 pub mod EachThreadPlaced
 pub mod PremisesMet
+pub mod Merging

@@ -1,5 +1,5 @@
 -- What a system shows, and what holds of it after every list of steps.
-use Rattle.std.specs.Prelude.{◌≡◌, ◌⊎◌, ℕ, zero, suc, ◌+◌, ◌<◌, Bool, true, false, List, [], ◌∷◌, map, length, reverse, Option, Some, None, slice_get}
+use Rattle.std.specs.Prelude.{◌≡◌, ◌⊎◌, ℕ, zero, suc, ◌+◌, ◌<◌, ◌≤◌, Bool, true, false, List, [], ◌∷◌, map, length, reverse, Option, Some, None, slice_get}
 use Rattle.{std.specs.{Prelude.slice_index_or, List.AllByRecursion}, event_log.specs.declared.{entries.Entry.Entry, ids.{BufId.BufId, CpuId.CpuId, Tid.Tid}}}
 use Rattle.event_log.specs.{Actions.Action, Messages.Message, Runs.{IsRun, is_closed}, Streams.IsFirstInFirstOut, Traces.IsInterleaving}
 use Rattle.{guest.specs.{declared.instructions.Instruction.Instruction, Calls.{AreProgramsCalls, HasEnded}}, layer_traits.specs.declared.calls.Call.Call}
@@ -30,6 +30,8 @@ pub record CpuShown : Type 0 where
 -- it and who owns its lock, as its last section left it, how threads came to where they stand, newest first, the CPUs, for how many steps
 -- there is room, and how many were taken
 pub record Shown : Type 0 where
+  -- the calls that took effect, of all CPUs, in the order in which they did
+  pub order : List Entry
   pub caps : List ℕ
   pub homes : List CpuId
   pub contents : List (List Message)
@@ -69,6 +71,7 @@ cpu_shown own guests trace limit busy part = record {
 abbrev pub shown_of : List ℕ → List CpuId → List Entry → (BufId → WaitList → List Tid) → (BufId → Option Tid) → List Step → List (Action TowerName)
     → List CpuShown → ℕ → ℕ → Shown
 shown_of caps homes seen lines owner moves acts cpus room taken = record {
+  order = reverse seen;
   caps = caps;
   homes = homes;
   contents = contents_of caps seen;
@@ -89,14 +92,15 @@ traces_of s = map (λ p. p.trace) s.cpus
 abbrev pub programs_in : Shown → List (List (Option (List Instruction)))
 programs_in s = map (λ p. programs_of p.guests) s.cpus
 
--- the calls that took effect have one order that keeps every trace, is a run, and ends in the buffers' contents: for each buffer, what was put
--- is what was taken, in that order, and then what it holds; a buffer is closed where the order closes it
+-- the calls that took effect, in the order in which they did, keep every trace, are a run, and end in the buffers' contents: for each buffer,
+-- what was put is what was taken, in that order, and then what it holds; a buffer is closed where the order closes it; and each took a step of
+-- its own
 pub record HasOneOrder (s : Shown) : Type 0 where
-  pub order : List Entry
-  pub keeps : IsInterleaving (traces_of s) order
-  pub run : IsRun s.caps order s.contents
-  pub fifo : IsFirstInFirstOut order s.contents
-  pub closed : (b : ℕ) → b < length s.caps → slice_index_or s.closed b false ≡ is_closed order b
+  pub keeps : IsInterleaving (traces_of s) s.order
+  pub run : IsRun s.caps s.order s.contents
+  pub fifo : IsFirstInFirstOut s.order s.contents
+  pub closed : (b : ℕ) → b < length s.caps → slice_index_or s.closed b false ≡ is_closed s.order b
+  pub few : length s.order ≤ s.taken
 
 -- A thread's entries, oldest first, are its program's calls, and it has ended only where its program ends. They lead to just its state:
 -- between two calls and in a call without an effect to the state that it has, after the effect to the one in which the call will leave it.
@@ -116,6 +120,13 @@ FollowPrograms s = (c : ℕ) (p : CpuShown) (t : Tid) (g : Guest) → slice_get 
 -- each entry in a CPU's trace is of that CPU, and of a thread at home with it
 abbrev pub StayHome : Shown → Type 0
 StayHome s = (c : ℕ) (p : CpuShown) → slice_get s.cpus c ≡ Some p → AllByRecursion (IsOfHome s.homes (record { 0 = c })) p.trace
+
+-- what holds at each moment of a run: the calls so far have one order, and each thread has come by its own to where it stands; so each call
+-- that has returned is in the order, and of each thread at most one more, which it is inside
+pub record IsMoment (s : Shown) : Type 0 where
+  pub one_order : HasOneOrder s
+  pub follow : FollowPrograms s
+  pub stay : StayHome s
 
 -- how often a thread stands among those that sleep at a buffer
 abbrev pub in_waiters : Tid → Waiters → ℕ

@@ -1,8 +1,8 @@
 -- One CPU over a layer of message calls and its machine: what always holds of it, and what each of its steps leaves.
 use Rattle.std.specs.Prelude.{◌≡◌, ◌≢◌, ℕ, ◌+◌, ◌≤◌, length, Option, None, vec_capacity}
 use Rattle.{event_log.specs.declared.ids.CpuId.CpuId, layer_traits.specs.declared.{call_layers.CallLayer.Ghosts, steps.{Reason.Reason, Step.Step}}}
-use Rattle.{layer_traits.specs.{declared.steps.Step.TheVariants.Stepped, BufferLaw.MovesGrow}, cpu.specs.{declared.cpus.Cpu.Cpu, Cpus.{ActsGrow, IsCpu}}}
-use Rattle.cpu.specs.{Cpus.{SeenGrows, halted_at, programs_of, reason_in}, Tables.{IsTabled, WentByTable}}
+use Rattle.{layer_traits.specs.{declared.steps.Step.TheVariants.Stepped, BufferLaw.MovesGrow}, cpu.specs.{declared.cpus.Cpu.Cpu, Cpus.{ActsGrow, GuestsWent}}}
+use Rattle.cpu.specs.{Cpus.{IsCpu, SeenGrows, halted_at, programs_of, reason_in}, Tables.{IsTabled, WentByTable}}
 
 -- what always holds of the CPU
 abbrev pub IsCpuAt : {P L M : Type 0} → Ghosts P L M → M → Cpu P M → Type 0
@@ -29,6 +29,7 @@ pub record Leaves {P L M : Type 0} (I : Ghosts P L M) (m : M) (p : Cpu P M) (n :
   pub limit : q.limit ≡ p.limit
   pub cpu : I.cpu_of q.part ≡ p.number
   pub programs : programs_of q.guests.items ≡ programs_of p.guests.items
+  pub guests : GuestsWent p.number p.guests.items p.trace.items q.guests.items q.trace.items
   pub seen : SeenGrows (I.ActsFor m) p.number (I.seen m) (I.seen n)
   pub moves : MovesGrow (I.ActsFor m) p.number (I.moves m) (I.moves n)
   pub grows : I.IsStepwise → ActsGrow (I.ActsFor m) p.number (I.acts m) (I.acts n)

@@ -4,12 +4,13 @@ use Rattle.std.specs.Prelude.{◌≡◌, ℕ, ◌+◌, ◌≤◌, ◌==◌, Bool
 use Rattle.std.specs.{Prelude.{None, is_some, option_map, slice_index_or, slice_set, if◌then◌else◌}, List.{AllByRecursion, list_all}}
 use Rattle.event_log.specs.{declared.{entries.Entry.Entry, ids.{CpuId.CpuId, Tid.Tid, TheConstants.THREADS}}, History.AreForeign, Actions.Action}
 use Rattle.{event_log.specs.Actions.cpu_of_action, thread_blocks.specs.Queues.is_in, guest.specs.declared.instructions.Instruction.Instruction}
-use Rattle.{guest.specs.Instructions.{instruction_at, names_below}, layer_traits.specs.declared.{calls.{Call.Call, Effect.Effect}, steps.Reason.Reason}}
-use Rattle.layer_traits.specs.declared.steps.{Reason.TheVariants.{AllEnded, TraceFull}, Step.{Step, TheVariants.{Stepped, Halted}}}
+use Rattle.{guest.specs.Instructions.{instruction_at, names_below}, layer_traits.specs.declared.calls.{Call.Call, Effect.Effect, Reply.Reply}}
+use Rattle.layer_traits.specs.declared.steps.{Reason.{Reason, TheVariants.{AllEnded, TraceFull}}, Step.{Step, TheVariants.{Stepped, Halted}}}
 use Rattle.layer_traits.specs.declared.{call_states.CallState.CallState, passes.Pass.{Pass, TheVariants.{Switch, YieldNow, Drain, MakeReady, End}}}
-use Rattle.layer_traits.specs.{Places.{Threads, home_of}, BufferLaw.{UnderWay, Calling, Passing, cpu_of_entry, call_state_of}}
+use Rattle.layer_traits.specs.{Places.{Threads, home_of}, BufferLaw.{UnderWay, Calling, Passing, buffer_of, cpu_of_entry, call_state_of, reply_of}}
 use Rattle.cpu.specs.declared.{guests.{Guest.Guest, Todo.{Todo, TheVariants.{Finish, PassOn, Compute, Calls}}}, cpus.Choice.{Choice, TheVariants.Polls}}
-use Rattle.cpu.specs.{declared.cpus.Choice.TheVariants.{Passes, Computes}, Guests.{HasCome, after_pass, fresh_effect, is_begun, is_calling, is_ended, todo_of}}
+use Rattle.cpu.specs.{declared.cpus.Choice.TheVariants.{Passes, Computes}, Guests.{HasCome, after_pass, computed, entries_of, fresh_effect, is_begun}}
+use Rattle.cpu.specs.Guests.{is_calling, is_ended, polled, todo_of}
 
 -- the guest of a thread, in a table by thread
 abbrev pub guest_at : List (Option Guest) → ℕ → Option Guest
@@ -182,3 +183,19 @@ pub record ActsGrow {N : Type 0} (ActsFor : CpuId → Type 0) (cpu : CpuId) (old
   pub foreign : AreForeign ActsFor cpu_of_action others
   pub own : AllByRecursion (λ a. cpu_of_action a ≡ cpu) mine
   pub is : new ≡ mine ++ (others ++ old)
+
+-- a call that is answered has had an effect, and the reply is that effect's
+abbrev pub Replies : Call → Option Effect → Option Reply → Type 0
+Replies call effect None = Unit {0}
+Replies call effect (Some reply) = (f : Effect) × (effect ≡ Some f) × (reply ≡ reply_of call f)
+
+-- What a step of CPU c makes of its guests and its trace: nothing; or a thread does an instruction of its own; or a pass from thread to thread
+-- ends; or the call at which a thread stands is polled. The call begins there if it had not begun (stage `Idle`), has its effect if a fresh one is
+-- told, whose entry is the trace's last, and returns if it is answered, by its effect's reply.
+pub data GuestsWent (c : CpuId) (guests : List (Option Guest)) (trace : List Entry) (guests2 : List (Option Guest)) (trace2 : List Entry) : Type 0 where
+  guests_rest : guests2 ≡ guests → trace2 ≡ trace → GuestsWent c guests trace guests2 trace2
+  guest_computes : (t : Tid) → guests2 ≡ with_guest guests t.0 computed → trace2 ≡ trace → GuestsWent c guests trace guests2 trace2
+  guest_passes : (t : Tid) (pass : Pass) → guests2 ≡ with_guest guests t.0 (after_pass pass) → trace2 ≡ trace → GuestsWent c guests trace guests2 trace2
+  guest_calls : (t : Tid) (g : Guest) (call : Call) (effect : Option Effect) (answer : Option Reply) → guest_at guests t.0 ≡ Some g → todo_of g ≡ Calls call
+      → Replies call effect answer → guests2 ≡ with_guest guests t.0 (λ x. polled x effect answer)
+      → trace2 ≡ trace ++ entries_of c t (buffer_of call) (fresh_effect g.stage effect) → GuestsWent c guests trace guests2 trace2

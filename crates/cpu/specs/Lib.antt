@@ -5,6 +5,7 @@ pub mod Cpus
 pub mod Tower
 pub mod Claims
 pub mod Systems
+pub mod Linear
 pub mod Sound
 pub mod Observed
 pub mod Calm

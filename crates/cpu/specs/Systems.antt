@@ -3,7 +3,8 @@ use Rattle.std.specs.Prelude.{◌≡◌, ℕ, ◌+◌, ◌^◌, ◌<◌, ◌≤�
 use Rattle.{std.specs.List.AllByRecursion, event_log.specs.declared.{entries.Entry.Entry, ids.{CpuId.CpuId, Tid.Tid, TheConstants.{CPUS, THREADS}}}}
 use Rattle.{event_log.specs.Actions.{Action, Rests, phase}, layer_traits.specs.declared.steps.{Reason.{Reason, TheVariants.StepsUsed}, Step.Step}}
 use Rattle.{layer_traits.specs.{declared.steps.Step.TheVariants.Stepped, Places.home_of}, cpu.specs.Table.{Setups.Setup, Steps.{Stepping, Whole, system_step}}}
-use Rattle.cpu.specs.{Table.Steps.cpu_step, Tables.IsSetupOf, Cpus.{halted_at, reason_in, step_answer}, Claims.{CpuShown, Shown, programs_in}}
+use Rattle.cpu.specs.{Table.Steps.cpu_step, Tables.IsSetupOf, Cpus.{halted_at, reason_in, step_answer}, Claims.{CpuShown, IsMoment, Shown, programs_in}}
+use Rattle.cpu.specs.{Linear.CallsGoOn}
 
 -- what no step changes: capacities, homes, programs, the number of CPUs, the room of each trace, and the room for steps
 pub record SamePlan (s r : Shown) : Type 0 where
@@ -77,10 +78,11 @@ abbrev pub SteppedByTable : CpuId → Shown → Shown → Step → Type 0
 SteppedByTable c old new answer = (setup : Setup) → GoesBy setup old
     → ◌≡◌ {A = Stepping} (record { next = whole_of new; answer = answer }) (system_step setup c (whole_of old))
 
--- what a step of CPU c does: where the CPU has no reason against it, it is taken and counted, by the step table where the machine does one
--- action a step; else nothing changes
+-- what a step of CPU c does: where the CPU has no reason against it, it is taken and counted, at most one call takes effect in it, behind all
+-- that took effect before, and it is the step table's where the machine does one action a step; else nothing changes
 pub data WentOn (IsStepwise : Type 0) (c : CpuId) (old new : Shown) : Type 0 where
-  took : reason_of c old ≡ None → new.taken ≡ old.taken + 1 → (IsStepwise → SteppedByTable c old new Stepped) → WentOn IsStepwise c old new
+  took : reason_of c old ≡ None → new.taken ≡ old.taken + 1 → CallsGoOn c old new → IsMoment new
+      → (IsStepwise → SteppedByTable c old new Stepped) → WentOn IsStepwise c old new
   stayed : (reason : Reason) → reason_of c old ≡ Some reason → new ≡ old → WentOn IsStepwise c old new
 
 -- what the steps of these CPUs do, one after the other

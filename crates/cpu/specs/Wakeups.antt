@@ -5,3 +5,4 @@ pub mod Quiet
 pub mod Alone
 pub mod OnePlace
 pub mod Met
+pub mod Merged

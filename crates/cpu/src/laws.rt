@@ -1,10 +1,11 @@
 //! What holds of the step table. Each law is the contract of a function that does nothing, so that
 //! the law is proved with the crate.
 
-ghost use Rattle.cpu.specs.{Table.{Worked.{AloneRuns, RunsOfTwo, RunsOfThree}, Closing.ClosingRuns, Words.RunsOfWords}, Tower.Views.TablesAgree};
+ghost use Rattle.cpu.specs.{Linear.LinearRunsKeepRealTime, Table.{Worked.{AloneRuns, RunsOfTwo, RunsOfThree}, Closing.ClosingRuns, Words.RunsOfWords}};
+ghost use Rattle.cpu.specs.{Tower.Views.TablesAgree};
 ghost use Rattle.cpu.specs.{Tower.Composed.{HaltsExactly, PlansAreLines}, Wakeups.Lost.{OrderLosesNoWakeUp, SystemsKeepOrder, SystemsLoseNoWakeUp}};
 ghost use Rattle.cpu.specs.Wakeups.{Lost.{FreeLocksHaveNoSleepers, CpusLoseNoWakeUp}, OneSignal.{OneSignalLosesAWakeUp, SilentAnswerLosesAWakeUp}};
-ghost use Rattle.cpu.specs.Wakeups.{Quiet.QuietIsStuck, Alone.CallsReturnAlone, OnePlace.StandInOnePlace, Met.PremisesAreMet};
+ghost use Rattle.cpu.specs.Wakeups.{Merged.WorkIsARun, Quiet.QuietIsStuck, Alone.CallsReturnAlone, OnePlace.StandInOnePlace, Met.PremisesAreMet};
 
 /// Worked runs of one thread on one CPU, by computation: what each leaves after its schedule.
 pub fn runs_alone()
@@ -76,6 +77,13 @@ pub fn cpus_lose_no_wake_up()
     ensures { CpusLoseNoWakeUp }
 {}
 
+/// CPUs that each worked by the table along one list of actions, however their actions come between
+/// one another, have done what one system of the table does under some schedule: it leaves the same
+/// list, and each CPU where it stands. So what threads do is what a run does.
+pub fn work_is_a_run()
+    ensures { WorkIsARun }
+{}
+
 /// A quiet state that a system reaches is stuck: nobody owns a lock or sleeps at one, and each live
 /// thread is inside a call that its buffer refuses, so that no schedule moves it on. Nobody stands
 /// at a close, or waits at a closed buffer.
@@ -102,6 +110,12 @@ pub fn stand_in_one_place()
 /// and the numbers of steps are exact.
 pub fn premises_are_met()
     ensures { PremisesAreMet }
+{}
+
+/// Message calls are linearizable by the steps of a schedule: a call that has returned when another one
+/// begins comes before it.
+pub fn linear_runs_keep_real_time()
+    ensures { LinearRunsKeepRealTime }
 {}
 
 /// The layers' sections are the table's: each has one name there, and the blocks that they leave and

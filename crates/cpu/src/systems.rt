@@ -66,7 +66,8 @@ where
 {
     ghost use Rattle.{layer_traits.specs.declared.steps.{Reason.Reason, Step.TheVariants.{Halted, Stepped}}, event_log.specs.declared.ids.TheConstants.CPUS};
     ghost use Rattle.{event_log.specs.{declared.ids.TheConstants.THREADS, Buffers.items_of}, cpu.specs.{Cpus.step_answer, Sound.{RanByTable, ReturnsAlone}}};
-    ghost use Rattle.cpu.specs.{Sound.SoundByTable, Observed.ObservedByTable, Systems.{HaltsByTable, Ran, SamePlan, SteppedByTable, halted_in, reason_of}};
+    ghost use Rattle.cpu.specs.{Linear.{CallsGoOn, IsLinearizable}, Sound.SoundByTable, Observed.ObservedByTable};
+    ghost use Rattle.cpu.specs.Systems.{HaltsByTable, Ran, SamePlan, SteppedByTable, halted_in, reason_of};
     ghost use Rattle.cpu.specs.Claims.{FollowPrograms, HasOneOrder, IsPlaceOf, MovesAgree, StandsOnce, StayHome, shown_of, traces_of};
 
     /// Takes one step of `cpu`: one local action or one atomic action.
@@ -83,6 +84,8 @@ where
         ensures answer { result ≡ step_answer (reason_of cpu self.old) }
         ensures still { (r : Reason) → result ≡ Halted r → self.new ≡ self.old }
         ensures counted { result ≡ Stepped → self.new.taken ≡ self.old.taken + 1 }
+        // The calls so far stay in their order. Behind them comes at most one, and it is of `cpu`.
+        ensures calls { CallsGoOn cpu self.old self.new }
         ensures plan { SamePlan self.old self.new }
         // Each step that is taken is the one of the step table.
         ensures steps { I.IsStepwise → result ≡ Stepped → SteppedByTable cpu self.old self.new Stepped }
@@ -153,6 +156,7 @@ where
         ensures counted { self.new.taken ≡ self.old.taken + result }
         ensures plan { SamePlan self.old self.new }
         ensures one { I.IsStepwise → result ≡ 1 → SteppedByTable cpu self.old self.new Stepped }
+        ensures calls { result ≡ 1 → CallsGoOn cpu self.old self.new }
         ensures ran { Ran I.IsStepwise self.old (replicate result cpu) self.new }
         ensures table { I.IsStepwise → RanByTable self.old (replicate result cpu) self.new }
     {
@@ -169,6 +173,8 @@ where
         ensures kept { OnErr result (self.new ≡ self.old) }
         ensures known { IsOk result ↔ All (λ c. c.0 < length self.old.cpus) steps.now }
         ensures ran { OnOk result (Ran I.IsStepwise self.old steps.now self.new) }
+        // Each call takes effect in one step, behind all that did before.
+        ensures linear { OnOk result (IsLinearizable self.old steps.now self.new) }
         // The schedule is run by the step table, which reaches the system; no wake-up is lost, and
         // the system tells what the table has.
         ensures table { OnOk result (I.IsStepwise → RanByTable self.old steps.now self.new) }

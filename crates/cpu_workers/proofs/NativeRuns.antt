@@ -112,4 +112,5 @@ module _ {N : Type 0} (Kept : N → N → CallerView → Type 0) (caps : List �
         keeps = all.keeps;
         run = all.run;
         fifo = taken_put caps all.order (left_of (length caps) blocks) all.run;
+        by_words = record { opening = opened table_view.start; opens = opens; words = closes.log; legal = closes.legal; order_is = all.is };
       }

@@ -1,15 +1,16 @@
 -- The traces of all CPUs are an order of the effects of one list of actions, if each CPU has seen a front of it that has all of its own.
 use Rattle.std.proofs.Common.{◌≡◌, ℕ, suc, ◌*◌, ◌<◌, ◌≤◌, ◌==◌, ◌^◌, false, List, [], ◌∷◌, ◌++◌, length, map, All, reverse, Option, Some, None, option_to_list}
-use Rattle.std.proofs.{Common.{slice_index_or, refl, ap, sym, ◌∙◌, subst, arith}, lemmas.{Bool.cases_lt, List.{length-reverse, Sums.{sum_by-cons, sum_by-le}}}}
-use Rattle.std.{proofs.lemmas.{List.Sums.sum_by-set, Option.{get_or_from_slice_get, slice_get_within}}, specs.List.{AllByRecursion, sum_by}}
-use Rattle.std.specs.Prelude.{slice_set}
+use Rattle.std.proofs.{Common.{slice_index_or, refl, ap, sym, ◌∙◌, subst, arith}, lemmas.{Bool.cases_lt, List.{length-reverse, reverse-append}}}
+use Rattle.std.{proofs.lemmas.{List.Sums.{sum_by-cons, sum_by-le, sum_by-set}, Option.{get_or_from_slice_get, slice_get_within}}, specs.List.AllByRecursion}
+use Rattle.std.specs.{List.sum_by, Prelude.slice_set}
 use Rattle.event_log.specs.{declared.{entries.Entry.Entry, ids.{CpuId.CpuId, LockId.TheVariants.Buffer}}, Actions.{Action, Take, Try, Give, cpu_of_action}}
 use Rattle.event_log.specs.{History.{AreOthers, IsLawful, own_events, same_cpu}, Runs.IsRun, Sections.sections_in, Traces.IsInterleaving}
 use Rattle.{event_log.proofs.Same.same_cpu_self, layer_traits.specs.declared.queue_edits.QueueEdit.TheVariants.{Push, TakeAll, Above}}
 use Rattle.layer_traits.specs.{BufferEffects.{MayTakeEffect, contents_of, drawn, effect_of, opening_locks}, BufferProtocol.BufferSection}
 use Rattle.layer_traits.specs.{BufferProtocol.buffer_at as block_at, OnePlace.cpu_at, Protocol.section, Queues.{buffer_at, buffer_sections, event_of}}
 use Rattle.{layer_traits.proofs.EffectRunLemmas.effects_are_run, fifo_buffer.specs.Laws.Tallies.effect_position, cpu.specs.{Cpus.of_cpu, Tower.Views.TowerName}}
-use Rattle.{cpu.proofs.{ListReads.all_reversed, OneOrder.{filter_reversed, interleaved}}, cpu_workers.specs.Orders.{IsTraceOf, effects_of}}
+use Rattle.cpu.{specs.Linear.OrderGrows, proofs.{Moments.order_stays, ListReads.all_reversed, OneOrder.{filter_reversed, interleaved}}}
+use Rattle.cpu_workers.specs.Orders.{IsTraceOf, effects_of}
 
 -- An action adds at most one effect, of its own CPU.
 
@@ -35,6 +36,22 @@ module _ (caps : List ℕ) where
         is = refl;
         its = λ e at. (effect_position cpu b call (λ side t. drawn (opening_locks caps) (Buffer b) side t before)
             (block_at (opening_locks caps) before (Buffer b)) e at).0;
+      }
+
+  -- so the order of the effects goes on
+  pub order_goes_on : (a : Action TowerName) (past : List (Action TowerName))
+      → OrderGrows (cpu_of_action a) (reverse (effects_of caps past)) (reverse (effects_of caps (a ∷ past)))
+  order_goes_on a past = let one = adds a past in go one.effect one.is one.its
+    where
+      go : (o : Option Entry) → effects_of caps (a ∷ past) ≡ option_to_list o ++ effects_of caps past → ((e : Entry) → o ≡ Some e → e.cpu ≡ cpu_of_action a)
+          → OrderGrows (cpu_of_action a) (reverse (effects_of caps past)) (reverse (effects_of caps (a ∷ past)))
+      go None is its = order_stays (cpu_of_action a) (reverse (effects_of caps past)) (reverse (effects_of caps (a ∷ past)))
+          (ap (λ (es : List Entry). reverse es) is)
+      go (Some e) is its = record {
+        more = e ∷ [];
+        is = ap (λ (es : List Entry). reverse es) is ∙ reverse-append (e ∷ []) (effects_of caps past);
+        few = omega arith;
+        own = (its e refl, tt);
       }
 
   -- what other CPUs do leaves a CPU's effects

@@ -1,5 +1,6 @@
 -- Counting in threads: sections that each add 1 to one number, and what a worker leaves: its CPU has done so many sections more.
-use Rattle.std.specs.Prelude.{◌≡◌, ℕ, ◌+◌, ◌%◌, ◌^◌, ◌≤◌, List, [], slice_get, Some}
+use Rattle.std.specs.Prelude.{◌≡◌, ℕ, zero, suc, ◌+◌, ◌%◌, ◌^◌, ◌≤◌, true, List, [], ◌∷◌, slice_get, Some}
+use Rattle.event_log.specs.Actions.{Action, Take, Try, Give}
 use Rattle.event_log.specs.{declared.{ids.{CpuId.CpuId, LockId.LockId}, events.Event.Event}, History.{IsLawful, how_many, own_events, same_lock}}
 use Rattle.{event_log.specs.{WordsLog.{cpu_of_event, frees, lock_phase, Idle}, Sections.{Section, cpu_of_section}}, layer_traits.specs.declared.edits.Mark.Mark}
 use Rattle.{layer_traits.specs.{OneLock.opened, Protocol.Rules, WordsProtocol.{MayCome, sections}}, table_machine.specs.SeatViews.{TableView, SeatView, IsIn}}
@@ -16,6 +17,21 @@ sections_at lock past = how_many (λ s. same_lock lock s.lock) past
 -- how many sections at this lock are this CPU's
 abbrev pub made : {E : Type 0} → CpuId → LockId → List (Section E) → ℕ
 made cpu lock past = sections_at lock (own_events cpu_of_section cpu past)
+
+-- the actions after a whole section of the CPU of this number: it took a place, entered and gave the lock on
+abbrev pub after_section : LockId → ℕ → List (Action AddOne) → List (Action AddOne)
+after_section lock number past =
+    Give (record { 0 = number }) lock (record {}) ∷ Try (record { 0 = number }) lock true ∷ Take (record { 0 = number }) lock ∷ past
+
+-- the actions after a round: a whole section of each of so many CPUs, from CPU 0 on
+abbrev pub after_round : LockId → ℕ → List (Action AddOne) → List (Action AddOne)
+after_round lock zero past = past
+after_round lock (suc before) past = after_section lock before (after_round lock before past)
+
+-- the actions after so many rounds of so many CPUs
+abbrev pub after_rounds : LockId → ℕ → ℕ → List (Action AddOne) → List (Action AddOne)
+after_rounds lock cpus zero past = past
+after_rounds lock cpus (suc before) past = after_round lock cpus (after_rounds lock cpus before past)
 
 -- a key of this table that has seen nothing
 abbrev pub IsFresh : {E B : Type 0} → TableView B → SeatView E B → Type 0

@@ -1,8 +1,9 @@
 -- What holds of workers that run at one table.
-use Rattle.std.specs.Prelude.{◌≡◌, ℕ, ◌≤◌, ◌<◌, Bool, true, List, [], ◌++◌, None}
+use Rattle.std.specs.Prelude.{◌≡◌, ℕ, ◌≤◌, ◌<◌, Bool, true, List, [], ◌∷◌, ◌++◌, reverse, None}
 use Rattle.{event_log.specs.{declared.ids.CpuId.CpuId, History.{AreOthers, own_events}, Actions.{Action, cpu_of_action}}, cpu.specs.Table.Blocks.Name}
 use Rattle.cpu.specs.{Table.{Setups.{Setup, Private, at_boot, have_ended, home_threads}, Steps.{cpu_step, halted_at}}, Wakeups.Lost.LosesNoWakeUp}
-use Rattle.cpu_workers.specs.{declared.workers.stops.Stop.{Stop, TheVariants.{AllEnded, TurnsUsed, Held}}, Reports.{IsTrueStop, Took}}
+use Rattle.cpu_workers.specs.{declared.workers.stops.Stop.{Stop, TheVariants.{AllEnded, TurnsUsed, Held}}, Orders.effects_of, Reports.{IsTrueStop, Took}}
+use Rattle.cpu.specs.{Linear.OrderGrows, Tower.Views.TowerName}
 
 -- a worker's CPU has come from boot by the step table along what it has seen, and the list goes on from that with other CPUs' actions
 pub record HasWorked (setup : Setup) (c : CpuId) (log : List (Action Name)) : Type 0 where
@@ -22,6 +23,11 @@ pub record HaveWorked (setup : Setup) (log : List (Action Name)) : Type 0 where
 -- such workers lose no wake-up
 abbrev pub WorkersLoseNoWakeUp : Type 0
 WorkersLoseNoWakeUp = (setup : Setup) (log : List (Action Name)) → HaveWorked setup log → LosesNoWakeUp setup log
+
+-- each action lets the order of the calls go on by at most one, which is of the action's CPU
+abbrev pub ActionsLetOrderGoOn : Type 0
+ActionsLetOrderGoOn = (caps : List ℕ) (a : Action TowerName) (past : List (Action TowerName))
+    → OrderGrows (cpu_of_action a) (reverse (effects_of caps past)) (reverse (effects_of caps (a ∷ past)))
 
 -- what a true stop says of the CPU: all its threads have ended, or it is not halted
 pub record SaysTrue (setup : Setup) (c : CpuId) (last : Private) (turns taken : ℕ) (stop : Stop) : Type 0 where

@@ -1,11 +1,12 @@
 -- Native threads at one table: what each has called, and the one order of all their calls.
-use Rattle.std.specs.Prelude.{◌≡◌, ℕ, ◌<◌, ◌≤◌, false, List, [], map, length, slice_get, Option, Some, IsSome}
+use Rattle.std.specs.Prelude.{◌≡◌, ℕ, ◌<◌, ◌≤◌, false, List, [], map, length, reverse, slice_get, Option, Some, IsSome}
 use Rattle.event_log.specs.{declared.{entries.Entry.Entry, ids.{CpuId.CpuId, LockId.{LockId, TheVariants.Pending}}}, Actions.{Action, acts_of, phase}}
-use Rattle.{event_log.specs.{Messages.Message, Runs.IsRun, Streams.IsFirstInFirstOut, Traces.IsInterleaving}, layer_traits.specs.BufferEffects.opening_locks}
-use Rattle.layer_traits.specs.{OnePlace.cpu_at, Plans.is_in_section, QueueBlocks.{StartsWell, homes_in, inner}, Renaming.viewed, WordsProtocol.edit_of}
-use Rattle.{queuing_lock.specs.Nested.nested_lock_of, sleep_wakeup.specs.Nested.state_of, table_machine.specs.SeatViews.{IsOver, TableView}}
-use Rattle.{cpu.specs.{Claims.{buffer_at, listed}, Tower.Views.TowerName}, cpu_workers.specs.declared.workers.callers.TheConstants.MOST_CALLS}
-use Rattle.cpu_workers.specs.{Callers.{CallerView, IsSameCaller}, Closing.{Key, blocks_read}, Lawful.held_at, Orders.IsTraceOf, Seating.{Block, tower_acts}}
+use Rattle.event_log.specs.{History.IsLawful, Messages.Message, Runs.IsRun, Streams.IsFirstInFirstOut, Traces.IsInterleaving}
+use Rattle.layer_traits.specs.{BufferEffects.opening_locks, OnePlace.cpu_at, Plans.is_in_section, QueueBlocks.{StartsWell, homes_in, inner}, Renaming.viewed}
+use Rattle.{layer_traits.specs.WordsProtocol.{MayCome, edit_of}, queuing_lock.specs.Nested.nested_lock_of, sleep_wakeup.specs.Nested.state_of}
+use Rattle.{table_machine.specs.SeatViews.{IsOver, TableView}, cpu.specs.{Claims.{buffer_at, listed}, Tower.Views.TowerName}}
+use Rattle.cpu_workers.specs.{declared.workers.callers.TheConstants.MOST_CALLS, Callers.{CallerView, IsSameCaller}, Closing.{Key, WordsOfTower, acts_in}}
+use Rattle.cpu_workers.specs.{Closing.{blocks_read, tower_rules}, Lawful.held_at, Orders.{IsTraceOf, effects_of}, Seating.{Block, tower_acts}}
 
 -- a native has run at its caller, which is the same, and has kept what it promises of itself and of the calls
 pub record HasKept {N : Type 0} (Kept : N → N → CallerView → Type 0) (native : N) (caller : CallerView) (after : N) (last : CallerView) : Type 0 where
@@ -59,9 +60,22 @@ pub record HasRunNative {N : Type 0} (Kept : N → N → CallerView → Type 0) 
   pub caps_are : caller.caps ≡ caps
   pub kept : Kept native after caller
 
+-- the homes of natives: each thread is at the CPU of its number
+abbrev pub own_homes : ℕ → List CpuId
+own_homes n = listed cpu_at 0 n
+
+-- this order is that of the effects of the frees in one words log, which is legal over the locks as they open for so many CPUs
+pub record IsOrderOfWords (cpus : ℕ) (caps : List ℕ) (homes : List CpuId) (order : List Entry) : Type 0 where
+  pub opening : LockId → Option Block
+  pub opens : OpensWith cpus caps homes opening
+  pub words : WordsOfTower
+  pub legal : IsLawful (MayCome (tower_rules.allowed opening)) words
+  pub order_is : order ≡ reverse (effects_of caps (acts_in words))
+
 -- natives have run, each at the CPU and as the thread of its number, and have left this in the buffers: each has kept what it promises of itself and of
--- its calls, and nobody else made a call; the calls of all have one order, which keeps each one's own, is a run of first-in first-out buffers and ends
--- in what is left. So what was put into a buffer is what was taken from it, in that order, and then what is left there
+-- its calls, and nobody else made a call; the calls of all have one order, that of the atomic steps by which they took effect, which keeps each one's
+-- own, is a run of first-in first-out buffers and ends in what is left. So what was put into a buffer is what was taken from it, in that order, and
+-- then what is left there
 pub record HaveRun {N : Type 0} (Kept : N → N → CallerView → Type 0) (caps : List ℕ) (natives after : List N) (left : List (List Message)) : Type 0 where
   pub callers : List CallerView
   pub nobody_else : length callers ≡ length natives
@@ -72,6 +86,7 @@ pub record HaveRun {N : Type 0} (Kept : N → N → CallerView → Type 0) (caps
   pub keeps : IsInterleaving (map (λ c. c.calls) callers) order
   pub run : IsRun caps order left
   pub fifo : IsFirstInFirstOut order left
+  pub by_words : IsOrderOfWords (length natives) caps (own_homes (length natives)) order
 
 -- the native of a CPU has run at this table, and left its key, which is outside all locks
 pub record HasLeftKey {N : Type 0} (Kept : N → N → CallerView → Type 0) (caps : List ℕ) (table_view : TableView Block) (c : CpuId) (native after : N)
@@ -87,7 +102,3 @@ pub record HaveLeftKeys {N : Type 0} (Kept : N → N → CallerView → Type 0) 
   pub keys_count : length keys ≡ length natives
   pub each : (k : ℕ) (native : N) → slice_get natives k ≡ Some native → (last : N) × (key : Key) × (slice_get after k ≡ Some last)
       × (slice_get keys k ≡ Some key) × HasLeftKey Kept caps table_view (cpu_at k) native last key
-
--- the homes of natives: each thread is at the CPU of its number
-abbrev pub own_homes : ℕ → List CpuId
-own_homes n = listed cpu_at 0 n

@@ -1,7 +1,7 @@
 //! What holds of workers that run at one table. Each law is the contract of a function that does
 //! nothing, so that the law is proved with the crate.
 
-ghost use Rattle.cpu_workers.specs.{Closing.ReportsAreLawful, Laws.StopsAreTrue, Laws.WorkersLoseNoWakeUp};
+ghost use Rattle.cpu_workers.specs.{Closing.ReportsAreLawful, Laws.ActionsLetOrderGoOn, Laws.StopsAreTrue, Laws.WorkersLoseNoWakeUp};
 
 use crate::workers::Gate;
 
@@ -11,6 +11,13 @@ use crate::workers::Gate;
 /// call.
 pub fn workers_lose_no_wake_up()
     ensures { WorkersLoseNoWakeUp }
+{}
+
+/// Each atomic step of a thread lets the order of all calls go on by at most one, which is of the
+/// thread's own CPU. So the order of a report or of native callers, that of the effects of one list
+/// of atomic steps, is that of the steps in which the calls took effect.
+pub fn actions_let_order_go_on()
+    ensures { ActionsLetOrderGoOn }
 {}
 
 /// A worker stops with `AllEnded` only where each thread at home on its CPU has ended, and with

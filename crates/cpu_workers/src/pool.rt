@@ -5,9 +5,11 @@ ghost use Rattle.std.specs.Prelude.{◌≡◌, ◌≤◌, [], All, Err, IfOk, If
 ghost use Rattle.cpu_workers.specs.{Reports.Both, Tasks.task_of};
 
 use crate::refusals::{NoThread, WorkerError};
+use crossbeam_utils::sync::WaitGroup;
 use std::alloc::{AllocError, Global};
 use std::snapshot::Snapshot;
-use std::sync::{OnceLock, Wait};
+use std::sync::Wait;
+use std::sync::atomic::{AtomicBool, Ordering};
 use std::thread;
 use std::thread::{Promise, PromisedHandle, SpawnError, Threads};
 
@@ -58,12 +60,21 @@ impl<T: Task + Drop> Promise<Result<T::Done, T>> for RunOf<T> {
     ghost kept_by = { λ p r. MatchResult r (λ done. T.HasDone p.task.value done) (λ task. task ≡ p.task.value) };
 }
 
-// What a thread does: it waits for the word, and runs its task if all were started.
-fn await_word<T: Task + Drop, R: Wait>(rt: &R, go: &OnceLock<bool>, task: T) -> Result<T::Done, T>
+// What a thread does: it waits until all have come to their start, and runs its task if all were
+// started.
+fn run_started<T: Task + Drop, R: Wait>(
+    rt: &R,
+    start: Option<WaitGroup>,
+    go: &AtomicBool,
+    task: T,
+) -> Result<T::Done, T>
     requires { T.MayRun task }
     ensures { MatchResult result (λ done. T.HasDone task done) (λ same. same ≡ task) }
 {
-    if *go.wait(rt) {
+    if let Some(start) = start {
+        start.wait(rt);
+    }
+    if go.load(Ordering::SeqCst) {
         Ok(task.run(rt))
     } else {
         Err(task)
@@ -161,9 +172,21 @@ struct Supplies<T: Task + Drop>
 where
     T::Done: Drop,
 {
+    group: Vec<WaitGroup>,
     starts: Vec<Start<T>>,
     done: Vec<T::Done>,
     back: Vec<T>,
+}
+
+// A group of so many threads, and one handle more: while that one is there, none of them goes on.
+fn group_of(alloc: Global, count: usize) -> Result<Vec<WaitGroup>, AllocError> {
+    let first = WaitGroup::new(alloc)?;
+    let mut group = Vec::with_capacity(alloc, count.saturating_add(1))?;
+    for _ in 0..count {
+        group.push(first.clone()?)?;
+    }
+    group.push(first)?;
+    Ok(group)
 }
 
 fn supplies_for<T: Task + Drop>(alloc: Global, count: usize) -> Result<Supplies<T>, AllocError>
@@ -174,6 +197,7 @@ where
     ensures back { IfOk result (λ supplies. (supplies.back.items ≡ []) × (count ≤ vec_capacity supplies.back)) }
 {
     Ok(Supplies {
+        group: group_of(alloc, count)?,
         starts: Vec::with_capacity(alloc, count)?,
         done: Vec::with_capacity(alloc, count)?,
         back: Vec::with_capacity(alloc, count)?,
@@ -184,7 +208,8 @@ where
 // each has run.
 fn outcome<T: Task + Drop, R: Threads + Wait>(
     rt: &R,
-    go: &OnceLock<bool>,
+    go: &AtomicBool,
+    mut group: Vec<WaitGroup>,
     refused: Option<NoThread>,
     starts: Vec<Start<T>>,
     done: Vec<T::Done>,
@@ -198,15 +223,16 @@ where
     ensures ran { IfOk result (λ all. Both T.HasDone (map (task_of (λ h. h.promise.task.value)) starts.items) all.items) }
     ensures refused { IfErr result (λ r. r.back.items ≡ map (task_of (λ h. h.promise.task.value)) starts.items) }
 {
+    if refused.is_none() {
+        go.store(true, Ordering::SeqCst);
+    }
+    group.clear();
     match refused {
         Some(no) => Err(Refused {
             fault: WorkerError::NoThread(no),
             back: all_back(rt, starts, back),
         }),
-        None => {
-            let _ = go.set(rt, true);
-            Ok(all_done(rt, starts, done))
-        }
+        None => Ok(all_done(rt, starts, done)),
     }
 }
 
@@ -214,7 +240,7 @@ where
 // started, the tasks are as they were.
 fn run_in<T: Task + Drop + Send, R: Threads + Wait + Sync>(
     rt: &R,
-    go: &OnceLock<bool>,
+    go: &AtomicBool,
     tasks: Vec<T>,
     supplies: Supplies<T>,
 ) -> Result<Vec<T::Done>, Refused<T>>
@@ -228,6 +254,7 @@ where
     ensures refused { IfErr result (λ r. r.back.items ≡ tasks.items) }
 {
     let Supplies {
+        mut group,
         mut starts,
         done,
         back,
@@ -247,6 +274,7 @@ where
                     starts.push_reserved(Err(task));
                     continue;
                 }
+                let start = group.pop();
                 let promise = RunOf {
                     task: Snapshot::of(&task),
                 };
@@ -255,19 +283,19 @@ where
                     move || -> Result<T::Done, T>
                         requires { T.MayRun task }
                         ensures { MatchResult result (λ done. T.HasDone task done) (λ same. same ≡ task) }
-                    { await_word(rt, go, task) },
+                    { run_started(rt, start, go, task) },
                 );
                 match started {
                     Ok(child) => starts.push_reserved(Ok(child)),
                     Err(no) => {
                         refused = Some(NoThread::of(&no));
-                        let _ = go.set(rt, false);
+                        group.clear();
                         let SpawnError { value } = no;
                         starts.push_reserved(Err(untouched(rt, value())));
                     }
                 }
             }
-            outcome(rt, go, refused, starts, done, back)
+            outcome(rt, go, group, refused, starts, done, back)
         },
     )
 }
@@ -301,6 +329,6 @@ where
             });
         }
     };
-    let go = OnceLock::new();
+    let go = AtomicBool::new(false);
     run_in(rt, &go, tasks, supplies)
 }

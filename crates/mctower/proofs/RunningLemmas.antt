@@ -1,12 +1,13 @@
 -- What a run of a plan answers, by what its parts answer.
-use Rattle.std.proofs.{Common.{◌≡◌, ℕ, true, false, List, length, map, replicate, sym, ap, ◌∙◌, subst}, lemmas.{Bool.false≢true, List.length-map}}
-use Rattle.{std.specs.Prelude.{Result, Ok, Err, IsErrAnd}, event_log.{specs.declared.ids.CpuId.CpuId, proofs.Streams.taken_put}, boot.specs.Plan.BootPlan}
+use Rattle.std.proofs.{Common.{◌≡◌, ℕ, true, false, List, [], length, map, replicate, sym, ap, ◌∙◌, subst}, lemmas.{Bool.false≢true, List.length-map}}
+use Rattle.std.specs.Prelude.{Result, Ok, Err, IsErrAnd}
+use Rattle.{event_log.{specs.{declared.ids.CpuId.CpuId, Buffers.empty_buffers}, proofs.{Streams.taken_put, RunLemmas.op_order_from}}, boot.specs.Plan.BootPlan}
 use Rattle.cpu.specs.{Boots.{guests_for, homes_for, tables_for}, Cpus.programs_of, Claims.{CpuShown, FollowPrograms, HasOneOrder, Shown, StandsOnce, StayHome}}
 use Rattle.cpu.specs.{Claims.traces_of, Sound.{BootsByTable, IsSetupFor, RanByTable, SoundByTable, after_steps, setup_for}, Systems.{Ran, SamePlan, whole_of}}
 use Rattle.cpu.{specs.{Table.Steps.{Whole, whole_at_boot}, Observed.ObservedByTable}, proofs.{ListReads.{listed_length, map_twice}, ReachedSystems.setup_on}}
-use Rattle.mctower.specs.{Output.{IsUntouched, Output}, Plans.{IsOpened, IsSystemOf, table_run}, Running.{AreCpus, IsRunOf, IsPrinted, RunsPlan}, Texts.IsOut}
-use Rattle.mctower.specs.{Texts.Writes, declared.run.Fault.{Fault, TheVariants.{NoMemory, Boot, BadCpu, NoOrder, WriteFault}}}
-use Rattle.mctower.proofs.TabledLemmas.{text_of_run}
+use Rattle.{cpu.proofs.RealTime.linear_ran, mctower.specs.{Output.{IsUntouched, Output}, Plans.{IsOpened, IsSystemOf, table_run}, Running.{AreCpus, IsRunOf}}}
+use Rattle.mctower.specs.{Running.{IsPrinted, RunsPlan}, Texts.{IsOut, Writes}, declared.run.Fault.{Fault, TheVariants.{NoMemory, Boot, BadCpu, NoOrder}}}
+use Rattle.{mctower.{specs.declared.run.Fault.TheVariants.WriteFault, proofs.TabledLemmas.text_of_run}, tracer.proofs.OrderLemmas.orders_agree}
 
 -- a system that opens with a plan's buffers, homes, guests and room for entries is the plan's
 pub opened : (plan : BootPlan) (s : Shown) → s.caps ≡ plan.caps → s.homes ≡ homes_for plan → map (λ p. p.guests) s.cpus ≡ tables_for plan
@@ -52,6 +53,7 @@ run_of IsStepwise plan steps first last of ran boots planned table sound told sa
   start = first;
   opened = of;
   ran = ran;
+  linear = linear_ran ran;
   planned = setup_on (setup_for plan) same planned;
   table = λ step. by_table plan steps first last of (boots step) planned (table step);
   sound = sound;
@@ -90,6 +92,8 @@ out_ran IsStepwise plan steps caps first last out same of known ran text = recor
   ran = ran;
   out = written_out;
   fifo = taken_put plan.caps written_out.is.order last.contents written_out.is.run;
+  in_time = orders_agree (traces_of last) written_out.is.order last.order written_out.is.keeps
+      (ran.one_order.keeps, op_order_from last.caps [] (empty_buffers last.caps) last.order last.contents ran.one_order.run);
   table = λ step. text_of_run IsStepwise plan steps last ran step written_out.text written_out.is;
 }
   where

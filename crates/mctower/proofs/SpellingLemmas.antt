@@ -145,7 +145,7 @@ limit_at plan s k p of at =
 
 -- there are as many contents as buffers
 pub contents_length : (s : Shown) → HasOneOrder s → length s.contents ≡ length s.caps
-contents_length s one = run_length s.caps [] (empty_buffers s.caps) one.order s.contents one.run ∙ empty_length s.caps
+contents_length s one = run_length s.caps [] (empty_buffers s.caps) s.order s.contents one.run ∙ empty_length s.caps
 
 -- the traces of a plan's system have a text
 pub system_has : (cpus : ℕ) (caps : List ℕ) (s : Shown) → IsOfPlan cpus caps s → TracesFit s → StayHome s → HasOneOrder s
@@ -165,7 +165,7 @@ system_has cpus caps s of fits stay one = record {
       let at_cpu = map_get (λ (p : CpuShown). p.trace) s.cpus c trace at in
       subst (λ (h : List CpuId). AllByRecursion (IsOfHome h (record { 0 = c })) trace) of.system.homes
       (subst (λ (l : List Entry). AllByRecursion (IsOfHome s.homes (record { 0 = c })) l) at_cpu.2 (stay c at_cpu.0 at_cpu.1));
-  order = one.order;
+  order = s.order;
   keeps = one.keeps;
-  runs = subst (λ l. IsRun l one.order s.contents) (of.system.caps ∙ sym of.caps) one.run;
+  runs = subst (λ l. IsRun l s.order s.contents) (of.system.caps ∙ sym of.caps) one.run;
 }

@@ -66,8 +66,8 @@ module _ (IsStepwise : Type 0) (plan : BootPlan) (steps : List CpuId) (s : Shown
 
   contents_wide : length s.contents ≡ length plan.caps
   contents_wide =
-      ap (λ (l : List (List Message)). length l) (left_from s.caps [] (empty_buffers s.caps) ran.one_order.order s.contents ran.one_order.run)
-      ∙ contents_long (empty_buffers s.caps) ran.one_order.order ∙ length-map s.caps _ ∙ caps_long
+      ap (λ (l : List (List Message)). length l) (left_from s.caps [] (empty_buffers s.caps) s.order s.contents ran.one_order.run)
+      ∙ contents_long (empty_buffers s.caps) s.order ∙ length-map s.caps _ ∙ caps_long
 
   contents_are : s.contents ≡ contents_at setup (whole_of s)
   contents_are =

@@ -1,5 +1,5 @@
 -- What a run in threads answers, by what its parts answer.
-use Rattle.std.proofs.{Common.{◌≡◌, ◌⊎◌, inl, inr, ℕ, ◌<◌, ◌≤◌, Bool, false, List, [], length, Some, refl, sym, ap, ◌∙◌, subst}, lemmas.List.append-nil}
+use Rattle.std.proofs.{Common.{◌≡◌, ◌⊎◌, inl, inr, ℕ, ◌<◌, ◌≤◌, Bool, false, true, List, [], length, Some, refl, sym, ap, ◌∙◌, subst}, lemmas.List.append-nil}
 use Rattle.std.{proofs.lemmas.Option.slice_get_within, specs.{Prelude.{Result, Ok, Err, Vec, slice_get, if◌then◌else◌}, Global.Global, List.AllByRecursion}}
 use Rattle.{std.specs.Io.KnownBytes.Appends, event_log.{specs.declared.entries.Entry.Entry, proofs.Streams.taken_put}, layer_traits.specs.OnePlace.cpu_at}
 use Rattle.{boot.specs.{declared.refusals.BootError.BootError, Plan.{BootPlan, IsPlan}}, tracer.{specs.Sinks.Outs, proofs.SinkLemmas.{all_out, outs_then}}}
@@ -7,6 +7,7 @@ use Rattle.{cpu.specs.{Boots.homes_for, Cpus.IsOfHome, Sound.setup_for}, cpu_wor
 use Rattle.{cpu_workers.specs.Lawful.{CpuReport, Shown, ReportsTrue, left_in}, mctower.specs.declared.refusals.Refusal.{Refusal, TheVariants.WriteFault}}
 use Rattle.mctower.specs.{declared.{run.Fault.Fault, serve.Done.{Done, TheVariants.Worked}}, Output.Output, Refusals.{from_fault, lacks_memory}, Serve.OfPlan}
 use Rattle.mctower.specs.{Serve.{RefusedBy, WorksPlan}, Texts.{HaveText, IsOut, IsTextOf, Writes}, Threads.{IsWorked, AlwaysOpen}}
+use Rattle.{event_log.{specs.Buffers.empty_buffers, proofs.RunLemmas.op_order_from}, tracer.proofs.OrderLemmas.orders_agree}
 use Rattle.mctower.specs.declared.run.Fault.TheVariants as run
 
 -- what is so for a plan that was read
@@ -49,6 +50,8 @@ has_worked turns plan r stops text lawful same is = record {
   stops_are = same;
   is = is;
   fifo = taken_put plan.caps is.order (left_in (length plan.caps) r) is.run;
+  in_time = orders_agree r.traces is.order lawful.report.order is.keeps
+      (lawful.report.keeps, op_order_from plan.caps [] (empty_buffers plan.caps) lawful.report.order (left_in (length plan.caps) r) lawful.report.run);
 }
 
 -- the plan's workers have run, their text is out, and nothing more was put out behind it
@@ -56,8 +59,8 @@ pub worked : (turns : ℕ) (plan : BootPlan) (r : Shown) (stops : Vec Stop Globa
     → IsLawfulReport (setup_for plan) AlwaysOpen turns r → stops.items ≡ r.stops
     → (first.failed ≡ false) × IsOut plan.caps r.traces (left_in (length plan.caps) r) first
     → answer ≡ (if whole.failed then Err WriteFault else Ok (Worked stops)) → Outs whole.failed first.new whole.new [] → first.old ≡ whole.old
-    → WorksPlan turns plan answer whole
-worked turns plan r stops answer first whole lawful same writes given more old =
+    → (whole.failed ≡ false → whole.flushed ≡ true) → WorksPlan turns plan answer whole
+worked turns plan r stops answer first whole lawful same writes given more old passed_on =
     let trace = writes.1.text in
     let out : Appends first.old first.new trace = all_out first.failed first.old first.new trace writes.0 writes.1.out in
     let outs = outs_then whole.failed first.old first.new whole.new trace [] out more in
@@ -67,9 +70,14 @@ worked turns plan r stops answer first whole lawful same writes given more old =
       worked = has_worked turns plan r stops trace lawful same writes.1.is;
       put = (
         given,
-        subst (λ o. Outs whole.failed o whole.new trace) old (subst (λ t. Outs whole.failed first.old whole.new t) (append-nil trace) outs),
+        (subst (λ o. Outs whole.failed o whole.new trace) old (subst (λ t. Outs whole.failed first.old whole.new t) (append-nil trace) outs), passed_on),
       );
     })
+
+-- a sink has not failed and failed
+not_both : {A : Type 0} (failed : Bool) → failed ≡ false → failed ≡ true → A
+not_both false live is = absurd (cc)
+not_both true live is = absurd (cc)
 
 -- their text could not be written
 pub not_written : (A : Type 0) (turns : ℕ) (plan : BootPlan) (r : Shown) (stops : Vec Stop Global) (fault : Fault) (refusal : Refusal) (out : Output)
@@ -84,5 +92,5 @@ not_written A turns plan r stops run.WriteFault refusal out lawful same writes i
   stops = stops;
   trace = writes.1.text;
   worked = has_worked turns plan r stops writes.1.text lawful same writes.1.is;
-  put = (ap Err is ∙ ap (λ (b : Bool). if b then Err WriteFault else Ok (Worked stops)) (sym writes.0), writes.1.out);
+  put = (ap Err is ∙ ap (λ (b : Bool). if b then Err WriteFault else Ok (Worked stops)) (sym writes.0), (writes.1.out, λ live. not_both out.failed live writes.0));
 }))

@@ -9,7 +9,7 @@ use Rattle.boot.specs.declared.refusals.BootError.TheVariants as refused
 
 module _ (If Where : Type 0) (follows : Where → If) where
   went : (c : CpuId) (s r : Shown) → WentOn If c s r → WentOn Where c s r
-  went c s r (took live counted step) = took live counted (λ here. step (follows here))
+  went c s r (took live counted grows now step) = took live counted grows now (λ here. step (follows here))
   went c s r (stayed reason is same) = stayed reason is same
 
   ran : (start : Shown) (steps : List CpuId) (s : Shown) → Ran If start steps s → Ran Where start steps s
@@ -21,6 +21,7 @@ module _ (If Where : Type 0) (follows : Where → If) where
     start = is.start;
     opened = is.opened;
     ran = ran is.start steps s is.ran;
+    linear = is.linear;
     planned = is.planned;
     table = λ here. is.table (follows here);
     sound = λ here. is.sound (follows here);
@@ -35,7 +36,7 @@ module _ (If Where : Type 0) (follows : Where → If) where
 
   printed : (plan : BootPlan) (steps : List CpuId) (s : Shown) (out : Output) → IsPrinted If plan steps s out → IsPrinted Where plan steps s out
   printed plan steps s out is =
-      record { cpus = is.cpus; ran = run_of plan steps s is.ran; out = is.out; fifo = is.fifo; table = λ here. is.table (follows here) }
+      record { cpus = is.cpus; ran = run_of plan steps s is.ran; out = is.out; fifo = is.fifo; in_time = is.in_time; table = λ here. is.table (follows here) }
 
   runs_plan : (plan : BootPlan) (steps : List CpuId) (result : Result Shown Fault) (out : Output) → RunsPlan If plan steps result out
       → RunsPlan Where plan steps result out

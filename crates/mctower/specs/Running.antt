@@ -1,11 +1,11 @@
 -- Running a plan: the system that a schedule leaves over the lock that the plan names, its trace text, and what a run answers.
 use Rattle.std.specs.Prelude.{◌≡◌, ℕ, ◌<◌, true, false, List, length, All, Result, Ok, Err}
 use Rattle.{event_log.specs.{declared.ids.CpuId.CpuId, Streams.IsFirstInFirstOut}, boot.specs.declared.{locks.LockKind.LockKind, refusals.BootError.BootError}}
-use Rattle.{boot.specs.Plan.BootPlan, cpu.specs.{Claims.{FollowPrograms, HasOneOrder, Shown, StandsOnce, StayHome, traces_of}, Sound.IsSetupFor}}
-use Rattle.{cpu.specs.{Sound.{SoundByTable, setup_for}, Systems.{Ran, whole_of}, Observed.ObservedByTable}, mctower.specs.declared.run.Fault.Fault}
-use Rattle.mctower.specs.declared.run.{Fault.TheVariants.{NoMemory, Boot, BadCpu, NoOrder, WriteFault}, Ran.{Ran as RanOver, TheVariants.{Ticket, Grant}}}
-use Rattle.mctower.specs.{declared.states.State.State, Output.{IsUntouched, Output}, Plans.{IsOpened, IsSystemOf, table_run}, State.IsStateOf}
-use Rattle.mctower.specs.{Tabled.IsTextOfRun, Texts.IsOut}
+use Rattle.{boot.specs.Plan.BootPlan, cpu.specs.{Linear.IsLinearizable, Claims.{FollowPrograms, HasOneOrder, Shown, StandsOnce, StayHome, traces_of}}}
+use Rattle.{cpu.specs.{Sound.{IsSetupFor, SoundByTable, setup_for}, Systems.{Ran, whole_of}, Observed.ObservedByTable}, tracer.specs.Gather.on_buffer}
+use Rattle.mctower.specs.declared.run.{Fault.{Fault, TheVariants.{NoMemory, Boot, BadCpu, NoOrder, WriteFault}}, Ran.{Ran as RanOver, TheVariants.Ticket}}
+use Rattle.mctower.specs.{declared.{run.Ran.TheVariants.Grant, states.State.State}, Output.{IsUntouched, Output}, Plans.{IsOpened, IsSystemOf, table_run}}
+use Rattle.mctower.specs.{State.IsStateOf, Tabled.IsTextOfRun, Texts.IsOut}
 use Rattle.boot.specs.declared.locks.LockKind.TheVariants as kind
 
 -- The system of a plan, after a schedule's steps: it was opened with room for just these and took them in their order; the plan says its
@@ -15,6 +15,7 @@ pub record IsRunOf (IsStepwise : Type 0) (plan : BootPlan) (steps : List CpuId) 
   pub start : Shown
   pub opened : IsOpened plan (length steps) start
   pub ran : Ran IsStepwise start steps s
+  pub linear : IsLinearizable start steps s
   pub planned : IsSetupFor (setup_for plan) s
   pub table : IsStepwise → whole_of s ≡ table_run plan steps
   pub sound : IsStepwise → SoundByTable s
@@ -32,12 +33,13 @@ AreCpus cpus steps = All (λ c. c.0 < cpus) steps
 
 -- a system that the plan's may be after these steps has its text out, or a beginning of it; in the order that it tells, for each buffer what was
 -- put is what was taken, in that order, and then what is left; where the machine does one action a step, this is the text of the step table's
--- system of the plan after these steps
+-- system of the plan after these steps; and in the order that it tells the calls of each buffer stand as they took effect
 pub record IsPrinted (IsStepwise : Type 0) (plan : BootPlan) (steps : List CpuId) (s : Shown) (printed : Output) : Type 0 where
   pub cpus : AreCpus plan.cpus steps
   pub ran : IsRunOf IsStepwise plan steps s
   pub out : IsOut plan.caps (traces_of s) s.contents printed
   pub fifo : IsFirstInFirstOut out.is.order s.contents
+  pub in_time : (b : ℕ) → on_buffer b out.is.order ≡ on_buffer b s.order
   pub table : IsStepwise → IsTextOfRun plan steps out.text
 
 -- what a run of a plan answers: a step of a CPU that the plan has not is refused before anything is written; else the plan's

@@ -4,7 +4,7 @@ use Rattle.std.specs.{Prelude.{decimal, if◌then◌else◌, is_some, map, strin
 use Rattle.{std.specs.declared.io.ErrorKind.TheVariants.{OutOfMemory, InvalidData}, clap.specs.Walk.Text, event_log.specs.declared.ids.CpuId.CpuId}
 use Rattle.{event_log.specs.Streams.IsFirstInFirstOut, boot.specs.{declared.refusals.BootError.{BootError, TheVariants.BadToml}, Plan.{BootPlan, plan_of}}}
 use Rattle.tracer.specs.{declared.{verdicts.Verdict.Verdict, checking.InputFault.InputFault}, Judging.verdict_of, Verdicts.IsTraceOfRun}
-use Rattle.mctower.specs.{Line.{Ghost, count, order_of, run, threads, check}, Output.{IsPut, IsTold, IsUntouched, Output}, Refusals.{PutsRefusal, lacks_memory}}
+use Rattle.mctower.specs.{Line.{Ghost, count, order_of, run, threads, check}, Output.{IsTold, IsUntouched, Output}, Refusals.{PutsRefusal, lacks_memory}}
 use Rattle.mctower.specs.{Refusals.{lacks_thread, status_of_refusal}, declared.refusals.Refusal.{Refusal, TheVariants.{BadLine, BadCpu, ReadFault, WriteFault}}}
 use Rattle.mctower.specs.declared.{refusals.Refusal.TheVariants.{BadSchedule, Plan as BadPlan}, faults.LineFault.{LineFault, TheVariants.NotText}}
 use Rattle.mctower.specs.declared.{faults.NoOrder.TheVariants.{AsksHelp, AsksVersion}, help.TheConstants.VERSION, serve.Done.{Done, TheVariants.{Exit, Ran}}}
@@ -26,9 +26,9 @@ status_of (Err refusal) = status_of_refusal refusal
 abbrev pub RefusedBy : Refusal → Result Done Refusal → Output → Type 0
 RefusedBy refusal answer out = (answer ≡ Err refusal) × IsUntouched out
 
--- the text is out, and the answer is that this is done; or the output failed, a beginning of the text is out, and that is the answer
+-- the text is out and passed on, and the answer is that this is done; or the output failed, a beginning of the text is out, and that is the answer
 abbrev pub Puts : Done → List ℕ → Result Done Refusal → Output → Type 0
-Puts done text answer out = (answer ≡ (if out.failed then Err WriteFault else Ok done)) × IsPut out text
+Puts done text answer out = (answer ≡ (if out.failed then Err WriteFault else Ok done)) × IsTold out text
 
 -- ---- the input
 
@@ -110,9 +110,9 @@ ReportsRun plan steps s answer false =
     (state : State) × IsStateOf NoCondition s state × IsStateOfRun plan steps state × (answer ≡ Ok (Ran state))
 ReportsRun plan steps s answer true = answer ≡ Err WriteFault
 
--- the text is out, and what is to be told is the system's state; or the output failed, and a beginning of the text is out
+-- the text is out and passed on, and what is to be told is the system's state; or the output failed, and a beginning of the text is out
 abbrev pub PutsRun : BootPlan → List CpuId → Shown → List ℕ → Result Done Refusal → Output → Type 0
-PutsRun plan steps s text answer out = ReportsRun plan steps s answer out.failed × IsPut out text
+PutsRun plan steps s text answer out = ReportsRun plan steps s answer out.failed × IsTold out text
 
 -- the plan's system took the steps, by the step table, and its trace text is written; in the order that it tells, for each buffer what was put is
 -- what was taken, in that order, and then what is left; it is the text of the step table's system of the plan after these steps

@@ -1,8 +1,8 @@
 -- A run of a plan in threads: what its workers leave, and the lines that tell why each of them stopped.
 use Rattle.std.specs.{Prelude.{◌≡◌, ℕ, List, codes, length}, List.flat_map}
-use Rattle.{event_log.specs.{declared.ids.CpuId.CpuId, Streams.IsFirstInFirstOut}, tracer.specs.TraceText.{text_line, numbered}, boot.specs.Plan.BootPlan}
-use Rattle.{cpu.specs.Sound.setup_for, cpu_workers.specs.declared.workers.{gates.Go.{Go, TheVariants.Pass}, stops.Stop.{Stop, TheVariants.AllEnded}}}
-use Rattle.cpu_workers.specs.{declared.workers.stops.Stop.TheVariants.{TurnsUsed, TraceFull, Held}, Lawful.{IsLawfulReport, Shown, left_in}}
+use Rattle.{event_log.specs.{declared.ids.CpuId.CpuId, Streams.IsFirstInFirstOut}, tracer.specs.{Gather.on_buffer, TraceText.{text_line, numbered}}}
+use Rattle.{boot.specs.Plan.BootPlan, cpu.specs.Sound.setup_for, cpu_workers.specs.declared.workers.{gates.Go.{Go, TheVariants.Pass}, stops.Stop.Stop}}
+use Rattle.cpu_workers.specs.{declared.workers.stops.Stop.TheVariants.{AllEnded, TurnsUsed, TraceFull, Held}, Lawful.{IsLawfulReport, Shown, left_in}}
 use Rattle.mctower.specs.{StateLines.cpu_pieces, Texts.IsTextOf}
 
 -- the word for a stop
@@ -26,10 +26,11 @@ AlwaysOpen c go turn = go ≡ Pass
 
 -- The workers of a plan have run, each for so many turns: they left a lawful report, these are its stops, and this is the text of the plan's
 -- capacities, of the report's traces and of what its buffers hold; in the order that it tells, for each buffer what was put is what was taken, in
--- that order, and then what is left.
+-- that order, and then what is left; and in it the calls of each buffer stand as they took effect.
 pub record IsWorked (plan : BootPlan) (turns : ℕ) (stops : List Stop) (text : List ℕ) : Type 0 where
   pub report : Shown
   pub lawful : IsLawfulReport (setup_for plan) AlwaysOpen turns report
   pub stops_are : stops ≡ report.stops
   pub is : IsTextOf plan.caps report.traces (left_in (length plan.caps) report) text
   pub fifo : IsFirstInFirstOut is.order (left_in (length plan.caps) report)
+  pub in_time : (b : ℕ) → on_buffer b is.order ≡ on_buffer b lawful.report.order

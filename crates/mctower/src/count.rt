@@ -6,9 +6,9 @@ ghost use Rattle.{event_log.specs.{declared.ids.{CpuId.CpuId, TheConstants.CPUS}
 ghost use Rattle.mctower.specs.Count.{AreReady, after_round, after_rounds};
 
 use crate::line::MOST_TIMES;
-use crate::locks::{GrantLock, OwnedLock, TicketLock};
+use crate::locks::{GrantLock, KindOf, OnLock, OwnedLock, TicketLock};
 use boot::LockKind;
-use cpu_workers::counting::{self, AddOne, CountFault, Counted, LockOfKind, NUMBER, number_in};
+use cpu_workers::counting::{self, AddOne, CountFault, Counted, NUMBER, number_in};
 use event_log::{CpuId, LockId, NoMemory};
 use layer_traits::{LockLayer, OwnedLocks, Payload};
 use spinlock::whole;
@@ -126,13 +126,14 @@ where
 /// Counts over the owned machine behind this lock: as [`count_plain`].
 ///
 /// Requires: there are from 1 to `CPUS` CPUs, and each adds at most `MOST_TIMES` times. Each poll of
-/// the lock is one action.
+/// the lock is one action. `lock` is the kind of its words.
 ///
 /// Errors: `NoMemory` if an allocation was refused.
-pub(crate) fn count_behind<L: OwnedLocks<AddOne> + Drop, V: LockOfKind<L>>(
+pub(crate) fn count_behind<L: OwnedLocks<AddOne> + OnLock + Drop>(
     alloc: Global,
     cpus: u8,
     times: u64,
+    lock: LockKind,
 ) -> Result<Counted, NoMemory>
 where
     L::Machine: Drop,
@@ -140,11 +141,14 @@ where
     requires some { 1 ≤ cpus }
     requires cpus { cpus ≤ CPUS }
     requires times { times ≤ MOST_TIMES }
+    requires kind { lock ≡ L.lock_kind }
     ensures number { IfOk result (λ counted. counted.number ≡ times * cpus) }
-    ensures lock { IfOk result (λ counted. counted.lock ≡ V.lock_kind) }
+    ensures lock { IfOk result (λ counted. counted.lock ≡ lock) }
+    ensures all { IfOk result (λ counted. counted.cpus ≡ cpus) }
+    ensures times { IfOk result (λ counted. counted.times ≡ times) }
 {
     let machine = count_rounds::<L>(alloc, cpus, times)?;
-    Ok(number_in::<L, V>(&machine))
+    Ok(number_in::<L, KindOf>(&machine, cpus, times, lock))
 }
 
 /// Counts over the owned machine with locks of this kind: each of `cpus` CPUs does `times` sections
@@ -159,6 +163,8 @@ pub fn count_plain(alloc: Global, cpus: u8, times: u64, lock: LockKind) -> Resul
     requires times { times ≤ MOST_TIMES }
     ensures number { IfOk result (λ counted. counted.number ≡ times * cpus) }
     ensures lock { IfOk result (λ counted. counted.lock ≡ lock) }
+    ensures all { IfOk result (λ counted. counted.cpus ≡ cpus) }
+    ensures times { IfOk result (λ counted. counted.times ≡ times) }
 {
     match lock {
         LockKind::Ticket => TicketLock::count(alloc, cpus, times),
@@ -184,6 +190,8 @@ pub fn count_table<R: Threads + Wait + Sync>(
     requires times { times ≤ MOST_TIMES }
     ensures number { IfOk result (λ counted. counted.number ≡ times * cpus) }
     ensures lock { IfOk result (λ counted. counted.lock ≡ lock) }
+    ensures all { IfOk result (λ counted. counted.cpus ≡ cpus) }
+    ensures times { IfOk result (λ counted. counted.times ≡ times) }
 {
     counting::count_table(rt, alloc, cpus, times, lock)
 }

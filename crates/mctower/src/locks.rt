@@ -82,6 +82,13 @@ impl<B: OnLock> OnLock for Ipc<B> {
     ghost lock_kind = { B.lock_kind };
 }
 
+/// The one name by which a count tells the kind of its lock: that of what stands on it.
+pub struct KindOf;
+
+impl<L: OnLock> LockOfKind<L> for KindOf {
+    ghost lock_kind = { L.lock_kind };
+}
+
 /// A lock by its kind: the tower over it in an owned machine, and a count behind it.
 pub trait OwnedLock {
     ghost use Rattle.boot.specs.declared.locks.LockKind.{LockKind};
@@ -106,20 +113,14 @@ pub trait OwnedLock {
         requires cpus { cpus ≤ CPUS }
         requires times { times ≤ MOST_TIMES }
         ensures number { IfOk result (λ counted. counted.number ≡ times * cpus) }
-        ensures lock { IfOk result (λ counted. counted.lock ≡ kind) };
+        ensures lock { IfOk result (λ counted. counted.lock ≡ kind) }
+        ensures all { IfOk result (λ counted. counted.cpus ≡ cpus) }
+        ensures times { IfOk result (λ counted. counted.times ≡ times) };
 }
 
 /// A ticket lock.
 #[derive(Drop)]
 pub struct TicketLock;
-
-impl LockOfKind<Ticket<Plain<AddOne>>> for TicketLock {
-    ghost lock_kind = { kind.Ticket };
-
-    fn kind() -> LockKind {
-        LockKind::Ticket
-    }
-}
 
 impl OwnedLock for TicketLock {
     ghost kind = { kind.Ticket };
@@ -131,21 +132,13 @@ impl OwnedLock for TicketLock {
 
     fn count(alloc: Global, cpus: u8, times: u64) -> Result<Counted, NoMemory> {
         let _laws: CountLaws = PhantomData;
-        count_behind::<Ticket<Plain<AddOne>>, TicketLock>(alloc, cpus, times)
+        count_behind::<Ticket<Plain<AddOne>>>(alloc, cpus, times, LockKind::Ticket)
     }
 }
 
 /// A lock with a grant word for each waiter.
 #[derive(Drop)]
 pub struct GrantLock;
-
-impl LockOfKind<Grant<GrantPlain<AddOne>>> for GrantLock {
-    ghost lock_kind = { kind.Grant };
-
-    fn kind() -> LockKind {
-        LockKind::Grant
-    }
-}
 
 impl OwnedLock for GrantLock {
     ghost kind = { kind.Grant };
@@ -157,7 +150,7 @@ impl OwnedLock for GrantLock {
 
     fn count(alloc: Global, cpus: u8, times: u64) -> Result<Counted, NoMemory> {
         let _laws: CountLaws = PhantomData;
-        count_behind::<Grant<GrantPlain<AddOne>>, GrantLock>(alloc, cpus, times)
+        count_behind::<Grant<GrantPlain<AddOne>>>(alloc, cpus, times, LockKind::Grant)
     }
 }
 

@@ -104,7 +104,7 @@ fn work_plan<O: Write, T: Threads + Wait + Sync>(
     };
     let caps = boot.caps();
     let left = left_in(&report, caps.len());
-    let Report { traces, stops, .. } = report;
+    let (traces, stops) = report.into_parts();
     if let Err(fault) = write_text(alloc, caps.as_slice(), &traces, &left, out) {
         return Err(run_refused(fault));
     }

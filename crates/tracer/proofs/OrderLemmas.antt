@@ -1,10 +1,12 @@
 -- Orders of traces: an entry that is due at the head of its trace may come first.
-use Rattle.std.proofs.Common.{◌≡◌, ◌≢◌, ℕ, ◌+◌, ◌<◌, ◌≤◌, Bool, cond, eqb, ◌&&◌, List, [], ◌∷◌, ◌++◌, length, get_or, set, Some, sym, ap, ◌∙◌, subst, inl, inr}
-use Rattle.std.proofs.{Common.{arith, count_by}, lemmas.{List.{set_comm, get_or-set_other, get_or_past, Sums.sum_by_push}, Bool.{cases_eq, Decides.nat_tests}}}
-use Rattle.{std.{proofs.lemmas.Option.{get_or_from_slice_get, slice_get-get_or}, specs.Prelude.{nat_lt, slice_get}}, event_log.specs.Messages.Message}
-use Rattle.event_log.specs.{declared.entries.{Entry.Entry, Kind.{Kind, TheVariants.Close}}, Buffers.{items_of, after_effect, empty_buffers}, Runs.count_of}
-use Rattle.event_log.specs.{Runs.{count_of_kind, is_closed, kind_eq, IsNext, IsRunFrom, after_entry}, Traces.{IsInterleaving, HasOpOrderFrom}}
-use Rattle.{event_log.proofs.RunLemmas.{op_order_from, count_more, count_kind_more}, tracer.specs.Gather.{RunsHaveOrder, OrdersRunAlike}}
+use Rattle.std.proofs.Common.{◌≡◌, ◌≢◌, ℕ, ◌+◌, ◌<◌, ◌≤◌, Bool, true, false, cond, eqb, ◌&&◌, refl, List, [], ◌∷◌, ◌++◌, length, get_or, set, Some, sym, ap}
+use Rattle.std.proofs.{Common.{◌∙◌, subst, inl, inr, arith, count_by}, lemmas.{List.{set_comm, get_or-set_other, get_or_past, Sums.sum_by_push}, Bool.cases_eq}}
+use Rattle.std.{proofs.lemmas.{Bool.{eqb-true, Decides.nat_tests}, Option.{get_or_from_slice_get, slice_get-get_or}}, specs.Prelude.{nat_lt, slice_get, ◌==◌}}
+use Rattle.std.specs.Prelude.{if◌then◌else◌}
+use Rattle.event_log.specs.{Messages.Message, declared.entries.{Entry.Entry, Kind.{Kind, TheVariants.Close}}, Buffers.{items_of, after_effect, empty_buffers}}
+use Rattle.event_log.specs.{Runs.{count_of, count_of_kind, is_closed, kind_eq, IsNext, IsRunFrom, after_entry}, Traces.{IsInterleaving, HasOpOrderFrom}}
+use Rattle.{event_log.proofs.RunLemmas.{op_order_from, count_more, count_kind_more}, tracer.specs.Gather.{OrdersAgreeByBuffer, RunsHaveOrder, OrdersRunAlike}}
+use Rattle.tracer.specs.Gather.{on_buffer}
 
 -- the entries of a trace, from a look at its head and back
 pub at_head : (traces : List (List Entry)) (k : ℕ) (e : Entry) (rest : List Entry) → slice_get traces k ≡ Some (e ∷ rest) → get_or traces k [] ≡ e ∷ rest
@@ -110,6 +112,20 @@ after_swap contents e f differ =
     (after_effect e.kind (items_of contents e.buffer.0) e.value) differ
     ∙ sym (ap (λ items. set (after_entry contents e) f.buffer.0 (after_effect f.kind items f.value)) (items_other contents e f.buffer.0 differ)))
 
+-- entries of two buffers may change places: each buffer's own stand as before
+swapped_first : (b : ℕ) (e f : Entry) (es : List Entry) → f.buffer.0 ≢ e.buffer.0 → on_buffer b (f ∷ e ∷ es) ≡ on_buffer b (e ∷ f ∷ es)
+swapped_first b e f es differ = go (f.buffer.0 == b) (e.buffer.0 == b) refl refl
+  where
+    go : (of_f of_e : Bool) → (f.buffer.0 == b) ≡ of_f → (e.buffer.0 == b) ≡ of_e → on_buffer b (f ∷ e ∷ es) ≡ on_buffer b (e ∷ f ∷ es)
+    go true true is_f is_e = absurd (differ (eqb-true f.buffer.0 b is_f ∙ sym (eqb-true e.buffer.0 b is_e)))
+    go true false is_f is_e = rw (is_f, is_e) refl
+    go false true is_f is_e = rw (is_f, is_e) refl
+    go false false is_f is_e = rw (is_f, is_e) refl
+
+-- an entry in front of entries that stand alike
+alike_behind : (b : ℕ) (e : Entry) (es fs : List Entry) → on_buffer b es ≡ on_buffer b fs → on_buffer b (e ∷ es) ≡ on_buffer b (e ∷ fs)
+alike_behind b e es fs alike = ap (λ (l : List Entry). if e.buffer.0 == b then e ∷ l else l) alike
+
 -- the traces without e at the head of one have an order behind e; and where the order is a run, e and then that order are one, which ends in the same contents
 pub record CameFirst (earlier : List Entry) (others : List (List Entry)) (order : List Entry) (e : Entry) : Type 0 where
   pub later : List Entry
@@ -117,6 +133,7 @@ pub record CameFirst (earlier : List Entry) (others : List (List Entry)) (order 
   pub ops : HasOpOrderFrom (earlier ++ e ∷ []) later
   pub runs : (caps : List ℕ) (contents left : List (List Message)) → IsRunFrom caps earlier contents order left
       → IsRunFrom caps earlier contents (e ∷ later) left
+  pub alike : (b : ℕ) → on_buffer b order ≡ on_buffer b (e ∷ later)
 
 -- what is due at the head of a trace may come first
 pub may_come_first : (earlier : List Entry) (traces : List (List Entry)) (order : List Entry) (k : ℕ) (e : Entry) (rest : List Entry)
@@ -134,6 +151,7 @@ may_come_first earlier traces (f ∷ order) k e rest keeps ops at due =
             keeps = subst (λ n. IsInterleaving (set traces n rest) order) (sym same) (subst (λ r. IsInterleaving (set traces keeps.0 r) order) there keeps.3);
             ops = subst (λ x. HasOpOrderFrom (earlier ++ x ∷ []) order) it ops.1;
             runs = λ caps contents left run. subst (λ x. IsRunFrom caps earlier contents (x ∷ order) left) it run;
+            alike = λ b. ap (λ (x : Entry). on_buffer b (x ∷ order)) it;
           }
       | inr differ ↦ elim (cases_eq f.buffer.0 e.buffer.0) [
         | inl alike ↦
@@ -167,6 +185,7 @@ may_come_first earlier traces (f ∷ order) k e rest keeps ops at due =
                           (subst (λ c. IsRunFrom caps ((earlier ++ f ∷ []) ++ e ∷ []) c r.later left) (after_swap contents e f apart) behind.1),
                     ),
                   );
+              alike = λ b. alike_behind b f order (e ∷ r.later) (r.alike b) ∙ swapped_first b e f r.later apart;
             }
       ]
     ]
@@ -193,3 +212,19 @@ runs_have_order traces caps order left keeps run none = none order (keeps, op_or
 
 pub run_alike : (traces : List (List Entry)) → OrdersRunAlike traces
 run_alike traces caps order other left keeps run others = run_alike_from caps [] (empty_buffers caps) traces order other left keeps run others.0 others.1
+
+-- in each other order the entries of each buffer stand as in this one
+agree_from : (earlier : List Entry) (traces : List (List Entry)) (order other : List Entry) → IsInterleaving traces order → HasOpOrderFrom earlier order
+    → IsInterleaving traces other → HasOpOrderFrom earlier other → (b : ℕ) → on_buffer b order ≡ on_buffer b other
+agree_from earlier traces [] [] keeps ops others others_ops b = refl
+agree_from earlier traces (f ∷ order) [] keeps ops others others_ops b =
+    let bad : [] ≡ f ∷ keeps.1 = sym (others keeps.0) ∙ at_head traces keeps.0 f keeps.1 keeps.2 in absurd (cc)
+agree_from earlier traces order (e ∷ other) keeps ops others others_ops b =
+    let first : CameFirst earlier (set traces others.0 others.1) order e
+    = may_come_first earlier traces order others.0 e others.1 keeps ops (at_head traces others.0 e others.1 others.2) others_ops.0 in
+    first.alike b
+    ∙ alike_behind b e first.later other
+    (agree_from (earlier ++ e ∷ []) (set traces others.0 others.1) first.later other first.keeps first.ops others.3 others_ops.1 b)
+
+pub orders_agree : (traces : List (List Entry)) → OrdersAgreeByBuffer traces
+orders_agree traces one other first second b = agree_from [] traces one other first.0 first.1 second.0 second.1 b

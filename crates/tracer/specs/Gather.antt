@@ -1,5 +1,6 @@
 -- Which order of several traces is gathered.
-use Rattle.std.specs.{Prelude.{◌≡◌, ◌<◌, ℕ, List, [], ◌∷◌, ◌++◌, Option, Some, map, Vec, slice_get, slice_index, slice_index_or, slice_set}, Global.Global}
+use Rattle.std.specs.Prelude.{◌≡◌, ◌<◌, ◌==◌, ℕ, List, [], ◌∷◌, ◌++◌, Option, Some, filter, map, Vec, slice_get, slice_index, slice_index_or, slice_set}
+use Rattle.std.specs.{Global.Global}
 use Rattle.event_log.specs.{Messages.Message, declared.entries.Entry.Entry, Runs.{count_of, IsRun}, Traces.{IsInterleaving, HasOpOrder}}
 
 -- the traces that vectors hold
@@ -39,6 +40,14 @@ RunsHaveOrder traces = (caps : List ℕ) (order : List Entry) (left : List (List
 abbrev pub OrdersRunAlike : List (List Entry) → Type 0
 OrdersRunAlike traces = (caps : List ℕ) (order other : List Entry) (left : List (List Message)) → IsInterleaving traces order
     → IsRun caps order left → IsOrder traces other → IsRun caps other left
+
+-- the entries of buffer b
+abbrev pub on_buffer : ℕ → List Entry → List Entry
+on_buffer b es = filter (λ e. e.buffer.0 == b) es
+
+-- in any two orders of the traces the entries of each buffer stand in the same order
+abbrev pub OrdersAgreeByBuffer : List (List Entry) → Type 0
+OrdersAgreeByBuffer traces = (one other : List Entry) → IsOrder traces one → IsOrder traces other → (b : ℕ) → on_buffer b one ≡ on_buffer b other
 
 -- the entry of trace k that comes next, where so many of each trace are taken
 abbrev pub next_entry : List (List Entry) → List ℕ → ℕ → Option Entry

@@ -3,7 +3,8 @@
 ghost use Rattle.std.specs.Prelude.{◌≡◌, ◌<◌, ◌≤◌, ◌+◌, ℕ, List, length, map, sum_by, slice_get, slice_index, IfOk, IsErrOf, IsTrue, ◌↔◌, IfSome, [], IfNone};
 ghost use Rattle.{std.specs.Prelude.{option_map, vec_capacity}, event_log.specs.{declared.entries.Entry.Entry as AnEntry, Runs.count_of, Refusals.no_memory}};
 ghost use Rattle.tracer.specs.declared.gathering.GatherError.TheVariants as error;
-ghost use Rattle.tracer.specs.Gather.{IsOrder, TakesFirstReady, HasNoOrder, RunsHaveOrder, OrdersRunAlike, traces_in, next_entry, IsDue, NoneDueBelow};
+ghost use Rattle.tracer.specs.Gather.{IsOrder, TakesFirstReady, HasNoOrder, RunsHaveOrder, OrdersRunAlike, OrdersAgreeByBuffer, traces_in, next_entry, IsDue};
+ghost use Rattle.tracer.specs.Gather.{NoneDueBelow};
 
 use event_log::{BufId, Entry, NoMemory};
 use std::alloc::{AllocError, AllocFailed, Global};
@@ -129,4 +130,5 @@ fn first_ready(
 pub fn gathered_is_a_run()
     ensures found { (traces : List (List AnEntry)) → RunsHaveOrder traces }
     ensures alike { (traces : List (List AnEntry)) → OrdersRunAlike traces }
+    ensures by_buffer { (traces : List (List AnEntry)) → OrdersAgreeByBuffer traces }
 {}

@@ -3,7 +3,7 @@
 
 ghost use Rattle.std.specs.Prelude.{◌≡◌, ◌*◌, ◌%◌, ◌^◌, ◌<◌, ◌≤◌, Some, [], ◌∷◌};
 ghost use Rattle.{event_log.specs.{declared.ids.{CpuId.CpuId, TheConstants.CPUS}, Actions.{gives, phase, Rests}}, table_machine.specs.SeatViews.new_seat_views};
-ghost use Rattle.cpu_workers.specs.Counts.{AllHaveMade, IsNumberOfFrees, counting};
+ghost use Rattle.cpu_workers.specs.Counts.{AllHaveMade, IsNumberOfFrees, after_rounds, counting};
 
 use crate::counting::{AddOne, NUMBER};
 use crate::plan_words::PlanWords;
@@ -17,18 +17,17 @@ pub trait LockOfKind<L> {
 
     /// The lock's kind, as a plan names it.
     ghost lock_kind: { LockKind };
-
-    /// The lock's kind.
-    fn kind() -> LockKind
-        ensures { result ≡ lock_kind };
 }
 
-/// A number that was counted behind locks of this kind: how often a lock was given on. [`number_in`]
-/// makes it of an owned machine and [`number_left`] of a closed table, and nothing else does.
+/// A number that was counted behind locks of this kind: how often a lock was given on, where each of
+/// so many CPUs did so many sections. [`number_in`] makes it of an owned machine and [`number_left`]
+/// of a closed table, and nothing else does.
 #[derive(Clone, Copy, Debug, PartialEq, Eq)]
 pub struct Counted {
     number: u64,
     lock: LockKind,
+    cpus: u8,
+    times: u64,
 }
 
 impl Counted {
@@ -45,23 +44,49 @@ impl Counted {
     {
         self.lock
     }
+
+    /// How many CPUs counted.
+    pub fn cpus(&self) -> u8
+        ensures { result ≡ self.now.cpus }
+    {
+        self.cpus
+    }
+
+    /// How many sections each of them did.
+    pub fn times(&self) -> u64
+        ensures { result ≡ self.now.times }
+    {
+        self.times
+    }
 }
 
 /// The number of an owned machine at rest: how often its lock was given on, modulo 2^64.
 ///
 /// Requires: each poll of the lock is one action. The holder of the machine acts for some CPU. The
-/// machine was opened with the number 0. No CPU waits at a lock or holds one.
-pub fn number_in<L: OwnedLocks<AddOne>, V: LockOfKind<L>>(machine: &L::Machine) -> Counted
+/// machine was opened with the number 0. No CPU waits at a lock or holds one. Each of `cpus` CPUs has
+/// done `times` sections, in rounds, and nothing else was done. `lock` is the kind of the lock.
+pub fn number_in<L: OwnedLocks<AddOne>, V: LockOfKind<L>>(
+    machine: &L::Machine,
+    cpus: u8,
+    times: u64,
+    lock: LockKind,
+) -> Counted
     requires stepwise { L.IsStepwise }
     requires owned { (c : CpuId) × L.ActsFor machine.now c }
     requires opening { L.opening machine.now NUMBER ≡ Some 0 }
     requires rests { (c : CpuId) → phase c (L.acts machine.now) ≡ Rests }
+    requires rounds { L.acts machine.now ≡ after_rounds NUMBER cpus times [] }
+    requires kind { lock ≡ V.lock_kind }
     ensures number { result.number ≡ gives NUMBER (L.acts machine.now) % 2 ^ 64 }
-    ensures lock { result.lock ≡ V.lock_kind }
+    ensures lock { result.lock ≡ lock }
+    ensures cpus { result.cpus ≡ cpus }
+    ensures times { result.times ≡ times }
 {
     Counted {
         number: *L::block_in(machine, NUMBER).unwrap(),
-        lock: V::kind(),
+        lock,
+        cpus,
+        times,
     }
 }
 
@@ -69,24 +94,30 @@ pub fn number_in<L: OwnedLocks<AddOne>, V: LockOfKind<L>>(machine: &L::Machine) 
 /// gives the number. It is how often its lock was freed in one legal log, which begins with the log
 /// of each key and has no other CPU's events.
 ///
-/// Requires: the table has the one lock of the number, which was 0, and at most `CPUS` CPUs. Each
-/// key has made just so many sections. All sections together are fewer than 2^64.
+/// Requires: the table has the one lock of the number, which was 0, and `cpus` CPUs, at most `CPUS`.
+/// Each key has made just so many sections. All sections together are fewer than 2^64.
 pub fn number_left<K: PlanWords>(
     shared: Shared<AddOne, K>,
     keys: Vec<Key<AddOne>>,
+    cpus: u8,
     times: u64,
 ) -> Counted
     requires start { shared.start ≡ (NUMBER, 0) ∷ [] }
     requires cpus { shared.cpus ≤ CPUS }
+    requires all { shared.cpus ≡ cpus }
     requires times { times * CPUS < 2 ^ 64 }
     requires came { AllHaveMade NUMBER (new_seat_views shared shared.cpus) keys.items times }
     ensures number { result.number ≡ times * shared.cpus }
     ensures frees { IsNumberOfFrees counting NUMBER shared keys.items result.number }
     ensures lock { result.lock ≡ K.lock_kind }
+    ensures all { result.cpus ≡ cpus }
+    ensures times { result.times ≡ times }
 {
     let blocks = shared.close(keys);
     Counted {
         number: blocks[0].1,
         lock: K::kind(),
+        cpus,
+        times,
     }
 }

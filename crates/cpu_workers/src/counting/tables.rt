@@ -47,14 +47,18 @@ fn count_if_open<K: PlanWords + Sync, R: Threads + Wait + Sync>(
     rt: &R,
     alloc: Global,
     opened: Result<(Shared<AddOne, K>, Vec<Key<AddOne>>), NoMemory>,
+    cpus: u8,
     times: u64,
 ) -> Result<Counted, NotCounted>
     requires start { IfOk opened (λ r. r.0.start ≡ (NUMBER, 0) ∷ []) }
     requires cpus { IfOk opened (λ r. r.0.cpus ≤ CPUS) }
+    requires all { IfOk opened (λ r. r.0.cpus ≡ cpus) }
     requires keys { IfOk opened (λ r. r.1.items ≡ new_seat_views r.0 r.0.cpus) }
     requires times { times * CPUS < 2 ^ 64 }
     ensures number { IfOk opened (λ r. IfOk result (λ counted. counted.number ≡ times * r.0.cpus)) }
     ensures lock { IfOk result (λ counted. counted.lock ≡ K.lock_kind) }
+    ensures all { IfOk result (λ counted. counted.cpus ≡ cpus) }
+    ensures times { IfOk result (λ counted. counted.times ≡ times) }
     ensures none { IfErr result (λ not. not.left ≡ 0) }
     ensures memory { OnErr opened (IsErr result × IfErr result (λ not. not.fault ≡ LacksMemory no_memory)) }
 {
@@ -66,9 +70,9 @@ fn count_if_open<K: PlanWords + Sync, R: Threads + Wait + Sync>(
         }
     };
     match count_all(rt, alloc, &shared, keys, times) {
-        Ok(keys) => Ok(number_left(shared, keys, times)),
+        Ok(keys) => Ok(number_left(shared, keys, cpus, times)),
         Err(Refused { fault, back }) => {
-            let left = number_left(shared, back, 0).number();
+            let left = number_left(shared, back, cpus, 0).number();
             Err(NotCounted { fault, left })
         }
     }
@@ -90,22 +94,25 @@ pub fn count_or_leave<R: Threads + Wait + Sync>(
     requires times { times * CPUS < 2 ^ 64 }
     ensures number { IfOk result (λ counted. counted.number ≡ times * cpus) }
     ensures lock { IfOk result (λ counted. counted.lock ≡ lock) }
+    ensures all { IfOk result (λ counted. counted.cpus ≡ cpus) }
+    ensures times { IfOk result (λ counted. counted.times ≡ times) }
     ensures none { IfErr result (λ not. not.left ≡ 0) }
 {
     match lock {
         LockKind::Ticket => {
-            count_if_open::<TicketWords, R>(rt, alloc, open_number(alloc, cpus), times)
+            count_if_open::<TicketWords, R>(rt, alloc, open_number(alloc, cpus), cpus, times)
         }
         LockKind::Grant => {
-            count_if_open::<WaiterWords, R>(rt, alloc, open_number(alloc, cpus), times)
+            count_if_open::<WaiterWords, R>(rt, alloc, open_number(alloc, cpus), cpus, times)
         }
     }
 }
 
 /// Counts over shared words of locks of this kind: each of `cpus` CPUs does `times` sections that add
 /// 1 to one number, in a thread of its own, with its own seat at one table. All threads are started
-/// before any is handed its CPU's key, without which there is no section, and all are joined. The
-/// number is read from the block that the closed table gives.
+/// before any of them does a section, and all are joined. The number is read from the block that the
+/// closed table gives. That it was counted by so many CPUs, each of which did so many sections, is
+/// what the number is evidence of ([`Counted`]); that each ran in a thread of its own is no clause.
 ///
 /// Requires: there are at most `CPUS` CPUs, and all sections together are fewer than 2^64.
 ///
@@ -122,6 +129,8 @@ pub fn count_table<R: Threads + Wait + Sync>(
     requires times { times * CPUS < 2 ^ 64 }
     ensures number { IfOk result (λ counted. counted.number ≡ times * cpus) }
     ensures lock { IfOk result (λ counted. counted.lock ≡ lock) }
+    ensures all { IfOk result (λ counted. counted.cpus ≡ cpus) }
+    ensures times { IfOk result (λ counted. counted.times ≡ times) }
 {
     match count_or_leave(rt, alloc, cpus, times, lock) {
         Ok(counted) => Ok(counted),

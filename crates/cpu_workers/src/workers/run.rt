@@ -176,12 +176,13 @@ fn table_of<K: TableWords>(
 }
 
 // Closes the table of workers that have come back, and tells what they left.
-fn closed<K: TableWords>(shared: Shared<TowerEdit, K>, back: Back<TowerEdit>) -> Report
+fn closed<K: PlanWords>(shared: Shared<TowerEdit, K>, back: Back<TowerEdit>) -> Report
     requires covers { Covers shared.cpus back.keys.items }
     requires keys { All (IsOver shared) back.keys.items }
     ensures traces { result.traces ≡ back.traces }
     ensures taken { result.taken ≡ back.taken }
     ensures stops { result.stops ≡ back.stops }
+    ensures lock { result.lock ≡ K.lock_kind }
     ensures closes { Closes tower_rules shared back.keys.items result.blocks.items }
 {
     let Back {
@@ -190,12 +191,7 @@ fn closed<K: TableWords>(shared: Shared<TowerEdit, K>, back: Back<TowerEdit>) ->
         stops,
         taken,
     } = back;
-    Report {
-        traces,
-        blocks: shared.close(keys),
-        stops,
-        taken,
-    }
+    Report::of_closed(shared, keys, traces, stops, taken)
 }
 
 // Runs a plan at a table of locks whose words are read as those of ticket locks, as [`run_workers`]
@@ -212,6 +208,7 @@ fn run_words<K: PlanWords + Sync, G: Gate + Sync, R: Threads + Wait + Sync>(
         (shown (map (λ t. t.items) r.traces.items) r.taken.items r.stops.items r.blocks.items)) }
     ensures words { IfOk result (λ r. HasWords boot.now (G.MayAnswer gate.now) turns
         (shown (map (λ t. t.items) r.traces.items) r.taken.items r.stops.items r.blocks.items)) }
+    ensures lock { IfOk result (λ r. r.lock ≡ boot.now.lock) }
 {
     let open = table_of::<K>(alloc, boot)?;
     let (shared, keys) = open;
@@ -232,6 +229,7 @@ fn run_waiters<G: Gate + Sync, R: Threads + Wait + Sync>(
         (shown (map (λ t. t.items) r.traces.items) r.taken.items r.stops.items r.blocks.items)) }
     ensures words { IfOk result (λ r. HasWords boot.now (G.MayAnswer gate.now) turns
         (shown (map (λ t. t.items) r.traces.items) r.taken.items r.stops.items r.blocks.items)) }
+    ensures lock { IfOk result (λ r. r.lock ≡ boot.now.lock) }
 {
     let open = table_of::<WaiterWords>(alloc, boot)?;
     let (shared, keys) = open;
@@ -267,6 +265,7 @@ pub fn run_workers<G: Gate + Sync, R: Threads + Wait + Sync>(
         (shown (map (λ t. t.items) r.traces.items) r.taken.items r.stops.items r.blocks.items)) }
     ensures words { IfOk result (λ r. HasWords boot.now (G.MayAnswer gate.now) turns
         (shown (map (λ t. t.items) r.traces.items) r.taken.items r.stops.items r.blocks.items)) }
+    ensures lock { IfOk result (λ r. r.lock ≡ boot.now.lock) }
 {
     match boot.lock() {
         LockKind::Ticket => run_words::<TicketWords, G, R>(rt, alloc, boot, turns, gate),

@@ -19,9 +19,9 @@ told plan steps s state answer true ran is given = given
 ran_out : (steps : List CpuId) (ran : Result Shown Fault) (state : State) (read : Result BootPlan BootError)
     (answer : Result Done Refusal) (first whole : Output) → RunsOn NoCondition read steps ran first
     → Tells ran (Ok state) → answer ≡ (if whole.failed then Err WriteFault else Ok (Ran state))
-    → Outs whole.failed first.new whole.new [] → first.old ≡ whole.old
+    → Outs whole.failed first.new whole.new [] → first.old ≡ whole.old → (whole.failed ≡ false → whole.flushed ≡ true)
     → OfPlan (RunsPlan steps) read answer whole
-ran_out steps (Ok s) state (Ok plan) answer first whole runs is given more same =
+ran_out steps (Ok s) state (Ok plan) answer first whole runs is given more same passed_on =
     let trace = runs.1.out.text in
     let out : Appends first.old first.new trace = all_out first.failed first.old first.new trace runs.0 runs.1.out.out in
     let outs = outs_then whole.failed first.old first.new whole.new trace [] out more in
@@ -35,16 +35,21 @@ ran_out steps (Ok s) state (Ok plan) answer first whole runs is given more same 
       table = runs.1.table tt;
       put = (
         told plan steps s state answer whole.failed runs.1.ran is given,
-        subst (λ old. Outs whole.failed old whole.new trace) same (subst (λ t. Outs whole.failed first.old whole.new t) (append-nil trace) outs),
+        (subst (λ old. Outs whole.failed old whole.new trace) same (subst (λ t. Outs whole.failed first.old whole.new t) (append-nil trace) outs), passed_on),
       );
     })
-ran_out steps (Ok s) state (Err error) answer first whole runs is given more same = absurd runs
-ran_out steps (Err fault) state read answer first whole runs is given more same = absurd is
+ran_out steps (Ok s) state (Err error) answer first whole runs is given more same passed_on = absurd runs
+ran_out steps (Err fault) state read answer first whole runs is given more same passed_on = absurd is
 
 -- the output failed
 reported_fault : (plan : BootPlan) (steps : List CpuId) (s : Shown) (failed : Bool) → failed ≡ true → ReportsRun plan steps s (Err WriteFault) failed
 reported_fault plan steps s false is = absurd (cc)
 reported_fault plan steps s true is = refl
+
+-- a sink has not failed and failed
+not_both : {A : Type 0} (failed : Bool) → failed ≡ false → failed ≡ true → A
+not_both false live is = absurd (cc)
+not_both true live is = absurd (cc)
 
 -- a run that had a fault
 fault_ran : (steps : List CpuId) (read : Result BootPlan BootError) (fault : Fault) (out : Output)
@@ -62,7 +67,7 @@ fault_ran steps (Ok plan) run.WriteFault out runs = inr (inr (record {
   traced = runs.1.1.out.is;
   fifo = runs.1.1.fifo;
   table = runs.1.1.table tt;
-  put = (reported_fault plan steps runs.1.0 out.failed runs.0, runs.1.1.out.out);
+  put = (reported_fault plan steps runs.1.0 out.failed runs.0, (runs.1.1.out.out, λ live. not_both out.failed live runs.0));
 }))
 fault_ran steps (Err e) (run.NoMemory refused) out runs = inl (refl, runs)
 fault_ran steps (Err e) (run.Boot f) out runs = inr (ap (λ x. Err (BadPlan x)) runs.0, runs.1)
@@ -101,5 +106,5 @@ returns-in-Ok-run_plan-clause-runs g c =
           (between g.O.Write.contents c.args.out.now c.put_out.new.out)) same
           (ran_out c.args.steps.now _ c.in-Ok-run_plan.state (plan_of c.in-Ok.plan.now) c.put_out.result
           (between g.O.Write.contents c.args.out.now c.run_plan.new.out) (between g.O.Write.contents c.args.out.now c.put_out.new.out)
-          c.in-Ok-run_plan.ensures.runs c.in-Ok-run_plan.ensures.tells c.put_out.ensures.put.0 c.put_out.ensures.put.1 refl),
+          c.in-Ok-run_plan.ensures.runs c.in-Ok-run_plan.ensures.tells c.put_out.ensures.put.0 c.put_out.ensures.put.1.0 refl c.put_out.ensures.put.1.1),
     ))

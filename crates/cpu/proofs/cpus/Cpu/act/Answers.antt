@@ -1,6 +1,6 @@
 use Rattle.std.proofs.Common.{refl, ◌∙◌, sym, arith}
-use Rattle.cpu.{specs.CpuSteps.SteppedAt, proofs.{TableCalls.stopped_steps, CpuRuns.one_step, CpuOverLayer.{laws_of, layered, observed_cpu, observed_outset}}}
-use Rattle.cpu.proofs.{CpuOverLayer.{left_alone, runs_within}, cpus.Cpu.act.{Given.Over, Goals.After-go}}
+use Rattle.cpu.{specs.{Cpus.guests_rest, CpuSteps.SteppedAt}, proofs.{TableCalls.stopped_steps, CpuRuns.one_step, CpuOverLayer.{laws_of, layered}}}
+use Rattle.cpu.proofs.{CpuOverLayer.{observed_cpu, observed_outset, left_alone, runs_within}, cpus.Cpu.act.{Given.Over, Goals.After-go}}
 use Rattle.cpu.proofs.cpus.Cpu.act.Goals as goal
 
 pub reason-requires : goal.reason-requires
@@ -8,7 +8,7 @@ reason-requires g c =
     runs_within (layered (laws_of g.met.I.CallLayer) c.args.m.now c.args.self.now c.requires.fits c.requires.number c.requires.is c.requires.table)
 
 pub returns-in-Some-clause-leaves : goal.returns-in-Some-clause-leaves
-returns-in-Some-clause-leaves g c = left_alone g.I.CallLayer c.args.m.now c.args.self.now _ c.requires.number refl refl refl refl
+returns-in-Some-clause-leaves g c = left_alone g.I.CallLayer c.args.m.now c.args.self.now _ c.requires.number refl refl refl refl (guests_rest refl refl)
 
 pub returns-in-Some-clause-steps : goal.returns-in-Some-clause-steps
 returns-in-Some-clause-steps g c = λ step.

@@ -1,5 +1,5 @@
 use Rattle.std.proofs.Common.{List, length, Option, refl, ap, sym, ◌∙◌, subst, vec_capacity}
-use Rattle.cpu.{specs.{declared.guests.Guest.Guest, Cpus.{IsCpu, programs_of}, Tables.{IsTabled, WentByTable}}, proofs.GuestLists.programs_with}
+use Rattle.cpu.{specs.{declared.guests.Guest.Guest, Cpus.{IsCpu, guest_computes, programs_of}, Tables.{IsTabled, WentByTable}}, proofs.GuestLists.programs_with}
 use Rattle.cpu.proofs.{PassSteps.noted_compute, TableCalls.{computed_steps, computed_tabled}, CpuStates.valid_cpu, CpuOverLayer.{laws_of, layered}}
 use Rattle.{cpu.proofs.CpuOverLayer.{observed_cpu, observed_outset, left_alone}, layer_traits.specs.declared.steps.Step.TheVariants.Stepped}
 use Rattle.cpu.proofs.cpus.Cpu.compute.Goals as goal
@@ -17,7 +17,7 @@ returns-clause-is g c =
 pub returns-clause-leaves : goal.returns-clause-leaves
 returns-clause-leaves g c =
     let programs = ap programs_of c.note_compute.ensures ∙ programs_with c.args.self.now.guests.items c.args.thread.0 _ (λ x. refl) in
-    left_alone g.I.CallLayer c.args.m.now c.args.self.now _ c.requires.number refl refl refl programs
+    left_alone g.I.CallLayer c.args.m.now c.args.self.now _ c.requires.number refl refl refl programs (guest_computes c.args.thread c.note_compute.ensures refl)
 
 pub returns-clause-table : goal.returns-clause-table
 returns-clause-table g c = λ step.

@@ -1,6 +1,6 @@
-use Rattle.std.proofs.Common.{arith, ap, subst, refl}
-use Rattle.{event_log.specs.declared.ids.CpuId.CpuId, layer_traits.specs.{Looks.Tries, Places.Threads}, cpu.{specs.Cpus.chosen, proofs.CpuStates.valid_cpu}}
-use Rattle.cpu.proofs.{CpuOverLayer.left_framed, StepsBesideGuests.{look_grows, others_same, others_grow}, PassSteps.seen_stays, TableCalls.looked_steps}
+use Rattle.{std.proofs.Common.{arith, ap, subst, refl}, event_log.specs.declared.ids.CpuId.CpuId, layer_traits.specs.{Looks.Tries, Places.Threads}}
+use Rattle.cpu.{specs.Cpus.{chosen, guests_rest}, proofs.{CpuStates.valid_cpu, CpuOverLayer.left_framed, StepsBesideGuests.{look_grows, others_same}}}
+use Rattle.cpu.proofs.{StepsBesideGuests.others_grow, PassSteps.seen_stays, TableCalls.looked_steps}
 use Rattle.cpu.proofs.cpus.Cpu.look.Goals as goal
 
 pub returns-clause-is : goal.returns-clause-is
@@ -19,7 +19,7 @@ returns-clause-leaves g c =
     let m = c.args.m.now in
     let e = c.look.ensures in
     left_framed I m c.look.new.m c.args.self.now _ c.requires.number refl refl e.framed e.caps e.homes
-    refl (others_grow _ _ _ _ e.seen)
+    refl (guests_rest refl refl) (others_grow _ _ _ _ e.seen)
     (rw c.requires.number at e.moves)
     (λ step. look_grows (λ d. I.ActsFor m d) c.args.self.now.number (I.acts m) (I.acts c.look.new.m) c.look.result
     (λ looked. subst (λ (d : CpuId). Tries (λ e. I.ActsFor m e) d (I.acts m) (I.acts c.look.new.m)) c.requires.number (e.tries step looked))

@@ -1,14 +1,21 @@
+use Rattle.std.proofs.Common.{rules, ◌≡◌, true, false, ◌++◌, List, Option, Some, None, is_some, ap, sym, refl, ◌∙◌, if◌then◌else◌, arith}
 use Rattle.cpu.proofs.{GuestLists.programs_with, StepsBesideGuests.{follows_grow, others_same, passed_grows, others_grow}, PassSteps.{current_within, may_pass}}
 use Rattle.cpu.proofs.{PassSteps.{noted_done, noted_wait}, TableCalls.{ObservedPass, hand_preserved, passed_steps, passed_tabled}, CpuStates.valid_cpu}
 use Rattle.cpu.proofs.{CpuOverLayer.{acts_for, laws_of, IsLayered, layered, left_framed, runs_home, observed_cpu, observed_outset}, cpus.Cpu.pass.Given.Over}
-use Rattle.cpu.{proofs.cpus.Cpu.pass.Goals.{Start, After-pass-done}, specs.{Cpus.{passed_by, programs_of}, declared.guests.Guest.Guest}}
-use Rattle.std.proofs.Common.{rules, ◌≡◌, true, false, ◌++◌, List, Option, is_some, ap, sym, refl, ◌∙◌, if◌then◌else◌, arith}
-use Rattle.{event_log.specs.declared.ids.Tid.Tid, layer_traits.specs.{Places.pending_by, QueueBlocks.homes_in}}
+use Rattle.cpu.{proofs.cpus.Cpu.pass.Goals.{Start, After-pass-done}, specs.Cpus.{GuestsWent, guest_passes, guests_rest, passed_by, programs_of}}
+use Rattle.{cpu.specs.declared.guests.Guest.Guest, event_log.specs.declared.{entries.Entry.Entry, ids.{CpuId.CpuId, Tid.Tid}}}
+use Rattle.layer_traits.specs.{declared.passes.Pass.Pass, Places.pending_by, QueueBlocks.homes_in}
 use Rattle.cpu.proofs.cpus.Cpu.pass.Goals as goal
 
 -- the CPU over its layers
 abbrev cpu : (g : Over) (c : Start g) → IsLayered g.I.CallLayer c.args.m.now c.args.self.now
 cpu g c = layered (laws_of g.met.I.CallLayer) c.args.m.now c.args.self.now c.requires.fits c.requires.number c.requires.is c.requires.table
+
+-- a pass that ended changed the guest of the thread that ran, if one did
+passed_so : {number : CpuId} {trace : List Entry} (runs : Option Tid) (guests guests2 : List (Option Guest)) (pass : Pass)
+    → guests2 ≡ passed_by runs guests pass → GuestsWent number guests trace guests2 trace
+passed_so None guests guests2 pass is = guests_rest is refl
+passed_so (Some t) guests guests2 pass is = guest_passes t pass is refl
 
 pub pass-done-requires-clause-may : goal.pass-done-requires-clause-may
 pass-done-requires-clause-may g c =
@@ -38,7 +45,8 @@ pub returns-then-is_some-clause-leaves : goal.returns-then-is_some-clause-leaves
 returns-then-is_some-clause-leaves g c =
     let e = c.pass-done.ensures in
     left_framed g.I.CallLayer c.args.m.now c.pass-done.new.m c.args.self.now _ c.requires.number refl refl e.framed e.caps e.homes
-    (ap programs_of c.note_pass.ensures ∙ (grind (arith, programs_with))) (others_grow _ _ _ _ e.seen)
+    (ap programs_of c.note_pass.ensures ∙ (grind (arith, programs_with))) (passed_so c.current-runs.result _ _ c.args.pass c.note_pass.ensures)
+    (others_grow _ _ _ _ e.seen)
     (rw (← c.requires.number) (passed_grows _ _ _ _ _ _ _ _ _ e.passed))
     (λ step. rw (← c.requires.number) (follows_grow _ _ _ _ _ _ _ _ (e.follows step)))
 
@@ -59,7 +67,7 @@ pub returns-else-is_some-clause-leaves : goal.returns-else-is_some-clause-leaves
 returns-else-is_some-clause-leaves g c =
     let e = c.pass-done.ensures in
     left_framed g.I.CallLayer c.args.m.now c.pass-done.new.m c.args.self.now _ c.requires.number refl refl e.framed e.caps e.homes
-    refl (others_grow _ _ _ _ e.seen)
+    refl (guests_rest refl refl) (others_grow _ _ _ _ e.seen)
     (rw (← c.requires.number) (passed_grows _ _ _ _ _ _ _ _ _ e.passed))
     (λ step. rw (← c.requires.number) (follows_grow _ _ _ _ _ _ _ _ (e.follows step)))
 

@@ -1,6 +1,7 @@
 use Rattle.std.{proofs.Common.{◌≡◌, ◌+◌, ◌<◌, ◌≤◌, ℕ, ap, sym, ◌∙◌, subst, arith}, specs.Prelude.{Option, Some, slice_get, slice_set}}
-use Rattle.{layer_traits.specs.declared.steps.Step.TheVariants.Stepped, cpu.specs.Systems.{SteppedByTable, own_reason_in, reason_or}}
-use Rattle.cpu.{specs.Claims.CpuShown, proofs.{CpuRuns.one_step, ListReads.{read_at, shows_at}, RunsOverLayer.{MachineLaws, WentSo, by_one, shows}}}
+use Rattle.{layer_traits.specs.declared.steps.Step.TheVariants.Stepped, cpu.specs.{Linear.CallsGoOn, Systems.{SteppedByTable, own_reason_in, reason_or}}}
+use Rattle.cpu.{specs.Claims.CpuShown}
+use Rattle.cpu.proofs.{CpuRuns.one_step, ListReads.{read_at, shows_at}, Moments.MachineLaws, RunsOverLayer.{WentSo, by_one, calls_one, shows}}
 use Rattle.cpu.proofs.{RunsOverLayer.went_so, SystemOverLayer.shown_by, systems.System.advance.{Given.Over, Goals.{After-index_mut-at, After-go_on-steps}}}
 use Rattle.cpu.proofs.systems.System.advance.Goals as goal
 
@@ -44,8 +45,11 @@ module _ (g : Over) (c : After-go_on-steps g) where
 
   laws : MachineLaws g.I.CallLayer
   laws = record {
-    legal = λ part n fits. g.met.I.CallLayer.legal n (g.I.CallLayer.cpu_of part) (g.met.I.CallLayer.own_cpu part n fits);
-    known = λ part n fits. g.met.I.Owned.known n (g.I.CallLayer.cpu_of part) (g.met.I.CallLayer.own_cpu part n fits);
+    own_cpu = g.met.I.CallLayer.own_cpu;
+    legal = g.met.I.CallLayer.legal;
+    known = g.met.I.Owned.known;
+    lawful = g.met.I.CallLayer.lawful;
+    stands = g.met.I.CallLayer.stands;
   }
 
   went : WentSo g.I.CallLayer laws g.I.Owned.owner c.self.inside.threads c.self.inside.room c.from.result c.args.cpu c.from.ensures c.self.inside.machine
@@ -65,6 +69,18 @@ module _ (g : Over) (c : After-go_on-steps g) where
       c.go_on-steps.new.m c.self.inside.cpus.items c.self.inside.taken c.index_mut-at.result.now c.go_on-steps.new.self c.self.invariant there live
       (one_step c.go_on-steps.ensures.ran is_one) step)
 
+  calls : c.go_on-steps.result ≡ 1
+      → CallsGoOn c.args.cpu (shows g.I.CallLayer laws g.I.Owned.owner c.self.inside.threads c.self.inside.room c.from.result c.args.cpu c.from.ensures
+      c.self.inside.machine c.self.inside.cpus.items c.self.inside.taken)
+      (shows g.I.CallLayer laws g.I.Owned.owner c.self.inside.threads c.self.inside.room c.from.result c.args.cpu c.from.ensures c.go_on-steps.new.m
+      (slice_set c.self.inside.cpus.items c.from.result c.go_on-steps.new.self) (c.self.inside.taken + c.go_on-steps.result))
+  calls is_one =
+      let live : c.self.inside.taken < c.self.inside.room = let space = space in omega (arith, space, is_one) in
+      rw is_one
+      (calls_one g.I.CallLayer laws g.I.Owned.owner c.self.inside.threads c.self.inside.room c.from.result c.args.cpu c.from.ensures c.self.inside.machine
+      c.go_on-steps.new.m c.self.inside.cpus.items c.self.inside.taken c.index_mut-at.result.now c.go_on-steps.new.self c.self.invariant there live
+      (one_step c.go_on-steps.ensures.ran is_one))
+
 pub invariant_of-self : goal.invariant_of-self
 invariant_of-self g c = (went g (goal.at.invariant_of-self g c).After-go_on-steps).keeps
 
@@ -73,6 +89,9 @@ returns-clause-plan g c = rw (← c.self.view_is) (went g (goal.at.returns-claus
 
 pub returns-clause-one : goal.returns-clause-one
 returns-clause-one g c = λ step is_one. rw (← c.self.view_is) (by_step g (goal.at.returns-clause-one g c).After-go_on-steps step is_one)
+
+pub returns-clause-calls : goal.returns-clause-calls
+returns-clause-calls g c = λ is_one. rw (← c.self.view_is) (calls g (goal.at.returns-clause-calls g c).After-go_on-steps is_one)
 
 pub returns-clause-ran : goal.returns-clause-ran
 returns-clause-ran g c = rw (← c.self.view_is) (went g (goal.at.returns-clause-ran g c).After-go_on-steps).leads.ran

@@ -1,24 +1,38 @@
-use Rattle.std.{proofs.{Common.{◌≡◌, ◌<◌, ◌^◌, length, map, reverse, refl, ap, sym, ◌∙◌, subst, arith}, lemmas.List.length-map}, specs.List.AllByRecursion}
-use Rattle.{std.specs.Prelude.{ℕ, Some, slice_get}, event_log.specs.declared.{entries.Entry.Entry, ids.{CpuId.CpuId, LockId.TheVariants.Pending}}}
-use Rattle.{event_log.{specs.Actions.phase, proofs.{Streams.taken_put, Renaming.phase_renamed}}, layer_traits.proofs.EffectRunLemmas.effects_are_run}
-use Rattle.{layer_traits.specs.{OnePlace.cpu_at, Places.{Threads, pending_by}, Plans.is_in_section}, cpu.specs.Claims.{CpuShown, HasOneOrder, MovesAgree}}
-use Rattle.cpu.specs.{Claims.{Shown, StandsOnce, StayHome, buffer_at}, Sound.{SoundByTable, IsSetupFor}, Table.{Blocks.OfPending, Setups.Setup, Steps.block_at}}
+use Rattle.std.{proofs.{Common.{◌≡◌, ◌<◌, length, map, refl, ap, sym, ◌∙◌, subst, arith}, lemmas.List.length-map}, specs.Prelude.{ℕ, Some, slice_get}}
+use Rattle.event_log.{specs.{declared.ids.{CpuId.CpuId, LockId.TheVariants.Pending}, Actions.phase}, proofs.Renaming.phase_renamed}
+use Rattle.{layer_traits.specs.{OnePlace.cpu_at, Places.{Threads, pending_by}, Plans.is_in_section}, cpu.specs.Claims.{CpuShown, IsMoment, MovesAgree, Shown}}
+use Rattle.cpu.specs.{Claims.{StandsOnce, buffer_at}, Sound.{SoundByTable, IsSetupFor}, Table.{Blocks.OfPending, Setups.Setup, Steps.block_at}}
 use Rattle.cpu.{specs.{Observed.{CpuIsObserved, HasBuffer, ObservedByTable}, Tower.{Composed.named, Views.name_of}}, proofs.ListReads.{there_is, shown_at}}
-use Rattle.cpu.proofs.{ListReads.shows_at, OnePlaceEach.once_of, OneOrder.{closed_by_order, follow_programs, stay_home, traces_interleaved, Has}}
-use Rattle.cpu.proofs.{ReachedSystems.{shown_in, sound_of}, TableCalls.halted_read, PlacesTold.{ended_is, place_read}, PartsTold.acts_first}
-use Rattle.cpu.proofs.{PartsOfTable.{has_buffer, pending_read}, CpuOverLayer.{laws_of, layered, observed_cpu}, SystemOverLayer.{shown_by, cpus_have}}
-use Rattle.{cpu.proofs.{SystemOverLayer.observed_by, systems.System.holds.{Given.Over, Goals.After-self}}, thread_blocks.specs.Queues.is_in}
+use Rattle.cpu.proofs.{ListReads.shows_at, Moments.{MachineLaws, each_has, moment}, OnePlaceEach.once_of, OneOrder.Has, ReachedSystems.{shown_in, sound_of}}
+use Rattle.cpu.proofs.{TableCalls.halted_read, PlacesTold.{ended_is, place_read}, PartsTold.acts_first, PartsOfTable.{has_buffer, pending_read}}
+use Rattle.cpu.proofs.{CpuOverLayer.{laws_of, layered, observed_cpu}, SystemOverLayer.{shown_by, observed_by}, systems.System.holds.Given.Over}
+use Rattle.{cpu.proofs.systems.System.holds.Goals.After-self, thread_blocks.specs.Queues.is_in}
 use Rattle.cpu.proofs.systems.System.holds.Goals as goal
 
 pub returns-clause-sound : goal.returns-clause-sound
 returns-clause-sound g c = λ step. subst (λ (s : Shown). SoundByTable s) c.self.view_is (sound_of _ (c.self.invariant.sound.1 step))
 
+laws : (g : Over) → MachineLaws g.I.CallLayer
+laws g = record {
+  own_cpu = g.met.I.CallLayer.own_cpu;
+  legal = g.met.I.CallLayer.legal;
+  known = g.met.I.Owned.known;
+  lawful = g.met.I.CallLayer.lawful;
+  stands = g.met.I.CallLayer.stands;
+}
+
 -- each CPU has what always holds of it
 each : (g : Over) (c : After-self g) → let I = g.I.CallLayer in let m = c.self.inside.machine in
     (k : ℕ) (p : CpuShown) → slice_get (map (shown_by I) c.self.inside.cpus.items) k ≡ Some p
     → Has (I.homes_of m) (length (I.caps m)) (I.seen m) (I.moves m) k p
-each g c = cpus_have g.I.CallLayer c.self.inside.machine c.self.inside.cpus.items c.self.invariant.each
-    (λ part fits. g.met.I.CallLayer.stands part c.self.inside.machine fits)
+each g c = each_has g.I.CallLayer (laws g) g.I.Owned.owner c.self.inside.threads c.self.inside.machine c.self.inside.cpus.items c.self.inside.room
+    c.self.inside.taken c.self.invariant
+
+-- and all are a moment of a run
+now : (g : Over) (c : After-self g) → IsMoment c.args.self.now
+now g c = subst (λ (s : Shown). IsMoment s) c.self.view_is
+    (moment g.I.CallLayer (laws g) g.I.Owned.owner c.self.inside.threads c.self.inside.machine c.self.inside.cpus.items c.self.inside.room
+    c.self.inside.taken c.self.invariant)
 
 -- and all agree with the moves
 agree : (g : Over) (c : After-self g) → MovesAgree (shown_in (observed_by g.I.CallLayer g.I.Owned.owner c.self.inside.machine)
@@ -90,26 +104,13 @@ returns-clause-observed g c = λ step.
     })
 
 pub returns-clause-one_order : goal.returns-clause-one_order
-returns-clause-one_order g c =
-    let I = g.I.CallLayer in
-    let m = c.self.inside.machine in
-    let is = c.self.invariant in
-    let count = length-map c.self.inside.cpus.items (shown_by I) in
-    let few : length (I.seen m) < 2 ^ 64 = let short = is.short in let used = is.used in let small = is.small in omega (arith, short, used, small) in
-    let run = effects_are_run (I.caps m) (I.seen m) (g.met.I.CallLayer.lawful m (record { 0 = 0 }) (acts_first is)) few in
-    subst (λ (s : Shown). HasOneOrder s) c.self.view_is (record {
-      order = reverse (I.seen m);
-      keeps = traces_interleaved _ _ (I.seen m) _ _ (each g c) (subst (λ n. AllByRecursion (λ (e : Entry). e.cpu.0 < n) (I.seen m)) (sym count) is.known);
-      run = run;
-      fifo = taken_put _ _ _ run;
-      closed = λ b within. closed_by_order (I.seen m) (length (I.caps m)) b within;
-    })
+returns-clause-one_order g c = (now g c).one_order
 
 pub returns-clause-follow : goal.returns-clause-follow
-returns-clause-follow g c = rw (← c.self.view_is) (λ k p t guest at there. follow_programs _ _ _ _ k p (each g c k p at) t guest there)
+returns-clause-follow g c = (now g c).follow
 
 pub returns-clause-stay : goal.returns-clause-stay
-returns-clause-stay g c = subst (λ (s : Shown). StayHome s) c.self.view_is (λ k p at. stay_home _ _ _ _ k p (each g c k p at))
+returns-clause-stay g c = (now g c).stay
 
 pub returns-clause-once : goal.returns-clause-once
 returns-clause-once g c =

@@ -1,5 +1,6 @@
-use Rattle.std.proofs.{Common.{List, length, ap, ◌∙◌, subst, arith, length-drop}, lemmas.List.take_rest}
-use Rattle.{event_log.specs.declared.ids.CpuId.CpuId, cpu.proofs.Schedules.{Leads, leads_nowhere, leads_on, taken_on}}
+use Rattle.std.proofs.{Common.{List, length, ap, ◌∙◌, subst, arith, length-drop}, lemmas.List.{take_all, take_rest}}
+use Rattle.{event_log.specs.declared.ids.CpuId.CpuId, cpu.proofs.{RealTime.linear_ran, Schedules.{Leads, leads_nowhere, leads_on, taken_on}}}
+use Rattle.cpu.specs.{Systems.Ran}
 use Rattle.cpu.proofs.systems.System.run.Goals as goal
 
 pub loop-at-init : goal.loop-at-init
@@ -18,3 +19,9 @@ loop-at-preserved g c =
           (leads_on S c.args.self.now c.loop-at.self c.turn-at.new.self _ _ c.loop-at.invariant.leads
           (record { plan = e.plan; ran = e.ran; table = e.table }));
     }
+
+pub returns-clause-linear : goal.returns-clause-linear
+returns-clause-linear g c =
+    let all = c.args.steps.now in
+    let whole = take_all c.loop-at.at all (omega (arith, c.loop-at-test.false)) in
+    linear_ran (subst (λ (l : List CpuId). Ran g.I.CallLayer.IsStepwise c.args.self.now l c.loop-at.self) whole c.loop-at.invariant.leads.ran)

@@ -1,8 +1,8 @@
 use Rattle.std.{proofs.Common.{◌≡◌, ◌+◌, ◌≤◌, ℕ, map, replicate, Some, None, ap, ◌∙◌, arith}, specs.Prelude.slice_get}
 use Rattle.{event_log.specs.Actions.AreLegal, layer_traits.specs.OnePlace.cpu_at, cpu.specs.{Claims.Shown, Systems.own_reason}}
-use Rattle.cpu.proofs.{InvariantOverSteps.Holds, ListReads.read_at, Schedules.{Leads, leads_nowhere}, SpinsOverLayer.{spins_keep, spins_lead}}
-use Rattle.cpu.proofs.{ReachedSystems.shown_in, SystemOverLayer.{observed_by, shown_by, works_by}, systems.System.spins.{Given.Over, Goals.After-index-at}}
-use Rattle.cpu.proofs.systems.System.spins.Goals.{After-spin-looks}
+use Rattle.cpu.proofs.{InvariantOverSteps.Holds, ListReads.read_at, Moments.MachineLaws, Schedules.{Leads, leads_nowhere}, SpinsOverLayer.spins_keep}
+use Rattle.cpu.proofs.{SpinsOverLayer.spins_lead, ReachedSystems.shown_in, SystemOverLayer.{observed_by, shown_by, works_by}, systems.System.spins.Given.Over}
+use Rattle.cpu.proofs.systems.System.spins.Goals.{After-index-at, After-spin-looks}
 use Rattle.cpu.proofs.systems.System.spins.Goals as goal
 
 -- the CPU that looks is the one at its number
@@ -42,11 +42,20 @@ module _ (g : Over) (c : After-spin-looks g) where
       law.legal c.spin-looks.new.m (g.I.CallLayer.cpu_of p)
       (c.spin-looks.ensures.spun.acts (g.I.CallLayer.cpu_of p) (law.own_cpu p c.self.inside.machine fits))
 
+  laws : MachineLaws g.I.CallLayer
+  laws = record {
+    own_cpu = g.met.I.CallLayer.own_cpu;
+    legal = g.met.I.CallLayer.legal;
+    known = g.met.I.Owned.known;
+    lawful = g.met.I.CallLayer.lawful;
+    stands = g.met.I.CallLayer.stands;
+  }
+
   keeps : Holds (works_by g.I.CallLayer g.I.Owned.owner c.self.inside.threads) c.spin-looks.new.m c.self.inside.cpus.items c.self.inside.room
       (c.self.inside.taken + c.spin-looks.result)
   keeps =
       let e = c.spin-looks.ensures in
-      spins_keep g.I.CallLayer g.I.Owned.owner c.self.inside.threads c.self.inside.machine c.spin-looks.new.m c.self.inside.cpus.items c.self.inside.room
+      spins_keep g.I.CallLayer laws g.I.Owned.owner c.self.inside.threads c.self.inside.machine c.spin-looks.new.m c.self.inside.cpus.items c.self.inside.room
       c.self.inside.taken c.from.result c.spin-looks.result c.args.cpu c.index-at.result.now c.self.invariant there c.from.ensures e.spun e.homes e.caps e.tries
       e.still live space legal
 
@@ -58,7 +67,7 @@ module _ (g : Over) (c : After-spin-looks g) where
       (c.self.inside.taken + c.spin-looks.result))
   leads =
       let e = c.spin-looks.ensures in
-      spins_lead g.I.CallLayer g.I.Owned.owner c.self.inside.threads c.self.inside.machine c.spin-looks.new.m c.self.inside.cpus.items c.self.inside.room
+      spins_lead g.I.CallLayer laws g.I.Owned.owner c.self.inside.threads c.self.inside.machine c.spin-looks.new.m c.self.inside.cpus.items c.self.inside.room
       c.self.inside.taken c.from.result c.spin-looks.result c.args.cpu c.index-at.result.now c.self.invariant there c.from.ensures e.spun e.homes e.caps e.tries
       e.still live space legal
 

@@ -16,12 +16,12 @@ pub spawn_with-requires : goal.spawn_with-requires
 spawn_with-requires g c κs within =
     let may = all_head g.T.Task.MayRun c.loop-task.task-iterator.rest.items c.next.new.self.rest.items c.in-Some.task c.in-Some.ensures.steps.0
     c.loop-task.invariant.may in
-    (search (rules, within), (search (rules, within), (search (rules, within), subst (λ v. g.T.Task.MayRun v.2) (sym c.in-Err.ensures.err) may)))
+    (search (rules, within), (search (rules, within), (search (rules, within), subst (λ v. g.T.Task.MayRun v.3) (sym c.in-Err.ensures.err) may)))
 
 pub loop-task-preserved : goal.loop-task-preserved
 loop-task-preserved g c =
     made_one c.loop-task.invariant c.in-Some.ensures.steps.0 c.push_reserved-in-Err.ensures.items
-    (came_back _ c.spawn_with.result c.untouched.result _ c.spawn_with.ensures c.untouched.ensures ∙ ap (λ v. v.2) c.in-Err.ensures.err)
+    (came_back _ c.spawn_with.result c.untouched.result _ c.spawn_with.ensures c.untouched.ensures ∙ ap (λ v. v.3) c.in-Err.ensures.err)
     c.push_reserved-in-Err.ensures.capacity
 
 pub outcome-requires : goal.outcome-requires

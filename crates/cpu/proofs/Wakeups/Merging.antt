@@ -1,0 +1,383 @@
+-- The ways of CPUs along one list, merged to one schedule.
+use Rattle.std.proofs.Common.{◌≡◌, ◌≢◌, ℕ, zero, suc, ◌+◌, ◌<◌, ◌≤◌, ◌⊎◌, inl, inr, false, true, List, [], ◌∷◌, ◌++◌, if◌then◌else◌, refl, sym, ap, ◌∙◌}
+use Rattle.std.proofs.{Common.{subst, arith, length, Some, slice_get, slice_set, zero-add}, lemmas.{Bool.{cases_eq, cases_lt, ne_eqb}, List.{length-append, length-set}, List.Elements.All-append}}
+use Rattle.{std.specs.List.All, event_log.specs.{declared.ids.CpuId.CpuId, History.{same_cpu, own_events}, Actions.{Action, cpu_of_action}}}
+use Rattle.{event_log.proofs.Same.same_cpu_self, layer_traits.specs.{declared.steps.Step.TheVariants.Stepped, Along.{starts, others, steps}}}
+use Rattle.cpu.specs.{Sound.after_steps, Table.{Blocks.Name, Setups.{Setup, Private, at_boot}, Steps.{Whole, AlongTable, boots_from, cpu_numbered, cpu_step}}}
+use Rattle.cpu.specs.{Table.Steps.{system_step, whole_at_boot}, Wakeups.Lost.IsWorked}
+use Rattle.cpu.proofs.{ReachedSystems.after_more, Wakeups.Lists.refuted}
+use Rattle.cpu.specs.Wakeups.Merged.{IsRunOfTable, WorkIsARun}
+
+-- ---- lists
+
+set_here : (xs : List Private) (i : ℕ) (p x : Private) → slice_get xs i ≡ Some p → slice_get (slice_set xs i x) i ≡ Some x
+set_here (y ∷ xs) (suc i) p x is = set_here xs i p x is
+set_here xs i p x is = grind arith
+
+set_other : (xs : List Private) (i j : ℕ) (x : Private) → j ≢ i → slice_get (slice_set xs i x) j ≡ slice_get xs j
+set_other (y ∷ xs) (suc i) (suc j) x off = set_other xs i j x (λ same. off (ap suc same))
+set_other xs i j x off = grind arith
+
+booted : (setup : Setup) (n k i : ℕ) → i < k → slice_get (boots_from setup n k) i ≡ Some (at_boot setup (cpu_numbered (n + i)))
+booted setup n zero i below = absurd (omega (arith, below))
+booted setup n (suc k) zero below = let same : n ≡ n + 0 = omega arith in ap (λ m. Some (at_boot setup (cpu_numbered m))) same
+booted setup n (suc k) (suc i) below =
+    let same : (n + 1) + i ≡ n + suc i = omega arith in
+    booted setup (n + 1) k i (omega (arith, below)) ∙ ap (λ m. Some (at_boot setup (cpu_numbered m))) same
+
+-- ---- one system
+
+-- the private states and the list that the table's steps leave, by a schedule
+data Goes (setup : Setup) : List CpuId → List Private → List (Action Name) → Type 0 where
+  boots : Goes setup [] (boots_from setup 0 setup.cpus) []
+  goes : {before : List CpuId} {ps : List Private} {log : List (Action Name)} (c : CpuId) (p : Private) → Goes setup before ps log → c.0 < setup.cpus
+      → slice_get ps c.0 ≡ Some p → (cpu_step setup c p log).answer ≡ Stepped
+      → Goes setup (before ++ c ∷ []) (slice_set ps c.0 (cpu_step setup c p log).next) ((cpu_step setup c p log).acts ++ log)
+
+abbrev whole : List Private → List (Action Name) → ℕ → ℕ → Whole
+whole cpus log room taken = record { cpus = cpus; log = log; room = room; taken = taken }
+
+one : (setup : Setup) (c : CpuId) (ps : List Private) (log : List (Action Name)) (room taken : ℕ) (p : Private) → slice_get ps c.0 ≡ Some p
+    → (cpu_step setup c p log).answer ≡ Stepped → taken < room
+    → (system_step setup c (whole ps log room taken)).next
+    ≡ whole (slice_set ps c.0 (cpu_step setup c p log).next) ((cpu_step setup c p log).acts ++ log) room (taken + 1)
+one setup c ps log room taken p at stepped live = grind (arith, ne_eqb)
+
+goes_whole : (setup : Setup) (sched : List CpuId) (ps : List Private) (log : List (Action Name)) → Goes setup sched ps log → (room : ℕ) → length sched ≤ room
+    → after_steps setup sched (whole_at_boot setup room) ≡ whole ps log room (length sched)
+goes_whole setup sched ps log boots = λ room few. refl
+goes_whole setup sched ps log (goes {before = before} {ps = qs} {log = past} c p way below at stepped) = λ room few.
+    let long : length (before ++ c ∷ []) ≡ length before + 1 = length-append before (c ∷ []) in
+    after_more setup before c (whole_at_boot setup room)
+    ∙ ap (λ (w : Whole). (system_step setup c w).next) (goes_whole setup before qs past way room (omega (arith, few, long)))
+    ∙ one setup c qs past room (length before) p at stepped (omega (arith, few, long))
+    ∙ ap (λ (n : ℕ). whole (slice_set qs c.0 (cpu_step setup c p past).next) ((cpu_step setup c p past).acts ++ past) room n) (sym long)
+
+one_known : (setup : Setup) (c : CpuId) → c.0 < setup.cpus → All (λ d. d.0 < setup.cpus) (c ∷ [])
+one_known setup c below zero d within = below
+one_known setup c below (suc k) d within = absurd (omega (arith, within))
+
+goes_known : (setup : Setup) (sched : List CpuId) (ps : List Private) (log : List (Action Name)) → Goes setup sched ps log → All (λ c. c.0 < setup.cpus) sched
+goes_known setup sched ps log boots = λ k d below. absurd (omega (arith, below))
+goes_known setup sched ps log (goes {before = before} {ps = qs} {log = past} c p way below at stepped) =
+    All-append (λ (d : CpuId). d.0 < setup.cpus) before (c ∷ []) (goes_known setup before qs past way) (one_known setup c below)
+
+boots_long : (setup : Setup) (n k : ℕ) → length (boots_from setup n k) ≡ k
+boots_long setup n zero = refl
+boots_long setup n (suc k) = ap suc (boots_long setup (n + 1) k)
+
+goes_long : (setup : Setup) (sched : List CpuId) (ps : List Private) (log : List (Action Name)) → Goes setup sched ps log → length ps ≡ setup.cpus
+goes_long setup sched ps log boots = boots_long setup 0 setup.cpus
+goes_long setup sched ps log (goes {before = before} {ps = qs} {log = past} c p way below at stepped) =
+    length-set qs c.0 (cpu_step setup c p past).next ∙ goes_long setup before qs past way
+
+-- ---- the steps of one CPU that do no action
+
+data Way (setup : Setup) (c : CpuId) (log : List (Action Name)) (from : Private) : Private → Type 0 where
+  stays : Way setup c log from from
+  alone : {p : Private} → Way setup c log from p → (cpu_step setup c p log).answer ≡ Stepped → (cpu_step setup c p log).acts ≡ []
+      → Way setup c log from (cpu_step setup c p log).next
+
+-- a step does one action of its CPU, or none
+IsShort : CpuId → List (Action Name) → Type 0
+IsShort c acts = (acts ≡ []) ⊎ ((a : Action Name) × (acts ≡ a ∷ []) × (same_cpu (cpu_of_action a) c ≡ true))
+
+short : (setup : Setup) (c : CpuId) (p : Private) (log : List (Action Name)) → IsShort c (cpu_step setup c p log).acts
+unfolding IsShort
+short setup c p log = grind (arith, same_cpu_self c)
+
+-- the way of a CPU before the newest action, what that action made of it, and its way behind it
+record Cut (setup : Setup) (c : CpuId) (a : Action Name) (past : List (Action Name)) (p : Private) : Type 0 where
+  before : Private
+  count : ℕ
+  along : AlongTable setup c count before past
+  mid : Private
+  next : ((same_cpu (cpu_of_action a) c ≡ false) × (mid ≡ before))
+      ⊎ ((same_cpu (cpu_of_action a) c ≡ true) × ((cpu_step setup c before past).acts ≡ a ∷ []) × ((cpu_step setup c before past).answer ≡ Stepped)
+      × (mid ≡ (cpu_step setup c before past).next))
+  way : Way setup c (a ∷ past) mid p
+
+head_or : Action Name → List (Action Name) → Action Name
+head_or a [] = a
+head_or a (b ∷ list) = b
+
+tail_of : List (Action Name) → List (Action Name)
+tail_of [] = []
+tail_of (b ∷ list) = list
+
+same_head : (a b : Action Name) (p q : List (Action Name)) → a ∷ p ≡ b ∷ q → a ≡ b
+unfolding head_or
+same_head a b p q is = ap (head_or a) is
+
+same_tail : (a b : Action Name) (p q : List (Action Name)) → a ∷ p ≡ b ∷ q → p ≡ q
+unfolding tail_of
+same_tail a b p q is = ap tail_of is
+
+-- one more step without an action
+longer : (setup : Setup) (c : CpuId) (from q : Private) (log log2 : List (Action Name)) → log ≡ log2 → Way setup c log2 from q
+    → (cpu_step setup c q log).answer ≡ Stepped → (cpu_step setup c q log).acts ≡ [] → Way setup c log2 from (cpu_step setup c q log).next
+longer setup c from q log log2 same way taken none =
+    subst (λ l. Way setup c log2 from (cpu_step setup c q l).next) (sym same)
+    (alone way (subst (λ l. (cpu_step setup c q l).answer ≡ Stepped) same taken) (subst (λ l. (cpu_step setup c q l).acts ≡ []) same none))
+
+cut : (setup : Setup) (c : CpuId) (n : ℕ) (p : Private) (log : List (Action Name)) → AlongTable setup c n p log
+    → (a : Action Name) (past : List (Action Name)) → log ≡ a ∷ past → Cut setup c a past p
+unfolding IsShort
+cut setup c n p log starts = λ a past is. absurd (cc is)
+cut setup c n p log (others {n = m} {p = q} {log = before} b along off) = λ a past is. record {
+  before = q;
+  count = m;
+  along = subst (AlongTable setup c m q) (same_tail b a before past is) along;
+  mid = q;
+  next = inl (subst (λ x. same_cpu (cpu_of_action x) c ≡ false) (same_head b a before past is) off, refl);
+  way = stays;
+}
+cut setup c n p log (steps {n = m} {p = q} {log = before} along taken) =
+    λ a past is. by_acts (short setup c q before) a past is (cut setup c m q before along)
+  where
+    by_acts : IsShort c (cpu_step setup c q before).acts → (a : Action Name) (past : List (Action Name)) → (cpu_step setup c q before).acts ++ before ≡ a ∷ past
+        → ((a : Action Name) (past : List (Action Name)) → before ≡ a ∷ past → Cut setup c a past q) → Cut setup c a past (cpu_step setup c q before).next
+    by_acts (inl none) a past is earlier =
+        let same : before ≡ a ∷ past = ap (λ acts. acts ++ before) (sym none) ∙ is in
+        let e = earlier a past same in
+        record {
+          before = e.before;
+          count = e.count;
+          along = e.along;
+          mid = e.mid;
+          next = e.next;
+          way = longer setup c e.mid q before (a ∷ past) same e.way taken none;
+        }
+    by_acts (inr own) a past is earlier =
+        let list : own.0 ∷ before ≡ a ∷ past = ap (λ acts. acts ++ before) (sym own.1) ∙ is in
+        let same : before ≡ past = same_tail own.0 a before past list in
+        let head : own.0 ≡ a = same_head own.0 a before past list in
+        record {
+          before = q;
+          count = m;
+          along = subst (AlongTable setup c m q) same along;
+          mid = (cpu_step setup c q before).next;
+          next = inr (
+            subst (λ x. same_cpu (cpu_of_action x) c ≡ true) head own.2,
+            subst (λ x. (cpu_step setup c q x).acts ≡ a ∷ []) same (own.1 ∙ ap (λ x. x ∷ []) head),
+            subst (λ x. (cpu_step setup c q x).answer ≡ Stepped) same taken,
+            ap (λ x. (cpu_step setup c q x).next) same,
+          );
+          way = stays;
+        }
+
+-- the way of a CPU before any action
+from_boot : (setup : Setup) (c : CpuId) (n : ℕ) (p : Private) (log : List (Action Name)) → AlongTable setup c n p log → log ≡ []
+    → Way setup c [] (at_boot setup c) p
+unfolding IsShort
+from_boot setup c n p log starts = λ is. stays
+from_boot setup c n p log (others {n = m} {p = q} {log = before} b along off) = λ is. absurd (cc is)
+from_boot setup c n p log (steps {n = m} {p = q} {log = before} along taken) = λ is. by_acts (short setup c q before) is (from_boot setup c m q before along)
+  where
+    by_acts : IsShort c (cpu_step setup c q before).acts → (cpu_step setup c q before).acts ++ before ≡ []
+        → (before ≡ [] → Way setup c [] (at_boot setup c) q) → Way setup c [] (at_boot setup c) (cpu_step setup c q before).next
+    by_acts (inl none) is earlier =
+        let same : before ≡ [] = ap (λ acts. acts ++ before) (sym none) ∙ is in
+        longer setup c (at_boot setup c) q before [] same (earlier same) taken none
+    by_acts (inr own) is earlier =
+        let list : own.0 ∷ before ≡ [] = ap (λ acts. acts ++ before) (sym own.1) ∙ is in
+        absurd (cc list)
+
+-- ---- all CPUs
+
+-- a schedule after which this holds of the private state of each CPU
+record Reached (setup : Setup) (log : List (Action Name)) (R : ℕ → Private → Type 0) : Type 0 where
+  sched : List CpuId
+  ps : List Private
+  way : Goes setup sched ps log
+  all : (k : ℕ) → k < setup.cpus → (p : Private) × (slice_get ps k ≡ Some p) × R k p
+
+-- one CPU has gone on without an action, and no other
+record Moved (setup : Setup) (log : List (Action Name)) (ps : List Private) (k : ℕ) (p : Private) : Type 0 where
+  sched : List CpuId
+  qs : List Private
+  way : Goes setup sched qs log
+  here : slice_get qs k ≡ Some p
+  others : (i : ℕ) → i ≢ k → slice_get qs i ≡ slice_get ps i
+
+move : (setup : Setup) (log : List (Action Name)) (sched : List CpuId) (ps : List Private) (k : ℕ) (q p : Private) → k < setup.cpus
+    → Goes setup sched ps log → slice_get ps k ≡ Some q → Way setup (cpu_numbered k) log q p → Moved setup log ps k p
+move setup log sched ps k q p below at here stays = record { sched = sched; qs = ps; way = at; here = here; others = λ i off. refl }
+move setup log sched ps k q p below at here (alone {p = r} way stepped none) =
+    let m = move setup log sched ps k q r below at here way in
+    record {
+      sched = m.sched ++ cpu_numbered k ∷ [];
+      qs = slice_set m.qs k (cpu_step setup (cpu_numbered k) r log).next;
+      way = subst (λ acts. Goes setup (m.sched ++ cpu_numbered k ∷ []) (slice_set m.qs k (cpu_step setup (cpu_numbered k) r log).next) (acts ++ log)) none
+          (goes (cpu_numbered k) r m.way below m.here stepped);
+      here = set_here m.qs k r (cpu_step setup (cpu_numbered k) r log).next m.here;
+      others = λ i off. set_other m.qs k i (cpu_step setup (cpu_numbered k) r log).next off ∙ m.others i off;
+    }
+
+-- a CPU has a way from here to where it is to be
+FromWay : Setup → List (Action Name) → (ℕ → Private → Type 0) → ℕ → Private → Type 0
+FromWay setup log R k q = (p : Private) × Way setup (cpu_numbered k) log q p × R k p
+
+-- the first n CPUs have gone their ways
+Half : Setup → List (Action Name) → (ℕ → Private → Type 0) → ℕ → ℕ → Private → Type 0
+Half setup log R n k q = (k < n → R k q) × (n ≤ k → FromWay setup log R k q)
+
+-- CPU n has gone its way too
+gone : (setup : Setup) (log : List (Action Name)) (R : ℕ → Private → Type 0) (n : ℕ) (ps : List Private) (p : Private) (m : Moved setup log ps n p) → R n p
+    → (k : ℕ) → ((q : Private) × (slice_get ps k ≡ Some q) × Half setup log R n k q) → (k ≡ n) ⊎ (k ≡ n → ⊥)
+    → (q : Private) × (slice_get m.qs k ≡ Some q) × Half setup log R (suc n) k q
+unfolding Half
+gone setup log R n ps p m is k at (inl same) = (
+  p,
+  subst (λ i. slice_get m.qs i ≡ Some p) (sym same) m.here,
+  ((λ under. subst (λ i. R i p) (sym same) is), (λ over. absurd (omega (arith, over, same)))),
+)
+gone setup log R n ps p m is k at (inr off) = (
+  at.0,
+  m.others k off ∙ at.1,
+  ((λ under. at.2.0 (omega (arith, under, off))), (λ over. at.2.1 (omega (arith, over)))),
+)
+
+halfway : (setup : Setup) (log : List (Action Name)) (R : ℕ → Private → Type 0) → Reached setup log (FromWay setup log R) → (n : ℕ) → n ≤ setup.cpus
+    → Reached setup log (Half setup log R n)
+unfolding Half FromWay
+halfway setup log R from zero few = record {
+  sched = from.sched;
+  ps = from.ps;
+  way = from.way;
+  all = λ k below. let x = from.all k below in (x.0, x.1, ((λ under. absurd (omega (arith, under))), (λ over. x.2)));
+}
+halfway setup log R from (suc n) few =
+    let r = halfway setup log R from n (omega (arith, few)) in
+    let below : n < setup.cpus = omega (arith, few) in
+    let x = r.all n below in
+    let on : FromWay setup log R n x.0 = x.2.1 (omega arith) in
+    let m = move setup log r.sched r.ps n x.0 on.0 below r.way x.1 on.1 in
+    record {
+      sched = m.sched;
+      ps = m.qs;
+      way = m.way;
+      all = λ k within. gone setup log R n r.ps on.0 m on.2 k (r.all k within) (cases_eq k n);
+    }
+
+ways : (setup : Setup) (log : List (Action Name)) (R : ℕ → Private → Type 0) → Reached setup log (FromWay setup log R) → Reached setup log R
+unfolding Half
+ways setup log R from =
+    let r = halfway setup log R from setup.cpus (omega arith) in
+    record { sched = r.sched; ps = r.ps; way = r.way; all = λ k below. let x = r.all k below in (x.0, x.1, x.2.0 below) }
+
+-- ---- along the list
+
+-- a CPU has come to its private state along the list, and this holds of it
+Came : Setup → List (Action Name) → (ℕ → Private → Type 0) → ℕ → Type 0
+Came setup log R k = (n : ℕ) × (p : Private) × AlongTable setup (cpu_numbered k) n p log × R k p
+
+-- what the newest action makes of a CPU's private state
+Turn : Setup → Action Name → List (Action Name) → ℕ → Private → Private → Type 0
+Turn setup a past k r mid = ((same_cpu (cpu_of_action a) (cpu_numbered k) ≡ false) × (mid ≡ r))
+    ⊎ ((same_cpu (cpu_of_action a) (cpu_numbered k) ≡ true) × ((cpu_step setup (cpu_numbered k) r past).acts ≡ a ∷ [])
+    × ((cpu_step setup (cpu_numbered k) r past).answer ≡ Stepped) × (mid ≡ (cpu_step setup (cpu_numbered k) r past).next))
+
+-- from here the newest action and a way behind it lead to where the CPU is to be
+Before : Setup → Action Name → List (Action Name) → (ℕ → Private → Type 0) → ℕ → Private → Type 0
+Before setup a past R k r = (mid : Private) × Turn setup a past k r mid × FromWay setup (a ∷ past) R k mid
+
+-- a CPU that did not act stands where it stood
+idle : (setup : Setup) (a : Action Name) (past : List (Action Name)) (R : ℕ → Private → Type 0) (k : ℕ) (r : Private) → (k ≡ (cpu_of_action a).0 → ⊥)
+    → Before setup a past R k r → FromWay setup (a ∷ past) R k r
+unfolding Before Turn
+idle setup a past R k r off (mid, inl same, on) = subst (λ q. FromWay setup (a ∷ past) R k q) same.1 on
+idle setup a past R k r off (mid, inr acted, on) = absurd (off (number acted.0))
+  where
+    number : same_cpu (cpu_of_action a) (cpu_numbered k) ≡ true → k ≡ (cpu_of_action a).0
+    number same = grind arith
+
+-- the CPU that acts goes on
+acted : (setup : Setup) (a : Action Name) (past : List (Action Name)) (R : ℕ → Private → Type 0) → (cpu_of_action a).0 < setup.cpus
+    → Reached setup past (Before setup a past R) → Reached setup (a ∷ past) (FromWay setup (a ∷ past) R)
+unfolding Before Turn
+acted setup a past R within before = let x = before.all d within in by_turn x.0 x.1 x.2.0 x.2.1 x.2.2
+  where
+    d : ℕ
+    d = (cpu_of_action a).0
+
+    each : (r mid : Private) → mid ≡ (cpu_step setup (cpu_of_action a) r past).next → slice_get before.ps d ≡ Some r → FromWay setup (a ∷ past) R d mid
+        → (k : ℕ) → k < setup.cpus → (k ≡ d) ⊎ (k ≡ d → ⊥)
+        → (q : Private) × (slice_get (slice_set before.ps d (cpu_step setup (cpu_of_action a) r past).next) k ≡ Some q) × FromWay setup (a ∷ past) R k q
+    each r mid is at on k below (inl same) = (
+      mid,
+      subst (λ i. slice_get (slice_set before.ps d (cpu_step setup (cpu_of_action a) r past).next) i ≡ Some mid) (sym same)
+          (set_here before.ps d r (cpu_step setup (cpu_of_action a) r past).next at ∙ ap Some (sym is)),
+      subst (λ i. FromWay setup (a ∷ past) R i mid) (sym same) on,
+    )
+    each r mid is at on k below (inr off) =
+        let x = before.all k below in (
+          x.0,
+          set_other before.ps d k (cpu_step setup (cpu_of_action a) r past).next off ∙ x.1,
+          idle setup a past R k x.0 off x.2,
+        )
+
+    by_turn : (r : Private) → slice_get before.ps d ≡ Some r → (mid : Private) → Turn setup a past d r mid → FromWay setup (a ∷ past) R d mid
+        → Reached setup (a ∷ past) (FromWay setup (a ∷ past) R)
+    by_turn r at mid (inl off) on = refuted off.0 (same_cpu_self (cpu_of_action a))
+    by_turn r at mid (inr turn) on = record {
+      sched = before.sched ++ cpu_of_action a ∷ [];
+      ps = slice_set before.ps d (cpu_step setup (cpu_of_action a) r past).next;
+      way = subst (λ acts. Goes setup (before.sched ++ cpu_of_action a ∷ []) (slice_set before.ps d (cpu_step setup (cpu_of_action a) r past).next) (acts ++ past))
+          turn.1 (goes (cpu_of_action a) r before.way within at turn.2);
+      all = λ k below. each r mid turn.3 at on k below (cases_eq k d);
+    }
+
+merged : (setup : Setup) (log : List (Action Name)) → ((c : CpuId) → setup.cpus ≤ c.0 → own_events cpu_of_action c log ≡ [])
+    → (R : ℕ → Private → Type 0) → ((k : ℕ) → k < setup.cpus → Came setup log R k) → Reached setup log R
+unfolding Came Before FromWay Turn
+merged setup [] rest R came = ways setup [] R (record {
+  sched = [];
+  ps = boots_from setup 0 setup.cpus;
+  way = boots;
+  all = λ k below. let x = came k below in (
+    at_boot setup (cpu_numbered (0 + k)),
+    booted setup 0 setup.cpus k below,
+    (x.1, at_zero k x.1 (from_boot setup (cpu_numbered k) x.0 x.1 [] x.2 refl), x.3),
+  );
+})
+  where
+    at_zero : (k : ℕ) (p : Private) → Way setup (cpu_numbered k) [] (at_boot setup (cpu_numbered k)) p
+        → Way setup (cpu_numbered k) [] (at_boot setup (cpu_numbered (0 + k))) p
+    at_zero k p way = subst (λ n. Way setup (cpu_numbered k) [] (at_boot setup (cpu_numbered n)) p) (sym (zero-add k)) way
+merged setup (a ∷ past) rest R came = by_cpu (merged setup past earlier (Before setup a past R) before) (cases_lt (cpu_of_action a).0 setup.cpus)
+  where
+    earlier : (c : CpuId) → setup.cpus ≤ c.0 → own_events cpu_of_action c past ≡ []
+    earlier c beyond = grind (arith, rest c beyond)
+
+    before : (k : ℕ) → k < setup.cpus → Came setup past (Before setup a past R) k
+    before k below =
+        let x = came k below in
+        let e = cut setup (cpu_numbered k) x.0 x.1 (a ∷ past) x.2 a past refl in
+        (e.count, e.before, e.along, (e.mid, e.next, (x.1, e.way, x.3)))
+
+    by_cpu : Reached setup past (Before setup a past R) → ((cpu_of_action a).0 < setup.cpus) ⊎ (setup.cpus ≤ (cpu_of_action a).0) → Reached setup (a ∷ past) R
+    by_cpu earlier_one (inl within) = ways setup (a ∷ past) R (acted setup a past R within earlier_one)
+    by_cpu earlier_one (inr beyond) =
+        absurd (cc (ap (λ b. if b then a ∷ own_events cpu_of_action (cpu_of_action a) past else own_events cpu_of_action (cpu_of_action a) past)
+        (sym (same_cpu_self (cpu_of_action a))) ∙ rest (cpu_of_action a) beyond))
+
+-- where each CPU came along the list
+Last : (setup : Setup) (log : List (Action Name)) → IsWorked setup log → ℕ → Private → Type 0
+Last setup log worked k p = (below : k < setup.cpus) × (p ≡ (worked.ran (cpu_numbered k) below).last)
+
+pub work_is_a_run : WorkIsARun
+unfolding Last Came
+work_is_a_run setup log worked =
+    let r = merged setup log worked.rest (Last setup log worked) (λ k below.
+    let ran = worked.ran (cpu_numbered k) below in (ran.count, ran.last, ran.steps, (below, refl))) in
+    record {
+      steps = r.sched;
+      known = goes_known setup r.sched r.ps log r.way;
+      log_is = λ room few. ap (λ (w : Whole). w.log) (goes_whole setup r.sched r.ps log r.way room few);
+      taken_is = λ room few. ap (λ (w : Whole). w.taken) (goes_whole setup r.sched r.ps log r.way room few);
+      many = λ room few. ap (λ (w : Whole). length w.cpus) (goes_whole setup r.sched r.ps log r.way room few) ∙ goes_long setup r.sched r.ps log r.way;
+      cpus_are = λ room few c below.
+          let x = r.all c.0 below in
+          (x.2.0, ap (λ (w : Whole). slice_get w.cpus c.0) (goes_whole setup r.sched r.ps log r.way room few) ∙ x.1 ∙ ap Some x.2.1);
+    }
