@@ -14,7 +14,8 @@ Bodies of different functions are tried in ONE check of a copy of the crate: eac
 only where its own function gets a line `not proved` or `no proof: ..`. Where that line names a callee that is not proved either, it counts only if a goal of the
 function's own is open too: the line names it, or an error stands in the function's own folder of proofs. A failed callee alone does not count: such a body stays
 open for the next round. After a round that judged none, the first open body is tried alone. What is still proved then fails by name. So does an edit that cannot be
-applied, names no function, or ends in no verdict, as for want of memory.
+applied, names no function, or ends in no verdict, as for want of memory. A body is weak where no goal is open and a proof file alone no longer fits its shape, as
+where it names what the edit took away: it counts as refused, and is told once more at the end, since no clause may stand against it.
 
 A body that a type refuses does not compile. Its file says so in its first line, with words of the compiler's error:
 
@@ -57,9 +58,11 @@ OF_A_CALLEE = re.compile(r"it calls|it passes|a call of")
 # The first words of a line that callers read.
 HEAD = re.compile(r"\s*(pub|fn|impl|trait|struct|enum|use|ghost|where|requires|ensures|\) ->)\b|\s*\) ->")
 OWN_GOAL = re.compile(r"`?search`? did not prove `[^`]+`")
-# A proof file that names what the edit took away, and a goal that the prover found open.
-STALE_NAME = re.compile(r"(?:note: )?(?:\./)?proofs/\S+:\d+:\d+: .*(has no |is not in scope|was not admitted)")
-OPEN_GOAL = re.compile(r"(?:note: )?(?:\./)?\S+:\d+:\d+: .*(is not proved|may be false|does not prove|error)")
+# An error in a proof file: its path behind proofs/, and its words; those words that only say that the file no longer fits the body's shape: it names what the edit
+# took away, or lacks a case that the edit brought; and a goal of a source line that the prover found open.
+PROOF_ERROR = re.compile(r"(?:note: )?(?:\./)?proofs/(\S+?):\d+:\d+: error: (.*)")
+STALE = re.compile(r"has no |is not in scope|was not admitted|write the case|no case of the `elim` covers|which was rejected|holds no|is not a case")
+OPEN_GOAL = re.compile(r"(?:note: )?(?:\./)?src/\S+:\d+:\d+: .*(is not proved|may be false|does not prove|error)")
 # An error of the compiler: its file, its line and its words.
 COMPILE_ERROR = re.compile(r"(?:\./)?(src/\S+?):(\d+):\d+: error(\[\S+\]: .*)")
 UNREAD = re.compile(r"(?:\./)?(?:src|specs)/\S+?:\d+:\d+: error: (.*)")
@@ -295,26 +298,33 @@ class Trial:
         if said is None:
             body.end(f"no line tells of {body.function}", True)
         elif NOT_PROVED.match(said) and (not OF_A_CALLEE.search(said) or self.has_own_goal(body, said, lines)):
-            body.is_weak = self.is_weak(body, lines)
-            weak = ", but only since a proof file names what it took away: change a value and keep the shape" if body.is_weak else ""
+            body.is_weak = self.is_weak(body, said, lines)
+            weak = ", but only since a proof file does not fit its shape: change a value and keep the names" if body.is_weak else ""
             body.end(f"refused{weak}: {said[:160]}")
         elif alone:
             body.end("NOT REFUSED: the function is still proved" if said.startswith("proved") else f"no verdict: {said[:160]}", True)
 
+    def errors_of(self, body, lines):
+        """Returns the words of each error in the own folder of proofs of the body's function: a check prints those of all functions before its first verdict."""
+        folder = f"{body.function.replace('::', '/')}/"
+        found = filter(None, map(PROOF_ERROR.match, whole(lines)))
+        return [it[2] for it in found if it[1].startswith(folder)]
+
     def has_own_goal(self, body, said, lines):
         """Returns whether a goal of the body's own function is open, whatever became of what it calls: its line names the goal before any callee, or an error
-        stands in its own folder of proofs that is not about a name."""
-        if OWN_GOAL.search(said[: OF_A_CALLEE.search(said).start()]):
+        stands in its own folder of proofs that is not about its shape."""
+        callee = OF_A_CALLEE.search(said)
+        if OWN_GOAL.search(said[: callee.start()] if callee else said):
             return True
-        folder = f"proofs/{body.function.replace('::', '/')}/"
-        return any(OPEN_GOAL.match(it) and folder in it.split(": ")[0] and not STALE_NAME.match(it) for it in whole(lines))
+        return any(not STALE.search(it) for it in self.errors_of(body, lines))
 
-    def is_weak(self, body, lines):
-        """Returns whether all that stands against the function is a proof file that no longer reads."""
+    def is_weak(self, body, said, lines):
+        """Returns whether all that stands against the function is a proof file that no longer fits its shape: no goal of it was found open, neither in a proof
+        file nor in the source lines told before its own line, and each error says so."""
         end = next(at for at, it in enumerate(lines) if it.startswith(f"fn {self.crate.name}::{body.function}: "))
         start = max((at + 1 for at, it in enumerate(lines[:end]) if re.match(r"(fn|impl|struct|enum|trait) ", it)), default=0)
-        told = [it for it in whole(lines[start:end]) if OPEN_GOAL.match(it) or STALE_NAME.match(it)]
-        return bool(told) and all(STALE_NAME.match(it) for it in told)
+        has_goal = self.has_own_goal(body, said, lines) or any(map(OPEN_GOAL.match, lines[start:end]))
+        return not has_goal and bool(self.errors_of(body, lines))
 
 
 def read_as_proved(path):
@@ -426,7 +436,7 @@ def known_of(total, body):
     try:
         with open(f"{KEPT}/{sum_with(total, body)}", encoding="utf-8") as it:
             told = json.load(it)
-        return told if told["body"] == body.name() and told["verdict"].startswith("refused") else None
+        return told if told["body"] == body.name() and told["verdict"].startswith("refused") and "by_shape_alone" in told else None
     except (OSError, ValueError, KeyError, TypeError, AttributeError):
         return None
 
@@ -435,7 +445,7 @@ def take_known(total, bodies):
     """Gives each of these bodies that was refused before its verdict, and returns how many there are."""
     found = [(it, told) for it in bodies if not it.verdict for told in [known_of(total, it)] if told]
     for body, told in found:
-        body.verdict, body.is_weak = told["verdict"], told["weak"] is True
+        body.verdict, body.is_weak = told["verdict"], told["by_shape_alone"] is True
     return len(found)
 
 
@@ -445,7 +455,7 @@ def keep(total, bodies):
     for it in bodies:
         if it.verdict and not it.is_failure:
             with tempfile.NamedTemporaryFile("w", prefix="new-", dir=KEPT, delete=False, encoding="utf-8") as told:
-                json.dump({"body": it.name(), "verdict": it.verdict, "weak": it.is_weak}, told)
+                json.dump({"body": it.name(), "verdict": it.verdict, "by_shape_alone": it.is_weak}, told)
             os.replace(told.name, f"{KEPT}/{sum_with(total, it)}")
 
 
@@ -468,20 +478,22 @@ SELF_TEST = {
     "fails_only_its_callee_is_wrong": "NOT REFUSED",
     "fails_the_compiler_has_other_words": "by other words than",
     "fails_the_refusal_is_not_the_first_line": "and is the first",
+    "refused_by_its_shape_alone": "refused, but only since",
     "refused_by_the_compiler": "refused by the compiler: ",
     "refused_look_tells_the_other_way": "refused: ",
     "refused_the_callee": "refused: ",
     "refused_the_callee_of_a_right_caller": "refused: ",
     "refused_with_a_goal_of_its_own": "refused: ",
 }
-# Those of them that the first round has to judge, beside the others.
-AT_ONCE = ("refused_the_callee", "refused_with_a_goal_of_its_own")
+# Those of them that the first round has to judge, beside the others; and the one that is weak: it turns nothing, and is refused by a stale name.
+AT_ONCE = ("refused_by_its_shape_alone", "refused_the_callee", "refused_with_a_goal_of_its_own")
+WEAK = "refused_by_its_shape_alone"
 
 
 def ended(body, name, words):
-    """Returns whether a body of the self-test ended in these words, failed or refused as its name says, and in the first round where it has to."""
+    """Returns whether a body of the self-test ended in these words, failed, weak or refused as its name says, and in the first round where it has to."""
     in_time = name not in AT_ONCE or (body.rounds == 1 and "it calls" in body.verdict) == (name == "refused_with_a_goal_of_its_own")
-    return words in body.verdict and body.is_failure == name.startswith("fails_") and in_time
+    return words in body.verdict and body.is_failure == name.startswith("fails_") and body.is_weak == (name == WEAK) and in_time
 
 
 def lost_names():
