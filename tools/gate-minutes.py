@@ -1,21 +1,26 @@
 #!/usr/bin/env python3
 """Runs a command, as .ci/run, and tells what the prover took in it for each crate: minutes of processor time for the crate's proof, for its tests, for
-its must-fail edits and for its wrong bodies, and the most memory that one check held. These are the figures of docs/GATE.md.
+its must-fail edits and for its wrong bodies, and the most memory that one check held.
 
     tools/gate-minutes.py COMMAND..
+    tools/gate-minutes.py --rows FILE    the rows of the table of docs/GATE.md, of all runs that FILE keeps, with what the tree's crates hold now
 
 It looks once a second at the command's processes and at theirs, and at no other check on the machine, so that it misses up to a second of each; each check
-takes many. The table goes to standard error at the end, and to the end of the file that MINUTES names, if it names one.
+takes many. The table goes to standard error at the end, and what it is made of to the end of the file that MINUTES names, if it names one.
 """
 import argparse
 import collections
 import ctypes
+import json
 import os
 import re
+import signal
 import subprocess
 import sys
 import threading
+from pathlib import Path
 
+ROOT = Path(__file__).resolve().parent.parent
 KINDS = ("proof", "tests", "edits", "wrong")
 TICKS, PAGE = os.sysconf("SC_CLK_TCK"), os.sysconf("SC_PAGE_SIZE")
 
@@ -79,20 +84,49 @@ class Tally:
         for (crate, _), memory in held.items():
             self.memory[crate] = max(self.memory[crate], memory)
 
+    def minutes(self):
+        """Returns for each crate its minutes by kind."""
+        total = collections.defaultdict(collections.Counter)
+        for ((crate, kind), _, _), seconds in self.seconds.items():
+            total[crate][kind] += seconds / 60
+        return total
+
     def table(self):
-        total = collections.Counter()
-        for (check, _, _), seconds in self.seconds.items():
-            total[check] += seconds / 60
+        total = self.minutes()
         yield f"{'crate':16}" + "".join(f"{kind:>8}" for kind in KINDS) + "      GB"
-        for crate in sorted({crate for crate, _ in total}):
-            yield f"{crate:16}" + "".join(f"{total[crate, kind]:8.1f}" for kind in KINDS) + f"{self.memory[crate] / 1e9:8.1f}"
-        yield f"{'sum':16}" + "".join(f"{sum(total[crate, kind] for crate in self.memory):8.1f}" for kind in KINDS)
+        for crate in sorted(total):
+            yield f"{crate:16}" + "".join(f"{total[crate][kind]:8.1f}" for kind in KINDS) + f"{self.memory[crate] / 1e9:8.1f}"
+        yield f"{'sum':16}" + "".join(f"{sum(it[kind] for it in total.values()):8.1f}" for kind in KINDS)
+
+
+def counts_of(crate):
+    """Returns how many tests, must-fail edits and wrong bodies a crate has."""
+    folder = ROOT / "crates" / crate
+    tests = sum(len(re.findall(r"^ *#\[test\]", it.read_text(), re.M)) for it in folder.glob("src/**/*.rt"))
+    return [tests, *(len(list(folder.glob(f"{part}/*.edit"))) for part in ("must-fail", "wrong"))]
+
+
+def rows(kept):
+    """Yields the rows of the table of docs/GATE.md, of the runs that these lines keep."""
+    total = collections.defaultdict(collections.Counter)
+    for line in kept:
+        for crate, minutes in json.loads(line).items():
+            total[crate].update(minutes)
+    crates = {it: [*counts_of(it), *(total[it][kind] for kind in KINDS)] for it in sorted(total)}
+    crates["sum"] = [sum(it) for it in zip(*crates.values())]
+    for name, numbers in crates.items():
+        cells = [f"{it}" for it in numbers[:3]] + [f"{it:.1f}" if it else "" for it in numbers[3:]]
+        yield f"| {name if name == 'sum' else f'`{name}`'} | {' | '.join(cells)} |"
 
 
 def main():
     read = argparse.ArgumentParser(description=__doc__, formatter_class=argparse.RawDescriptionHelpFormatter)
+    read.add_argument("--rows", metavar="FILE")
     read.add_argument("command", nargs=argparse.REMAINDER)
     given = read.parse_args()
+    if given.rows:
+        print(*rows(open(given.rows)), sep="\n")
+        return 0
     tally, ended = Tally(), threading.Event()
 
     def watch():
@@ -105,11 +139,13 @@ def main():
     status = subprocess.run(given.command).returncode
     ended.set()
     watcher.join()
-    table = "\n".join(tally.table())
-    print(table, file=sys.stderr)
+    print(*tally.table(), sep="\n", file=sys.stderr)
     if "MINUTES" in os.environ:
-        with open(os.environ["MINUTES"], "a") as minutes:
-            print(table, file=minutes)
+        with open(os.environ["MINUTES"], "a") as kept:
+            print(json.dumps(tally.minutes()), file=kept)
+    if status < 0:
+        print(f"gate-minutes: {' '.join(given.command)} was killed by {signal.Signals(-status).name}", file=sys.stderr)
+        return 128 - status
     return status
 
 
