@@ -13,7 +13,9 @@ if [ "${1:-}" = --help ]; then sed -n '2,/^[^#]/ s/^# \{0,1\}//p' "$0"; exit; fi
 set -eu
 export LC_ALL=C
 cd "$(dirname "$0")/.."
-program=$(realpath "${1:-crates/mctower/out/mctower}" 2> /dev/null) && [ -x "$program" ] || { echo "build mctower first: (cd crates/mctower && rt run -- count --cpus 1 --times 1)"; exit 1; }
+program=$(realpath "${1:-crates/mctower/out/mctower}" 2> /dev/null) && [ -x "$program" ] || {
+  echo "build mctower first: (cd crates/mctower && rt run -- count --cpus 1 --times 1)"; exit 1
+}
 work=$(mktemp -d); trap 'rm -rf "$work"' EXIT
 more=65536
 

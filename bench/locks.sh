@@ -36,6 +36,7 @@ for cpus in 2 4 8; do
   done
   awk -v cpus=$cpus -v turns=$done -v pt="$(median "$work/plain-ticket.times")" -v pg="$(median "$work/plain-grant.times")" \
     -v ot="$(median "$work/ours-ticket.times")" -v og="$(median "$work/ours-grant.times")" 'BEGIN {
-      printf "%d threads, %d turns: plain over ours %.2f with tickets, %.2f with grant words; tickets over grant words %.2f of ours, %.2f of the plain ones; ms: ours %.1f and %.1f, plain %.1f and %.1f\n",
-        cpus, turns, pt / ot, pg / og, ot / og, pt / pg, ot / 1000, og / 1000, pt / 1000, pg / 1000 }'
+      printf "%d threads, %d turns: plain over ours %.2f with tickets, %.2f with grant words; ", cpus, turns, pt / ot, pg / og
+      printf "tickets over grant words %.2f of ours, %.2f of the plain ones; ", ot / og, pt / pg
+      printf "ms: ours %.1f and %.1f, plain %.1f and %.1f\n", ot / 1000, og / 1000, pt / 1000, pg / 1000 }'
 done

@@ -1,13 +1,19 @@
 # What the scripts that measure share: they source it in the folder bench/. It leaves in `ours` the proved program and in `work` a folder
 # of their own. The commands that are compared stand in the arrays `plain` and `mine`.
 export LC_ALL=C
-ours=$(realpath ../crates/mctower/out/mctower 2> /dev/null) && [ -x "$ours" ] || { echo "build mctower first: (cd crates/mctower && rt run -- count --cpus 1 --times 1)"; exit 1; }
+ours=$(realpath ../crates/mctower/out/mctower 2> /dev/null) && [ -x "$ours" ] || {
+  echo "build mctower first: (cd crates/mctower && rt run -- count --cpus 1 --times 1)"; exit 1
+}
 work=$(mktemp -d); trap 'rm -rf "$work"' EXIT
 
 # Milliseconds that a time of the shell's, as 1m2.345s, says.
 milliseconds() { local seconds=${1#*m}; seconds=${seconds%s}; echo $((${1%m*} * 60000 + 10#${seconds/./})); }
 # Leaves in processor the milliseconds of processor time that the shell's commands have taken so far.
-spent() { local user system; times > "$work/spent"; { read -r _; read -r user system; } < "$work/spent"; processor=$(($(milliseconds "$user") + $(milliseconds "$system"))); }
+spent() {
+  local user system
+  times > "$work/spent"; { read -r _; read -r user system; } < "$work/spent"
+  processor=$(($(milliseconds "$user") + $(milliseconds "$system")))
+}
 # Runs the command of the array $1 on the input $2, and leaves in micros what it took.
 run() {
   local -n words=$1; local start=${EPOCHREALTIME/./} status=0
@@ -19,7 +25,8 @@ median() { sort -n "$1" | sed -n "$((($(wc -l < "$1") + 1) / 2))p"; }
 sum() { awk '{ all += $1 } END { print all }' "$1"; }
 peak() { local -n words=$1; /usr/bin/time -f %M -o "$work/peak" "${words[@]}" < "$2" > /dev/null 2>&1 || true; tail -n 1 "$work/peak"; }
 
-# One turn of the command of the array $1 on the input $2: adds what it took by the clock and of processors, in micro- and in milliseconds, to the files $3_times and $3_work.
+# One turn of the command of the array $1 on the input $2: adds what it took by the clock and of processors, in micro- and in milliseconds, to the files
+# $3_times and $3_work.
 turn() {
   local before
   spent; before=$processor

@@ -8,7 +8,8 @@ set -eu
 cd "$(dirname "$0")"
 . ./measure.sh
 for plain in ../tests/plain_tower ../tests/plain_check plain_count; do rustc -O -o "$work/${plain##*/}" "$plain.rs"; done
-./make.py plan > "$work/plan"; ./make.py plan through > "$work/through"; ./make.py schedule > "$work/schedule"; ./make.py trace > "$work/trace"; : > "$work/nothing"
+./make.py plan > "$work/plan"; ./make.py plan through > "$work/through"; ./make.py schedule > "$work/schedule"
+./make.py trace > "$work/trace"; : > "$work/nothing"
 
 schedule=$(cat "$work/schedule")
 mine=("$ours" run --schedule "$schedule")

@@ -188,14 +188,16 @@ def patched(faults):
 def names(faults):
     """Looks up what all pages cite, which needs no program; tells how much that was."""
     words, files = words_of_tree()
-    pages = [*ROOT.glob("*.md"), *ROOT.glob("plans/*.md"), *ROOT.glob("docs/*.md"), *ROOT.glob("docs/spec/*.md"), *ROOT.glob("docs/notes/*.md"), *BOOK.glob("*.md")]
+    listed = subprocess.run(["git", "ls-files", "-co", "--exclude-standard", "*.md"], cwd=ROOT, stdout=subprocess.PIPE, text=True, check=True).stdout
+    pages = [ROOT / name for name in listed.splitlines() if (ROOT / name).is_file()]
     count = sum(cited(page, words, files, faults) for page in sorted(pages))
     return count + sum(looked_up(page, faults) for page in sorted(BOOK.glob("*.md"))) + first_minute(faults) + version(faults) + patched(faults)
 
 
 def copied(room, files):
     """Puts a copy of the tree's crates into a folder, with these files; lines for crates.txt go behind its own."""
-    names = subprocess.run(["git", "ls-files", "-co", "--exclude-standard", "crates", "crates.txt", "HANDLES"], cwd=ROOT, stdout=subprocess.PIPE, text=True, check=True)
+    listing = ["git", "ls-files", "-co", "--exclude-standard", "crates", "crates.txt", "HANDLES"]
+    names = subprocess.run(listing, cwd=ROOT, stdout=subprocess.PIPE, text=True, check=True)
     for name in filter(lambda it: (ROOT / it).is_file(), names.stdout.splitlines()):
         (room / name).parent.mkdir(parents=True, exist_ok=True)
         shutil.copy(ROOT / name, room / name)
@@ -217,7 +219,8 @@ def built(page, faults):
             cases.mkdir()
             for end, case in (("", ""), (".args", ""), (".stdout", wanted)):
                 (cases / f"one{end}").write_text(case)
-            ran = subprocess.run(["rt", "try", crate, "--cases", str(cases)], cwd=room / "crates" / crate, stdout=subprocess.PIPE, stderr=subprocess.STDOUT, text=True)
+            words = ["rt", "try", crate, "--cases", str(cases)]
+            ran = subprocess.run(words, cwd=room / "crates" / crate, stdout=subprocess.PIPE, stderr=subprocess.STDOUT, text=True)
         if ran.returncode:
             faults.append(f"{page.name}: the crate {crate} does not print what the page says: {ran.stdout[-600:]}")
     return len(tries)

@@ -6,23 +6,30 @@ ROOT = Path(__file__).resolve().parent.parent
 PLANS = [path.read_bytes() for folder in ("plans", "tests/rows") for path in sorted((ROOT / folder).glob("*.toml"))]
 PRINTED = [path.read_bytes() for folder in ("plans", "tests/rows") for path in sorted((ROOT / folder / "expected").glob("*.txt"))]
 RUNS = [text.partition(b"cpu 0 ")[0] for text in PRINTED]
-ODD_BYTES = [b"\0", b"\t", b"\n", b"\r", b"\r\n", b" ", b'"', b"'", b"#", b",", b"-", b".", b"0", b"9", b"=", b"[", b"]", b"{", b"}", b"\\", b"_", b"e", b"x", b"\x7f",
+ODD_BYTES = [b"\0", b"\t", b"\n", b"\r", b"\r\n", b" ", b'"', b"'", b"#", b",", b"-", b".", b"0", b"9", b"=", b"[", b"]", b"{", b"}", b"\\", b"_",
+             b"e", b"x", b"\x7f",
              b"\xc3\xa9", b"\xff"]
 ODD_NUMBERS = ["0", "00", "01", "", "-", "-1", "+1", "1.0", "x", "8", "9", "15", "16", "17", "32", "33", "255", "256", "1048575", "1048576",
                "18446744073709551615", "18446744073709551616", "9" * 25]
 # Values of TOML of each kind, right and wrong.
 ODD_VALUES = [
-    "true", "True", '"1"', "'1'", '"""1"""', "'''\n1'''", r'"\u0041"', r'"\x41\e"', r'"\ud800"', r'"\U00110000"', r'"\q"', '"""a\\\n  b"""', '""""a"""""', '"a', "'a", "a",
+    "true", "True", '"1"', "'1'", '"""1"""', "'''\n1'''", r'"\u0041"', r'"\x41\e"', r'"\ud800"', r'"\U00110000"', r'"\q"', '"""a\\\n  b"""',
+    '""""a"""""', '"a', "'a", "a",
     "", "1 2", "1 # 2", "- 1", "+1", "-1", "01", "1_0", "1__0", "_1", "0x10", "0xG", "0o17", "0b101", "0b2", "9223372036854775807", "9223372036854775808",
-    "-9223372036854775808", "0x7fffffffffffffff", "0xffffffffffffffff", "1.5", "1.", ".5", "1.5.2", "1e", "1e3", "1e+5", "1e1_0", "1e309", "-0.0", "inf", "-nan",
-    "1979-05-27", "1979-02-29", "2000-02-29", "1979-05-27 07:32", "1979-05-27T07:32:60Z", "1979-05-27T07:32:00.5+23:59", "1979-05-27T24:00", "07:32", "07:32:61", "7:32",
+    "-9223372036854775808", "0x7fffffffffffffff", "0xffffffffffffffff", "1.5", "1.", ".5", "1.5.2", "1e", "1e3", "1e+5", "1e1_0", "1e309", "-0.0",
+    "inf", "-nan",
+    "1979-05-27", "1979-02-29", "2000-02-29", "1979-05-27 07:32", "1979-05-27T07:32:60Z", "1979-05-27T07:32:00.5+23:59", "1979-05-27T24:00", "07:32",
+    "07:32:61", "7:32",
     "[]", "{}", "[1, 'a']", "[1,]", "[,]", "[1 2]", "{a = 1}", "{a = 1,}", "{\na = 1 # b\n}", "{a = 1, a = 2}", "{a.b = 1, a.c = 2}", "{a = {b = 1}, a.c = 2}",
     "[" * 80 + "]" * 80, "[" * 81 + "]" * 81, "{a = " * 80 + "1" + "}" * 80, "{a = " * 81 + "1" + "}" * 81,
 ]
 ODD_LINES = [
-    "cpus = 17", "cpus = 0", "trace = 65537", "buffers = [33]", "buffers = []", 'buffers = [1, "a"]', 'lock = "mcs"', 'lock = "ticket"', "lock = 1", "cpu = 16", "cpu = -1",
-    "thread = []", "[thread]", "[[thread]]", "[[threads]]", "[thread.a]", "[[thread.a]]", "[other]", "[other.b]", "[[other]]", "other.b = 1", "other = 1", "thread.a = 1",
-    '"cpu" = 0', "'cpu' = 0", 'program = ["exit"]', 'program = "exit"', "program = [1]", "program = []", '"" = 1', "a.b.c = 1", "a . b = 1", "a b = 1", "= 1", "a =", "a", "é = 1",
+    "cpus = 17", "cpus = 0", "trace = 65537", "buffers = [33]", "buffers = []", 'buffers = [1, "a"]', 'lock = "mcs"', 'lock = "ticket"', "lock = 1",
+    "cpu = 16", "cpu = -1",
+    "thread = []", "[thread]", "[[thread]]", "[[threads]]", "[thread.a]", "[[thread.a]]", "[other]", "[other.b]", "[[other]]", "other.b = 1",
+    "other = 1", "thread.a = 1",
+    '"cpu" = 0', "'cpu' = 0", 'program = ["exit"]', 'program = "exit"', "program = [1]", "program = []", '"" = 1', "a.b.c = 1", "a . b = 1",
+    "a b = 1", "= 1", "a =", "a", "é = 1",
     "\t# a", ".".join(["a"] * 80) + " = 1", ".".join(["a"] * 81) + " = 1", "# \x01",
 ]
 THREAD = re.compile(rb"\[\[thread\]\]\ncpu = (\d+)\nprogram = (\[.*?\])\n", re.S)
@@ -33,7 +40,8 @@ ODD_PIECES = [*WORDS, "r0", "r7", "r8", "R0", "r00", *ODD_NUMBERS]
 
 def some_program(pick, buffers):
     """Some right instructions."""
-    makers = [lambda: f"set r{pick.randrange(8)} {pick.choice([0, 1, 7, 2**64 - 1])}", lambda: f"{pick.choice(['add', 'sub'])} r{pick.randrange(8)} r{pick.randrange(8)}",
+    makers = [lambda: f"set r{pick.randrange(8)} {pick.choice([0, 1, 7, 2**64 - 1])}",
+              lambda: f"{pick.choice(['add', 'sub'])} r{pick.randrange(8)} r{pick.randrange(8)}",
               lambda: f"send {pick.randrange(buffers)} r{pick.randrange(8)}", lambda: f"recv {pick.randrange(buffers)} r{pick.randrange(8)} 0",
               lambda: f"sendm {pick.randrange(buffers)} {pick.randint(1, 8)}", lambda: f"recvm {pick.randrange(buffers)}",
               lambda: f"close {pick.randrange(buffers)}", lambda: f"jnz r{pick.randrange(8)} 0", lambda: "yield", lambda: "exit"]

@@ -28,7 +28,11 @@ row 'the options of a command' completes '--cpus --times --lock --help' mctower 
 row 'an option' completes --turns mctower threads --t
 row 'the name of a lock' completes grant mctower count --lock g
 row 'a value that nobody knows' completes '' mctower run --schedule 0
-if type -P man > /dev/null; then row 'the man page' [ -z "$(man --warnings -l manual/mctower.1 2>&1 > /dev/null)" ]; else echo 'manual: no man is here to read the page'; fi
+if type -P man > /dev/null; then
+  row 'the man page' [ -z "$(man --warnings -l manual/mctower.1 2>&1 > /dev/null)" ]
+else
+  echo 'manual: no man is here to read the page'
+fi
 if type -P zsh > /dev/null; then row 'zsh' zsh -n manual/_mctower; else echo 'manual: no zsh is here to read its completion'; fi
 echo "manual: $passed passed, $failed failed"
 [ "$failed" = 0 ]

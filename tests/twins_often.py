@@ -4,9 +4,9 @@ neither a line nor a language, and none with the tower.
 
     tests/twins_often.py PLAIN_TOWER [COUNT] [FIRST] [large]
 
-PLAIN_TOWER is the built tests/plain_tower.rs; with the word `large` the plans are up to the limits. Compares trace text and state lines at the end of each plan's schedule; the last line
-counts the plans, those in which a close took effect, those with a message of several words, and how often each kind of effect came. The
-status is 1 where one differs, or where none had a close, or a message of several words.
+PLAIN_TOWER is the built tests/plain_tower.rs; with the word `large` the plans are up to the limits. Compares trace text and state lines at
+the end of each plan's schedule; the last line counts the plans, those in which a close took effect, those with a message of several words,
+and how often each kind of effect came. The status is 1 where one differs, or where none had a close, or a message of several words.
 """
 import argparse
 import collections

@@ -10,25 +10,26 @@ A wrong body is a file in the form of a must-fail edit, with a line before it th
     old: self.registers[register.number()]
     new: self.registers[0]
 
-Bodies of different functions are tried in ONE check of a copy of the crate: each round tries all bodies that are open, one a function. A body counts as refused
-only where its own function gets a line `not proved` or `no proof: ..`. Where that line names a callee that is not proved either, it counts only if a goal of the
-function's own is open too: the line names it, or an error stands in the function's own folder of proofs. A failed callee alone does not count: such a body stays
-open for the next round. After a round that judged none, the first open body is tried alone. What is still proved then fails by name. So does an edit that cannot be
-applied, names no function, or ends in no verdict, as for want of memory. A body is weak where no goal is open and a proof file alone no longer fits its shape, as
-where it names what the edit took away: it counts as refused, and is told once more at the end, since no clause may stand against it.
+Bodies of different functions are tried in ONE check of a copy of the crate: each round tries all bodies that are open, one a function. A body counts as
+refused only where its own function gets a line `not proved` or `no proof: ..`. Where that line names a callee that is not proved either, it counts only if a
+goal of the function's own is open too: the line names it, or an error stands in the function's own folder of proofs. A failed callee alone does not count:
+such a body stays open for the next round. After a round that judged none, the first open body is tried alone. What is still proved then fails by name. So
+does an edit that cannot be applied, names no function, or ends in no verdict, as for want of memory. A body is weak where no goal is open and a proof file
+alone no longer fits its shape, as where it names what the edit took away: it counts as refused, and is told once more at the end, since no clause may stand
+against it.
 
 A body that a type refuses does not compile. Its file says so in its first line, with words of the compiler's error:
 
     refused: field `refused` of struct `NoMemory` is private
 
-Such bodies of one crate stand side by side in one check, and again those that another's error hid. One counts as refused only where an error with these words stands
-on the very line that it changes; a body that compiles, or that the compiler refuses by other words, has failed. The last lines count them apart.
+Such bodies of one crate stand side by side in one check, and again those that another's error hid. One counts as refused only where an error with these words
+stands on the very line that it changes; a body that compiles, or that the compiler refuses by other words, has failed. The last lines count them apart.
 
-What was refused is kept on this machine, in the folder mctower-wrong-bodies of the user's cache ($XDG_CACHE_HOME, else ~/.cache), by sums alone: for each body one of
-the kit's logic, of the crate's text, of the contracts and definitions of all beneath it, and of the body itself. Comments do not count, nor how imports are laid
-out, nor the bodies of other files' functions: a proof reads the contract of what it calls. A body whose sum stands there is not tried again; --all tries it all the
-same. This script alone writes there. --after-ci takes the libraries as `rt ci` left them, and takes the crates as proved; without it the libraries are built first,
-and each function has to be proved as it stands. The last line is 'N passed, M failed'.
+What was refused is kept on this machine, in the folder mctower-wrong-bodies of the user's cache ($XDG_CACHE_HOME, else ~/.cache), by sums alone: for each
+body one of the kit's logic, of the crate's text, of the contracts and definitions of all beneath it, and of the body itself. Comments do not count, nor how
+imports are laid out, nor the bodies of other files' functions: a proof reads the contract of what it calls. A body whose sum stands there is not tried again;
+--all tries it all the same. This script alone writes there. --after-ci takes the libraries as `rt ci` left them, and takes the crates as proved; without it
+the libraries are built first, and each function has to be proved as it stands. The last line is 'N passed, M failed'.
 """
 import argparse
 import dataclasses
@@ -58,8 +59,8 @@ OF_A_CALLEE = re.compile(r"it calls|it passes|a call of")
 # The first words of a line that callers read.
 HEAD = re.compile(r"\s*(pub|fn|impl|trait|struct|enum|use|ghost|where|requires|ensures|\) ->)\b|\s*\) ->")
 OWN_GOAL = re.compile(r"`?search`? did not prove `[^`]+`")
-# An error in a proof file: its path behind proofs/, and its words; those words that only say that the file no longer fits the body's shape: it names what the edit
-# took away, or lacks a case that the edit brought; and a goal of a source line that the prover found open.
+# An error in a proof file: its path behind proofs/, and its words; those words that only say that the file no longer fits the body's shape: it names what
+# the edit took away, or lacks a case that the edit brought; and a goal of a source line that the prover found open.
 PROOF_ERROR = re.compile(r"(?:note: )?(?:\./)?proofs/(\S+?):\d+:\d+: error: (.*)")
 STALE = re.compile(r"has no |is not in scope|was not admitted|write the case|no case of the `elim` covers|which was rejected|holds no|is not a case")
 OPEN_GOAL = re.compile(r"(?:note: )?(?:\./)?src/\S+:\d+:\d+: .*(is not proved|may be false|does not prove|error)")
@@ -93,7 +94,8 @@ def whole(lines):
 
 @dataclasses.dataclass
 class Body:
-    """One wrong body: where it stands, the function that it turns, its pairs of a file, an old text and a new one, and the compiler's words, if it must not compile."""
+    """One wrong body: where it stands, the function that it turns, its pairs of a file, an old text and a new one, and, if it must not compile, the
+    compiler's words."""
 
     crate: str
     file: str
@@ -266,7 +268,9 @@ class Trial:
         bad = self.unusable(lines, texts)
         if bad and len(bodies) > 1:
             named = [it for it in bodies if f"`{it.function}`" in bad and "has no function" in bad]
-            for part in ([[it] for it in named] + [[it for it in bodies if it not in named]]) if named else (bodies[: len(bodies) // 2], bodies[len(bodies) // 2 :]):
+            half = len(bodies) // 2
+            parts = [[it] for it in named] + [[it for it in bodies if it not in named]] if named else [bodies[:half], bodies[half:]]
+            for part in parts:
                 if part:
                     self.round(part)
         elif bad:
@@ -305,7 +309,8 @@ class Trial:
             body.end("NOT REFUSED: the function is still proved" if said.startswith("proved") else f"no verdict: {said[:160]}", True)
 
     def errors_of(self, body, lines):
-        """Returns the words of each error in the own folder of proofs of the body's function: a check prints those of all functions before its first verdict."""
+        """Returns the words of each error in the own folder of proofs of the body's function: a check prints those of all functions before its first
+        verdict."""
         folder = f"{body.function.replace('::', '/')}/"
         found = filter(None, map(PROOF_ERROR.match, whole(lines)))
         return [it[2] for it in found if it[1].startswith(folder)]
@@ -410,7 +415,8 @@ def bodies_of(crate, folder):
 
 
 def try_crate(lib, crate, bodies, after_ci, jobs=1, judged=lambda: None):
-    """Tries the wrong bodies of a crate whose libraries stand, with so many jobs a check, calls `judged` after each round, and returns how many checks that took."""
+    """Tries the wrong bodies of a crate whose libraries stand, with so many jobs a check, calls `judged` after each round, and returns how many checks
+    that took."""
     with tempfile.TemporaryDirectory(prefix="wrong-bodies-") as room:
         trial = Trial(lib, crate, bodies, after_ci, jobs, room, judged)
         trial.run()
@@ -503,8 +509,8 @@ def lost_names():
 
 
 def self_test(lib):
-    """Tries the edits of tests/wrong-bodies/, of which those that are named fails_* have to fail, each for its own reason, and the others to be refused. Each edit
-    that docs/spec/wrong-bodies.md names has to stand."""
+    """Tries the edits of tests/wrong-bodies/, of which those that are named fails_* have to fail, each for its own reason, and the others to be refused.
+    Each edit that docs/spec/wrong-bodies.md names has to stand."""
     crate = next(it for it in lib.crates_below(ROOT) if it.name == "shared_queue")
     bodies = bodies_of(crate, f"{ROOT}/tests/wrong-bodies")
     build_beneath(lib, [crate], True)

@@ -58,7 +58,8 @@ def shown(text):
 def man_page(told):
     title = told.program.split("\n")[0].removeprefix("mctower: ").rstrip(".")
     version = f"mctower {told.version}" if told.version else "mctower"
-    parts = [f'.\\" Made by tools/manual.py from the text of the help.\n.TH MCTOWER 1 "" "{version}"\n.SH NAME\nmctower \\- {title[0].lower()}{title[1:]}\n.SH SYNOPSIS\n.nf']
+    parts = ['.\\" Made by tools/manual.py from the text of the help.', f'.TH MCTOWER 1 "" "{version}"',
+             f'.SH NAME\nmctower \\- {title[0].lower()}{title[1:]}\n.SH SYNOPSIS\n.nf']
     parts += [shown(told.usage(command)) for command in told.commands]
     parts.append(f".fi\n.SH DESCRIPTION\n.nf\n{shown(told.program)}\n.fi\n.SH COMMANDS")
     parts += [f".SS {command}\n.nf\n{shown(text)}\n.fi" for command, text in told.commands.items()]

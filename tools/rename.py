@@ -9,7 +9,8 @@ not in `berths`, and `~Berth` in `IsBerth`. A whole name goes before a word of o
 if it cannot be prose: with `_` or a second capital in it, or between backticks. Paths behind `new` limit the line to the files whose paths begin with one
 of them (`doing under_way crates/cpu/ crates/mctower/src/main.rt`); such a line goes before one of all files.
 
-Without --apply it changes nothing. It prints each new name that stands already, which would make two names one, and each line of prose that still says an old word.
+Without --apply it changes nothing. It prints each new name that stands already, which would make two names one, and each line of prose that
+still says an old word.
 """
 import argparse
 import collections
@@ -103,7 +104,12 @@ def new_path(table, path):
     parts = path.split("/")
     if parts[0] != "crates" or path.endswith(".edit"):
         return path
-    return "/".join(parts[:2] + [NAME.sub(lambda it: table.of(it[0]), it) if "." not in it else table.of(it.split(".")[0]) + it[it.index(".") :] for it in parts[2:]])
+
+    def new(part):
+        name, point, rest = part.partition(".")
+        return f"{table.of(name)}.{rest}" if point else NAME.sub(lambda it: table.of(it[0]), part)
+
+    return "/".join([*parts[:2], *map(new, parts[2:])])
 
 
 def main():

@@ -35,7 +35,8 @@ CLAUSE = re.compile(rf"( *)({NAME})((?: [^=]*?)?) =( |$)")
 WORD = re.compile(rf"(?<![\w.'◌-])({NAME})(?![\w'])")
 COMMON = "use Rattle.std.proofs.Common.{"
 RELATIONS = "≡≢≤<⊥"
-VERBS = "Is Are Has Holds Agrees Allows Same May Fits Carries Remembers Ends Sound Stands Recorded Settled Runs Follows Leads All Grows Halts Keeps Told Goes Reached"
+VERBS = ("Is Are Has Holds Agrees Allows Same May Fits Carries Remembers Ends Sound Stands Recorded Settled Runs Follows Leads All Grows Halts Keeps Told "
+         "Goes Reached")
 HOLDS = re.compile(rf"({VERBS.replace(' ', '|')})([A-Z]|$)")
 RECORDS = {}  # the types of the fields of each record of the repository
 CONSTRUCTORS = {"true", "false", "zero", "inl", "inr", "tt", "refl", "suc"}

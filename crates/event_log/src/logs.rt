@@ -1,6 +1,7 @@
 //! A log of events with room for so many. Only `with_room` takes memory. No call waits.
 
-ghost use Rattle.std.specs.Prelude.{◌≡◌, ◌≤◌, ◌<◌, ◌++◌, ◌∷◌, ◌+◌, ◌↔◌, [], List, length, replicate, slice_get, vec_capacity, IfOk, IsOk, IsErr, OnOk, OnErr, option_map};
+ghost use Rattle.std.specs.Prelude.{◌≡◌, ◌≤◌, ◌<◌, ◌++◌, ◌∷◌, ◌+◌, ◌↔◌, [], List};
+ghost use Rattle.std.specs.Prelude.{length, replicate, slice_get, vec_capacity, IfOk, IsOk, IsErr, OnOk, OnErr, option_map};
 
 use crate::refusals::{LogFull, NoMemory};
 use std::alloc::Global;

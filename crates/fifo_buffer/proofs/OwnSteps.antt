@@ -327,7 +327,8 @@ module _ (opening : LockId → Option BufferLock) (past : List BufferSection) (c
       (λ w. vain_put opening past c t b lock is position m next) (λ w. tt) now.effect_is tt tt)
       (ap (λ x. effect_on c b (Inside (Edit (TryPut t m))) (λ side u. drawn opening (Buffer b) side u past) x) is
       ∙ ap (λ (v : Bool). if v then Some (entry_of c t b
-      (record { kind = effect_kind Senders lock.above; value = m; op = lock.above.effects; pos = drawn opening (Buffer b) Senders t past })) else None) next) refl
+      (record { kind = effect_kind Senders lock.above; value = m; op = lock.above.effects; pos = drawn opening (Buffer b) Senders t past })) else None) next)
+      refl
 
   take_step : (b : BufId) (v : Bool) → is_next Receivers t lock.above ≡ v → buffer_at opening past (Buffer b) ≡ Some lock
       → InCall opening past t (Recv b) None None Tries position effect
@@ -395,9 +396,11 @@ module _ (opening : LockId → Option BufferLock) (past : List BufferSection) (c
       → section_at t call Signals ≡ Inside (SignalFront t far) → InCall opening past t call None None Signals position effect
       → Stepped opening past c t call Signals position effect (Did (answer.Signalled far front))
   signals_step call far front is same now = silent call Signals _
-      (within _ _ _ _ refl (subst (λ e. Stance opening (section c (Buffer (buffer_of call)) e ∷ past) t (buffer_of call) (side_of call) true false false position) (sym same) (same_there opening past c t (buffer_of call) (side_of call) lock is true false position far now.stance))
+      (within _ _ _ _ refl (subst (λ e. Stance opening (section c (Buffer (buffer_of call)) e ∷ past) t (buffer_of call) (side_of call) true false false
+      position) (sym same) (same_there opening past c t (buffer_of call) (side_of call) lock is true false position far now.stance))
       (λ w. absurd cc) (λ w. absurd cc) now.effect_is tt tt)
-      (ap (λ e. effect_of opening past (section c (Buffer (buffer_of call)) e)) same ∙ no_effect_here (buffer_of call) (Inside (SignalFront t far)) is refl) refl
+      (ap (λ e. effect_of opening past (section c (Buffer (buffer_of call)) e)) same
+      ∙ no_effect_here (buffer_of call) (Inside (SignalFront t far)) is refl) refl
 
   signals_own_step : (call : Call) (front : Option Tid) → buffer_at opening past (Buffer (buffer_of call)) ≡ Some lock
       → InCall opening past t call None None SignalsOwn position effect

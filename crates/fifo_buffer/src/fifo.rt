@@ -1,11 +1,11 @@
 //! First-in first-out buffers.
 
 ghost use Rattle.std.specs.Prelude.{◌≡◌, ◌<◌, [], Bool, Some, None, IsSome, refl, slice_set, if◌then◌else◌};
-ghost use Rattle.event_log.specs.declared.ids.{LockId.TheVariants.Buffer, TheConstants.THREADS};
-ghost use Rattle.layer_traits.specs.BufferLaw.{answer_in, buffer_of, buffering, going, plan_of, replied, call_state_of};
-ghost use Rattle.layer_traits.specs.{BufferProtocol.buffer_rules, Framed.Framed, QLocking.lock_moves, QLocking.lock_rules, QLockLaw.is_handed, QLockLaw.slept_for};
-ghost use Rattle.layer_traits.specs.{Plans.Follows, Plans.table_of, QueueBlocks.homes_in, QueueBlocks.inner, QueueRules.queue_rules, Queues.buffer_sections};
-ghost use Rattle.fifo_buffer.specs.SectionPolls.{MayPollSection, Sizes, SectionPolled, calling_after, is_at_once, reply_at};
+ghost use Rattle.{event_log.specs.declared.ids.{LockId.TheVariants.Buffer, TheConstants.THREADS}, layer_traits.specs.BufferLaw.{answer_in, buffer_of}};
+ghost use Rattle.layer_traits.specs.{BufferLaw.{buffering, going, plan_of, replied, call_state_of}, BufferProtocol.buffer_rules, Framed.Framed};
+ghost use Rattle.layer_traits.specs.{QLocking.{lock_moves, lock_rules}, QLockLaw.{is_handed, slept_for}, Plans.{Follows, table_of}, QueueBlocks.homes_in};
+ghost use Rattle.{layer_traits.specs.{QueueBlocks.inner, QueueRules.queue_rules, Queues.buffer_sections}, fifo_buffer.specs.SectionPolls.MayPollSection};
+ghost use Rattle.fifo_buffer.specs.SectionPolls.{Sizes, SectionPolled, calling_after, is_at_once, reply_at};
 
 use crate::call_state_table::CallStates;
 use crate::sections::{answers_at_once, reply, section};
@@ -48,16 +48,19 @@ impl<C: ThreadLayer<CvLaw<BufferEdit>>> Fifo<C> {
         requires buffer { IsSome (C.opening m.old (Buffer (buffer_of call.now))) }
         requires room { 0 < C.room m.old }
         requires sizes { Sizes (C.own self.old.lower) self.old.call_states.call_states }
-        requires may { MayPollSection (inner (C.opening m.old)) (buffer_sections (C.seen m.old)) t call.now (going (call_state_of self.old.call_states.call_states t) call.now)
+        requires may { MayPollSection (inner (C.opening m.old)) (buffer_sections (C.seen m.old)) t call.now
+            (going (call_state_of self.old.call_states.call_states t) call.now)
             (C.own self.old.lower)
             (C.under_way self.old.lower) }
-        ensures section_polled { SectionPolled (homes_in (C.opening m.old)) (λ c. C.ActsFor m.old c) (inner (C.opening m.old)) (C.cpu_of self.old.lower) t call.now
+        ensures section_polled { SectionPolled (homes_in (C.opening m.old)) (λ c. C.ActsFor m.old c) (inner (C.opening m.old))
+            (C.cpu_of self.old.lower) t call.now
             (going (call_state_of self.old.call_states.call_states t) call.now) (C.seen m.old) (C.seen m.new) (C.own self.old.lower) (C.own self.new.lower)
             (C.under_way self.new.lower) result.ended
             (call_state_of self.new.call_states.call_states t) }
         ensures at_once { result.at_once ≡ is_at_once stage
             (is_handed (C.own self.old.lower).lock.slept (C.own self.old.lower).lock.sleep.threads.current) }
-        ensures call_states { self.new.call_states.call_states ≡ slice_set self.old.call_states.call_states t.0 (call_state_of self.new.call_states.call_states t) }
+        ensures call_states { self.new.call_states.call_states
+            ≡ slice_set self.old.call_states.call_states t.0 (call_state_of self.new.call_states.call_states t) }
         ensures calling { self.new.calling ≡ self.old.calling }
         ensures woken { IsSome (slept_for (C.own self.old.lower).waits t) → m.new ≡ m.old }
         ensures handed { IsSome (slept_for (C.own self.old.lower).lock.slept t) → m.new ≡ m.old }
@@ -129,7 +132,8 @@ impl<C: ThreadLayer<CvLaw<BufferEdit>>> CallLayer<BufferLaw> for Fifo<C> {
 
     ghost moves = { λ m. moves_in (lock_kernel (cv_rules buffer_monitor_rules) (C.opening m)) (C.seen m) };
 
-    ghost wait_lists = { λ m b line. wait_list_in line (lock_after (cv_rules buffer_monitor_rules) (inner (C.opening m)) (Buffer b) (buffer_sections (C.seen m))) };
+    ghost wait_lists = { λ m b line. wait_list_in line
+        (lock_after (cv_rules buffer_monitor_rules) (inner (C.opening m)) (Buffer b) (buffer_sections (C.seen m))) };
 
     ghost ActsFor = { λ m c. C.ActsFor m c × BootsSo (C.opening m) };
 

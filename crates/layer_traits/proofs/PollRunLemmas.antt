@@ -7,7 +7,8 @@ use Rattle.layer_traits.specs.{BufferLaw.{call_state_of, going, going_at, still_
 use Rattle.layer_traits.specs.{Places.Threads, PollRuns.{once, again, looks}}
 
 -- a call that has begun goes on as it is
-going_begun_at : (stage : Stage) (call_state : CallState) (call : Call) → begun_at stage call_state.call ≡ Some call → going_at stage call_state call ≡ call_state
+going_begun_at : (stage : Stage) (call_state : CallState) (call : Call) → begun_at stage call_state.call ≡ Some call
+    → going_at stage call_state call ≡ call_state
 going_begun_at stage call_state call is = grind (arith, is)
 
 begun_is_at : (stage : Stage) (call_state : CallState) (call : Call) → begun_at stage call_state.call ≡ Some call → call_state.call ≡ Some call
@@ -146,7 +147,8 @@ module _ {P L M : Type 0} (I : Ghosts P L M) (plan : ℕ → List CpuId → CpuI
   left p m _ q n (quiet_yet {k = k} some run quiet) = let k = kept p m k q n None run in (k.room, k.caps)
 
   -- one more poll, and one more look
-  pub one_more : (p : P) (m : M) (actions : ℕ) (q : P) (n : M) (r : P) (o : M) (told : Option ReplyKind) → SoFar p m actions q n → PolledAt I plan t call q n r o told
+  pub one_more : (p : P) (m : M) (actions : ℕ) (q : P) (n : M) (r : P) (o : M) (told : Option ReplyKind) → SoFar p m actions q n
+      → PolledAt I plan t call q n r o told
       → PolledOnAt I plan t call p m (actions + 1) r o told
   one_more p m _ _ _ r o told nothing_yet polled = once polled
   one_more p m _ q n r o told (quiet_yet some run quiet) polled = again run quiet polled
@@ -156,7 +158,8 @@ module _ {P L M : Type 0} (I : Ghosts P L M) (plan : ℕ → List CpuId → CpuI
   one_look p m _ _ _ r o nothing_yet some looked = absurd (omega arith)
   one_look p m _ q n r o (quiet_yet some run quiet) more looked = looks run quiet looked
 
-  pub quiet_after_look : (p : P) (m : M) (actions : ℕ) (q : P) (n : M) (r : P) (o : M) → SoFar p m actions q n → 0 < actions → LookedAt I plan q n r o → IsQuietAt I plan t call p r
+  pub quiet_after_look : (p : P) (m : M) (actions : ℕ) (q : P) (n : M) (r : P) (o : M) → SoFar p m actions q n → 0 < actions → LookedAt I plan q n r o
+      → IsQuietAt I plan t call p r
   quiet_after_look p m _ _ _ r o nothing_yet some looked = absurd (omega arith)
   quiet_after_look p m _ q n r o (quiet_yet some run quiet) more looked = record {
     runs = ap (λ (u : Threads). u.current) looked.threads ∙ quiet.runs;
@@ -180,6 +183,7 @@ module _ {P L M : Type 0} (I : Ghosts P L M) (plan : ℕ → List CpuId → CpuI
       let before = same_effect p m actions q n so_far in
       record {
         runs = still_runs t (I.threads r).current ((polled.runs found).current) runs;
-        effect = effect_kept call (going (call_state_of (I.call_states q) t) call).effect (call_state_of (I.call_states r) t).effect called.mine called.fresh called.stays
+        effect = effect_kept call (going (call_state_of (I.call_states q) t) call).effect
+            (call_state_of (I.call_states r) t).effect called.mine called.fresh called.stays
             (same ∙ ap (λ (f : Option Effect). is_some f) (sym before)) ∙ before;
       }

@@ -21,5 +21,6 @@ module _ {P L M : Type 0} (I : Ghosts P L M) (plan : ℕ → List CpuId → CpuI
 
   -- and so did so many polls and looks of this call
   abbrev pub PolledOnAt : Tid → Call → P → M → ℕ → P → M → Option ReplyKind → Type 0
-  PolledOnAt = PolledOn I.Fits I.cpu_of I.opening I.site I.room I.ActsFor I.MayHold I.threads I.call_states I.own I.is_inside I.under_way I.caps I.homes_of I.seen
+  PolledOnAt = PolledOn I.Fits I.cpu_of I.opening I.site I.room I.ActsFor I.MayHold I.threads I.call_states I.own I.is_inside I.under_way I.caps
+      I.homes_of I.seen
       I.moves I.acts I.IsWhole I.IsStepwise plan

@@ -55,5 +55,6 @@ module _ {P M : Type 0} (Fits : P → M → Type 0) (cpu_of : P → CpuId) (open
     -- kind: after each but the last the call was quiet
     pub data PolledOn (p : P) (m : M) : (actions : ℕ) → P → M → (told : Option ReplyKind) → Type 0 where
       once : {q : P} {n : M} {told : Option ReplyKind} → Polled p m q n told → PolledOn p m 1 q n told
-      again : {k : ℕ} {q r : P} {n o : M} {told : Option ReplyKind} → PolledOn p m k q n None → IsQuiet p q → Polled q n r o told → PolledOn p m (k + 1) r o told
+      again : {k : ℕ} {q r : P} {n o : M} {told : Option ReplyKind} → PolledOn p m k q n None → IsQuiet p q → Polled q n r o told
+          → PolledOn p m (k + 1) r o told
       looks : {k : ℕ} {q r : P} {n o : M} → PolledOn p m k q n None → IsQuiet p q → Looked q n r o → PolledOn p m (k + 1) r o None

@@ -73,7 +73,8 @@ impl<G: Guarded> Law for CvLaw<G> {
 
     ghost IsThere = { λ opening call payload. IsSome (opening (Buffer call.buffer)) };
 
-    ghost IsLocal = { λ own call payload. IsSome (slept_for own.waits (lock_caller (cv_rules G.monitor_rules) (lock_meant (cv_meant G.meant) call.edit payload.parcel)))
+    ghost IsLocal = { λ own call payload.
+        IsSome (slept_for own.waits (lock_caller (cv_rules G.monitor_rules) (lock_meant (cv_meant G.meant) call.edit payload.parcel)))
         ⊎ IsSome (slept_for own.lock.slept (lock_caller (cv_rules G.monitor_rules) (lock_meant (cv_meant G.meant) call.edit payload.parcel))) };
 
     ghost AreHomes = { λ homes. length homes ≤ THREADS };
@@ -92,7 +93,8 @@ impl<G: Guarded> Law for CvLaw<G> {
         (slept_for own.waits (lock_caller (cv_rules G.monitor_rules) (lock_meant (cv_meant G.meant) call.edit payload.parcel)))
         old new own begun (record { own = own'; answer = told }) };
 
-    ghost IsPrompt = { λ call payload result own own'. result ≡ None → MustStay (lock_caller (cv_rules G.monitor_rules) (lock_meant (cv_meant G.meant) call.edit payload.parcel))
+    ghost IsPrompt = { λ call payload result own own'. result ≡ None
+        → MustStay (lock_caller (cv_rules G.monitor_rules) (lock_meant (cv_meant G.meant) call.edit payload.parcel))
         call.buffer own own' };
 
     ghost table = { table_of (queue_rules (lock_rules (cv_rules G.monitor_rules)) (lock_moves (cv_rules G.monitor_rules))) };

@@ -99,7 +99,8 @@ impl<F: Locked> Law for QLockLaw<F> {
         call.buffer (lock_meant F.meant call.edit payload.parcel) (slept_for own.slept (lock_caller F.rules (lock_meant F.meant call.edit payload.parcel)))
         old new own begun (record { own = own'; answer = told }) };
 
-    ghost IsPrompt = { λ call payload result own own'. result ≡ None → MustWait (lock_caller F.rules (lock_meant F.meant call.edit payload.parcel)) call.buffer own own' };
+    ghost IsPrompt = { λ call payload result own own'. result ≡ None
+        → MustWait (lock_caller F.rules (lock_meant F.meant call.edit payload.parcel)) call.buffer own own' };
 
     ghost table = { table_of (queue_rules (lock_rules F.rules) (lock_moves F.rules)) };
 

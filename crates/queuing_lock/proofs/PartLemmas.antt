@@ -197,7 +197,8 @@ module _ {F R B O : Type 0} (rules : LockRules F R B O) (opening : LockId → Op
     (acts acts' : List (Action (QueueEdit (QLockEdit F R)))) where
   -- a poll followed a plan beneath
   abbrev pub FollowsBeneath : {S A : Type 0} → Plan (QueueEdit (QLockEdit F R)) (QueueAnswer (Outcome (QOut O))) S A → Left S A → Type 0
-  FollowsBeneath plan got = Follows ActsFor (table_of (queue_rules (sleep_rules (busy_rules rules)) (sleep_moves (busy_rules rules)))) opening c plan acts acts' got
+  FollowsBeneath plan got
+      = Follows ActsFor (table_of (queue_rules (sleep_rules (busy_rules rules)) (sleep_moves (busy_rules rules)))) opening c plan acts acts' got
 
   -- a poll followed a plan here
   abbrev pub FollowsHere : {S A : Type 0} → Plan (QueueEdit (QEdit F R)) (QueueAnswer (Outcome (QOut O))) S A → Left S A → Type 0

@@ -168,7 +168,8 @@ module _ {F R B O : Type 0} (rules : LockRules F R B O) (opening : LockId → Op
 
 -- A pass does no section, so nothing changes of who owns and who sleeps.
 
-module _ {F R B O : Type 0} (rules : LockRules F R B O) (opening : LockId → Option (QueueBlock (LockState B))) (by : CpuId) (past : List (QueueEvent (QEdit F R))) where
+module _ {F R B O : Type 0} (rules : LockRules F R B O) (opening : LockId → Option (QueueBlock (LockState B))) (by : CpuId)
+    (past : List (QueueEvent (QEdit F R))) where
   -- the history with the pass, if it is done
   abbrev with_pass : Bool → PassCall → List (QueueEvent (QEdit F R))
   with_pass done p = if done then events_of by (queue_call (homes_in opening) by (call.Pass p)) ++ past else past

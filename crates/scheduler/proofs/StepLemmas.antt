@@ -313,7 +313,8 @@ module _ {E B O : Type 0} (rules : Rules E B O) (mv : MoveRules E O) (opening : 
   -- Other CPUs' parts.
 
   -- what others do keeps a part in agreement with the machine
-  grown_fits : {d below : CpuId} {table : List CpuId} {under : Option (QueueEvent E)} {past : List (QueueEvent E)} {own : Threads} (more new : List (QueueEvent E))
+  grown_fits : {d below : CpuId} {table : List CpuId} {under : Option (QueueEvent E)} {past : List (QueueEvent E)} {own : Threads}
+      (more new : List (QueueEvent E))
       → AreOthers cpu_of_queue_event d more → new ≡ more ++ past → Lawful new → PartFits rules mv opening d below table under past own
       → PartFits rules mv opening d below table under new own
   grown_fits {d} {past = past} {own = own} more new others is legal fits = record {
@@ -339,4 +340,5 @@ module _ {E B O : Type 0} (rules : Rules E B O) (mv : MoveRules E O) (opening : 
       {past new : List (QueueEvent E)} {own : Threads} → Grows ActsFor cpu_of_queue_event past new → ActsFor d → Lawful new → below' ≡ below → under' ≡ under
       → PartFits rules mv opening d below table under past own → PartFits rules mv opening d below' table under' new own
   looked_fits {d = d} {table = table} {new = new} {own = own} grows acts legal same goes fits =
-      subst₂ (λ x u. PartFits rules mv opening d x table u new own) (sym same) (sym goes) (grown_fits grows.others new (grows.foreign d acts) grows.is legal fits)
+      subst₂ (λ x u. PartFits rules mv opening d x table u new own) (sym same) (sym goes)
+      (grown_fits grows.others new (grows.foreign d acts) grows.is legal fits)

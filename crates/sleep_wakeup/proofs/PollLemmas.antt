@@ -110,7 +110,8 @@ module _ {E B O : Type 0} (rules : SleepRules E B O) (opening : LockId → Optio
         → HandDefers hand (outcome_in deferred) → SchedPolled (beneath rules opening) ActsFor c (due hand b (as_edit e)) answer old new threads threads'
         → SleepPolled (here rules opening) ActsFor c b e (renamed_events edit_in old) (renamed_events edit_in new) (own_of deferred threads)
         (left_reported (outcome_in deferred) threads' answer)
-    nested_sleeps b e deferred hand is fits polled = sleep_polled _ b e _ _ _ _ (own_of deferred threads) threads' hand (outcome_in deferred) answer (sym is) refl
+    nested_sleeps b e deferred hand is fits polled
+        = sleep_polled _ b e _ _ _ _ (own_of deferred threads) threads' hand (outcome_in deferred) answer (sym is) refl
         fits (subst (λ s. Polled s answer) (due_renamed hand b e) (nested_polled (due hand b (as_edit e)) polled))
 
     -- the poll of a call that is passed on is one here

@@ -20,7 +20,8 @@ pub record Settled {E B O : Type 0} (R : Rules E B O) (table_view : TableView B)
   pub keys : (i : ℕ) (seat_view : SeatView E B) → slice_get seat_views i ≡ Some seat_view → IsIn log seat_view
   pub rest : (c : CpuId) → table_view.cpus ≤ c.0 → own_events cpu_of_event c log ≡ []
   pub blocks : (i : ℕ) (o : LockId × B) → slice_get table_view.start i ≡ Some o
-      → (y : Home E B) × (b : B) × (get_elem? homes i ≡ some y) × (y.block ≡ Some b) × (block_after R.edited (opened table_view.start) o.0 (sections log) ≡ Some b)
+      → (y : Home E B) × (b : B) × (get_elem? homes i ≡ some y) × (y.block ≡ Some b)
+      × (block_after R.edited (opened table_view.start) o.0 (sections log) ≡ Some b)
 
 module _ {E B O : Type 0} (R : Rules E B O) where
   -- where all keys are in, no CPU is inside a lock, and each block is at home
@@ -110,7 +111,8 @@ module _ {E B O : Type 0} (R : Rules E B O) where
   }
 
   -- each slot has a block
-  pub all_blocks : (table_view : TableView B) (seat_views : List (SeatView E B)) (homes : List (Home E B)) (locks : List LockId) → Settled R table_view seat_views homes
+  pub all_blocks : (table_view : TableView B) (seat_views : List (SeatView E B)) (homes : List (Home E B)) (locks : List LockId)
+      → Settled R table_view seat_views homes
       → locks ≡ map (λ (o : LockId × B). o.0) table_view.start
       → (i : ℕ) → i < length locks → (y : Home E B) × (get_elem? homes i ≡ some y) × IsSome y.block
   all_blocks table_view seat_views homes locks settled locks_are i below =

@@ -43,7 +43,10 @@ key_send E B O H A g s = view_send _ _ _ _ _ (declared_send (key_inside.the_type
 pub shared_sync : (E K B O H A : RattleType) (g : _) (k : _) → IsSend B → IsSync B → IsSync (shared.the_row E K B O H A g k)
 shared_sync E K B O H A g k s y = view_sync _ _ _ _ _ (declared_sync (shared_inside.the_type E K B O H A g k) (
   search (table_crosses.the_sync, slot_send, heap.send, heap.sync, heap.frees),
-  (search (sendable, heap.Vec-sync), (search (sendable, heap.Vec-sync, lock_crosses.the_sync), (search (sendable, heap.Vec-sync, lock_crosses.the_sync) depth 9, tt))),
+  (
+    search (sendable, heap.Vec-sync),
+    (search (sendable, heap.Vec-sync, lock_crosses.the_sync), (search (sendable, heap.Vec-sync, lock_crosses.the_sync) depth 9, tt)),
+  ),
 ))
 
 -- and a seat at it goes from thread to thread

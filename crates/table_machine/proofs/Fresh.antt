@@ -9,7 +9,8 @@ use native.Mathlib.Decide.{ℕ_discrete}
 
 pub length_new : (E : Type 0) {B : Type 0} (table_view : TableView B) (n : ℕ) → length (new_seat_views {E = E} table_view n) ≡ n
 length_new E table_view zero = refl
-length_new E table_view (suc n) = length-append (new_seat_views {E = E} table_view n) (new_seat_view table_view n ∷ []) ∙ omega (arith, length_new E table_view n)
+length_new E table_view (suc n)
+    = length-append (new_seat_views {E = E} table_view n) (new_seat_view table_view n ∷ []) ∙ omega (arith, length_new E table_view n)
 
 new_at : {E B : Type 0} (table_view : TableView B) (n k : ℕ) → k < n → slice_get (new_seat_views {E = E} table_view n) k ≡ Some (new_seat_view table_view k)
 new_at table_view zero k below = absurd (omega arith)

@@ -76,7 +76,8 @@ pub record IsIn {E B : Type 0} (log : List (Event (Mark E))) (seat_view : SeatVi
   pub whole : own_events cpu_of_event seat_view.cpu log ≡ own_events cpu_of_event seat_view.cpu seat_view.seen
 
 -- there is one legal log in which all seat views stand whole, with no other CPU's events; each block is the fold of its lock's sections
-pub record Closes {E B O : Type 0} (rules : Rules E B O) (table_view : TableView B) (seat_views : List (SeatView E B)) (blocks : List (LockId × B)) : Type 0 where
+pub record Closes {E B O : Type 0} (rules : Rules E B O) (table_view : TableView B) (seat_views : List (SeatView E B))
+    (blocks : List (LockId × B)) : Type 0 where
   pub log : List (Event (Mark E))
   pub legal : IsLawful (MayCome (rules.allowed (opened table_view.start))) log
   pub keys : (i : ℕ) (seat_view : SeatView E B) → slice_get seat_views i ≡ Some seat_view → IsIn log seat_view

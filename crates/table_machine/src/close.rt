@@ -60,7 +60,8 @@ impl<E: SplitEdit, K: TableWords> Shared<E, K> {
         requires over { IsOver self.now key }
         ensures table { seat.new.table_id ≡ self.now.table }
         ensures start { seat.new.me.0.start ≡ self.now.start }
-        ensures gathered { (seat_views : List _) → Gathered self.now.start seat.old.me.0 seat_views → Gathered self.now.start seat.new.me.0 (seat_views ++ key ∷ []) }
+        ensures gathered { (seat_views : List _) → Gathered self.now.start seat.old.me.0 seat_views
+            → Gathered self.now.start seat.new.me.0 (seat_views ++ key ∷ []) }
     {
         let Key {
             token,

@@ -188,7 +188,8 @@ module _ {P : Type 0} (watched : Watched P) (t : Tid) (home : CpuId) (home_is : 
   by_wait_lists : (b : BufId) (line : WaitList) → b.0 < n → where_is homes moves t ≡ Asleep (At (Buffer b) line) → Observed (Asleep (At (Buffer b) line))
   by_wait_lists b line within is = let stands = in_wait_list b line within is in
       by_told (Asleep (At (Buffer b) line)) (λ q. wait_lists_with q b) (wait_lists_at b) (wait_lists b) (waiters_law b within) (λ p silent. let quiet =
-      no_wait_list (option_and_then (wait_list_among t) (wait_lists_at b)) (option_and_then (wait_list_among t) (wait_lists_with p b)) (silent.wait_lists b within) in
+      no_wait_list (option_and_then (wait_list_among t) (wait_lists_at b)) (option_and_then (wait_list_among t) (wait_lists_with p b))
+      (silent.wait_lists b within) in
       (not_quiet t (wait_lists_at b) (wait_lists b) line stands quiet.0, not_quiet t (wait_lists_with p b) (wait_lists b) line stands quiet.1))
 
   asleep : (lock : LockId) (line : WaitList) → where_is homes moves t ≡ Asleep (At lock line) → Observed (Asleep (At lock line))

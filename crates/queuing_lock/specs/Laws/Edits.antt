@@ -55,7 +55,8 @@ module _ {F R B O : Type 0} (rules : LockRules F R B O) where
   edits_asked t None sleepers receivers senders above = refl
   edits_asked t (Some owner) sleepers receivers senders above = refl
 
-  edits_by : (e : QEdit F R) (a : SleepState (QBlock B)) → nested_lock_of (sleep_edited (busy_rules rules) (record { edit = e }) a) ≡ lock_edited rules e (nested_lock_of a)
+  edits_by : (e : QEdit F R) (a : SleepState (QBlock B)) → nested_lock_of (sleep_edited (busy_rules rules) (record { edit = e }) a)
+      ≡ lock_edited rules e (nested_lock_of a)
   edits_by (Acquire t) a = edits_asked t a.above.busy a.sleepers a.receivers a.senders a.above.above
   edits_by (Inside f) a =
       signal_leaves a.above.busy a.sleepers a.receivers a.senders (rules.edited f a.above.above) (rules.signals (rules.answer f a.above.above))
@@ -63,7 +64,8 @@ module _ {F R B O : Type 0} (rules : LockRules F R B O) where
       (rules.waits (rules.last_answer r a.above.above)) (rules.last_caller r)
 
   -- a section leaves the lock that the call leaves
-  pub edits : (d : QLockEdit F R) (a : SleepState (QBlock B)) → nested_lock_of (sleep_edited (busy_rules rules) d a) ≡ lock_edited rules (edit_in d) (nested_lock_of a)
+  pub edits : (d : QLockEdit F R) (a : SleepState (QBlock B)) → nested_lock_of (sleep_edited (busy_rules rules) d a)
+      ≡ lock_edited rules (edit_in d) (nested_lock_of a)
   edits d a = edits_by d.edit a
 
   answers_asked : (t : Tid) (busy : Option Tid) (sleepers receivers senders : List Tid) (above : B) →

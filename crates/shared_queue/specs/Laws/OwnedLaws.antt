@@ -62,5 +62,6 @@ module _ {P E B O : Type 0} (rules : Rules E B O) (mv : MoveRules E O) (opening 
       → IsObserved Fits cpu_of IsInside (λ p. option_and_then queue_in (here p)) (option_and_then queue_in home)
       (Some (pending_by (moves_in (kernel rules mv opening) (map event_of past)) d))
   queue_shown wakes d there here home shown = shown_read queue_in _ _
-      (can_read_queue d (opening (Pending d)) there (starts.kinds (Pending d)) _ _ (queue_block rules mv opening starts wakes d past lawful)) Fits cpu_of IsInside
+      (can_read_queue d (opening (Pending d)) there (starts.kinds (Pending d)) _ _ (queue_block rules mv opening starts wakes d past lawful))
+      Fits cpu_of IsInside
       here home shown

@@ -31,5 +31,6 @@ returns-clause-number c =
     let some : 0 < length text = grind (arith, nat_tests) in
     let value : c.leading_digits-count.result.1 ≡ digits_value 10 text =
     c.leading_digits-count.ensures.number ∙ ap (digits_value 10) (take_all c.leading_digits-count.result.0 text c.if-count-text.false) in
-    let spelled : IsSpelled text = digits_spelled text c.leading_digits-count.result.0 c.leading_digits-count.ensures.digits c.if-count-text.false some (lead c) in
+    let spelled : IsSpelled text
+    = digits_spelled text c.leading_digits-count.result.0 c.leading_digits-count.ensures.digits c.if-count-text.false some (lead c) in
     sym (number_to-spelled c.args.most text spelled (omega (arith, value, c.if-number-most.false)) ∙ ap Some (sym value))

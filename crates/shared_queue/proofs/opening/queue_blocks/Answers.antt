@@ -11,9 +11,11 @@ returns g c =
     let blocks = c.args.blocks.items in
     let homes = c.args.homes.now in
     let are = c.in_ok-locks.ensures.queues in
-    let none : length (into_iter_items c.loop-above.above-iterator) ≡ 0 = first_of (omega (arith, c.loop-above.above-iterator.rest.ok.0), grind (arith, common_steps), search rules) in
+    let none : length (into_iter_items c.loop-above.above-iterator) ≡ 0
+    = first_of (omega (arith, c.loop-above.above-iterator.rest.ok.0), grind (arith, common_steps), search rules) in
     let all : c.loop-above.locks.items ≡ locks.items ++ buffers_from 0 blocks
-    = all_there homes c.loop-above.number c.loop-above.locks.items (locks.items ++ buffers_from 0 blocks) (into_iter_items c.loop-above.above-iterator) none c.loop-above.invariant.0 in
+    = all_there homes c.loop-above.number c.loop-above.locks.items (locks.items ++ buffers_from 0 blocks)
+    (into_iter_items c.loop-above.above-iterator) none c.loop-above.invariant.0 in
     let count : length locks.items ≡ c.args.cpus = omega (arith, c.in_ok-locks.ensures.count, locks.ok.0) in
     let queues : AreQueues (length locks.items) homes (length blocks) = subst (λ n. AreQueues n homes (length blocks)) (sym count) c.requires in
     record {

@@ -46,7 +46,8 @@ returns-clause-section_polled g c =
     let size = c.requires.sizes.call_states_are in
     let told = told_by outcome_of c.poll-answer.result c.poll-answer.new.payload.parcel in
     let later : call_state_of c.record_answer-ended.new.self.call_states t ≡ recorded_if call_state call_state.stage told
-    = ap (λ call_states. call_state_of call_states t) (rw c.requires.stage at c.record_answer-ended.ensures.call_states) ∙ get_or-set_same c.args.self.now.call_states.call_states t.0
+    = ap (λ call_states. call_state_of call_states t) (rw c.requires.stage at c.record_answer-ended.ensures.call_states)
+    ∙ get_or-set_same c.args.self.now.call_states.call_states t.0
     (recorded_if call_state call_state.stage told) no_call (omega (arith, small, size)) in
     let edit_is = c.section-edit.ensures ∙ ap (section_at t call) c.requires.stage in
     let seen = rw (edit_is, c.buffer-buffer.ensures) at c.poll-answer.ensures.seen in

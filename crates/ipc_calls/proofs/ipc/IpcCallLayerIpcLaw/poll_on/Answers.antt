@@ -33,5 +33,6 @@ returns-then-buffer-self-clause-polled_on g c =
 pub returns-clause-polled_on : goal.returns-clause-polled_on
 returns-clause-polled_on g c =
     let within : c.buffer.result.0 < c.args.self.now.buffers = c.if-buffer-self.false in
-    ran_over g.B.CallLayer c.args.t c.args.call.now c.args.self.now c.args.self.now.lower c.args.m.now c.poll_on.result.actions c.poll_on.new.self c.poll_on.new.m
+    ran_over g.B.CallLayer c.args.t c.args.call.now c.args.self.now c.args.self.now.lower c.args.m.now c.poll_on.result.actions
+    c.poll_on.new.self c.poll_on.new.m
     c.poll_on.result.reply (rw (c.requires.fits.1.count_is, sym c.buffer.ensures) within) c.requires.fits.1 c.poll_on.ensures.polled_on

@@ -14,6 +14,7 @@ returns-clause-fits g c = λ m acts outside boots.
         there_viewed nested_lock_of (S.opening m) (Pending c.args.cpu) boots.2,
         nobody_beneath (S.opening m) boots.3,
       ),
-      slept_none g.F.Locked.rules (viewed nested_lock_of (S.opening m)) (S.cpu_of part) (renamed_events edit_in (S.seen m)) c.new.result.buffers THREADS c.new.ensures,
+      slept_none g.F.Locked.rules (viewed nested_lock_of (S.opening m)) (S.cpu_of part)
+          (renamed_events edit_in (S.seen m)) c.new.result.buffers THREADS c.new.ensures,
       fresh_deferred (S.under_way part) (S.own part).deferred (S.own part).threads.hand c.part.ensures.call (ap (λ o. o.deferred) c.part.ensures.own),
     )

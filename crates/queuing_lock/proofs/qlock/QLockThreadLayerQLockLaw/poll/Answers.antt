@@ -161,7 +161,8 @@ returns-in-None-clause-follows g c = λ step.
     let S = g.S.ThreadLayer in
     let p = (goal.at.returns-in-None-clause-follows g c).After-poll in
     let was = was g p in
-    locks_follow g.F.Locked.rules (S.opening c.args.m.now) (S.ActsFor c.args.m.now) was.c (S.acts c.args.m.now) (S.acts c.poll.new.m) was.own was.slept was.b was.e
+    locks_follow g.F.Locked.rules (S.opening c.args.m.now) (S.ActsFor c.args.m.now) was.c (S.acts c.args.m.now)
+    (S.acts c.poll.new.m) was.own was.slept was.b was.e
     (gave g p) (none was (awake g p.before)) _ (went_on g c) (c.poll.ensures.follows step)
 
 -- the section answers
@@ -179,8 +180,10 @@ module _ (g : Over) (c : After-complete g) where
   answers : locking (gave g p).own c.complete.new.self.buffers (option_map (told g p) c.complete.result)
       ≡ left_after (lock_caller rules (was g p).e) (was g p).b (was g p).slept (gave g p).own (gave g p).answer
   answers = (λ i. locking (gave g p).own (keeps i)
-      ((ap (option_map (told g p)) c.complete.ensures.complete ∙ reported_told g.F.Locked.told c.poll.new.payload.parcel c.in-Some.outcome.out c.in-Some.outcome) i))
-      ∙ (sym (reported_is (lock_caller rules (was g p).e) (was g p).b (was g p).slept (gave g p).own (told g p c.in-Some.outcome).out (told g p c.in-Some.outcome))
+      ((ap (option_map (told g p)) c.complete.ensures.complete
+      ∙ reported_told g.F.Locked.told c.poll.new.payload.parcel c.in-Some.outcome.out c.in-Some.outcome) i))
+      ∙ (sym (reported_is (lock_caller rules (was g p).e) (was g p).b (was g p).slept (gave g p).own (told g p c.in-Some.outcome).out
+      (told g p c.in-Some.outcome))
       ∙ λ i. left_after (lock_caller rules (was g p).e) (was g p).b (was g p).slept (gave g p).own (option_map (told g p) (sym c.in-Some.is i)))
 
 pub returns-in-Some-clause-framed : goal.returns-in-Some-clause-framed
@@ -217,5 +220,6 @@ returns-in-Some-clause-follows g c = λ step.
     let S = g.S.ThreadLayer in
     let p = p g c in
     let was = was g p in
-    locks_follow g.F.Locked.rules (S.opening c.args.m.now) (S.ActsFor c.args.m.now) was.c (S.acts c.args.m.now) (S.acts c.poll.new.m) was.own was.slept was.b was.e
+    locks_follow g.F.Locked.rules (S.opening c.args.m.now) (S.ActsFor c.args.m.now) was.c (S.acts c.args.m.now)
+    (S.acts c.poll.new.m) was.own was.slept was.b was.e
     (gave g p) (none was (awake g p.before)) _ (answers g c) (c.poll.ensures.follows step)

@@ -43,7 +43,8 @@ pass_locally-requires g c =
 pub poll-requires-clause-call : goal.poll-requires-clause-call
 poll-requires-clause-call g c =
     let at = goal.at.poll-requires-clause-call g c in
-    call_may _ _ _ g.met.E.Moves.wakes_sleepers (opens g at.Start) (lawful g at.Start) c.requires.fits.1 (call_of g at.Start) c.requires.call (step_of g at.In-Ok)
+    call_may _ _ _ g.met.E.Moves.wakes_sleepers (opens g at.Start) (lawful g at.Start) c.requires.fits.1 (call_of g at.Start) c.requires.call
+    (step_of g at.In-Ok)
     (is_shared g at.In-Ok)
 
 -- the poll beneath
@@ -71,14 +72,16 @@ module _ (g : Over) (c : After-poll g) where
       let apart : same_cpu (cpu_of self.lower) cpu ≡ false = ap (λ d. same_cpu d cpu) c.requires.fits.1.cpu
       ∙ ne_eqb self.cpu.0 cpu.0 (λ e. other (sym (ap cpu_numbered e))) in (
         said.framed.others lower (λ e. other (sym part.cpu ∙ (e ∙ c.requires.fits.1.cpu))) fits,
-        rw said.framed.stays.opening (other_fits _ _ _ g.met.E.Moves.wakes_sleepers (opens g at.Start) (ActsFor c.args.m.now) (cpu_of self.lower) cpu _ _ _ (step_of g at.In-Ok) answer
+        rw said.framed.stays.opening
+            (other_fits _ _ _ g.met.E.Moves.wakes_sleepers (opens g at.Start) (ActsFor c.args.m.now) (cpu_of self.lower) cpu _ _ _ (step_of g at.In-Ok) answer
             _ _ own acts apart said.seen (legal cpu acts) part),
       )
 
 pub take_answer-requires : goal.take_answer-requires
 take_answer-requires g c =
     let at = goal.at.take_answer-requires g c in
-    may_take _ _ _ g.met.E.Moves.wakes_sleepers (opens g at.Start) (lawful g at.Start) c.requires.fits.1 (call_of g at.Start) c.requires.call (step_of g at.In-Ok)
+    may_take _ _ _ g.met.E.Moves.wakes_sleepers (opens g at.Start) (lawful g at.Start) c.requires.fits.1 (call_of g at.Start) c.requires.call
+    (step_of g at.In-Ok)
     (is_shared g at.In-Ok) (acts g at.Start) c.in-Some.ensures.seen (legal g at.After-poll c.args.self.now.cpu (acts g at.Start))
 
 -- a call that touches nothing shared
@@ -101,7 +104,8 @@ returns-in-Err-clause-framed g c =
     record {
       fits = (
         c.requires.fits.0,
-        rw (passed g at.After-pass_locally) (local_fits _ _ _ g.met.E.Moves.wakes_sleepers (opens g at.Start) (lawful g at.Start) c.requires.fits.1 (call_of g at.Start) c.requires.call
+        rw (passed g at.After-pass_locally)
+            (local_fits _ _ _ g.met.E.Moves.wakes_sleepers (opens g at.Start) (lawful g at.Start) c.requires.fits.1 (call_of g at.Start) c.requires.call
             (is_local g at.In-Err)),
       );
       cpu = refl;
@@ -116,7 +120,8 @@ returns-in-Err-clause-seen g c =
     let Q = g.Q.Layer in
     let self = c.args.self.now in
     let m = c.args.m.now in
-    rw (passed g at.After-pass_locally) (local_polled _ _ _ g.met.E.Moves.wakes_sleepers (opens g at.Start) (lawful g at.Start) c.requires.fits.1 (call_of g at.Start) c.requires.call
+    rw (passed g at.After-pass_locally)
+    (local_polled _ _ _ g.met.E.Moves.wakes_sleepers (opens g at.Start) (lawful g at.Start) c.requires.fits.1 (call_of g at.Start) c.requires.call
     (is_local g at.In-Err) (Q.ActsFor m))
 
 -- a poll that waits
@@ -132,8 +137,10 @@ returns-in-None-clause-framed g c =
     record {
       fits = (
         said.framed.fits,
-        rw said.framed.stays.opening (waiting_fits _ _ _ g.met.E.Moves.wakes_sleepers (opens g at.Start) (lawful g at.Start) c.requires.fits.1 (call_of g at.Start) c.requires.call
-            (step_of g at.In-Ok) (is_shared g at.In-Ok) _ (acts g at.Start) (Q.seen n) said.seen (legal g at.After-poll self.cpu (acts g at.Start)) (Q.cpu_of part)
+        rw said.framed.stays.opening
+            (waiting_fits _ _ _ g.met.E.Moves.wakes_sleepers (opens g at.Start) (lawful g at.Start) c.requires.fits.1 (call_of g at.Start) c.requires.call
+            (step_of g at.In-Ok) (is_shared g at.In-Ok) _ (acts g at.Start) (Q.seen n) said.seen
+            (legal g at.After-poll self.cpu (acts g at.Start)) (Q.cpu_of part)
             (Q.under_way part) said.framed.cpu said.call),
       );
       cpu = refl;
@@ -159,7 +166,8 @@ returns-in-Some-clause-framed g c =
     record {
       fits = (
         said.framed.fits,
-        rw (said.framed.stays.opening, own) (done_fits _ _ _ g.met.E.Moves.wakes_sleepers (opens g at.Start) (lawful g at.Start) c.requires.fits.1 (call_of g at.Start) c.requires.call
+        rw (said.framed.stays.opening, own)
+            (done_fits _ _ _ g.met.E.Moves.wakes_sleepers (opens g at.Start) (lawful g at.Start) c.requires.fits.1 (call_of g at.Start) c.requires.call
             (step_of g at.In-Ok) (is_shared g at.In-Ok) (acts g at.Start) said.seen (legal g at.After-poll self.cpu (acts g at.Start)) (Q.cpu_of part)
             (Q.under_way part) said.framed.cpu said.call),
       );

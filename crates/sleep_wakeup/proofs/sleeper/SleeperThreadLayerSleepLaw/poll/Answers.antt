@@ -42,7 +42,8 @@ module _ (g : Over) (c : Start g) (hand : Option Tid) (is : hand ≡ (g.S.Layer.
   may =
       let met = g.met.S.Layer in
       let acts = met.own_cpu lower m c.requires.fits.0 in
-      nested_may rules _ _ _ (own lower) buffer edit (met.opens m _ acts) (met.lawful m _ acts) c.requires.fits.1 (met.stands lower m c.requires.fits.0) deferred
+      nested_may rules _ _ _ (own lower) buffer edit (met.opens m _ acts) (met.lawful m _ acts) c.requires.fits.1
+      (met.stands lower m c.requires.fits.0) deferred
       (under_way lower) hand is fits c.requires.call
 
   module _ (after : g.row.S.Denot) (result : Option (SchedAnswer (Outcome g.row.E-Brought.Denot))) (payload : Payload) where
@@ -61,7 +62,8 @@ module _ (g : Over) (c : Start g) (hand : Option Tid) (is : hand ≡ (g.S.Layer.
           (own_of deferred (own lower)) left
       sleeps polled = rw (← leaves) (nested_sleeps rules (opening m) (ActsFor m) (cpu_of lower) answer (seen m) (seen n) (own lower) (own after) buffer edit
           deferred hand is (hand_defers deferred (under_way lower) hand buffer edit
-          (MaySleep (here rules (opening m)) (cpu_of lower) (renamed_events edit_in (seen m)) (own lower) buffer edit) fits c.requires.call (λ may. is ∙ may.hand))
+          (MaySleep (here rules (opening m)) (cpu_of lower) (renamed_events edit_in (seen m)) (own lower) buffer edit) fits c.requires.call
+          (λ may. is ∙ may.hand))
           (rw calls at polled))
 
       follows : FollowsBeneath rules (opening m) (ActsFor m) (cpu_of lower) (acts m) (acts n)

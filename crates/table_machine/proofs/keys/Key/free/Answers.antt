@@ -12,17 +12,21 @@ fetch_add-requires g c = free_asks g.E.SplitEdit.rules g.K.TableWords.kind g.met
     c.requires.inside.1 c.requires.edited c.requires.allowed _ _ None (cc) (cc) (cc) (cc)
 
 pub invariant_of-self : goal.invariant_of-self
-invariant_of-self g c = search (free_key g.E.SplitEdit.rules c.self.inside.cpu c.self.inside.ticket c.self.inside.token.table_id c.self.inside.token.me c.args.lock
+invariant_of-self g c
+    = search (free_key g.E.SplitEdit.rules c.self.inside.cpu c.self.inside.ticket c.self.inside.token.table_id c.self.inside.token.me c.args.lock
     c.requires.inside.0 c.args.block c.args.edit c.args.self.now c.self.view_is c.self.invariant c.requires.inside.1)
 
 pub invariant_of-self-in-None : goal.invariant_of-self-in-None
-invariant_of-self-in-None g c = search (free_key g.E.SplitEdit.rules c.self.inside.cpu c.self.inside.ticket c.self.inside.token.table_id c.self.inside.token.me c.args.lock
+invariant_of-self-in-None g c
+    = search (free_key g.E.SplitEdit.rules c.self.inside.cpu c.self.inside.ticket c.self.inside.token.table_id c.self.inside.token.me c.args.lock
     c.requires.inside.0 c.args.block c.args.edit c.args.self.now c.self.view_is c.self.invariant c.requires.inside.1)
 
 pub returns-in-Some-clause-adds : goal.returns-in-Some-clause-adds
-returns-in-Some-clause-adds g c = search (free_adds g.E.SplitEdit.rules c.self.inside.cpu c.self.inside.ticket c.self.inside.token.table_id c.self.inside.token.me c.args.lock
+returns-in-Some-clause-adds g c
+    = search (free_adds g.E.SplitEdit.rules c.self.inside.cpu c.self.inside.ticket c.self.inside.token.table_id c.self.inside.token.me c.args.lock
     c.requires.inside.0 c.args.block c.args.edit c.args.self.now c.self.view_is c.self.invariant c.requires.inside.1)
 
 pub returns-in-None-clause-adds : goal.returns-in-None-clause-adds
-returns-in-None-clause-adds g c = search (free_adds g.E.SplitEdit.rules c.self.inside.cpu c.self.inside.ticket c.self.inside.token.table_id c.self.inside.token.me c.args.lock
+returns-in-None-clause-adds g c
+    = search (free_adds g.E.SplitEdit.rules c.self.inside.cpu c.self.inside.ticket c.self.inside.token.table_id c.self.inside.token.me c.args.lock
     c.requires.inside.0 c.args.block c.args.edit c.args.self.now c.self.view_is c.self.invariant c.requires.inside.1)

@@ -18,7 +18,8 @@ join_seat-requires g c =
 pub load-requires : goal.load-requires
 load-requires g c =
     let table_is : c.self.inside.table.shared.table_id ≡ c.args.self.now.table = ap (λ b. b.table) c.self.view_is in
-    let started : c.args.seat.now.me.0.start ≡ c.self.inside.table.shared.key.blocks.value.items = c.requires.start ∙ sym (ap (λ b. b.start) c.self.view_is) in (
+    let started : c.args.seat.now.me.0.start ≡ c.self.inside.table.shared.key.blocks.value.items
+    = c.requires.start ∙ sym (ap (λ b. b.start) c.self.view_is) in (
       (cc),
       has_words _ _ _ _ _ c.self.invariant.0,
       meets_here g.E.SplitEdit.rules g.K.TableWords.kind _ _ _ _ _ (search (start_joined, started)),

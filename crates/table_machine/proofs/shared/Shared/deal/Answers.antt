@@ -7,5 +7,6 @@ split_seat-token-requires g c = deal_asks g.K.TableWords.kind g.E.SplitEdit.rule
     c.requires.table c.requires.dealer
 
 pub returns-clause-dealer : goal.returns-clause-dealer
-returns-clause-dealer g c = deal_leaves g.K.TableWords.kind g.E.SplitEdit.rules c.args.dealer.now.me _ c.args.cpu c.args.self.now c.requires.cpu c.requires.dealer
+returns-clause-dealer g c
+    = deal_leaves g.K.TableWords.kind g.E.SplitEdit.rules c.args.dealer.now.me _ c.args.cpu c.args.self.now c.requires.cpu c.requires.dealer
     c.split_seat-token.ensures.2
