@@ -37,6 +37,8 @@ thread="mctower threads --turns 1000 < plans/one-send.toml"
 sent=$'mctower-trace 1\nbuffers 1\ncap 0 1\ne 0 0 send 0 7 0 0\nleft 0 7\nend\n'
 state=$'cpu 0 AllEnded\nthread 0 Ended\nquiet yes\n'
 one_stack='ulimit -s 1000000; ulimit -v 1500000'
+# room for the program and some two million bytes, in kilobytes
+little='ulimit -v 6000'
 takes='mctower-trace 1\nbuffers 1\ncap 0 2\ne 0 0 recv 0 7 0 0\nleft 0\nend\n'
 before=$'mctower-trace 1\nbuffers 1\ncap 0 1\nleft 0\nend\n'
 sevens="head -c 200000 /dev/zero | tr '\\0' 7"
@@ -44,6 +46,16 @@ version=$'mctower 0.4.0\n'
 waits=$'cpu 0 live\nthread 0 Ready(0)\nquiet no\n'
 # a run whose third entry takes from an empty buffer
 empty='mctower-trace 1\nbuffers 1\ncap 0 2\ne 0 0 send 0 7 0 0\ne 1 1 recv 0 7 1 0\ne 1 1 recv 0 8 2 1\ne 0 0 send 0 8 3 1\nleft 0\nend\n'
+
+# A text of $1 sends and receives of one message through one buffer.
+text_of() {
+  awk -v count="$1" 'BEGIN {
+    printf "mctower-trace 1\nbuffers 1\ncap 0 1\n"
+    for (i = 0; i < count; i++) printf "e 0 0 send 0 7 %d %d\ne 0 0 recv 0 7 %d %d\n", 2 * i, i, 2 * i + 1, i
+    printf "left 0\nend\n" }'
+}
+text_of 100 > "$room/lines"
+text_of 100000 > "$room/entries"
 
 # Changes the text of one send by the filter $2: `check` answers `no $1`, with status 3.
 verdict() {
@@ -61,7 +73,10 @@ refused_behind() {
 # The two lines of usage of the command $1, or of the whole program.
 usage() {
   case $1 in
-    count) echo $'usage: mctower count --cpus N --times K [--lock L]\n       N is 1 to 16, K is 1 to 1000, L is ticket or grant; mctower count --help says more' ;;
+    count)
+      echo 'usage: mctower count --cpus N --times K [--lock L]'
+      echo '       N is 1 to 16, K is 1 to 1000, L is ticket or grant; mctower count --help says more'
+      ;;
     run) echo $'usage: mctower run [--schedule S] < PLAN\n       the plan is read from standard input; mctower run --help says more' ;;
     threads)
       echo 'usage: mctower threads --turns N < PLAN'
@@ -308,6 +323,11 @@ rows() {
   row 3 $'no 4 Spelling(30)\n' '' "{ printf '${before%left*}x\n'; $sevens; printf '\n'; } | mctower check"
   row 3 $'no 5 Spelling(30)\n' '' "{ printf '%s' '$sent' | head -n 4; $sevens; } | mctower check"
   row 0 $'yes\n' '' "{ printf '%s' '$sent' | head -c 40; sleep 0.1; printf '%s' '$sent' | tail -c +41; } | mctower check"
+  # one that comes a line a read, and one of more than there is memory for, of which no more than a part is held
+  row 0 $'yes\n' '' "while read -r line; do echo \"\$line\"; sleep 0.001; done < '$room/lines' | mctower check"
+  row 0 $'yes\n' '' "$little; mctower check < '$room/entries'"
+  # a line for which there is no memory
+  row 1 '' $'error: NoMemory(1)\n' "$little; { printf '${before%left*}e 0 0 send 0 '; head -c 6000000 /dev/zero | tr '\\0' 7; } | mctower check"
   # a full disk, and a reader that is gone
   row 1 '' $'error: WriteFault(8)\n' 'mctower count --cpus 1 --times 1 > /dev/full'
   row 1 '' $'error: WriteFault(8)\n' "$send > /dev/full"
@@ -318,7 +338,8 @@ rows() {
   row 1 '' $'error: WriteFault(8)\n' 'mctower count --cpus 1 --times 1 >&-'
   # the longest schedule where there is memory: eight CPUs, whose messages get through all sixteen buffers
   patience=60 row 0 $'yes\n35264\n' '~cpu 0 live' \
-    "bench/make.py plan through | mctower run --schedule \"\$(bench/make.py schedule)\" > '$room/long' && mctower check < '$room/long' && grep -c '^e ' '$room/long'"
+    "bench/make.py plan through | mctower run --schedule \"\$(bench/make.py schedule)\" > '$room/long' \
+      && mctower check < '$room/long' && grep -c '^e ' '$room/long'"
   # the longest traces: the threads of nine CPUs fill them, and the order of all their entries is gathered and judged
   {
     printf 'cpus = 9\ntrace = 65536\nbuffers = [32, 32, 32, 32, 32, 32, 32, 32, 32]\n'
@@ -400,17 +421,42 @@ source_row() {
 waiting() {
   local crate
   for crate in $(sed -n 's/^\([a-z_]*\):.*/\1/p' crates.txt); do
-    find "crates/$crate/src" -name '*.rt' ! -name 'tests.rt' ! -path '*/src/tests/*' -exec cat {} + | sed -e 's|//.*||' -e 's/\<Wait(//g' | grep -wE 'Wait|Mutex|Condvar' > /dev/null && echo "$crate"
+    find "crates/$crate/src" -name '*.rt' ! -name 'tests.rt' ! -path '*/src/tests/*' -exec cat {} + | sed -e 's|//.*||' -e 's/\<Wait(//g' \
+      | grep -wE 'Wait|Mutex|Condvar' > /dev/null && echo "$crate"
   done
 }
-# Each file of the folder $1 in which the refusal of an allocation is made up, once for each time: `AllocError` or `AllocFailed` stands there as a value, or is
-# given another name. Comments, imports, types, patterns and the parameter of an `impl From` make nothing up.
+# Each file of the folder $1 in which a refusal of the names $2 is made up, once for each time: it stands there as a value, or is given another name.
+# Comments, imports, types, patterns and the parameter of an `impl From` make nothing up.
 made_up() {
-  local file made='(AllocError|AllocFailed)'
+  local file made="($2)"
   find "$1" -path '*/src/*' -name '*.rt' ! -path '*/out/*' | sort | while read -r file; do
-    sed 's|//.*||' "$file" | sed -zE -e "s/\\<use [^;]*\\<$made as [^;]*;/\\1/g" -e 's/\<use [^;]*;//g' -e "s/([<,(]|->)\\s*$made(<[^;{}]*)?\\s*,?\\s*>/\\1>/g" \
-      -e 's/AllocFailed<//g' -e 's/fn from\(\w+: AllocError\)//g' -e 's/\<Err\(AllocError\) =>//g' | grep -owE "$made" | sed "s|.*|${file#"$1"/}|"
+    sed 's|//.*||' "$file" | sed -zE -e "s/\\<use [^;]*\\<$made as [^;]*;/\\1/g" -e 's/\<use [^;]*;//g' \
+      -e "s/([<,(]|->)\\s*$made(<[^;{}]*)?\\s*,?\\s*>/\\1>/g" -e "s/(: &?|AllocFailed<)$made<//g" -e 's/AllocFailed<//g' -e "s/\\<let $made \\{ \\w+ \\} =//g" \
+      -e "s/\\<Err\\($made( \\{ \\w+ \\})?\\) =>//g" \
+      -e 's/fn from\(\w+: AllocError\)//g' | grep -owE "$made" | sed "s|.*|${file#"$1"/}|"
   done
+}
+# Each file of the folder $1 in which memory is asked for by a constant, once for each time: in the brackets of `with_capacity`, `reserve`, `resize` or `vec!`
+# stands a number above 1, or a constant that is neither a limit of event_log nor one of the file's own whose number is at most 65536.
+asked_by_constant() {
+  local file limits call word value
+  local inner='[^()\[\]]|[(\[][^()\[\]]*[)\]]' # what stands in brackets, with brackets in it
+  local asks="\\b(with_capacity|reserve|reserve_exact|resize|vec!)(::<[^(]*>)?[(\\[](?:$inner|[(\\[](?:$inner)*[)\\]])*[)\\]]"
+  limits=$(sed -n 's/^pub const \([A-Z_]*\): usize.*/\1/p' crates/event_log/src/*.rt | tr '\n' ' ')
+  find "$1" -path '*/src/*' -name '*.rt' ! -path '*/out/*' ! -name 'tests.rt' ! -path '*/src/tests/*' | sort | while read -r file; do
+    sed 's|//.*||' "$file" | tr '\n' ' ' | grep -oP "$asks" | while read -r call; do
+      for word in $(grep -oE '\b([A-Z][A-Z0-9_]+|[0-9][0-9a-zA-Z_]*)\b' <<< "$call"); do
+        case " $limits 0 1 0u8 " in *" $word "*) continue ;; esac
+        value=$(sed -n "s/^const $word: usize = \([0-9_]*\);.*/\1/p" "$file" | tr -d _)
+        [ "${value:-65537}" -le 65536 ] || echo "${file#"$1"/}"
+      done
+    done
+  done
+}
+# Each line of the folders and files $@ of more than 160 columns, of code, proofs and scripts.
+too_long() {
+  find "$@" -name out -prune -o -type f \( -name '*.rt' -o -name '*.antt' -o -name '*.rs' -o -name '*.py' -o -name '*.sh' -o -path '*/.ci/run' \) -print \
+    | LC_ALL=C.UTF-8 xargs grep -nE '^.{161}' | cut -d: -f1,2 | sort
 }
 
 [ $# -gt 0 ] || set -- crates/mctower/out/mctower crates/mctower/out/mctower.by-rattle
@@ -432,11 +478,17 @@ fi
 # The prover lets a function wait that is given the trait for it. Workers and the program are, and none of the crates beneath: no layer waits.
 source_row 'who names Wait, Mutex or Condvar' $'cpu_workers\nmctower' "$(waiting)"
 source_row 'what each error says of itself' "$named" "$(errors)"
-# A start is told as refused (`NoThread`) only where one was: its refusal is named in the pool of threads, and where it becomes that evidence.
-source_row 'who names a refused start' $'crates/cpu_workers/src/pool.rt\ncrates/cpu_workers/src/refusals.rt' "$(grep -rlw --include='*.rt' SpawnError crates/*/src | sort)"
-# Who says NoMemory was refused memory: the type is made from the allocator's refusal alone. Such a refusal is made up at three places, where a library of the kit
-# tells of it without a value: toml's parser by a flag, clap and readers by a kind of error, and the table of atomic words by a type of its own.
-source_row 'who makes up a refused allocation' $'boot/src/plans.rt\nmctower/src/memory.rt\ntable_machine/src/open.rt' "$(made_up crates)"
+# A start is told as refused (`NoThread`) only where one was: its refusal is named in the pool of threads, and where it becomes that evidence. Anyone can write
+# the kit's type, and nobody does.
+source_row 'who names a refused start' $'crates/cpu_workers/src/pool.rt\ncrates/cpu_workers/src/refusals.rt' \
+  "$(grep -rlw --include='*.rt' SpawnError crates/*/src | sort)"
+source_row 'who makes up a refused start' '' "$(made_up crates SpawnError)"
+# Who says NoMemory was refused memory: the type is made from the allocator's refusal alone. Such a refusal is made up at three places, where a library of
+# the kit tells of it without a value: toml's parser by a flag, clap and readers by a kind of error, and the table of atomic words by a type of its own.
+allocations='AllocError|AllocFailed'
+source_row 'who makes up a refused allocation' $'boot/src/plans.rt\nmctower/src/memory.rt\ntable_machine/src/open.rt' "$(made_up crates "$allocations")"
+# Nor is a refusal had for the asking: what is asked for is what a value counts, or within a limit.
+source_row 'who asks for memory by a constant' '' "$(asked_by_constant crates)"
 # Such a kind of error is named in that file of mctower alone: who wrote it elsewhere could make a refusal of it.
 source_row 'who reads want of memory off a kind of error' crates/mctower/src/memory.rt "$(grep -rlw --include='*.rt' OutOfMemory crates/*/src | sort)"
 mkdir -p "$room/of/src"
@@ -446,11 +498,33 @@ use std::alloc::{AllocError, AllocFailed, Global};
 impl From<AllocError> for E { fn from(error: AllocError) -> E { E::NoMemory(NoMemory::from(error)) } }
 impl<T: Drop> From<AllocFailed<T>> for E { fn from(error: AllocFailed<T>) -> E { E::NoMemory(NoMemory::from(error)) } }
 fn f(alloc: Global) -> Result<Vec<Key<E>>, AllocError> { match g(alloc)? { Err(AllocError) => h(alloc), Ok(made) => Ok(made) } }
+use std::thread::{Promise, SpawnError};
+fn of<F>(_refused: &SpawnError<F>) -> NoThread { NoThread { refused: () } }
+fn untaken<F>(no: SpawnError<F>) -> F { let SpawnError { value } = no; value }
+fn group(alloc: Global, count: usize) -> Result<Vec<u8>, NoMemory> { let mut group = Vec::with_capacity(alloc, count.saturating_add(1))?; }
+const PART: usize = 65536;
+fn part(alloc: Global) -> Result<Vec<u8>, NoMemory> { let bytes = vec![in alloc; 0u8; PART]?; bytes.resize(room.saturating_mul(ENTRIES), 0)? }
 END
-wrong=('Err(NoMemory::from(AllocError))' 'return Err(AllocError)' '.map_err(|_| AllocError)?' 'let error = AllocError' 'Err(E::from(AllocError {}))' 'g(AllocError, 0)'
-  'Err(AllocFailed { value: 0 })' 'use std::alloc::{AllocError as Refused}' 'fn refused() -> AllocError { AllocError }' 'E { error: AllocError }')
+wrong=('Err(NoMemory::from(AllocError))' 'return Err(AllocError)' '.map_err(|_| AllocError)?' 'let error = AllocError' 'Err(E::from(AllocError {}))'
+  'g(AllocError, 0)' 'Err(AllocFailed { value: 0 })' 'use std::alloc::{AllocError as Refused}' 'fn refused() -> AllocError { AllocError }'
+  'E { error: AllocError }' 'NoThread::of(&SpawnError { value: () })' 'let no = SpawnError { value };' 'use std::thread::SpawnError as Refused')
 for at in "${!wrong[@]}"; do echo "${wrong[at]};" > "$room/of/src/wrong$at.rt"; done
-source_row 'who makes one up in lines that are right and lines that are wrong' "$(cd "$room/of" && ls src/wrong*)" "$(made_up "$room/of" | uniq)"
+source_row 'who makes one up in lines that are right and lines that are wrong' "$(cd "$room/of" && ls src/wrong*)" \
+  "$(made_up "$room/of" "$allocations|SpawnError" | uniq)"
+asks=('Vec::<u8>::with_capacity(alloc, usize::MAX)?' 'entries.reserve(100_000_000)?' 'Vec::with_capacity(alloc, boot.cpus().max(TOO_MANY))?'
+  'vec![in alloc; 0u8; 1 << 40]?'
+  $'Vec::with_capacity(\n    alloc,\n    u64::MAX as usize,\n)?' 'bytes.resize(HUGE, 0)?; const HUGE: usize = 70_000;')
+rm "$room"/of/src/wrong*
+for at in "${!asks[@]}"; do echo "${asks[at]};" > "$room/of/src/wrong$at.rt"; done
+source_row 'who asks by a constant in lines that are right and lines that are wrong' "$(cd "$room/of" && ls src/wrong*)" \
+  "$(asked_by_constant "$room/of" | uniq)"
+# Workers wait at their start by the library's group, and no crate but theirs stands on it. One impl alone says of what kind the locks are behind which
+# CPUs counted.
+source_row 'who stands on crossbeam_utils' cpu_workers "$(sed -nE 's/^([a-z_]+):.*\<crossbeam_utils\>.*/\1/p' crates.txt)"
+source_row 'who names it' cpu_workers "$(grep -rlw --include='*.rt' crossbeam_utils crates/*/src | cut -d/ -f2 | sort -u)"
+source_row 'who says of what kind a counted lock is' 'mctower/src/locks.rt: impl<L: OnLock> LockOfKind<L> for KindOf {' \
+  "$(cd crates && find . -path '*/src/*' -name '*.rt' -exec grep -HE '\<LockOfKind<.*> *for\>|^ *LockOfKind<.*>$' {} + | sed -e 's|^\./||' -e 's/:/: /')"
+source_row 'lines of more than 160 columns' '' "$(too_long .ci bench crates tests tools)"
 
 echo "edge: $passed passed, $failed failed"
 [ "$failed" = 0 ]
