@@ -1,6 +1,6 @@
 #!/usr/bin/env python3
 """Tries the book: runs every command of docs/book and compares what comes with what the page says, byte for byte; looks up each file,
-public name and clause that a page names, and each name of the repository in the other pages of docs; holds the plan and the output that
+public name and clause that a page names, and each name of the repository in any other page of the tree; holds the plan and the output that
 README.md shows against the files, and its version against that of CHANGELOG.md and of the help; tries the patches of docs; draws each
 picture again; holds plans/kernel.py against what each plan is expected to print; builds and runs, with no proof, the crates that a page
 writes (`rt try`). .ci/run calls it; it takes two minutes of processor time, most of it to build.
@@ -36,8 +36,10 @@ QUOTED = re.compile(r"`([^`\n]+)`")
 PATH = re.compile(r"^\.?[\w-]+(?:/[\w.-]+)+/?$|^[\w-]+\.(?:rt|antt|edit|md|py|sh|rs|toml|txt|svg)$")
 WORD = re.compile(r"^[A-Za-z_]\w*(?:::[A-Za-z_]\w*)*(?:\(\d+\))?$")
 LINK = re.compile(r"\]\(([^):\s]+)\)")
+# The files whose words are the tree's names.
+READ = {".rt", ".antt", ".edit", ".py", ".sh", ".rs", ".js", ".mjs", ".c", ".S", ".toml", ".patch"}
 # A line of a source that is a comment: what only a comment says is not there.
-REMARK = re.compile(r"^\s*(?://|-- |# ).*$", re.M)
+REMARK = re.compile(r"^\s*(?://|-- |# |/\* ).*$", re.M)
 # What docs cite and no file of this tree says: crates of the kit, and the end of a family of names.
 EXCEPT = {"rt", "clap", "toml", "thiserror", "arrayvec", "itoa", "atomic_table", "_here"}
 # Paths that no list of files has: what a build makes, and a path with a name to put in.
@@ -111,7 +113,7 @@ def words_of_tree():
         files.append(name)
         path = ROOT / name
         words.update(part.split(".")[0] for part in name.split("/"))
-        if path.suffix in {".rt", ".antt", ".edit", ".py", ".sh", ".rs", ".toml", ".patch"} and path.is_file():
+        if path.suffix in READ and path.is_file():
             text = path.read_text()
             words.update(re.findall(r"\w+", REMARK.sub("", text)))
             files.extend(re.findall(r"^\+\+\+ b/(.*)$", text, re.M) if path.suffix == ".patch" else [])
@@ -186,7 +188,7 @@ def patched(faults):
 
 
 def names(faults):
-    """Looks up what all pages cite, which needs no program; tells how much that was."""
+    """Looks up what all pages of the tree cite, which needs no program; tells how much that was."""
     words, files = words_of_tree()
     listed = subprocess.run(["git", "ls-files", "-co", "--exclude-standard", "*.md"], cwd=ROOT, stdout=subprocess.PIPE, text=True, check=True).stdout
     pages = [ROOT / name for name in listed.splitlines() if (ROOT / name).is_file()]

@@ -437,7 +437,7 @@ made_up() {
   done
 }
 # Each file of the folder $1 in which memory is asked for by a constant, once for each time: in the brackets of `with_capacity`, `reserve`, `resize` or `vec!`
-# stands a number above 1, or a constant that is neither a limit of event_log nor one of the file's own whose number is at most 65536.
+# stands a number above 65536, a product, a power or a shift, or a constant that is neither a limit of event_log nor one of the file's own up to 65536.
 asked_by_constant() {
   local file limits call word value
   local inner='[^()\[\]]|[(\[][^()\[\]]*[)\]]' # what stands in brackets, with brackets in it
@@ -445,9 +445,12 @@ asked_by_constant() {
   limits=$(sed -n 's/^pub const \([A-Z_]*\): usize.*/\1/p' crates/event_log/src/*.rt | tr '\n' ' ')
   find "$1" -path '*/src/*' -name '*.rt' ! -path '*/out/*' ! -name 'tests.rt' ! -path '*/src/tests/*' | sort | while read -r file; do
     sed 's|//.*||' "$file" | tr '\n' ' ' | grep -oP "$asks" | while read -r call; do
-      for word in $(grep -oE '\b([A-Z][A-Z0-9_]+|[0-9][0-9a-zA-Z_]*)\b' <<< "$call"); do
-        case " $limits 0 1 0u8 " in *" $word "*) continue ;; esac
-        value=$(sed -n "s/^const $word: usize = \([0-9_]*\);.*/\1/p" "$file" | tr -d _)
+      for word in $(grep -oE '\b([A-Z][A-Z0-9_]+|[0-9][0-9_]*)\b|<<|[*]|pow' <<< "$call" | sed 's/[*]/product/'); do
+        case " $limits " in *" $word "*) continue ;; esac
+        case $word in
+          [0-9]*) value=${word//_/} ;;
+          *) value=$(sed -nE "s/^(pub )?const $word: usize = ([0-9_]*);.*/\\2/p" "$file" | tr -d _) ;;
+        esac
         [ "${value:-65537}" -le 65536 ] || echo "${file#"$1"/}"
       done
     done

@@ -59,20 +59,17 @@ count() {
   fi
 }
 
-# Whether the command starts threads.
-has_threads() {
-  [ "${words[0]}" = count ] || [ "${words[0]}" = threads ]
-}
-# Each allocation, alone or with all later ones, by the name $1 of what refuses it. The start of a thread takes memory too.
+# Each allocation, alone or with all later ones, by the name $1 of what refuses it. The start of a thread takes memory too: as many refused allocations may be
+# told as a refused start as there are starts, and no more.
 allocations() {
-  local n=1
+  local n=1 starting=0
   while run "$1=$n"; [ "$refused" = yes ]; do
-    is_true || is_refusal 'NoMemory(1)' 0 || is_bad_line || { has_threads && is_refusal 'NoThread(5)' 0; }
+    is_true || is_refusal 'NoMemory(1)' 0 || is_bad_line || { starting=$((starting + 1)); [ "$starting" -le "$starts" ] && is_refusal 'NoThread(5)' 0; }
     count $? "$1=$n"
     n=$((n + 1))
   done
 }
-# Each start of a thread, alone or with all later ones. None is started without need, so no outcome is the true one.
+# Each start of a thread, alone or with all later ones, and in `starts` how many there are. None is started without need, so no outcome is the true one.
 threads() {
   local n=1
   while run "$1=$n"; [ "$refused" = yes ]; do
@@ -80,6 +77,7 @@ threads() {
     count $? "$1=$n"
     n=$((n + 1))
   done
+  starts=$((n - 1))
 }
 outputs() {
   local n length
@@ -117,10 +115,10 @@ command() {
   true_status=$status
   cp "$room/out" "$room/true_out"
   cp "$room/err" "$room/true_err"
+  threads REFUSE_THREAD_FROM
+  threads REFUSE_THREAD
   allocations REFUSE
   allocations REFUSE_FROM
-  threads REFUSE_THREAD
-  threads REFUSE_THREAD_FROM
   if [ "$races" = no ]; then outputs; fi
   if [ "$reads" = yes ]; then inputs; fi
 }

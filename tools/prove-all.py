@@ -5,7 +5,7 @@
 
 `rt lib` in one crate keeps every other `rt` out of the crates beneath it, so that several of them wait for one another. Here one process holds
 all crates, as `rt all` does, but without its first pass over all sources, and gives idle processors to the crate on which the most others wait. It takes
-JOBS processors, all where none is named. What it proves is kept, so it can be stopped and started again.
+JOBS processors, all where none is named. What it proves is kept, so it can be stopped and started again: what it started ends with it.
 """
 import argparse
 import os
@@ -64,7 +64,9 @@ def main():
         os.close(it)
     if not sound:
         return 1
-    return subprocess.run(["rt", "run", "--jobs", str(lanes), "--", *"count --cpus 2 --times 3".split()], cwd=program.folder).returncode
+    # guarded as each check above is: it ends with this process, however this ends, and lets go of the crates
+    words = [*lib.guarded(), "rt", "run", "--jobs", str(lanes), "--", *"count --cpus 2 --times 3".split()]
+    return subprocess.run(words, cwd=program.folder).returncode
 
 
 if __name__ == "__main__":
