@@ -143,14 +143,14 @@ _Noreturn void other_processor(struct processor *it) {
   work(it);
 }
 
-/* Each is asked twice, as processors want it, and has seconds to come: on a busy machine QEMU's take long. */
+/* Asks them until all have come, for some seconds: one that is not yet ready to begin does not hear it, and one that has begun does not either. */
 static void call_others(void) {
-  enum { PATIENCE = 3000000 };
+  enum { ROUNDS = 1000, ROUND = 20000 };
   for (unsigned i = 1; i < processor_count; i++) send(apics[i], INIT);
   microseconds(10000);
-  for (int again = 0; again < 2; again++) {
+  for (int round = 0; round < ROUNDS && up_count() < processor_count; round++) {
     for (unsigned i = 1; i < processor_count; i++) send(apics[i], BEGIN | OTHERS_PAGE / PAGE);
-    for (int wait = 0; wait < PATIENCE && up_count() < processor_count; wait++) microseconds(1);
+    for (int wait = 0; wait < ROUND && up_count() < processor_count; wait++) microseconds(1);
   }
 }
 

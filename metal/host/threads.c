@@ -45,8 +45,10 @@ static void end(struct thread *it) {
   wake_all();
 }
 
+/* Where each of its threads yielded, one after the other, a processor waits for others: it lets them have it for a moment. */
 _Noreturn void work(struct processor *own) {
   struct thread *last = 0;
+  unsigned yields = 0;
   for (;;) {
     struct thread *next = next_of(own, last);
     if (!next) {
@@ -54,11 +56,14 @@ _Noreturn void work(struct processor *own) {
       halt();
       continue;
     }
-    if (next == last && state_of(next) == READY) halt_a_moment(); /* it yielded, and nobody else can go on here */
     set_state(next, READY);
     own->runs = last = next;
     change_stacks(&own->stack, &next->stack);
     if (state_of(next) == ENDS) end(next);
+    yields = state_of(next) == READY ? yields + 1 : 0;
+    if (yields < own->threads) continue;
+    halt_a_moment();
+    yields = 0;
   }
 }
 
