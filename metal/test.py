@@ -34,6 +34,7 @@ import random_plan  # noqa: E402
 
 NATIVE = ROOT / "crates/mctower/out/mctower"
 LESSON = ROOT / "docs/book/14-bare-processors.md"
+UEFI = Path("/usr/share/ovmf/OVMF.fd")
 MOST_TOLD, LONGEST_TOLD = 20, 2000
 DAMAGED_AT = 7  # the seed of what is damaged
 ALL_TURNS = "1000000000"
@@ -247,24 +248,31 @@ def host(held):
         yield f"{word} on {processors}", one
 
 
-def by_grub(held, room, words, plan):
-    """Boots a disk by GRUB and returns what came on both serial lines, and a status."""
+def by_grub(held, room, words, plan, firmware):
+    """Boots a disk by GRUB and returns a status and what came on both serial lines."""
     build.disk(held.image, room / "tower.iso", plan, *words)
-    asked = ["timeout", "60", machine.QEMU, *machine.MACHINE, "-m", "256", "-smp", "4", "-cdrom", room / "tower.iso"]
+    asked = ["timeout", str(machine.SECONDS), machine.QEMU, *machine.MACHINE, "-m", "256", "-smp", "4", *firmware, "-cdrom", room / "tower.iso"]
     ran = subprocess.run([*asked, "-serial", f"file:{room / 'out'}", "-serial", f"file:{room / 'err'}"], stdin=subprocess.DEVNULL, capture_output=True, check=False)
     return machine.ended(ran, room)
 
 
 def disk(held):
-    """A disk that GRUB boots gives what the program gives; its words keep their spaces and quotes."""
-    def one(words, path):
+    """A disk that GRUB boots gives what the program gives, with BIOS and with UEFI; its words keep their spaces and quotes."""
+    def one(words, path, firmware):
         with tempfile.TemporaryDirectory() as room:
-            status, out, err = by_grub(held, Path(room), words, ROOT / path)
-        return unlike((status, out, err), held.native(words, (ROOT / path).read_bytes()))
-    if shutil.which("grub-mkrescue"):
-        for words, path in [(["threads", "--turns", "1000"], "plans/ping-pong.toml"), (["run", "--schedule", " 0*10, 0*11 "], "plans/one-send.toml"),
-                            (["it's \"so\"", "\\"], "plans/one-send.toml")]:
-            yield f"{words} by GRUB", lambda words=words, path=path: one(words, path)
+            status, *streams = by_grub(held, Path(room), words, ROOT / path, firmware)
+        wanted, *texts = held.native(words, (ROOT / path).read_bytes())
+        if firmware:  # UEFI itself and GRUB write to both lines before
+            streams = [it[-len(text):] for it, text in zip(streams, texts)]
+        return unlike((status, *streams), (wanted, *texts))
+    table = [(["threads", "--turns", ALL_TURNS], "plans/ping-pong.toml"), (["run", "--schedule", " 0*10, 0*11 "], "plans/one-send.toml"),
+             (["it's \"so\"", "\\"], "plans/one-send.toml")]
+    if not shutil.which("grub-mkrescue"):
+        return
+    for words, path in table:
+        yield f"{words} by GRUB and BIOS", lambda words=words, path=path: one(words, path, [])
+    if UEFI.exists():
+        yield "threads by GRUB and UEFI", lambda: one(*table[0], ["-bios", UEFI])
 
 
 def lesson(held):
