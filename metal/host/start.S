@@ -1,0 +1,216 @@
+/* From what a boot loader leaves to C, on the first processor and on each other: headers for loaders, page tables, long mode, SSE; the stubs of
+   exceptions; the change from one stack to another; the instruction syscall. Nothing proves this file. */
+        .set PRESENT, 3                 /* a page that is there and may be written */
+        .set LARGE, 0x80
+        .set OTHERS_PAGE, 0x8000        /* as processors.c has it */
+        .set PROCESSOR_BYTES, 8192      /* as host.h has it */
+        .set MAGIC1, 0x1BADB002         /* Multiboot 1; the addresses behind its flags are for loaders of ELF64 files */
+        .set FLAGS1, 0x00010003         /* modules on pages; tell of memory; the addresses count */
+        .set MAGIC2, 0xE85250D6
+
+        .section .boot, "awx"
+        .code32
+        .balign 8
+header1:
+        .long MAGIC1, FLAGS1, -(MAGIC1 + FLAGS1)
+        .long header1, image_start, loaded_end, image_end, start32
+        .balign 8
+header2:                                /* Multiboot 2 */
+        .long MAGIC2, 0, header2_end - header2, -(MAGIC2 + header2_end - header2)
+        .long 0, 8
+header2_end:
+        .global start32
+start32:
+        cli
+        cld
+        movl    $boot_stack_end, %esp
+        movl    %eax, %ebp              /* the loader's magic number; ebx keeps where it left what it tells */
+        /* 4 GiB, each address at itself, in pages of 2 MiB */
+        movl    $pdpt + PRESENT, pml4
+        movl    $directories + PRESENT, %eax
+        movl    $pdpt, %edi
+1:      movl    %eax, (%edi)
+        addl    $4096, %eax
+        addl    $8, %edi
+        cmpl    $pdpt + 32, %edi
+        jb      1b
+        movl    $LARGE + PRESENT, %eax
+        movl    $directories, %edi
+2:      movl    %eax, (%edi)
+        addl    $0x200000, %eax
+        addl    $8, %edi
+        cmpl    $directories + 4 * 4096, %edi
+        jb      2b
+        call    to_long_mode
+        ljmpl   $0x08, $first64
+
+/* Page tables, long mode and SSE; the jump into 64-bit code is left. */
+to_long_mode:
+        movl    $pml4, %eax
+        movl    %eax, %cr3
+        movl    $0x620, %eax            /* PAE, and SSE with its exceptions */
+        movl    %eax, %cr4
+        movl    $0xC0000080, %ecx       /* EFER: long mode */
+        rdmsr
+        orl     $0x100, %eax
+        wrmsr
+        movl    $0x80010033, %eax       /* paging, write protection, the FPU, protection */
+        movl    %eax, %cr0
+        lgdtl   first_gdt_at
+        ret
+
+        .code64
+first64:
+        xorl    %eax, %eax
+        movl    %eax, %ds
+        movl    %eax, %es
+        movl    %eax, %ss
+        movl    $boot_stack_end, %esp
+        movl    %ebp, %edi
+        movl    %ebx, %esi
+        call    first_processor         /* gives the record of this processor */
+        movq    %rax, %rdi
+        movq    (%rdi), %rsp
+        xorl    %ebp, %ebp
+        call    work
+        ud2
+
+/* Where another processor begins, in real mode: processors.c copies this to the page that it names to the processor. */
+        .code16
+        .global others_start, others_end
+others_start:
+        cli
+        cld
+        xorw    %ax, %ax
+        movw    %ax, %ds
+        lgdtl   OTHERS_PAGE + (gdt_here - others_start)
+        movl    $0x11, %eax
+        movl    %eax, %cr0
+        ljmpl   $0x18, $other32
+gdt_here:
+        .word   31
+        .long   first_gdt
+others_end:
+
+        .code32
+other32:
+        movw    $0x10, %ax
+        movw    %ax, %ds
+        movw    %ax, %ss
+        movl    $boot_stack_end, %esp   /* several may be here at once: each leaves the same word on it */
+        call    to_long_mode
+        ljmpl   $0x08, $other64
+        .code64
+other64:
+        xorl    %eax, %eax
+        movl    %eax, %ds
+        movl    %eax, %es
+        movl    %eax, %ss
+        movl    $PROCESSOR_BYTES, %edi
+        lock xaddq %rdi, next_up(%rip)  /* each takes a record of its own; the end of its stack comes first in it */
+        movq    (%rdi), %rsp
+        xorl    %ebp, %ebp
+        call    other_processor
+        ud2
+
+/* Each exception goes to C with its number and where it came from; an interrupt only ends a halt. */
+        .text
+        .global exceptions, ends_halt
+        .balign 16
+exceptions:
+        .set    n, 0
+        .rept   32
+        .balign 16
+        .if     n == 8 || (n >= 10 && n <= 14) || n == 17 || n == 21 || n == 29 || n == 30
+        .else
+        pushq   $0
+        .endif
+        pushq   $n
+        jmp     to_trapped
+        .set    n, n + 1
+        .endr
+to_trapped:
+        popq    %rdi                    /* its number, its error number, where it was, and the stack there */
+        popq    %rsi
+        movq    (%rsp), %rdx
+        movq    24(%rsp), %rcx
+        andq    $-16, %rsp
+        call    trapped
+        ud2
+ends_halt:
+        iretq
+
+/* change_stacks(kept, next): keeps the registers that C keeps over a call, on the stack, and goes on where another stack was left so. */
+        .global change_stacks
+change_stacks:
+        pushq   %rbx
+        pushq   %rbp
+        pushq   %r12
+        pushq   %r13
+        pushq   %r14
+        pushq   %r15
+        movq    %rsp, (%rdi)
+        movq    (%rsi), %rsp
+        popq    %r15
+        popq    %r14
+        popq    %r13
+        popq    %r12
+        popq    %rbp
+        popq    %rbx
+        ret
+
+/* The instruction syscall, which the kit's other compiler writes for futex: as Linux, it changes no register but rax, rcx and r11. The answer is
+   Linux's as well: C's -1 becomes the negative error number. */
+        .global system_call
+system_call:
+        leaq    -128(%rsp), %rsp        /* the red zone of whom it was called in */
+        pushq   %rcx
+        pushq   %r11
+        pushq   %rdi
+        pushq   %rsi
+        pushq   %rdx
+        pushq   %r8
+        pushq   %r9
+        pushq   %r10
+        pushq   %rbp
+        movq    %rsp, %rbp
+        subq    $512, %rsp
+        andq    $-16, %rsp
+        fxsave64 (%rsp)
+        movq    %rdx, %rcx
+        movq    %rsi, %rdx
+        movq    %rdi, %rsi
+        movl    %eax, %edi
+        call    call_system
+        fxrstor64 (%rsp)
+        movq    %rbp, %rsp
+        popq    %rbp
+        popq    %r10
+        popq    %r9
+        popq    %r8
+        popq    %rdx
+        popq    %rsi
+        popq    %rdi
+        popfq
+        popq    %rcx
+        leaq    128(%rsp), %rsp
+        jmp     *%rcx
+
+        .section .rodata
+        .balign 8
+        .global first_gdt
+first_gdt:
+        .quad   0, 0x00AF9A000000FFFF, 0x00CF92000000FFFF, 0x00CF9A000000FFFF /* none, 64-bit code, data, 32-bit code */
+first_gdt_at:
+        .word   31
+        .long   first_gdt
+
+        .bss
+        .balign 4096
+        .global directories
+pml4:   .skip   4096
+pdpt:   .skip   4096
+directories:
+        .skip   4 * 4096
+        .skip   4096
+boot_stack_end:

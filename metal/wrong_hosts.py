@@ -1,0 +1,94 @@
+#!/usr/bin/env python3
+"""Plants faults in the host, one at a time, and looks whether metal/test.py sees each.
+
+    metal/wrong_hosts.py                 the gate's: a wake that is lost, a record that two processors take, two stacks that are one
+    metal/wrong_hosts.py --all           each edit of metal/wrong
+    metal/wrong_hosts.py NAME..          these alone
+
+An edit of metal/wrong says in its line `seen:` which kinds of cases see it; behind a line `file:`, which names a file of metal/host, each line `old:` is
+replaced by the line `new:` beneath it. The first case that differs is told. A run that hangs differs too, after the seconds that METAL_SECONDS names, or
+20. Where there is no QEMU it says so, and its status is 0. The last line counts; the status is 1 if a fault was not seen.
+"""
+import argparse
+import os
+import shutil
+import sys
+import tempfile
+from concurrent.futures import ThreadPoolExecutor
+from pathlib import Path
+
+sys.dont_write_bytecode = True
+os.environ.setdefault("METAL_SECONDS", "20")
+import build  # noqa: E402
+import machine  # noqa: E402
+import test  # noqa: E402
+
+WRONG = build.METAL / "wrong"
+OF_GATE = ["a_record_is_taken_twice", "a_wake_is_lost", "two_stacks_are_one"]
+CASES = 60  # of a kind, at most
+
+
+def planted(edit, host):
+    """Makes an edit in a copy of the host, and returns the kinds that see it."""
+    kinds, path, old = [], None, None
+    for line in edit.read_text().splitlines():
+        key, _, text = line.partition(": ")
+        if key == "seen":
+            kinds = text.split()
+        elif key == "file":
+            path = host / text
+        elif key == "old":
+            old = text
+        elif key == "new":
+            whole = path.read_text()
+            if whole.count(old) != 1:
+                sys.exit(f"metal: {edit.name}: its old text stands {whole.count(old)} times in {path.name}: {old}")
+            path.write_text(whole.replace(old, text))
+    return kinds
+
+
+def first_difference(held, kinds):
+    """The first case of these kinds that differs, or nothing."""
+    for kind in kinds:
+        cases = test.part_of(list(test.KINDS[kind][0](held)), CASES)
+        with ThreadPoolExecutor(2) as pool:
+            for (name, _), fault in zip(cases, pool.map(lambda case: case[1](), cases)):
+                if fault:
+                    pool.shutdown(cancel_futures=True)
+                    return f"{kind}, {name}"
+    return None
+
+
+def tried(edit):
+    """Plants one fault, and returns the case that saw it, or nothing."""
+    with tempfile.TemporaryDirectory() as folder:
+        room = Path(folder)
+        host = room / "host"
+        shutil.copytree(build.HOST, host)
+        kinds = planted(edit, host)
+        held = test.Held(room / "tower.elf", room / "trial.elf")
+        build.linked(build.OBJECT, held.image, host)
+        build.linked(build.METAL / "trial.c", held.trial, host)
+        return first_difference(held, kinds)
+
+
+def main():
+    read = argparse.ArgumentParser(description=__doc__, formatter_class=argparse.RawDescriptionHelpFormatter)
+    read.add_argument("--all", action="store_true")
+    read.add_argument("names", nargs="*", metavar="NAME")
+    asked = read.parse_args()
+    if not machine.is_there():
+        print("metal: no QEMU here: no fault was planted")
+        return 0
+    names = sorted(path.stem for path in WRONG.glob("*.edit")) if asked.all else asked.names or OF_GATE
+    missed = 0
+    for name in names:
+        seen = tried(WRONG / f"{name}.edit")
+        missed += not seen
+        print(f"metal: {name}: {f'seen by {seen}' if seen else 'NOT SEEN'}", flush=True)
+    print(f"metal: {len(names) - missed} wrong hosts seen, {missed} not")
+    return 1 if missed or not names else 0
+
+
+if __name__ == "__main__":
+    sys.exit(main())
