@@ -144,12 +144,12 @@ class Held {
     }
   }
 
-  // In each lesson the rule that is left out breaks the law that the lesson names, and the whole kernel keeps every law.
+  // In each lesson the kernel with the mistake breaks the law that the lesson names at the step it names, and not before; the whole kernel keeps every law.
   lessonRuns() {
-    for (const { lesson, plan, rule, breaks, schedule } of this.lessons) {
-      const text = read(`plans/${plan}.toml`), steps = schedule ?? this.scheduleIn(text), broken = this.session(text, steps, rule), step = broken.firstBroken();
-      is(`lesson ${lesson} breaks`, step > 0 && broken.run.cell('broken', step).includes(breaks));
-      is(`lesson ${lesson} stands with its rule`, this.session(text, steps).firstBroken() === -1);
+    for (const { lesson, plan, rule, breaks, step, schedule } of this.lessons) {
+      const text = read(`plans/${plan}.toml`), steps = schedule ?? this.scheduleIn(text), first = this.session(text, steps, rule).firstBroken(breaks);
+      is(`lesson ${lesson}: "${breaks}" is first broken after step ${first}`, first === step);
+      is(`lesson ${lesson} stands without the mistake`, this.session(text, steps).firstBroken() === -1);
     }
   }
 }
@@ -165,14 +165,14 @@ function firstOther(text, told, scripts) {
   return other ?? (step < 0 ? undefined : `step ${step}`);
 }
 
-// The model tells the same cells as plans/kernel.py, with each rule and without it.
+// The model tells the same cells as plans/kernel.py, of the whole kernel and with each mistake.
 function modelCells() {
   const scripts = sources(ROOT)('({ RunRecord, Run, planOf, stepsOf, readSchedule })');
   const told = spawnSync('python3', [join(ROOT, 'web/records.py')], { encoding: 'utf8', maxBuffer: 1 << 29 });
   if (told.status !== 0) throw new Error(`web/records.py: ${told.stderr}`);
   for (const line of told.stdout.trimEnd().split('\n')) {
     const [name, text, record] = JSON.parse(line), other = firstOther(text, record, scripts);
-    is(`the cells of ${name} without ${record.wrong}: ${other}`, other === undefined);
+    is(`the cells of ${name}, mistake ${record.wrong}: ${other}`, other === undefined);
   }
 }
 

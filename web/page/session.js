@@ -158,9 +158,9 @@ class Session {
     return { schedule, ...this.program.runPlan(this.text, schedule) };
   }
 
-  // The first step after which a law does not hold, or -1.
-  firstBroken() {
-    return this.run.states.findIndex((_, step) => this.run.cell("broken", step).length > 0);
+  // The first step after which a law does not hold, or this one if it is named; -1 where there is none.
+  firstBroken(law = null) {
+    return this.run.states.findIndex((_, step) => this.run.cell("broken", step).some(([broken]) => law === null || law === broken));
   }
 }
 
