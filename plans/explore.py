@@ -77,7 +77,7 @@ def all_of(name, text, plan, steps, most, wrong=None):
     records, edges = moves_of(states)
     broken = [[f"BROKEN: {law}: {why}", schedule] for law, schedule, why in states.breaches()]
     ends = broken + [[f"quiet: {words}", states.schedule_to(number)] for words, number in endings(states).items()]
-    told = frame(plan, Kernel(plan, wrong)) | {"wrong": wrong, "rule": WRONG.get(wrong), "schedule": schedule_of(steps), "steps": []}
+    told = frame(plan, Kernel(plan, wrong)) | {"wrong": wrong, "mistake": WRONG.get(wrong), "schedule": schedule_of(steps), "steps": []}
     graph = {"records": records, "edges": edges, "depth": states.depth, "ends": ends}
     return {"plan": name, "source": text, "checked": is_compared, "differs": None, "note": "\n".join(report(name, states)), "graph": graph, **told}
 

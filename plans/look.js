@@ -380,7 +380,7 @@ function quietLine(run, at) {
 function lawList(run, at) {
   const why = new Map(run.cell("broken", at));
   return '<h2>Promised of each state</h2><ul class="laws">' + run.record.laws.map(law => why.has(law)
-    ? `<li class="broken">✘ BROKEN: ${escaped(law)}<small>${escaped(why.get(law))}</small></li>` : `<li>✔ ${escaped(law)}</li>`).join("") + "</ul>";
+    ? `<li class="broken">✘ BROKEN: ${escaped(law)}: <small>${escaped(why.get(law))}</small></li>` : `<li>✔ ${escaped(law)}</li>`).join("") + "</ul>";
 }
 
 // The places with their colours, for the foot of a page.

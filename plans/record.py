@@ -134,7 +134,7 @@ def frame(plan, system):
 def record(plan, steps, wrong=None):
     """The record of a run; and a hash of what kernel.py prints after each number of steps."""
     system, printed = Kernel(plan, wrong), []
-    told = frame(plan, system) | {"wrong": wrong, "rule": WRONG.get(wrong)}
+    told = frame(plan, system) | {"wrong": wrong, "mistake": WRONG.get(wrong)}
     taken = steps_record(system, steps, lambda: printed.append(hash((system.text(), system.states()))))
     return told | {"schedule": schedule_of(steps), "steps": taken}, printed
 

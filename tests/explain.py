@@ -183,7 +183,7 @@ def command_lines(to):
             (3, "no 1 Spelling(30)\nstandard input:1: the text ends where mctower-trace 1 is wanted\n", ""))
     to.hold("commands", "a folder", command(["plans/explain.py", "plans"], to), (1, "error: ReadFault(7)\nplans: Is a directory\n", ""))
     status, out, err = command(["plans/kernel.py", "--wrong", "other-side-only", "--wrong", "take-skips-the-turn", "plans/one-send.toml"], to)
-    to.hold("commands", "a second rule", (status, out, err.splitlines()[-1]), (2, "", "kernel.py: error: --wrong stands twice"))
+    to.hold("commands", "a second mistake", (status, out, err.splitlines()[-1]), (2, "", "kernel.py: error: --wrong stands twice"))
     early = ["--wrong", "look-always-hits", "plans/woken-from-afar.toml", "0*6,1*4,0*2,1,0*2"]  # a receive that is in no line tries
     status, _, err = command(["plans/kernel.py", *early], to)
     to.hold("commands", early, (status, err.splitlines()[-1]), (0, "quiet no"))

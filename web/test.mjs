@@ -62,8 +62,8 @@ class Held {
   }
 
   // A plan that is looked at, with its schedule.
-  session(text, schedule, rule = null) {
-    return this.evaluate('(program, facts, wanted) => new Session(program, facts, wanted)')(this.program, this.facts, { name: 'a plan', text, rule, schedule });
+  session(text, schedule, wrong = null) {
+    return this.evaluate('(program, facts, wanted) => new Session(program, facts, wanted)')(this.program, this.facts, { name: 'a plan', text, wrong, schedule });
   }
 
   // Whether the model prints what the program prints at the end of a schedule.
@@ -146,8 +146,8 @@ class Held {
 
   // In each lesson the kernel with the mistake breaks the law that the lesson names at the step it names, and not before; the whole kernel keeps every law.
   lessonRuns() {
-    for (const { lesson, plan, rule, breaks, step, schedule } of this.lessons) {
-      const text = read(`plans/${plan}.toml`), steps = schedule ?? this.scheduleIn(text), first = this.session(text, steps, rule).firstBroken(breaks);
+    for (const { lesson, plan, wrong, breaks, step, schedule } of this.lessons) {
+      const text = read(`plans/${plan}.toml`), steps = schedule ?? this.scheduleIn(text), first = this.session(text, steps, wrong).firstBroken(breaks);
       is(`lesson ${lesson}: "${breaks}" is first broken after step ${first}`, first === step);
       is(`lesson ${lesson} stands without the mistake`, this.session(text, steps).firstBroken() === -1);
     }
@@ -157,7 +157,7 @@ class Held {
 // Says what of a run the model in web/page/ tells otherwise than a record of plans/record.py, or undefined. It is run beside the page's scripts.
 function firstOther(text, told, scripts) {
   const { RunRecord, Run, planOf, stepsOf, readSchedule } = scripts, same = (x, y) => JSON.stringify(x) === JSON.stringify(y);
-  const record = new RunRecord(planOf(text), told.wrong, { places: told.places, rules: { [told.wrong]: told.rule } }), theirs = new Run(told), mine = new Run(record.frame);
+  const record = new RunRecord(planOf(text), told.wrong, { places: told.places, mistakes: { [told.wrong]: told.mistake } }), theirs = new Run(told), mine = new Run(record.frame);
   for (const c of stepsOf(readSchedule(told.schedule).items)) mine.grow(record.step(c));
   const other = ['cpus', 'lock', 'capacities', 'threads', 'laws', 'names', 'boot'].find(key => !same(told[key], record.frame[key]));
   const step = theirs.states.findIndex(({ cells, changed }, at) => !same(cells, mine.states[at].cells) || !same([...changed].sort(), [...mine.states[at].changed].sort())

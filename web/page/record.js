@@ -31,7 +31,7 @@ function cellsOf(kernel, last = null) {
 const isSame = (x, y) => x === y || (Array.isArray(x) && Array.isArray(y) && x.length === y.length && x.every((one, i) => isSame(one, y[i])));
 
 class RunRecord {
-  // `facts` has what pages say of places and rules.
+  // `facts` has what pages say of places and mistakes.
   constructor(plan, wrong, facts) {
     Object.assign(this, { plan, wrong });
     this.kernel = new Kernel(plan, wrong);
@@ -40,7 +40,7 @@ class RunRecord {
     this.printed = [this.print()]; // what `run` has to print after each number of steps
     this.frame = {
       cpus: plan.cpus, lock: plan.lock, capacities: plan.buffers, threads: plan.threads.map(({ cpu, program }) => ({ home: cpu, program })),
-      laws: [...LAWS.keys()], places: facts.places, names: Object.keys(cells), boot: [...this.values], wrong, rule: facts.rules[wrong] ?? null, steps: [],
+      laws: [...LAWS.keys()], places: facts.places, names: Object.keys(cells), boot: [...this.values], wrong, mistake: facts.mistakes[wrong] ?? null, steps: [],
     };
     this.taken = [];
   }
