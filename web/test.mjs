@@ -128,6 +128,12 @@ class Held {
       is(`the place of ${error}: ${JSON.stringify(got)}`, isRight && (from === undefined || text.slice(from, from + piece.length) === piece));
       is(`the line of ${error}, which plans/explain.py does not name`, line === undefined || linesExplained(plan, schedule).includes(line));
     }
+    for (const { text, notes } of refusals.ignored) {
+      const got = this.evaluate('ignoredKeys')(text);
+      is(`what is ignored: ${JSON.stringify(got)}`, JSON.stringify(got.map(({ line, says }) => [line, says])) === JSON.stringify(notes));
+      is(`plans/explain.py on what is ignored`, String(linesExplained(text, '0')) === String(notes.map(([line]) => line)));
+      is(`the model of a plan with ignored keys`, this.isModelled(text, '0*13'));
+    }
     for (const { text, verdict, shown, says } of refusals.texts) {
       const got = this.program.run(['check'], text).output.trimEnd(), where = inTrace(text, got);
       is(`the place of ${verdict}: ${got} ${JSON.stringify(where)}`, got === verdict && where.text === shown && where.says.includes(says));
@@ -176,6 +182,35 @@ function modelCells() {
   }
 }
 
+// What a search finds in the page, in the form of web/searches.py.
+function foundIn({ text, wrong, most }, scripts) {
+  const { States, LAWS, planOf, askedFor, spelledSchedule } = scripts, states = new States(planOf(text), wrong), stuck = new States(planOf(text), wrong);
+  states.look({ most });
+  const broken = [...LAWS.keys()].filter(law => states.broken.has(law)).map(law => [law, spelledSchedule(states.calmStepsTo(states.broken.get(law).number)), states.broken.get(law).why]);
+  const number = stuck.look({ most, wanted: askedFor('deadlock') }), deadlock = [number === null ? null : spelledSchedule(stuck.calmStepsTo(number)), stuck.count];
+  return { count: states.count, moves: states.moves, depth: states.depth, isAll: states.isAll, broken, deadlock };
+}
+
+// A search in the page finds what plans/states.py finds: as many states, and the same schedules.
+function searches() {
+  const scripts = sources(ROOT)('({ States, LAWS, planOf, askedFor, spelledSchedule })');
+  const told = spawnSync('python3', [join(ROOT, 'web/searches.py')], { encoding: 'utf8', maxBuffer: 1 << 28 });
+  if (told.status !== 0) throw new Error(`web/searches.py: ${told.stderr}`);
+  for (const line of told.stdout.trimEnd().split('\n')) {
+    const wanted = JSON.parse(line), found = foundIn(wanted, scripts), other = Object.keys(found).find(key => JSON.stringify(found[key]) !== JSON.stringify(wanted[key]));
+    is(`the search of ${wanted.plan}, mistake ${wanted.wrong}: ${other} is ${JSON.stringify(found[other])}, and in plans/states.py ${JSON.stringify(wanted[other])}`, other === undefined);
+  }
+}
+
+// The page's schedule in rounds is that of plans/kernel.py.
+function rounds(held) {
+  for (const path of held.stored.filter(name => name.startsWith('plans/'))) {
+    const told = spawnSync('python3', [join(ROOT, 'plans/kernel.py'), '--rounds', join(ROOT, path)], { encoding: 'utf8' }).stdout.trimEnd();
+    const mine = held.evaluate('roundsOf')(held.program, read(path)), cut = held.evaluate('MOST_ROUND_STEPS'), steps = held.evaluate('text => stepsOf(readSchedule(text).items)');
+    is(`the rounds of ${path}`, String(steps(mine)) === String(steps(told).slice(0, cut)));
+  }
+}
+
 async function main() {
   const words = process.argv.slice(2), many = words[0] === '--many' ? Number(words[1]) : 1;
   if (words.includes('--help') || !(many >= 1)) {
@@ -192,6 +227,8 @@ async function main() {
     held.modelRuns();
     held.lessonRuns();
     modelCells();
+    searches();
+    rounds(held);
   } finally {
     rmSync(folder, { recursive: true });
   }
