@@ -49,6 +49,7 @@ class Held {
   constructor({ program, evaluate, facts, lessons }) {
     Object.assign(this, { program, evaluate, facts, lessons });
     this.scheduleIn = evaluate('scheduleIn');
+    this.judged = []; // texts that the judges of the page and of plans/ are held by
     this.stored = FOLDERS.flatMap(folder => readdirSync(join(ROOT, folder)).filter(name => name.endsWith('.toml')).map(name => `${folder}/${name}`));
   }
 
@@ -108,6 +109,7 @@ class Held {
       this.compare(`damaged plan ${number}`, this.runWords(schedule), badPlan);
       if (badSchedule !== '') this.compare(`damaged schedule ${number}`, this.runWords(badSchedule), plan);
       this.compare(`damaged text ${number}`, ['check'], badText);
+      this.judges(`damaged text ${number}`, badText);
       for (const [one, other] of [[badPlan, schedule], [plan, badSchedule]]) this.explains(`damage ${number}`, beside, one, other);
     }
   }
@@ -117,6 +119,25 @@ class Held {
     const stands = line === undefined ? text === '' || text === schedule : plan.split('\n')[line - 1] === text;
     is(`what stands beside the refusal of ${name}`, refusal === null || (stands && text.slice(from, from + piece.length) === piece));
     if (refusal === null && this.evaluate('readSchedule')(schedule).total <= SMALL_STEPS) is(`the model of ${name}`, this.isModelled(plan, schedule));
+  }
+
+  // The page's own judge says no in the same line for the same reason, and says what is wanted there.
+  judges(name, text) {
+    const verdict = this.program.run(['check'], text).output.trimEnd(), fault = this.evaluate('faultOf')(text), mine = fault === null ? 'yes' : `no ${fault.line} ${fault.reason}`;
+    is(`the judge of the page on ${name}: ${mine}, and the program's ${verdict}`, verdict.replace(/\(\d+\)$/, '') === mine);
+    this.judged.push(text);
+  }
+
+  // Of the same texts plans/judging.py says the same is wanted. What it says of a line that is misspelled it may say in other words.
+  wantedBeside() {
+    const code = 'import json, sys; sys.path.append("plans"); import judging; '
+      + 'print(json.dumps([fault and [fault.line, fault.reason, fault.why] for fault in (judging.fault_in(text.encode()) for text in json.load(sys.stdin))]))';
+    const told = spawnSync('python3', ['-c', code], { cwd: ROOT, input: JSON.stringify(this.judged), encoding: 'utf8', maxBuffer: 1 << 28 });
+    if (told.status !== 0) throw new Error(`plans/judging.py: ${told.stderr}`);
+    JSON.parse(told.stdout).forEach((fault, i) => {
+      const mine = this.evaluate('faultOf')(this.judged[i]);
+      if (fault && fault[1] !== 'Spelling(30)') is(`what is wanted: ${mine?.why}, and in plans/judging.py ${fault[2]}`, fault[2].startsWith(mine?.why));
+    });
   }
 
   // Refusals of each kind have the right place beside them, and it is that of plans/explain.py.
@@ -223,6 +244,7 @@ async function main() {
     held.storedRuns();
     held.randomRuns(folder, many);
     held.damagedRuns(many);
+    held.wantedBeside();
     held.places();
     held.modelRuns();
     held.lessonRuns();

@@ -163,11 +163,10 @@ function whereInSchedule(text, refusal, cpus) {
   return { text, from, piece: items[index], says: `item ${index + 1}: ${read.fault ?? `the plan has the CPUs 0 to ${cpus - 1}`}` };
 }
 
-// Beside the judge's no, such as `no 6 EmptyTake(35)`.
+// Beside the judge's no, such as `no 6 EmptyTake(35)`: what is wanted there, where the page's own judge finds the same fault; else what the reason means.
 function whereInTrace(text, verdict) {
-  const [, number, reason] = /^no (\d+) (\w+)/.exec(verdict), lines = text.split("\n"), line = lines[number - 1] ?? "";
-  const hints = [text.includes("\r") ? "its lines end in a carriage return, which no line may have" : "", /[^\n]$/.test(text) ? "its last line has no line feed" : ""];
-  return { line: Number(number), text: line, says: [TRACE_REASONS[reason], ...hints].filter(Boolean).join("; ") };
+  const [, number, reason] = /^no (\d+) (\w+)/.exec(verdict), line = Number(number), fault = faultOf(text), isSame = fault?.line === line && fault.reason === reason;
+  return { line, text: text.split("\n")[line - 1] ?? "", says: isSame ? fault.why : TRACE_REASONS[reason] };
 }
 
 // What stands beside any refusal of `run`.
