@@ -49,6 +49,7 @@ class Held {
   constructor({ program, evaluate, facts, lessons }) {
     Object.assign(this, { program, evaluate, facts, lessons });
     this.scheduleIn = evaluate('scheduleIn');
+    this.judged = []; // texts that the judges of the page and of plans/ are held by
     this.stored = FOLDERS.flatMap(folder => readdirSync(join(ROOT, folder)).filter(name => name.endsWith('.toml')).map(name => `${folder}/${name}`));
   }
 
@@ -62,8 +63,8 @@ class Held {
   }
 
   // A plan that is looked at, with its schedule.
-  session(text, schedule, rule = null) {
-    return this.evaluate('(program, facts, wanted) => new Session(program, facts, wanted)')(this.program, this.facts, { name: 'a plan', text, rule, schedule });
+  session(text, schedule, wrong = null) {
+    return this.evaluate('(program, facts, wanted) => new Session(program, facts, wanted)')(this.program, this.facts, { name: 'a plan', text, wrong, schedule });
   }
 
   // Whether the model prints what the program prints at the end of a schedule.
@@ -108,6 +109,7 @@ class Held {
       this.compare(`damaged plan ${number}`, this.runWords(schedule), badPlan);
       if (badSchedule !== '') this.compare(`damaged schedule ${number}`, this.runWords(badSchedule), plan);
       this.compare(`damaged text ${number}`, ['check'], badText);
+      this.judges(`damaged text ${number}`, badText);
       for (const [one, other] of [[badPlan, schedule], [plan, badSchedule]]) this.explains(`damage ${number}`, beside, one, other);
     }
   }
@@ -119,6 +121,25 @@ class Held {
     if (refusal === null && this.evaluate('readSchedule')(schedule).total <= SMALL_STEPS) is(`the model of ${name}`, this.isModelled(plan, schedule));
   }
 
+  // The page's own judge says no in the same line for the same reason, and says what is wanted there.
+  judges(name, text) {
+    const verdict = this.program.run(['check'], text).output.trimEnd(), fault = this.evaluate('faultOf')(text), mine = fault === null ? 'yes' : `no ${fault.line} ${fault.reason}`;
+    is(`the judge of the page on ${name}: ${mine}, and the program's ${verdict}`, verdict.replace(/\(\d+\)$/, '') === mine);
+    this.judged.push(text);
+  }
+
+  // Of the same texts plans/judging.py says the same is wanted. What it says of a line that is misspelled it may say in other words.
+  wantedBeside() {
+    const code = 'import json, sys; sys.path.append("plans"); import judging; '
+      + 'print(json.dumps([fault and [fault.line, fault.reason, fault.why] for fault in (judging.fault_in(text.encode()) for text in json.load(sys.stdin))]))';
+    const told = spawnSync('python3', ['-c', code], { cwd: ROOT, input: JSON.stringify(this.judged), encoding: 'utf8', maxBuffer: 1 << 28 });
+    if (told.status !== 0) throw new Error(`plans/judging.py: ${told.stderr}`);
+    JSON.parse(told.stdout).forEach((fault, i) => {
+      const mine = this.evaluate('faultOf')(this.judged[i]);
+      if (fault && fault[1] !== 'Spelling(30)') is(`what is wanted: ${mine?.why}, and in plans/judging.py ${fault[2]}`, fault[2].startsWith(mine?.why));
+    });
+  }
+
   // Refusals of each kind have the right place beside them, and it is that of plans/explain.py.
   places() {
     const beside = this.evaluate('refusalOf'), inTrace = this.evaluate('whereInTrace');
@@ -127,6 +148,12 @@ class Held {
       const isRight = got?.line === `error: ${error}` && where.line === line && where.piece === piece && (where.says ?? '').includes(says);
       is(`the place of ${error}: ${JSON.stringify(got)}`, isRight && (from === undefined || text.slice(from, from + piece.length) === piece));
       is(`the line of ${error}, which plans/explain.py does not name`, line === undefined || linesExplained(plan, schedule).includes(line));
+    }
+    for (const { text, notes } of refusals.ignored) {
+      const got = this.evaluate('ignoredKeys')(text);
+      is(`what is ignored: ${JSON.stringify(got)}`, JSON.stringify(got.map(({ line, says }) => [line, says])) === JSON.stringify(notes));
+      is(`plans/explain.py on what is ignored`, String(linesExplained(text, '0')) === String(notes.map(([line]) => line)));
+      is(`the model of a plan with ignored keys`, this.isModelled(text, '0*13'));
     }
     for (const { text, verdict, shown, says } of refusals.texts) {
       const got = this.program.run(['check'], text).output.trimEnd(), where = inTrace(text, got);
@@ -144,12 +171,12 @@ class Held {
     }
   }
 
-  // In each lesson the rule that is left out breaks the law that the lesson names, and the whole kernel keeps every law.
+  // In each lesson the kernel with the mistake breaks the law that the lesson names at the step it names, and not before; the whole kernel keeps every law.
   lessonRuns() {
-    for (const { lesson, plan, rule, breaks, schedule } of this.lessons) {
-      const text = read(`plans/${plan}.toml`), steps = schedule ?? this.scheduleIn(text), broken = this.session(text, steps, rule), step = broken.firstBroken();
-      is(`lesson ${lesson} breaks`, step > 0 && broken.run.cell('broken', step).includes(breaks));
-      is(`lesson ${lesson} stands with its rule`, this.session(text, steps).firstBroken() === -1);
+    for (const { lesson, plan, wrong, breaks, step, schedule } of this.lessons) {
+      const text = read(`plans/${plan}.toml`), steps = schedule ?? this.scheduleIn(text), first = this.session(text, steps, wrong).firstBroken(breaks);
+      is(`lesson ${lesson}: "${breaks}" is first broken after step ${first}`, first === step);
+      is(`lesson ${lesson} stands without the mistake`, this.session(text, steps).firstBroken() === -1);
     }
   }
 }
@@ -157,7 +184,7 @@ class Held {
 // Says what of a run the model in web/page/ tells otherwise than a record of plans/record.py, or undefined. It is run beside the page's scripts.
 function firstOther(text, told, scripts) {
   const { RunRecord, Run, planOf, stepsOf, readSchedule } = scripts, same = (x, y) => JSON.stringify(x) === JSON.stringify(y);
-  const record = new RunRecord(planOf(text), told.wrong, { places: told.places, rules: { [told.wrong]: told.rule } }), theirs = new Run(told), mine = new Run(record.frame);
+  const record = new RunRecord(planOf(text), told.wrong, { places: told.places, mistakes: { [told.wrong]: told.mistake } }), theirs = new Run(told), mine = new Run(record.frame);
   for (const c of stepsOf(readSchedule(told.schedule).items)) mine.grow(record.step(c));
   const other = ['cpus', 'lock', 'capacities', 'threads', 'laws', 'names', 'boot'].find(key => !same(told[key], record.frame[key]));
   const step = theirs.states.findIndex(({ cells, changed }, at) => !same(cells, mine.states[at].cells) || !same([...changed].sort(), [...mine.states[at].changed].sort())
@@ -165,14 +192,43 @@ function firstOther(text, told, scripts) {
   return other ?? (step < 0 ? undefined : `step ${step}`);
 }
 
-// The model tells the same cells as plans/kernel.py, with each rule and without it.
+// The model tells the same cells as plans/kernel.py, of the whole kernel and with each mistake.
 function modelCells() {
   const scripts = sources(ROOT)('({ RunRecord, Run, planOf, stepsOf, readSchedule })');
   const told = spawnSync('python3', [join(ROOT, 'web/records.py')], { encoding: 'utf8', maxBuffer: 1 << 29 });
   if (told.status !== 0) throw new Error(`web/records.py: ${told.stderr}`);
   for (const line of told.stdout.trimEnd().split('\n')) {
     const [name, text, record] = JSON.parse(line), other = firstOther(text, record, scripts);
-    is(`the cells of ${name} without ${record.wrong}: ${other}`, other === undefined);
+    is(`the cells of ${name}, mistake ${record.wrong}: ${other}`, other === undefined);
+  }
+}
+
+// What a search finds in the page, in the form of web/searches.py.
+function foundIn({ text, wrong, most }, scripts) {
+  const { States, LAWS, planOf, askedFor, spelledSchedule } = scripts, states = new States(planOf(text), wrong), stuck = new States(planOf(text), wrong);
+  states.look({ most });
+  const broken = [...LAWS.keys()].filter(law => states.broken.has(law)).map(law => [law, spelledSchedule(states.calmStepsTo(states.broken.get(law).number)), states.broken.get(law).why]);
+  const number = stuck.look({ most, wanted: askedFor('deadlock') }), deadlock = [number === null ? null : spelledSchedule(stuck.calmStepsTo(number)), stuck.count];
+  return { count: states.count, moves: states.moves, depth: states.depth, isAll: states.isAll, broken, deadlock };
+}
+
+// A search in the page finds what plans/states.py finds: as many states, and the same schedules.
+function searches() {
+  const scripts = sources(ROOT)('({ States, LAWS, planOf, askedFor, spelledSchedule })');
+  const told = spawnSync('python3', [join(ROOT, 'web/searches.py')], { encoding: 'utf8', maxBuffer: 1 << 28 });
+  if (told.status !== 0) throw new Error(`web/searches.py: ${told.stderr}`);
+  for (const line of told.stdout.trimEnd().split('\n')) {
+    const wanted = JSON.parse(line), found = foundIn(wanted, scripts), other = Object.keys(found).find(key => JSON.stringify(found[key]) !== JSON.stringify(wanted[key]));
+    is(`the search of ${wanted.plan}, mistake ${wanted.wrong}: ${other} is ${JSON.stringify(found[other])}, and in plans/states.py ${JSON.stringify(wanted[other])}`, other === undefined);
+  }
+}
+
+// The page's schedule in rounds is that of plans/kernel.py.
+function rounds(held) {
+  for (const path of held.stored.filter(name => name.startsWith('plans/'))) {
+    const told = spawnSync('python3', [join(ROOT, 'plans/kernel.py'), '--rounds', join(ROOT, path)], { encoding: 'utf8' }).stdout.trimEnd();
+    const mine = held.evaluate('roundsOf')(held.program, read(path)), cut = held.evaluate('MOST_ROUND_STEPS'), steps = held.evaluate('text => stepsOf(readSchedule(text).items)');
+    is(`the rounds of ${path}`, String(steps(mine)) === String(steps(told).slice(0, cut)));
   }
 }
 
@@ -188,10 +244,13 @@ async function main() {
     held.storedRuns();
     held.randomRuns(folder, many);
     held.damagedRuns(many);
+    held.wantedBeside();
     held.places();
     held.modelRuns();
     held.lessonRuns();
     modelCells();
+    searches();
+    rounds(held);
   } finally {
     rmSync(folder, { recursive: true });
   }
