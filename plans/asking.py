@@ -18,7 +18,8 @@ GRAMMAR = """terms joined by `and`, each perhaps behind `not`:
   cpu C waits|inside|rests|AllEnded|TraceFull
   buffer B full|empty|closed|owned|free
   effects N            so many calls took effect
-  quiet
+  quiet                no CPU has anything to do
+  deadlock             quiet, and some thread has not ended
   broken               a law does not hold"""
 
 
@@ -53,6 +54,8 @@ def term(words):
         return lambda system: not test(system)
     if words == ["quiet"]:
         return is_quiet
+    if words == ["deadlock"]:
+        return lambda system: is_quiet(system) and any(guest.place != "Ended" for guest in system.guests)
     if words == ["broken"]:
         return lambda system: bool(broken_in(system))
     if words[0] == "effects" and len(words) == 2 and words[1].isdigit():

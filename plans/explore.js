@@ -45,7 +45,7 @@ function warning() {
   if (record.wrong) {
     const differs = graph || !record.checked ? "" : record.differs === null ? " In this run the proved program prints the same."
       : ` The proved program prints something else from step ${record.differs} on.`;
-    return `NOT the proved kernel: rule ${record.wrong} is left out, so ${record.rule}.${differs}`;
+    return `NOT the proved kernel: here ${record.mistake} (${record.wrong}).${differs}`;
   }
   if (record.checked) return "";
   return "Not compared with the proved program, which is not built here: all of this page is told by plans/kernel.py, a model without a proof.";

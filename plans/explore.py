@@ -7,7 +7,7 @@
 
 A page is one file: it needs no network, no server, and no Python where it is read. States come from plans/kernel.py, which is not proved. Where the proved
 program is built it has to print the same after each beginning of the run, or in each state by a shortest schedule: else there is no page, and the status is 1.
-MCTOWER names the program. With --wrong a rule is left out, and the page tells from which step on the proved program prints something else.
+MCTOWER names the program. With --wrong the kernel makes a mistake, and the page tells from which step on the proved program prints something else.
 """
 import argparse
 import base64
@@ -19,7 +19,7 @@ from pathlib import Path
 
 from asking import GRAMMAR, asked_for
 from kernel import WRONG, Kernel
-from laws import LAWS
+from laws import order_of
 from reading import Refusal, bytes_at
 from record import cells, changes, compared, frame, place_style, program_is_there, record
 from schedules import chosen, read_run, schedule_of, steps_of
@@ -46,23 +46,23 @@ def moves_of(states):
     pieces, records, edges = states.pieces, {}, []
     for state in states.number:
         pieces.load(state)
-        before, row = cells(pieces.system), []
+        before, earlier, row = cells(pieces.system), order_of(pieces.system), []
         for c in pieces.cpus:
             pieces.load(state)
-            target, move = move_from(states, c, before)
+            target, move = move_from(states, c, before, earlier)
             row += [target, records.setdefault(move, len(records)) if move else -1]
         edges.append(row)
     return [json.loads(move) for move in records], edges
 
 
-def move_from(states, c, before):
-    """The state behind a CPU's step from the loaded one, and the step as a text; -1 and None where it changes nothing."""
+def move_from(states, c, before, earlier):
+    """The state behind a CPU's step from the loaded one, with the step as a text; -1 and None where it changes nothing."""
     pieces = states.pieces
     state = pieces.after(c)
     if state is None:
         return -1, None
     entry = list(pieces.system.entry) if pieces.system.entry else None
-    return states.number[state], json.dumps([c, *pieces.did, entry, changes(before, cells(pieces.system))], separators=(",", ":"))
+    return states.number[state], json.dumps([c, *pieces.did, entry, changes(before, cells(pieces.system, earlier, c))], separators=(",", ":"))
 
 
 def all_of(name, text, plan, steps, most, wrong=None):
@@ -75,9 +75,9 @@ def all_of(name, text, plan, steps, most, wrong=None):
     if is_compared:
         compare(text, states)
     records, edges = moves_of(states)
-    broken = [(f"BROKEN: {law}", states.broken[law]) for law in LAWS if law in states.broken]
-    ends = [[words, states.schedule_to(number)] for words, number in broken + [(f"quiet: {words}", number) for words, number in endings(states).items()]]
-    told = frame(plan, Kernel(plan, wrong)) | {"wrong": wrong, "rule": WRONG.get(wrong), "schedule": schedule_of(steps), "steps": []}
+    broken = [[f"BROKEN: {law}: {why}", schedule] for law, schedule, why in states.breaches()]
+    ends = broken + [[f"quiet: {words}", states.schedule_to(number)] for words, number in endings(states).items()]
+    told = frame(plan, Kernel(plan, wrong)) | {"wrong": wrong, "mistake": WRONG.get(wrong), "schedule": schedule_of(steps), "steps": []}
     graph = {"records": records, "edges": edges, "depth": states.depth, "ends": ends}
     return {"plan": name, "source": text, "checked": is_compared, "differs": None, "note": "\n".join(report(name, states)), "graph": graph, **told}
 
@@ -134,7 +134,7 @@ def main():
     parser = argparse.ArgumentParser(description=__doc__, epilog=f"WHAT is {GRAMMAR}", formatter_class=argparse.RawDescriptionHelpFormatter)
     parser.add_argument("plan", type=Path)
     parser.add_argument("schedule", nargs="?")
-    parser.add_argument("--wrong", choices=WRONG, metavar="RULE", help="leave out this rule, as plans/kernel.py does")
+    parser.add_argument("--wrong", choices=WRONG, metavar="MISTAKE", help="of the kernel that makes this mistake; plans/kernel.py --help names them")
     parser.add_argument("--find", metavar="WHAT", help="show a shortest run to such a state")
     parser.add_argument("--all", action="store_true", help="show every state")
     parser.add_argument("--most", type=int, default=MOST_STATES, metavar="K", help="stop at so many states")

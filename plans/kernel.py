@@ -1,13 +1,13 @@
 #!/usr/bin/env python3
 """The step table as a small plain program, for lessons: it runs a plan under a schedule and prints what `mctower run` prints.
 
-    plans/kernel.py [--wrong RULE] PLAN [SCHEDULE]
-    plans/kernel.py [--wrong RULE] --rounds [--each STEPS] PLAN
-    plans/kernel.py [--wrong RULE] --search PLAN
+    plans/kernel.py [--wrong MISTAKE] PLAN [SCHEDULE]
+    plans/kernel.py [--wrong MISTAKE] --rounds [--each STEPS] PLAN
+    plans/kernel.py [--wrong MISTAKE] --search PLAN
 
-Without a schedule it takes the one in the first lines of the plan. With --wrong one rule of the table is left out, to see
-what breaks; --help names them. With --rounds it prints a schedule: so many steps of each CPU in turn, until none has anything to do. With --search it prints
-the shortest schedule by which the plan goes wrong without the rule, or without each of them (plans/states.py).
+Without a schedule it takes the one in the first lines of the plan. With --wrong the kernel makes a mistake, to see what breaks; --help names them. With
+--rounds it prints a schedule: so many steps of each CPU in turn, until none has anything to do. With --search it prints the shortest schedule by which the plan
+goes wrong by the mistake, or by each of them (plans/states.py). It says on standard error where there is no schedule, and which keys of a plan are ignored.
 Nothing here is proved: it is the program to play with. It needs Python alone, 3.9 or later, no built program. Without --wrong it prints
 what `mctower run` prints, and refuses what that refuses; tests/book.py and tests/explain.py hold the two against one another.
 """
@@ -16,7 +16,7 @@ import sys
 from collections import deque
 from pathlib import Path
 
-from reading import Refusal, bytes_at
+from reading import Refusal, bytes_at, file_name, ignored
 from schedules import chosen, read_run, rounds, schedule_in, schedule_of, steps_of  # noqa: F401 (two of them for who draws and compares runs)
 
 RECEIVERS, SENDERS = 0, 1
@@ -367,12 +367,12 @@ class Once(argparse.Action):
 
 def asked_of(words):
     """What a command line asks for."""
-    rules = "\n".join(f"  {name:24}{what}" for name, what in WRONG.items())
-    parser = argparse.ArgumentParser(prog="kernel.py", description=f"{__doc__.splitlines()[0]} It needs Python alone, 3.9 or later.", epilog=f"rules:\n{rules}", allow_abbrev=False,
-                                     formatter_class=argparse.RawDescriptionHelpFormatter)
-    parser.add_argument("--wrong", choices=WRONG, metavar="RULE", action=Once, help="leave out this rule")
+    mistakes = "\n".join(f"  {name:24}{what}" for name, what in WRONG.items())
+    parser = argparse.ArgumentParser(prog="kernel.py", description=f"{__doc__.splitlines()[0]} It needs Python alone, 3.9 or later.", allow_abbrev=False,
+                                     epilog=f"mistakes that a kernel may make:\n{mistakes}", formatter_class=argparse.RawDescriptionHelpFormatter)
+    parser.add_argument("--wrong", choices=WRONG, metavar="MISTAKE", action=Once, help="a kernel that makes this mistake")
     parser.add_argument("--rounds", action="store_true", help="print a schedule in rounds that ends when no CPU has anything to do")
-    parser.add_argument("--search", action="store_true", help="print the shortest schedule that goes wrong without the rule, or without each")
+    parser.add_argument("--search", action="store_true", help="print the shortest schedule that goes wrong by the mistake, or by each")
     parser.add_argument("--each", type=int, default=60, metavar="STEPS", help="steps of a CPU in its turn of a round (60)")
     parser.add_argument("plan")
     parser.add_argument("schedule", nargs="?")
@@ -384,11 +384,20 @@ def asked_of(words):
     return asked
 
 
+def notes_on(plan, name, schedule):
+    """What is told of a run beside what `mctower run` prints: keys that nobody reads, and that no step was taken."""
+    notes = [f"{name}:{line}: {note}" for line, note in ignored(plan)]
+    if schedule is None:
+        notes.append(f"{name}: no step was taken, since no schedule is given and its first lines name none: plans/kernel.py --rounds writes one")
+    return "".join(f"kernel: {note}\n" for note in notes)
+
+
 def main(words):
     asked = asked_of(words)
     try:
         raw = bytes_at(asked.plan)
-        plan, items = read_run(raw, None if asked.rounds or asked.search else chosen(raw, asked.schedule))
+        schedule = None if asked.rounds or asked.search else chosen(raw, asked.schedule)
+        plan, items = read_run(raw, schedule)
     except Refusal as refusal:
         sys.stderr.write(refusal.told(asked.plan))
         return refusal.status
@@ -404,7 +413,7 @@ def main(words):
             kernel.step(c)
     sys.stdout.write(kernel.text())
     sys.stdout.flush()
-    sys.stderr.write(kernel.states())
+    sys.stderr.write(kernel.states() + notes_on(plan, file_name(asked.plan), schedule))
     return 0
 
 

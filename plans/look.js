@@ -378,9 +378,9 @@ function quietLine(run, at) {
   return `<p>${proved(run)} ${run.cell("quiet", at) ? "<b>quiet</b>: nobody goes on" : "not quiet"}</p>`;
 }
 function lawList(run, at) {
-  const broken = run.cell("broken", at);
-  return '<h2>Promised of each state</h2><ul class="laws">' + run.record.laws.map(law => broken.includes(law)
-    ? `<li class="broken">✘ BROKEN: ${escaped(law)}</li>` : `<li>✔ ${escaped(law)}</li>`).join("") + "</ul>";
+  const why = new Map(run.cell("broken", at));
+  return '<h2>Promised of each state</h2><ul class="laws">' + run.record.laws.map(law => why.has(law)
+    ? `<li class="broken">✘ BROKEN: ${escaped(law)}: <small>${escaped(why.get(law))}</small></li>` : `<li>✔ ${escaped(law)}</li>`).join("") + "</ul>";
 }
 
 // The places with their colours, for the foot of a page.

@@ -10,7 +10,7 @@ from concurrent.futures import ThreadPoolExecutor
 from pathlib import Path
 
 from kernel import RECEIVERS, SENDERS, WRONG, Kernel, spelled
-from laws import LAWS, broken_in, is_quiet
+from laws import LAWS, faults_in, is_quiet, order_of
 from reading import bytes_at
 from reading import read_plan as plan_of
 from schedules import schedule_of
@@ -77,9 +77,9 @@ def buffer_cells(system, b):
             f"b{b}.senders": list(buffer.waiting[SENDERS]), f"b{b}.receive": receive, f"b{b}.send": send}
 
 
-def cells(system):
+def cells(system, earlier=None, stepped=None):
     """All that a page shows of a state: a name for each thing, and its value. The words of a lock are no cells: a page counts who took
-    a ticket and who left."""
+    a ticket and who left. With the order of effects before a step of a CPU, laws on that step are looked up too."""
     told = {}
     for c in range(len(system.cpus)):
         told |= cpu_cells(system, c)
@@ -87,7 +87,7 @@ def cells(system):
         told |= thread_cells(system, t)
     for b in range(len(system.blocks) - len(system.cpus)):
         told |= buffer_cells(system, b)
-    return told | {"quiet": is_quiet(system), "broken": broken_in(system)}
+    return told | {"quiet": is_quiet(system), "broken": faults_in(system, earlier, stepped)}
 
 
 # --- a run as a record --------------------------------------------------------------------------------------------------------------
@@ -114,8 +114,9 @@ def steps_record(system, steps, each=lambda: None):
     now, told = cells(system), []
     each()
     for c in steps:
+        earlier = order_of(system)
         name, part = system.step(c)
-        new = cells(system)
+        new = cells(system, earlier, c)
         told.append([c, name, part, list(system.entry) if system.entry else None, changes(now, new)])
         each()
         now = new
@@ -133,7 +134,7 @@ def frame(plan, system):
 def record(plan, steps, wrong=None):
     """The record of a run; and a hash of what kernel.py prints after each number of steps."""
     system, printed = Kernel(plan, wrong), []
-    told = frame(plan, system) | {"wrong": wrong, "rule": WRONG.get(wrong)}
+    told = frame(plan, system) | {"wrong": wrong, "mistake": WRONG.get(wrong)}
     taken = steps_record(system, steps, lambda: printed.append(hash((system.text(), system.states()))))
     return told | {"schedule": schedule_of(steps), "steps": taken}, printed
 

@@ -15,7 +15,7 @@ WANTED = f"wanted c or c*n, c a CPU of 0 to {MOST_CPU} and n from 1 to {MOST_STE
 
 def schedule_in(plan):
     """The schedule in the first lines of a plan, or none."""
-    kept = re.search(r"^# *mctower run --schedule '(.*)' <", plan, re.M)
+    kept = re.search(r"^\ufeff?# *mctower run --schedule '(.*)' <", plan, re.M)
     return kept.group(1) if kept else ""
 
 

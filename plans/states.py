@@ -1,9 +1,9 @@
 #!/usr/bin/env python3
 """All states of a plan, for schedules of any length: which laws hold in each, how runs end, and a shortest schedule to a state that is asked for.
 
-    plans/states.py PLAN [--steps N] [--wrong RULE]     a report on all states, or on those that schedules of at most N steps reach
-    plans/states.py PLAN --find WHAT                    a shortest schedule to such a state, or the word that none leads there
-    plans/states.py PLAN --like TRACE                   a schedule by which `mctower run` prints the trace text that `mctower threads` printed
+    plans/states.py PLAN [--steps N] [--wrong MISTAKE]   a report on all states, or on those that schedules of at most N steps reach
+    plans/states.py PLAN --find WHAT                     a shortest schedule to such a state, or the word that none leads there
+    plans/states.py PLAN --like TRACE                    a schedule by which `mctower run` prints the trace text that `mctower threads` printed
 
 States are those of plans/kernel.py, a program without a proof; equal ones are one. With --compare the proved program runs to each state by a shortest
 schedule and has to print what kernel.py prints; MCTOWER names it. Where a law is broken, nothing is found, or something else is printed, the status is 1.
@@ -19,8 +19,8 @@ from pathlib import Path
 import like
 from asking import GRAMMAR, asked_for
 from kernel import WRONG, Buffer, Kernel, spelled
-from laws import (FIRST_IN_FIRST_OUT, LAWS, QUIET_IS_STILL, broken_by, is_played, is_quiet, is_stillness_false, part_of_block, part_of_cpu,
-                  part_of_thread)
+from laws import (LAWS, ORDER_GROWS, QUIET_IS_STILL, WHY, broken_at, broken_by, effects_of, faults_in, has_grown, in_order, is_quiet, is_stillness_false,
+                  part_of_block, part_of_cpu, part_of_thread)
 from reading import Refusal, bytes_at
 from record import difference, program_is_there, proved_prints_each, read_plan
 from schedules import schedule_of
@@ -44,7 +44,7 @@ class Pieces:
         self.locks_at = self.guests_at + len(system.guests)
         self.place_of = {lock: self.locks_at + i for i, lock in enumerate(self.locks)}
         self.buffers = [(lock[1], self.place_of[lock]) for lock in self.locks if lock[0] == "buffer"]
-        self.number, self.kept, self.parts, self.played, self.did = {}, [], [], {}, None
+        self.number, self.kept, self.parts, self.breaks, self.grown, self.did = {}, [], [], {}, {}, None
         self.now = [self.number_of(place) for place in range(self.locks_at + len(self.locks))]
 
     # --- from the kernel to numbers
@@ -167,17 +167,33 @@ class Pieces:
         now, parts = self.now, self.parts
         broken = broken_by([parts[number] for number in (*now[:self.traces_at], *now[self.guests_at:])], len(self.guests))
         traces = tuple(now[self.traces_at:self.guests_at])
-        if not all(self.is_played(traces, b, now[place]) for b, place in self.buffers):
-            broken.add(FIRST_IN_FIRST_OUT)
+        for b, place in self.buffers:
+            broken.update(self.broken_at(traces, b, now[place]))
         if is_stillness_false(self.system):
             broken.add(QUIET_IS_STILL)
         return broken
 
-    def is_played(self, traces, b, number):
-        found = self.played.get((traces, number))
+    def broken_at(self, traces, b, number):
+        """The laws on effects that do not hold of a buffer, whose block has a number."""
+        found = self.breaks.get((traces, number))
         if found is None:
-            found = self.played[traces, number] = is_played([cpu.trace for cpu in self.system.cpus], b, self.system.blocks["buffer", b])
+            found = self.breaks[traces, number] = broken_at([cpu.trace for cpu in self.system.cpus], b, self.system.blocks["buffer", b])
         return found
+
+    def has_grown(self, old, new, c):
+        """Whether a move of a CPU from a state to another let the order of effects go on by at most one call of this CPU."""
+        earlier, later = (state[self.traces_at:self.guests_at] for state in (old, new))
+        if earlier == later:
+            return True
+        found = self.grown.get((earlier, later, c))
+        if found is None:
+            found = self.grown[earlier, later, c] = has_grown(self.order_of(earlier), self.order_of(later), c)
+        return found
+
+    def order_of(self, traces):
+        """The calls that took effect on each buffer, in the order of their op, where the traces have these numbers."""
+        kept = [self.kept[number][1:] for number in traces]
+        return [effects_of(kept, b) for b, _ in self.buffers]
 
 
 class States:
@@ -188,7 +204,7 @@ class States:
         boot = tuple(self.pieces.now)
         self.number, self.came = {boot: 0}, [None]  # of each state: the one before it, the CPU that led here, and in how many steps
         self.layer, self.depth, self.moves = [boot], 0, 0
-        self.broken, self.all, self.limited = {}, False, False
+        self.broken, self.by_step, self.all, self.limited = {}, {}, False, False
 
     def __len__(self):
         return len(self.came)
@@ -218,6 +234,8 @@ class States:
             self.pieces.load(state)
             new, taken = self.pieces.after_section(c) if self.by_sections else (self.pieces.after(c), 1)
             self.moves += new is not None
+            if has_laws and new is not None and not self.pieces.has_grown(state, new, c):
+                self.by_step.setdefault(ORDER_GROWS, (origin, c, taken))
             if new is None or new in self.number:
                 continue
             number = self.number[new] = len(self.came)
@@ -270,6 +288,17 @@ class States:
                 return None
         return self.number.get(state)
 
+    def breaches(self):
+        """The laws that are broken somewhere, each with a shortest schedule that breaks it, and why: of what a step may do, by that step."""
+        found = {}
+        for law, number in self.broken.items():
+            self.pieces.load(list(self.number)[number])
+            why = WHY[law](self.pieces.system)
+            found[law] = self.schedule_to(number), why
+        for law, (origin, c, taken) in self.by_step.items():
+            found.setdefault(law, (schedule_of(self.steps_to(origin) + [c] * taken), "its last step puts a call elsewhere than at the end of the order"))
+        return [(law, *found[law]) for law in in_order(found)]
+
 
 def moves_together(runs):
     """Each way to move two runs of one CPU together, to the place of the first or of the second."""
@@ -313,7 +342,9 @@ def reach(states):
 
 
 def law_lines(states):
-    return [f"BROKEN: {law}, after --schedule '{states.schedule_to(states.broken[law])}'" if law in states.broken else f"in each state: {law}" for law in LAWS]
+    """A line for each law: that it holds in each state, or a shortest schedule that breaks it, and why it is broken then."""
+    found = {law: f"BROKEN: {law}, after --schedule '{schedule}': {why}" for law, schedule, why in states.breaches()}
+    return [found.get(law, f"in each state: {law}") for law in LAWS]
 
 
 def report(name, states):
@@ -346,7 +377,7 @@ def whole_report(asked, text, plan):
         print(f"took {seconds:.2f} s of processor time: {len(states) / seconds:.0f} states a second")
     if asked.compare is not None:
         print(f"compared with the proved program in {compare(text, states, asked.compare)} states: each prints the same")
-    return not states.broken
+    return not states.broken and not states.by_step
 
 
 def find(asked, plan):
@@ -368,23 +399,24 @@ def none_of(states, deed="reaches one"):
     return f"none that {deed}, in {len(states)} states up to {states.depth} steps away"
 
 
-def shortest_broken(plan, rule, most):
-    """The shortest schedule by which a kernel with a rule left out breaks a law, with the laws that it breaks: (steps, laws); or (None, in words)."""
-    states = States(plan, rule)
+def shortest_broken(plan, mistake, most):
+    """The shortest schedule by which a kernel with a mistake breaks a law, with the laws that it breaks, each with why: (steps, laws); or (None, in words)."""
+    states = States(plan, mistake)
     number = states.look(most=most, wanted=lambda _: bool(states.pieces.broken()), has_laws=False)
     if number is None:
         return None, none_of(states, "breaks a law")
     states.pieces.load(list(states.number)[number])
-    broken = states.pieces.broken()
-    return states.calm_steps_to(number), [law for law in LAWS if law in broken]
+    found = faults_in(states.pieces.system)
+    return states.calm_steps_to(number), found
 
 
-def search(plan, rules, most=60_000):
-    """Prints, for each rule that may be left out, the shortest schedule that breaks a law; returns 0 if one was found for each, else 1."""
+def search(plan, mistakes, most=60_000):
+    """Prints, for each mistake, the shortest schedule that breaks a law, and why it is broken; returns 0 if one was found for each, else 1."""
     is_found = True
-    for rule in rules:
-        steps, found = shortest_broken(plan, rule, most)
-        print(f"{rule:24}{found}" if steps is None else f"{rule:24}{len(steps)} steps, '{schedule_of(steps)}': {', '.join(found)}", flush=True)
+    for mistake in mistakes:
+        steps, found = shortest_broken(plan, mistake, most)
+        told = found if steps is None else f"{len(steps)} steps, '{schedule_of(steps)}': {'; '.join(f'{law} ({why})' for law, why in found)}"
+        print(f"{mistake:24}{told}", flush=True)
         is_found = is_found and steps is not None
     return 0 if is_found else 1
 
@@ -400,7 +432,7 @@ def main():
     parser = argparse.ArgumentParser(description=__doc__, epilog=f"WHAT is {GRAMMAR}", formatter_class=argparse.RawDescriptionHelpFormatter)
     parser.add_argument("plan", type=Path)
     parser.add_argument("--steps", type=int, metavar="N", help="go no farther than so many steps")
-    parser.add_argument("--wrong", choices=WRONG, metavar="RULE", help="leave out this rule, as plans/kernel.py does")
+    parser.add_argument("--wrong", choices=WRONG, metavar="MISTAKE", help="of the kernel that makes this mistake; plans/kernel.py --help names them")
     parser.add_argument("--sections", action="store_true", help="a step is a whole section: fewer states, those between sections")
     parser.add_argument("--find", metavar="WHAT", help="a shortest schedule to such a state")
     parser.add_argument("--like", metavar="TRACE", help="a schedule that gives the trace text in this file, or in standard input if it is -")

@@ -4,7 +4,7 @@
     tests/explain.py [--many] [PROGRAM]
 
 On each the first line and the exit status of explain.py have to be the program's; kernel.py has to refuse what the program refuses, by the
-same first line and status, and else to print the same. Then each mistake of tests/mistakes.py is told as it says there; kernel.py with any rule left out
+same first line and status, and else to print the same. Then each mistake of tests/mistakes.py is told as it says there; kernel.py with any mistake
 runs to its end; each schedule of --rounds leaves the program quiet; and run.sh and picture.py say what explain.py says. The choices
 are the same each time. --many makes 6,000 plans, 3,000 schedules and 3,000 texts in place of 500 each, which takes some minutes. The last line counts
 the comparisons; the status is 1 if one differs.
@@ -29,8 +29,8 @@ from reading import Refusal, read_plan  # noqa: E402
 from schedules import read_schedule, schedule_of, steps_of  # noqa: E402
 
 PROGRAM = ROOT / "crates/mctower/out/mctower"
-FEW = {"plans": 500, "schedules": 500, "texts": 500, "rules": 300}
-MANY = {"plans": 6000, "schedules": 3000, "texts": 3000, "rules": 5000}
+FEW = {"plans": 500, "schedules": 500, "texts": 500, "wrong kernels": 300}
+MANY = {"plans": 6000, "schedules": 3000, "texts": 3000, "wrong kernels": 5000}
 MOST_STEPS = 3000  # of a run that kernel.py takes too
 
 
@@ -87,6 +87,8 @@ def hold_run(to, what, plan, schedule):
         came = by_kernel(["--", str(to.folder / "plan"), schedule])
         if status:
             came = came[0], came[1], came[2].split("\n")[0] + "\n"
+        else:  # its notes on keys that are ignored stand behind what the program prints
+            came = came[0], came[1], came[2].partition("kernel: ")[0]
         to.hold(f"{what} by kernel.py", case, came, (status, out, err))
 
 
@@ -134,21 +136,21 @@ def told_mistakes(to):
         to.hold("mistakes", text, (told, first + "\n", beside), (status, out, words))
 
 
-def rules(to, pick, many):
-    """kernel.py with a rule left out takes each step of some schedule, and tells how it stands."""
+def wrong_kernels(to, pick, many):
+    """kernel.py with a mistake takes each step of some schedule, and tells how it stands."""
     runs = [read_plan(plan) for plan in damaged.PLANS]
     for _ in range(many):
-        plan, rule = pick.choice(runs), pick.choice(list(kernel.WRONG))
+        plan, mistake = pick.choice(runs), pick.choice(list(kernel.WRONG))
         steps = [pick.randrange(plan["cpus"]) for _ in range(pick.randint(1, 30)) for _ in range(pick.choice([1, 2, 3, 5, 10, 20]))]
         came = "its end"
         try:
-            system = kernel.Kernel(plan, rule)
+            system = kernel.Kernel(plan, mistake)
             for c in steps:
                 system.step(c)
             system.text(), system.states()
         except Exception as fault:  # whatever it is, a student would see its traceback
             came = repr(fault)
-        to.hold("rules left out", (rule, plan, schedule_of(steps)), came, "its end")
+        to.hold("wrong kernels", (mistake, plan, schedule_of(steps)), came, "its end")
 
 
 def in_rounds(to):
@@ -181,11 +183,17 @@ def command_lines(to):
             (3, "no 1 Spelling(30)\nstandard input:1: the text ends where mctower-trace 1 is wanted. It is empty: was the plan of the run before it refused?\n", ""))
     to.hold("commands", "a folder", command(["plans/explain.py", "plans"], to), (1, "error: ReadFault(7)\nplans: Is a directory\n", ""))
     status, out, err = command(["plans/kernel.py", "--wrong", "other-side-only", "--wrong", "take-skips-the-turn", "plans/one-send.toml"], to)
-    to.hold("commands", "a second rule", (status, out, err.splitlines()[-1]), (2, "", "kernel.py: error: --wrong stands twice"))
+    to.hold("commands", "a second mistake", (status, out, err.splitlines()[-1]), (2, "", "kernel.py: error: --wrong stands twice"))
     early = ["--wrong", "look-always-hits", "plans/woken-from-afar.toml", "0*6,1*4,0*2,1,0*2"]  # a receive that is in no line tries
     status, _, err = command(["plans/kernel.py", *early], to)
     to.hold("commands", early, (status, err.splitlines()[-1]), (0, "quiet no"))
     to.hold("commands", "explain.py --beside", command(["plans/explain.py", "--beside", "plans/one-send.toml"], to), (0, "", ""))
+    lone = to.folder / "lone.toml"
+    lone.write_text("locks = 2\n" + mistakes.PLAN)
+    status, _, err = command(["plans/kernel.py", str(lone)], to)
+    to.hold("commands", "no schedule", (status, err.splitlines()[-2:]), (0, [
+        f"kernel: {lone}:1: the key locks is ignored. Is lock meant?",
+        f"kernel: {lone}: no step was taken, since no schedule is given and its first lines name none: plans/kernel.py --rounds writes one"]))
     to.hold("commands", "many steps", (schedule_of([0] * 70000 + [1]), steps_of("0*2,1")), ("0*70000,1", [0, 0, 1]))
 
 
@@ -204,7 +212,7 @@ def main(words):
         plans(to, pick, many["plans"])
         schedules(to, pick, many["schedules"])
         texts(to, pick, many["texts"])
-        rules(to, pick, many["rules"])
+        wrong_kernels(to, pick, many["wrong kernels"])
     print("explain: the program answered", ", ".join(f"{name} {count}" for name, count in sorted(to.answers.items())))
     print("explain:", ", ".join(f"{count} {name}" for name, count in to.counts.items()) + f": {sum(to.counts.values())} compared, {to.differ} differ")
     return 1 if to.differ or not to.answers["run"] or not to.answers["yes"] else 0

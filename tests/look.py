@@ -3,8 +3,8 @@
 
     tests/look.py [--write] [PROGRAM]
 
-It makes the page of each plan's run and holds each beginning of it beside the proved program; holds reports on all states, the shortest schedules that break
-a rule, and the words of pages against the texts in tests/look; gives pages a program that is not the proved one; finds schedules for what threads
+It makes the page of each plan's run and holds each beginning of it beside the proved program; holds reports on all states, the shortest schedules by which each
+mistake breaks a law, and the words of pages against the texts in tests/look; gives pages a program that is not the proved one; finds schedules for what threads
 printed; and looks at colours and sizes. The script of the pages is run by node, without a browser: tests/look_browser.py has a browser's checks, and is called where a
 Chromium is. --write puts what comes into tests/look, to be read before it is kept. The last line is 'look: N passed, M failed'.
 """
@@ -37,7 +37,7 @@ PLANS, ROWS = sorted((ROOT / "plans").glob("*.toml")), sorted((ROOT / "tests/row
 # Plans whose states are few, and how many of them the proved program runs to: all, where nothing is said.
 SMALL = {"woken-from-afar": None, "two-senders": None, "receives-twice": None, "ping-pong": 100, "handed-over": 100, "newcomer": 100, "closed-for-two": 100,
          "first-come": 100, "two-receivers": 200}
-# A plan on which each rule's absence is seen.
+# A plan on which each mistake is seen.
 BREAKS = {"look-always-hits": "plans/two-senders", "pend-keeps-the-hand": "plans/receives-twice", "wakes-where-it-is": "plans/woken-from-afar",
           "release-frees-the-lock": "plans/woken-from-afar", "wait-frees-first": "plans/woken-from-afar", "first-word-alone": "tests/rows/words",
           "take-skips-the-turn": "plans/closed-for-two", "other-side-only": "plans/two-receivers", "closed-signals-nobody": "plans/closed-for-two",
@@ -77,7 +77,7 @@ def run_of(path):
 
 
 def broken_run(path, wrong):
-    """The record of a plan's run without a rule, with no program beside it."""
+    """The record of a plan's run with a mistake, with no program beside it."""
     text, plan = record.read_plan(path)
     told, _ = record.record(plan, steps_of(schedule_in(text)), wrong)
     return {"plan": path.name, "source": text, "checked": False, **told}
@@ -133,16 +133,18 @@ def reports(tally):
         tally.keeps(KEPT / f"states/{name}-by-sections.txt", "\n".join(states.report(f"{name}.toml", found)) + "\n")
 
 
-def rules(tally):
-    """The shortest schedule that breaks a law with each rule left out; and that kernel.py alone breaks it in the last step, and the whole kernel does not."""
+def mistakes(tally):
+    """The shortest schedule by which each mistake breaks a law, and why; and that kernel.py alone breaks it in the last step, and the whole kernel does not."""
     lines = []
-    for rule in WRONG:
-        plan = record.read_plan(ROOT / f"{BREAKS[rule]}.toml")[1]
-        steps, laws = states.shortest_broken(plan, rule, states.MOST_STATES)
-        lines.append(f"{rule} on {BREAKS[rule]}.toml: {len(steps)} steps, '{schedule_of(steps)}': {', '.join(laws)}")
-        tally.holds(broken_after(plan, steps[:-1], rule) == [] and broken_after(plan, steps, rule) == laws, f"{rule}: kernel.py does not break {laws} in step {len(steps)}")
-        tally.holds(broken_after(plan, steps, None) == [], f"{rule}: the whole kernel breaks a law after {schedule_of(steps)}")
-    tally.keeps(KEPT / "rules.txt", "\n".join(lines) + "\n")
+    for mistake in WRONG:
+        plan = record.read_plan(ROOT / f"{BREAKS[mistake]}.toml")[1]
+        steps, found = states.shortest_broken(plan, mistake, states.MOST_STATES)
+        laws = [law for law, _ in found]
+        lines.append(f"{mistake} on {BREAKS[mistake]}.toml: {len(steps)} steps, '{schedule_of(steps)}': {'; '.join(f'{law} ({why})' for law, why in found)}")
+        tally.holds(broken_after(plan, steps[:-1], mistake) == [] and broken_after(plan, steps, mistake) == laws,
+                    f"{mistake}: kernel.py does not break {laws} in step {len(steps)}")
+        tally.holds(broken_after(plan, steps, None) == [], f"{mistake}: the whole kernel breaks a law after {schedule_of(steps)}")
+    tally.keeps(KEPT / "mistakes.txt", "\n".join(lines) + "\n")
 
 
 def broken_after(plan, steps, wrong):
@@ -156,19 +158,19 @@ LESSON = re.compile(r"`plans/explore.py (\S+)(?: '([^']*)')? --wrong (\S+) > \S+
 
 
 def lessons(tally):
-    """The step that a lesson names behind a page of a broken rule: it is the first after which a law does not hold."""
+    """The step that a lesson names behind a page of a broken kernel: it is the first after which a law does not hold."""
     for page in sorted((ROOT / "docs/book").glob("*.md")):
-        for plan, schedule, rule, step in LESSON.findall(page.read_text(encoding="utf-8")):
+        for plan, schedule, mistake, step in LESSON.findall(page.read_text(encoding="utf-8")):
             text, table = record.read_plan(ROOT / plan)
             steps = steps_of(schedule or schedule_in(text))[:int(step)]
-            is_so = broken_after(table, steps[:-1], rule) == [] and broken_after(table, steps, rule) != []
-            tally.holds(is_so, f"{page.name}: without {rule} no law is first broken in step {step}")
+            is_so = broken_after(table, steps[:-1], mistake) == [] and broken_after(table, steps, mistake) != []
+            tally.holds(is_so, f"{page.name}: with {mistake} no law is first broken in step {step}")
 
 
 def merged(tally):
     """Merged states beside a plain kernel: along random schedules all cells are the same, with other states loaded in between."""
     choose = random.Random(1)
-    for path, wrong in [(path, None) for path in PLANS] + [(ROOT / f"{BREAKS[rule]}.toml", rule) for rule in WRONG]:
+    for path, wrong in [(path, None) for path in PLANS] + [(ROOT / f"{BREAKS[mistake]}.toml", mistake) for mistake in WRONG]:
         plan = record.read_plan(path)[1]
         plain, pieces = Kernel(plan, wrong), states.Pieces(plan, wrong)
         tally.holds(walks_alike(plain, pieces, choose), f"{path.name}, {wrong}: a merged state is not that of a plain kernel")
@@ -248,7 +250,7 @@ def words(tally, told):
     node = shutil.which("node")
     if not node:
         return tally.holds(False, "there is no node here, which runs the script of the pages")
-    runs = told + [broken_run(ROOT / f"{BREAKS[rule]}.toml", rule) for rule in WRONG]
+    runs = told + [broken_run(ROOT / f"{BREAKS[mistake]}.toml", mistake) for mistake in WRONG]
     with tempfile.NamedTemporaryFile("w", suffix=".js", encoding="utf-8") as script:
         script.write((ROOT / "plans/look.js").read_text(encoding="utf-8") + NODE)
         script.flush()
@@ -326,7 +328,7 @@ def main():
         sys.exit(f"look: there is no program at {PROGRAM}: build it with tools/prove-all.py, or name one")
     told = pages(tally)
     words(tally, told)
-    for part in (page_size, markup, reports, rules, lessons, merged, false_program, threads, colours, browser):
+    for part in (page_size, markup, reports, mistakes, lessons, merged, false_program, threads, colours, browser):
         part(tally)
     for fault in tally.faults:
         print("look:", fault)

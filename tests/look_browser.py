@@ -139,11 +139,11 @@ def chips(checks):
     checks.open("run")
     checks.holds("each thread is one filled chip at each step", browser.read(ONE_CHIP), [])
     checks.open("broken")
-    checks.holds("without the rule a thread is two chips from step 30 on", browser.read(ONE_CHIP)[0], [30, 0, 2])
+    checks.holds("with the mistake a thread is two chips from step 30 on", browser.read(ONE_CHIP)[0], [30, 0, 2])
     checks.holds("it is said that this is not the proved kernel", browser.read("element('warn').textContent")[:67],
-                 "NOT the proved kernel: rule pend-keeps-the-hand is left out, so who")
+                 "NOT the proved kernel: here who is sent home stays in the hand as w")
     checks.open("lost", "#step=98")
-    checks.holds("the lost wake-up is said", browser.read("document.querySelector('li.broken').textContent"), "✘ BROKEN: no lost wake-up")
+    checks.holds("the lost wake-up is said", browser.read("document.querySelector('li.broken').textContent"), "✘ BROKEN: no lost wake-up: buffer 0 holds 8, is free, and t1, first in its receive line, sleeps")
 
 
 def looks(checks):
@@ -188,7 +188,7 @@ def choosing(checks):
 
 
 def chosen_links(checks):
-    """Links with a schedule, and breaking a rule by hand."""
+    """Links with a schedule, and breaking a law by hand."""
     browser = checks.browser
     checks.open("all", "#schedule=0*13,1*24&step=30")
     checks.holds("a link with a schedule", [checks.at(), checks.said()[:53]], [[30, 37], "CPU 1 Pend thread 0 goes home: it is pending at CPU 0"])
@@ -197,7 +197,7 @@ def chosen_links(checks):
     checks.open("lock", "#schedule=")
     for key in "00001111":
         browser.key(key)
-    checks.holds("lesson 1's kernel is broken in eight steps", browser.read("document.querySelector('li.broken').textContent"), "✘ BROKEN: one CPU inside a lock")
+    checks.holds("lesson 1's kernel is broken in eight steps", browser.read("document.querySelector('li.broken').textContent"), "✘ BROKEN: one CPU inside a lock: CPU 0 and CPU 1 are inside the spin lock of buffer 0")
     browser.read("element('told').textContent = ''")
     browser.key("c")
     browser.wait("element('told').textContent !== ''")

@@ -24,9 +24,9 @@ import kernel  # noqa: E402
 import record  # noqa: E402
 
 # The page's scripts, one behind the other; those of plans/ are of the pages of runs as well.
-SCRIPTS = [ROOT / "plans/look.js", *(PARTS / f"{name}.js" for name in ("markup", "schedule", "program", "toml", "plan", "twin", "laws", "record", "where", "session",
+SCRIPTS = [ROOT / "plans/look.js", *(PARTS / f"{name}.js" for name in ("markup", "schedule", "program", "toml", "plan", "twin", "laws", "record", "where", "session", "search", "finder",
                                                                        "player", "about", "page"))]
-POLICY = "default-src 'none'; script-src {scripts} 'wasm-unsafe-eval'; style-src {styles}; base-uri 'none'; form-action 'none'"
+POLICY = "default-src 'none'; script-src {scripts} 'wasm-unsafe-eval'; worker-src blob:; style-src {styles}; base-uri 'none'; form-action 'none'"
 PROGRAM = re.compile(r'<script type="text/plain" id="packed">(.*?)</script>', re.S)
 
 
@@ -81,7 +81,7 @@ def assembled(program, about):
         "STYLE": f"<style>{style}</style>",
         "PLANS": as_json(stored_plans()),
         "LESSONS": as_json(json.loads((PARTS / "lessons.json").read_text(encoding="utf-8"))),
-        "FACTS": as_json({"program": about, "places": record.PLACES, "rules": kernel.WRONG}),
+        "FACTS": as_json({"program": about, "places": record.PLACES, "mistakes": kernel.WRONG}),
         "PROGRAM": program,
         "SCRIPTS": "\n".join(f'<script id="script-{path.stem}">{text}</script>' for path, text in zip(SCRIPTS, scripts)),
     }

@@ -3,7 +3,7 @@
 
     web/records.py
 
-Each plan of plans/ and tests/rows/ once as it stands, and those with short schedules once more without each rule.
+Each plan of plans/ and tests/rows/ once as it stands, and those with short schedules once more with each mistake.
 """
 import json
 import sys

@@ -62,8 +62,8 @@ class Held {
   }
 
   // A plan that is looked at, with its schedule.
-  session(text, schedule, rule = null) {
-    return this.evaluate('(program, facts, wanted) => new Session(program, facts, wanted)')(this.program, this.facts, { name: 'a plan', text, rule, schedule });
+  session(text, schedule, wrong = null) {
+    return this.evaluate('(program, facts, wanted) => new Session(program, facts, wanted)')(this.program, this.facts, { name: 'a plan', text, wrong, schedule });
   }
 
   // Whether the model prints what the program prints at the end of a schedule.
@@ -128,6 +128,12 @@ class Held {
       is(`the place of ${error}: ${JSON.stringify(got)}`, isRight && (from === undefined || text.slice(from, from + piece.length) === piece));
       is(`the line of ${error}, which plans/explain.py does not name`, line === undefined || linesExplained(plan, schedule).includes(line));
     }
+    for (const { text, notes } of refusals.ignored) {
+      const got = this.evaluate('ignoredKeys')(text);
+      is(`what is ignored: ${JSON.stringify(got)}`, JSON.stringify(got.map(({ line, says }) => [line, says])) === JSON.stringify(notes));
+      is(`plans/explain.py on what is ignored`, String(linesExplained(text, '0')) === String(notes.map(([line]) => line)));
+      is(`the model of a plan with ignored keys`, this.isModelled(text, '0*13'));
+    }
     for (const { text, verdict, shown, says } of refusals.texts) {
       const got = this.program.run(['check'], text).output.trimEnd(), where = inTrace(text, got);
       is(`the place of ${verdict}: ${got} ${JSON.stringify(where)}`, got === verdict && where.text === shown && where.says.includes(says));
@@ -144,12 +150,12 @@ class Held {
     }
   }
 
-  // In each lesson the rule that is left out breaks the law that the lesson names, and the whole kernel keeps every law.
+  // In each lesson the kernel with the mistake breaks the law that the lesson names at the step it names, and not before; the whole kernel keeps every law.
   lessonRuns() {
-    for (const { lesson, plan, rule, breaks, schedule } of this.lessons) {
-      const text = read(`plans/${plan}.toml`), steps = schedule ?? this.scheduleIn(text), broken = this.session(text, steps, rule), step = broken.firstBroken();
-      is(`lesson ${lesson} breaks`, step > 0 && broken.run.cell('broken', step).includes(breaks));
-      is(`lesson ${lesson} stands with its rule`, this.session(text, steps).firstBroken() === -1);
+    for (const { lesson, plan, wrong, breaks, step, schedule } of this.lessons) {
+      const text = read(`plans/${plan}.toml`), steps = schedule ?? this.scheduleIn(text), first = this.session(text, steps, wrong).firstBroken(breaks);
+      is(`lesson ${lesson}: "${breaks}" is first broken after step ${first}`, first === step);
+      is(`lesson ${lesson} stands without the mistake`, this.session(text, steps).firstBroken() === -1);
     }
   }
 }
@@ -157,7 +163,7 @@ class Held {
 // Says what of a run the model in web/page/ tells otherwise than a record of plans/record.py, or undefined. It is run beside the page's scripts.
 function firstOther(text, told, scripts) {
   const { RunRecord, Run, planOf, stepsOf, readSchedule } = scripts, same = (x, y) => JSON.stringify(x) === JSON.stringify(y);
-  const record = new RunRecord(planOf(text), told.wrong, { places: told.places, rules: { [told.wrong]: told.rule } }), theirs = new Run(told), mine = new Run(record.frame);
+  const record = new RunRecord(planOf(text), told.wrong, { places: told.places, mistakes: { [told.wrong]: told.mistake } }), theirs = new Run(told), mine = new Run(record.frame);
   for (const c of stepsOf(readSchedule(told.schedule).items)) mine.grow(record.step(c));
   const other = ['cpus', 'lock', 'capacities', 'threads', 'laws', 'names', 'boot'].find(key => !same(told[key], record.frame[key]));
   const step = theirs.states.findIndex(({ cells, changed }, at) => !same(cells, mine.states[at].cells) || !same([...changed].sort(), [...mine.states[at].changed].sort())
@@ -165,14 +171,43 @@ function firstOther(text, told, scripts) {
   return other ?? (step < 0 ? undefined : `step ${step}`);
 }
 
-// The model tells the same cells as plans/kernel.py, with each rule and without it.
+// The model tells the same cells as plans/kernel.py, of the whole kernel and with each mistake.
 function modelCells() {
   const scripts = sources(ROOT)('({ RunRecord, Run, planOf, stepsOf, readSchedule })');
   const told = spawnSync('python3', [join(ROOT, 'web/records.py')], { encoding: 'utf8', maxBuffer: 1 << 29 });
   if (told.status !== 0) throw new Error(`web/records.py: ${told.stderr}`);
   for (const line of told.stdout.trimEnd().split('\n')) {
     const [name, text, record] = JSON.parse(line), other = firstOther(text, record, scripts);
-    is(`the cells of ${name} without ${record.wrong}: ${other}`, other === undefined);
+    is(`the cells of ${name}, mistake ${record.wrong}: ${other}`, other === undefined);
+  }
+}
+
+// What a search finds in the page, in the form of web/searches.py.
+function foundIn({ text, wrong, most }, scripts) {
+  const { States, LAWS, planOf, askedFor, spelledSchedule } = scripts, states = new States(planOf(text), wrong), stuck = new States(planOf(text), wrong);
+  states.look({ most });
+  const broken = [...LAWS.keys()].filter(law => states.broken.has(law)).map(law => [law, spelledSchedule(states.calmStepsTo(states.broken.get(law).number)), states.broken.get(law).why]);
+  const number = stuck.look({ most, wanted: askedFor('deadlock') }), deadlock = [number === null ? null : spelledSchedule(stuck.calmStepsTo(number)), stuck.count];
+  return { count: states.count, moves: states.moves, depth: states.depth, isAll: states.isAll, broken, deadlock };
+}
+
+// A search in the page finds what plans/states.py finds: as many states, and the same schedules.
+function searches() {
+  const scripts = sources(ROOT)('({ States, LAWS, planOf, askedFor, spelledSchedule })');
+  const told = spawnSync('python3', [join(ROOT, 'web/searches.py')], { encoding: 'utf8', maxBuffer: 1 << 28 });
+  if (told.status !== 0) throw new Error(`web/searches.py: ${told.stderr}`);
+  for (const line of told.stdout.trimEnd().split('\n')) {
+    const wanted = JSON.parse(line), found = foundIn(wanted, scripts), other = Object.keys(found).find(key => JSON.stringify(found[key]) !== JSON.stringify(wanted[key]));
+    is(`the search of ${wanted.plan}, mistake ${wanted.wrong}: ${other} is ${JSON.stringify(found[other])}, and in plans/states.py ${JSON.stringify(wanted[other])}`, other === undefined);
+  }
+}
+
+// The page's schedule in rounds is that of plans/kernel.py.
+function rounds(held) {
+  for (const path of held.stored.filter(name => name.startsWith('plans/'))) {
+    const told = spawnSync('python3', [join(ROOT, 'plans/kernel.py'), '--rounds', join(ROOT, path)], { encoding: 'utf8' }).stdout.trimEnd();
+    const mine = held.evaluate('roundsOf')(held.program, read(path)), cut = held.evaluate('MOST_ROUND_STEPS'), steps = held.evaluate('text => stepsOf(readSchedule(text).items)');
+    is(`the rounds of ${path}`, String(steps(mine)) === String(steps(told).slice(0, cut)));
   }
 }
 
@@ -192,6 +227,8 @@ async function main() {
     held.modelRuns();
     held.lessonRuns();
     modelCells();
+    searches();
+    rounds(held);
   } finally {
     rmSync(folder, { recursive: true });
   }

@@ -5,10 +5,13 @@ const COMPARED = html`<p>✓ <b>Said by the proved program too</b>, here in this
   that took effect with its op and pos, what is left in each buffer. <b>Told by the page's own model alone</b>, which is not proved: sections, lines of programs,
   registers, owners, orders in queues and lines, words of locks, and whether a law holds.</p>`;
 
-const LANES = html`<p>A CPU's lane: <b>+</b> takes a ticket, <b>…</b> looks in vain, light grey enters, dark grey edits and leaves. ● a call takes effect.</p>`;
+const LANES = html`<p>A CPU's lane: <b>+</b> takes a ticket, <b>…</b> looks in vain, light grey enters, dark grey edits and leaves. ● a call takes effect.</p>
+  <p>A call is six sections of three steps: <b>AcqQ</b> asks for the buffer, <b>Enter</b> draws a position and joins its line, <b>TryPut</b> or <b>TryTake</b> puts or takes,
+  <b>SigRecv</b> and <b>SigSend</b> wake the first who waits, <b>RelQ</b> gives the buffer on. After a try in vain <b>Wait</b> sleeps. A close has <b>Shut</b> in place of Enter and the
+  try. <b>Pend</b> sends a woken thread to its home CPU, which fetches it by <b>Drain</b>. <b>op</b> counts the buffer's effects, <b>pos</b> those of its kind.</p>`;
 
 const KEYS = html`<p>Keys: ← → on and back, with shift by sections; Page Up and Page Down by effects; Home, End; space plays; a digit steps that CPU, with shift
-  until it blocks; Backspace takes a change back; r goes on at random; c copies the schedule.</p>`;
+  until it blocks; Backspace takes a change back; r goes on at random; c copies the schedule, l the link.</p>`;
 
 const NOT_PROVED = [
   "the way from the proved program to WebAssembly: clang, its linker, a small C library (web/libc.c), and a script that makes addresses 32 bits wide (web/lower.py)",
@@ -32,7 +35,13 @@ const aboutPage = facts => html`
   <p><b>Compared instead</b>: before a change of the program is merged, this page's module has to print what the program itself prints, on every stored plan behind
   both kinds of lock, on random plans, and on damaged plans, schedules and texts. And in this page, each time a ✓ stands: the model and the program print the same
   text after this step.</p>
-  <p>With a rule left out, nothing is proved: that kernel is the model's alone.</p>
+  <p>Of a kernel that makes a mistake nothing is proved: it is the model's alone. So is what a search finds.</p>
   <p>${commitOf(facts.program)}</p>`;
+
+// The keys and the instructions of a plan, in the words of the program's own help.
+function planHelp(program) {
+  const { output, errors } = program.run(["run", "--help"], ""), help = output + errors;
+  return /^The keys of a plan[^]*?(?=\n\nA refusal)/m.exec(help)?.[0] ?? help;
+}
 
 const footOf = (facts, run) => html`<p>${drawn(legendOf(run))}</p>${LANES}${KEYS}${COMPARED}<p>${commitOf(facts.program)} This page asks nothing of any network.</p>`;

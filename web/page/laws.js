@@ -1,54 +1,70 @@
 "use strict";
-// What holds in each state of the proved program, looked up in a state of the twin: plans/laws.py says the same in Python.
+// What holds in each state of the proved program, looked up in a state of the twin, and why it does not where it is broken: plans/laws.py says the same in Python.
 
 const sleepsInVain = (buffer, side) => buffer.line[side].length > 0 && buffer.waiting[side].includes(buffer.line[side][0]) && buffer.mayGo(side);
+const tracesOf = kernel => kernel.cpus.map(cpu => cpu.trace);
 
-// The threads that each place of a kernel has; a thread that has ended is a place of its own.
-function threadsByPlace(kernel) {
-  const ofCpu = cpu => [...cpu.ready, ...[cpu.current, cpu.hand].filter(t => t !== null)];
-  const ofBlock = block => (block instanceof PendingBlock ? block.threads : [...block.sleepers, ...block.waiting[RECEIVERS], ...block.waiting[SENDERS]]);
-  const ended = kernel.guests.flatMap((guest, t) => (isEnded(guest) ? [t] : []));
-  return [...kernel.cpus.flatMap(ofCpu), ...ended, ...[...kernel.blocks.values()].flatMap(ofBlock)];
+// ---- where threads stand
+
+function standingAt(lock, block) {
+  const number = /\d+/.exec(lock)[0];
+  if (block instanceof PendingBlock) return block.threads.map(t => [t, `pending at CPU ${number}`]);
+  const waiting = (side, does) => block.waiting[side].map(t => [t, `waiting to ${does} buffer ${number}`]);
+  return [...block.sleepers.map(t => [t, `asleep for buffer ${number}`]), ...waiting(RECEIVERS, "receive from"), ...waiting(SENDERS, "send to")];
 }
 
-function isEachAtOnePlace(kernel) {
-  const threads = threadsByPlace(kernel);
-  return threads.length === kernel.guests.length && new Set(threads).size === threads.length;
+// Where each thread stands: a list of places in words for each. A thread that has ended is at a place of its own.
+function standing(kernel) {
+  const found = kernel.guests.map(() => []), put = ([t, words]) => { if (t !== null) found[t].push(words); };
+  kernel.cpus.forEach((cpu, c) => [[cpu.current, `running on CPU ${c}`], ...cpu.ready.map(t => [t, `ready at CPU ${c}`]), [cpu.hand, `in the hand of CPU ${c}`]].forEach(put));
+  for (const [lock, block] of kernel.blocks) standingAt(lock, block).forEach(put);
+  kernel.guests.forEach((guest, t) => { if (isEnded(guest)) put([t, "ended"]); });
+  return found;
+}
+
+function twoPlaces(kernel) {
+  const all = standing(kernel), t = all.findIndex(places => places.length !== 1);
+  return t < 0 ? null : all[t].length ? `t${t} is ${all[t].join(" and ")}` : `t${t} stands nowhere`;
 }
 
 // A thread that runs, is ready or is pending at a CPU has its home there; one in its hand has not.
-function isEachAtHome(kernel) {
+function astray(kernel) {
   const home = t => kernel.guests[t].home;
-  return kernel.cpus.every((cpu, c) => [...cpu.ready, ...(cpu.current === null ? [] : [cpu.current]), ...kernel.blocks.get(`pending${c}`).threads].every(t => home(t) === c)
-    && (cpu.hand === null || home(cpu.hand) !== c));
-}
-
-function isOneInside(kernel) {
-  const inside = kernel.cpus.filter(cpu => cpu.block !== null).map(cpu => cpu.section.lock);
-  return new Set(inside).size === inside.length;
-}
-
-const hasNoLostWakeUp = kernel => kernel.buffers().every(buffer => buffer.owner !== null || !(sleepsInVain(buffer, RECEIVERS) || sleepsInVain(buffer, SENDERS)));
-const hasNoFreeSleeper = kernel => kernel.buffers().every(buffer => buffer.owner !== null || buffer.sleepers.length === 0);
-
-// Whether a buffer's effects, in the order of their op, are a run of a first-in first-out buffer that ends in its items.
-function isPlayed(entries, buffer) {
-  const counts = { send: 0, recv: 0, close: 0 }, items = [];
-  let closed = false;
-  for (const [number, [, , kind, , value, op, position]] of entries.entries()) {
-    const side = kind.replace(/c$/, "");
-    if (op !== number || position !== counts[side]++) return false;
-    if (kind === "send" && !closed && items.length < buffer.capacity) items.push(value);
-    else if (kind === "recv" && items.length && items[0] === value) items.shift();
-    else if (!(kind === "close" || (kind === "sendc" && closed) || (kind === "recvc" && closed && items.length === 0))) return false;
-    closed ||= kind === "close";
+  for (const [c, { current, ready }] of kernel.cpus.entries()) {
+    const own = [...(current === null ? [] : [[current, "runs on"]]), ...ready.map(t => [t, "is ready at"]), ...kernel.blocks.get(`pending${c}`).threads.map(t => [t, "is pending at"])];
+    const stray = own.find(([t]) => home(t) !== c);
+    if (stray) return `t${stray[0]} ${stray[1]} CPU ${c}, and its home is CPU ${home(stray[0])}`;
   }
-  return closed === buffer.closed && items.join(" ") === buffer.items.map(spelledMessage).join(" ");
+  const c = kernel.cpus.findIndex((cpu, at) => cpu.hand !== null && home(cpu.hand) === at);
+  return c < 0 ? null : `t${kernel.cpus[c].hand} is in the hand of CPU ${c}, its home`;
 }
 
-function isFirstInFirstOut(kernel) {
-  const entries = kernel.cpus.flatMap(cpu => cpu.trace);
-  return kernel.buffers().every((buffer, b) => isPlayed(entries.filter(entry => entry[3] === b).sort((x, y) => x[5] - y[5]), buffer));
+function twoInside(kernel) {
+  const inside = kernel.cpus.map(cpu => (cpu.block === null ? null : cpu.section.lock)), lock = inside.find((one, c) => one !== null && inside.includes(one, c + 1));
+  if (lock === undefined) return null;
+  const name = lock.startsWith("buffer") ? `buffer ${lock.slice(6)}` : `CPU ${lock.slice(7)}'s pending queue`;
+  return `${inside.flatMap((one, c) => (one === lock ? [`CPU ${c}`] : [])).join(" and ")} are inside the spin lock of ${name}`;
+}
+
+// ---- who sleeps
+
+// What of a buffer lets a call of a side go on, in words.
+function allowing(buffer, side) {
+  if (buffer.closed) return "is closed";
+  return side === RECEIVERS ? `holds ${buffer.items.map(spelledMessage).join(" ")}` : "has room";
+}
+
+function lostWakeUp(kernel) {
+  for (const [b, buffer] of kernel.buffers().entries()) {
+    const side = buffer.owner === null ? [RECEIVERS, SENDERS].find(one => sleepsInVain(buffer, one)) : undefined;
+    if (side !== undefined) return `buffer ${b} ${allowing(buffer, side)}, is free, and t${buffer.line[side][0]}, first in its ${["receive", "send"][side]} line, sleeps`;
+  }
+  return null;
+}
+
+function freeSleeper(kernel) {
+  const b = kernel.buffers().findIndex(buffer => buffer.owner === null && buffer.sleepers.length > 0);
+  return b < 0 ? null : `buffer ${b} is free, and t${kernel.buffers()[b].sleepers[0]} sleeps until it is handed over`;
 }
 
 // Whether a thread that has not ended stands at a call that its buffer allows, or at none.
@@ -58,11 +74,113 @@ function couldGoOn(kernel, guest) {
   return call === null || guest.instruction()[0] === "close" || guest.stage === "Returns" || kernel.blocks.get(`buffer${call.buffer}`).mayGo(call.side);
 }
 
-const isQuietStill = kernel => !kernel.isQuiet() || !kernel.guests.some(guest => couldGoOn(kernel, guest));
+function notStill(kernel) {
+  const t = kernel.isQuiet() ? kernel.guests.findIndex(guest => couldGoOn(kernel, guest)) : -1;
+  if (t < 0) return null;
+  const guest = kernel.guests[t], call = guest.call(), isFree = call === null || guest.instruction()[0] === "close";
+  const because = isFree ? "" : ` and buffer ${call.buffer} ${allowing(kernel.blocks.get(`buffer${call.buffer}`), call.side)}`;
+  return `no CPU has anything to do, but t${t} stands at “${guest.instruction().join(" ")}”${because}`;
+}
 
-// The laws in the order in which pages tell them.
-const LAWS = new Map([["one place for each thread", isEachAtOnePlace], ["each thread runs at home", isEachAtHome], ["one CPU inside a lock", isOneInside],
-  ["no lost wake-up", hasNoLostWakeUp], ["nobody sleeps at a free lock", hasNoFreeSleeper], ["sent = received ++ left", isFirstInFirstOut],
-  ["quiet only if nobody can go on", isQuietStill]]);
+// ---- calls that took effect. An entry is [cpu, thread, kind, buffer, value, op, position].
 
-const brokenIn = kernel => [...LAWS].filter(([, holds]) => !holds(kernel)).map(([law]) => law);
+const CALL_NAMES = { send: "send", sendc: "send", recv: "receive", recvc: "receive", close: "close" };
+const namedCall = ([, t, kind, , value]) => `t${t}'s ${CALL_NAMES[kind]}${value === "-" ? "" : ` of ${value}`}`;
+
+// The calls that took effect on each buffer, in the order of their op.
+function orderOf(traces, buffers) {
+  const entries = traces.flat();
+  return counted(buffers).map(b => entries.filter(entry => entry[3] === b).sort((x, y) => x[5] - y[5]));
+}
+
+// What is in a list more often than in another, each as often as it is more.
+function surplus(list, other) {
+  const left = [...other];
+  return list.filter(one => {
+    const at = left.indexOf(one);
+    if (at >= 0) left.splice(at, 1);
+    return at < 0;
+  });
+}
+
+// What is wrong with values that were sent, received and left, in words.
+function amiss(sent, there) {
+  const lost = surplus(sent, there), more = surplus(there, sent), doubled = more.filter(value => sent.includes(value)), foreign = more.filter(value => !sent.includes(value));
+  return [[lost, "lost"], [doubled, "doubled"], [foreign, "never sent"]].filter(([some]) => some.length).map(([some, words]) => `${some.join(" ")} ${words}`).join(", ") || "out of order";
+}
+
+function notTheSame(effects, buffer, b) {
+  const of = kind => effects.filter(entry => entry[2] === kind).map(entry => entry[4]), sent = of("send"), received = of("recv"), left = buffer.items.map(spelledMessage);
+  if (sent.length === received.length + left.length && [...received, ...left].every((value, i) => value === sent[i])) return null;
+  return `buffer ${b}: sent [${sent.join(" ")}], received [${received.join(" ")}], left [${left.join(" ")}]: ${amiss(sent, [...received, ...left])}`;
+}
+
+// A call that took effect before one which had drawn an earlier position.
+function outOfTurn(effects, _, b) {
+  const counts = { send: 0, receive: 0, close: 0 };
+  for (const entry of effects) {
+    const due = counts[CALL_NAMES[entry[2]]]++;
+    if (entry[6] !== due) return `buffer ${b}: ${namedCall(entry)} has position ${entry[6]} in its line, and went where position ${due} is due`;
+  }
+  return null;
+}
+
+// Why a call cannot have taken effect so at a buffer that holds so many messages, or null.
+function whyNot(kind, held, closed, capacity) {
+  if (kind === "send") return closed ? "it is closed" : held >= capacity ? "it is full" : null;
+  if (kind === "recv") return held ? null : "it is empty";
+  if (kind === "close") return null;
+  return !closed ? "it is open" : kind === "recvc" && held ? `it still holds ${held}` : null;
+}
+
+function falseAnswer(effects, buffer, b) {
+  let held = 0, closed = false;
+  for (const entry of effects) {
+    const kind = entry[2], why = whyNot(kind, held, closed, buffer.capacity);
+    if (why) return `buffer ${b}: ${namedCall(entry)} ${kind === "sendc" || kind === "recvc" ? "finds it closed" : "goes through"}, and ${why}`;
+    held += kind === "send" ? 1 : kind === "recv" ? -1 : 0;
+    closed ||= kind === "close";
+  }
+  return closed === buffer.closed ? null : `buffer ${b}: ${buffer.closed ? "it is closed" : "it is open"}, and no call made it so`;
+}
+
+function misnumbered(effects, _, b) {
+  if (effects.every((entry, number) => entry[5] === number)) return null;
+  const twin = effects.findIndex((entry, i) => i + 1 < effects.length && entry[5] === effects[i + 1][5]), one = effects.at(twin);
+  return `buffer ${b}: ${namedCall(one)} has op ${one[5]}${twin < 0 ? ", and one before it is missing" : `, and so has ${namedCall(effects[twin + 1])}`}`;
+}
+
+// Whether the order after a step of a CPU is the order before it, and at most one call more, which is of that CPU.
+function hasGrown(earlier, later, c) {
+  const more = later.flatMap((effects, b) => effects.slice(earlier[b].length));
+  return more.length <= 1 && more.every(entry => entry[0] === c) && earlier.every((effects, b) => effects.every((entry, i) => later[b][i] === entry));
+}
+
+// A law on effects, of one that a buffer's effects may break.
+const ofEach = fault => (kernel, order) => {
+  for (const [b, buffer] of kernel.buffers().entries()) {
+    const why = fault(order[b], buffer, b);
+    if (why) return why;
+  }
+  return null;
+};
+
+// `last` is {earlier, cpu}: the order of effects before the step that led here, and the CPU that took it; null where no step did.
+function notGrown(kernel, order, last) {
+  const grown = last === null || hasGrown(last.earlier, order, last.cpu);
+  return ofEach(misnumbered)(kernel, order) ?? (grown ? null : "in this step the order got a call that is not at its end, or not of the CPU that stepped");
+}
+
+// The laws in the order in which pages tell them: each says why it is broken, or null.
+const LAWS = new Map([["one place for each thread", twoPlaces], ["each thread runs at home", astray], ["one CPU inside a lock", twoInside], ["no lost wake-up", lostWakeUp],
+  ["nobody sleeps at a free lock", freeSleeper], ["sent = received ++ left", ofEach(notTheSame)], ["callers in their order", ofEach(outOfTurn)],
+  ["each answer fits its buffer", ofEach(falseAnswer)], ["the order only grows", notGrown], ["quiet only if nobody can go on", notStill]]);
+
+// The laws that do not hold in a state, each with why.
+function faultsIn(kernel, last = null) {
+  const order = orderOf(tracesOf(kernel), kernel.buffers().length);
+  return [...LAWS].flatMap(([law, fault]) => {
+    const why = fault(kernel, order, last);
+    return why === null ? [] : [[law, why]];
+  });
+}

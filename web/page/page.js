@@ -5,17 +5,26 @@ const OWN_PLAN = "your own", FIRST_PLAN = "woken-from-afar";
 const COMPARE_FOR = 8, COMPARE_PAUSE = 12, LINK_PAUSE = 150; // milliseconds
 const MOST_LINK = 8000; // letters of a plan in a link
 
+// What is said before the first step: what one sees, and what to press.
+const START = {
+  who: "", first: "Threads on CPUs pass numbers through buffers",
+  small: "→ takes the next step of the schedule; a digit lets that CPU take a step of its own; lessons are in the list above.",
+};
+
 const readData = id => JSON.parse(byId(id).textContent);
 const option = (value, words) => html`<option value="${value}">${words}</option>`;
+const isOf = (table, name) => Object.hasOwn(table, name ?? "");
 
 class Page {
   constructor(program) {
     Object.assign(this, { program, facts: readData("facts"), plans: readData("plans"), lessons: readData("lessons"), session: null, lanes: { from: 0, each: 1 } });
-    fill("plan", html`<optgroup label="plans">${Object.keys(this.plans).map(name => option(name, name))}${option(OWN_PLAN, OWN_PLAN)}</optgroup>
-      <optgroup label="lessons: a rule is left out">${this.lessons.map((one, i) => option(`lesson ${i}`, `lesson ${one.lesson}`))}</optgroup>`);
-    fill("rule", html`${option("", "the proved one")}${Object.keys(this.facts.rules).map(rule => option(rule, `without ${rule}`))}`);
+    fill("plan", html`${Object.keys(this.plans).map(name => option(name, name))}${option(OWN_PLAN, OWN_PLAN)}`);
+    fill("lessonList", html`${option("", "lessons")}${this.lessons.map(({ lesson }, i) => option(i, lesson))}`);
+    fill("wrong", html`${option("", "the proved one")}${Object.keys(this.facts.mistakes).map(name => option(name, `wrong: ${name}`))}`);
     fill("about", aboutPage(this.facts));
+    fill("planHelp", planHelp(this.program));
     this.player = new Player(this);
+    this.finder = new Finder(this);
     this.handsOn();
     this.fromLink();
   }
@@ -31,17 +40,18 @@ class Page {
   // ---- loading
 
   // Shows a plan under a schedule, or says why the proved program refuses them. Returns whether it is shown.
-  load({ name, text, rule = null, schedule }, step = 0, refusedAt = "refused") {
+  load({ name, text, wrong = null, schedule }, step = 0, refusedAt = "refused") {
     const refusal = refusalOf(this.program, text, schedule);
     if (refusal) return this.refuse(refusal, refusedAt);
     try {
-      this.session = new Session(this.program, this.facts, { name, text, rule, schedule });
+      this.session = new Session(this.program, this.facts, { name, text, wrong, schedule });
     } catch (fault) {
       return this.refuse({ line: "the proved program takes this, and this page cannot draw it", where: { says: fault.message } }, refusedAt);
     }
     this.player.stop();
     fill("refused", "");
     fill("planRefused", "");
+    fill("ignored", html`${ignoredKeys(text).map(({ line, says }) => html`<div>line ${line} of the plan: ${says}</div>`)}`);
     fill("foot", footOf(this.facts, this.run));
     this.go(step);
     return true;
@@ -54,22 +64,34 @@ class Page {
     return false;
   }
 
-  loadStored(name, rule = null, schedule = scheduleIn(this.plans[name]), step = 0) {
-    return this.load({ name, text: this.plans[name], rule, schedule }, step);
+  loadStored(name, wrong = null, schedule = scheduleIn(this.plans[name]), step = 0) {
+    return this.load({ name, text: this.plans[name], wrong, schedule }, step);
   }
 
-  choosePlan(value) {
-    const lesson = this.lessons[/^lesson (\d+)$/.exec(value)?.[1]];
-    if (lesson) this.loadStored(lesson.plan, lesson.rule, lesson.schedule);
-    else if (this.plans[value]) this.loadStored(value);
+  // Shows the same plan and kernel under another schedule, at its end; what was shown may be had back.
+  loadSteps(schedule) {
+    const { name, text, wrong, past, at } = this.session, before = { steps: [...this.session.steps], at };
+    if (!this.load({ name, text, wrong, schedule }, Infinity)) return;
+    this.session.past = [...past, before];
+    this.show();
+  }
+
+  choosePlan(name) {
+    if (isOf(this.plans, name)) this.loadStored(name);
     else this.openPanel("planPanel");
     this.leave("plan");
   }
 
+  chooseLesson(number) {
+    const lesson = this.lessons[number];
+    if (lesson) this.loadStored(lesson.plan, lesson.wrong, lesson.schedule);
+    this.leave("lessonList");
+  }
+
   // The link of what is shown; fromLink is its way back.
   link() {
-    const { name, text, rule, steps, at } = this.session, isStored = this.plans[name] === text;
-    const parts = { plan: isStored ? name : "", rule: rule ?? "", schedule: spelledSchedule(steps), step: at, text: isStored || text.length > MOST_LINK ? "" : text };
+    const { name, text, wrong, steps, at } = this.session, isStored = this.plans[name] === text;
+    const parts = { plan: isStored ? name : "", wrong: wrong ?? "", schedule: spelledSchedule(steps), step: at, text: isStored || text.length > MOST_LINK ? "" : text };
     const kept = Object.entries(parts).filter(([key, value]) => value !== "" || key === "schedule");
     return `#${kept.map(([key, value]) => `${key}=${encodeURIComponent(value).replaceAll("%2C", ",")}`).join("&")}`;
   }
@@ -81,12 +103,20 @@ class Page {
   }
 
   fromLink() {
-    const asked = new URLSearchParams(location.hash.slice(1).replaceAll("+", "%2B")), rule = Object.hasOwn(this.facts.rules, asked.get("rule") ?? "") ? asked.get("rule") : null;
-    const stored = Object.hasOwn(this.plans, asked.get("plan") ?? "") ? asked.get("plan") : FIRST_PLAN, own = asked.get("text");
+    const asked = new URLSearchParams((location.hash || location.search).slice(1).replaceAll("+", "%2B")), own = asked.get("text");
+    const named = { plan: own === null ? asked.get("plan") : null, mistake: asked.get("wrong") ?? asked.get("rule") };
+    const stored = isOf(this.plans, named.plan) ? named.plan : FIRST_PLAN, wrong = isOf(this.facts.mistakes, named.mistake) ? named.mistake : null;
     const text = own ?? this.plans[stored], schedule = asked.get("schedule") ?? scheduleIn(text), step = Number(asked.get("step")) || 0;
-    if (this.load({ name: own === null ? stored : OWN_PLAN, text, rule, schedule }, step) || this.session) return;
-    const refused = byId("refused").innerHTML; // the first link is refused: that is said above a plan that is not
-    this.loadStored(FIRST_PLAN);
+    const isTaken = this.load({ name: own === null ? stored : OWN_PLAN, text, wrong, schedule }, step);
+    if (!isTaken && !this.session) this.showBeneath(() => this.loadStored(FIRST_PLAN));
+    const strange = [["plan", named.plan, this.plans], ["mistake", named.mistake, this.facts.mistakes]].filter(([, name, known]) => name && !isOf(known, name));
+    if (strange.length && isTaken) fill("refused", html`${strange.map(([what, name]) => html`<div>The link names the ${what} <b>${name}</b>, which this page has not.</div>`)}`);
+  }
+
+  // Shows something else, and leaves standing above it what was refused.
+  showBeneath(show) {
+    const refused = byId("refused").innerHTML;
+    show();
     byId("refused").innerHTML = refused;
   }
 
@@ -113,7 +143,7 @@ class Page {
   }
 
   showSentence() {
-    const { who, first, small, effect } = wordsOf(this.run, this.at), tag = who ? html`<span class="who ${effect ? "effect" : ""}">${who}</span>` : "";
+    const { who, first, small, effect } = this.at === 0 ? START : wordsOf(this.run, this.at), tag = who ? html`<span class="who ${effect ? "effect" : ""}">${who}</span>` : "";
     fill("said", html`${tag}<span>${first}<small>${small}</small></span>`);
     byId("slide").setAttribute("aria-valuetext", `step ${this.at}: ${who} ${first}`);
   }
@@ -137,25 +167,31 @@ class Page {
     const choice = c => html`<button data-choose="${c}" aria-label="step CPU ${c}" title="key ${c}: what stands behind is dropped">${c}</button>`;
     fill("choices", html`${counted(session.plan.cpus).map(choice)}`);
     byId("plan").value = this.plans[session.name] === session.text ? session.name : OWN_PLAN;
-    byId("rule").value = session.rule ?? "";
+    byId("wrong").value = session.wrong ?? "";
+    byId("lessonList").value = this.lesson() ? this.lessons.indexOf(this.lesson()) : "";
     if (document.activeElement !== byId("schedule")) byId("schedule").value = spelledSchedule(session.steps);
     document.title = `${session.name}, step ${at}: the verified thread tower`;
     this.keepLink();
   }
 
+  // The lesson whose plan and kernel are shown, or undefined.
+  lesson() {
+    const { name, wrong } = this.session;
+    return this.lessons.find(one => one.plan === name && one.wrong === wrong);
+  }
+
   showLesson() {
-    const { name, rule } = this.session, lesson = this.lessons.find(one => one.plan === name && one.rule === rule);
-    const buttons = html`<button id="broken">where a law breaks</button> <button id="empty">begin with no steps</button>`;
-    fill("lesson", lesson ? html`<b>Lesson ${lesson.lesson}</b> ${lesson.look} ${buttons}` : "");
+    const lesson = this.lesson(), buttons = html`<button id="broken">where it breaks</button> <button id="empty">begin with no steps</button>`;
+    fill("lesson", lesson ? html`<b>Lesson ${lesson.lesson}</b> ${lesson.look} What breaks is “${lesson.breaks}”. ${buttons}` : "");
   }
 
   showEvidence() {
-    const { evidence, record, rule, breakdown } = this.session, differs = evidence.firstDifference(), all = record.printed.length;
-    const same = rule ? "not the proved kernel" : differs === null ? "✓ the proved program prints the same" : "the proved program differs";
+    const { evidence, record, wrong, breakdown } = this.session, differs = evidence.firstDifference(), all = record.printed.length;
+    const same = wrong ? "not the proved kernel" : differs === null ? "✓ the proved program prints the same" : "the proved program differs";
     fill("evidence", html`<p>${same}</p><p>compared: ${evidence.counted} of ${all} beginnings</p>`);
     const other = differs === null ? "" : ` The proved program prints something else${evidence.counted < all ? "" : ` from step ${differs} on`}.`;
     const said = differs === null && evidence.counted === all ? " In this run the proved program prints the same." : other;
-    fill("warn", rule ? `NOT the proved kernel: rule ${rule} is left out, so ${this.facts.rules[rule]}.${said} ${breakdown ?? ""}`
+    fill("warn", wrong ? `NOT the proved kernel: here ${this.facts.mistakes[wrong]} (${wrong}).${said} ${breakdown ?? ""}`
       : differs === null ? "" : `The page's model and the proved program differ after step ${differs}: believe what is printed, and tell who made this page.`);
   }
 
@@ -178,17 +214,22 @@ class Page {
     if (id === "planPanel") byId("planText").value = this.session.text;
     if (id === "printedPanel") this.showPrinted();
     if (id === "judgePanel") this.takeTrace();
+    if (id === "searchPanel") this.finder.open();
     byId(id).showModal();
   }
 
+  // What the proved program prints; in a kernel with a mistake, what that prints too.
   showPrinted() {
-    const { schedule, output, errors } = this.session.printedHere(), words = schedule ? ` run --schedule '${schedule}'` : " run";
-    fill("printed", html`<pre>mctower${words} &lt; ${this.session.name}</pre><p>On standard output, the trace text:</p><pre>${output}</pre>
-      <p>On standard error, the state lines:</p><pre>${errors}</pre>`);
+    const { wrong, name } = this.session, { schedule, proved, shown } = this.session.printedHere(), words = schedule ? ` run --schedule '${schedule}'` : " run";
+    const both = ({ output, errors }) => html`<p>On standard output, the trace text:</p><pre>${output}</pre><p>On standard error, the state lines:</p><pre>${errors}</pre>`;
+    const own = wrong ? html`<h3>The kernel that is shown, which is not proved (${wrong})</h3>${both(shown)}<h3>The proved program, by the same schedule</h3>` : "";
+    fill("printed", html`${own}<pre>mctower${words} &lt; ${name}</pre>${both(proved)}`);
   }
 
+  // The text of the kernel that is shown.
   takeTrace() {
-    byId("traceText").value = this.session.printedHere().output;
+    const { proved, shown } = this.session.printedHere();
+    byId("traceText").value = this.session.wrong ? shown.output : proved.output;
     fill("verdict", "");
   }
 
@@ -199,9 +240,10 @@ class Page {
     else this.refuse({ line: verdict, where: whereInTrace(text, verdict) }, "verdict");
   }
 
+  // Shows the plan that was typed in: by the schedule in its first lines, or by one in rounds.
   runPlan() {
-    const text = byId("planText").value, stored = Object.keys(this.plans).find(name => this.plans[name] === text);
-    const schedule = scheduleIn(text), isTaken = this.load({ name: stored ?? OWN_PLAN, text, rule: this.session.rule, schedule }, 0, "planRefused");
+    const text = byId("planText").value, stored = Object.keys(this.plans).find(name => this.plans[name] === text), { wrong } = this.session;
+    const isTaken = this.load({ name: stored ?? OWN_PLAN, text, wrong, schedule: scheduleIn(text) || roundsOf(this.program, text) }, 0, "planRefused");
     if (isTaken) byId("planPanel").close();
   }
 
@@ -215,38 +257,44 @@ class Page {
   }
 
   typeSchedule() {
-    const { name, text, rule } = this.session, schedule = byId("schedule").value.trim();
-    if (schedule === spelledSchedule(this.session.steps)) return;
-    const { past, at } = this.session, before = { steps: [...this.session.steps], at };
-    if (this.load({ name, text, rule, schedule }, Infinity)) {
-      this.session.past = [...past, before];
-      this.show();
-    }
+    const schedule = byId("schedule").value.trim();
+    if (schedule !== spelledSchedule(this.session.steps)) this.loadSteps(schedule);
   }
 
-  async copy() {
-    const schedule = spelledSchedule(this.session.steps);
+  async copy(text, said) {
     try {
-      await navigator.clipboard.writeText(schedule);
-      byId("count").textContent = "schedule copied";
+      await navigator.clipboard.writeText(text);
+      byId("count").textContent = `${said} copied`;
     } catch {
-      byId("schedule").select(); // the browser gives no clipboard: the reader copies by hand
+      byId("count").textContent = `${said}: copy it by hand`; // the browser gives no clipboard; the link stands in the address
+      if (text === byId("schedule").value) byId("schedule").select();
     }
   }
 
+  copySchedule() {
+    return this.copy(spelledSchedule(this.session.steps), "schedule");
+  }
+
+  copyLink() {
+    return this.copy(new URL(this.link(), location.href).href, "link");
+  }
+
+  // To where the lesson's law is first broken; without a lesson, where any is.
   toBroken() {
-    const step = this.session.firstBroken();
+    const step = this.session.firstBroken(this.lesson()?.breaks);
     if (step >= 0) this.go(step);
   }
 
   handsOn() {
     const on = (id, name, act) => byId(id).addEventListener(name, act);
     on("plan", "change", event => this.choosePlan(event.target.value));
-    on("rule", "change", event => { this.change(session => session.leaveOut(event.target.value || null)); this.leave("rule"); });
+    on("lessonList", "change", event => this.chooseLesson(event.target.value));
+    on("wrong", "change", event => { this.change(session => session.changeKernel(event.target.value || null)); this.leave("wrong"); });
     on("schedule", "change", () => this.typeSchedule());
     on("undo", "click", () => this.change(session => session.undo()));
     on("fair", "click", () => this.change(session => session.random()));
     on("runPlan", "click", () => this.runPlan());
+    on("copyLink", "click", () => this.copyLink());
     on("judge", "click", () => this.judge());
     on("takeTrace", "click", () => this.takeTrace());
     document.addEventListener("pointerdown", () => { this.isByMouse = true; }, true);
@@ -281,7 +329,8 @@ class Page {
     const digit = /^Digit(\d)$/.exec(event.code)?.[1], acts = { Backspace: session => session.undo(), r: session => session.random() };
     if (digit !== undefined && Number(digit) < this.session.plan.cpus) this.change(session => (event.shiftKey ? session.runOn(Number(digit)) : session.choose(Number(digit))));
     else if (Object.hasOwn(acts, event.key)) this.change(acts[event.key]);
-    else if (event.key === "c") this.copy();
+    else if (event.key === "c") this.copySchedule();
+    else if (event.key === "l") this.copyLink();
     else if (!this.player.key(event)) return;
     event.preventDefault();
   }

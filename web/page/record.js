@@ -22,16 +22,16 @@ function bufferCells(kernel, buffer, b) {
   };
 }
 
-// All that a page shows of a state: a name for each thing, and its value.
-function cellsOf(kernel) {
+// All that a page shows of a state: a name for each thing, and its value. `last` says what step led here, as laws.js has it.
+function cellsOf(kernel, last = null) {
   return Object.assign({}, ...kernel.cpus.map((_, c) => cpuCells(kernel, c)), ...kernel.guests.map(threadCells),
-    ...kernel.buffers().map((buffer, b) => bufferCells(kernel, buffer, b)), { quiet: kernel.isQuiet(), broken: brokenIn(kernel) });
+    ...kernel.buffers().map((buffer, b) => bufferCells(kernel, buffer, b)), { quiet: kernel.isQuiet(), broken: faultsIn(kernel, last) });
 }
 
 const isSame = (x, y) => x === y || (Array.isArray(x) && Array.isArray(y) && x.length === y.length && x.every((one, i) => isSame(one, y[i])));
 
 class RunRecord {
-  // `facts` has what pages say of places and rules.
+  // `facts` has what pages say of places and mistakes.
   constructor(plan, wrong, facts) {
     Object.assign(this, { plan, wrong });
     this.kernel = new Kernel(plan, wrong);
@@ -40,7 +40,7 @@ class RunRecord {
     this.printed = [this.print()]; // what `run` has to print after each number of steps
     this.frame = {
       cpus: plan.cpus, lock: plan.lock, capacities: plan.buffers, threads: plan.threads.map(({ cpu, program }) => ({ home: cpu, program })),
-      laws: [...LAWS.keys()], places: facts.places, names: Object.keys(cells), boot: [...this.values], wrong, rule: facts.rules[wrong] ?? null, steps: [],
+      laws: [...LAWS.keys()], places: facts.places, names: Object.keys(cells), boot: [...this.values], wrong, mistake: facts.mistakes[wrong] ?? null, steps: [],
     };
     this.taken = [];
   }
@@ -53,9 +53,14 @@ class RunRecord {
     return { output: this.kernel.text(), errors: this.kernel.states() };
   }
 
+  // The calls that took effect, as laws.js has their order.
+  order() {
+    return orderOf(tracesOf(this.kernel), this.plan.buffers.length);
+  }
+
   // Takes a step. Returns what it did: [cpu, section, part, entry, [cell, value, ..]].
   step(c) {
-    const [section, part] = this.kernel.step(c), values = Object.values(cellsOf(this.kernel)), changes = [];
+    const earlier = this.order(), [section, part] = this.kernel.step(c), values = Object.values(cellsOf(this.kernel, { earlier, cpu: c })), changes = [];
     values.forEach((value, i) => { if (!isSame(value, this.values[i])) changes.push(i, value); });
     this.values = values;
     this.taken.push(c);
@@ -74,7 +79,9 @@ class RunRecord {
     this.taken.length = length;
     this.printed.length = length + 1;
     this.kernel = new Kernel(this.plan, this.wrong);
-    for (const c of this.taken) this.kernel.step(c);
-    this.values = Object.values(cellsOf(this.kernel));
+    for (const c of this.taken.slice(0, -1)) this.kernel.step(c);
+    const cpu = this.taken.at(-1), last = cpu === undefined ? null : { earlier: this.order(), cpu };
+    if (last) this.kernel.step(cpu);
+    this.values = Object.values(cellsOf(this.kernel, last));
   }
 }

@@ -42,4 +42,4 @@ function spelledSchedule(steps) {
 }
 
 // The schedule in the first lines of a stored plan, or none.
-const scheduleIn = plan => /^# *mctower run --schedule '(.*)' </m.exec(plan)?.[1] ?? "";
+const scheduleIn = plan => /^\ufeff?# *mctower run --schedule '(.*)' </m.exec(plan)?.[1] ?? "";

@@ -40,10 +40,10 @@ class Evidence {
 }
 
 class Session {
-  // `wanted` is {name, text, rule, schedule}: a plan's name and text, the rule that is left out or null, and a schedule that the program has taken.
+  // `wanted` is {name, text, wrong, schedule}: a plan's name and text, the mistake of the kernel or null, and a schedule that the program has taken.
   constructor(program, facts, wanted) {
-    const { name, text, rule, schedule } = wanted;
-    Object.assign(this, { program, facts, name, text, rule, past: [], breakdown: null, at: 0 });
+    const { name, text, wrong, schedule } = wanted;
+    Object.assign(this, { program, facts, name, text, wrong, past: [], breakdown: null, at: 0 });
     this.plan = planOf(text);
     const { items, total } = readSchedule(schedule), most = this.mostSteps();
     if (total > most) throw new RangeError(`the schedule has ${total} steps: of this plan at most ${most} are drawn`);
@@ -57,7 +57,7 @@ class Session {
   }
 
   begin(steps) {
-    this.record = new RunRecord(this.plan, this.rule, this.facts);
+    this.record = new RunRecord(this.plan, this.wrong, this.facts);
     this.run = new Run(this.record.frame);
     this.evidence = new Evidence(this.program, this.text, this.record);
     this.setSteps(steps);
@@ -92,14 +92,14 @@ class Session {
     this.evidence.cut(length);
   }
 
-  // Takes a step at the end. A kernel that leaves a rule out may break down in it; then there is none, and it is said.
+  // Takes a step at the end. A kernel with a mistake may break down in it; then there is none, and it is said.
   grow(c) {
     const length = this.run.length;
     try {
       this.run.grow(this.record.step(c));
     } catch (fault) {
-      if (!this.rule) throw fault;
-      this.breakdown = `The kernel without the rule breaks down in step ${length + 1}.`;
+      if (!this.wrong) throw fault;
+      this.breakdown = `This kernel breaks down in step ${length + 1}.`;
       this.record.restore(length);
     }
     return this.breakdown === null;
@@ -145,23 +145,40 @@ class Session {
     this.change(steps);
   }
 
-  leaveOut(rule) {
+  // Takes the same steps in another kernel: the proved one, or one that makes a mistake.
+  changeKernel(wrong) {
     const { at } = this, steps = [...this.steps];
-    this.rule = rule;
+    this.wrong = wrong;
     this.begin(steps);
     this.go(at);
   }
 
-  // What the proved program prints of the plan after the steps up to here.
+  // What is printed of the plan after the steps up to here: by the proved program, and by the kernel that is shown.
   printedHere() {
     const schedule = spelledSchedule(this.stepsHere());
-    return { schedule, ...this.program.runPlan(this.text, schedule) };
+    return { schedule, proved: this.program.runPlan(this.text, schedule), shown: this.record.printed[this.at] };
   }
 
-  // The first step after which a law does not hold, or -1.
-  firstBroken() {
-    return this.run.states.findIndex((_, step) => this.run.cell("broken", step).length > 0);
+  // The first step after which a law does not hold, or this one if it is named; -1 where there is none.
+  firstBroken(law = null) {
+    return this.run.states.findIndex((_, step) => this.run.cell("broken", step).some(([broken]) => law === null || law === broken));
   }
+}
+
+// A schedule in rounds: so many steps of each CPU in turn, until none has anything to do. A CPU without anything to do would look into its pending queue again and
+// again: its turn is passed over. A text that is no plan has none.
+const ROUND_STEPS = 60, MOST_ROUND_STEPS = 2000;
+function roundsOf(program, text) {
+  if (program.runPlan(text, "").status !== 0) return "";
+  const kernel = new Kernel(planOf(text)), steps = [], isOver = c => kernel.rests(c) || kernel.halted(c) !== null;
+  const turn = c => {
+    for (let left = Math.min(ROUND_STEPS, MOST_ROUND_STEPS - steps.length); left > 0 && !isOver(c); left--) {
+      kernel.step(c);
+      steps.push(c);
+    }
+  };
+  while (steps.length < MOST_ROUND_STEPS && !kernel.cpus.every((_, c) => isOver(c))) kernel.cpus.forEach((_, c) => turn(c));
+  return spelledSchedule(steps);
 }
 
 // The refusal of a plan or of a schedule: the program's own line and what stands beside it; null where it takes both.

@@ -20,7 +20,7 @@ const LEAST_INTEGER = -(2n ** 63n), MOST_INTEGER = 2n ** 63n - 1n;
 class TomlReader {
   constructor(text) {
     this.text = text;
-    this.at = 0;
+    this.at = text.startsWith("\ufeff") ? 1 : 0; // a byte order mark is no part of the document
     this.top = TomlReader.table(0);
   }
 

@@ -74,7 +74,7 @@ class PendingBlock {
   }
 }
 
-// What one step of a CPU does, with the name of the section that it works in. It is built of a plan, and perhaps of the rule that is left out.
+// What one step of a CPU does, with the name of the section that it works in. It is built of a plan, and perhaps of a mistake that it makes.
 class Kernel {
   constructor(plan, wrong = null) {
     this.wrong = wrong;

@@ -83,8 +83,8 @@ class PlanPlaces {
   }
 
   at(position, piece) {
-    const { number, column, text } = lineOf(this.text, position);
-    return { line: number, text, from: column - 1, piece };
+    const { number, column, text } = lineOf(this.text, position), found = text.indexOf(piece, column - 1); // a table's place is that of its brackets
+    return { line: number, text, from: found < 0 ? column - 1 : found, piece };
   }
 
   thread(t) {
@@ -120,6 +120,20 @@ class PlanPlaces {
     const item = this.thread(t).get("program").value.find(one => Number(called(one)?.[2] ?? -1) >= count), [, word, buffer] = called(item);
     return { ...this.at(item.at + 1 + word.length + 1, buffer), says: `the plan has the buffers 0 to ${count - 1}` };
   }
+}
+
+// The keys of a plan that nobody reads: the line of each, and what may have been meant. Of a text that the proved program has taken.
+function ignoredKeys(text) {
+  const places = new PlanPlaces(text), note = (node, words) => ({ line: lineOf(text, node.keyAt ?? node.at).number, says: words });
+  const meant = (key, known) => nearWords(key, Object.keys(known)).slice(0, 1).map(one => `. Is ${one} meant?`).join("");
+  const found = [...places.top].filter(([key]) => !Object.hasOwn(PLAN_KEYS, key)).map(([key, node]) => note(node, `the key ${key} is ignored${meant(key, PLAN_KEYS)}`));
+  places.top.get("thread").value.forEach(({ value }, t) => {
+    for (const [key, node] of [...value].filter(([one]) => !Object.hasOwn(THREAD_KEYS, one))) {
+      const hint = Object.hasOwn(PLAN_KEYS, key) ? ": it belongs above the first [[thread]]" : meant(key, THREAD_KEYS);
+      found.push(note(node, `the key ${key} of thread ${t} is ignored${hint}`));
+    }
+  });
+  return found.sort((x, y) => x.line - y.line);
 }
 
 // Beside a refusal of a plan, such as `error: MissingKey(21) thread 0 cpu`.
