@@ -26,7 +26,7 @@ ROOT = Path(__file__).resolve().parent.parent
 sys.path.insert(0, str(ROOT / "plans"))
 
 from kernel import WRONG, Kernel  # noqa: E402
-from laws import broken_in  # noqa: E402
+from laws import broken_in, order_of  # noqa: E402
 from reading import read_plan  # noqa: E402
 from schedules import chosen, steps_of  # noqa: E402
 
@@ -46,7 +46,7 @@ WORD = re.compile(r"^[A-Za-z_]\w*(?:::[A-Za-z_]\w*)*(?:\(\d+\))?$")
 LINK = re.compile(r"\]\(([^):\s]+)\)")
 # A run of a kernel with a mistake: by a command, which may leave its schedule to the plan, and by a link to the page; and what a page says of its laws.
 WRONG_RUN = re.compile(r"`?plans/(?:kernel|explore)\.py (?:--wrong ([\w-]+) )?plans/([\w-]+)\.toml(?: '([\d*,]+)')?(?: --wrong ([\w-]+))?")
-PAGE_LINK = re.compile(r"web/tower\.html#plan=([\w-]+)&rule=([\w-]+)&schedule=([\d*,]+)&step=(\d+)$")
+PAGE_LINK = re.compile(r"web/tower\.html#plan=([\w-]+)&wrong=([\w-]+)&schedule=([\d*,]+)&step=(\d+)$")
 LOOK = re.compile(r"^\*\*Look\*\* \[in the page\]\((\S+)\)(.*?)\n\n", re.M | re.S)
 BREAKS = re.compile(r"[Ii]n\sstep\s(\d+)\sthe\slaw\s\*([^*]+)\*\sbreaks")
 # A line of a source that is a comment: what only a comment says is not there.
@@ -150,7 +150,7 @@ def linked(link, page):
 
 
 def has_run(link):
-    """Whether a link to the page names a plan and a rule that there are."""
+    """Whether a link to the page names a plan and a mistake that there are."""
     run = PAGE_LINK.search(link)
     return run is not None and run[2] in WRONG and (ROOT / f"plans/{run[1]}.toml").exists()
 
@@ -186,18 +186,19 @@ def first_minute(faults):
     return 2
 
 
-def first_broken(name, rule, schedule):
-    """The first step at which each law is broken in a run of a plan by a kernel with this mistake."""
-    kernel, first = Kernel(read_plan((ROOT / f"plans/{name}.toml").read_bytes()), rule), {}
+def first_broken(name, mistake, schedule):
+    """The first step at which each law is broken in a run of a plan by a kernel that makes this mistake."""
+    kernel, first = Kernel(read_plan((ROOT / f"plans/{name}.toml").read_bytes()), mistake), {}
     for number, cpu in enumerate(steps_of(schedule), 1):
+        earlier = order_of(kernel)
         kernel.step(cpu)
-        for law in broken_in(kernel):
+        for law in broken_in(kernel, earlier, cpu):
             first.setdefault(law, number)
     return first
 
 
 def run_of(found):
-    """The plan, the rule and the schedule of a command; the schedule is the plan's if the command has none."""
+    """The plan, the mistake and the schedule of a command; the schedule is the plan's if the command has none."""
     before, name, schedule, behind = found
     return name, before or behind, schedule or chosen((ROOT / f"plans/{name}.toml").read_bytes(), None)
 
