@@ -225,7 +225,7 @@ def laws_told(page, faults):
     count = 0
     for link, words in looks:
         *linked_run, step = PAGE_LINK.search(link).groups()
-        run, told = run_of(WRONG_RUN.search(words).groups()), BREAKS.findall(words)
+        run, told = run_of(WRONG_RUN.search(" ".join(words.split())).groups()), BREAKS.findall(words)
         if list(run) != linked_run or (told and step != told[-1][0]):
             faults.append(f"{shown}: its link to the page is of another run or step than {run} and the last that it names")
         count += 1 + hold_to_laws(shown, run, told, faults)
