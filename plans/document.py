@@ -5,6 +5,7 @@ the text is no document it raises `NoDocument`, with the place and what is wrong
 against the program. It needs Python alone, 3.9 or later.
 """
 import re
+import unicodedata
 from bisect import bisect_right
 
 DEPTH = 80
@@ -62,6 +63,25 @@ def shown(text, most=40):
     """A piece of a text as messages show it: cut, and without a character that cannot be seen."""
     cut = text if len(text) <= most else text[:most] + ".."
     return "".join(c if c.isprintable() else c.encode("unicode_escape").decode() for c in cut)
+
+
+def strange_in(text, unit="character"):
+    """What is told of the first character of a text that is no printable one of ASCII, as a tab or a typographic quote; nothing where there is none."""
+    place = next((i for i, c in enumerate(text) if not " " <= c <= "~"), None)
+    if place is None:
+        return ""
+    name = "tab" if text[place] == "\t" else unicodedata.name(text[place], "no character of a text").lower()
+    return f". {unit.capitalize()} {place + 1} is U+{ord(text[place]):04X}, {name}{wanted_for(text[place], name)}"
+
+
+def wanted_for(character, name):
+    """What is wanted in the place of a character that looks like another."""
+    if character == "\ufeff":
+        return ", a byte order mark: save the text without it"
+    if character == "\t" or unicodedata.category(character) == "Zs":
+        return ": wanted a plain space"
+    plain = {"quotation mark": "\" or '", "multiplication sign": "*", "dash": "-", "minus sign": "-", "digit": "a plain digit"}
+    return next((f": wanted {it}" for word, it in plain.items() if word in name), "")
 
 
 def read_document(text):

@@ -5,7 +5,7 @@ Python alone, 3.9 or later.
 """
 from collections import deque
 
-from document import shown
+from document import shown, strange_in
 from reading import CAPACITY, CPUS, BUFFERS, THREADS, WORD, WORDS, is_number, near
 
 ENTRIES = 1048576
@@ -68,6 +68,10 @@ class Judge:
         self.want, self.version, self.count, self.buffers, self.left = self.head, 0, 0, [], 0
         self.entries, self.lowest, self.wanted = 0, 1, VERSIONS[0]
 
+    def hint_at_end(self):
+        """A hint where a text has no line at all."""
+        return "" if self.version else ". It is empty: was the plan of the run before it refused?"
+
     def head(self, line):
         if line not in VERSIONS:
             raise spelling(self.no_head(line))
@@ -77,7 +81,9 @@ class Judge:
     def no_head(line):
         if line.startswith("mctower-trace "):
             return f'the head is "{shown(line)}": the versions 1 to 3 are known'
-        hint = ", and this looks like a plan: `mctower run` reads it" if "=" in line or line.startswith(("#", "[")) else ""
+        hint = ", and this looks like a plan: `mctower run` reads it" if "=" in line or line.startswith("[") else ""
+        if line.startswith("#"):
+            hint = ". A trace text has no comments, and a plan is read by `mctower run`"
         return f'the head is "{shown(line)}": wanted mctower-trace and a version{hint}'
 
     def buffer_count(self, line):
@@ -111,7 +117,7 @@ class Judge:
     def entry(self, line):
         pieces = pieces_of(line, ("e", "cpu", "thread", "kind", "buffer", "value", "op", "pos"))
         kind, value = pieces.pop(3), pieces.pop(4)
-        self.hold_to_kind(kind)
+        self.hold_to_kind(kind, pieces)
         self.hold_to_value(kind, value)
         names = ("CPU", "thread", "buffer", "op", "pos")
         bounds = [(0, CPUS), (0, THREADS), (0, self.count), (0, ENTRIES), (0, ENTRIES)]
@@ -123,10 +129,12 @@ class Judge:
         self.lowest = max(self.lowest, 3 if "," in value else 1 if kind in FIRST_KINDS else 2)
         take_effect(self.buffers[b], b, kind, value, op, pos)
 
-    def hold_to_kind(self, kind):
+    def hold_to_kind(self, kind, others):
         known = FIRST_KINDS if self.version == 1 else GROUPS
         if kind not in known:
+            moved = next((piece for piece in others if piece in GROUPS), None)
             hint = ": it needs the head mctower-trace 2" if kind in GROUPS else near(kind, known)
+            hint = f". Here {moved} stands elsewhere: an entry is e cpu thread kind buffer value op pos" if moved else hint
             raise spelling(f'"{shown(kind)}" is no kind of a text of version {self.version}{hint}')
 
     def hold_to_value(self, kind, value):
@@ -233,8 +241,12 @@ def take_line(judge, line, is_last):
         if not is_last or line:
             raise spelling("nothing may follow the line end")
     elif is_last:
-        raise spelling(f"the line does not end with a line feed: {shown(line)}" if line else f"the text ends where {judge.wanted} is wanted")
+        raise spelling(f"the line does not end with a line feed: {shown(line)}" if line else f"the text ends where {judge.wanted} is wanted{judge.hint_at_end()}")
     elif line.endswith("\r"):
         raise spelling("the line ends with a carriage return: wanted a line feed alone, as files of Unix have it")
+    elif strange_in(line):
+        raise spelling(f'"{shown(line)}" is no line of a trace text{strange_in(line, "column")}')
+    elif line.startswith("#") and judge.version:
+        raise spelling(f'"{shown(line)}" is a comment: a trace text has none')
     else:
         judge.want(line)

@@ -11,7 +11,7 @@ from typing import Callable, NamedTuple
 if sys.version_info < (3, 9):
     sys.exit(f"{sys.argv[0]} needs Python 3.9 or later, and this is {sys.version.split()[0]}")
 
-from document import Array, Moment, NoDocument, Table, read_document, shown  # noqa: E402
+from document import Array, Moment, NoDocument, Table, read_document, shown, strange_in  # noqa: E402
 
 CPUS, THREADS, BUFFERS, CAPACITY, TRACE = 16, 256, 16, 32, 65536
 LINES, WORDS, WORD = 256, 8, 2**64
@@ -125,6 +125,8 @@ THREAD_KEYS = {
 def read_plan(raw):
     """The plan that some bytes are: a table with the keys of the format."""
     plan = document_of(raw)
+    if not raw.strip():
+        raise Refusal("MissingKey(21) cpus", "the plan is empty. Is < PLAN missing, or behind a ; that stands unquoted in the schedule?")
     for name, key in KEYS.items():
         if name != "lock" or name in plan:
             hold_to_key(plan, name, key, name)
@@ -142,8 +144,17 @@ def document_of(raw):
         line = raw.count(b"\n", 0, fault.start) + 1
         raise Refusal("BadToml(20)", f"byte {fault.start + 1} of the text is no UTF-8{hint}", line) from None
     except NoDocument as fault:
-        hint = ". This is a trace text, which `mctower check` reads" if raw.startswith(b"mctower-trace") else ""
-        raise Refusal("BadToml(20)", f"column {fault.column}: {fault.why}{hint}", fault.line) from None
+        raise Refusal("BadToml(20)", f"column {fault.column}: {fault.why}{other_format(raw, fault)}", fault.line) from None
+
+
+def other_format(raw, fault):
+    """A hint where a text is of another format than TOML, or has a character that looks like one of TOML's; or nothing."""
+    if raw.startswith(b"mctower-trace"):
+        return ". This is a trace text, which `mctower check` reads"
+    if raw.lstrip().startswith(b"{"):
+        return ". A plan is TOML and no JSON: each key has a line of its own, as cpus = 1"
+    line = raw.decode("utf-8").removeprefix("\ufeff").split("\n")[fault.line - 1]
+    return strange_in(line, "column") if line[:fault.column - 1].isascii() and not line[fault.column - 1:fault.column].isascii() else ""
 
 
 def hold_to_key(table, name, key, where, missing_line=None):
@@ -199,7 +210,7 @@ def read_thread(plan, number, thread):
     for i, instruction in enumerate(program):
         fault, why = instruction_fault(instruction, len(program))
         if fault:
-            raise Refusal(f"Guest(23) {where} line {i} {fault}", f'"{shown(instruction, 80)}": {why}', program.lines[i])
+            raise Refusal(f"Guest(23) {where} line {i} {fault}", f'"{shown(instruction, 80)}": {why}{strange_in(instruction)}', program.lines[i])
     hold_to_buffers(program, len(plan["buffers"]), where)
 
 

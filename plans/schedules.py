@@ -2,10 +2,11 @@
 
 Nothing here is proved: tests/explain.py holds it against the program. It needs Python alone, 3.9 or later.
 """
+import os
 import re
 from itertools import groupby
 
-from document import shown
+from document import shown, strange_in
 from reading import Refusal, as_many, is_number, read_plan
 
 MOST_CPU, MOST_STEPS = 255, 1048576
@@ -27,13 +28,22 @@ def read_schedule(text):
             times = "1"
         if not (is_number(cpu, MOST_CPU) and is_number(times, MOST_STEPS) and times != "0"):
             why = "a schedule has no white space" if re.search(r"\s", item) else WANTED
-            raise Refusal("BadSchedule(9)", f"{item_at(text, number)}: {why}", in_schedule=True)
+            raise Refusal("BadSchedule(9)", f"{item_at(text, number)}: {why}{hint_at(text, item)}", in_schedule=True)
         items.append((int(cpu), int(times)))
         total += int(times)
         if total > MOST_STEPS:
             why = f"with it there are more than {MOST_STEPS} steps in all"
             raise Refusal("BadSchedule(9)", f"{item_at(text, number)}: {why}", in_schedule=True)
     return items
+
+
+def hint_at(text, item):
+    """What may have gone wrong with a schedule at an item that is none, or nothing."""
+    if not text:
+        return ". The schedule is empty: leave it out, and no step is taken"
+    if os.path.exists(text):
+        return ". A file has this name: in a schedule without quotes a shell takes * for names of files"
+    return ". A comma stands between two items" if ";" in item else strange_in(item)
 
 
 def item_at(text, number):

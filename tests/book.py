@@ -1,9 +1,10 @@
 #!/usr/bin/env python3
 """Tries the book: runs every command of docs/book and compares what comes with what the page says, byte for byte; looks up each file,
 public name and clause that a page names, and each name of the repository in any other page of the tree; holds the plan and the output that
-README.md shows against the files, and its version against that of CHANGELOG.md and of the help; tries the patches of docs; draws each
-picture again; holds plans/kernel.py against what each plan is expected to print; builds and runs, with no proof, the crates that a page
-writes (`rt try`). .ci/run calls it; it takes two minutes of processor time, most of it to build.
+README.md shows against the files, and its version against that of CHANGELOG.md and of the help; looks whether a law that a lesson says
+breaks in a step breaks there, and in no step before; tries the patches of docs; draws each picture again; holds plans/kernel.py against
+what each plan is expected to print; builds and runs, with no proof, the crates that a page writes (`rt try`). .ci/run calls it; it takes
+two minutes of processor time, most of it to build.
 
     tests/book.py [--write] [PROGRAM]
     tests/book.py --names               looks up and holds, and runs nothing: it needs no program
@@ -22,6 +23,13 @@ import tempfile
 from pathlib import Path
 
 ROOT = Path(__file__).resolve().parent.parent
+sys.path.insert(0, str(ROOT / "plans"))
+
+from kernel import WRONG, Kernel  # noqa: E402
+from laws import broken_in, order_of  # noqa: E402
+from reading import read_plan  # noqa: E402
+from schedules import chosen, steps_of  # noqa: E402
+
 BOOK = ROOT / "docs/book"
 CRATES = [line.split(":")[0] for line in (ROOT / "crates.txt").read_text().splitlines() if ":" in line]
 BLOCK = re.compile(r"(?<=^```console\n)(.*?)(?=^```$)", re.M | re.S)
@@ -38,6 +46,11 @@ WORD = re.compile(r"^[A-Za-z_]\w*(?:::[A-Za-z_]\w*)*(?:\(\d+\))?$")
 LINK = re.compile(r"\]\(([^):\s]+)\)")
 # The files whose words are the tree's names.
 READ = {".rt", ".antt", ".edit", ".py", ".sh", ".rs", ".js", ".mjs", ".c", ".S", ".toml", ".patch"}
+# A run of a kernel with a mistake: by a command, which may leave its schedule to the plan, and by a link to the page; and what a page says of its laws.
+WRONG_RUN = re.compile(r"`?plans/(?:kernel|explore)\.py (?:--wrong ([\w-]+) )?plans/([\w-]+)\.toml(?: '([\d*,]+)')?(?: --wrong ([\w-]+))?")
+PAGE_LINK = re.compile(r"web/tower\.html#plan=([\w-]+)&wrong=([\w-]+)&schedule=([\d*,]+)&step=(\d+)$")
+LOOK = re.compile(r"^\*\*Look\*\* \[in the page\]\((\S+)\)(.*?)\n\n", re.M | re.S)
+BREAKS = re.compile(r"[Ii]n\sstep\s(\d+)\sthe\slaw\s\*([^*]+)\*\sbreaks")
 # A line of a source that is a comment: what only a comment says is not there.
 REMARK = re.compile(r"^\s*(?://|-- |# |/\* ).*$", re.M)
 # What docs cite and no file of this tree says: crates of the kit, and the end of a family of names.
@@ -130,10 +143,18 @@ def linked(link, page):
     """Whether a link's file is there, and the heading behind its `#`."""
     file, _, heading = link.partition("#")
     target = page.parent / file if file else page
+    if target.suffix == ".html":
+        return target.exists() and (not heading or has_run(link))
     if not target.exists() or not heading:
         return target.exists()
     titles = re.findall(r"^#+ (.*)$", target.read_text(), re.M)
     return heading in [re.sub(r"[^\w -]", "", title).lower().replace(" ", "-") for title in titles]
+
+
+def has_run(link):
+    """Whether a link to the page names a plan and a mistake that there are."""
+    run = PAGE_LINK.search(link)
+    return run is not None and run[2] in WRONG and (ROOT / f"plans/{run[1]}.toml").exists()
 
 
 def cited(page, words, files, faults):
@@ -159,12 +180,64 @@ def cited(page, words, files, faults):
 def first_minute(faults):
     """Holds the plan that README.md shows, and what it says that it prints, against the files; tells how many there were."""
     shown = dict(re.findall(r"^```(toml|text)\n(.*?)^```$", (ROOT / "README.md").read_text(), re.M | re.S))
-    plan = (ROOT / "plans/one-send.toml").read_text().splitlines(keepends=True)
-    if shown.get("toml") != "".join(line for line in plan if line.strip() and not line.startswith("#")):
+    plan = (ROOT / "plans/one-send.toml").read_text()
+    if shown.get("toml") != plan:
         faults.append("README.md: its plan is not plans/one-send.toml")
     if shown.get("text") != (ROOT / "plans/expected/one-send.txt").read_text():
         faults.append("README.md: it does not show what plans/expected/one-send.txt says")
     return 2
+
+
+def first_broken(name, mistake, schedule):
+    """The first step at which each law is broken in a run of a plan by a kernel that makes this mistake."""
+    kernel, first = Kernel(read_plan((ROOT / f"plans/{name}.toml").read_bytes()), mistake), {}
+    for number, cpu in enumerate(steps_of(schedule), 1):
+        earlier = order_of(kernel)
+        kernel.step(cpu)
+        for law in broken_in(kernel, earlier, cpu):
+            first.setdefault(law, number)
+    return first
+
+
+def run_of(found):
+    """The plan, the mistake and the schedule of a command; the schedule is the plan's if the command has none."""
+    before, name, schedule, behind = found
+    return name, before or behind, schedule or chosen((ROOT / f"plans/{name}.toml").read_bytes(), None)
+
+
+def hold_to_laws(where, run, told, faults):
+    """Holds what is told of broken laws to a run; tells how many laws that were."""
+    first = first_broken(*run)
+    for step, law in told:
+        if first.get(" ".join(law.split())) != int(step):
+            faults.append(f"{where}: in this run these laws break, each first in this step: {first}; it says *{law}* of step {step}")
+    if not told:
+        faults.append(f"{where}: it names no law that breaks")
+    return max(len(told), 1)
+
+
+def laws_told(page, faults):
+    """Holds a lesson's look at a kernel with a mistake to that run: the link and the command are of one run, and its laws break where it says."""
+    text, shown = page.read_text(), page.name
+    looks = LOOK.findall(text)
+    if not looks:
+        if "$ plans/kernel.py --wrong" in text:
+            faults.append(f"{shown}: it runs a kernel with a mistake, and has no look at it")
+        return 1
+    count = 0
+    for link, words in looks:
+        *linked_run, step = PAGE_LINK.search(link).groups()
+        run, told = run_of(WRONG_RUN.search(" ".join(words.split())).groups()), BREAKS.findall(words)
+        if list(run) != linked_run or (told and step != told[-1][0]):
+            faults.append(f"{shown}: its link to the page is of another run or step than {run} and the last that it names")
+        count += 1 + hold_to_laws(shown, run, told, faults)
+    return count
+
+
+def minute_of_laws(faults):
+    """Holds what README.md says of its kernel with a mistake; tells how many laws that were."""
+    text = (ROOT / "README.md").read_text()
+    return hold_to_laws("README.md", run_of(WRONG_RUN.search(text, text.index("--wrong") - len("plans/kernel.py ")).groups()), BREAKS.findall(text), faults)
 
 
 def version(faults):
@@ -193,7 +266,8 @@ def names(faults):
     listed = subprocess.run(["git", "ls-files", "-co", "--exclude-standard", "*.md"], cwd=ROOT, stdout=subprocess.PIPE, text=True, check=True).stdout
     pages = [ROOT / name for name in listed.splitlines() if (ROOT / name).is_file()]
     count = sum(cited(page, words, files, faults) for page in sorted(pages))
-    return count + sum(looked_up(page, faults) for page in sorted(BOOK.glob("*.md"))) + first_minute(faults) + version(faults) + patched(faults)
+    count += sum(looked_up(page, faults) + laws_told(page, faults) for page in sorted(BOOK.glob("*.md")))
+    return count + first_minute(faults) + minute_of_laws(faults) + version(faults) + patched(faults)
 
 
 def copied(room, files):

@@ -8,13 +8,17 @@ swapped, dropped, turned, counted anew, messages with a word more or less) or ne
 line); a plan, with or without the key of its lock, with closes, targets and messages of words among its instructions, and a schedule
 near theirs. The cases are texts and plans by turns, or those that are named alone: PROGRAM may be
 the built tests/plain_check.rs for texts. Prints each case whose answer differs; the last line counts them. TOML is read by Python's own
-tomllib.
+tomllib, which Python 3.11 and later have.
 """
 import argparse
 import random
 import subprocess
 import sys
-import tomllib
+
+try:
+    import tomllib
+except ModuleNotFoundError:  # before Python 3.11
+    tomllib = None
 
 CPUS, THREADS, BUFFERS, CAPACITY, TRACE, ENTRIES = 16, 256, 16, 32, 65536, 1048576
 LINES, STEPS, WORD, WORDS = 256, 1048576, 2**64, 8
@@ -512,6 +516,8 @@ def main():
     read.add_argument('seed', nargs='?', type=int, default=1, metavar='SEED')
     read.add_argument('kind', nargs='?', choices=('texts', 'plans'))
     given = read.parse_args()
+    if tomllib is None:
+        read.error('this Python has no tomllib: 3.11 or later has')
     program_path, many, pick = given.program, given.many, random.Random(given.seed)
     cases = {'texts': [text_case], 'plans': [plan_case]}.get(given.kind, [text_case, plan_case])
     answers, wrong = {}, 0

@@ -42,7 +42,7 @@ little='ulimit -v 6000'
 takes='mctower-trace 1\nbuffers 1\ncap 0 2\ne 0 0 recv 0 7 0 0\nleft 0\nend\n'
 before=$'mctower-trace 1\nbuffers 1\ncap 0 1\nleft 0\nend\n'
 sevens="head -c 200000 /dev/zero | tr '\\0' 7"
-version=$'mctower 0.4.0\n'
+version=$'mctower 0.5.0\n'
 waits=$'cpu 0 live\nthread 0 Ready(0)\nquiet no\n'
 # a run whose third entry takes from an empty buffer
 empty='mctower-trace 1\nbuffers 1\ncap 0 2\ne 0 0 send 0 7 0 0\ne 1 1 recv 0 7 1 0\ne 1 1 recv 0 8 2 1\ne 0 0 send 0 8 3 1\nleft 0\nend\n'
@@ -77,7 +77,10 @@ usage() {
       echo 'usage: mctower count --cpus N --times K [--lock L]'
       echo '       N is 1 to 16, K is 1 to 1000, L is ticket or grant; mctower count --help says more'
       ;;
-    run) echo $'usage: mctower run [--schedule S] < PLAN\n       the plan is read from standard input; mctower run --help says more' ;;
+    run)
+      echo 'usage: mctower run [--schedule S] < PLAN'
+      echo "       S in quotes, as '0*21'; the plan is read from standard input; mctower run --help says more"
+      ;;
     threads)
       echo 'usage: mctower threads --turns N < PLAN'
       echo '       N is 1 to 1000000000, the plan is read from standard input; mctower threads --help says more'
@@ -160,6 +163,8 @@ rows() {
   bad_line 'mctower' 'no command is given'
   bad_line 'mctower rum' "unknown command: 'rum'; is 'run' meant?"
   bad_line 'mctower xyz' "unknown command: 'xyz'"
+  bad_line 'mctower version' "unknown command: 'version'; is '--version' meant?"
+  bad_line 'mctower run --lock ticket' "unexpected argument: '--lock'; a plan names its lock by its key lock" run
   bad_line 'mctower help rum' "unknown command: 'rum'"
   bad_line "mctower ''" "unknown command: ''"
   bad_line "mctower \$'\\xff'" 'a word is no UTF-8 text'

@@ -11,6 +11,7 @@ import re
 import subprocess
 import sys
 from pathlib import Path
+from typing import Callable, NamedTuple
 
 ROOT = Path(__file__).resolve().parent.parent
 BUILDS = ("crates/mctower/out/mctower", "crates/mctower/out/mctower.by-rattle")
@@ -52,69 +53,94 @@ def plan(lines):
     return f"cpus = 1\ntrace = 64\nbuffers = {[8] * 16}\n[[thread]]\ncpu = 0\nprogram = {json.dumps(lines)}\n"
 
 
-def refused_by(program, text):
-    """Returns the line by which `run` refuses a plan, or 'read'."""
-    status, out, told = outcome(program, ["run"], text.encode())
+class Case(NamedTuple):
+    """What the program gets, what is wanted of it, and what its status, its output and its errors say of that."""
+    words: list
+    text: bytes
+    wanted: str
+    told: Callable
+
+
+def refusal(status, out, told):
+    """The line by which `run` refuses a plan, or 'read'."""
     if status == 0 and out:
         return "read"
     return told.removeprefix("error: ").removesuffix("\n") if status == 1 and not out else f"status {status}: {told}{out}"
 
 
-def checked(program, base, row):
-    """A row of texts: the answer of `check`, and the wanted one."""
-    *changes, wanted = row.split(";")
-    status, out, told = outcome(program, ["check"], with_lines(base, zip(changes[::2], changes[1::2])))
+def verdict(status, out, told):
+    """The answer of `check`."""
     sound = not told and status == (0 if out == "yes\n" else 3)
-    return out.removesuffix("\n") if sound else f"status {status}: {told}{out}", wanted
+    return out.removesuffix("\n") if sound else f"status {status}: {told}{out}"
 
 
-def planned(program, base, row):
-    """A row of plans: how a change of the plan is refused, and how it is to be."""
+def deeds(status, out, told):
+    """What a thread did, and where it stands."""
+    entries = [line.split() for line in out.splitlines() if line.startswith("e ")]
+    stands = re.search(r"^thread 0 (.*)$", told, re.M)
+    return f"{', '.join(' '.join(entry[3:6]) for entry in entries)};{stands[1] if stands else told}"
+
+
+def checked(base, row):
+    """A row of texts: the answer of `check` is wanted."""
+    *changes, wanted = row.split(";")
+    return Case(["check"], with_lines(base, zip(changes[::2], changes[1::2])), wanted, verdict)
+
+
+def planned(base, row):
+    """A row of plans: it is wanted how a change of the plan is refused."""
     old, new, wanted = row.split(";")
     if old == "*":
         old = base[base.index("program = [") + len("program = [") : base.rindex("]")]
     new = REPEATED.sub(lambda found: int(found[1]) * found[2], new)
-    return refused_by(program, base.replace(spelled(old), spelled(new))), wanted
+    return Case(["run"], base.replace(spelled(old), spelled(new)).encode(), wanted, refusal)
 
 
-def read(program, _, row):
-    """A row of programs: how a program is refused, and how it is to be."""
+def read(_, row):
+    """A row of programs: it is wanted how a program is refused."""
     text, wanted = row.rsplit(";", 1)
     count, _, line = text.rpartition("*")
     lines = [line] * int(count) if count else spelled(text).split("\n")
-    return refused_by(program, plan(lines)).removeprefix("Guest(23) thread 0 "), wanted
+    return Case(["run"], plan(lines).encode(), wanted, lambda *answer: refusal(*answer).removeprefix("Guest(23) thread 0 "))
 
 
-def run(program, _, row):
-    """A row of runs: what a program does and where it stands, and what is wanted of it."""
+def run(_, row):
+    """A row of runs: it is wanted what a program does and where it stands."""
     lines, effects, place = row.split(";")
-    status, out, told = outcome(program, ["run", "--schedule", STEPS], plan(lines.split("|")).encode())
-    entries = [line.split() for line in out.splitlines() if line.startswith("e ")]
-    did = ", ".join(" ".join(entry[3:6]) for entry in entries)
-    stands = re.search(r"^thread 0 (.*)$", told, re.M)
-    return f"{did};{stands[1] if stands else told}", f"{effects};{place}"
+    return Case(["run", "--schedule", STEPS], plan(lines.split("|")).encode(), f"{effects};{place}", deeds)
 
 
-def most_entries(program, more):
-    """Returns the answer of `check` on a text of as many entries as a text may have, and of these lines behind them."""
+def most_entries(more, wanted):
+    """A text of as many entries as a text may have, and of these lines behind them."""
     pairs = (f"e 15 255 send 0 {i} {2 * i} {i}\ne 0 0 recv 0 {i} {2 * i + 1} {i}\n" for i in range(524_288))
     text = "mctower-trace 1\nbuffers 2\ncap 0 1\ncap 1 1\n" + "".join(pairs) + f"{more}left 0\nleft 1\nend\n"
-    return outcome(program, ["check"], text.encode())[1]
+    return Case(["check"], text.encode(), wanted, lambda status, out, told: out)
 
 
 TABLES = {"texts.txt": checked, "plans.txt": planned, "programs.txt": read, "runs.txt": run}
 
 
-def faults_of(program):
-    """Runs all rows. Yields for each None, or what went wrong."""
+def cases():
+    """Yields each row of the tables, by its name, and its case."""
     for name, meaning in TABLES.items():
         for base, rows in sections(name):
             for row in rows:
-                came, wanted = meaning(program, base, row)
-                yield None if came == wanted else f"{name}: {row}\n  wanted: {wanted}\n  came: {came}"
+                yield f"{name}: {row}", meaning(base, row)
+
+
+def fault_of(name, case, answer):
+    """What is wrong with an answer to a case, or None."""
+    came = case.told(*answer)
+    return None if came == case.wanted else f"{name}\n  wanted: {case.wanted}\n  came: {came}"
+
+
+def faults_of(program):
+    """Runs all rows. Yields for each None, or what went wrong."""
+    for name, case in cases():
+        yield fault_of(name, case, outcome(program, case.words, case.text))
     for more, wanted in ("", "yes\n"), ("e 0 0 recv 1 7 1 1\n", "no 1048581 Range(31)\n"):
-        came = most_entries(program, more)
-        yield None if came == wanted else f"the most entries and '{more}'\n  wanted: {wanted}\n  came: {came}"
+        case = most_entries(more, wanted)
+        yield fault_of(f"the most entries and '{more}'", case, outcome(program, case.words, case.text))
 
 
 def main():

@@ -13,19 +13,19 @@ import collections
 import random
 import subprocess
 import sys
-import tomllib
 from pathlib import Path
 
 import random_plan
 
 sys.path.append(str(Path(__file__).resolve().parent.parent / "plans"))
 import kernel  # noqa: E402
+from reading import read_plan  # noqa: E402
 
 STEPS, LARGE_STEPS = 3000, 20_000
 
 
 def by_kernel(plan, schedule):
-    system = kernel.Kernel(tomllib.loads(plan))
+    system = kernel.Kernel(read_plan(plan.encode()))
     for c in kernel.steps_of(schedule):
         system.step(c)
     return system.text(), system.states()

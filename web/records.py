@@ -7,12 +7,12 @@ Each plan of plans/ and tests/rows/ once as it stands, and those with short sche
 """
 import json
 import sys
-import tomllib
 from pathlib import Path
 
 ROOT = Path(__file__).resolve().parent.parent
 sys.path.append(str(ROOT / "plans"))
 from kernel import WRONG, schedule_in, steps_of  # noqa: E402
+from reading import read_plan  # noqa: E402
 from record import record  # noqa: E402
 
 SHORT = 100  # steps
@@ -23,7 +23,7 @@ def records():
         text = path.read_text(encoding="utf-8")
         steps = steps_of(schedule_in(text))
         for wrong in [None, *(WRONG if len(steps) <= SHORT else [])]:
-            told, _ = record(tomllib.loads(text), steps, wrong)
+            told, _ = record(read_plan(text.encode()), steps, wrong)
             yield path.stem, text, told
 
 

@@ -189,6 +189,16 @@ fn listed(alloc: Global, message: &str) -> Result<String, AllocError> {
     Ok(text)
 }
 
+/// What may be meant by a word to which `clap` knows no near one, or where what it asks for belongs.
+/// Empty if nothing is known of it.
+fn meant_by(word: &str) -> &'static str {
+    match word {
+        "version" => "; is '--version' meant?",
+        "--lock" => "; a plan names its lock by its key lock",
+        _ => "",
+    }
+}
+
 /// What a refusal of `clap` names, behind a colon: the argument, and a near word if there is one; or
 /// the options that are missing. Empty if it names nothing.
 fn named_in(alloc: Global, refusal: &str) -> Result<String, AllocError> {
@@ -198,7 +208,7 @@ fn named_in(alloc: Global, refusal: &str) -> Result<String, AllocError> {
     };
     match (quoted(message), near_word(tip)) {
         (Some(word), Some(near)) => format!(in alloc; ": '{word}'; is '{near}' meant?"),
-        (Some(word), None) => format!(in alloc; ": '{word}'"),
+        (Some(word), None) => format!(in alloc; ": '{word}'{}", meant_by(word)),
         (None, _) => listed(alloc, message),
     }
 }

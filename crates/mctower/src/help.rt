@@ -6,7 +6,7 @@ ghost use Rattle.std.specs.Prelude.{◌≡◌, map};
 ghost use Rattle.mctower.specs.Help.{topic_of, help_of, usage_of};
 
 /// The version of the program.
-pub(crate) const VERSION: &str = "0.4.0";
+pub(crate) const VERSION: &str = "0.5.0";
 
 const PROGRAM_USAGE: &str = "\
 usage: mctower count | run | threads | check, and its options
@@ -20,7 +20,7 @@ usage: mctower count --cpus N --times K [--lock L]
 
 const RUN_USAGE: &str = "\
 usage: mctower run [--schedule S] < PLAN
-       the plan is read from standard input; mctower run --help says more
+       S in quotes, as '0*21'; the plan is read from standard input; mctower run --help says more
 ";
 
 const THREADS_USAGE: &str = "\
@@ -77,7 +77,7 @@ halted, where each thread is, and whether the system is quiet.
 
 S says which CPU takes each step: items 'c' or 'c*n' (n steps of CPU c), joined by commas, with no
 space. c is 0 to 255, and a CPU of the plan. There are 1048576 steps at most. Without a schedule no
-step is taken.
+step is taken. Put S in quotes, since a shell reads * and ; for itself.
 
 The keys of a plan; others are ignored:
   cpus      1 to 16

@@ -1,0 +1,26 @@
+#!/usr/bin/env bash
+# Tries the program with no proof: builds it by `rt try --cases`, and runs each plan and each row behind both locks, and each row of the tables of
+# texts, plans and programs. It is the test of whoever has five minutes, and no gate: nothing is proved, and no wrong body is tried.
+#
+#   tests/rows.sh [SHARES]
+#
+# The cases are parted into shares, each with a build of its own, which run side by side: as many as there are processors, and at most four, unless
+# SHARES says another number. The last line is 'rows: N passed, M failed'.
+if [ "${1:-}" = --help ]; then sed -n '2,/^[^#]/ s/^# \{0,1\}//p' "$0"; exit; fi
+set -u
+cd "$(dirname "$0")/.."
+shares=${1:-$(nproc)}
+[[ "$shares" =~ ^[1-9][0-9]?$ ]] || { echo "rows: wanted a number of shares, 1 to 99, and here stands '$shares'"; exit 2; }
+[ $# -gt 0 ] || [ "$shares" -le 4 ] || shares=4
+type -P rt > /dev/null || { echo "rows: no rt is here, the toolchain's command, to build the program: plans/kernel.py runs plans without it"; exit 1; }
+room=$(mktemp -d); trap 'rm -rf "$room"' EXIT
+python3 tests/row_cases.py lay "$room" "$shares" || exit 1
+echo "rows: builds and runs in $shares shares, some minutes in which it says nothing"
+for share in $(seq 0 $((shares - 1))); do
+  (cd crates/mctower && exec rt try mctower --cases "$room/$share") > "$room/$share.out" 2> "$room/$share.err" &
+done
+wait
+for share in $(seq 0 $((shares - 1))); do
+  grep -q '^case=' "$room/$share.err" || { echo "rows: the program was not built:"; tail -n 15 "$room/$share.err" "$room/$share.out"; break; }
+done
+python3 tests/row_cases.py judge "$room" "$shares"
