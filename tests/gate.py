@@ -57,9 +57,9 @@ def written(path, text):
 
 def made(room):
     """Puts the gate into a folder with a stub for each of its steps; returns the scripts that run beside others, and those that run alone."""
-    for name in (".ci/run", "tools/gate-minutes.py"):
+    for name in (".ci/run", "tools/gate.py", "tools/gate-minutes.py"):
         written(room / name, (ROOT / name).read_text())
-    names = subprocess.run([room / ".ci/run", "--list"], stdout=subprocess.PIPE, text=True, check=True).stdout.splitlines()
+    names = subprocess.run(["bash", room / ".ci/run", "--list"], stdout=subprocess.PIPE, text=True, check=True).stdout.splitlines()
     alone = [it.removeprefix("alone ") for it in names if it.startswith("alone ")]
     beside = [it for it in names if not it.startswith("alone ")]
     for name in [*beside, *alone]:
@@ -77,7 +77,7 @@ def outcome(room, how):
         (room / f"{name}.how").write_text(text)
     few = sorted(os.sched_getaffinity(0))[:CORES]
     path = f"{room}/bin:{os.environ['PATH']}"
-    ran = subprocess.run([room / ".ci/run"], cwd="/", env={**os.environ, "CI": "true", "ROOM": str(room), "PATH": path}, stdin=subprocess.DEVNULL,
+    ran = subprocess.run(["bash", room / ".ci/run"], cwd="/", env={**os.environ, "CI": "true", "ROOM": str(room), "PATH": path}, stdin=subprocess.DEVNULL,
                          stdout=subprocess.PIPE, stderr=subprocess.DEVNULL, text=True, preexec_fn=lambda: os.sched_setaffinity(0, few))
     events = (room / "events").read_text().splitlines() if (room / "events").exists() else []
     return ran.returncode, ran.stdout.splitlines(), events
