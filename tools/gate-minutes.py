@@ -113,7 +113,7 @@ def rows(kept):
         for crate, minutes in json.loads(line).items():
             total[crate].update(minutes)
     crates = {it: [*counts_of(it), *(total[it][kind] for kind in KINDS)] for it in sorted(total)}
-    crates["sum"] = [sum(it) for it in zip(*crates.values())]
+    crates |= {"sum": [sum(it) for it in zip(*crates.values())]} if crates else {}
     for name, numbers in crates.items():
         cells = [f"{it}" for it in numbers[:3]] + [f"{it:.1f}" if it else "" for it in numbers[3:]]
         yield f"| {name if name == 'sum' else f'`{name}`'} | {' | '.join(cells)} |"

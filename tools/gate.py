@@ -93,6 +93,7 @@ class Gate:
 
     def run(self):
         if not self.counted("rt ci", "tools/gate-minutes.py", "rt", "ci"):
+            self.steps.append("gate: nothing more was run")
             return
         with ThreadPoolExecutor(len(os.sched_getaffinity(0))) as lanes:
             list(lanes.map(self.script, BESIDE.split()))
