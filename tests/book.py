@@ -111,7 +111,7 @@ def words_of_tree():
         files.append(name)
         path = ROOT / name
         words.update(part.split(".")[0] for part in name.split("/"))
-        if path.suffix in {".rt", ".antt", ".edit", ".py", ".sh", ".rs", ".toml", ".patch"} and path.is_file():
+        if path.suffix in {".rt", ".antt", ".edit", ".py", ".sh", ".rs", ".toml", ".patch", ".c", ".h", ".S"} and path.is_file():
             text = path.read_text()
             words.update(re.findall(r"\w+", REMARK.sub("", text)))
             files.extend(re.findall(r"^\+\+\+ b/(.*)$", text, re.M) if path.suffix == ".patch" else [])
@@ -188,7 +188,7 @@ def patched(faults):
 def names(faults):
     """Looks up what all pages cite, which needs no program; tells how much that was."""
     words, files = words_of_tree()
-    pages = [*ROOT.glob("*.md"), *ROOT.glob("plans/*.md"), *ROOT.glob("docs/*.md"), *ROOT.glob("docs/spec/*.md"), *ROOT.glob("docs/notes/*.md"), *BOOK.glob("*.md")]
+    pages = [*ROOT.glob("*.md"), *ROOT.glob("plans/*.md"), *ROOT.glob("metal/*.md"), *ROOT.glob("docs/*.md"), *ROOT.glob("docs/spec/*.md"), *ROOT.glob("docs/notes/*.md"), *BOOK.glob("*.md")]
     count = sum(cited(page, words, files, faults) for page in sorted(pages))
     return count + sum(looked_up(page, faults) for page in sorted(BOOK.glob("*.md"))) + first_minute(faults) + version(faults) + patched(faults)
 
