@@ -31,17 +31,19 @@ def own_processors(words, plan):
     return min(max(int(found[1][:3]), 1), 16) if has_threads else 1
 
 
-def ended(ran, room):
-    """The status, standard output and standard error of a run of QEMU. Statuses of the host are odd there, and 3 or more."""
-    told = [(room / name).read_bytes() if (room / name).exists() else b"" for name in ("out", "err")]
-    if ran.returncode in TIMED_OUT:
-        return HUNG, told[0], told[1] + b"metal: it did not end in %d seconds\n" % SECONDS
-    if ran.returncode % 2 == 0 or ran.returncode < 3:
-        return NO_RUN, told[0], told[1] + b"metal: QEMU ended by itself: " + (ran.stderr.strip() or b"the machine was reset") + b"\n"
-    return (ran.returncode - 3) // 2, *told
+def ran(asked, room):
+    """Runs QEMU in a folder with these words beside its own, and returns a status, standard output and standard error."""
+    words = ["timeout", "--foreground", "-k", "1", str(SECONDS), QEMU, *MACHINE, "-serial", "file:out", "-serial", "file:err", *asked]
+    qemu = subprocess.run(words, cwd=room, stdin=subprocess.DEVNULL, stdout=subprocess.DEVNULL, stderr=subprocess.PIPE, check=False)
+    out, err = ((room / name).read_bytes() if (room / name).exists() else b"" for name in ("out", "err"))
+    if qemu.returncode in TIMED_OUT:
+        return HUNG, out, err + b"metal: it did not end in %d seconds\n" % SECONDS
+    if qemu.returncode % 2 == 0 or qemu.returncode < 3:  # the host's are odd here, and 3 or more
+        return NO_RUN, out, err + b"metal: QEMU ended by itself: " + (qemu.stderr.strip() or b"the machine was reset") + b"\n"
+    return (qemu.returncode - 3) // 2, out, err
 
 
-def booted(image, words, plan=b"", processors=None, memory=256, more=()):
+def booted(image, words, plan=b"", processors=None, memory=256):
     """Boots an image once, and returns its status, standard output and standard error, in bytes."""
     append = os.fsencode(" ".join(map(quoted, words)))
     if len(append) > MOST_WORDS:
@@ -50,10 +52,8 @@ def booted(image, words, plan=b"", processors=None, memory=256, more=()):
         room = Path(folder)
         # in this folder, so that no name has a space or a comma, which mean something to QEMU
         (room / "tower.elf").symlink_to(Path(image).resolve())
-        asked = ["timeout", "--foreground", "-k", "1", str(SECONDS), QEMU, *MACHINE, "-m", str(memory), "-smp", str(processors or own_processors(words, plan))]
-        asked += ["-kernel", "tower.elf", "-append", append, "-serial", "file:out", "-serial", "file:err", *more]
+        asked = ["-m", str(memory), "-smp", str(processors or own_processors(words, plan)), "-kernel", "tower.elf", "-append", append]
         if plan:
             (room / "plan").write_bytes(plan)
             asked += ["-initrd", "plan"]
-        ran = subprocess.run(asked, cwd=room, stdin=subprocess.DEVNULL, stdout=subprocess.DEVNULL, stderr=subprocess.PIPE, check=False)
-        return ended(ran, room)
+        return ran(asked, room)

@@ -103,7 +103,7 @@ def damaged_runs(held):
         plan = damaged.near_a_plan(pick, damaged.some_plan(pick))
         yield f"damaged plan {number}", lambda plan=plan: held.same(["run", "--schedule", "0*40"], plan)
         schedule, whole = damaged.some_schedule(pick).replace("\0", ""), damaged.PLANS[number % len(damaged.PLANS)]
-        yield f"schedule {number}", lambda schedule=schedule, whole=whole: held.same(["run", f"--schedule={schedule}"], whole)
+        yield f"schedule {number}", lambda it=schedule, whole=whole: held.same(["run", f"--schedule={it}"], whole)
         text = bytearray(pick.choice(damaged.RUNS))
         at = pick.randrange(len(text))
         text[at:at + pick.randrange(2)] = pick.choice(damaged.ODD_BYTES)
@@ -111,10 +111,11 @@ def damaged_runs(held):
 
 
 LINES = [
-    [], ["--help"], ["--version"], ["help"], ["help", "run"], ["run", "--help"], ["threads", "--help"], ["count", "--help"], ["check", "--help"], ["rum"], ["--"], ["-h"],
-    ["run", "--schedul", "0"], ["run", "--schedule"], ["run", "--schedule", ""], ["run", "--schedule", "0*"], ["run", "--schedule", "0*21", "--schedule", "0"],
-    ["run", "--", "x"], ["run", "--schedule", "9" * 5000], ["--schedule= 0 "], ["run", "--schedule", " 0*10 , 0*11 "], ["run", "--schedule", ",".join(["0"] * 9000)],
-    ["run", "--schedule", "0*4," * 2500 + "0*20"], ["count"], ["count", "--cpus", "17", "--times", "1"], ["count", "--cpus", "0", "--times", "1"],
+    [], ["--help"], ["--version"], ["help"], ["help", "run"], ["run", "--help"], ["threads", "--help"], ["count", "--help"], ["check", "--help"], ["rum"],
+    ["--"], ["-h"], ["run", "--schedul", "0"], ["run", "--schedule"], ["run", "--schedule", ""], ["run", "--schedule", "0*"], ["run", "--", "x"],
+    ["run", "--schedule", "0*21", "--schedule", "0"], ["run", "--schedule", "9" * 5000], ["--schedule= 0 "], ["run", "--schedule", " 0*10 , 0*11 "],
+    ["run", "--schedule", ",".join(["0"] * 9000)], ["run", "--schedule", "0*4," * 2500 + "0*20"], ["count"],
+    ["count", "--cpus", "17", "--times", "1"], ["count", "--cpus", "0", "--times", "1"],
     ["count", "--cpus=+2", "--times"], ["count", "--cpus", "2", "--times", "1001"], ["count", "--cpus", "2", "--times", "1", "--lock", "mcs"], ["threads"],
     ["threads", "--turns", "0"], ["threads", "--turns", "1000000001"], ["check", "x"], ["é"], ["a b"], ["'"], ['"'], ["\\"], ["a\nb"], ["x" * 300], ["\udcff"],
     ["run", "\udcff"], [""], ["it's \"so\"", "\\'"],
@@ -235,7 +236,8 @@ def small(held):
 TRIALS = [
     ("deep", 1, 7, b""), ("full", 1, 125, b"host: a full stack, number 14"), ("bad", 1, 125, b"host: an instruction that is none, number 6"),
     ("zero", 1, 125, b"host: a division by 0, number 0"), ("place", 1, 125, b"host: a page fault, number 14"), ("memory", 1, 1, b""),
-    ("wait", 1, 122, b"host: every thread waits\n"), ("absent", 2, 121, b"host: processors that came: 2 of 3\n"), *(("rounds", n, 7, b"") for n in (1, 2, 3, 4, 8)),
+    ("wait", 1, 122, b"host: every thread waits\n"), ("absent", 2, 121, b"host: processors that came: 2 of 3\n"),
+    *(("rounds", processors, 7, b"") for processors in (1, 2, 3, 4, 8)),
 ]
 
 
@@ -251,9 +253,7 @@ def host(held):
 def by_grub(held, room, words, plan, firmware):
     """Boots a disk by GRUB and returns a status and what came on both serial lines."""
     build.disk(held.image, room / "tower.iso", plan, *words)
-    asked = ["timeout", str(machine.SECONDS), machine.QEMU, *machine.MACHINE, "-m", "256", "-smp", "4", *firmware, "-cdrom", room / "tower.iso"]
-    ran = subprocess.run([*asked, "-serial", f"file:{room / 'out'}", "-serial", f"file:{room / 'err'}"], stdin=subprocess.DEVNULL, capture_output=True, check=False)
-    return machine.ended(ran, room)
+    return machine.ran(["-m", "256", "-smp", "4", *firmware, "-cdrom", "tower.iso"], room)
 
 
 def disk(held):
@@ -279,8 +279,8 @@ def lesson(held):
     """What the lesson shows comes. Its commands are lines `$ ..` of blocks marked `metal`."""
     del held
     def one(command, wanted):
-        ran = subprocess.run(["bash", "-c", command], cwd=ROOT, stdin=subprocess.DEVNULL, stdout=subprocess.PIPE, stderr=subprocess.STDOUT, text=True, check=False)
-        return unlike(ran.stdout, wanted)
+        both = {"stdout": subprocess.PIPE, "stderr": subprocess.STDOUT, "text": True}
+        return unlike(subprocess.run(["bash", "-c", command], cwd=ROOT, stdin=subprocess.DEVNULL, check=False, **both).stdout, wanted)
     for block in re.findall(r"^```metal\n(.*?)^```$", LESSON.read_text(), re.M | re.S):
         pieces = re.split(r"^\$ (.*)\n", block, flags=re.M)
         for command, wanted in zip(pieces[1::2], pieces[2::2]):

@@ -45,7 +45,7 @@ PATH = re.compile(r"^\.?[\w-]+(?:/[\w.-]+)+/?$|^[\w-]+\.(?:rt|antt|edit|md|py|sh
 WORD = re.compile(r"^[A-Za-z_]\w*(?:::[A-Za-z_]\w*)*(?:\(\d+\))?$")
 LINK = re.compile(r"\]\(([^):\s]+)\)")
 # The files whose words are the tree's names.
-READ = {".rt", ".antt", ".edit", ".py", ".sh", ".rs", ".js", ".mjs", ".c", ".S", ".toml", ".patch"}
+READ = {".rt", ".antt", ".edit", ".py", ".sh", ".rs", ".js", ".mjs", ".c", ".h", ".S", ".toml", ".patch"}
 # A run of a kernel with a mistake: by a command, which may leave its schedule to the plan, and by a link to the page; and what a page says of its laws.
 WRONG_RUN = re.compile(r"`?plans/(?:kernel|explore)\.py (?:--wrong ([\w-]+) )?plans/([\w-]+)\.toml(?: '([\d*,]+)')?(?: --wrong ([\w-]+))?")
 PAGE_LINK = re.compile(r"web/tower\.html#plan=([\w-]+)&wrong=([\w-]+)&schedule=([\d*,]+)&step=(\d+)$")

@@ -5,7 +5,7 @@ typedef unsigned long size;
 typedef unsigned char byte;
 
 enum { PAGE = 4096, LARGE_PAGE = 1 << 21, STACK_BYTES = 8 << 20, MOST_PROCESSORS = 64, MOST_THREADS = 64 };
-enum { NO_SUCH = 3, WRONG_FILE = 9, TRY_AGAIN = 11, INVALID = 22, NO_SEEK = 29, NO_CALL = 38 }; /* error numbers of C */
+enum { WRONG_FILE = 9, TRY_AGAIN = 11, INVALID = 22, NO_SEEK = 29, NO_CALL = 38 }; /* error numbers of C */
 
 /* How a run ends that the program does not end: statuses that it has not. */
 enum status { NO_ROOM = 119, LONG_WORDS, NO_PROCESSOR, ALL_WAIT, ABORTED = 124, TRAPPED };
@@ -15,13 +15,11 @@ enum state { RESTS, READY, WAITS, ENDS, ENDED };
 
 struct thread {
   size stack; /* where its registers lie while it does not run */
-  int state;
+  int state, error_number, is_detached;
   struct processor *at; /* the one that runs it, from its first turn to its last */
   size wakes;           /* how many had come when it began to wait */
-  void *(*start)(void *);
-  void *value; /* what start is given, and then what it returned */
+  void *(*start)(void *), *value; /* what it runs; what that is given, and then what it returned */
   byte *stack_end, *guard;
-  int error_number, is_detached;
 };
 
 /* A processor: what it runs, its tables, and two small stacks, of its own loop and of exceptions. */
@@ -45,46 +43,25 @@ extern size directories[4 * 512]; /* a page of 2 MiB each */
 void change_stacks(size *kept, const size *next);
 
 /* memory.c */
-void *memcpy(void *to, const void *from, size bytes);
-void lock(int *it);
-void unlock(int *it);
-int has_heap(size start, size end);
-int has_stack(struct thread *it);
-int is_guard(size address);
-void forget_page(const byte *at);
+void *memcpy(void *to, const void *from, size bytes), lock(int *it), unlock(int *it), forget_page(const byte *at);
+int has_heap(size start, size end), has_stack(struct thread *it), is_guard(size address), begins_with(const char *text, const char *wanted);
 
-/* serial.c */
-void set_lines(void);
-void say(const char *text);
-void say_number(size number, unsigned base);
-_Noreturn void ends(const char *why, enum status status);
-_Noreturn void _exit(int status);
+/* streams.c */
+void set_lines(void), say(const char *text), say_number(size number, unsigned base), has_words(const char *text);
+_Noreturn void ends(const char *why, enum status status), _exit(int status);
 
 /* processors.c */
 extern struct processor processors[MOST_PROCESSORS];
 extern byte apics[MOST_PROCESSORS];
 extern unsigned processor_count;
 struct processor *me(void);
-void set_records(void);
-void set_tables(struct processor *it);
-void begin_others(void);
+void set_records(void), set_tables(struct processor *it), begin_others(void), end_halts(void), halt(void), halt_a_moment(void);
 int is_alone(void);
-void end_halts(void);
-void halt(void);
-void halt_a_moment(void);
 
 /* threads.c */
 void has_program(void);
 _Noreturn void work(struct processor *own);
 long fails(int error);
-
-/* streams.c */
-void has_words(const char *text);
-void has_input(size start, size end);
-
-/* firmware.c */
-void find_acpi(size at);
-void count_processors(void);
 
 /* ---- the processor's own instructions */
 
@@ -93,13 +70,5 @@ static inline byte in(unsigned short port) {
   byte value;
   __asm__ volatile("inb %1, %0" : "=a"(value) : "Nd"(port));
   return value;
-}
-static inline size model_register(unsigned number) {
-  unsigned low, high;
-  __asm__ volatile("rdmsr" : "=a"(low), "=d"(high) : "c"(number));
-  return (size)high << 32 | low;
-}
-static inline void set_model_register(unsigned number, size value) {
-  __asm__ volatile("wrmsr" : : "c"(number), "a"((unsigned)value), "d"((unsigned)(value >> 32)) : "memory");
 }
 static inline void pause(void) { __asm__ volatile("pause" : : : "memory"); }

@@ -1,24 +1,25 @@
 /* Bytes, the heap, and the stacks of threads. */
 #include "host.h"
 
-void *memcpy(void *to, const void *from, size bytes) {
-  typedef size word __attribute__((aligned(1), may_alias));
-  size at = 0;
-  for (; at + 8 <= bytes; at += 8) *(word *)((byte *)to + at) = *(const word *)((const byte *)from + at);
-  for (; at < bytes; at++) ((byte *)to)[at] = ((const byte *)from)[at];
+void *memcpy(void *restrict to, const void *restrict from, size bytes) {
+  for (size at = 0; at < bytes; at++) ((byte *)to)[at] = ((const byte *)from)[at];
   return to;
 }
 void *memmove(void *to, const void *from, size bytes) {
-  if ((size)to - (size)from >= bytes) return memcpy(to, from, bytes); /* to does not lie in what is still to be read */
-  while (bytes--) ((byte *)to)[bytes] = ((const byte *)from)[bytes];
+  if ((size)to - (size)from >= bytes) /* to does not lie in what is still to be read */
+    for (size at = 0; at < bytes; at++) ((byte *)to)[at] = ((const byte *)from)[at];
+  else
+    while (bytes--) ((byte *)to)[bytes] = ((const byte *)from)[bytes];
   return to;
 }
 void *memset(void *to, int value, size bytes) {
-  typedef size word __attribute__((aligned(1), may_alias));
-  size at = 0, all = (byte)value * 0x0101010101010101;
-  for (; at + 8 <= bytes; at += 8) *(word *)((byte *)to + at) = all;
-  for (; at < bytes; at++) ((byte *)to)[at] = value;
+  for (size at = 0; at < bytes; at++) ((byte *)to)[at] = value;
   return to;
+}
+
+int begins_with(const char *text, const char *wanted) {
+  while (*wanted && *wanted == *text) wanted++, text++;
+  return !*wanted;
 }
 
 /* A lock of the host's own. Nobody who holds one waits or yields, and no interrupt comes, so its owner always runs. */
@@ -27,8 +28,8 @@ void lock(int *it) {
 }
 void unlock(int *it) { __atomic_store_n(it, 0, __ATOMIC_RELEASE); }
 
-/* The heap grows up from its start, and stacks are laid down from its end. A block's first 16 bytes hold its bytes. These are of a class, four to
-   each doubling; a freed block goes to the list of its class. */
+/* The heap grows up from its start, and stacks are laid down from its end. A block's first 16 bytes hold how many it has. These are of a class, four
+   to each doubling; a freed block goes to the list of its class. */
 enum { CLASSES = 4 * 40, LEAST_BLOCK = 32, HEAD = 16 };
 static byte *heap_at, *heap_end, *freed[CLASSES];
 static int heap_lock;
@@ -47,35 +48,32 @@ static unsigned class_of(size bytes) {
 }
 static size bytes_of(unsigned class) { return (size)(4 + class % 4) << (class / 4 + 3); }
 
-/* A freed block of this class or a larger one, or 0. */
-static byte *freed_block(unsigned class) {
+/* A block of this class that was never given, or a freed one of this class or a larger one, or 0. */
+static byte *block_of(unsigned class) {
+  if (!freed[class] && (size)(heap_end - heap_at) >= bytes_of(class)) {
+    byte *block = heap_at;
+    heap_at += bytes_of(class);
+    *(size *)block = bytes_of(class);
+    return block;
+  }
   while (class < CLASSES && !freed[class]) class ++;
-  if (class == CLASSES) return 0;
-  byte *block = freed[class];
-  freed[class] = *(byte **)(block + HEAD);
+  byte *block = class < CLASSES ? freed[class] : 0;
+  if (block) freed[class] = *(byte **)(block + HEAD);
   return block;
 }
 
 /* Room for some bytes that nobody else has, or 0. */
 static byte *take(size bytes) {
   if (bytes > (size)1 << 32) return 0;
-  unsigned class = class_of(bytes + HEAD < LEAST_BLOCK ? LEAST_BLOCK : bytes + HEAD);
   lock(&heap_lock);
-  byte *block;
-  if (!freed[class] && (size)(heap_end - heap_at) >= bytes_of(class)) {
-    block = heap_at;
-    heap_at += bytes_of(class);
-    *(size *)block = bytes_of(class);
-  } else {
-    block = freed_block(class);
-  }
+  byte *block = block_of(class_of(bytes + HEAD < LEAST_BLOCK ? LEAST_BLOCK : bytes + HEAD));
   unlock(&heap_lock);
   return block ? block + HEAD : 0;
 }
 
 static size room_of(const byte *p) { return *(const size *)(p - HEAD) - HEAD; }
 
-static void give(byte *p) {
+void rattle_dealloc(byte *p) {
   unsigned class = class_of(room_of(p) + HEAD);
   lock(&heap_lock);
   *(byte **)p = freed[class];
@@ -83,28 +81,23 @@ static void give(byte *p) {
   unlock(&heap_lock);
 }
 
-struct tried {
-  size ok;
-  byte *p;
-};
-
-static struct tried tried(byte *p) {
+struct tried { size ok; byte *p; }; /* whether there is room, and where */
+struct tried rattle_alloc(size bytes, size align) {
   static byte nowhere; /* what a refusal points at, since it may not be 0 */
+  byte *p = align > HEAD ? 0 : take(bytes);
   return (struct tried){p != 0, p ? p : &nowhere};
 }
-struct tried rattle_alloc(size bytes, size align) { return tried(align > HEAD ? 0 : take(bytes)); }
 struct tried rattle_realloc(byte *p, size kept, size bytes, size align) {
-  if (bytes <= room_of(p)) return tried(p);
-  byte *moved = align > HEAD ? 0 : take(bytes);
-  if (!moved) return tried(0);
-  memcpy(moved, p, kept);
-  give(p);
-  return tried(moved);
+  if (bytes <= room_of(p)) return (struct tried){1, p};
+  struct tried moved = rattle_alloc(bytes, align);
+  if (!moved.ok) return moved;
+  memcpy(moved.p, p, kept);
+  rattle_dealloc(p);
+  return moved;
 }
-void rattle_dealloc(byte *p) { give(p); }
 void *malloc(size bytes) { return take(bytes); }
 void free(void *p) {
-  if (p) give(p);
+  if (p) rattle_dealloc(p);
 }
 
 /* ---- stacks */
@@ -115,17 +108,15 @@ void forget_page(const byte *at) { __asm__ volatile("invlpg (%0)" : : "r"(at) : 
    A thread that ended keeps its stack for the next that gets its record. */
 int has_stack(struct thread *it) {
   enum { WHOLE = STACK_BYTES + LARGE_PAGE };
-  if (it->stack_end) return 1;
   lock(&heap_lock);
-  int has_room = (size)(heap_end - heap_at) >= 2 * WHOLE;
-  if (has_room) {
+  if (!it->stack_end && (size)(heap_end - heap_at) >= 2 * WHOLE) {
     it->stack_end = heap_end;
     heap_end -= WHOLE;
     it->guard = heap_end;
     directories[(size)heap_end / LARGE_PAGE] = 0;
   }
   unlock(&heap_lock);
-  return has_room;
+  return it->stack_end != 0;
 }
 
 int is_guard(size address) { return address / LARGE_PAGE < sizeof directories / sizeof *directories && !directories[address / LARGE_PAGE]; }

@@ -2,14 +2,14 @@
 #include "host.h"
 
 enum { EFER = 0xC0000080, STAR = 0xC0000081, LSTAR = 0xC0000082, GS_BASE = 0xC0000101, APIC_BASE = 0x1B }; /* model registers */
-enum { CODE = 0x08, TASK = 0x20 };                                                                        /* places in a GDT */
+enum { CODE = 0x08, TASK = 0x20, IS_X2APIC = 1 << 10 }; /* places in a GDT; a mode of interrupts */
 
 _Static_assert(sizeof(struct processor) == PROCESSOR_BYTES, "start.S counts on it");
 struct processor processors[MOST_PROCESSORS];
 byte apics[MOST_PROCESSORS]; /* the number of each that there is, the first one's first */
 unsigned processor_count = 1;
-static int is_lent, others_began;
 struct processor *next_up = processors + 1; /* start.S gives it to the next that begins, whichever that is */
+static int is_lent, others_began;
 
 struct processor *me(void) {
   struct processor *self;
@@ -19,54 +19,38 @@ struct processor *me(void) {
 
 /* ---- tables */
 
-static struct {
-  unsigned short low, code;
-  byte stack, kind;
-  unsigned short middle;
-  unsigned high, none;
-} gates[256];
-
-/* An exception goes to C on the stack of exceptions; any other interrupt only ends a halt. */
-static void set_gates(void) {
-  enum { EXCEPTIONS = 32, STUB = 16, INTERRUPT_GATE = 0x8E };
-  for (unsigned i = 0; i < sizeof gates / sizeof *gates; i++) {
-    size to = (size)(i < EXCEPTIONS ? exceptions + STUB * i : ends_halt);
-    gates[i].low = to;
-    gates[i].code = CODE;
-    gates[i].stack = i < EXCEPTIONS;
-    gates[i].kind = INTERRUPT_GATE;
-    gates[i].middle = to >> 16;
-    gates[i].high = to >> 32;
-  }
+static size model_register(unsigned number) {
+  unsigned low, high;
+  __asm__ volatile("rdmsr" : "=a"(low), "=d"(high) : "c"(number));
+  return (size)high << 32 | low;
+}
+static void set_model_register(unsigned number, size value) {
+  __asm__ volatile("wrmsr" : : "c"(number), "a"((unsigned)value), "d"((unsigned)(value >> 32)) : "memory");
 }
 
-struct __attribute__((packed)) table {
-  unsigned short last;
-  const void *at;
-};
+static size gates[256][2];
 
-static void set_apic_of(struct processor *it) {
-  unsigned leaf = 1, own, has;
-  __asm__ volatile("cpuid" : "+a"(leaf), "=b"(own), "=c"(has) : : "edx");
-  it->apic = own >> 24;
-  is_lent = has >> 31; /* what a hypervisor says of itself */
-}
-
-/* What there is once: gates, and the stack of each processor's loop, which start.S reads before any other word of it. */
+/* What there is once. An exception goes to C on the stack of exceptions; any other interrupt only ends a halt. */
 void set_records(void) {
-  set_gates();
-  for (unsigned i = 0; i < MOST_PROCESSORS; i++) processors[i].stack_end = processors[i].loop_stack + sizeof processors[i].loop_stack;
+  enum { EXCEPTIONS = 32, STUB = 16 };
+  const size interrupt_gate = (size)0x8E << 40;
+  for (unsigned i = 0; i < sizeof gates / sizeof *gates; i++) {
+    size is_exception = i < EXCEPTIONS, to = (size)(is_exception ? exceptions + STUB * i : ends_halt); /* beneath 4 GiB */
+    gates[i][0] = (to & 0xFFFF) | CODE << 16 | is_exception << 32 | interrupt_gate | to >> 16 << 48;
+  }
+  for (struct processor *it = processors; it < processors + MOST_PROCESSORS; it++) it->stack_end = it->loop_stack + sizeof it->loop_stack;
 }
+
+struct __attribute__((packed)) table { unsigned short last; const void *at; };
 
 /* Loads what a processor needs to tell of exceptions, to know itself, and to take the instruction syscall. */
 void set_tables(struct processor *it) {
-  size tss = (size)it->tss, trap_stack = (size)(it->trap_stack + sizeof it->trap_stack);
+  enum { EXCEPTION_STACK = 9, PERMISSIONS = 25 };
+  size tss = (size)it->tss; /* beneath 4 GiB */
   memcpy(it->gdt, first_gdt, 4 * sizeof(size));
-  it->gdt[4] = (sizeof it->tss - 1) | (tss & 0xFFFFFF) << 16 | (size)0x89 << 40 | (tss >> 24 & 0xFF) << 56;
-  it->gdt[5] = tss >> 32;
-  it->tss[9] = trap_stack;
-  it->tss[10] = trap_stack >> 32;
-  it->tss[25] = sizeof it->tss << 16;
+  it->gdt[4] = (sizeof it->tss - 1) | (tss & 0xFFFFFF) << 16 | (size)0x89 << 40 | tss >> 24 << 56;
+  it->tss[EXCEPTION_STACK] = (size)(it->trap_stack + sizeof it->trap_stack);
+  it->tss[PERMISSIONS] = sizeof it->tss << 16;
   struct table gdt = {sizeof it->gdt - 1, it->gdt}, idt = {sizeof gates - 1, gates};
   __asm__ volatile("lgdt %0; lidt %1; ltr %w2" : : "m"(gdt), "m"(idt), "r"(TASK) : "memory");
   it->self = it;
@@ -74,12 +58,15 @@ void set_tables(struct processor *it) {
   set_model_register(STAR, (size)CODE << 32);
   set_model_register(LSTAR, (size)system_call);
   set_model_register(EFER, model_register(EFER) | 1);
-  set_apic_of(it);
+  unsigned leaf = 1, own, has;
+  __asm__ volatile("cpuid" : "+a"(leaf), "=b"(own), "=c"(has) : : "edx");
+  it->apic = own >> 24;
+  is_lent = has >> 31; /* what a hypervisor says of itself */
 }
 
 /* ---- interrupts between processors */
 
-enum { ID = 0x20, PRIORITY = 0x80, END = 0xB0, SPURIOUS = 0xF0, COMMAND = 0x300, TO = 0x310, TIMER = 0x320, COUNT = 0x380, DIVIDE = 0x3E0 };
+enum { PRIORITY = 0x80, END = 0xB0, SPURIOUS = 0xF0, COMMAND = 0x300, TO = 0x310, TIMER = 0x320, COUNT = 0x380, DIVIDE = 0x3E0 }; /* registers */
 enum { ENDS_HALT = 0x40, TO_ALL_OTHERS = 3 << 18, IS_BEING_SENT = 1 << 12, INIT = 0x4500, BEGIN = 0x4600, OTHERS_PAGE = 0x8000 };
 
 static volatile unsigned *apic_register(unsigned place) { return (volatile unsigned *)((model_register(APIC_BASE) & 0xFFFFFF000) + place); }
@@ -95,7 +82,7 @@ static void take_interrupts(void) {
   *apic_register(SPURIOUS) = 0x1FF;
 }
 
-int is_alone(void) { return !others_began || processor_count == 1; }
+int is_alone(void) { return !others_began; }
 
 /* Ends the halt of each other processor, or its next one if it is in none. */
 void end_halts(void) {
@@ -113,10 +100,7 @@ void halt(void) {
    waited for may have none. */
 void halt_a_moment(void) {
   enum { UNDIVIDED = 0xB, MOMENT = 20000 }; /* 20 microseconds in QEMU */
-  if (!is_lent || is_alone()) {
-    pause();
-    return;
-  }
+  if (!is_lent || is_alone()) return pause();
   *apic_register(DIVIDE) = UNDIVIDED;
   *apic_register(TIMER) = ENDS_HALT;
   *apic_register(COUNT) = MOMENT;
@@ -125,9 +109,7 @@ void halt_a_moment(void) {
 
 /* ---- how the others begin */
 
-static void microseconds(unsigned count) {
-  while (count--) in(0x80); /* about one each, on any PC */
-}
+static void microsecond(void) { in(0x80); } /* about one on a PC, and less in QEMU */
 
 static unsigned up_count(void) {
   unsigned count = 1;
@@ -147,20 +129,18 @@ _Noreturn void other_processor(struct processor *it) {
 static void call_others(void) {
   enum { ROUNDS = 1000, ROUND = 20000 };
   for (unsigned i = 1; i < processor_count; i++) send(apics[i], INIT);
-  microseconds(10000);
+  for (int wait = 0; wait < ROUND; wait++) microsecond();
   for (int round = 0; round < ROUNDS && up_count() < processor_count; round++) {
     for (unsigned i = 1; i < processor_count; i++) send(apics[i], BEGIN | OTHERS_PAGE / PAGE);
-    for (int wait = 0; wait < ROUND && up_count() < processor_count; wait++) microseconds(1);
+    for (int wait = 0; wait < ROUND && up_count() < processor_count; wait++) microsecond();
   }
 }
 
 /* Makes the others begin, the first time that it is called. Until then the program runs on one processor. */
 void begin_others(void) {
-  enum { IS_X2APIC = 1 << 10 };
-  if (others_began) return;
+  if (others_began || processor_count == 1) return;
   others_began = 1;
-  if (processor_count == 1) return;
-  if (model_register(APIC_BASE) & IS_X2APIC) ends("the processors' interrupts are in a mode that is not driven here, x2APIC", NO_PROCESSOR);
+  if (model_register(APIC_BASE) & IS_X2APIC) ends("host: the processors' interrupts are in a mode that is not driven here, x2APIC", NO_PROCESSOR);
   take_interrupts();
   memcpy((void *)OTHERS_PAGE, others_start, others_end - others_start);
   call_others();
@@ -169,6 +149,5 @@ void begin_others(void) {
   say_number(up_count(), 10);
   say(" of ");
   say_number(processor_count, 10);
-  say("\n");
-  _exit(NO_PROCESSOR);
+  ends("", NO_PROCESSOR);
 }

@@ -25,22 +25,6 @@ start32:
         cld
         movl    $boot_stack_end, %esp
         movl    %eax, %ebp              /* the loader's magic number; ebx keeps where it left what it tells */
-        /* 4 GiB, each address at itself, in pages of 2 MiB */
-        movl    $pdpt + PRESENT, pml4
-        movl    $directories + PRESENT, %eax
-        movl    $pdpt, %edi
-1:      movl    %eax, (%edi)
-        addl    $4096, %eax
-        addl    $8, %edi
-        cmpl    $pdpt + 32, %edi
-        jb      1b
-        movl    $LARGE + PRESENT, %eax
-        movl    $directories, %edi
-2:      movl    %eax, (%edi)
-        addl    $0x200000, %eax
-        addl    $8, %edi
-        cmpl    $directories + 4 * 4096, %edi
-        jb      2b
         call    to_long_mode
         ljmpl   $0x08, $first64
 
@@ -57,23 +41,19 @@ to_long_mode:
         movl    $0x80010033, %eax       /* paging, write protection, the FPU, protection */
         movl    %eax, %cr0
         lgdtl   first_gdt_at
+        movl    $0x10, %eax             /* what an interrupt's return loads again */
+        movl    %eax, %ss
         ret
 
         .code64
 first64:
-        xorl    %eax, %eax
-        movl    %eax, %ds
-        movl    %eax, %es
-        movl    %eax, %ss
         movl    $boot_stack_end, %esp
         movl    %ebp, %edi
         movl    %ebx, %esi
         call    first_processor         /* gives the record of this processor */
         movq    %rax, %rdi
         movq    (%rdi), %rsp
-        xorl    %ebp, %ebp
         call    work
-        ud2
 
 /* Where another processor begins, in real mode: processors.c copies this to the page that it names to the processor. */
         .code16
@@ -102,16 +82,10 @@ other32:
         ljmpl   $0x08, $other64
         .code64
 other64:
-        xorl    %eax, %eax
-        movl    %eax, %ds
-        movl    %eax, %es
-        movl    %eax, %ss
         movl    $PROCESSOR_BYTES, %edi
         lock xaddq %rdi, next_up(%rip)  /* each takes a record of its own; the end of its stack comes first in it */
         movq    (%rdi), %rsp
-        xorl    %ebp, %ebp
         call    other_processor
-        ud2
 
 /* Each exception goes to C with its number and where it came from; an interrupt only ends a halt. */
         .text
@@ -121,9 +95,8 @@ exceptions:
         .set    n, 0
         .rept   32
         .balign 16
-        .if     n == 8 || (n >= 10 && n <= 14) || n == 17 || n == 21 || n == 29 || n == 30
-        .else
-        pushq   $0
+        .if     n != 8 && (n < 10 || n > 14) && n != 17 && n != 21 && n != 29 && n != 30
+        pushq   $0                      /* the processor pushes no error number */
         .endif
         pushq   $n
         jmp     to_trapped
@@ -136,27 +109,20 @@ to_trapped:
         movq    24(%rsp), %rcx
         andq    $-16, %rsp
         call    trapped
-        ud2
 ends_halt:
         iretq
 
 /* change_stacks(kept, next): keeps the registers that C keeps over a call, on the stack, and goes on where another stack was left so. */
         .global change_stacks
 change_stacks:
-        pushq   %rbx
-        pushq   %rbp
-        pushq   %r12
-        pushq   %r13
-        pushq   %r14
-        pushq   %r15
+        .irp    it, rbx, rbp, r12, r13, r14, r15
+        pushq   %\it
+        .endr
         movq    %rsp, (%rdi)
         movq    (%rsi), %rsp
-        popq    %r15
-        popq    %r14
-        popq    %r13
-        popq    %r12
-        popq    %rbp
-        popq    %rbx
+        .irp    it, r15, r14, r13, r12, rbp, rbx
+        popq    %\it
+        .endr
         ret
 
 /* The instruction syscall, which the kit's other compiler writes for futex: as Linux, it changes no register but rax, rcx and r11. The answer is
@@ -164,15 +130,9 @@ change_stacks:
         .global system_call
 system_call:
         leaq    -128(%rsp), %rsp        /* the red zone of whom it was called in */
-        pushq   %rcx
-        pushq   %r11
-        pushq   %rdi
-        pushq   %rsi
-        pushq   %rdx
-        pushq   %r8
-        pushq   %r9
-        pushq   %r10
-        pushq   %rbp
+        .irp    it, rcx, r11, rdi, rsi, rdx, r8, r9, r10, rbp
+        pushq   %\it
+        .endr
         movq    %rsp, %rbp
         subq    $512, %rsp
         andq    $-16, %rsp
@@ -184,14 +144,10 @@ system_call:
         call    call_system
         fxrstor64 (%rsp)
         movq    %rbp, %rsp
-        popq    %rbp
-        popq    %r10
-        popq    %r9
-        popq    %r8
-        popq    %rdx
-        popq    %rsi
-        popq    %rdi
-        popfq
+        .irp    it, rbp, r10, r9, r8, rdx, rsi, rdi
+        popq    %\it
+        .endr
+        popfq                           /* what rflags were is in r11 */
         popq    %rcx
         leaq    128(%rsp), %rsp
         jmp     *%rcx
@@ -205,12 +161,22 @@ first_gdt_at:
         .word   31
         .long   first_gdt
 
-        .bss
+/* Page tables: 4 GiB, each address at itself, in pages of 2 MiB. */
+        .data
         .balign 4096
         .global directories
-pml4:   .skip   4096
-pdpt:   .skip   4096
+pml4:   .quad   pdpt + PRESENT
+        .balign 4096
+pdpt:   .quad   directories + PRESENT, directories + 0x1000 + PRESENT, directories + 0x2000 + PRESENT, directories + 0x3000 + PRESENT
+        .balign 4096
 directories:
-        .skip   4 * 4096
+        .set    n, 0
+        .rept   4 * 512
+        .quad   n + LARGE + PRESENT
+        .set    n, n + 0x200000
+        .endr
+
+        .bss
+        .balign 4096
         .skip   4096
 boot_stack_end:

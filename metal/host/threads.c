@@ -13,25 +13,22 @@ static int state_of(const struct thread *it) { return __atomic_load_n(&it->state
 static void set_state(struct thread *it, enum state state) { __atomic_store_n(&it->state, state, __ATOMIC_SEQ_CST); }
 static size wakes_so_far(void) { return __atomic_load_n(&wakes, __ATOMIC_SEQ_CST); }
 
-static void wake_all(void) {
+static int wake_all(void) {
   __atomic_add_fetch(&wakes, 1, __ATOMIC_SEQ_CST);
   end_halts();
+  return 0;
 }
 
 /* ---- a processor's own loop */
 
-/* Whether a thread of this processor can go on. Its state comes first: of a record that another processor just gets, `at` is old until it is READY. */
-static int can_go_on(const struct processor *own, const struct thread *it) {
-  int state = state_of(it);
-  return (state == READY || (state == WAITS && it->wakes != wakes_so_far())) && it->at == own;
-}
-
-/* The next thread of this processor that can go on, behind the one that ran last, or 0. */
+/* The next thread of this processor that can go on, behind the one that ran last, or 0. Its state comes first: while another processor gets a record
+   that was this one's, `at` is old until it is READY. */
 static struct thread *next_of(const struct processor *own, const struct thread *last) {
   unsigned count = __atomic_load_n(&thread_count, __ATOMIC_SEQ_CST), behind = last ? last - threads + 1 : 0;
   for (unsigned i = 0; i < count; i++) {
     struct thread *it = &threads[(behind + i) % count];
-    if (can_go_on(own, it)) return it;
+    int state = state_of(it);
+    if ((state == READY || (state == WAITS && it->wakes != wakes_so_far())) && it->at == own) return it;
   }
   return 0;
 }
@@ -52,7 +49,7 @@ _Noreturn void work(struct processor *own) {
   for (;;) {
     struct thread *next = next_of(own, last);
     if (!next) {
-      if (is_alone()) ends("every thread waits", ALL_WAIT);
+      if (is_alone()) ends("host: every thread waits", ALL_WAIT);
       halt();
       continue;
     }
@@ -68,17 +65,18 @@ _Noreturn void work(struct processor *own) {
 }
 
 /* What a thread does on its processor: it gives that back until its next turn. */
-static void give_back(enum state state) {
+static int give_back(enum state state) {
   struct processor *own = me();
   struct thread *it = own->runs;
   set_state(it, state);
   change_stacks(&it->stack, &own->stack);
+  return 0;
 }
 
 /* Waits for the next wake behind those that had come. Who looks at a word looks at their number first: a wake that comes in between ends the wait. */
-static void wait(size had_come) {
+static int wait(size had_come) {
   me()->runs->wakes = had_come;
-  give_back(WAITS);
+  return give_back(WAITS);
 }
 
 static void begin(void) {
@@ -92,10 +90,9 @@ static void begin(void) {
 
 /* Lays down on a thread's stack what change_stacks takes from one: six registers, and where to go on. */
 static void starts(struct thread *it, struct processor *at, void *(*start)(void *), void *value) {
-  size *stack = (size *)it->stack_end - 8;
-  for (int i = 0; i < 8; i++) stack[i] = 0;
-  stack[6] = (size)begin;
-  it->stack = (size)stack;
+  const size left[8] = {[6] = (size)begin};
+  it->stack = (size)(it->stack_end - sizeof left);
+  memcpy((void *)it->stack, left, sizeof left);
   it->start = start;
   it->value = value;
   it->error_number = it->is_detached = 0;
@@ -104,14 +101,11 @@ static void starts(struct thread *it, struct processor *at, void *(*start)(void 
   set_state(it, READY);
 }
 
-static void *run_main(void *none) {
-  (void)none;
-  _exit(main());
-}
+static void *run_main(void *none) { _exit(main()); }
 
 /* Makes the program the first thread, for the first processor to begin with. */
 void has_program(void) {
-  if (!has_stack(&threads[0])) ends("too little memory", NO_ROOM);
+  if (!has_stack(&threads[0])) ends("host: too little memory", NO_ROOM);
   starts(&threads[0], processors, run_main, 0);
 }
 
@@ -136,17 +130,10 @@ static struct thread *at_rest(void) {
 }
 
 int pthread_attr_init(size *attributes) { return *attributes = 0; }
-int pthread_attr_destroy(size *attributes) {
-  (void)attributes;
-  return 0;
-}
-int pthread_attr_setguardsize(size *attributes, size bytes) {
-  (void)attributes;
-  return bytes <= LARGE_PAGE ? 0 : INVALID; /* each stack has a guard of 2 MiB */
-}
+int pthread_attr_destroy(size *attributes) { return 0; }
+int pthread_attr_setguardsize(size *attributes, size bytes) { return bytes <= LARGE_PAGE ? 0 : INVALID; } /* each stack has a guard of 2 MiB */
 
 int pthread_create(size *thread, const size *attributes, void *(*start)(void *), void *value) {
-  (void)attributes;
   lock(&threads_lock);
   begin_others();
   struct thread *it = at_rest();
@@ -161,11 +148,7 @@ int pthread_create(size *thread, const size *attributes, void *(*start)(void *),
 
 int pthread_join(size thread, void **value) {
   struct thread *it = &threads[thread - 1];
-  for (;;) {
-    size had_come = wakes_so_far();
-    if (state_of(it) == ENDED) break;
-    wait(had_come);
-  }
+  for (size had_come = wakes_so_far(); state_of(it) != ENDED; had_come = wakes_so_far()) wait(had_come);
   if (value) *value = it->value;
   set_state(it, RESTS);
   return 0;
@@ -182,10 +165,7 @@ int pthread_detach(size thread) {
 
 size pthread_self(void) { return me()->runs - threads + 1; }
 
-int sched_yield(void) {
-  give_back(READY);
-  return 0;
-}
+int sched_yield(void) { return give_back(READY); }
 
 /* ---- errors, and the system calls that the program makes */
 
@@ -201,14 +181,10 @@ long fails(int error) {
 long syscall(long number, unsigned *word, long operation, long value) {
   enum { FUTEX = 202, WAIT = 0x80, WAKE = 0x81 };
   if (number != FUTEX || (operation != WAIT && operation != WAKE)) return fails(NO_CALL);
-  if (operation == WAKE) {
-    wake_all();
-    return 0;
-  }
+  if (operation == WAKE) return wake_all();
   size had_come = wakes_so_far();
   if (__atomic_load_n(word, __ATOMIC_SEQ_CST) != (unsigned)value) return fails(TRY_AGAIN);
-  wait(had_come);
-  return 0;
+  return wait(had_come);
 }
 
 /* The same by the instruction syscall, which answers as Linux does: an error is its number, negative. */
