@@ -30,7 +30,8 @@ const aboutPage = facts => html`
   <p><b>Proved</b>, in Rattle (Rust with contracts), function by function: the program <code>mctower</code>. By its contract, what <code>run</code> prints is the
   trace text and the state lines of the step table's system after these steps; <code>check</code> says yes only to a text that spells a run of first-in first-out
   buffers; a refusal names the first fault. And for every schedule, the calls that took effect have one order, which is a run of first-in first-out buffers: in
-  each buffer <b>sent = received ++ left</b>.</p>
+  each buffer <b>sent = received ++ left</b>. From step to step that order only grows, by the call that takes effect, so the calls are linearizable by the steps
+  of the schedule.</p>
   <p>Nothing is promised of progress, of fairness, of freedom from deadlock, or of time.</p>
   <p><b>Not proved</b>: ${NOT_PROVED.map((one, i) => html`${i ? "; " : ""}${one}`)}.</p>
   <p><b>Compared instead</b>: before a change of the program is merged, this page's module has to print what the program itself prints, on every stored plan behind

@@ -181,7 +181,8 @@ function notGrown(kernel, order, last) {
 // The laws in the order in which pages tell them: each says why it is broken, or null.
 const LAWS = new Map([["one place for each thread", twoPlaces], ["each thread runs at home", astray], ["one CPU inside a lock", twoInside],
   ["no lost wake-up", lostWakeUp], ["nobody sleeps at a free lock", freeSleeper], ["sent = received ++ left", ofEach(notTheSame)],
-  ["callers in their order", ofEach(outOfTurn)], ["each answer fits its buffer", ofEach(falseAnswer)], ["the order only grows", notGrown], ["quiet only if nobody can go on", notStill]]);
+  ["callers in their order", ofEach(outOfTurn)], ["each answer fits its buffer", ofEach(falseAnswer)],
+  ["the order only grows", notGrown], ["quiet only if nobody can go on", notStill]]);
 
 // The laws that do not hold in a state, each with why.
 function faultsIn(kernel, last = null) {
