@@ -1,8 +1,8 @@
 """Browsers driven with the standard library alone: they open a page, press keys, click, read, take pictures. A Chromium by its devtools pipe, a Firefox by
 WebDriver BiDi.
 
-CHROMIUM and FIREFOX name the programs; without them the first `chromium`, `chromium-browser` or `google-chrome`, and the first `firefox` or `firefox-esr`, on the
-path are taken. `find_browser` and `find_firefox` return None where there is none.
+CHROMIUM and FIREFOX name the programs; without them the first `chromium`, `chromium-browser` or `google-chrome`, and the first `firefox` or
+`firefox-esr`, on the path are taken. `find_browser` and `find_firefox` return None where there is none.
 """
 import base64
 import json
@@ -20,8 +20,8 @@ OPTIONS = ("--headless=new", "--no-sandbox", "--disable-gpu", "--remote-debuggin
            "--no-first-run", "--disable-sync", "--force-color-profile=srgb")
 KEY_NUMBERS = {"ArrowRight": 39, "ArrowLeft": 37, "ArrowDown": 40, "Home": 36, "End": 35, "PageUp": 33, "PageDown": 34,
                "Backspace": 8, "Enter": 13, "Tab": 9, " ": 32}
-KEY_LETTERS = {"ArrowRight": "\ue014", "ArrowLeft": "\ue012", "ArrowDown": "\ue015", "Home": "\ue011", "End": "\ue010", "PageUp": "\ue00e", "PageDown": "\ue00f",
-               "Backspace": "\ue003", "Enter": "\ue007", "Tab": "\ue004", "Shift": "\ue008"}
+KEY_LETTERS = {"ArrowRight": "\ue014", "ArrowLeft": "\ue012", "ArrowDown": "\ue015", "Home": "\ue011", "End": "\ue010", "PageUp": "\ue00e",
+               "PageDown": "\ue00f", "Backspace": "\ue003", "Enter": "\ue007", "Tab": "\ue004", "Shift": "\ue008"}
 SHIFT = 8
 # What a new Firefox is not to do: ask, or look for anything outside.
 PREFERENCES = {"datareporting.policy.dataSubmissionEnabled": False, "app.update.disabledForTesting": True, "browser.shell.checkDefaultBrowser": False,
@@ -70,8 +70,8 @@ class Page:
 
     def click(self, selector):
         """Clicks into the middle of what a selector names."""
-        middle = (f"(() => {{ const one = document.querySelector({json.dumps(selector)}); one.scrollIntoView({{block: 'nearest'}}); const box = one.getBoundingClientRect(); "
-                  "return [box.x + box.width / 2, box.y + box.height / 2]; })()")
+        middle = (f"(() => {{ const one = document.querySelector({json.dumps(selector)}); one.scrollIntoView({{block: 'nearest'}}); "
+                  "const box = one.getBoundingClientRect(); return [box.x + box.width / 2, box.y + box.height / 2]; })()")
         self.click_at(*self.read(middle))
 
 
@@ -199,7 +199,8 @@ class Socket:
     def send(self, text):
         """Sends a text in one frame, masked as a client's has to be."""
         data, mask = text.encode(), os.urandom(4)
-        size = bytes([0x80 | len(data)]) if len(data) < 126 else b"\xfe" + len(data).to_bytes(2, "big") if len(data) < 1 << 16 else b"\xff" + len(data).to_bytes(8, "big")
+        many = 0 if len(data) < 126 else 2 if len(data) < 1 << 16 else 8  # bytes for the length: as few as do
+        size = bytes([0x80 | {0: len(data), 2: 126, 8: 127}[many]]) + (len(data).to_bytes(many, "big") if many else b"")
         self.line.sendall(b"\x81" + size + mask + bytes(byte ^ mask[i % 4] for i, byte in enumerate(data)))
 
     def take(self):
@@ -230,13 +231,23 @@ class Firefox(Page):
     name = "Firefox"
 
     def __init__(self, program, width=1280, height=720, is_dark=False):
-        self.room = tempfile.TemporaryDirectory()
+        self.room = tempfile.TemporaryDirectory(ignore_cleanup_errors=True)
         self.number, self.events = 0, []
         wishes = {**PREFERENCES, "layout.css.prefers-color-scheme.content-override": 0 if is_dark else 1}
         lines = [f"user_pref({json.dumps(name)}, {json.dumps(value)});\n" for name, value in wishes.items()]
         Path(self.room.name, "user.js").write_text("".join(lines), encoding="utf-8")
-        self.run = subprocess.Popen([program, "--headless", "--no-remote", "--profile", self.room.name, "--remote-debugging-port", "0"], stdin=subprocess.DEVNULL,
-                                    stdout=subprocess.DEVNULL, stderr=subprocess.PIPE, text=True, errors="replace", env={**os.environ, "HOME": self.room.name})
+        words = [program, "--headless", "--no-remote", "--profile", self.room.name, "--remote-debugging-port", "0"]
+        self.run = subprocess.Popen(words, stdin=subprocess.DEVNULL, stdout=subprocess.DEVNULL, stderr=subprocess.PIPE,
+                                    text=True, errors="replace", env={**os.environ, "HOME": self.room.name})
+        self.socket = None
+        try:
+            self.begin(width, height)
+        except (RuntimeError, OSError):
+            self.close()
+            raise
+
+    def begin(self, width, height):
+        """Gets a session, and the page of it."""
         self.socket = Socket(self.port())
         self.call("session.new", capabilities={})
         self.call("session.subscribe", events=["log.entryAdded", "network.beforeRequestSent"])
@@ -269,11 +280,25 @@ class Firefox(Page):
                 return said["result"]
 
     def load(self, url):
-        self.call("browsingContext.navigate", context=self.context, url=url, wait="complete")
+        """Goes to a page, and waits until a script can be run there: until then what is asked may be lost with the page before it."""
+        self.call("browsingContext.navigate", context=self.context, url=url, wait="none")
+        end = time.monotonic() + 60
+        while self.address() != url.partition("#")[0]:
+            if time.monotonic() > end:
+                raise RuntimeError(f"not within 60 s: {url}")
+            time.sleep(0.02)
+
+    def address(self):
+        """The address of the page that is there, once it is there whole; else None."""
+        try:
+            return self.read("document.readyState === 'complete' ? location.href.split('#')[0] : null")
+        except RuntimeError:
+            return None
 
     def read(self, code):
         """The value of an expression in the page."""
-        done = self.call("script.evaluate", expression=f"(async () => JSON.stringify(await ({code})) ?? \"null\")()", target={"context": self.context}, awaitPromise=True)
+        spelled = f"(async () => JSON.stringify(await ({code})) ?? 'null')()"
+        done = self.call("script.evaluate", expression=spelled, target={"context": self.context}, awaitPromise=True)
         if done["type"] != "success":
             raise RuntimeError(json.dumps(done["exceptionDetails"])[:600])
         return json.loads(done["result"]["value"])
@@ -312,13 +337,13 @@ class Firefox(Page):
     def close(self):
         """Ends the browser."""
         try:
-            self.call("browser.close")
+            self.call("browser.close") if self.socket else self.run.kill()
         except (RuntimeError, OSError):
-            pass
+            self.run.kill()
         try:
             self.run.wait(20)
         except subprocess.TimeoutExpired:
             self.run.kill()
             self.run.wait()
         self.run.stderr.close()
-        self.room.cleanup()
+        self.room.cleanup()  # what Firefox started may still write there

@@ -1,6 +1,6 @@
 #!/usr/bin/env python3
-"""Drives web/tower.html in a Chromium and in a Firefox, where there is one: keys, clicks, links, play, undo, plans and texts that are typed in and refused, lessons,
-searches, the page's policy; on a phone, in a lecture hall, in the dark, and by its contrast.
+"""Drives web/tower.html in a Chromium and in a Firefox, where there is one: keys, clicks, links, play, undo, plans and texts that are typed in and refused,
+lessons, searches, the page's policy; on a phone, in a lecture hall, in the dark, and by its contrast.
 
     web/in_browser.py [PAGE [PICTURES]]
 
@@ -19,6 +19,7 @@ from browser import Browser, Firefox, find_browser, find_firefox  # noqa: E402
 WIDE, HIGH = 1280, 720
 PHONE, HALL = (390, 844, 2), (853, 480, 1.5)  # a lecture hall: 1280 by 720, at 150 %
 LEAST_CONTRAST = 4.5
+LOST = "#plan=two-receivers&wrong=other-side-only&schedule=0*13,1*13,2*43,1*6,0*23&step=91"
 PANELS = ("planPanel", "searchPanel", "printedPanel", "judgePanel", "aboutPanel")
 MOST_RUN_MS, MOST_STEP_MS = 5, 50
 OWN_PLAN = 'cpus = 1\\ntrace = 4\\nbuffers = [2]\\n[[thread]]\\ncpu = 0\\nprogram = ["set r0 7", "send 0 r0"]\\n'
@@ -45,25 +46,28 @@ STEP_TIMES = """(() => { page.loadStored('ledger'); const times = [];
   while (page.at < page.run.length) timed(() => page.player.move(1)); while (page.at > 0) timed(() => page.player.move(-1));
   times.sort((x, y) => x - y); return [times.length, times[times.length >> 1], times.reduce((sum, one) => sum + one, 0) / times.length]; })()"""
 
-# Texts that are seen with too little contrast, each with its own. What stands behind a text of the lanes is the bar drawn last beneath it, at three of its points.
+# Texts that are seen with too little contrast, each with its own. Behind a text of the lanes is the bar that was drawn last beneath it, at three of its points.
 CONTRAST = """(() => { const dark = document.createElement('canvas').getContext('2d', {willReadFrequently: true});
   const rgba = colour => { dark.clearRect(0, 0, 1, 1); dark.fillStyle = colour; dark.fillRect(0, 0, 1, 1); return [...dark.getImageData(0, 0, 1, 1).data]; };
   const linear = part => part / 255 <= 0.04045 ? part / 255 / 12.92 : ((part / 255 + 0.055) / 1.055) ** 2.4;
   const light = colour => rgba(colour).slice(0, 3).reduce((sum, part, i) => sum + [0.2126, 0.7152, 0.0722][i] * linear(part), 0);
   const ratio = (x, y) => { const [low, high] = [light(x), light(y)].sort((one, other) => one - other); return (high + 0.05) / (low + 0.05); };
-  const behind = element => { for (let one = element; one; one = one.parentElement) { const back = getComputedStyle(one).backgroundColor; if (rgba(back)[3] > 250) return back; } return '#fff'; };
+  const behind = element => { for (let one = element; one; one = one.parentElement) { const back = getComputedStyle(one).backgroundColor;
+    if (rgba(back)[3] > 250) return back; } return '#fff'; };
   const beneath = (text, x) => { const y = text.getBoundingClientRect().y + text.getBoundingClientRect().height / 2;
     const bars = [...text.ownerSVGElement.querySelectorAll('rect:not(.cursor)')].filter(bar => { const box = bar.getBoundingClientRect();
       return bar.compareDocumentPosition(text) & Node.DOCUMENT_POSITION_FOLLOWING && box.left <= x && x <= box.right && box.top <= y && y <= box.bottom; });
     return bars.length ? getComputedStyle(bars.at(-1)).fill : behind(text.ownerSVGElement); };
-  const poor = [], hold = (words, ink, back) => { const is = ratio(ink, back); if (is < LEAST) poor.push([words.trim().slice(0, 30), Math.round(is * 100) / 100]); };
+  const poor = [], hold = (words, ink, back) => { const is = ratio(ink, back);
+    if (is < LEAST) poor.push([words.trim().slice(0, 30), Math.round(is * 100) / 100]); };
   const texts = document.createTreeWalker(document.body, NodeFilter.SHOW_TEXT);
   for (let node = texts.nextNode(); node; node = texts.nextNode()) { const one = node.parentElement;
     if (!node.data.trim() || one.closest('script, style, noscript, title, option, textarea, .unseen') || !one.checkVisibility()) continue;
     if (one.tagName !== 'text') { hold(node.data, getComputedStyle(one).color, behind(one)); continue; }
     const box = one.getBoundingClientRect();
     for (const x of [box.left + 1, box.left + box.width / 2, box.right - 1]) hold(node.data, getComputedStyle(one).fill, beneath(one, x)); }
-  for (const one of document.querySelectorAll('input:not([type=range], [type=radio]), select, textarea')) if (one.checkVisibility()) hold(one.id, getComputedStyle(one).color, behind(one));
+  for (const one of document.querySelectorAll('input:not([type=range], [type=radio]), select, textarea'))
+    if (one.checkVisibility()) hold(one.id, getComputedStyle(one).color, behind(one));
   return [...new Map(poor.map(one => [one.join(), one])).values()].slice(0, 8); })()""".replace("LEAST", str(LEAST_CONTRAST))
 
 # What of a page the policy has to forbid: an image from elsewhere, a script that is put in, a style attribute, a text that is run.
@@ -237,7 +241,8 @@ class Checks:
         self.holds("keys and instructions stand beside the text", "cpus" in self.text("#planHelp") and "program" in self.text("#planHelp"), True)
         self.set_value("#planText", f"'\\ufefflocks = 1\\n{OWN_PLAN}'")
         self.browser.click("#runPlan")
-        self.holds("a key that is ignored gets a word, behind a byte order mark too", self.text("#ignored"), "line 1 of the plan: the key locks is ignored. Is lock meant?")
+        self.holds("a key that is ignored gets a word, behind a byte order mark too", self.text("#ignored"),
+                   "line 1 of the plan: the key locks is ignored. Is lock meant?")
 
     def judge(self):
         self.open("#step=57")
@@ -254,7 +259,8 @@ class Checks:
     def first_look(self):
         """What one sees before the first step."""
         self.open()
-        self.holds("a sentence says what this is and what to press", self.text("#said").startswith("Threads on CPUs pass numbers through buffers → takes the next step"), True)
+        first = "Threads on CPUs pass numbers through buffers → takes the next step"
+        self.holds("a sentence says what this is and what to press", self.text("#said").startswith(first), True)
         self.holds("the names of the sections are explained", [name for name in SECTIONS if name not in self.text("#foot")], [])
         self.holds("lessons have a list of their own", self.browser.read("document.querySelectorAll('#lessonList option').length"), 9)
         self.browser.read("navigator.clipboard.writeText = text => { window.copied = text; return Promise.resolve(); }")
@@ -265,14 +271,17 @@ class Checks:
     def lesson(self, number):
         """Chooses a lesson and goes to where it breaks, once all beginnings are compared: what is said of them moves the page."""
         self.set_value("#lessonList", f"'{number}'")
-        self.browser.wait("page.session.evidence.counted === page.session.record.printed.length && document.querySelector('#evidence').textContent.includes(page.session.evidence.counted)")
+        self.browser.wait("(() => { const all = page.session.record.printed.length; "
+                          "return document.querySelector('#evidence').textContent.includes(`${all} of ${all}`); })()")
         self.browser.click("#broken")
 
     def lessons(self):
         self.open()
         self.lesson(0)
-        self.holds("lesson 1 says that it is no proved kernel", self.text("#warn").startswith("NOT the proved kernel: here a CPU enters a section without waiting for its turn"), True)
-        self.holds("its law breaks at its step, and it says why", [self.at()[0], "BROKEN: sent = received ++ left: buffer 0: sent [7], received [], left []: 7 lost" in self.text("#order")], [16, True])
+        warning = "NOT the proved kernel: here a CPU enters a section without waiting for its turn"
+        self.holds("lesson 1 says that it is no proved kernel", self.text("#warn").startswith(warning), True)
+        why = "BROKEN: sent = received ++ left: buffer 0: sent [7], received [], left []: 7 lost"
+        self.holds("its law breaks at its step, and it says why", [self.at()[0], why in self.text("#order")], [16, True])
         self.browser.click("#empty")
         self.keys("0", "0", "0", "0", "1", "1", "1", "1")
         self.holds("eight steps by hand bring two CPUs into the lock", "BROKEN: one CPU inside a lock" in self.text("#order"), True)
@@ -306,8 +315,8 @@ class Checks:
         self.browser.wait("document.querySelector('#searched').textContent.includes('states that are known')")
         self.holds("while it searches the page answers", self.browser.read("page.run.length"), 118)
         self.browser.wait("document.querySelector('#found').textContent !== ''", 120)
-        self.holds("the shortest schedule", self.text("#found"), "A shortest schedule that breaks a law: 0*13,1*13,2*36,0*16 ✘ no lost wake-up: buffer 0 holds 8, is free, and t1, first in its "
-                   "receive line, sleeps 78 steps; 18,688 states were looked at.")
+        self.holds("the shortest schedule", self.text("#found"), "A shortest schedule that breaks a law: 0*13,1*13,2*36,0*16 ✘ no lost wake-up: "
+                   "buffer 0 holds 8, is free, and t1, first in its receive line, sleeps 78 steps; 18,688 states were looked at.")
         self.browser.click("#showFound")
         self.holds("is shown", [self.at(), "BROKEN: no lost wake-up" in self.text("#order")], [[78, 78], True])
         self.open()
@@ -337,15 +346,15 @@ class Checks:
         for number in range(8):
             self.open()
             self.lesson(number)
-            top, bottom, wide = self.browser.read("[document.querySelector('#said').getBoundingClientRect().top, document.querySelector('#lanes').getBoundingClientRect().bottom, "
-                                                  "document.documentElement.scrollWidth <= innerWidth]")
-            self.holds(f"lesson {number} at 150 %: sentence and lanes are seen, from {top} to {bottom}", [top >= 0, bottom <= HALL[1], wide], [True, True, True])
+            top, bottom, wide = self.browser.read("(() => { const box = id => document.querySelector(id).getBoundingClientRect(); "
+                                                  "return [box('#said').top, box('#lanes').bottom, document.documentElement.scrollWidth]; })()")
+            is_seen = [top >= 0, bottom <= HALL[1], wide <= HALL[0]]
+            self.holds(f"lesson {number} at 150 %: sentence and lanes are seen, from {top} to {bottom}", is_seen, [True] * 3)
         self.browser.resize(WIDE, HIGH)
 
     def contrast(self):
         """Each text can be read: in runs, in a broken kernel, at a refusal, in each panel."""
-        for link in ("", "#step=24", "#plan=two-receivers&step=85", "#plan=two-receivers&wrong=other-side-only&schedule=0*13,1*13,2*43,1*6,0*23&step=91", "#plan=ledger&step=400",
-                     "#plan=handed-over&step=40", "#schedule=0*13,7*2"):
+        for link in ("", "#step=24", "#plan=two-receivers&step=85", LOST, "#plan=ledger&step=400", "#plan=handed-over&step=40", "#schedule=0*13,7*2"):
             self.open(link)
             self.holds(f"contrast at {link}", self.browser.read(CONTRAST), [])
         for panel in PANELS:
@@ -373,7 +382,8 @@ class Checks:
     def times(self):
         name, run_ms = self.browser.read(RUN_TIMES)
         count, median, mean = self.browser.read(STEP_TIMES)
-        print(f"in a {self.browser.name}: the longest run of a stored plan is {name}'s, {run_ms:.1f} ms; of {count} steps forth and back the median is {median:.1f} ms, the mean {mean:.1f}")
+        print(f"in a {self.browser.name}: the longest run of a stored plan is {name}'s, {run_ms:.1f} ms; "
+              f"of {count} steps forth and back the median is {median:.1f} ms, the mean {mean:.1f}")
         self.holds(f"a run of {name} takes {run_ms} ms", run_ms <= MOST_RUN_MS, True)
         self.holds(f"a step takes {median} ms", median <= MOST_STEP_MS, True)
 
@@ -396,7 +406,7 @@ class Checks:
         self.holds("a broken module is said on the page", self.text("#warn").startswith("The program in this page is broken or this browser cannot run it"), True)
 
     def pictures(self, folder):
-        for link, name in [("#plan=two-receivers&step=59", "page"), ("#plan=two-receivers&wrong=other-side-only&schedule=0*13,1*13,2*43,1*6,0*23&step=91", "lost-wake-up")]:
+        for link, name in [("#plan=two-receivers&step=59", "page"), (LOST, "lost-wake-up")]:
             self.open(link)
             time.sleep(1)
             self.browser.picture(str(folder / f"{name}.png"))
@@ -408,8 +418,9 @@ def looked_at(make, page, folder):
     checks = Checks(browser, page)
     try:
         with tempfile.TemporaryDirectory() as room:
-            for look in (checks.first_look, checks.steps, checks.to_the_end, checks.play, checks.links, checks.choose, checks.schedules, checks.plans, checks.judge, checks.lessons,
-                         checks.printed_beside, checks.searches, checks.looks, checks.sizes, checks.contrast, checks.labels, checks.times, checks.is_clean):
+            for look in (checks.first_look, checks.steps, checks.to_the_end, checks.play, checks.links, checks.choose, checks.schedules, checks.plans,
+                         checks.judge, checks.lessons, checks.printed_beside, checks.searches, checks.looks, checks.sizes, checks.contrast, checks.labels,
+                         checks.times, checks.is_clean):
                 look()
             if folder:
                 checks.pictures(folder)
@@ -421,7 +432,7 @@ def looked_at(make, page, folder):
     dark = Checks(night, page)
     try:
         dark.contrast()
-        dark.holds("the page is dark", night.read("matchMedia('(prefers-color-scheme: dark)').matches && getComputedStyle(document.body).backgroundColor"), "rgb(22, 22, 22)")
+        dark.holds("the page is dark", night.read("getComputedStyle(document.body).backgroundColor"), "rgb(22, 22, 22)")
     finally:
         night.close()
     return checks.passed + dark.passed, checks.failed + dark.failed

@@ -29,6 +29,7 @@ const edited = (text, from, to) => {
   return text.replace(from, to);
 };
 const plan = (from, to, error, line, piece, says) => ({ plan: edited(PLAN, from, to), error, line, piece, says });
+const thread = (error, piece, says) => ({ error: `${error} thread`, line: 5, piece, says });
 const schedule = (text, error, piece, says) => ({ plan: PLAN, schedule: text, error, line: undefined, piece, says });
 const trace = (from, to, verdict, shown, says) => ({ text: edited(TRACE, from, to), verdict, shown, says });
 
@@ -57,9 +58,9 @@ export const refusals = {
     plan('send 0 r0', 'jnz r0 2', 'Guest(23) thread 1 line 1 BadTarget(13)', 13, '2', 'lines 0 to 1'),
     plan('send 0 r0', 'send 1 r0', 'OutOfRange(22) thread 1 program', 13, '1', 'buffers 0 to 0'),
     plan('set r0 7', 'set r0 <b>', 'Guest(23) thread 1 line 0 BadNumber(12)', 12, '<b>', '18446744073709551615'),
-    { plan: PLAN.replaceAll('[[thread]]', '[[threads]]'), error: 'MissingKey(21) thread', line: 5, piece: 'threads', says: 'threads is near it and is ignored' },
-    { plan: PLAN.replaceAll('[[thread]]', '[thread]').replace(/\[thread\]\ncpu = 1[^]*/, ''), error: 'MissingKey(21) thread', line: 5, piece: 'thread', says: '1 to 256 tables' },
-    { plan: `${PLAN}${'[[thread]]\ncpu = 0\nprogram = ["exit"]\n'.repeat(255)}`, error: 'OutOfRange(22) thread', line: 5, piece: 'thread', says: '1 to 256 tables' },
+    { ...thread('MissingKey(21)', 'threads', 'threads is near it and is ignored'), plan: PLAN.replaceAll('[[thread]]', '[[threads]]') },
+    { ...thread('MissingKey(21)', 'thread', '1 to 256 tables'), plan: PLAN.replace(/\[\[thread\]\]\ncpu = 1[^]*/, '').replace('[[thread]]', '[thread]') },
+    { ...thread('OutOfRange(22)', 'thread', '1 to 256 tables'), plan: PLAN + '[[thread]]\ncpu = 0\nprogram = ["exit"]\n'.repeat(255) },
     plan('cpus = 2', '\ufeffcpus = 17', 'OutOfRange(22) cpus', 1, 'cpus', '1 to 16'),
     schedule('0*13,,1', 'BadSchedule(9)', '', 'item 2'),
     schedule('0*13, 1', 'BadSchedule(9)', ' 1', 'item 2'),
@@ -72,9 +73,11 @@ export const refusals = {
   ignored: [
     { text: PLAN, notes: [] },
     { text: `\ufeff${PLAN}`, notes: [] },
-    { text: edited(PLAN, 'trace = 4', 'trace = 4\nlocks = 1\n"a b" = 2'), notes: [[3, 'the key locks is ignored. Is lock meant?'], [4, 'the key a b is ignored']] },
+    { text: edited(PLAN, 'trace = 4', 'trace = 4\nlocks = 1\n"a b" = 2'),
+      notes: [[3, 'the key locks is ignored. Is lock meant?'], [4, 'the key a b is ignored']] },
     { text: edited(PLAN, 'cpu = 1', 'cpu = 1\nlock = "grant"\nprograms = 3'),
-      notes: [[11, 'the key lock of thread 1 is ignored: it belongs above the first [[thread]]'], [12, 'the key programs of thread 1 is ignored. Is program meant?']] },
+      notes: [[11, 'the key lock of thread 1 is ignored: it belongs above the first [[thread]]'],
+        [12, 'the key programs of thread 1 is ignored. Is program meant?']] },
   ],
   texts: [
     trace('recv 0 7 1 0', 'recv 0 8 1 0', 'no 5 WrongValue(36)', 'e 1 1 recv 0 8 1 0', 'the first message of buffer 0 is 7'),

@@ -1,6 +1,6 @@
 "use strict";
-// Judges a trace text line by line, as `mctower check` does, to say what is wanted where the program says no: what plans/judging.py does. It decides nothing: its
-// words are shown where the proved program names the same line for the same reason.
+// Judges a trace text line by line, as `mctower check` does, to say what is wanted where the program says no: what plans/judging.py does. It decides
+// nothing: its words are shown where the proved program names the same line for the same reason.
 
 const TRACE_MOST = { buffers: 16, capacity: 32, cpus: 16, threads: 256, entries: 1048576, words: 8 };
 const TRACE_HEADS = ["mctower-trace 1", "mctower-trace 2", "mctower-trace 3"];
@@ -19,8 +19,8 @@ const misspelled = why => new TraceFault("Spelling", why);
 
 // A piece of a text as messages show it: cut, and without a character that cannot be seen.
 function shownPiece(text) {
-  const cut = text.length <= 40 ? text : `${text.slice(0, 40)}..`;
-  return cut.replace(/[\p{C}\p{Zl}\p{Zp}]/gu, letter => ({ "\t": "\\t", "\r": "\\r", "\n": "\\n" })[letter] ?? `\\x${letter.codePointAt(0).toString(16).padStart(2, "0")}`);
+  const cut = text.length <= 40 ? text : `${text.slice(0, 40)}..`, named = { "\t": "\\t", "\r": "\\r", "\n": "\\n" };
+  return cut.replace(/[\p{C}\p{Zl}\p{Zp}]/gu, letter => named[letter] ?? `\\x${letter.codePointAt(0).toString(16).padStart(2, "0")}`);
 }
 const isBelow = (digits, bound) => NUMBER.test(digits) && BigInt(digits) < bound;
 
@@ -30,8 +30,8 @@ function numbersOf(pieces, wanted) {
     if (!NUMBER.test(piece)) throw misspelled(`"${shownPiece(piece)}" is no number: wanted the ${wanted[i][0]}, in digits without a leading zero`);
   });
   pieces.forEach((piece, i) => {
-    const [name, least, bound] = wanted[i];
-    if (!isBelow(piece, BigInt(bound)) || Number(piece) < least) throw new TraceFault("Range", `the ${name} is ${shownPiece(piece)}: wanted ${least} to ${bound - 1}`);
+    const [name, least, bound] = wanted[i], isWithin = isBelow(piece, BigInt(bound)) && Number(piece) >= least;
+    if (!isWithin) throw new TraceFault("Range", `the ${name} is ${shownPiece(piece)}: wanted ${least} to ${bound - 1}`);
   });
   return pieces.map(Number);
 }
@@ -64,9 +64,10 @@ class Contents {
 
   // What an entry does, or why it may not stand here.
   takeEffect(b, kind, value, op, pos) {
-    const group = ENTRY_GROUPS[kind], due = this.counts[group];
-    if (op !== this.effects) throw new TraceFault("Op", `the op is ${op}: wanted ${this.effects}, the number of entries of buffer ${b} before it. Is one missing, or out of its place?`);
-    if (pos !== due) throw new TraceFault("Pos", `the pos is ${pos}: wanted ${due}, the number of ${group} of buffer ${b} before it`);
+    const group = ENTRY_GROUPS[kind], due = this.counts[group], number = what => `the number of ${what} of buffer ${b} before it`;
+    const missing = `the op is ${op}: wanted ${this.effects}, ${number("entries")}. Is one missing, or out of its place?`;
+    if (op !== this.effects) throw new TraceFault("Op", missing);
+    if (pos !== due) throw new TraceFault("Pos", `the pos is ${pos}: wanted ${due}, ${number(group)}`);
     if (kind === "send" && this.isClosed) throw new TraceFault("CloseState", `buffer ${b} is closed: a send finds that as sendc`);
     if (kind.endsWith("c") && !this.isClosed) throw new TraceFault("CloseState", `no close of buffer ${b} stands before it`);
     if (kind === "send") this.put(b, value);
@@ -100,7 +101,8 @@ class Judge {
   }
 
   head(line) {
-    if (!TRACE_HEADS.includes(line)) throw misspelled(`the head is "${shownPiece(line)}": ${line.startsWith("mctower-trace ") ? "the versions 1 to 3 are known" : "wanted mctower-trace and a version"}`);
+    const wanted = line.startsWith("mctower-trace ") ? "the versions 1 to 3 are known" : "wanted mctower-trace and a version";
+    if (!TRACE_HEADS.includes(line)) throw misspelled(`the head is "${shownPiece(line)}": ${wanted}`);
     this.version = TRACE_HEADS.indexOf(line) + 1;
     this.expect(this.bufferCount, "buffers n");
   }
@@ -131,7 +133,8 @@ class Judge {
     this.holdToKind(kind);
     if (HAS_MESSAGE[kind]) this.holdToMessage(value);
     else if (value !== "-") throw misspelled(`the value of ${kind} is "${shownPiece(value)}": wanted -`);
-    const bounds = [["CPU", 0, TRACE_MOST.cpus], ["thread", 0, TRACE_MOST.threads], ["buffer", 0, this.count], ["op", 0, TRACE_MOST.entries], ["pos", 0, TRACE_MOST.entries]];
+    const { cpus, threads, entries } = TRACE_MOST;
+    const bounds = [["CPU", 0, cpus], ["thread", 0, threads], ["buffer", 0, this.count], ["op", 0, entries], ["pos", 0, entries]];
     const [, , b, number, position] = numbersOf([cpu, thread, buffer, op, pos], bounds);
     holdToRange(value);
     if (++this.entries > TRACE_MOST.entries) throw new TraceFault("Range", `a text has at most ${TRACE_MOST.entries} entries`);
@@ -140,7 +143,8 @@ class Judge {
   }
 
   holdToKind(kind) {
-    const known = this.version === 1 ? FIRST_KINDS : Object.keys(ENTRY_GROUPS), hint = Object.hasOwn(ENTRY_GROUPS, kind) ? ": it needs the head mctower-trace 2" : nearSaid(kind, known);
+    const known = this.version === 1 ? FIRST_KINDS : Object.keys(ENTRY_GROUPS);
+    const hint = Object.hasOwn(ENTRY_GROUPS, kind) ? ": it needs the head mctower-trace 2" : nearSaid(kind, known);
     if (!known.includes(kind)) throw misspelled(`"${shownPiece(kind)}" is no kind of a text of version ${this.version}${hint}`);
   }
 
