@@ -28,6 +28,7 @@ sys.path.insert(0, str(ROOT / "plans"))
 from kernel import WRONG, Kernel  # noqa: E402
 from laws import broken_in, order_of  # noqa: E402
 from reading import read_plan  # noqa: E402
+from named import program_at  # noqa: E402
 from schedules import chosen, steps_of  # noqa: E402
 
 BOOK = ROOT / "docs/book"
@@ -333,7 +334,7 @@ def main():
     read.add_argument("--names", action="store_true")
     read.add_argument("program", nargs="?", default=ROOT / "crates/mctower/out/mctower", metavar="PROGRAM")
     given = read.parse_args()
-    program = Path(given.program).resolve()
+    program = None if given.names else program_at(given.program)
     faults = []
     count = names(faults)
     if not given.names:
