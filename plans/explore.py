@@ -18,7 +18,7 @@ import sys
 from pathlib import Path
 
 from asking import GRAMMAR, asked_for
-from kernel import WRONG, Kernel
+from kernel import WRONG, Kernel, run_alone
 from laws import order_of
 from reading import Refusal, bytes_at
 from record import cells, changes, compared, frame, place_style, program_is_there, record
@@ -154,4 +154,5 @@ def main():
 
 
 if __name__ == "__main__":
+    run_alone()
     sys.exit(main())

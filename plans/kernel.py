@@ -12,6 +12,7 @@ Nothing here is proved: it is the program to play with. It needs Python alone, 3
 what `mctower run` prints, and refuses what that refuses; tests/book.py and tests/explain.py hold the two against one another.
 """
 import argparse
+import signal
 import sys
 from collections import deque
 from pathlib import Path
@@ -417,5 +418,15 @@ def main(words):
     return 0
 
 
+def run_alone():
+    """Lets a program end without a trace of its calls where it is stopped or its reader leaves, as `head` does; and has it print UTF-8."""
+    for name in ("SIGINT", "SIGPIPE"):
+        if hasattr(signal, name):
+            signal.signal(getattr(signal, name), signal.SIG_DFL)
+    for stream in (sys.stdout, sys.stderr):
+        stream.reconfigure(encoding="utf-8", errors="backslashreplace")
+
+
 if __name__ == "__main__":
+    run_alone()
     sys.exit(main(sys.argv[1:]))

@@ -192,8 +192,8 @@ def standing_at(lock, block):
     """Who stands in a block, each with the place in words."""
     if lock[0] == "pending":
         return [(t, f"pending at CPU {lock[1]}") for t in block]
-    found = [(t, f"asleep for buffer {lock[1]}") for t in block.sleepers]
-    return found + [(t, f"waiting to {does} buffer {lock[1]}") for side, does in ((RECEIVERS, "receive from"), (SENDERS, "send to")) for t in block.waiting[side]]
+    waits = ((block.sleepers, "asleep for"), (block.waiting[RECEIVERS], "waiting to receive from"), (block.waiting[SENDERS], "waiting to send to"))
+    return [(t, f"{does} buffer {lock[1]}") for threads, does in waits for t in threads]
 
 
 def standing(system):
@@ -219,10 +219,12 @@ def why_two_places(system):
 def why_astray(system):
     for c, cpu in enumerate(system.cpus):
         running = [] if cpu.current is None else [cpu.current]
-        for t, does in [*((t, "runs on") for t in running), *((t, "is ready at") for t in cpu.ready), *((t, "is pending at") for t in system.blocks["pending", c])]:
-            if system.guests[t].home != c:
-                return f"t{t} {does} CPU {c}, and its home is CPU {system.guests[t].home}"
-    return next(f"t{cpu.hand} is in the hand of CPU {c}, its home" for c, cpu in enumerate(system.cpus) if cpu.hand is not None and system.guests[cpu.hand].home == c)
+        for threads, does in ((running, "runs on"), (cpu.ready, "is ready at"), (system.blocks["pending", c], "is pending at")):
+            stray = next((t for t in threads if system.guests[t].home != c), None)
+            if stray is not None:
+                return f"t{stray} {does} CPU {c}, and its home is CPU {system.guests[stray].home}"
+    c, t = next((c, cpu.hand) for c, cpu in enumerate(system.cpus) if cpu.hand is not None and system.guests[cpu.hand].home == c)
+    return f"t{t} is in the hand of CPU {c}, its home"
 
 
 def why_two_inside(system):
@@ -244,7 +246,8 @@ def allowing(buffer, side):
 
 
 def why_lost(system):
-    b, block, side = next((b, block, side) for b, block in buffers_of(system) for side in (RECEIVERS, SENDERS) if block.owner is None and sleeps_in_vain(block, side))
+    sides = ((b, block, side) for b, block in buffers_of(system) for side in (RECEIVERS, SENDERS))
+    b, block, side = next((b, block, side) for b, block, side in sides if block.owner is None and sleeps_in_vain(block, side))
     return f"buffer {b} {allowing(block, side)}, is free, and t{block.line[side][0]}, first in its {('receive', 'send')[side]} line, sleeps"
 
 
@@ -305,8 +308,8 @@ def why_not_still(system):
     return f"no CPU has anything to do, but t{t} stands at “{words}”{because}"
 
 
-WHY = {ONE_PLACE: why_two_places, AT_HOME: why_astray, ONE_INSIDE: why_two_inside, NO_LOST_WAKE_UP: why_lost, NO_FREE_SLEEPER: why_free, NOTHING_LOST: why_not_the_same,
-       IN_THEIR_ORDER: why_out_of_turn, TRUE_ANSWERS: why_false, ORDER_GROWS: why_not_grown, QUIET_IS_STILL: why_not_still}
+WHY = {ONE_PLACE: why_two_places, AT_HOME: why_astray, ONE_INSIDE: why_two_inside, NO_LOST_WAKE_UP: why_lost, NO_FREE_SLEEPER: why_free,
+       NOTHING_LOST: why_not_the_same, IN_THEIR_ORDER: why_out_of_turn, TRUE_ANSWERS: why_false, ORDER_GROWS: why_not_grown, QUIET_IS_STILL: why_not_still}
 
 
 def faults_in(system, earlier=None, c=None):

@@ -9,7 +9,6 @@ States are those of plans/kernel.py, a program without a proof; equal ones are o
 schedule and has to print what kernel.py prints; MCTOWER names it. Where a law is broken, nothing is found, or something else is printed, the status is 1.
 """
 import argparse
-import signal
 import sys
 import time
 from collections import deque
@@ -18,7 +17,7 @@ from pathlib import Path
 
 import like
 from asking import GRAMMAR, asked_for
-from kernel import WRONG, Buffer, Kernel, spelled
+from kernel import WRONG, Buffer, Kernel, run_alone, spelled
 from laws import (LAWS, ORDER_GROWS, QUIET_IS_STILL, WHY, broken_at, broken_by, effects_of, faults_in, has_grown, in_order, is_quiet, is_stillness_false,
                   part_of_block, part_of_cpu, part_of_thread)
 from reading import Refusal, bytes_at
@@ -440,7 +439,6 @@ def main():
     parser.add_argument("--compare", type=int, nargs="?", const=0, metavar="K", help="compare K states with the proved program, or all")
     parser.add_argument("--time", action="store_true", help="tell what it took")
     asked = parser.parse_args()
-    signal.signal(signal.SIGPIPE, signal.SIG_DFL)  # a reader as `head` may leave early
     if not asked.plan.exists():
         parser.exit(2, f"states: there is no plan at {asked.plan}: name one that is there, as plans/one-send.toml\n")
     if asked.compare is not None and (asked.wrong or not program_is_there()):
@@ -460,4 +458,5 @@ def main():
 
 
 if __name__ == "__main__":
+    run_alone()
     sys.exit(main())

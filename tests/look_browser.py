@@ -143,7 +143,8 @@ def chips(checks):
     checks.holds("it is said that this is not the proved kernel", browser.read("element('warn').textContent")[:67],
                  "NOT the proved kernel: here who is sent home stays in the hand as w")
     checks.open("lost", "#step=98")
-    checks.holds("the lost wake-up is said", browser.read("document.querySelector('li.broken').textContent"), "✘ BROKEN: no lost wake-up: buffer 0 holds 8, is free, and t1, first in its receive line, sleeps")
+    checks.holds("the lost wake-up is said", browser.read("document.querySelector('li.broken').textContent"),
+                 "✘ BROKEN: no lost wake-up: buffer 0 holds 8, is free, and t1, first in its receive line, sleeps")
 
 
 def looks(checks):
@@ -197,7 +198,8 @@ def chosen_links(checks):
     checks.open("lock", "#schedule=")
     for key in "00001111":
         browser.key(key)
-    checks.holds("lesson 1's kernel is broken in eight steps", browser.read("document.querySelector('li.broken').textContent"), "✘ BROKEN: one CPU inside a lock: CPU 0 and CPU 1 are inside the spin lock of buffer 0")
+    checks.holds("lesson 1's kernel is broken in eight steps", browser.read("document.querySelector('li.broken').textContent"),
+                 "✘ BROKEN: one CPU inside a lock: CPU 0 and CPU 1 are inside the spin lock of buffer 0")
     browser.read("element('told').textContent = ''")
     browser.key("c")
     browser.wait("element('told').textContent !== ''")

@@ -1,10 +1,11 @@
 #!/usr/bin/env python3
-"""Drives web/tower.html in a Chromium: keys, clicks, links, play, undo, plans and texts that are typed in and refused, lessons, the page's policy.
+"""Drives web/tower.html in a Chromium and in a Firefox, where there is one: keys, clicks, links, play, undo, plans and texts that are typed in and refused,
+lessons, searches, the page's policy; on a phone, in a lecture hall, in the dark, and by its contrast.
 
     web/in_browser.py [PAGE [PICTURES]]
 
-Without a Chromium (tests/browser.py says how one is found) it says so, and its status is 0: web/test.mjs has judged the program in the page. With a
-folder PICTURES it leaves pictures there. The last line counts; the status is 1 if anything is not as it should be.
+Where neither is here (tests/browser.py says how they are found) it says so, and its status is 0: web/test.mjs has judged the program in the page. With a
+folder PICTURES it leaves a Chromium's pictures there. The last line counts; the status is 1 if anything is not as it should be.
 """
 import sys
 import tempfile
@@ -13,11 +14,17 @@ from pathlib import Path
 
 ROOT = Path(__file__).resolve().parent.parent
 sys.path.append(str(ROOT / "tests"))
-from browser import Browser, find_browser  # noqa: E402
+from browser import Browser, Firefox, find_browser, find_firefox  # noqa: E402
 
 WIDE, HIGH = 1280, 720
+PHONE, HALL = (390, 844, 2), (853, 480, 1.5)  # a lecture hall: 1280 by 720, at 150 %
+LEAST_CONTRAST = 4.5
+LOST = "#plan=two-receivers&wrong=other-side-only&schedule=0*13,1*13,2*43,1*6,0*23&step=91"
+PANELS = ("planPanel", "searchPanel", "printedPanel", "judgePanel", "aboutPanel")
 MOST_RUN_MS, MOST_STEP_MS = 5, 50
 OWN_PLAN = 'cpus = 1\\ntrace = 4\\nbuffers = [2]\\n[[thread]]\\ncpu = 0\\nprogram = ["set r0 7", "send 0 r0"]\\n'
+
+SECTIONS = ("AcqQ", "Enter", "Shut", "TryPut", "TryTake", "Wait", "SigRecv", "SigSend", "RelQ", "Pend", "Drain")
 
 # In each of the stored plans, at each step: each thread is one filled chip among CPUs and buffers, and no text came from a value that is none.
 CHIPS = """(() => { const wrong = []; for (const name of Object.keys(page.plans)) { if (!page.loadStored(name)) wrong.push([name, 'refused']);
@@ -39,6 +46,30 @@ STEP_TIMES = """(() => { page.loadStored('ledger'); const times = [];
   while (page.at < page.run.length) timed(() => page.player.move(1)); while (page.at > 0) timed(() => page.player.move(-1));
   times.sort((x, y) => x - y); return [times.length, times[times.length >> 1], times.reduce((sum, one) => sum + one, 0) / times.length]; })()"""
 
+# Texts that are seen with too little contrast, each with its own. Behind a text of the lanes is the bar that was drawn last beneath it, at three of its points.
+CONTRAST = """(() => { const dark = document.createElement('canvas').getContext('2d', {willReadFrequently: true});
+  const rgba = colour => { dark.clearRect(0, 0, 1, 1); dark.fillStyle = colour; dark.fillRect(0, 0, 1, 1); return [...dark.getImageData(0, 0, 1, 1).data]; };
+  const linear = part => part / 255 <= 0.04045 ? part / 255 / 12.92 : ((part / 255 + 0.055) / 1.055) ** 2.4;
+  const light = colour => rgba(colour).slice(0, 3).reduce((sum, part, i) => sum + [0.2126, 0.7152, 0.0722][i] * linear(part), 0);
+  const ratio = (x, y) => { const [low, high] = [light(x), light(y)].sort((one, other) => one - other); return (high + 0.05) / (low + 0.05); };
+  const behind = element => { for (let one = element; one; one = one.parentElement) { const back = getComputedStyle(one).backgroundColor;
+    if (rgba(back)[3] > 250) return back; } return '#fff'; };
+  const beneath = (text, x) => { const y = text.getBoundingClientRect().y + text.getBoundingClientRect().height / 2;
+    const bars = [...text.ownerSVGElement.querySelectorAll('rect:not(.cursor)')].filter(bar => { const box = bar.getBoundingClientRect();
+      return bar.compareDocumentPosition(text) & Node.DOCUMENT_POSITION_FOLLOWING && box.left <= x && x <= box.right && box.top <= y && y <= box.bottom; });
+    return bars.length ? getComputedStyle(bars.at(-1)).fill : behind(text.ownerSVGElement); };
+  const poor = [], hold = (words, ink, back) => { const is = ratio(ink, back);
+    if (is < LEAST) poor.push([words.trim().slice(0, 30), Math.round(is * 100) / 100]); };
+  const texts = document.createTreeWalker(document.body, NodeFilter.SHOW_TEXT);
+  for (let node = texts.nextNode(); node; node = texts.nextNode()) { const one = node.parentElement;
+    if (!node.data.trim() || one.closest('script, style, noscript, title, option, textarea, .unseen') || !one.checkVisibility()) continue;
+    if (one.tagName !== 'text') { hold(node.data, getComputedStyle(one).color, behind(one)); continue; }
+    const box = one.getBoundingClientRect();
+    for (const x of [box.left + 1, box.left + box.width / 2, box.right - 1]) hold(node.data, getComputedStyle(one).fill, beneath(one, x)); }
+  for (const one of document.querySelectorAll('input:not([type=range], [type=radio]), select, textarea'))
+    if (one.checkVisibility()) hold(one.id, getComputedStyle(one).color, behind(one));
+  return [...new Map(poor.map(one => [one.join(), one])).values()].slice(0, 8); })()""".replace("LEAST", str(LEAST_CONTRAST))
+
 # What of a page the policy has to forbid: an image from elsewhere, a script that is put in, a style attribute, a text that is run.
 BREACHES = """(async () => { const seen = []; document.addEventListener('securitypolicyviolation', event => seen.push(event.effectiveDirective));
   document.body.insertAdjacentHTML('beforeend', '<img src="http://127.0.0.1:9/x.png"><p id="styled" style="color: red">x</p>');
@@ -59,7 +90,7 @@ class Checks:
             self.passed += 1
         else:
             self.failed += 1
-            print(f"in a browser: {what}: got {got!r}, wanted {wanted!r}")
+            print(f"in a {self.browser.name}: {what}: got {got!r}, wanted {wanted!r}")
 
     def open(self, link=""):
         self.browser.open(self.url + link)
@@ -137,11 +168,15 @@ class Checks:
         self.keys("ArrowRight")
         self.holds("the link has the plan, the schedule and the step", self.link(), "#plan=woken-from-afar&schedule=0*13,1*24,0*20&step=25")
         for link, wanted in [("#plan=two-receivers&schedule=0*13,1*13&step=20", [20, 26]), ("#plan=two-senders&step=99999", [141, 141]), ("#plan=<script>&step=<script>", [0, 57]),
-                             ("#plan=two-receivers&rule=other-side-only&schedule=0*3&step=1", [1, 3]), ("#step=-4", [0, 57])]:
+                             ("#plan=two-receivers&wrong=other-side-only&schedule=0*3&step=1", [1, 3]), ("#step=-4", [0, 57]),
+                             ("?plan=two-receivers&step=20", [20, 118])]:
             self.open(link)
             self.holds(f"the link {link}", self.at(), wanted)
         self.open("#plan=woken-from-afar&schedule=0*13,7*2")
         self.holds("a link with a CPU that is none", self.text("#refused").startswith("error: BadCpu(4)"), True)
+        for link, words in [("#plan=nowhere", "the plan nowhere"), ("#wrong=never-wrong", "the mistake never-wrong"), ("#rule=<b>", "the mistake <b>")]:
+            self.open(link)
+            self.holds(f"the link {link} says what it names in vain", self.text("#refused"), f"The link names {words}, which this page has not.")
         self.open("#plan=woken-from-afar&schedule=<img src=x>")
         self.holds("a schedule that is markup is text", "<img src=x>" in self.text("#refused"), True)
 
@@ -196,11 +231,18 @@ class Checks:
         self.set_value("#planText", f"'{OWN_PLAN}'")
         self.browser.click("#runPlan")
         self.holds("a plan of one's own is shown", self.browser.read("[document.querySelector('#planPanel').open, document.querySelector('#plan').value]"), [False, "your own"])
-        self.keys("shift 0")
-        self.holds("and runs", [self.at()[0] > 5, self.browser.read("page.session.evidence.at(page.at)")], [True, True])
+        self.holds("it begins with a schedule in rounds", self.browser.read("spelledSchedule(page.session.steps)"), "0*21")
+        self.keys("End")
+        self.holds("and runs", [self.at(), self.browser.read("page.session.evidence.at(page.at)")], [[21, 21], True])
         link, at = self.link(), self.at()
         self.open(link)
         self.holds("its link has it whole", [self.at(), self.browser.read("page.session.text")], [at, OWN_PLAN.replace("\\n", "\n")])
+        self.browser.click("[data-panel=planPanel]")
+        self.holds("keys and instructions stand beside the text", "cpus" in self.text("#planHelp") and "program" in self.text("#planHelp"), True)
+        self.set_value("#planText", f"'\\ufefflocks = 1\\n{OWN_PLAN}'")
+        self.browser.click("#runPlan")
+        self.holds("a key that is ignored gets a word, behind a byte order mark too", self.text("#ignored"),
+                   "line 1 of the plan: the key locks is ignored. Is lock meant?")
 
     def judge(self):
         self.open("#step=57")
@@ -214,20 +256,111 @@ class Checks:
         self.browser.click("#judge")
         self.holds("and not a changed one", self.text("#verdict").startswith("no 5 WrongValue(36) line 5: e 0 0 recv 0 8 1 0"), True)
 
+    def first_look(self):
+        """What one sees before the first step."""
+        self.open()
+        first = "Threads on CPUs pass numbers through buffers → takes the next step"
+        self.holds("a sentence says what this is and what to press", self.text("#said").startswith(first), True)
+        self.holds("the names of the sections are explained", [name for name in SECTIONS if name not in self.text("#foot")], [])
+        self.holds("lessons have a list of their own", self.browser.read("document.querySelectorAll('#lessonList option').length"), 9)
+        self.browser.read("navigator.clipboard.writeText = text => { window.copied = text; return Promise.resolve(); }")
+        self.browser.click("#copyLink")
+        self.browser.wait("window.copied")
+        self.holds("copy link copies the link", self.browser.read("window.copied"), self.browser.read("location.href.split('#')[0] + page.link()"))
+
+    def lesson(self, number):
+        """Chooses a lesson and goes to where it breaks, once all beginnings are compared: what is said of them moves the page."""
+        self.set_value("#lessonList", f"'{number}'")
+        self.browser.wait("(() => { const all = page.session.record.printed.length; "
+                          "return document.querySelector('#evidence').textContent.includes(`${all} of ${all}`); })()")
+        self.browser.click("#broken")
+
     def lessons(self):
         self.open()
-        self.set_value("#plan", "'lesson 0'")
-        self.holds("lesson 1 says that it is no proved kernel", self.text("#warn").startswith("NOT the proved kernel: rule look-always-hits is left out"), True)
+        self.lesson(0)
+        warning = "NOT the proved kernel: here a CPU enters a section without waiting for its turn"
+        self.holds("lesson 1 says that it is no proved kernel", self.text("#warn").startswith(warning), True)
+        why = "BROKEN: sent = received ++ left: buffer 0: sent [7], received [], left []: 7 lost"
+        self.holds("its law breaks at its step, and it says why", [self.at()[0], why in self.text("#order")], [16, True])
         self.browser.click("#empty")
         self.keys("0", "0", "0", "0", "1", "1", "1", "1")
-        self.holds("eight steps by hand break lesson 1's law", "BROKEN: one CPU inside a lock" in self.text("#order"), True)
-        self.set_value("#plan", "'lesson 6'")
-        self.browser.click("#broken")
+        self.holds("eight steps by hand bring two CPUs into the lock", "BROKEN: one CPU inside a lock" in self.text("#order"), True)
+        for number in range(8):
+            self.lesson(number)
+            law, step = self.browser.read(f"[page.lessons[{number}].breaks, page.lessons[{number}].step]")
+            self.holds(f"lesson {number}: where it breaks", [self.at()[0], f"BROKEN: {law}" in self.text("#order")], [step, True])
+        self.lesson(6)
         self.holds("lesson 7: the lost wake-up", ["BROKEN: no lost wake-up" in self.text("#order"), self.browser.read("page.run.cell('b0.owner', page.at)"),
                    self.browser.read("page.run.cell('b0.items', page.at)"), self.browser.read("page.run.place(1, page.at)")], [True, None, ["8"], "WaitRecv(0)"])
         self.browser.wait("document.querySelector('#warn').textContent.includes('prints something else from step')")
-        self.set_value("#rule", "''")
-        self.holds("with the rule it stands", ["BROKEN" in self.text("#order"), self.text("#warn")], [False, ""])
+        self.set_value("#wrong", "''")
+        self.holds("without the mistake it stands", ["BROKEN" in self.text("#order"), self.text("#warn")], [False, ""])
+
+    def printed_beside(self):
+        """In a lesson what is printed and judged is of the kernel that is shown, beside the proved one."""
+        self.open("#plan=first-come&wrong=take-skips-the-turn&step=133")
+        self.browser.click("[data-panel=printedPanel]")
+        printed = self.text("#printed")
+        self.holds("both texts stand there", ["e 2 2 recv 0 7 1 1" in printed, "e 0 0 recv 0 7 1 0" in printed], [True, True])
+        self.browser.click("#printedPanel [data-close]")
+        self.browser.click("[data-panel=judgePanel]")
+        self.browser.click("#judge")
+        self.holds("the judge reads the text of the kernel that is shown", self.text("#verdict").startswith("no 5 Pos(33)"), True)
+
+    def searches(self):
+        """A search: found and shown, none, stopped; and the page stays alive."""
+        self.open("#plan=two-receivers&wrong=other-side-only")
+        self.browser.click("[data-panel=searchPanel]")
+        self.browser.click("#search")
+        self.browser.wait("document.querySelector('#searched').textContent.includes('states that are known')")
+        self.holds("while it searches the page answers", self.browser.read("page.run.length"), 118)
+        self.browser.wait("document.querySelector('#found').textContent !== ''", 120)
+        self.holds("the shortest schedule", self.text("#found"), "A shortest schedule that breaks a law: 0*13,1*13,2*36,0*16 ✘ no lost wake-up: "
+                   "buffer 0 holds 8, is free, and t1, first in its receive line, sleeps 78 steps; 18,688 states were looked at.")
+        self.browser.click("#showFound")
+        self.holds("is shown", [self.at(), "BROKEN: no lost wake-up" in self.text("#order")], [[78, 78], True])
+        self.open()
+        self.browser.click("[data-panel=searchPanel]")
+        self.browser.click("#search")
+        self.browser.wait("document.querySelector('#found').textContent !== ''", 120)
+        self.holds("there is none", self.text("#found"), "No schedule, however long, breaks a law: these are all 419 states.")
+        self.open("#plan=ledger")
+        self.browser.click("[data-panel=searchPanel]")
+        self.set_value("#wanted", "'deadlock'")
+        self.browser.click("#search")
+        self.browser.wait("document.querySelector('#searched').textContent.includes('states that are known')")
+        self.browser.click("#stop")
+        self.holds("it may be stopped", [self.text("#searched"), self.browser.read("page.finder.worker")], ["stopped", None])
+
+    def sizes(self):
+        """A phone, and a lecture hall: nothing is wider than the page, and the sentence and the lanes are seen."""
+        self.browser.resize(*PHONE)
+        for link in ("", "#plan=ledger&step=400", "#plan=two-receivers&wrong=other-side-only&step=91", "#plan=nowhere"):
+            self.open(link)
+            self.holds(f"{link} on a phone: as wide as the page", self.browser.read("document.documentElement.scrollWidth <= innerWidth"), True)
+        for panel in PANELS:
+            self.browser.read(f"page.openPanel('{panel}')")
+            self.holds(f"{panel} on a phone", self.browser.read(f"document.querySelector('#{panel}').scrollWidth <= innerWidth"), True)
+            self.browser.read(f"document.querySelector('#{panel}').close()")
+        self.browser.resize(*HALL)
+        for number in range(8):
+            self.open()
+            self.lesson(number)
+            top, bottom, wide = self.browser.read("(() => { const box = id => document.querySelector(id).getBoundingClientRect(); "
+                                                  "return [box('#said').top, box('#lanes').bottom, document.documentElement.scrollWidth]; })()")
+            is_seen = [top >= 0, bottom <= HALL[1], wide <= HALL[0]]
+            self.holds(f"lesson {number} at 150 %: sentence and lanes are seen, from {top} to {bottom}", is_seen, [True] * 3)
+        self.browser.resize(WIDE, HIGH)
+
+    def contrast(self):
+        """Each text can be read: in runs, in a broken kernel, at a refusal, in each panel."""
+        for link in ("", "#step=24", "#plan=two-receivers&step=85", LOST, "#plan=ledger&step=400", "#plan=handed-over&step=40", "#schedule=0*13,7*2"):
+            self.open(link)
+            self.holds(f"contrast at {link}", self.browser.read(CONTRAST), [])
+        for panel in PANELS:
+            self.browser.read(f"page.openPanel('{panel}')")
+            self.holds(f"contrast in {panel}", self.browser.read(CONTRAST), [])
+            self.browser.read(f"document.querySelector('#{panel}').close()")
 
     def looks(self):
         self.holds("each thread is one filled chip in every plan", self.browser.read(CHIPS), [])
@@ -238,6 +371,8 @@ class Checks:
 
     def labels(self):
         """Everything that can be pressed or filled has words for a screen reader."""
+        if not isinstance(self.browser, Browser):
+            return
         self.open()
         tree = self.browser.call("Accessibility.getFullAXTree")["nodes"]
         roles = ("button", "combobox", "textbox", "slider", "radio", "listbox", "radiogroup", "toolbar", "dialog", "img", "image")
@@ -247,7 +382,8 @@ class Checks:
     def times(self):
         name, run_ms = self.browser.read(RUN_TIMES)
         count, median, mean = self.browser.read(STEP_TIMES)
-        print(f"in a browser: the longest run of a stored plan is {name}'s, {run_ms:.1f} ms; of {count} steps forth and back the median is {median:.1f} ms, the mean {mean:.1f}")
+        print(f"in a {self.browser.name}: the longest run of a stored plan is {name}'s, {run_ms:.1f} ms; "
+              f"of {count} steps forth and back the median is {median:.1f} ms, the mean {mean:.1f}")
         self.holds(f"a run of {name} takes {run_ms} ms", run_ms <= MOST_RUN_MS, True)
         self.holds(f"a step takes {median} ms", median <= MOST_STEP_MS, True)
 
@@ -270,36 +406,54 @@ class Checks:
         self.holds("a broken module is said on the page", self.text("#warn").startswith("The program in this page is broken or this browser cannot run it"), True)
 
     def pictures(self, folder):
-        for link, name in [("#plan=two-receivers&step=59", "page"), ("#plan=two-receivers&rule=other-side-only&schedule=0*13,1*13,2*43,1*6,0*23&step=91", "lost-wake-up")]:
+        for link, name in [("#plan=two-receivers&step=59", "page"), (LOST, "lost-wake-up")]:
             self.open(link)
             time.sleep(1)
             self.browser.picture(str(folder / f"{name}.png"))
+
+
+def looked_at(make, page, folder):
+    """Looks at the page in a browser, by day and by night; returns how much was as it should be, and how much was not."""
+    browser = make(is_dark=False)
+    checks = Checks(browser, page)
+    try:
+        with tempfile.TemporaryDirectory() as room:
+            for look in (checks.first_look, checks.steps, checks.to_the_end, checks.play, checks.links, checks.choose, checks.schedules, checks.plans,
+                         checks.judge, checks.lessons, checks.printed_beside, checks.searches, checks.looks, checks.sizes, checks.contrast, checks.labels,
+                         checks.times, checks.is_clean):
+                look()
+            if folder:
+                checks.pictures(folder)
+            checks.policy()
+            checks.broken_module(room)
+    finally:
+        browser.close()
+    night = make(is_dark=True)
+    dark = Checks(night, page)
+    try:
+        dark.contrast()
+        dark.holds("the page is dark", night.read("getComputedStyle(document.body).backgroundColor"), "rgb(22, 22, 22)")
+    finally:
+        night.close()
+    return checks.passed + dark.passed, checks.failed + dark.failed
 
 
 def main():
     if sys.argv[1:] == ["--help"]:
         print(__doc__)
         return
-    program = find_browser()
-    if program is None:
-        print("in a browser: not looked at, since no Chromium is here")
-        return
-    page = Path(sys.argv[1]) if len(sys.argv) > 1 else ROOT / "web/tower.html"
-    browser = Browser(program, WIDE, HIGH)
-    checks = Checks(browser, page)
-    try:
-        with tempfile.TemporaryDirectory() as room:
-            for look in (checks.steps, checks.to_the_end, checks.play, checks.links, checks.choose, checks.schedules, checks.plans, checks.judge, checks.lessons,
-                         checks.looks, checks.labels, checks.times, checks.is_clean):
-                look()
-            if len(sys.argv) > 2:
-                checks.pictures(Path(sys.argv[2]))
-            checks.policy()
-            checks.broken_module(room)
-    finally:
-        browser.close()
-    print(f"in a browser: {checks.passed} passed, {checks.failed} failed")
-    sys.exit(checks.failed > 0)
+    page, folder = Path(sys.argv[1]) if len(sys.argv) > 1 else ROOT / "web/tower.html", Path(sys.argv[2]) if len(sys.argv) > 2 else None
+    passed = failed = 0
+    for kind, program in ((Browser, find_browser()), (Firefox, find_firefox())):
+        if program is None:
+            print(f"in a {kind.name}: not looked at, since none is here")
+            continue
+        well, ill = looked_at(lambda is_dark: kind(program, WIDE, HIGH, is_dark), page, folder if kind is Browser else None)
+        passed, failed = passed + well, failed + ill
+        print(f"in a {kind.name}: {well} passed, {ill} failed")
+    if passed + failed:
+        print(f"in a browser: {passed} passed, {failed} failed")
+    sys.exit(failed > 0)
 
 
 if __name__ == "__main__":

@@ -29,6 +29,7 @@ const edited = (text, from, to) => {
   return text.replace(from, to);
 };
 const plan = (from, to, error, line, piece, says) => ({ plan: edited(PLAN, from, to), error, line, piece, says });
+const thread = (error, piece, says) => ({ error: `${error} thread`, line: 5, piece, says });
 const schedule = (text, error, piece, says) => ({ plan: PLAN, schedule: text, error, line: undefined, piece, says });
 const trace = (from, to, verdict, shown, says) => ({ text: edited(TRACE, from, to), verdict, shown, says });
 
@@ -57,9 +58,9 @@ export const refusals = {
     plan('send 0 r0', 'jnz r0 2', 'Guest(23) thread 1 line 1 BadTarget(13)', 13, '2', 'lines 0 to 1'),
     plan('send 0 r0', 'send 1 r0', 'OutOfRange(22) thread 1 program', 13, '1', 'buffers 0 to 0'),
     plan('set r0 7', 'set r0 <b>', 'Guest(23) thread 1 line 0 BadNumber(12)', 12, '<b>', '18446744073709551615'),
-    { plan: PLAN.replaceAll('[[thread]]', '[[threads]]'), error: 'MissingKey(21) thread', line: 5, piece: 'threads', says: 'threads is near it and is ignored' },
-    { plan: PLAN.replaceAll('[[thread]]', '[thread]').replace(/\[thread\]\ncpu = 1[^]*/, ''), error: 'MissingKey(21) thread', line: 5, piece: 'thread', says: '1 to 256 tables' },
-    { plan: `${PLAN}${'[[thread]]\ncpu = 0\nprogram = ["exit"]\n'.repeat(255)}`, error: 'OutOfRange(22) thread', line: 5, piece: 'thread', says: '1 to 256 tables' },
+    { ...thread('MissingKey(21)', 'threads', 'threads is near it and is ignored'), plan: PLAN.replaceAll('[[thread]]', '[[threads]]') },
+    { ...thread('MissingKey(21)', 'thread', '1 to 256 tables'), plan: PLAN.replace(/\[\[thread\]\]\ncpu = 1[^]*/, '').replace('[[thread]]', '[thread]') },
+    { ...thread('OutOfRange(22)', 'thread', '1 to 256 tables'), plan: PLAN + '[[thread]]\ncpu = 0\nprogram = ["exit"]\n'.repeat(255) },
     plan('cpus = 2', '\ufeffcpus = 17', 'OutOfRange(22) cpus', 1, 'cpus', '1 to 16'),
     schedule('0*13,,1', 'BadSchedule(9)', '', 'item 2'),
     schedule('0*13, 1', 'BadSchedule(9)', ' 1', 'item 2'),
@@ -72,18 +73,22 @@ export const refusals = {
   ignored: [
     { text: PLAN, notes: [] },
     { text: `\ufeff${PLAN}`, notes: [] },
-    { text: edited(PLAN, 'trace = 4', 'trace = 4\nlocks = 1\n"a b" = 2'), notes: [[3, 'the key locks is ignored. Is lock meant?'], [4, 'the key a b is ignored']] },
+    { text: edited(PLAN, 'trace = 4', 'trace = 4\nlocks = 1\n"a b" = 2'),
+      notes: [[3, 'the key locks is ignored. Is lock meant?'], [4, 'the key a b is ignored']] },
     { text: edited(PLAN, 'cpu = 1', 'cpu = 1\nlock = "grant"\nprograms = 3'),
-      notes: [[11, 'the key lock of thread 1 is ignored: it belongs above the first [[thread]]'], [12, 'the key programs of thread 1 is ignored. Is program meant?']] },
+      notes: [[11, 'the key lock of thread 1 is ignored: it belongs above the first [[thread]]'],
+        [12, 'the key programs of thread 1 is ignored. Is program meant?']] },
   ],
   texts: [
-    trace('recv 0 7 1 0', 'recv 0 8 1 0', 'no 5 WrongValue(36)', 'e 1 1 recv 0 8 1 0', "the buffer's first"),
-    trace('send 0 7 0 0', 'send 0 7 00 0', 'no 4 Spelling(30)', 'e 0 0 send 0 7 00 0', 'leading zeros'),
-    trace('send 0 7 0 0', 'send 0 7 1 0', 'no 4 Op(32)', 'e 0 0 send 0 7 1 0', 'number of entries'),
-    trace('left 0\n', 'left 0 7\n', 'no 6 Left(37)', 'left 0 7', "the buffer's items"),
-    trace('trace 1', 'trace 2', 'no 7 Version(38)', 'end', 'lower version'),
-    trace('end\n', 'end', 'no 7 Spelling(30)', 'end', 'no line feed'),
+    trace('recv 0 7 1 0', 'recv 0 8 1 0', 'no 5 WrongValue(36)', 'e 1 1 recv 0 8 1 0', 'the first message of buffer 0 is 7'),
+    trace('send 0 7 0 0', 'send 0 7 00 0', 'no 4 Spelling(30)', 'e 0 0 send 0 7 00 0', 'wanted the op, in digits without a leading zero'),
+    trace('send 0 7 0 0', 'send 0 7 1 0', 'no 4 Op(32)', 'e 0 0 send 0 7 1 0', 'the op is 1: wanted 0'),
+    trace('recv 0 7 1 0', 'recv 0 7 1 3', 'no 5 Pos(33)', 'e 1 1 recv 0 7 1 3', 'the pos is 3: wanted 0'),
+    trace('recv 0 7 1 0', 'recv 1 7 1 0', 'no 5 Range(31)', 'e 1 1 recv 1 7 1 0', 'the buffer is 1: wanted 0 to 0'),
+    trace('left 0\n', 'left 0 7\n', 'no 6 Left(37)', 'left 0 7', 'wanted left 0, what the entries leave'),
+    trace('trace 1', 'trace 2', 'no 7 Version(38)', 'end', 'mctower-trace 1 can spell this text'),
+    trace('end\n', 'end', 'no 7 Spelling(30)', 'end', 'does not end with a line feed'),
     trace('trace 1\n', 'trace 1\r\n', 'no 1 Spelling(30)', 'mctower-trace 1\r', 'carriage return'),
-    trace(TRACE, '', 'no 1 Spelling(30)', '', 'no spelling'),
+    trace(TRACE, '', 'no 1 Spelling(30)', '', 'the text ends where mctower-trace 1 is wanted'),
   ],
 };

@@ -3,8 +3,8 @@
 
     web/searches.py
 
-A line has the plan, the mistake, how many states there are (or were looked at, up to a limit), the moves between them, the distance of the farthest, each law that
-is broken with a shortest schedule and why, and a shortest schedule to a deadlock with the states that were looked at.
+A line has the plan, the mistake, how many states there are (or were looked at, up to a limit), the moves between them, the distance of the farthest, each law
+that is broken with a shortest schedule and why, and a shortest schedule to a deadlock with the states that were looked at.
 """
 import json
 import sys

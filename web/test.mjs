@@ -49,6 +49,7 @@ class Held {
   constructor({ program, evaluate, facts, lessons }) {
     Object.assign(this, { program, evaluate, facts, lessons });
     this.scheduleIn = evaluate('scheduleIn');
+    this.judged = []; // texts that the judges of the page and of plans/ are held by
     this.stored = FOLDERS.flatMap(folder => readdirSync(join(ROOT, folder)).filter(name => name.endsWith('.toml')).map(name => `${folder}/${name}`));
   }
 
@@ -63,7 +64,8 @@ class Held {
 
   // A plan that is looked at, with its schedule.
   session(text, schedule, wrong = null) {
-    return this.evaluate('(program, facts, wanted) => new Session(program, facts, wanted)')(this.program, this.facts, { name: 'a plan', text, wrong, schedule });
+    const wanted = { name: 'a plan', text, wrong, schedule };
+    return this.evaluate('(program, facts, wanted) => new Session(program, facts, wanted)')(this.program, this.facts, wanted);
   }
 
   // Whether the model prints what the program prints at the end of a schedule.
@@ -108,6 +110,7 @@ class Held {
       this.compare(`damaged plan ${number}`, this.runWords(schedule), badPlan);
       if (badSchedule !== '') this.compare(`damaged schedule ${number}`, this.runWords(badSchedule), plan);
       this.compare(`damaged text ${number}`, ['check'], badText);
+      this.judges(`damaged text ${number}`, badText);
       for (const [one, other] of [[badPlan, schedule], [plan, badSchedule]]) this.explains(`damage ${number}`, beside, one, other);
     }
   }
@@ -117,6 +120,26 @@ class Held {
     const stands = line === undefined ? text === '' || text === schedule : plan.split('\n')[line - 1] === text;
     is(`what stands beside the refusal of ${name}`, refusal === null || (stands && text.slice(from, from + piece.length) === piece));
     if (refusal === null && this.evaluate('readSchedule')(schedule).total <= SMALL_STEPS) is(`the model of ${name}`, this.isModelled(plan, schedule));
+  }
+
+  // The page's own judge says no in the same line for the same reason, and says what is wanted there.
+  judges(name, text) {
+    const verdict = this.program.run(['check'], text).output.trimEnd(), fault = this.evaluate('faultOf')(text);
+    const mine = fault === null ? 'yes' : `no ${fault.line} ${fault.reason}`;
+    is(`the judge of the page on ${name}: ${mine}, and the program's ${verdict}`, verdict.replace(/\(\d+\)$/, '') === mine);
+    this.judged.push(text);
+  }
+
+  // Of the same texts plans/judging.py says the same is wanted. What it says of a line that is misspelled it may say in other words.
+  wantedBeside() {
+    const code = 'import json, sys; sys.path.append("plans"); import judging; '
+      + 'print(json.dumps([fault and [fault.line, fault.reason, fault.why] for fault in (judging.fault_in(text.encode()) for text in json.load(sys.stdin))]))';
+    const told = spawnSync('python3', ['-c', code], { cwd: ROOT, input: JSON.stringify(this.judged), encoding: 'utf8', maxBuffer: 1 << 28 });
+    if (told.status !== 0) throw new Error(`plans/judging.py: ${told.stderr}`);
+    JSON.parse(told.stdout).forEach((fault, i) => {
+      const mine = this.evaluate('faultOf')(this.judged[i]);
+      if (fault && fault[1] !== 'Spelling(30)') is(`what is wanted: ${mine?.why}, and in plans/judging.py ${fault[2]}`, fault[2].startsWith(mine?.why));
+    });
   }
 
   // Refusals of each kind have the right place beside them, and it is that of plans/explain.py.
@@ -163,7 +186,8 @@ class Held {
 // Says what of a run the model in web/page/ tells otherwise than a record of plans/record.py, or undefined. It is run beside the page's scripts.
 function firstOther(text, told, scripts) {
   const { RunRecord, Run, planOf, stepsOf, readSchedule } = scripts, same = (x, y) => JSON.stringify(x) === JSON.stringify(y);
-  const record = new RunRecord(planOf(text), told.wrong, { places: told.places, mistakes: { [told.wrong]: told.mistake } }), theirs = new Run(told), mine = new Run(record.frame);
+  const facts = { places: told.places, mistakes: { [told.wrong]: told.mistake } };
+  const record = new RunRecord(planOf(text), told.wrong, facts), theirs = new Run(told), mine = new Run(record.frame);
   for (const c of stepsOf(readSchedule(told.schedule).items)) mine.grow(record.step(c));
   const other = ['cpus', 'lock', 'capacities', 'threads', 'laws', 'names', 'boot'].find(key => !same(told[key], record.frame[key]));
   const step = theirs.states.findIndex(({ cells, changed }, at) => !same(cells, mine.states[at].cells) || !same([...changed].sort(), [...mine.states[at].changed].sort())
@@ -185,9 +209,11 @@ function modelCells() {
 // What a search finds in the page, in the form of web/searches.py.
 function foundIn({ text, wrong, most }, scripts) {
   const { States, LAWS, planOf, askedFor, spelledSchedule } = scripts, states = new States(planOf(text), wrong), stuck = new States(planOf(text), wrong);
+  const told = (law, { number, why }) => [law, spelledSchedule(states.calmStepsTo(number)), why];
   states.look({ most });
-  const broken = [...LAWS.keys()].filter(law => states.broken.has(law)).map(law => [law, spelledSchedule(states.calmStepsTo(states.broken.get(law).number)), states.broken.get(law).why]);
-  const number = stuck.look({ most, wanted: askedFor('deadlock') }), deadlock = [number === null ? null : spelledSchedule(stuck.calmStepsTo(number)), stuck.count];
+  const broken = [...LAWS.keys()].filter(law => states.broken.has(law)).map(law => told(law, states.broken.get(law)));
+  const number = stuck.look({ most, wanted: askedFor('deadlock') });
+  const deadlock = [number === null ? null : spelledSchedule(stuck.calmStepsTo(number)), stuck.count];
   return { count: states.count, moves: states.moves, depth: states.depth, isAll: states.isAll, broken, deadlock };
 }
 
@@ -197,8 +223,9 @@ function searches() {
   const told = spawnSync('python3', [join(ROOT, 'web/searches.py')], { encoding: 'utf8', maxBuffer: 1 << 28 });
   if (told.status !== 0) throw new Error(`web/searches.py: ${told.stderr}`);
   for (const line of told.stdout.trimEnd().split('\n')) {
-    const wanted = JSON.parse(line), found = foundIn(wanted, scripts), other = Object.keys(found).find(key => JSON.stringify(found[key]) !== JSON.stringify(wanted[key]));
-    is(`the search of ${wanted.plan}, mistake ${wanted.wrong}: ${other} is ${JSON.stringify(found[other])}, and in plans/states.py ${JSON.stringify(wanted[other])}`, other === undefined);
+    const wanted = JSON.parse(line), found = foundIn(wanted, scripts), [mine, theirs] = [found, wanted].map(one => key => JSON.stringify(one[key]));
+    const other = Object.keys(found).find(key => mine(key) !== theirs(key)), words = `${other} is ${mine(other)}, and in plans/states.py ${theirs(other)}`;
+    is(`the search of ${wanted.plan}, mistake ${wanted.wrong}: ${words}`, other === undefined);
   }
 }
 
@@ -206,7 +233,8 @@ function searches() {
 function rounds(held) {
   for (const path of held.stored.filter(name => name.startsWith('plans/'))) {
     const told = spawnSync('python3', [join(ROOT, 'plans/kernel.py'), '--rounds', join(ROOT, path)], { encoding: 'utf8' }).stdout.trimEnd();
-    const mine = held.evaluate('roundsOf')(held.program, read(path)), cut = held.evaluate('MOST_ROUND_STEPS'), steps = held.evaluate('text => stepsOf(readSchedule(text).items)');
+    const mine = held.evaluate('roundsOf')(held.program, read(path)), cut = held.evaluate('MOST_ROUND_STEPS');
+    const steps = held.evaluate('text => stepsOf(readSchedule(text).items)');
     is(`the rounds of ${path}`, String(steps(mine)) === String(steps(told).slice(0, cut)));
   }
 }
@@ -223,6 +251,7 @@ async function main() {
     held.storedRuns();
     held.randomRuns(folder, many);
     held.damagedRuns(many);
+    held.wantedBeside();
     held.places();
     held.modelRuns();
     held.lessonRuns();

@@ -6,9 +6,10 @@ const COMPARED = html`<p>✓ <b>Said by the proved program too</b>, here in this
   registers, owners, orders in queues and lines, words of locks, and whether a law holds.</p>`;
 
 const LANES = html`<p>A CPU's lane: <b>+</b> takes a ticket, <b>…</b> looks in vain, light grey enters, dark grey edits and leaves. ● a call takes effect.</p>
-  <p>A call is six sections of three steps: <b>AcqQ</b> asks for the buffer, <b>Enter</b> draws a position and joins its line, <b>TryPut</b> or <b>TryTake</b> puts or takes,
-  <b>SigRecv</b> and <b>SigSend</b> wake the first who waits, <b>RelQ</b> gives the buffer on. After a try in vain <b>Wait</b> sleeps. A close has <b>Shut</b> in place of Enter and the
-  try. <b>Pend</b> sends a woken thread to its home CPU, which fetches it by <b>Drain</b>. <b>op</b> counts the buffer's effects, <b>pos</b> those of its kind.</p>`;
+  <p>A call is six sections of three steps: <b>AcqQ</b> asks for the buffer, <b>Enter</b> draws a position and joins its line, <b>TryPut</b> or
+  <b>TryTake</b> puts or takes, <b>SigRecv</b> and <b>SigSend</b> wake the first who waits, <b>RelQ</b> gives the buffer on. After a try in vain <b>Wait</b>
+  sleeps. A close has <b>Shut</b> in place of Enter and the try. <b>Pend</b> sends a woken thread to its home CPU, which fetches it by <b>Drain</b>.
+  <b>op</b> counts the buffer's effects, <b>pos</b> those of its kind.</p>`;
 
 const KEYS = html`<p>Keys: ← → on and back, with shift by sections; Page Up and Page Down by effects; Home, End; space plays; a digit steps that CPU, with shift
   until it blocks; Backspace takes a change back; r goes on at random; c copies the schedule, l the link.</p>`;
@@ -29,7 +30,8 @@ const aboutPage = facts => html`
   <p><b>Proved</b>, in Rattle (Rust with contracts), function by function: the program <code>mctower</code>. By its contract, what <code>run</code> prints is the
   trace text and the state lines of the step table's system after these steps; <code>check</code> says yes only to a text that spells a run of first-in first-out
   buffers; a refusal names the first fault. And for every schedule, the calls that took effect have one order, which is a run of first-in first-out buffers: in
-  each buffer <b>sent = received ++ left</b>.</p>
+  each buffer <b>sent = received ++ left</b>. From step to step that order only grows, by the call that takes effect, so the calls are linearizable by the steps
+  of the schedule.</p>
   <p>Nothing is promised of progress, of fairness, of freedom from deadlock, or of time.</p>
   <p><b>Not proved</b>: ${NOT_PROVED.map((one, i) => html`${i ? "; " : ""}${one}`)}.</p>
   <p><b>Compared instead</b>: before a change of the program is merged, this page's module has to print what the program itself prints, on every stored plan behind

@@ -9,7 +9,8 @@ class Finder {
   constructor(page) {
     Object.assign(this, { page, worker: null, schedule: null });
     const laws = [...LAWS.keys()].map(law => html`<option value="${law}">BROKEN: ${law}</option>`);
-    fill("wanted", html`<option value="broken">any law that is broken</option>${laws}<option value="deadlock">a deadlock: quiet, and some thread has not ended</option>`);
+    fill("wanted", html`<option value="broken">any law that is broken</option>${laws}
+      <option value="deadlock">a deadlock: quiet, and some thread has not ended</option>`);
     byId("search").addEventListener("click", () => this.start());
     byId("stop").addEventListener("click", () => this.stop("stopped"));
     byId("searchPanel").addEventListener("close", () => this.stop(""));
@@ -70,12 +71,13 @@ class Finder {
     byId("progress").value = 1;
     const deed = what === "deadlock" ? "ends in a deadlock" : what === "broken" ? "breaks a law" : `breaks “${what}”`;
     if (steps === null) {
-      const words = isAll ? `No schedule, however long, ${deed}: these are all ${inThousands(count)} states.` : `None that ${deed}, in ${inThousands(count)} states up to ${depth} steps away.`;
-      fill("found", html`<div class="said">${words}</div>`);
+      const all = `No schedule, however long, ${deed}: these are all ${inThousands(count)} states.`;
+      fill("found", html`<div class="said">${isAll ? all : `None that ${deed}, in ${inThousands(count)} states up to ${depth} steps away.`}</div>`);
       return;
     }
     this.schedule = spelledSchedule(steps);
-    fill("found", html`<div class="said">A shortest schedule that ${deed}: ${this.schedule}</div>${why.map(([law, because]) => html`<div>✘ ${law}: ${because}</div>`)}
+    const reasons = why.map(([law, because]) => html`<div>✘ ${law}: ${because}</div>`);
+    fill("found", html`<div class="said">A shortest schedule that ${deed}: ${this.schedule}</div>${reasons}
       <div>${steps.length} steps; ${inThousands(count)} states were looked at.</div>`);
     byId("showFound").hidden = false;
   }

@@ -1,5 +1,5 @@
 "use strict";
-// What holds in each state of the proved program, looked up in a state of the twin, and why it does not where it is broken: plans/laws.py says the same in Python.
+// What holds in each state of the proved program, looked up in a state of the twin, and why it does not where it is broken: plans/laws.py in JavaScript.
 
 const sleepsInVain = (buffer, side) => buffer.line[side].length > 0 && buffer.waiting[side].includes(buffer.line[side][0]) && buffer.mayGo(side);
 const tracesOf = kernel => kernel.cpus.map(cpu => cpu.trace);
@@ -16,7 +16,9 @@ function standingAt(lock, block) {
 // Where each thread stands: a list of places in words for each. A thread that has ended is at a place of its own.
 function standing(kernel) {
   const found = kernel.guests.map(() => []), put = ([t, words]) => { if (t !== null) found[t].push(words); };
-  kernel.cpus.forEach((cpu, c) => [[cpu.current, `running on CPU ${c}`], ...cpu.ready.map(t => [t, `ready at CPU ${c}`]), [cpu.hand, `in the hand of CPU ${c}`]].forEach(put));
+  kernel.cpus.forEach(({ current, ready, hand }, c) => {
+    [[current, `running on CPU ${c}`], ...ready.map(t => [t, `ready at CPU ${c}`]), [hand, `in the hand of CPU ${c}`]].forEach(put);
+  });
   for (const [lock, block] of kernel.blocks) standingAt(lock, block).forEach(put);
   kernel.guests.forEach((guest, t) => { if (isEnded(guest)) put([t, "ended"]); });
   return found;
@@ -31,7 +33,8 @@ function twoPlaces(kernel) {
 function astray(kernel) {
   const home = t => kernel.guests[t].home;
   for (const [c, { current, ready }] of kernel.cpus.entries()) {
-    const own = [...(current === null ? [] : [[current, "runs on"]]), ...ready.map(t => [t, "is ready at"]), ...kernel.blocks.get(`pending${c}`).threads.map(t => [t, "is pending at"])];
+    const running = current === null ? [] : [current], pending = kernel.blocks.get(`pending${c}`).threads;
+    const own = [[running, "runs on"], [ready, "is ready at"], [pending, "is pending at"]].flatMap(([threads, does]) => threads.map(t => [t, does]));
     const stray = own.find(([t]) => home(t) !== c);
     if (stray) return `t${stray[0]} ${stray[1]} CPU ${c}, and its home is CPU ${home(stray[0])}`;
   }
@@ -40,7 +43,8 @@ function astray(kernel) {
 }
 
 function twoInside(kernel) {
-  const inside = kernel.cpus.map(cpu => (cpu.block === null ? null : cpu.section.lock)), lock = inside.find((one, c) => one !== null && inside.includes(one, c + 1));
+  const inside = kernel.cpus.map(cpu => (cpu.block === null ? null : cpu.section.lock));
+  const lock = inside.find((one, c) => one !== null && inside.includes(one, c + 1));
   if (lock === undefined) return null;
   const name = lock.startsWith("buffer") ? `buffer ${lock.slice(6)}` : `CPU ${lock.slice(7)}'s pending queue`;
   return `${inside.flatMap((one, c) => (one === lock ? [`CPU ${c}`] : [])).join(" and ")} are inside the spin lock of ${name}`;
@@ -56,8 +60,8 @@ function allowing(buffer, side) {
 
 function lostWakeUp(kernel) {
   for (const [b, buffer] of kernel.buffers().entries()) {
-    const side = buffer.owner === null ? [RECEIVERS, SENDERS].find(one => sleepsInVain(buffer, one)) : undefined;
-    if (side !== undefined) return `buffer ${b} ${allowing(buffer, side)}, is free, and t${buffer.line[side][0]}, first in its ${["receive", "send"][side]} line, sleeps`;
+    const side = buffer.owner === null ? [RECEIVERS, SENDERS].find(one => sleepsInVain(buffer, one)) : undefined, line = ["receive", "send"][side];
+    if (side !== undefined) return `buffer ${b} ${allowing(buffer, side)}, is free, and t${buffer.line[side][0]}, first in its ${line} line, sleeps`;
   }
   return null;
 }
@@ -105,12 +109,15 @@ function surplus(list, other) {
 
 // What is wrong with values that were sent, received and left, in words.
 function amiss(sent, there) {
-  const lost = surplus(sent, there), more = surplus(there, sent), doubled = more.filter(value => sent.includes(value)), foreign = more.filter(value => !sent.includes(value));
-  return [[lost, "lost"], [doubled, "doubled"], [foreign, "never sent"]].filter(([some]) => some.length).map(([some, words]) => `${some.join(" ")} ${words}`).join(", ") || "out of order";
+  const lost = surplus(sent, there), more = surplus(there, sent);
+  const [doubled, foreign] = [true, false].map(wasSent => more.filter(value => sent.includes(value) === wasSent));
+  const told = [[lost, "lost"], [doubled, "doubled"], [foreign, "never sent"]].filter(([some]) => some.length);
+  return told.map(([some, words]) => `${some.join(" ")} ${words}`).join(", ") || "out of order";
 }
 
 function notTheSame(effects, buffer, b) {
-  const of = kind => effects.filter(entry => entry[2] === kind).map(entry => entry[4]), sent = of("send"), received = of("recv"), left = buffer.items.map(spelledMessage);
+  const [sent, received] = ["send", "recv"].map(kind => effects.filter(entry => entry[2] === kind).map(entry => entry[4]));
+  const left = buffer.items.map(spelledMessage);
   if (sent.length === received.length + left.length && [...received, ...left].every((value, i) => value === sent[i])) return null;
   return `buffer ${b}: sent [${sent.join(" ")}], received [${received.join(" ")}], left [${left.join(" ")}]: ${amiss(sent, [...received, ...left])}`;
 }
@@ -172,9 +179,10 @@ function notGrown(kernel, order, last) {
 }
 
 // The laws in the order in which pages tell them: each says why it is broken, or null.
-const LAWS = new Map([["one place for each thread", twoPlaces], ["each thread runs at home", astray], ["one CPU inside a lock", twoInside], ["no lost wake-up", lostWakeUp],
-  ["nobody sleeps at a free lock", freeSleeper], ["sent = received ++ left", ofEach(notTheSame)], ["callers in their order", ofEach(outOfTurn)],
-  ["each answer fits its buffer", ofEach(falseAnswer)], ["the order only grows", notGrown], ["quiet only if nobody can go on", notStill]]);
+const LAWS = new Map([["one place for each thread", twoPlaces], ["each thread runs at home", astray], ["one CPU inside a lock", twoInside],
+  ["no lost wake-up", lostWakeUp], ["nobody sleeps at a free lock", freeSleeper], ["sent = received ++ left", ofEach(notTheSame)],
+  ["callers in their order", ofEach(outOfTurn)], ["each answer fits its buffer", ofEach(falseAnswer)],
+  ["the order only grows", notGrown], ["quiet only if nobody can go on", notStill]]);
 
 // The laws that do not hold in a state, each with why.
 function faultsIn(kernel, last = null) {

@@ -91,7 +91,8 @@ class Page {
   // The link of what is shown; fromLink is its way back.
   link() {
     const { name, text, wrong, steps, at } = this.session, isStored = this.plans[name] === text;
-    const parts = { plan: isStored ? name : "", wrong: wrong ?? "", schedule: spelledSchedule(steps), step: at, text: isStored || text.length > MOST_LINK ? "" : text };
+    const ownText = isStored || text.length > MOST_LINK ? "" : text;
+    const parts = { plan: isStored ? name : "", wrong: wrong ?? "", schedule: spelledSchedule(steps), step: at, text: ownText };
     const kept = Object.entries(parts).filter(([key, value]) => value !== "" || key === "schedule");
     return `#${kept.map(([key, value]) => `${key}=${encodeURIComponent(value).replaceAll("%2C", ",")}`).join("&")}`;
   }
@@ -110,7 +111,8 @@ class Page {
     const isTaken = this.load({ name: own === null ? stored : OWN_PLAN, text, wrong, schedule }, step);
     if (!isTaken && !this.session) this.showBeneath(() => this.loadStored(FIRST_PLAN));
     const strange = [["plan", named.plan, this.plans], ["mistake", named.mistake, this.facts.mistakes]].filter(([, name, known]) => name && !isOf(known, name));
-    if (strange.length && isTaken) fill("refused", html`${strange.map(([what, name]) => html`<div>The link names the ${what} <b>${name}</b>, which this page has not.</div>`)}`);
+    const lines = strange.map(([what, name]) => html`<div>The link names the ${what} <b>${name}</b>, which this page has not.</div>`);
+    if (strange.length && isTaken) fill("refused", html`${lines}`);
   }
 
   // Shows something else, and leaves standing above it what was refused.
@@ -143,7 +145,8 @@ class Page {
   }
 
   showSentence() {
-    const { who, first, small, effect } = this.at === 0 ? START : wordsOf(this.run, this.at), tag = who ? html`<span class="who ${effect ? "effect" : ""}">${who}</span>` : "";
+    const { who, first, small, effect } = this.at === 0 ? START : wordsOf(this.run, this.at);
+    const tag = who ? html`<span class="who ${effect ? "effect" : ""}">${who}</span>` : "";
     fill("said", html`${tag}<span>${first}<small>${small}</small></span>`);
     byId("slide").setAttribute("aria-valuetext", `step ${this.at}: ${who} ${first}`);
   }
@@ -221,8 +224,10 @@ class Page {
   // What the proved program prints; in a kernel with a mistake, what that prints too.
   showPrinted() {
     const { wrong, name } = this.session, { schedule, proved, shown } = this.session.printedHere(), words = schedule ? ` run --schedule '${schedule}'` : " run";
-    const both = ({ output, errors }) => html`<p>On standard output, the trace text:</p><pre>${output}</pre><p>On standard error, the state lines:</p><pre>${errors}</pre>`;
-    const own = wrong ? html`<h3>The kernel that is shown, which is not proved (${wrong})</h3>${both(shown)}<h3>The proved program, by the same schedule</h3>` : "";
+    const both = ({ output, errors }) => html`<p>On standard output, the trace text:</p><pre>${output}</pre>
+      <p>On standard error, the state lines:</p><pre>${errors}</pre>`;
+    const own = wrong ? html`<h3>The kernel that is shown, which is not proved (${wrong})</h3>${both(shown)}
+      <h3>The proved program, by the same schedule</h3>` : "";
     fill("printed", html`${own}<pre>mctower${words} &lt; ${name}</pre>${both(proved)}`);
   }
 

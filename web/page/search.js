@@ -3,7 +3,8 @@
 
 const MOST_STATES = 300000, TELL_EVERY = 100; // milliseconds
 
-// A kernel that goes on alone. Lists and the blocks of locks are never changed in place, so they are shared; but for the copy that an acting CPU has in its hands.
+// A kernel that goes on alone. Lists and the blocks of locks are never changed in place, so they are shared; but for the copy in the hands of the CPU that
+// acts.
 function forked(kernel, c) {
   const twin = Object.assign(Object.create(Kernel.prototype), kernel);
   twin.cpus = kernel.cpus.map((cpu, k) => ({ ...cpu, block: k === c && cpu.block !== null ? cpu.block.copied() : cpu.block }));
@@ -19,8 +20,8 @@ function blockPiece(block) {
   return [owner, items.map(spelledMessage), effects, sleepers, waiting, line, positions, closed, closes];
 }
 
-// A kernel's state falls into pieces: each CPU, its trace, each thread, each lock. A lock is kept as its block and who stands in its line, so that two states which
-// differ only in how often a lock was taken are one.
+// A kernel's state falls into pieces: each CPU, its trace, each thread, each lock. A lock is kept as its block and who stands in its line, so that two
+// states which differ only in how often a lock was taken are one.
 class Pieces {
   constructor(kernel) {
     this.hasCopies = kernel.wrong === "look-always-hits"; // then a CPU inside has a copy of its own; else the block is nobody else's

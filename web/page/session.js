@@ -165,8 +165,8 @@ class Session {
   }
 }
 
-// A schedule in rounds: so many steps of each CPU in turn, until none has anything to do. A CPU without anything to do would look into its pending queue again and
-// again: its turn is passed over. A text that is no plan has none.
+// A schedule in rounds: so many steps of each CPU in turn, until none has anything to do. A CPU without anything to do would look into its pending queue
+// again and again: its turn is passed over. A text that is no plan has none.
 const ROUND_STEPS = 60, MOST_ROUND_STEPS = 2000;
 function roundsOf(program, text) {
   if (program.runPlan(text, "").status !== 0) return "";

@@ -126,9 +126,10 @@ class PlanPlaces {
 function ignoredKeys(text) {
   const places = new PlanPlaces(text), note = (node, words) => ({ line: lineOf(text, node.keyAt ?? node.at).number, says: words });
   const meant = (key, known) => nearWords(key, Object.keys(known)).slice(0, 1).map(one => `. Is ${one} meant?`).join("");
-  const found = [...places.top].filter(([key]) => !Object.hasOwn(PLAN_KEYS, key)).map(([key, node]) => note(node, `the key ${key} is ignored${meant(key, PLAN_KEYS)}`));
+  const strange = (table, known) => [...table].filter(([key]) => !Object.hasOwn(known, key));
+  const found = strange(places.top, PLAN_KEYS).map(([key, node]) => note(node, `the key ${key} is ignored${meant(key, PLAN_KEYS)}`));
   places.top.get("thread").value.forEach(({ value }, t) => {
-    for (const [key, node] of [...value].filter(([one]) => !Object.hasOwn(THREAD_KEYS, one))) {
+    for (const [key, node] of strange(value, THREAD_KEYS)) {
       const hint = Object.hasOwn(PLAN_KEYS, key) ? ": it belongs above the first [[thread]]" : meant(key, THREAD_KEYS);
       found.push(note(node, `the key ${key} of thread ${t} is ignored${hint}`));
     }
@@ -163,11 +164,11 @@ function whereInSchedule(text, refusal, cpus) {
   return { text, from, piece: items[index], says: `item ${index + 1}: ${read.fault ?? `the plan has the CPUs 0 to ${cpus - 1}`}` };
 }
 
-// Beside the judge's no, such as `no 6 EmptyTake(35)`.
+// Beside the judge's no, such as `no 6 EmptyTake(35)`: what is wanted there, where the page's own judge finds the same fault; else what the reason means.
 function whereInTrace(text, verdict) {
-  const [, number, reason] = /^no (\d+) (\w+)/.exec(verdict), lines = text.split("\n"), line = lines[number - 1] ?? "";
-  const hints = [text.includes("\r") ? "its lines end in a carriage return, which no line may have" : "", /[^\n]$/.test(text) ? "its last line has no line feed" : ""];
-  return { line: Number(number), text: line, says: [TRACE_REASONS[reason], ...hints].filter(Boolean).join("; ") };
+  const [, number, reason] = /^no (\d+) (\w+)/.exec(verdict), line = Number(number), fault = faultOf(text);
+  const isSame = fault?.line === line && fault.reason === reason;
+  return { line, text: text.split("\n")[line - 1] ?? "", says: isSame ? fault.why : TRACE_REASONS[reason] };
 }
 
 // What stands beside any refusal of `run`.
