@@ -4,20 +4,23 @@ It takes whole sections as steps. That is enough by the laws of the locks: a sec
 """
 import heapq
 
+from judging import fault_in
+
 # The stages of a call in which its thread has drawn a position and has had no effect.
 DRAWN = ("Try", "Wait", "Join", "Again")
 
 
 def entries_in(text):
-    """The entries of a trace text, as plans/kernel.py keeps them."""
+    """The entries of a trace text, as plans/kernel.py keeps them. A text that gets a no is refused, since no run prints it."""
+    fault = fault_in(text.encode())
+    if fault:
+        raise ValueError(f"line {fault.line}: {fault.why}: give a text that `mctower threads` or `mctower run` printed")
     entries = []
     for line in text.splitlines():
         word, *pieces = line.split(" ")
         if word == "e" and len(pieces) == 7:
             cpu, thread, kind, buffer, message, operation, position = pieces
             entries.append((int(cpu), int(thread), kind, int(buffer), message, int(operation), int(position)))
-    if not entries and "mctower-trace" not in text:
-        raise ValueError("this is no trace text: give one that `mctower threads` or `mctower run` printed")
     return entries
 
 

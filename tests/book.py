@@ -1,10 +1,11 @@
 #!/usr/bin/env python3
 """Tries the book: runs every command of docs/book and compares what comes with what the page says, byte for byte; looks up each file,
 public name and clause that a page names, and each name of the repository in any other page of the tree; holds the plan and the output that
-README.md shows against the files, and its version against that of CHANGELOG.md and of the help; looks whether a law that a lesson says
-breaks in a step breaks there, and in no step before; tries the patches of docs; draws each picture again; holds plans/kernel.py against
-what each plan is expected to print; builds and runs, with no proof, the crates that a page writes (`rt try`). .ci/run calls it; it takes
-two minutes of processor time, most of it to build.
+README.md shows against the files, and its version against that of CHANGELOG.md and of the help; tries the patches of docs; draws each
+picture again; holds plans/kernel.py against what each plan is expected to print; builds and runs, with no proof, the crates that a page
+writes (`rt try`). .ci/run calls it; it takes two minutes of processor time, most of it to build.
+
+Of a lesson's run of a kernel with a mistake it looks whether each law that the page names breaks in the step that it says, and in none before.
 
     tests/book.py [--write] [PROGRAM]
     tests/book.py --names               looks up and holds, and runs nothing: it needs no program
@@ -27,6 +28,7 @@ sys.path.insert(0, str(ROOT / "plans"))
 
 from kernel import WRONG, Kernel  # noqa: E402
 from laws import broken_in, order_of  # noqa: E402
+from named import program_at  # noqa: E402
 from reading import read_plan  # noqa: E402
 from schedules import chosen, steps_of  # noqa: E402
 
@@ -38,6 +40,11 @@ FILE = re.compile(r"`((?:crates|plans|docs|tests|tools|bench|web)/[\w./-]+)`")
 WRITTEN = re.compile(r"^```\w+ (crates[\w/.]*)\n(.*?)^```$", re.M | re.S)
 TRIED = re.compile(r"^```try (\w+)\n(.*?)^```$", re.M | re.S)
 NAME = re.compile(r"(?:clause `(\w+)` of )?`(\w+)((?:::\w+)+)`")
+# A run of a kernel with a mistake: by a command, which may leave its schedule to the plan, and by a link to the page; and what a page says of its laws.
+WRONG_RUN = re.compile(r"`?plans/(?:kernel|explore)\.py (?:--wrong ([\w-]+) )?plans/([\w-]+)\.toml(?: '([\d*,]+)')?(?: --wrong ([\w-]+))?")
+PAGE_LINK = re.compile(r"web/tower\.html#plan=([\w-]+)&wrong=([\w-]+)&schedule=([\d*,]+)&step=(\d+)$")
+LOOK = re.compile(r"^\*\*Look\*\* \[in the page\]\((\S+)\)(.*?)\n\n", re.M | re.S)
+BREAKS = re.compile(r"[Ii]n\sstep\s(\d+)\sthe\slaw\s\*([^*]+)\*\sbreaks")
 # Names that docs cite: the text between backticks, a fence left out, and what of it looks like a name of this tree.
 FENCE = re.compile(r"^```.*?^```", re.M | re.S)
 QUOTED = re.compile(r"`([^`\n]+)`")
@@ -46,11 +53,6 @@ WORD = re.compile(r"^[A-Za-z_]\w*(?:::[A-Za-z_]\w*)*(?:\(\d+\))?$")
 LINK = re.compile(r"\]\(([^):\s]+)\)")
 # The files whose words are the tree's names.
 READ = {".rt", ".antt", ".edit", ".py", ".sh", ".rs", ".js", ".mjs", ".c", ".h", ".S", ".toml", ".patch"}
-# A run of a kernel with a mistake: by a command, which may leave its schedule to the plan, and by a link to the page; and what a page says of its laws.
-WRONG_RUN = re.compile(r"`?plans/(?:kernel|explore)\.py (?:--wrong ([\w-]+) )?plans/([\w-]+)\.toml(?: '([\d*,]+)')?(?: --wrong ([\w-]+))?")
-PAGE_LINK = re.compile(r"web/tower\.html#plan=([\w-]+)&wrong=([\w-]+)&schedule=([\d*,]+)&step=(\d+)$")
-LOOK = re.compile(r"^\*\*Look\*\* \[in the page\]\((\S+)\)(.*?)\n\n", re.M | re.S)
-BREAKS = re.compile(r"[Ii]n\sstep\s(\d+)\sthe\slaw\s\*([^*]+)\*\sbreaks")
 # A line of a source that is a comment: what only a comment says is not there.
 REMARK = re.compile(r"^\s*(?://|-- |# |/\* ).*$", re.M)
 # What docs cite and no file of this tree says: crates of the kit, and the end of a family of names.
@@ -234,10 +236,11 @@ def laws_told(page, faults):
     return count
 
 
-def minute_of_laws(faults):
-    """Holds what README.md says of its kernel with a mistake; tells how many laws that were."""
+def laws(faults):
+    """Holds what README.md and the lessons say of kernels with a mistake; tells how much that was."""
     text = (ROOT / "README.md").read_text()
-    return hold_to_laws("README.md", run_of(WRONG_RUN.search(text, text.index("--wrong") - len("plans/kernel.py ")).groups()), BREAKS.findall(text), faults)
+    count = sum(laws_told(page, faults) for page in sorted(BOOK.glob("*.md")))
+    return count + hold_to_laws("README.md", run_of(WRONG_RUN.search(text, text.index("--wrong") - len("plans/kernel.py ")).groups()), BREAKS.findall(text), faults)
 
 
 def version(faults):
@@ -266,8 +269,7 @@ def names(faults):
     listed = subprocess.run(["git", "ls-files", "-co", "--exclude-standard", "*.md"], cwd=ROOT, stdout=subprocess.PIPE, text=True, check=True).stdout
     pages = [ROOT / name for name in listed.splitlines() if (ROOT / name).is_file()]
     count = sum(cited(page, words, files, faults) for page in sorted(pages))
-    count += sum(looked_up(page, faults) + laws_told(page, faults) for page in sorted(BOOK.glob("*.md")))
-    return count + first_minute(faults) + minute_of_laws(faults) + version(faults) + patched(faults)
+    return count + sum(looked_up(page, faults) for page in sorted(BOOK.glob("*.md"))) + first_minute(faults) + version(faults) + patched(faults)
 
 
 def copied(room, files):
@@ -338,9 +340,9 @@ def main():
     read.add_argument("--names", action="store_true")
     read.add_argument("program", nargs="?", default=ROOT / "crates/mctower/out/mctower", metavar="PROGRAM")
     given = read.parse_args()
-    program = Path(given.program).resolve()
+    program = None if given.names else program_at(given.program)
     faults = []
-    count = names(faults)
+    count = names(faults) + laws(faults)
     if not given.names:
         count += runs(program, given.write, faults)
     for fault in faults:

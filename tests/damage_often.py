@@ -20,6 +20,8 @@ try:
 except ModuleNotFoundError:  # before Python 3.11
     tomllib = None
 
+from named import program_at
+
 CPUS, THREADS, BUFFERS, CAPACITY, TRACE, ENTRIES = 16, 256, 16, 32, 65536, 1048576
 LINES, STEPS, WORD, WORDS = 256, 1048576, 2**64, 8
 ODD_NUMBERS = [b'00', b'01', b'', b'-', b'-1', b'+1', b'1.0', b'x', b'8', b'17', b'33',
@@ -511,7 +513,7 @@ def plan_case(pick, program_path):
 
 def main():
     read = argparse.ArgumentParser(description=__doc__, formatter_class=argparse.RawDescriptionHelpFormatter)
-    read.add_argument('program', metavar='PROGRAM')
+    read.add_argument('program', type=program_at, metavar='PROGRAM')
     read.add_argument('many', nargs='?', type=int, default=1000, metavar='HOW_MANY')
     read.add_argument('seed', nargs='?', type=int, default=1, metavar='SEED')
     read.add_argument('kind', nargs='?', choices=('texts', 'plans'))

@@ -25,6 +25,7 @@ import damaged  # noqa: E402
 import explain  # noqa: E402
 import kernel  # noqa: E402
 import mistakes  # noqa: E402
+from named import program_at  # noqa: E402
 from reading import Refusal, read_plan  # noqa: E402
 from schedules import read_schedule, schedule_of, steps_of  # noqa: E402
 
@@ -202,7 +203,7 @@ def main(words):
         print(__doc__)
         return 0
     many = MANY if "--many" in words else FEW
-    program = Path([*(word for word in words if word != "--many"), PROGRAM][0]).resolve()
+    program = program_at([*(word for word in words if word != "--many"), PROGRAM][0])
     with tempfile.TemporaryDirectory() as folder:
         to, pick = Comparisons(program, Path(folder)), random.Random(1)
         told_mistakes(to)

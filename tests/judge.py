@@ -11,6 +11,8 @@ import sys
 from collections import Counter, namedtuple
 from pathlib import Path
 
+from named import program_at
+
 ROOT = Path(__file__).resolve().parent.parent
 BUILDS = ("crates/mctower/out/mctower", "crates/mctower/out/mctower.by-rattle")
 TEXTS = 1500
@@ -209,7 +211,7 @@ def main():
     if "--help" in sys.argv:
         print(__doc__)
         return 0
-    named = [Path(it).resolve() for it in sys.argv[1:]] or [ROOT / it for it in BUILDS if (ROOT / it).exists()]
+    named = [program_at(it) for it in sys.argv[1:]] or [ROOT / it for it in BUILDS if (ROOT / it).exists()]
     results = [fault for program in named for fault in faults_of(str(program))]
     for fault in filter(None, results):
         print(f"judge: {fault}")

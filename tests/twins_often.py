@@ -16,6 +16,7 @@ import sys
 from pathlib import Path
 
 import random_plan
+from named import program_at
 
 sys.path.append(str(Path(__file__).resolve().parent.parent / "plans"))
 import kernel  # noqa: E402
@@ -38,7 +39,7 @@ def by_plain_tower(program, plan, schedule):
 
 def main():
     read = argparse.ArgumentParser(description=__doc__, formatter_class=argparse.RawDescriptionHelpFormatter)
-    read.add_argument("program", metavar="PLAIN_TOWER")
+    read.add_argument("program", type=program_at, metavar="PLAIN_TOWER")
     read.add_argument("count", nargs="?", type=int, default=2000, metavar="COUNT")
     read.add_argument("first", nargs="?", type=int, default=1, metavar="FIRST")
     read.add_argument("large", nargs="?", choices=("large",))
