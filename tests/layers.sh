@@ -15,9 +15,13 @@ tests=$PWD/tests/layers
 copy=$(mktemp -d); trap 'rm -rf "$copy"' EXIT
 crate=$copy/crates/layer_tests
 
+# Names the files of the copy in what was said as those of tests/layers.
+told() {
+  sed -E 's|\bsrc/([a-z_]+)\.rt:|tests/layers/src/\1.rs:|' "$copy/said"
+}
 # Ends with one failure, which $1 names, behind the end of what was said.
 fails() {
-  [ ! -s "$copy/said" ] || tail -n 40 "$copy/said"
+  [ ! -s "$copy/said" ] || told | tail -n 40
   echo "layers: $1"; echo '0 passed, 1 failed'; exit 1
 }
 
@@ -40,7 +44,7 @@ status=$?
 wanted=$(sed -n 's/^tests: \([0-9]*\)$/\1/p' "$copy/said")
 [ "$status" != 124 ] || fails 'the tests were not built and run in 20 minutes'
 [ -n "$wanted" ] || fails "the tests were not run (rt try ended with status $status)"
-grep -v '^\(races\|run\|tests\)[:=]' "$copy/said"
+told | grep -v '^\(races\|run\|tests\)[:=]'
 passed=$(grep -c '^test .* \.\.\. ok$' "$copy/said")
 failed=$((wanted - passed))
 for file in "${unlike[@]}"; do echo "layers: tests/layers/src/$file is not laid out: tests/layers.sh --format"; failed=$((failed + 1)); done
