@@ -1,6 +1,6 @@
 #!/usr/bin/env bash
-# Tries a change of one crate: lays out its files, proves it over kept work, runs its tests with no proof, and tries its wrong bodies. Over kept
-# work it takes a minute or two in most crates, and minutes in cpu, cpu_workers, mctower and plain_layers. It is not the gate: that is .ci/run.
+# Tries a change of one crate: lays out its files, proves it over kept work, runs its tests and those of the layers with no proof, and tries its
+# wrong bodies. Over kept work it takes some minutes, most of them in cpu, cpu_workers, mctower and plain_layers. It is not the gate: that is .ci/run.
 #
 #   tests/quick.sh CRATE
 #
@@ -27,5 +27,6 @@ step layout rt fmt
 [ "$before" = "$(git diff -- "crates/$crate" | cksum)" ] || echo "quick: files of crates/$crate were laid out: look at git diff"
 step proof rt check
 if grep -rq '^ *#\[test\]' "crates/$crate/src"; then step tests rt try --test; fi
+if grep -qw "$crate" tests/layers/crates.txt; then step 'tests of layers' ../../tests/layers.sh; fi
 [ ! -d "crates/$crate/wrong" ] || step 'wrong bodies' ../../tests/wrong-bodies.py "$crate"
 echo "quick: $crate passed, $SECONDS seconds"

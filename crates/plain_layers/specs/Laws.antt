@@ -3,4 +3,3 @@ pub mod ShownLaws
 pub mod FifoLaws
 pub mod FifoOwned
 pub mod FifoTallies
-pub mod Naps

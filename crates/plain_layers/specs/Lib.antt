@@ -5,8 +5,4 @@ pub mod Attempts
 pub mod Wholes
 pub mod Fifos
 pub mod FifoOwned
-pub mod Naps
-pub mod TwoCpus
-pub mod LockScripts
-pub mod CallScripts
 pub mod Laws

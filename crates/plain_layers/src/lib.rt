@@ -13,6 +13,7 @@
 
 mod attempt_layers;
 mod attempts;
+mod backoff;
 mod fifos;
 mod ipcs;
 mod kernel;
@@ -25,6 +26,7 @@ mod wholes;
 
 pub use attempt_layers::{OpensAttempts, plain_buffers};
 pub use attempts::{Ask, Attempt, PlainBuffer, Tried, closed_buffers_let_all_go};
+pub use backoff::Backoff;
 pub use fifos::PlainFifo;
 pub use ipcs::{PlainIpc, ipc_is_whole};
 pub use kernel::{Lists, Opening, PlainKernel};

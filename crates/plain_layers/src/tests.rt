@@ -1,24 +1,8 @@
-//! Tests of other crates, which stand here since a crate with any test is proved twice: of each layer over
-//! its real machine and over the one-step machines, of systems, of workers, natives and counts, and of what
-//! no run of the program shows of the lowest crates.
+//! The tests that are proved and built, since `tests/refuse.sh` refuses each allocation and each start of a thread of a built program; and native
+//! threads, whose promises are proved. All other tests of the layers run with no proof (`tests/layers`).
 
-mod attempts;
-mod backoff;
-mod backoff_systems;
-mod beneath;
-mod buffers;
-mod call_scripts;
-mod calls;
 mod counts;
-mod lock_players;
-mod lock_scripts;
-mod locks;
 mod natives;
-mod openings;
-mod queues;
-mod rows;
-mod scheds;
-mod sleeps;
 mod systems;
-mod texts;
+mod words;
 mod workers;

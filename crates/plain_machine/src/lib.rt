@@ -17,11 +17,9 @@ mod line_words;
 mod logged_edits;
 mod notes;
 mod plain;
-#[cfg(test)]
 mod stored_words;
-#[cfg(test)]
-mod tests;
 
 pub use line_words::{GrantLockWords, Granting, LineWords, LockWords};
 pub use logged_edits::LoggedEdit;
 pub use plain::{GrantPlain, Plain};
+pub use stored_words::StoredWords;

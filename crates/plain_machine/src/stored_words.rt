@@ -1,5 +1,4 @@
-//! An example of another lock: a ticket lock that is given on by a store. It stands in the crate for
-//! its tests alone.
+//! An example of another lock: a ticket lock that is given on by a store. No plan can name it.
 
 ghost use Rattle.std.specs.Prelude.{◌≡◌, ℕ, ◌+◌, ◌%◌, ◌^◌, ◌<◌, ◌≤◌, ◌==◌};
 ghost use Rattle.event_log.specs.declared.ids.TheConstants.{CPUS};

@@ -23,14 +23,12 @@ mod plays;
 mod rule;
 mod seats;
 mod shared;
-#[cfg(test)]
 mod stored_words;
 mod table_words;
-#[cfg(test)]
-mod tests;
 mod views;
 
 pub use keys::Key;
 pub use seats::{GrantSeat, Seat, meet};
 pub use shared::{GrantShared, Shared};
+pub use stored_words::StoredWords;
 pub use table_words::{TableWords, TicketWords, WaiterWords};

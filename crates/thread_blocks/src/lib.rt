@@ -18,6 +18,3 @@ mod queues;
 
 pub use lists::ThreadList;
 pub use queues::ThreadQueue;
-
-#[cfg(test)]
-mod tests;

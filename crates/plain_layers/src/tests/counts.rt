@@ -1,59 +1,7 @@
-//! Counting in threads.
+//! Counts that are refused memory or a thread.
 
 use boot::LockKind;
 use cpu_workers::counting::{CountFault, count_or_leave, count_table};
-use std::test::Fail;
-
-/// A count of so many CPUs that each do so many sections, and its number.
-struct Count {
-    cpus: u8,
-    times: u64,
-    lock: LockKind,
-    number: u64,
-}
-
-const COUNTS: [Count; 5] = [
-    Count {
-        cpus: 2,
-        times: 3,
-        lock: LockKind::Grant,
-        number: 6,
-    },
-    Count {
-        cpus: 2,
-        times: 3,
-        lock: LockKind::Ticket,
-        number: 6,
-    },
-    Count {
-        cpus: 1,
-        times: 1,
-        lock: LockKind::Grant,
-        number: 1,
-    },
-    Count {
-        cpus: 0,
-        times: 1000,
-        lock: LockKind::Ticket,
-        number: 0,
-    },
-    Count {
-        cpus: 8,
-        times: 0,
-        lock: LockKind::Grant,
-        number: 0,
-    },
-];
-
-#[test]
-fn threads_count_together(rt: HostRuntime) -> Result<(), Fail> {
-    for row in &COUNTS {
-        let counted = count_table(&rt, rt.alloc(), row.cpus, row.times, row.lock)?;
-        assert_eq!(rt; counted.number(), row.number);
-        assert_eq!(rt; counted.lock(), row.lock);
-    }
-    Ok(())
-}
 
 // Run with each allocation refused in turn. With no thread to start, each is the table's or that of the
 // supplies for workers: it is told as want of memory.

@@ -1,0 +1,53 @@
+#!/usr/bin/env bash
+# Runs the tests of the layers, which stand in tests/layers, with no proof: it lays them onto a copy of the tree as a crate of their own
+# (`layer_tests`, with the line of tests/layers/crates.txt), builds that and runs each test in a process of its own. .ci/run calls it; it takes
+# one and a half minutes of processor time, most of it to compile the copy.
+#
+#   tests/layers.sh            prints each test, and of a failed one the file and line, and what was seen (left) and wanted (right)
+#   tests/layers.sh --format   lays out the files of tests/layers as `rt fmt` lays out a crate's, and runs nothing
+#
+# Their names end in .rs, since `rt ci` takes a .rt file for a crate's. A test that cannot be built, one that does not end, a file that is not laid
+# out, and a run of no test count as failed. The last line is 'N passed, M failed'.
+if [ "${1:-}" = --help ]; then sed -n '2,/^[^#]/ s/^# \{0,1\}//p' "$0"; exit; fi
+set -uo pipefail
+cd "$(dirname "$0")/.."
+tests=$PWD/tests/layers
+copy=$(mktemp -d); trap 'rm -rf "$copy"' EXIT
+crate=$copy/crates/layer_tests
+
+# Names the files of the copy in what was said as those of tests/layers.
+told() {
+  sed -E 's|\bsrc/([a-z_]+)\.rt:|tests/layers/src/\1.rs:|' "$copy/said"
+}
+# Ends with one failure, which $1 names, behind the end of what was said.
+fails() {
+  [ ! -s "$copy/said" ] || told | tail -n 40
+  echo "layers: $1"; echo '0 passed, 1 failed'; exit 1
+}
+
+tar --exclude=out --exclude=wrong --exclude=must-fail -cf - crates crates.txt HANDLES | tar -xf - -C "$copy" || fails 'the tree could not be copied'
+mkdir -p "$crate/src" && cat "$tests/crates.txt" >> "$copy/crates.txt" || fails 'the tests could not be laid onto the copy'
+for file in "$tests"/src/*.rs; do cp "$file" "$crate/src/$(basename "$file" .rs).rt" || fails "$file could not be laid onto the copy"; done
+cd "$crate" || fails 'the tests could not be laid onto the copy'
+
+rt fmt > "$copy/said" 2>&1 || fails 'rt fmt does not read the tests'
+unlike=()
+for file in "$tests"/src/*.rs; do
+  laid=src/$(basename "$file" .rs).rt
+  cmp -s "$file" "$laid" && continue
+  if [ "${1:-}" = --format ]; then cp "$laid" "$file"; echo "layers: laid out ${file#"$PWD"/}"; else unlike+=("${file##*/}"); fi
+done
+[ "${1:-}" != --format ] || exit 0
+
+timeout 1200 rt try --test --seconds 300 > "$copy/said" 2>&1
+status=$?
+wanted=$(sed -n 's/^tests: \([0-9]*\)$/\1/p' "$copy/said")
+[ "$status" != 124 ] || fails 'the tests were not built and run in 20 minutes'
+[ -n "$wanted" ] || fails "the tests were not run (rt try ended with status $status)"
+told | grep -v '^\(races\|run\|tests\)[:=]'
+passed=$(grep -c '^test .* \.\.\. ok$' "$copy/said")
+failed=$((wanted - passed))
+for file in "${unlike[@]}"; do echo "layers: tests/layers/src/$file is not laid out: tests/layers.sh --format"; failed=$((failed + 1)); done
+if [ "$failed" = 0 ] && { [ "$wanted" = 0 ] || [ "$status" != 0 ]; }; then echo "layers: no test was run, or rt try ended with status $status"; failed=1; fi
+echo "$passed passed, $failed failed"
+[ "$failed" = 0 ]

@@ -1,0 +1,25 @@
+//! Tests of the layers, run and not proved: of each layer over ticket locks and over the one-step machines, of systems, workers and counts, and of
+//! what no run of the program shows of the lowest crates. `tests/layers.sh` lays them onto a copy of the tree and runs them.
+//!
+//! Nothing here has a contract. The compiler wants each ghost member of an impl, and nothing here reads one, so each is `tt`.
+#![tactic(auto)]
+
+mod add_one;
+mod attempts;
+mod backoff;
+mod beneath;
+mod buffers;
+mod calls;
+mod counts;
+mod locks;
+mod openings;
+mod owned_words;
+mod queues;
+mod scheds;
+mod seats;
+mod shared_words;
+mod sleeps;
+mod systems;
+mod texts;
+mod thread_queues;
+mod workers;
