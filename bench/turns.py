@@ -43,7 +43,8 @@ class Command:
     def memory(self, given):
         """Returns the page faults and the peak in megabytes of one run, as a small program sees them: a child begins with its parent's peak."""
         with open(given, "rb") as source:
-            told = subprocess.run(["/usr/bin/time", "-q", "-f", "%R %M", *self.words], stdin=source, stdout=subprocess.DEVNULL, stderr=subprocess.PIPE, check=False)
+            counted = ["/usr/bin/time", "-q", "-f", "%R %M", *self.words]
+            told = subprocess.run(counted, stdin=source, stdout=subprocess.DEVNULL, stderr=subprocess.PIPE, check=False)
         faults, peak = told.stderr.split()[-2:]
         return int(faults), int(peak) / 1024
 

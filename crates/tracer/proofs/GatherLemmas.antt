@@ -3,7 +3,8 @@ use Rattle.std.proofs.Common.{◌≡◌, ◌≢◌, ℕ, zero, suc, ◌+◌, ◌
 use Rattle.std.proofs.{Common.{subst, inl, inr, arith, add-one, append_assoc}, lemmas.List.{drop_more, drop_all, drop-drop, get_or-set_other}}
 use Rattle.std.proofs.lemmas.List.{get_or-set_same, get_or_past, nil_from_length, length-replicate, length-set, length-append, append-nil, Sums.sum_by-cons}
 use Rattle.std.proofs.lemmas.{List.Sums.{sum_by-set, get_or-le-sum_by}, Bool.cases_eq, Option.{get_or_from_slice_get, slice_get_within}}
-use Rattle.{std.specs.{Borrow.Bor, Prelude.slice_get}, event_log.specs.{declared.entries.Entry.Entry, Runs.count_of, Traces.{IsInterleaving, HasOpOrderFrom, HasOpOrder}}}
+use Rattle.std.specs.{Borrow.Bor, Prelude.slice_get}
+use Rattle.event_log.specs.{declared.entries.Entry.Entry, Runs.count_of, Traces.{IsInterleaving, HasOpOrderFrom, HasOpOrder}}
 use Rattle.tracer.specs.Gather.{traces_in, entries_in, IsOrder, IsFrontReady, TakesFirstReadyFrom, TakesFirstReady, HasNoOrder, next_entry, IsDue, NoneDueBelow}
 use Rattle.tracer.proofs.OrderLemmas.{at_head, head_at, head_within, count_more_same, count_more_other, CameFirst, may_come_first}
 

@@ -1,7 +1,8 @@
 -- A line's text as it is written, and lines that have the number of their item.
 use Rattle.std.proofs.Common.{◌-◌, ◌≡◌, ℕ, zero, suc, ◌+◌, ◌<◌, ◌≤◌, Bool, true, List, [], ◌∷◌, ◌++◌, Option, length, get_or, take, drop, map, refl, sym, ap}
 use Rattle.std.proofs.{Common.{◌∙◌, append_assoc, add-zero, zero-add, arith}, lemmas.List.{append-nil, take_all, Concat.flat_map-append}}
-use Rattle.{std.specs.{Borrow.Bor, Io.KnownBytes.Appends, List.{flat_map, join_with_byte}, Prelude.decimal}, tracer.specs.{Gather.entries_in, Sinks.Outs, declared.writing.Piece.Piece}}
+use Rattle.std.specs.{Borrow.Bor, Io.KnownBytes.Appends, List.{flat_map, join_with_byte}, Prelude.decimal}
+use Rattle.tracer.specs.{Gather.entries_in, Sinks.Outs, declared.writing.Piece.Piece}
 use Rattle.tracer.specs.{Pieces.{text_of, spaced, behind_comma}, Versions.version_of, TraceText.{text_line, numbered, message_text, head_pieces, count_pieces}}
 use Rattle.tracer.{specs.TraceText.{cap_pieces, entry_pieces, left_pieces, end_pieces, spelling, lines_of}, proofs.SinkLemmas.{appends_then, outs_then}}
 use Rattle.{tracer.proofs.SinkLemmas.outs_before, event_log.specs.{Messages.{Message, first_word}, declared.entries.Entry.Entry}}

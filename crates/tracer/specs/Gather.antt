@@ -1,5 +1,6 @@
 -- Which order of several traces is gathered.
-use Rattle.std.specs.{Borrow.Bor, Prelude.{◌≡◌, ◌<◌, ◌==◌, ℕ, List, [], ◌∷◌, ◌++◌, Option, Some, filter, map, slice_get, slice_index, slice_index_or, slice_set}}
+use Rattle.std.specs.Prelude.{◌≡◌, ◌<◌, ◌==◌, ℕ, List, [], ◌∷◌, ◌++◌, Option, Some, filter, map, slice_get, slice_index, slice_index_or, slice_set}
+use Rattle.std.specs.Borrow.{Bor}
 use Rattle.event_log.specs.{Messages.Message, declared.entries.Entry.Entry, Runs.{count_of, IsRun}, Traces.{IsInterleaving, HasOpOrder}}
 
 -- the traces that slices hold

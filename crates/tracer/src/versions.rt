@@ -1,7 +1,8 @@
 //! The versions of the trace text. No call takes memory or waits.
 
 ghost use Rattle.std.specs.Prelude.{◌≡◌};
-ghost use Rattle.tracer.specs.{Gather.entries_in, TraceText.version_word, Versions.{covers, both, version_of_kind, version_of_count, version_of_entry, version_of}};
+ghost use Rattle.tracer.specs.{Gather.entries_in, TraceText.version_word};
+ghost use Rattle.tracer.specs.Versions.{covers, both, version_of_kind, version_of_count, version_of_entry, version_of};
 
 use event_log::{Entry, Kind};
 

@@ -24,7 +24,8 @@ returns-in_err-write_trace g c =
     let is : IsOrder (traces_in c.args.traces.now) (entries_in c.deref-2.result.now) =
     subst (λ (ps : List (Bor Entry)). IsOrder (traces_in c.args.traces.now) (entries_in ps)) (sym c.deref-2.ensures.value) c.in_ok-order.ensures.order in
     let first : TakesFirstReady (traces_in c.args.traces.now) (entries_in c.deref-2.result.now) =
-    subst (λ (ps : List (Bor Entry)). TakesFirstReady (traces_in c.args.traces.now) (entries_in ps)) (sym c.deref-2.ensures.value) c.in_ok-order.ensures.greedy in
+    subst (λ (ps : List (Bor Entry)). TakesFirstReady (traces_in c.args.traces.now) (entries_in ps)) (sym c.deref-2.ensures.value)
+    c.in_ok-order.ensures.greedy in
     err_writes c.args.caps.now (traces_in c.args.traces.now) _ c.from_residual-in_err-write_trace.result WriteFault _
     c.from_residual-in_err-write_trace.ensures.1 (
       sym c.in_err-write_trace.ensures.failed,
@@ -38,7 +39,8 @@ returns g c =
     let is : IsOrder (traces_in c.args.traces.now) (entries_in c.deref-2.result.now) =
     subst (λ (ps : List (Bor Entry)). IsOrder (traces_in c.args.traces.now) (entries_in ps)) (sym c.deref-2.ensures.value) c.in_ok-order.ensures.order in
     let first : TakesFirstReady (traces_in c.args.traces.now) (entries_in c.deref-2.result.now) =
-    subst (λ (ps : List (Bor Entry)). TakesFirstReady (traces_in c.args.traces.now) (entries_in ps)) (sym c.deref-2.ensures.value) c.in_ok-order.ensures.greedy in (
+    subst (λ (ps : List (Bor Entry)). TakesFirstReady (traces_in c.args.traces.now) (entries_in ps)) (sym c.deref-2.ensures.value)
+    c.in_ok-order.ensures.greedy in (
       sym c.in_ok-write_trace.ensures.failed,
       out_so c.args.caps.now (traces_in c.args.traces.now) _ (entries_in c.deref-2.result.now) _ c.requires.text is first
           (subst (λ (ps : List (Bor Entry)). (k : ℕ) (d : Entry) → k < length (entries_in ps) → IsMessage (get_or (entries_in ps) k d).value)

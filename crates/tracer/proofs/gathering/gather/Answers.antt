@@ -1,6 +1,7 @@
 use Rattle.std.proofs.{Common.{◌≡◌, ◌<◌, ◌+◌, ℕ, [], ◌∷◌, ◌++◌, length, get_or, vec_len, Some, refl, sym, ap, ◌∙◌, arith}, lemmas.List.length-map}
 use Rattle.{std.proofs.lemmas.List.{length_push, get_or_default}, tracer.specs.Gather.{traces_in, entries_in, next_entry, NoneDueBelow}}
-use Rattle.tracer.proofs.GatherLemmas.{gathers_start, gathers_next, gathered_all, gathered_no_order, some_left, one_more, some_left_in, next_within, left_of_slices}
+use Rattle.tracer.proofs.GatherLemmas.{gathers_start, gathers_next, gathered_all, gathered_no_order, some_left, one_more, some_left_in, next_within}
+use Rattle.tracer.proofs.GatherLemmas.{left_of_slices}
 use Rattle.tracer.proofs.gathering.gather.Goals.{In-Some}
 use Rattle.tracer.proofs.gathering.gather.Goals as goal
 
@@ -33,7 +34,8 @@ as_many : (c : In-Some) → length (entries_in c.loop-trace.order.items) ≡ vec
 as_many c = omega (arith, length-map c.loop-trace.order.items (λ place. place.now))
 
 taken_below : (c : In-Some) → get_or c.loop-trace.taken.items c.in-Some.trace 0 < c.in_ok-order.total
-taken_below c = some_left_in (traces_in c.args.traces.now) c.in_ok-order.total c.loop-trace.taken.items c.loop-trace.counts (entries_in c.loop-trace.order.items)
+taken_below c =
+    some_left_in (traces_in c.args.traces.now) c.in_ok-order.total c.loop-trace.taken.items c.loop-trace.counts (entries_in c.loop-trace.order.items)
     c.in-Some.trace c.in-Some.entry.now c.loop-trace.invariant.0 (found c)
 
 was : (c : In-Some) (n : ℕ) → n ≡ get_or c.loop-trace.taken.items c.in-Some.trace n
@@ -72,13 +74,13 @@ loop-trace-preserved c =
 
 pub returns-then-len-total-clause-order : goal.returns-then-len-total-clause-order
 returns-then-len-total-clause-order c =
-    (gathered_all (traces_in c.args.traces.now) c.in_ok-order.total c.loop-trace.taken.items c.loop-trace.counts (entries_in c.loop-trace.order.items) c.loop-trace.invariant.0
-    (omega (arith, length-map c.loop-trace.order.items (λ place. place.now)))).0
+    (gathered_all (traces_in c.args.traces.now) c.in_ok-order.total c.loop-trace.taken.items c.loop-trace.counts (entries_in c.loop-trace.order.items)
+    c.loop-trace.invariant.0 (omega (arith, length-map c.loop-trace.order.items (λ place. place.now)))).0
 
 pub returns-then-len-total-clause-greedy : goal.returns-then-len-total-clause-greedy
 returns-then-len-total-clause-greedy c =
-    (gathered_all (traces_in c.args.traces.now) c.in_ok-order.total c.loop-trace.taken.items c.loop-trace.counts (entries_in c.loop-trace.order.items) c.loop-trace.invariant.0
-    (omega (arith, length-map c.loop-trace.order.items (λ place. place.now)))).1
+    (gathered_all (traces_in c.args.traces.now) c.in_ok-order.total c.loop-trace.taken.items c.loop-trace.counts (entries_in c.loop-trace.order.items)
+    c.loop-trace.invariant.0 (omega (arith, length-map c.loop-trace.order.items (λ place. place.now)))).1
 
 pub returns-clause-none : goal.returns-clause-none
 returns-clause-none c =

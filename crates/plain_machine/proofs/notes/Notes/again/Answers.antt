@@ -1,6 +1,7 @@
 use Rattle.std.proofs.Common.{◌≡◌, ◌+◌, ◌*◌, ◌/◌, ◌%◌, ◌∷◌, [], reverse, ap, ◌∙◌, arith}
 use Rattle.{std.proofs.lemmas.List.reverse-append, event_log.specs.{Log.events_in}}
-use Rattle.plain_machine.{specs.{Stored.{repeated, told}, declared.notes.Note.TheVariants.Again, Machine.history}, proofs.NoteLemmas.{told_again, repeated_more}}
+use Rattle.plain_machine.specs.{Stored.{repeated, told}, declared.notes.Note.TheVariants.Again, Machine.history}
+use Rattle.plain_machine.proofs.NoteLemmas.{told_again, repeated_more}
 use Rattle.plain_machine.proofs.notes.Notes.again.Goals as goal
 
 pub returns-then-rest-ne0-clause-history : goal.returns-then-rest-ne0-clause-history
