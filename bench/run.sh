@@ -1,7 +1,7 @@
 #!/usr/bin/env bash
-# Measures the proved program beside the plain ones in bench/, whole commands by turns, and prints of each measurement the
-# ratios (the plain program's time divided by ours), of the medians and of all turns together, the medians, and the peak
-# memory of both. It takes no argument and less than three minutes; the machine should be quiet.
+# Measures the proved program beside the plain ones in bench/, whole commands by turns (turns.py), and prints of each
+# measurement the medians, the ratios (the plain program's time divided by ours), and the peak memory of both. It takes no
+# argument and some three minutes; the machine should be quiet.
 # Build first: (cd crates/mctower && rt run -- count --cpus 1 --times 1).
 if [ "${1:-}" = --help ]; then sed -n '2,/^[^#]/ s/^# \{0,1\}//p' "$0"; exit; fi
 set -eu

@@ -2,17 +2,17 @@
 # Counts the instructions (callgrind) of `mctower run` on the plans and schedules of make.py, over grant words, beside plain_tower.rs, which
 # stores the same log of events. Prints for each kind the ratio of the whole commands, and that of the steps alone: without what one step of
 # the same plan takes, which is opening, and without what gathers and writes the text. Beside them stands the ratio to the plain program where
-# it takes a look that misses for all steps of its CPU that follow (--cfg stretch). Then it measures *misses* and *through* by the clock, behind
-# either lock, as run.sh does, and prints steps a second. Counts take a minute, and other work disturbs none; for times the machine should be
+# it takes a look that misses for all steps of its CPU that follow (--cfg stretch). Then it measures each kind by the clock, on one processor
+# (turns.py), *misses* and *through* behind either lock. Counts take a minute, and other work disturbs none; for times the machine should be
 # quiet, or: chrt --rr 1 bench/steps.sh.
 # Build first: (cd crates/mctower && rt run -- count --cpus 1 --times 1).
 #
-#   bench/steps.sh [TURNS]   how often each time is measured, 11 if left out; 0: counts alone
+#   bench/steps.sh [TURNS]   how often each time is measured, 21 if left out; 0: counts alone
 if [ "${1:-}" = --help ]; then sed -n '2,/^[^#]/ s/^# \{0,1\}//p' "$0"; exit; fi
 set -eu
 cd "$(dirname "$0")"
 . ./measure.sh
-turns=${1:-11}
+turns=${1:-21}
 # the functions that gather and write the text: of the plain program, and of ours by their names in the proved binary
 text_of_plain='step_table::write_trace'
 text_of_ours='mctower::texts::write_text'
@@ -47,16 +47,13 @@ for kind in misses through across turns singly once; do
 done
 
 [ "$turns" -gt 0 ] || exit 0
-schedule=$(./make.py schedule)
-per_second() { awk -v median="$(median "$work/$1")" -v name="$1" 'BEGIN { printf "  %s: %d steps a second\n", name, 1048576 * 1000000 / median }'; }
-for kind in misses through; do
-  for lock in ticket grant; do
+core=$(($(nproc) - 1))
+for kind in misses through across turns singly once; do
+  for lock in grant ticket; do
+    [ $lock = grant ] || case $kind in misses | through) ;; *) continue ;; esac
     { echo "lock = \"$lock\""; ./make.py plan $kind; } > "$work/plan"
-    mine=("$ours" run --schedule "$schedule")
-    for stores in "" log; do
-      plain=("$work/plain_tower" "$schedule" $stores)
-      measure "$kind over $lock locks, plain ${stores:-as it is}" "$work/plan" "$turns" 20
-      per_second our_times
-    done
+    schedule=$(./make.py schedule $kind)
+    plain=("$work/plain_tower" "$schedule" log); mine=("$ours" run --schedule "$schedule")
+    measure "$kind over $lock locks" "$work/plan" "$turns" 30 --cores $core
   done
 done

@@ -125,6 +125,10 @@ rows() {
   row 0 "$sent" "$state" "$send"
   row 0 $'yes\n' '' "printf '%s' '$sent' | mctower check"
   row 0 $'yes\n' "$state" "$send | mctower check"
+  # a state line, a worker's line and a refusal are a write each, whose bytes are told in front: so the lines of two programs do not mix
+  row 0 $'15 cpu 0 AllEnded\n15 thread 0 Ended\n10 quiet yes\n' '' "tests/writes.py '$program' run --schedule '0*21' < plans/one-send.toml"
+  row 0 $'15 cpu 0 AllEnded\n' '' "tests/writes.py '$program' threads --turns 1000 < plans/one-send.toml"
+  row 1 $'19 error: BadToml(20)\n' '' "echo [ | tests/writes.py '$program' run"
   # without a schedule no step is taken
   row 0 "$before" "$waits" 'mctower run < plans/one-send.toml'
   row 0 "$sent" $'cpu 0 AllEnded\n' "$thread"

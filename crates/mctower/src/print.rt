@@ -1,14 +1,45 @@
 //! What the program prints: pieces, all of which go out, and texts that are shown in a line. No call
 //! takes memory or waits, unless the sink's writer does.
 
-ghost use Rattle.std.specs.{Prelude.{◌≡◌, IfOk, false, is_err, true}, List.{before_first, flat_map}};
+ghost use Rattle.std.specs.{Prelude.{◌≡◌, ◌<◌, IfNone, IfOk, IfSome, false, is_err, length, true}, List.{before_first, flat_map}};
 ghost use Rattle.{tracer.specs.Sinks.{WentOut, has_failed, is_flushed}, mctower.specs.{Output.{IsTold, between}, Print.{is_line_feed, shown_line}}};
+ghost use Rattle.mctower.specs.declared.print.TheConstants.AT_ONCE;
 
-use arrayvec::ArrayString;
+use arrayvec::{ArrayString, ArrayVec};
 use std::io::Write;
 use tracer::{Sink, WriteFault};
 
-/// Writes all pieces, or where a write failed a beginning of them.
+/// How many bytes go out in one write at most.
+const AT_ONCE: usize = 512;
+
+/// The pieces as one; `None` if they have more than `AT_ONCE` bytes.
+fn joined(pieces: &[&[u8]]) -> Option<ArrayVec<u8, AT_ONCE>>
+    ensures whole { IfSome result (λ line. line.items ≡ flat_map (λ p. p.now) pieces.now) }
+    ensures long { IfNone result (AT_ONCE < length (flat_map (λ p. p.now) pieces.now)) }
+{
+    let mut line = ArrayVec::new();
+    for piece in pieces {
+        if line.try_extend_from_slice(*piece).is_err() {
+            return None;
+        }
+    }
+    Some(line)
+}
+
+/// Writes the pieces one by one, or where a write failed a beginning of them.
+fn put_each<W: Write>(sink: &mut Sink<W>, pieces: &[&[u8]]) -> Result<(), WriteFault>
+    requires { has_failed sink.old ≡ false }
+    ensures failed { is_err result ≡ has_failed sink.new }
+    ensures out { WentOut W.contents sink.old sink.new (flat_map (λ p. p.now) pieces.now) }
+{
+    for piece in pieces {
+        sink.put(*piece)?;
+    }
+    Ok(())
+}
+
+/// Writes all pieces, or where a write failed a beginning of them. A line is put in one write, if the
+/// writer takes it whole, so the lines of two programs do not mix.
 ///
 /// Requires: the sink has not failed.
 ///
@@ -18,10 +49,10 @@ pub(crate) fn put_all<W: Write>(sink: &mut Sink<W>, pieces: &[&[u8]]) -> Result<
     ensures failed { is_err result ≡ has_failed sink.new }
     ensures out { WentOut W.contents sink.old sink.new (flat_map (λ p. p.now) pieces.now) }
 {
-    for piece in pieces {
-        sink.put(*piece)?;
+    match joined(pieces) {
+        Some(line) => sink.put(line.as_slice()),
+        None => put_each(sink, pieces),
     }
-    Ok(())
 }
 
 /// Writes all pieces and sees that they are out.

@@ -203,12 +203,14 @@ where
     write_text(alloc, caps, &traces, &left, sink)
 }
 
-/// A copy of the traces of the CPUs, which are so many.
-fn traces<I: Owned + Drop>(
+/// A slice of the trace of each CPU, which are so many, where it lies in the system.
+///
+/// Errors: `AllocError` where an allocation was refused.
+fn traces<'s, I: Owned + Drop>(
     alloc: Global,
     cpus: u8,
-    system: &System<I>,
-) -> Result<Vec<Vec<Entry>>, AllocError>
+    system: &'s System<I>,
+) -> Result<Vec<&'s [Entry]>, AllocError>
 where
     I::Machine: Drop,
     requires { length system.now.cpus ≡ cpus }
@@ -216,8 +218,7 @@ where
 {
     let mut all = Vec::new(alloc);
     for cpu in 0..cpus {
-        let trace = system.trace(CpuId(cpu)).to_vec(alloc)?;
-        all.push(trace)?;
+        all.push(system.trace(CpuId(cpu)))?;
     }
     Ok(all)
 }

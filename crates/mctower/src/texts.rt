@@ -1,15 +1,15 @@
 //! The trace text of the traces of a plan's CPUs, which both a run of steps and a run in threads
-//! write. `write_text` takes memory. No call waits, unless the sink's writer does.
+//! write. `write_text` and `write_lists` take memory. No call waits, unless the sink's writer does.
 
-ghost use Rattle.std.specs.Prelude.{◌≡◌, ◌<◌, ℕ, List, false, length, map, slice_index_or};
+ghost use Rattle.std.specs.Prelude.{◌≡◌, ◌<◌, ℕ, IfOk, List, false, length, map, slice_index_or};
 ghost use Rattle.event_log.specs.{declared.entries.Entry.Entry as AnEntry, Messages.IsMessage, Messages.Message};
-ghost use Rattle.tracer.specs.{Gather.traces_in, Judging.verdict_of, Sinks.has_failed, declared.verdicts.Verdict.TheVariants.Yes as SaysYes};
+ghost use Rattle.tracer.specs.{Gather.{traces_in, entries_in}, Judging.verdict_of, Sinks.has_failed, declared.verdicts.Verdict.TheVariants.Yes as SaysYes};
 ghost use Rattle.mctower.specs.{Output.between, Tabled.NothingIsPrinted, Texts.HaveText, Texts.IsTextOf, Texts.Writes};
 
 use crate::run::Fault;
 use arrayvec::ArrayVec;
 use event_log::{CAPACITY, Entry, Msg};
-use std::alloc::Global;
+use std::alloc::{AllocError, Global};
 use std::io::Write;
 use tracer::{Sink, gather, write_trace};
 
@@ -35,7 +35,7 @@ pub fn nothing_is_printed()
 pub(crate) fn write_text<W: Write>(
     alloc: Global,
     caps: &[u8],
-    traces: &[Vec<Entry>],
+    traces: &[&[Entry]],
     left: &[ArrayVec<Msg, CAPACITY>],
     sink: &mut Sink<W>,
 ) -> Result<(), Fault>
@@ -49,10 +49,44 @@ pub(crate) fn write_text<W: Write>(
     Ok(())
 }
 
+/// Writes the trace text of traces that lie in vectors, as [`write_text`] does.
+///
+/// Requires: the sink has not failed, and the traces have a text with what is left.
+///
+/// Errors: `NoMemory` where an allocation was refused, and then nothing was written; `WriteFault`
+/// exactly where the sink failed.
+pub(crate) fn write_lists<W: Write>(
+    alloc: Global,
+    caps: &[u8],
+    traces: &[Vec<Entry>],
+    left: &[ArrayVec<Msg, CAPACITY>],
+    sink: &mut Sink<W>,
+) -> Result<(), Fault>
+    requires live { has_failed sink.old ≡ false }
+    requires text { HaveText caps.now (map (λ trace. trace.items) traces.now) (map (λ v. v.items) left.now) }
+    ensures { Writes caps.now (map (λ trace. trace.items) traces.now) (map (λ v. v.items) left.now) result (between W.contents sink.old sink.new) }
+{
+    let slices = slices_of(alloc, traces)?;
+    write_text(alloc, caps, &slices, left, sink)
+}
+
+/// A slice of each trace, where it lies.
+///
+/// Errors: `AllocError` where an allocation was refused.
+fn slices_of<'t>(alloc: Global, traces: &'t [Vec<Entry>]) -> Result<Vec<&'t [Entry]>, AllocError>
+    ensures { IfOk result (λ all. traces_in all.items ≡ map (λ trace. trace.items) traces.now) }
+{
+    let mut all = Vec::new(alloc);
+    for trace in traces {
+        all.push(trace.as_slice())?;
+    }
+    Ok(all)
+}
+
 // Each message is one, as its type says; a list of entries does not tell it by itself. It computes
 // nothing.
-fn values_fit(entries: &[Entry])
-    ensures { (k : ℕ) (d : AnEntry) → k < length entries.now → IsMessage (slice_index_or entries.now k d).value }
+fn values_fit(entries: &[&Entry])
+    ensures { (k : ℕ) (d : AnEntry) → k < length (entries_in entries.now) → IsMessage (slice_index_or (entries_in entries.now) k d).value }
 {
     for entry in entries {
         entry.value.fits();

@@ -12,7 +12,7 @@ use crate::refusals::{Refusal, run_refused, worker_refused};
 use crate::run::Fault;
 use crate::serve::{Done, put_out, read_all};
 use crate::states::put_cpu;
-use crate::texts::write_text;
+use crate::texts::write_lists;
 use arrayvec::ArrayVec;
 use boot::{Boot, BootError};
 use cpu_workers::{OpenGate, Report, Stop, run_workers};
@@ -105,7 +105,7 @@ fn work_plan<O: Write, T: Threads + Wait + Sync>(
     let caps = boot.caps();
     let left = left_in(&report, caps.len());
     let (traces, stops) = report.into_parts();
-    if let Err(fault) = write_text(alloc, caps.as_slice(), &traces, &left, out) {
+    if let Err(fault) = write_lists(alloc, caps.as_slice(), &traces, &left, out) {
         return Err(run_refused(fault));
     }
     put_out(out, &[], Done::Worked(stops))

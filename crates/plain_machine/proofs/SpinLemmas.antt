@@ -1,8 +1,8 @@
 -- Looks that all miss: they read what the first one reads, and the table agrees with the log that has them.
 use Rattle.std.proofs.Common.{arith, ◌≡◌, ℕ, zero, suc, ◌+◌, ◌%◌, ◌^◌, ◌<◌, ◌≤◌, Bool, true, false, List, ◌∷◌, ◌++◌, ◌==◌, Option, IsSome, IfSome, replicate}
-use Rattle.std.proofs.Common.{if◌then◌else◌, refl, ap, sym, ◌∙◌}
+use Rattle.std.proofs.Common.{refl, ap, sym, ◌∙◌}
 use Rattle.event_log.specs.{declared.{ids.{CpuId.CpuId, LockId.LockId, TheConstants.CPUS}, events.Event.{Event, TheVariants.Look}}, Grants.ticket_in}
-use Rattle.event_log.{specs.{History.same_lock, WordsLog.{Waiting, Holding, frees, draws, lock_phase}}, proofs.Same.same_lock_true}
+use Rattle.event_log.{specs.{History.same_lock, WordsLog.{Waiting, frees, draws, lock_phase}}, proofs.Same.same_lock_true}
 use Rattle.layer_traits.{proofs.{OneLockLemmas.{lock_phase_own, elsewhere, missed, serves_exactly}, Seen.words_legal}, specs.declared.edits.Mark.Mark}
 use Rattle.{layer_traits.specs.{OneLock.HomeFits, Protocol.Rules}, plain_machine.specs.{declared.cells.Cell.Cell, Machine.IsSound, Table.cell_at}}
 
@@ -10,24 +10,9 @@ module _ {M : Type 0} (cpu : CpuId) (lock : LockId) (ticket read : ℕ) (old : L
   abbrev pub noted : ℕ → List (Event M)
   noted looks = replicate looks (Look cpu lock ticket read) ++ old
 
-  keeps_ticket : (hit : Bool) → ticket_in (if hit then Holding lock ticket else Waiting lock ticket) ≡ ticket
-  keeps_ticket hit = grind arith
-
-  ticket_stays : (looks : ℕ) → ticket ≡ ticket_in (lock_phase cpu old) → ticket_in (lock_phase cpu (noted looks)) ≡ ticket
-  ticket_stays looks is = grind (arith, lock_phase_own, keeps_ticket)
-
   frees_stay : (at : LockId) (looks : ℕ) → frees at (noted looks) ≡ frees at old
   frees_stay at zero = refl
   frees_stay at (suc looks) = frees_stay at looks
-
-  -- one look more
-  pub looks_more : (looks : ℕ) (now : List (Event M)) → ticket ≡ ticket_in (lock_phase cpu old) → read ≡ frees lock old % 2 ^ 64 → now ≡ noted looks
-      → Look cpu lock (ticket_in (lock_phase cpu now)) (frees lock now % 2 ^ 64) ∷ now ≡ noted (suc looks)
-  looks_more looks now has reads is =
-      ap (λ past. Look cpu lock (ticket_in (lock_phase cpu past)) (frees lock past % 2 ^ 64) ∷ past) is
-      ∙ (ap (λ t. Look cpu lock t (frees lock (noted looks) % 2 ^ 64) ∷ noted looks) (ticket_stays looks has)
-      ∙ (ap (λ n. Look cpu lock ticket (n % 2 ^ 64) ∷ noted looks) (frees_stay lock looks)
-      ∙ ap (λ n. Look cpu lock ticket n ∷ noted looks) (sym reads)))
 
   -- the notes of looks of a CPU that waits have its ticket
   pub grown_by : (new : List (Event M)) (looks : ℕ) → lock_phase cpu old ≡ Waiting lock ticket

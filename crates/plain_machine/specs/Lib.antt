@@ -1,4 +1,5 @@
 pub mod Table
 pub mod Fits
+pub mod Stored
 pub mod Machine
 pub mod Laws

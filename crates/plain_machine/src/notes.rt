@@ -1,50 +1,45 @@
 //! The stored log: which CPU did what at which lock. Only `Notes::with_room` takes memory. No call
 //! waits.
 
-ghost use Rattle.std.specs.Prelude.{◌≡◌, ◌+◌, ◌%◌, ◌^◌, ◌≤◌, ◌<◌, ◌++◌, ◌∷◌, [], length, replicate, IfOk};
-ghost use Rattle.event_log.specs.Log.{events_in, room_of};
+ghost use Rattle.std.specs.Prelude.{◌≡◌, ◌+◌, ◌%◌, ◌^◌, ◌≤◌, ◌<◌, ◌++◌, ◌∷◌, [], length, replicate, sum_by, IfOk};
+ghost use Rattle.{event_log.specs.Log.{events_in, room_of}, plain_machine.specs.Stored.weight};
 
 use event_log::{CpuId, EventLog, LockId, NoMemory};
 use std::alloc::Global;
 
-/// What a CPU did at a lock.
-#[derive(Clone, Copy)]
-pub enum Atom {
-    /// It drew a ticket.
-    Draw,
-    /// It looked with its ticket.
-    Look,
-    /// It freed the lock.
-    Free,
-}
-
-/// An event as the log stores it. The numbers that a draw or a look gave are not stored: those are
+/// What the log stores of an event. The numbers that a draw or a look gave are not stored: those are
 /// what the replay of the events before it says, so a note takes four bytes.
 #[derive(Clone, Copy)]
-pub struct Note {
-    /// The CPU that acted.
-    pub cpu: CpuId,
-    /// The lock at which it acted.
-    pub lock: LockId,
-    /// What it did there.
-    pub atom: Atom,
+pub enum Note {
+    /// The CPU drew a ticket at the lock.
+    Draw(CpuId, LockId),
+    /// The CPU looked at the lock with its ticket.
+    Look(CpuId, LockId),
+    /// The CPU freed the lock.
+    Free(CpuId, LockId),
+    /// The event before came so many times more.
+    Again(u16),
 }
 
+/// How many times more one note says that an event came, at most: the largest `u16`.
+const MOST_TIMES: usize = 65_535;
+
 /// A log of the events on the words of all locks, with room for a number of events that is fixed
-/// when it is made: a note of each event, and the mark of each free, both oldest first. No call
-/// after `with_room` takes memory.
+/// when it is made: notes of the events, and the mark of each free, both oldest first. Looks in a
+/// row are a note and how often it came again. No call after `with_room` takes memory.
 #[derive(Drop)]
 pub struct Notes<M> {
     notes: EventLog<Note>,
     marks: EventLog<M>,
     ghost rooms: { room_of marks ≡ room_of notes },
     ghost fewer: { length (events_in marks) ≤ length (events_in notes) },
+    ghost fits: { length (events_in notes) ≤ sum_by weight (events_in notes) },
 }
 
 impl<M> Notes<M> {
     ghost use Rattle.event_log.specs.{Grants.ticket_in, WordsLog.draws, WordsLog.frees, WordsLog.lock_phase};
     ghost use Rattle.event_log.specs.declared.events.Event.TheVariants as event;
-    ghost use Rattle.plain_machine.specs.Machine.{history, room_left};
+    ghost use Rattle.plain_machine.specs.{Machine.{history, room_left}, Stored.repeated};
 
     /// An empty log with room for `n` events.
     ///
@@ -69,11 +64,7 @@ impl<M> Notes<M> {
         ensures history { history self.new ≡ event.Draw cpu lock (draws lock (history self.old) % 2 ^ 64) ∷ history self.old }
         ensures room { room_left self.old ≡ room_left self.new + 1 }
     {
-        self.put(Note {
-            cpu,
-            lock,
-            atom: Atom::Draw,
-        });
+        self.put(Note::Draw(cpu, lock));
     }
 
     /// Notes a look of a CPU that waits, with its ticket.
@@ -86,11 +77,7 @@ impl<M> Notes<M> {
             ≡ event.Look cpu lock (ticket_in (lock_phase cpu (history self.old))) (frees lock (history self.old) % 2 ^ 64) ∷ history self.old }
         ensures room { room_left self.old ≡ room_left self.new + 1 }
     {
-        self.put(Note {
-            cpu,
-            lock,
-            atom: Atom::Look,
-        });
+        self.put(Note::Look(cpu, lock));
     }
 
     /// Notes so many looks of a CPU that waits, with its ticket.
@@ -108,8 +95,8 @@ impl<M> Notes<M> {
         if looks == 0 {
             return;
         }
-        let atom = Atom::Look;
-        self.notes.push_copies(Note { cpu, lock, atom }, looks);
+        self.look(cpu, lock);
+        self.again(looks - 1);
     }
 
     /// Notes a free with its mark.
@@ -123,18 +110,30 @@ impl<M> Notes<M> {
         ensures history { history self.new ≡ event.Free cpu lock mark ∷ history self.old }
         ensures room { room_left self.old ≡ room_left self.new + 1 }
     {
-        self.put(Note {
-            cpu,
-            lock,
-            atom: Atom::Free,
-        });
+        self.put(Note::Free(cpu, lock));
         self.marks.push_reserved(mark);
+    }
+
+    /// Notes that the last event came so many times more.
+    #[inline(always)]
+    fn again(&mut self, times: usize)
+        requires { times ≤ room_left self.old }
+        ensures history { history self.new ≡ repeated times (history self.old) }
+        ensures room { room_left self.old ≡ room_left self.new + times }
+    {
+        let full = times / MOST_TIMES;
+        self.notes.push_copies(Note::Again(u16::MAX), full);
+        let rest = times % MOST_TIMES;
+        if rest != 0 {
+            self.put(Note::Again(rest as u16));
+        }
     }
 
     /// Puts `note` at the end of the notes.
     #[inline(always)]
     fn put(&mut self, note: Note)
-        requires { 0 < room_left self.old }
+        requires some { 0 < weight note }
+        requires room { weight note ≤ room_left self.old }
         ensures notes { events_in self.new.notes ≡ events_in self.old.notes ++ note ∷ [] }
         ensures room { room_of self.new.notes ≡ room_of self.old.notes }
         ensures marks { self.new.marks ≡ self.old.marks }

@@ -1,10 +1,11 @@
 -- What a gathering keeps: the entries taken so far, and what is left of each trace.
 use Rattle.std.proofs.Common.{◌≡◌, ◌≢◌, ℕ, zero, suc, ◌+◌, ◌<◌, List, [], ◌∷◌, ◌++◌, length, get_or, set, drop, replicate, sum_by, Some, refl, sym, ap, ◌∙◌}
-use Rattle.std.proofs.{Common.{subst, inl, inr, arith, add-one, append_assoc, Vec, Global}, lemmas.List.{drop_more, drop_all, drop-drop, get_or-set_other}}
+use Rattle.std.proofs.{Common.{subst, inl, inr, arith, add-one, append_assoc}, lemmas.List.{drop_more, drop_all, drop-drop, get_or-set_other}}
 use Rattle.std.proofs.lemmas.List.{get_or-set_same, get_or_past, nil_from_length, length-replicate, length-set, length-append, append-nil, Sums.sum_by-cons}
 use Rattle.std.proofs.lemmas.{List.Sums.{sum_by-set, get_or-le-sum_by}, Bool.cases_eq, Option.{get_or_from_slice_get, slice_get_within}}
-use Rattle.{std.specs.Prelude.slice_get, event_log.specs.{declared.entries.Entry.Entry, Runs.count_of, Traces.{IsInterleaving, HasOpOrderFrom, HasOpOrder}}}
-use Rattle.tracer.specs.Gather.{traces_in, IsOrder, IsFrontReady, TakesFirstReadyFrom, TakesFirstReady, HasNoOrder, next_entry, IsDue, NoneDueBelow}
+use Rattle.std.specs.{Borrow.Bor, Prelude.slice_get}
+use Rattle.event_log.specs.{declared.entries.Entry.Entry, Runs.count_of, Traces.{IsInterleaving, HasOpOrderFrom, HasOpOrder}}
+use Rattle.tracer.specs.Gather.{traces_in, entries_in, IsOrder, IsFrontReady, TakesFirstReadyFrom, TakesFirstReady, HasNoOrder, next_entry, IsDue, NoneDueBelow}
 use Rattle.tracer.proofs.OrderLemmas.{at_head, head_at, head_within, count_more_same, count_more_other, CameFirst, may_come_first}
 
 -- what is left of each trace, where so many of each are taken
@@ -56,10 +57,15 @@ head_is_next traces taken k e rest at = first_of_drop (get_or traces k []) (get_
 abbrev pub left_of : List (List Entry) → ℕ
 left_of traces = sum_by length traces
 
-pub left_of_vectors : (vectors : List (Vec Entry Global)) → left_of (traces_in vectors) ≡ sum_by (λ trace. length trace.items) vectors
-left_of_vectors [] = refl
-left_of_vectors (v ∷ vectors) =
-    omega (arith, left_of_vectors vectors, sum_by-cons length v.items (traces_in vectors), sum_by-cons (λ trace. length trace.items) v vectors)
+pub left_of_slices : (slices : List (Bor (List Entry))) → left_of (traces_in slices) ≡ sum_by (λ trace. length trace.now) slices
+left_of_slices [] = refl
+left_of_slices (s ∷ slices) =
+    omega (arith, left_of_slices slices, sum_by-cons length s.now (traces_in slices), sum_by-cons (λ trace. length trace.now) s slices)
+
+-- one place more
+pub one_more : (places : List (Bor Entry)) (place : Bor Entry) → entries_in (places ++ place ∷ []) ≡ entries_in places ++ place.now ∷ []
+one_more [] place = refl
+one_more (p ∷ places) place = ap (λ es. p.now ∷ es) (one_more places place)
 
 -- nothing is left where each trace is used up, and only there
 none_left : (traces : List (List Entry)) → left_of traces ≡ 0 → (k : ℕ) → get_or traces k [] ≡ []

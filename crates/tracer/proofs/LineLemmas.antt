@@ -1,7 +1,8 @@
 -- A line's text as it is written, and lines that have the number of their item.
 use Rattle.std.proofs.Common.{◌-◌, ◌≡◌, ℕ, zero, suc, ◌+◌, ◌<◌, ◌≤◌, Bool, true, List, [], ◌∷◌, ◌++◌, Option, length, get_or, take, drop, map, refl, sym, ap}
 use Rattle.std.proofs.{Common.{◌∙◌, append_assoc, add-zero, zero-add, arith}, lemmas.List.{append-nil, take_all, Concat.flat_map-append}}
-use Rattle.{std.specs.{Io.KnownBytes.Appends, List.{flat_map, join_with_byte}, Prelude.decimal}, tracer.specs.{Sinks.Outs, declared.writing.Piece.Piece}}
+use Rattle.std.specs.{Borrow.Bor, Io.KnownBytes.Appends, List.{flat_map, join_with_byte}, Prelude.decimal}
+use Rattle.tracer.specs.{Gather.entries_in, Sinks.Outs, declared.writing.Piece.Piece}
 use Rattle.tracer.specs.{Pieces.{text_of, spaced, behind_comma}, Versions.version_of, TraceText.{text_line, numbered, message_text, head_pieces, count_pieces}}
 use Rattle.tracer.{specs.TraceText.{cap_pieces, entry_pieces, left_pieces, end_pieces, spelling, lines_of}, proofs.SinkLemmas.{appends_then, outs_then}}
 use Rattle.{tracer.proofs.SinkLemmas.outs_before, event_log.specs.{Messages.{Message, first_word}, declared.entries.Entry.Entry}}
@@ -87,22 +88,24 @@ numbered_failed line xs i d failed old mid new lt front e here =
     rw text (outs_then failed old mid new _ _ front (outs_before failed mid new (text_line (line i (get_or xs i d))) (flat_map text_line rest) e here))
 
 -- the text of a trace in the parts in which it is written
-pub spelling_parts : {V : Type 0} (items : V → List Message) (caps : List ℕ) (es : List Entry) (left : List V)
-    → spelling caps es (map items left) ≡ text_line (head_pieces (version_of es)) ++ (text_line (count_pieces (length caps))
-    ++ (flat_map text_line (numbered cap_pieces 0 caps)
-    ++ (flat_map (λ e. text_line (entry_pieces e)) es ++ (flat_map text_line (numbered (λ b v. left_pieces b (items v)) 0 left) ++ text_line end_pieces))))
+pub spelling_parts : {V : Type 0} (items : V → List Message) (caps : List ℕ) (places : List (Bor Entry)) (left : List V)
+    → spelling caps (entries_in places) (map items left) ≡ text_line (head_pieces (version_of (entries_in places)))
+    ++ (text_line (count_pieces (length caps)) ++ (flat_map text_line (numbered cap_pieces 0 caps) ++ (flat_map (λ e. text_line (entry_pieces e.now)) places
+    ++ (flat_map text_line (numbered (λ b v. left_pieces b (items v)) 0 left) ++ text_line end_pieces))))
 unfolding spelling lines_of
-spelling_parts items caps es left =
+spelling_parts items caps places left =
+    let es : List Entry = entries_in places in
     let last : flat_map text_line (numbered left_pieces 0 (map items left) ++ end_pieces ∷ [])
     ≡ flat_map text_line (numbered (λ b v. left_pieces b (items v)) 0 left) ++ text_line end_pieces =
     flat_map-append text_line (numbered left_pieces 0 (map items left)) (end_pieces ∷ [])
     ∙ ap (λ (t : List (List (List ℕ))). flat_map text_line t ++ text_line end_pieces) (numbered-map left_pieces items 0 left) in
     let middle : flat_map text_line (map entry_pieces es ++ (numbered left_pieces 0 (map items left) ++ end_pieces ∷ []))
-    ≡ flat_map (λ e. text_line (entry_pieces e)) es ++ (flat_map text_line (numbered (λ b v. left_pieces b (items v)) 0 left) ++ text_line end_pieces) =
+    ≡ flat_map (λ e. text_line (entry_pieces e.now)) places
+    ++ (flat_map text_line (numbered (λ b v. left_pieces b (items v)) 0 left) ++ text_line end_pieces) =
     flat_map-append text_line (map entry_pieces es) (numbered left_pieces 0 (map items left) ++ end_pieces ∷ [])
-    ∙ rw (flat_map-map text_line entry_pieces es, last) refl in
+    ∙ rw (flat_map-map text_line entry_pieces es, flat_map-map (λ e. text_line (entry_pieces e)) (λ (place : Bor Entry). place.now) places, last) refl in
     let front : flat_map text_line (numbered cap_pieces 0 caps ++ (map entry_pieces es ++ (numbered left_pieces 0 (map items left) ++ end_pieces ∷ [])))
-    ≡ flat_map text_line (numbered cap_pieces 0 caps)
-    ++ (flat_map (λ e. text_line (entry_pieces e)) es ++ (flat_map text_line (numbered (λ b v. left_pieces b (items v)) 0 left) ++ text_line end_pieces)) =
+    ≡ flat_map text_line (numbered cap_pieces 0 caps) ++ (flat_map (λ e. text_line (entry_pieces e.now)) places
+    ++ (flat_map text_line (numbered (λ b v. left_pieces b (items v)) 0 left) ++ text_line end_pieces)) =
     flat_map-append text_line (numbered cap_pieces 0 caps) _ ∙ ap (λ (t : List ℕ). flat_map text_line (numbered cap_pieces 0 caps) ++ t) middle in
     ap (λ (t : List ℕ). text_line (head_pieces (version_of es)) ++ (text_line (count_pieces (length caps)) ++ t)) front

@@ -1,11 +1,15 @@
 -- Which order of several traces is gathered.
-use Rattle.std.specs.Prelude.{◌≡◌, ◌<◌, ◌==◌, ℕ, List, [], ◌∷◌, ◌++◌, Option, Some, filter, map, Vec, slice_get, slice_index, slice_index_or, slice_set}
-use Rattle.std.specs.{Global.Global}
+use Rattle.std.specs.Prelude.{◌≡◌, ◌<◌, ◌==◌, ℕ, List, [], ◌∷◌, ◌++◌, Option, Some, filter, map, slice_get, slice_index, slice_index_or, slice_set}
+use Rattle.std.specs.Borrow.{Bor}
 use Rattle.event_log.specs.{Messages.Message, declared.entries.Entry.Entry, Runs.{count_of, IsRun}, Traces.{IsInterleaving, HasOpOrder}}
 
--- the traces that vectors hold
-abbrev pub traces_in : List (Vec Entry Global) → List (List Entry)
-traces_in vectors = map (λ trace. trace.items) vectors
+-- the traces that slices hold
+abbrev pub traces_in : List (Bor (List Entry)) → List (List Entry)
+traces_in slices = map (λ trace. trace.now) slices
+
+-- the entries that these point to
+abbrev pub entries_in : List (Bor Entry) → List Entry
+entries_in places = map (λ place. place.now) places
 
 -- a list that keeps every trace, in which the op numbers of each buffer are 0, 1, 2 and so on
 abbrev pub IsOrder : List (List Entry) → List Entry → Type 0

@@ -3,8 +3,8 @@
 ghost use Rattle.std.specs.Prelude.{◌≡◌, ◌<◌, ◌≤◌, ◌+◌, ℕ, List, length, map, sum_by, slice_get, slice_index, IfOk, IsErrOf, IsTrue, ◌↔◌, IfSome, [], IfNone};
 ghost use Rattle.{std.specs.Prelude.{option_map, vec_capacity}, event_log.specs.{declared.entries.Entry.Entry as AnEntry, Runs.count_of, Refusals.no_memory}};
 ghost use Rattle.tracer.specs.declared.gathering.GatherError.TheVariants as error;
-ghost use Rattle.tracer.specs.Gather.{IsOrder, TakesFirstReady, HasNoOrder, RunsHaveOrder, OrdersRunAlike, OrdersAgreeByBuffer, traces_in, next_entry, IsDue};
-ghost use Rattle.tracer.specs.Gather.{NoneDueBelow};
+ghost use Rattle.tracer.specs.Gather.{IsOrder, TakesFirstReady, HasNoOrder, RunsHaveOrder, OrdersRunAlike, OrdersAgreeByBuffer, traces_in, entries_in};
+ghost use Rattle.tracer.specs.Gather.{next_entry, IsDue, NoneDueBelow};
 
 use event_log::{BufId, Entry, NoMemory};
 use std::alloc::{AllocError, AllocFailed, Global};
@@ -46,9 +46,9 @@ const NAMES: usize = 256;
 ///
 /// Errors: `NoOrder` exactly where no such order exists; `NoMemory` where an allocation was
 /// refused. All memory is taken before the first entry is.
-pub fn gather(alloc: Global, traces: &[Vec<Entry>]) -> Result<Vec<Entry>, GatherError>
-    ensures order { IfOk result (λ out. IsOrder (traces_in traces.now) out.items) }
-    ensures greedy { IfOk result (λ out. TakesFirstReady (traces_in traces.now) out.items) }
+pub fn gather<'t>(alloc: Global, traces: &[&'t [Entry]]) -> Result<Vec<&'t Entry>, GatherError>
+    ensures order { IfOk result (λ out. IsOrder (traces_in traces.now) (entries_in out.items)) }
+    ensures greedy { IfOk result (λ out. TakesFirstReady (traces_in traces.now) (entries_in out.items)) }
     ensures none { IsErrOf result GatherError.NoOrder → HasNoOrder (traces_in traces.now) }
 {
     let (mut order, total) = room_for(alloc, traces)?;
@@ -66,23 +66,24 @@ pub fn gather(alloc: Global, traces: &[Vec<Entry>]) -> Result<Vec<Entry>, Gather
     }
 }
 
-/// An empty list with room for the entries of all traces, and how many these are. Each entry is laid
-/// down once, so that it is the allocator that refuses what there is no room for.
+/// An empty list with room for the entries of all traces, and how many these are. A sum past the
+/// largest `usize` is asked for as that, so that it is the allocator that refuses it.
 ///
 /// Errors: `AllocError` where an allocation was refused.
-fn room_for(alloc: Global, traces: &[Vec<Entry>]) -> Result<(Vec<Entry>, usize), AllocError>
+fn room_for<'t>(
+    alloc: Global,
+    traces: &[&'t [Entry]],
+) -> Result<(Vec<&'t Entry>, usize), AllocError>
     ensures empty { IfOk result (λ r. r.0.items ≡ []) }
-    ensures count { IfOk result (λ r. r.1 ≡ sum_by (λ trace. length trace.items) traces.now) }
+    ensures count { IfOk result (λ r. r.1 ≡ sum_by (λ trace. length trace.now) traces.now) }
     ensures room { IfOk result (λ r. r.1 ≤ vec_capacity r.0) }
 {
-    let mut entries = Vec::new(alloc);
+    let mut count = 0usize;
     for trace in traces {
-        entries.extend_from_slice(trace)?;
+        count = count.saturating_add(trace.len());
     }
-    let count = entries.len();
-    entries.clear();
-    entries.reserve(count)?;
-    Ok((entries, count))
+    let order = Vec::with_capacity(alloc, count)?;
+    Ok((order, count))
 }
 
 /// Where the count of a buffer stands.
@@ -103,21 +104,21 @@ fn is_due(counts: &[u64; NAMES], entry: &Entry) -> bool
 
 /// The first trace whose next entry has the op number that its buffer waits for, and that entry.
 /// `taken` says how many entries of each trace stand in the order, `counts` how many of each buffer.
-fn first_ready(
-    traces: &[Vec<Entry>],
+fn first_ready<'t>(
+    traces: &[&'t [Entry]],
     taken: &[usize],
     counts: &[u64; NAMES],
-) -> Option<(usize, Entry)>
+) -> Option<(usize, &'t Entry)>
     requires { length taken.now ≡ length traces.now }
-    ensures found { IfSome result (λ f. next_entry (traces_in traces.now) taken.now f.0 ≡ Some f.1) }
-    ensures due { IfSome result (λ f. IsDue counts.now f.1) }
+    ensures found { IfSome result (λ f. next_entry (traces_in traces.now) taken.now f.0 ≡ Some f.1.now) }
+    ensures due { IfSome result (λ f. IsDue counts.now f.1.now) }
     ensures first { IfSome result (λ f. NoneDueBelow (traces_in traces.now) taken.now counts.now f.0) }
     ensures none { IfNone result (NoneDueBelow (traces_in traces.now) taken.now counts.now (length traces.now)) }
 {
-    for (i, trace) in traces.iter().enumerate() {
+    for (i, &trace) in traces.iter().enumerate() {
         if let Some(entry) = trace.get(taken[i]) {
             if is_due(counts, entry) {
-                return Some((i, *entry));
+                return Some((i, entry));
             }
         }
     }

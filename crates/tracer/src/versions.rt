@@ -1,7 +1,8 @@
 //! The versions of the trace text. No call takes memory or waits.
 
 ghost use Rattle.std.specs.Prelude.{◌≡◌};
-ghost use Rattle.tracer.specs.{TraceText.version_word, Versions.{covers, both, version_of_kind, version_of_count, version_of_entry, version_of}};
+ghost use Rattle.tracer.specs.{Gather.entries_in, TraceText.version_word};
+ghost use Rattle.tracer.specs.Versions.{covers, both, version_of_kind, version_of_count, version_of_entry, version_of};
 
 use event_log::{Entry, Kind};
 
@@ -81,12 +82,12 @@ impl Version {
 }
 
 /// The lowest version that can spell these entries.
-pub fn version_of(entries: &[Entry]) -> Version
-    ensures { result ≡ version_of entries.now }
+pub fn version_of(entries: &[&Entry]) -> Version
+    ensures { result ≡ version_of (entries_in entries.now) }
 {
     let mut version = Version::One;
     for entry in entries {
-        version = version.both(Version::of_entry(entry));
+        version = version.both(Version::of_entry(*entry));
     }
     version
 }

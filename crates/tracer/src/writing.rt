@@ -4,7 +4,7 @@
 ghost use Rattle.std.specs.Prelude.{◌≡◌, ◌+◌, ◌*◌, ◌<◌, ◌≤◌, ◌++◌, ◌∷◌, [], length, map, drop, is_err, false, decimal, flat_map, codes};
 ghost use Rattle.{event_log.specs.declared.messages.TheConstants.WORDS, tracer.specs.{declared.writing.TheConstants.LINE, Sinks.{WentOut, has_failed}}};
 ghost use Rattle.tracer.specs.{Pieces.{text_of, spaced, behind_comma}, TraceText.{IsSpellable, spelling, text_line, head_pieces, entry_pieces, cap_pieces}};
-ghost use Rattle.tracer.specs.TraceText.{left_pieces, numbered, kind_word, value_piece, message_text};
+ghost use Rattle.tracer.specs.{Gather.entries_in, TraceText.{left_pieces, numbered, kind_word, value_piece, message_text}};
 
 use crate::sinks::{Sink, WriteFault};
 use crate::versions::{Version, version_of};
@@ -248,13 +248,13 @@ fn put_entry<W: Write>(sink: &mut Sink<W>, entry: &Entry) -> Result<(), WriteFau
 }
 
 /// The lines of the entries.
-fn put_entries<W: Write>(sink: &mut Sink<W>, entries: &[Entry]) -> Result<(), WriteFault>
+fn put_entries<W: Write>(sink: &mut Sink<W>, entries: &[&Entry]) -> Result<(), WriteFault>
     requires { has_failed sink.old ≡ false }
     ensures failed { is_err result ≡ has_failed sink.new }
-    ensures out { WentOut W.contents sink.old sink.new (flat_map (λ e. text_line (entry_pieces e)) entries.now) }
+    ensures out { WentOut W.contents sink.old sink.new (flat_map (λ e. text_line (entry_pieces e.now)) entries.now) }
 {
     for entry in entries {
-        put_entry(sink, entry)?;
+        put_entry(sink, *entry)?;
     }
     Ok(())
 }
@@ -288,13 +288,13 @@ fn put_left<W: Write>(
 pub fn write_trace<W: Write>(
     sink: &mut Sink<W>,
     caps: &[u8],
-    entries: &[Entry],
+    entries: &[&Entry],
     left: &[ArrayVec<Msg, CAPACITY>],
 ) -> Result<(), WriteFault>
     requires live { has_failed sink.old ≡ false }
-    requires spellable { IsSpellable caps.now entries.now (map (λ v. v.items) left.now) }
+    requires spellable { IsSpellable caps.now (entries_in entries.now) (map (λ v. v.items) left.now) }
     ensures failed { is_err result ≡ has_failed sink.new }
-    ensures out { WentOut W.contents sink.old sink.new (spelling caps.now entries.now (map (λ v. v.items) left.now)) }
+    ensures out { WentOut W.contents sink.old sink.new (spelling caps.now (entries_in entries.now) (map (λ v. v.items) left.now)) }
 {
     put_head(sink, version_of(entries))?;
     put_line(sink, b"buffers", &[Piece::Number(caps.len() as u64)], &[])?;

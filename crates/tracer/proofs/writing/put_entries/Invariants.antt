@@ -6,5 +6,5 @@ abbrev pub invariant-loop-entry : goal.invariant-loop-entry
 invariant-loop-entry g l = record {
   live : l.sink.failed ≡ false;
   out : Appends (g.W.Write.contents l.fn.sink.writer) (g.W.Write.contents l.sink.writer)
-      (flat_map (λ e. text_line (entry_pieces e)) (take l.entry-index l.entries));
+      (flat_map (λ e. text_line (entry_pieces e.now)) (take l.entry-index l.entries));
 }

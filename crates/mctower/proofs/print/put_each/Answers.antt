@@ -1,5 +1,5 @@
 use Rattle.{std.proofs.Common.sym, tracer.proofs.SinkLemmas.failed_in}
-use Rattle.mctower.proofs.print.put_all.Goals as goal
+use Rattle.mctower.proofs.print.put_each.Goals as goal
 
 pub returns-in_err-put-clause-out : goal.returns-in_err-put-clause-out
 returns-in_err-put-clause-out g c =

@@ -1,6 +1,6 @@
 use Rattle.std.{proofs.Common.{◌≡◌, take, false}, specs.{List.flat_map, Io.KnownBytes.Appends}}
 use Rattle.tracer.specs.Sinks.{has_failed, writer_of}
-use Rattle.mctower.proofs.print.put_all.Given as goal
+use Rattle.mctower.proofs.print.put_each.Given as goal
 
 -- the pieces before the index are out
 abbrev pub invariant-loop-piece : goal.invariant-loop-piece
