@@ -24,6 +24,7 @@ ROOT = os.path.dirname(os.path.dirname(os.path.realpath(__file__)))
 # One script a line. These only read the tree and what `rt ci` left, and write to folders of their own: they run side by side, the longest first.
 BESIDE = """
 tests/every-step.sh
+tests/layers.sh
 tests/third-lock.sh
 tests/look.py
 tests/book.py
@@ -44,6 +45,7 @@ tests/edge.sh
 tests/threads.sh
 tests/refuse.sh
 web/in_browser.py
+metal/test.py
 """
 SUM = re.compile(r"(\d+) passed, (\d+) failed")
 
