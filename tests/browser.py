@@ -14,8 +14,7 @@ import time
 NAMES = ("chromium", "chromium-browser", "google-chrome")
 OPTIONS = ("--headless=new", "--no-sandbox", "--disable-gpu", "--remote-debugging-pipe", "--disable-background-networking", "--disable-component-update",
            "--no-first-run", "--disable-sync", "--force-color-profile=srgb")
-KEY_NUMBERS = {"ArrowRight": 39, "ArrowLeft": 37, "ArrowDown": 40, "Home": 36, "End": 35, "PageUp": 33, "PageDown": 34,
-               "Backspace": 8, "Enter": 13, "Tab": 9, " ": 32}
+KEY_NUMBERS = {"ArrowRight": 39, "ArrowLeft": 37, "ArrowDown": 40, "Home": 36, "End": 35, "PageUp": 33, "PageDown": 34, "Backspace": 8, "Enter": 13, "Tab": 9, " ": 32}
 SHIFT = 8
 
 
@@ -42,8 +41,7 @@ class Browser:
         self.into, theirs_out = os.pipe()
         # the pipes get the numbers 3 and 4 in a shell, which then becomes the browser
         ends = f'exec "$0" "$@" 3<&{theirs_in} 4>&{theirs_out}'
-        options = [*OPTIONS, f"--window-size={width},{height}", f"--user-data-dir={self.room.name}"]
-        self.run = subprocess.Popen(["bash", "-c", ends, program, *options, "about:blank"],
+        self.run = subprocess.Popen(["bash", "-c", ends, program, *OPTIONS, f"--window-size={width},{height}", f"--user-data-dir={self.room.name}", "about:blank"],
                                     pass_fds=(theirs_in, theirs_out), stdin=subprocess.DEVNULL, stdout=subprocess.DEVNULL, stderr=subprocess.DEVNULL)
         os.close(theirs_in)
         os.close(theirs_out)
@@ -111,8 +109,7 @@ class Browser:
 
     def click(self, selector):
         """Clicks into the middle of what a selector names."""
-        box = f"const box = document.querySelector({json.dumps(selector)}).getBoundingClientRect()"
-        middle = f"(() => {{ {box}; return [box.x + box.width / 2, box.y + box.height / 2]; }})()"
+        middle = f"(() => {{ const box = document.querySelector({json.dumps(selector)}).getBoundingClientRect(); return [box.x + box.width / 2, box.y + box.height / 2]; }})()"
         self.click_at(*self.read(middle))
 
     def click_at(self, x, y):
