@@ -11,6 +11,7 @@ It links the object with metal/host in the place of an operating system and a C 
 processor time. A disk wants grub-mkrescue (Debian: grub-pc-bin, grub-efi-amd64-bin, xorriso, mtools).
 """
 import argparse
+import functools
 import shutil
 import subprocess
 import sys
@@ -45,10 +46,21 @@ def run(*words, **how):
         sys.exit(f"metal: {words[0]} ended with {status}")
 
 
+@functools.cache
+def kit_module():
+    """The kit's own module. It is loaded once, since each load starts a process that watches this one."""
+    return kit.load()
+
+
+def tool(name):
+    """A program of the kit's toolchain."""
+    return Path(kit_module().KIT, "toolchain/bin", name)
+
+
 def compiled(source, room):
     """Compiles a file of the host, or what is in the place of the program; returns its object."""
     made = room / f"{source.name}.o"
-    run(Path(kit.load().KIT, "toolchain/bin/clang"), *COMPILE, source, "-o", made)
+    run(tool("clang"), *COMPILE, source, "-o", made)
     return made
 
 
@@ -60,16 +72,15 @@ def linked(program, out, host=HOST):
         objects = [compiled(source, room) for source in sources]
         objects.append(compiled(program, room) if program.suffix == ".c" else program)
         out.parent.mkdir(exist_ok=True)
-        run(Path(kit.load().KIT, "toolchain/bin/ld.lld"), *LINK, "-T", host / "link.ld", "-o", out, *objects)
+        run(tool("ld.lld"), *LINK, "-T", host / "link.ld", "-o", out, *objects)
 
 
 def object_built(room):
     """Builds the program's object anew, over what is kept of the crates' checks."""
-    kit_module = kit.load()
-    program = next(crate for crate in kit_module.crates_below(str(ROOT)) if crate.name == "mctower")
+    program = next(crate for crate in kit_module().crates_below(str(ROOT)) if crate.name == "mctower")
     made = room / "mctower.o"
-    words = [*program.words(["--jobs", "1"]), "--toolchain", Path(kit_module.KIT, "toolchain"), "--backend", "llvm", *kit_module.KEPT, "-o", made]
-    run(kit_module.RATTLE, "build", *words, cwd=program.folder, stdout=subprocess.DEVNULL)
+    words = [*program.words(["--jobs", "1"]), "--toolchain", tool("clang").parent.parent, "--backend", "llvm", *kit_module().KEPT, "-o", made]
+    run(kit_module().RATTLE, "build", *words, cwd=program.folder, stdout=subprocess.DEVNULL)
     return made
 
 

@@ -3,7 +3,8 @@
 
     metal/test.py                   a part of each kind, in at most a minute of processor time: the gate's
     metal/test.py --all             all of each kind: some four minutes
-    metal/test.py --only KIND..     these kinds alone: plans random damaged lines count threads rows small host disk lesson
+    metal/test.py --only KIND..     these kinds alone: plans random damaged lines count threads rows small host disk
+                                    other lesson
     metal/test.py --image IMAGE     another image, as of the object of the kit's other compiler; --trial IMAGE: another trial
 
 Status, standard output and standard error are the native program's, byte by byte: of every stored plan with both locks, of random plans, damaged plans,
@@ -33,6 +34,7 @@ import damaged  # noqa: E402
 import random_plan  # noqa: E402
 
 NATIVE = ROOT / "crates/mctower/out/mctower"
+OTHER = ROOT / "crates/mctower/out/mctower.by-rattle.o"
 LESSON = ROOT / "docs/book/14-bare-processors.md"
 UEFI = Path("/usr/share/ovmf/OVMF.fd")
 MOST_TOLD, LONGEST_TOLD = 20, 2000
@@ -235,7 +237,7 @@ def small(held):
 
 TRIALS = [
     ("deep", 1, 7, b""), ("full", 1, 125, b"host: a full stack, number 14"), ("bad", 1, 125, b"host: an instruction that is none, number 6"),
-    ("zero", 1, 125, b"host: a division by 0, number 0"), ("place", 1, 125, b"host: a page fault, number 14"), ("memory", 1, 1, b""),
+    ("zero", 1, 125, b"host: a division by 0, number 0"), ("place", 1, 125, b"host: a page fault, number 14"), ("memory", 1, 1, b""), ("instruction", 1, 7, b""),
     ("wait", 1, 122, b"host: every thread waits\n"), ("absent", 2, 121, b"host: processors that came: 2 of 3\n"),
     *(("rounds", processors, 7, b"") for processors in (1, 2, 3, 4, 8)),
 ]
@@ -275,6 +277,19 @@ def disk(held):
         yield "threads by GRUB and UEFI", lambda: one(*table[0], ["-bios", UEFI])
 
 
+def other(held):
+    """The object of the kit's other compiler, where `rt ci` left it, gives the same, on as many processors as CPUs and on one."""
+    if not OTHER.exists():
+        print(f"metal: there is no {OTHER.relative_to(ROOT)}: `rt ci` leaves it")
+        return
+    image = build.OUT / "other.elf"
+    build.linked(OTHER, image)
+    theirs = Held(image, held.trial)
+    for made in (rows, plans, count, lines):
+        for name, case in made(theirs):
+            yield f"by the other compiler, {name}", case
+
+
 def lesson(held):
     """What the lesson shows comes. Its commands are lines `$ ..` of blocks marked `metal`."""
     del held
@@ -289,7 +304,7 @@ def lesson(held):
 
 # By kind, its cases, and of how many of them the gate's part is.
 KINDS = {"plans": (plans, 22), "random": (random_runs, 24), "damaged": (damaged_runs, 30), "lines": (lines, 24), "count": (count, 20), "threads": (threads, 30),
-         "rows": (rows, 12), "small": (small, 8), "host": (host, 13), "disk": (disk, 0), "lesson": (lesson, 9)}
+         "rows": (rows, 12), "small": (small, 8), "host": (host, 14), "disk": (disk, 0), "other": (other, 12), "lesson": (lesson, 9)}
 
 
 def part_of(cases, count):

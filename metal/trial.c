@@ -49,6 +49,20 @@ static void round_of_threads(void) {
 
 static void *nothing(void *of) { return of; }
 
+/* The instruction syscall: its answers, and that it leaves each register but rax, rcx and r11, and the red zone. */
+__attribute__((noinline)) static long instruction(long number, long value) {
+  register long r8 __asm__("r8") = 8, r9 __asm__("r9") = 9, r10 __asm__("r10") = 10;
+  long answer = number, rdx = value, rsi = WAIT, red;
+  double xmm = 1.5;
+  unsigned *rdi = &gate;
+  __asm__ volatile("movq $77, -8(%%rsp); syscall; movq -8(%%rsp), %6"
+                   : "+a"(answer), "+D"(rdi), "+S"(rsi), "+d"(rdx), "+r"(r8), "+r"(r9), "=&b"(red), "+r"(r10), "+x"(xmm)
+                   :
+                   : "rcx", "r11", "memory", "cc");
+  int is_kept = rdi == &gate && rsi == WAIT && rdx == value && r8 == 8 && r9 == 9 && r10 == 10 && red == 77 && xmm == 1.5;
+  return is_kept ? answer : 1;
+}
+
 /* A processor is called that no machine has. */
 static void absent(void) {
   size thread, none = 0;
@@ -67,6 +81,7 @@ int main(void) {
   case 'p': *(volatile byte *)0x7FFFFFFFF000 = 1; break;
   case 'a': absent(); break;
   case 'w': syscall(FUTEX, &gate, WAIT, 0); break;
+  case 'i': return instruction(FUTEX, 5) == -TRY_AGAIN && instruction(FUTEX + 1, 5) == -NO_CALL ? 7 : 8;
   case 'm':
     while (malloc(1 << 20)) kept++;
     return kept > 100;

@@ -81,6 +81,7 @@ def main():
         print("metal: no QEMU here: no fault was planted")
         return 0
     names = sorted(path.stem for path in WRONG.glob("*.edit")) if asked.all else asked.names or OF_GATE
+    build.kit_module()  # before any thread starts
     missed = 0
     for name in names:
         seen = tried(WRONG / f"{name}.edit")
