@@ -197,8 +197,8 @@ class Socket:
     def send(self, text):
         """Sends a text in one frame, masked as a client's has to be."""
         data, mask = text.encode(), os.urandom(4)
-        short = len(data) < 126
-        size = bytes([0x80 | len(data)]) if short else b"\xff" + len(data).to_bytes(8, "big")
+        many = 0 if len(data) < 126 else 2 if len(data) < 1 << 16 else 8  # bytes for the length: as few as do
+        size = bytes([0x80 | {0: len(data), 2: 126, 8: 127}[many]]) + (len(data).to_bytes(many, "big") if many else b"")
         self.line.sendall(b"\x81" + size + mask + bytes(byte ^ mask[i % 4] for i, byte in enumerate(data)))
 
     def take(self):
@@ -229,7 +229,7 @@ class Firefox(Page):
     name = "Firefox"
 
     def __init__(self, program, width=1280, height=720, is_dark=False):
-        self.room = tempfile.TemporaryDirectory()
+        self.room = tempfile.TemporaryDirectory(ignore_cleanup_errors=True)
         self.number, self.events = 0, []
         wishes = {**PREFERENCES, "layout.css.prefers-color-scheme.content-override": 0 if is_dark else 1}
         lines = [f"user_pref({json.dumps(name)}, {json.dumps(value)});\n" for name, value in wishes.items()]
@@ -237,6 +237,15 @@ class Firefox(Page):
         words = [program, "--headless", "--no-remote", "--profile", self.room.name, "--remote-debugging-port", "0"]
         self.run = subprocess.Popen(words, stdin=subprocess.DEVNULL, stdout=subprocess.DEVNULL, stderr=subprocess.PIPE,
                                     text=True, errors="replace", env={**os.environ, "HOME": self.room.name})
+        self.socket = None
+        try:
+            self.begin(width, height)
+        except (RuntimeError, OSError):
+            self.close()
+            raise
+
+    def begin(self, width, height):
+        """Gets a session, and the page of it."""
         self.socket = Socket(self.port())
         self.call("session.new", capabilities={})
         self.call("session.subscribe", events=["log.entryAdded", "network.beforeRequestSent"])
@@ -326,13 +335,13 @@ class Firefox(Page):
     def close(self):
         """Ends the browser."""
         try:
-            self.call("browser.close")
+            self.call("browser.close") if self.socket else self.run.kill()
         except (RuntimeError, OSError):
-            pass
+            self.run.kill()
         try:
             self.run.wait(20)
         except subprocess.TimeoutExpired:
             self.run.kill()
             self.run.wait()
         self.run.stderr.close()
-        self.room.cleanup()
+        self.room.cleanup()  # what Firefox started may still write there

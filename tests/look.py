@@ -30,7 +30,7 @@ import explore  # noqa: E402
 import record  # noqa: E402
 import states  # noqa: E402
 from kernel import WRONG, Kernel  # noqa: E402
-from laws import broken_in  # noqa: E402
+from laws import broken_in, has_grown  # noqa: E402
 from schedules import schedule_in, schedule_of, steps_of  # noqa: E402
 
 PLANS, ROWS = sorted((ROOT / "plans").glob("*.toml")), sorted((ROOT / "tests/rows").glob("*.toml"))
@@ -145,6 +145,14 @@ def mistakes(tally):
                     f"{mistake}: kernel.py does not break {laws} in step {len(steps)}")
         tally.holds(broken_after(plan, steps, None) == [], f"{mistake}: the whole kernel breaks a law after {schedule_of(steps)}")
     tally.keeps(KEPT / "mistakes.txt", "\n".join(lines) + "\n")
+
+
+def growths(tally):
+    """The order after a step is the order before it, and at most one call more at its end, of the CPU that stepped: here CPU 1."""
+    first, second, third = ((cpu, cpu, "send", 0, "7", op, op) for op, cpu in enumerate((0, 1, 1)))
+    for earlier, later, holds in (([], [], True), ([first], [first], True), ([first], [first, second], True), ([], [first], False),
+                                  ([second], [first, second], False), ([first], [first, second, third], False), ([first, second], [first], False)):
+        tally.holds(has_grown([earlier], [later], 1) == holds, f"CPU 1 from {len(earlier)} calls to {len(later)}")
 
 
 def broken_after(plan, steps, wrong):
@@ -328,7 +336,7 @@ def main():
         sys.exit(f"look: there is no program at {PROGRAM}: build it with tools/prove-all.py, or name one")
     told = pages(tally)
     words(tally, told)
-    for part in (page_size, markup, reports, mistakes, lessons, merged, false_program, threads, colours, browser):
+    for part in (page_size, markup, reports, mistakes, growths, lessons, merged, false_program, threads, colours, browser):
         part(tally)
     for fault in tally.faults:
         print("look:", fault)

@@ -18,19 +18,21 @@ from record import read_plan  # noqa: E402
 from states import States  # noqa: E402
 
 WHOLE = ("woken-from-afar", "two-senders", "receives-twice", "handed-over", "first-come")  # plans whose states are few, in the proved kernel
-SMALL = "woken-from-afar"  # in which each mistake is looked for
+SMALL = "plans/woken-from-afar"  # in which each mistake is looked for
+ROWS = (("tests/rows/words", "first-word-alone"), ("tests/rows/closed-with-an-item", "closed-before-empty"))  # what no lesson's run breaks
 MOST = 20_000
 
 
 def kernels():
     """The plans and the mistakes that are looked at."""
     lessons = json.loads((ROOT / "web/page/lessons.json").read_text(encoding="utf-8"))
-    return dict.fromkeys([(plan, None) for plan in WHOLE] + [(SMALL, mistake) for mistake in WRONG] + [(lesson["plan"], lesson["wrong"]) for lesson in lessons])
+    chosen = [(f"plans/{plan}", None) for plan in WHOLE] + [(SMALL, mistake) for mistake in WRONG] + [*ROWS]
+    return dict.fromkeys(chosen + [(f"plans/{lesson['plan']}", lesson["wrong"]) for lesson in lessons])
 
 
 def searched(name, wrong):
     """What a search of a plan's states finds."""
-    text, plan = read_plan(ROOT / f"plans/{name}.toml")
+    text, plan = read_plan(ROOT / f"{name}.toml")
     states, stuck = States(plan, wrong), States(plan, wrong)
     states.look(most=MOST)
     number = stuck.look(most=MOST, wanted=asked_for("deadlock", plan), has_laws=False)

@@ -222,11 +222,22 @@ function searches() {
   const scripts = sources(ROOT)('({ States, LAWS, planOf, askedFor, spelledSchedule })');
   const told = spawnSync('python3', [join(ROOT, 'web/searches.py')], { encoding: 'utf8', maxBuffer: 1 << 28 });
   if (told.status !== 0) throw new Error(`web/searches.py: ${told.stderr}`);
+  const broken = new Set();
   for (const line of told.stdout.trimEnd().split('\n')) {
     const wanted = JSON.parse(line), found = foundIn(wanted, scripts), [mine, theirs] = [found, wanted].map(one => key => JSON.stringify(one[key]));
     const other = Object.keys(found).find(key => mine(key) !== theirs(key)), words = `${other} is ${mine(other)}, and in plans/states.py ${theirs(other)}`;
     is(`the search of ${wanted.plan}, mistake ${wanted.wrong}: ${words}`, other === undefined);
+    for (const [law] of found.broken) broken.add(law);
   }
+  for (const law of scripts.LAWS.keys()) is(`no mistake breaks the law "${law}"`, broken.has(law));
+}
+
+// The order after a step is the order before it, and at most one call more at its end, of the CPU that stepped.
+function growths() {
+  const hasGrown = sources(ROOT)('hasGrown'), [first, second, third] = [0, 1, 1].map((cpu, op) => [cpu, cpu, 'send', 0, '7', op, op]);
+  const cases = [[[], [], true], [[first], [first], true], [[first], [first, second], true], [[], [first], false], [[second], [first, second], false],
+    [[first], [first, second, third], false], [[first, second], [first], false], [[first], [second], false]];
+  for (const [earlier, later, holds] of cases) is(`CPU 1 from ${earlier.length} calls to ${later.length}`, hasGrown([earlier], [later], 1) === holds);
 }
 
 // The page's schedule in rounds is that of plans/kernel.py.
@@ -257,6 +268,7 @@ async function main() {
     held.lessonRuns();
     modelCells();
     searches();
+    growths();
     rounds(held);
   } finally {
     rmSync(folder, { recursive: true });
