@@ -4,7 +4,7 @@
 #
 #   tests/rows.sh [SHARES]
 #
-# The cases are parted into shares, each with a build of its own, which run side by side: as many as there are processors, and at most four, unless
+# The cases are parted into shares, each with a build of its own of 1 GB, which run side by side: as many as there are processors, at most four, unless
 # SHARES says another number. The last line is 'rows: N passed, M failed'.
 if [ "${1:-}" = --help ]; then sed -n '2,/^[^#]/ s/^# \{0,1\}//p' "$0"; exit; fi
 set -u
