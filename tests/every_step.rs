@@ -58,13 +58,14 @@ fn last_cpu(beginning: &str) -> Option<&str> {
     beginning.rsplit(',').next()?.split('*').next()
 }
 
-/// Whether a text has what the text one step before had, and the call that took effect in between.
+/// Whether a text has what the text one step before had, and behind it the call that took effect in between, which is new and of the
+/// step's CPU.
 fn goes_on(before: &BTreeSet<String>, after: &BTreeSet<String>, effect: &str, beginning: &str) -> bool {
-    let mut wanted = before.clone();
-    if !effect.is_empty() {
-        wanted.insert(effect.to_string());
+    if effect.is_empty() {
+        return after == before;
     }
-    *after == wanted && (effect.is_empty() || effect.split(' ').nth(1) == last_cpu(beginning))
+    let more: Vec<&String> = after.difference(before).collect();
+    before.is_subset(after) && more == [effect] && effect.split(' ').nth(1) == last_cpu(beginning)
 }
 
 /// How many states of a plan's run were compared, and how many were equal.
