@@ -1,8 +1,9 @@
 #!/usr/bin/env bash
 # Holds each build of mctower against tests/plain_tower.rs, a plain program of the step table, after every step: over the plans of
 # plans/ and tests/rows/ with either lock, and over 200 random ones of at most 200 steps (the same ones each time), every other of
-# which names ticket locks. Each text must get a yes of `check`. Then runs 50 random plans until they are quiet, and looks whether
-# anybody could go on. .ci/run calls it after rt ci.
+# which names ticket locks. From step to step the order of the calls has to go on as there, by at most one of the CPU that stepped.
+# Each text must get a yes of `check`. Then runs 50 random plans until they are quiet, and looks whether anybody could go on.
+# .ci/run calls it after rt ci.
 #
 #   tests/every-step.sh [PROGRAM..]
 #

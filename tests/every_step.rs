@@ -1,12 +1,15 @@
 //! Holds `mctower` against the plain program of the step table after every step: runs each plan
 //! under every beginning of its schedule, and compares trace text, state lines and status with what
-//! `plain_tower` prints after as many steps; and asks `mctower check` for a yes to each text.
+//! `plain_tower` prints after as many steps; and asks `mctower check` for a yes to each text. From text
+//! to text the order of the calls has to go on as the plain program's: by the call that took effect in
+//! that step, which is of the CPU that stepped, or by none.
 //!
 //! every_step MCTOWER PLAIN_TOWER PLAN..
 //!
 //! A plan's schedule stands in the command of its first lines. The last line says how many states
 //! were compared and how many were equal; the status is 1 where not all were.
 
+use std::collections::BTreeSet;
 use std::fs::{File, read_to_string};
 use std::io::Write;
 use std::process::{Command, Output, Stdio};
@@ -44,6 +47,27 @@ fn is_yes(program: &str, text: &[u8]) -> bool {
     check.wait_with_output().is_ok_and(|output| output.status.success() && output.stdout == b"yes\n")
 }
 
+/// The entries of a trace text.
+fn entries(text: &[u8]) -> BTreeSet<String> {
+    let text = String::from_utf8_lossy(text);
+    text.lines().filter(|line| line.starts_with("e ")).map(String::from).collect()
+}
+
+/// The CPU of the last step of a schedule's beginning.
+fn last_cpu(beginning: &str) -> Option<&str> {
+    beginning.rsplit(',').next()?.split('*').next()
+}
+
+/// Whether a text has what the text one step before had, and behind it the call that took effect in between, which is new and of the
+/// step's CPU.
+fn goes_on(before: &BTreeSet<String>, after: &BTreeSet<String>, effect: &str, beginning: &str) -> bool {
+    if effect.is_empty() {
+        return after == before;
+    }
+    let more: Vec<&String> = after.difference(before).collect();
+    before.is_subset(after) && more == [effect] && effect.split(' ').nth(1) == last_cpu(beginning)
+}
+
 /// How many states of a plan's run were compared, and how many were equal.
 fn compare(program: &str, plain: &str, plan: &str) -> (usize, usize) {
     let text = read_to_string(plan).unwrap();
@@ -51,14 +75,18 @@ fn compare(program: &str, plain: &str, plan: &str) -> (usize, usize) {
     let wanted = Command::new(plain).args([schedule, "each"]).stdin(File::open(plan).unwrap()).output().unwrap();
     let mut wanted = std::str::from_utf8(&wanted.stdout).unwrap();
     let (mut compared, mut equal) = (0, 0);
+    let mut before = BTreeSet::new();
     for (taken, beginning) in beginnings(schedule).iter().enumerate() {
-        let end = format!("after {taken}\n");
-        let (state, rest) = wanted.split_once(&end).expect("a state after each step");
+        let (state, rest) = wanted.split_once(&format!("after {taken}")).expect("a state after each step");
+        let (effect, rest) = rest.split_once('\n').expect("a line behind each state");
         wanted = rest;
         compared += 1;
         let output = run(program, plan, beginning);
         let printed = [output.stdout.as_slice(), &output.stderr].concat();
-        if output.status.success() && printed == state.as_bytes() && is_yes(program, &output.stdout) {
+        let after = entries(&output.stdout);
+        let in_order = goes_on(&before, &after, effect.trim(), beginning);
+        before = after;
+        if output.status.success() && printed == state.as_bytes() && in_order && is_yes(program, &output.stdout) {
             equal += 1;
         } else {
             eprintln!("{plan} differs after {taken} steps");

@@ -2,7 +2,8 @@
 //! with: the same sections, the same trace text and state lines, no contracts, flat tables. With
 //! `log` it also stores each atomic event in a log of fixed room, as the machine of `mctower` does.
 //! With `each` it prints text and states after each step from none on, all on standard output, and
-//! behind each of them a line `after N`. Built with `--cfg stretch` it takes a look that misses for
+//! behind each of them a line `after N`, which goes on with the entry of the call that took effect in
+//! that step, if one did. Built with `--cfg stretch` it takes a look that misses for
 //! all steps of its CPU that follow, since nobody else acts between them.
 //!
 //! plain_tower SCHEDULE [log] < plan > trace 2> states
@@ -260,6 +261,11 @@ impl<const LOGS: bool> Kernel<LOGS> {
         step_table::write_trace(&traces, &self.buffers, out)
     }
 
+    fn write_all(&self, out: &mut impl Write) -> std::io::Result<()> {
+        self.write_trace(out)?;
+        self.write_states(out)
+    }
+
     fn write_states(&self, out: &mut impl Write) -> std::io::Result<()> {
         for c in 0..self.cpus.len() {
             writeln!(out, "cpu {c} {}", self.halted(c).unwrap_or("live"))?;
@@ -332,12 +338,17 @@ fn run_each(plan: &str, schedule: &str) -> std::io::Result<()> {
     let mut out = std::io::BufWriter::new(std::io::stdout().lock());
     let mut kernel: Kernel<false> = boot(plan, 0);
     let steps = steps(schedule);
-    for taken in 0..=steps.len() {
-        kernel.write_trace(&mut out)?;
-        kernel.write_states(&mut out)?;
-        writeln!(out, "after {taken}")?;
-        if let Some(&c) = steps.get(taken) {
-            kernel.step(usize::from(c));
+    kernel.write_all(&mut out)?;
+    writeln!(out, "after 0")?;
+    for (taken, &c) in steps.iter().enumerate() {
+        let c = usize::from(c);
+        let known = kernel.cpus[c].trace.len();
+        kernel.step(c);
+        kernel.write_all(&mut out)?;
+        write!(out, "after {} ", taken + 1)?;
+        match kernel.cpus[c].trace.get(known) {
+            Some(entry) => step_table::write_entry(entry, &mut out)?,
+            None => writeln!(out)?,
         }
     }
     out.flush()

@@ -415,7 +415,8 @@ fn gather(traces: &[&[Entry]], buffers: usize) -> Vec<Entry> {
     order
 }
 
-fn write_entry(e: &Entry, out: &mut impl Write) -> std::io::Result<()> {
+/// Writes the line of an entry.
+pub fn write_entry(e: &Entry, out: &mut impl Write) -> std::io::Result<()> {
     write!(out, "e {} {} ", e.cpu, e.thread)?;
     match e.kind {
         Kind::Send => write!(out, "send {} {}", e.buffer, e.message)?,

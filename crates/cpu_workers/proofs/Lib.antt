@@ -7,6 +7,7 @@ pub mod Lasting
 pub mod OneOrder
 pub mod ClosedLog
 pub mod Reporting
+pub mod Scheduled
 pub mod Seated
 pub mod SeatViews
 pub mod Observed

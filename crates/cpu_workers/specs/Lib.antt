@@ -6,6 +6,7 @@ pub mod Idling
 pub mod Tasks
 pub mod Laws
 pub mod Lawful
+pub mod ReportRuns
 pub mod Closing
 pub mod Seating
 pub mod Logs

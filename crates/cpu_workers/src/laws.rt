@@ -1,7 +1,7 @@
 //! What holds of workers that run at one table. Each law is the contract of a function that does
 //! nothing, so that the law is proved with the crate.
 
-ghost use Rattle.cpu_workers.specs.{Closing.ReportsAreLawful, Laws.ActionsLetOrderGoOn, Laws.StopsAreTrue, Laws.WorkersLoseNoWakeUp};
+ghost use Rattle.cpu_workers.specs.{Closing.ReportsAreLawful, Laws.ActionsLetOrderGoOn, Laws.StopsAreTrue, Laws.WorkersLoseNoWakeUp, ReportRuns.ReportsAreRuns};
 
 use crate::workers::Gate;
 
@@ -33,6 +33,15 @@ pub fn stops_are_true()
 /// are true, and no wake-up is lost in the blocks.
 pub fn reports_are_lawful<G: Gate>(gate: &G)
     ensures { ReportsAreLawful (G.MayAnswer gate.now) }
+{
+    let _ = gate;
+}
+
+/// A lawful report is that of a run: under some schedule the step table's system has the same traces,
+/// its CPUs stand as the report tells, and its buffers and queues are what the report tells. So what
+/// holds of each run of the table holds of what threads did.
+pub fn reports_are_runs<G: Gate>(gate: &G)
+    ensures { ReportsAreRuns (G.MayAnswer gate.now) }
 {
     let _ = gate;
 }

@@ -1,6 +1,7 @@
 pub mod SinkLemmas
 pub mod LineLemmas
 pub mod OrderLemmas
+pub mod TakenLemmas
 pub mod GatherLemmas
 pub mod CutLemmas
 pub mod PieceLemmas

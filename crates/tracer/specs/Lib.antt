@@ -3,6 +3,7 @@ pub mod TraceText
 pub mod Sinks
 pub mod Pieces
 pub mod Gather
+pub mod OneOrder
 pub mod Judging
 pub mod Lines
 pub mod Tallies

@@ -47,6 +47,9 @@ fn each_law_of_systems_can_be_called(_rt: HostRuntime) {
     cpu::systems_keep_order();
     cpu::systems_lose_no_wake_up();
     cpu::cpus_lose_no_wake_up();
+    cpu::linear_runs_keep_real_time();
+    cpu::work_is_a_run();
+    tracer::one_order_is_taken();
 }
 
 #[test]

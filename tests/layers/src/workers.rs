@@ -2,8 +2,8 @@
 
 use boot::Boot;
 use cpu_workers::{
-    Gate, Go, OpenGate, Report, Stop, reports_are_lawful, run_workers, stops_are_true,
-    workers_lose_no_wake_up,
+    Gate, Go, OpenGate, Report, Stop, reports_are_lawful, reports_are_runs, run_workers,
+    stops_are_true, workers_lose_no_wake_up,
 };
 use event_log::{BufId, CpuId, Entry, Msg};
 use std::process::Abort;
@@ -308,6 +308,7 @@ fn an_open_gate_lets_every_turn_pass(rt: HostRuntime) {
 #[test]
 fn each_law_of_workers_can_be_called(_rt: HostRuntime) {
     reports_are_lawful(&OpenGate);
+    reports_are_runs(&OpenGate);
     stops_are_true();
     workers_lose_no_wake_up();
 }

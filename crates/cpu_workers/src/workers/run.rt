@@ -4,7 +4,7 @@
 ghost use Rattle.std.specs.Prelude.{◌≡◌, ◌≤◌, [], IfOk, All, length, map, vec_capacity};
 ghost use Rattle.{layer_traits.specs.OneLock.{AreDistinct, opened}, table_machine.specs.SeatViews.{Closes, Covers, IsOf, IsOver, new_seat_views}};
 ghost use Rattle.boot.specs.declared.locks.LockKind.TheVariants as kind;
-ghost use Rattle.{boot.specs.Plan.IsPlan, cpu.specs.Sound.setup_for, cpu_workers.specs.{Closing.{shown, tower_rules}, Lawful.IsLawfulReport, Logs.HasWords}};
+ghost use Rattle.{boot.specs.Plan.IsPlan, cpu.specs.Sound.setup_for, cpu_workers.specs.{Closing.{shown, tower_rules}, Lawful.IsLawfulReport, Logs.HasWords, ReportRuns.IsReportOfRun}};
 ghost use Rattle.cpu_workers.specs.Seating.{HaveLeft, OpensPlan};
 
 use crate::plan_words::PlanWords;
@@ -208,6 +208,8 @@ fn run_words<K: PlanWords + Sync, G: Gate + Sync, R: Threads + Wait + Sync>(
         (shown (map (λ t. t.items) r.traces.items) r.taken.items r.stops.items r.blocks.items)) }
     ensures words { IfOk result (λ r. HasWords boot.now (G.MayAnswer gate.now) turns
         (shown (map (λ t. t.items) r.traces.items) r.taken.items r.stops.items r.blocks.items)) }
+    ensures is_run { IfOk result (λ r. IsReportOfRun (setup_for boot.now) (G.MayAnswer gate.now) turns
+        (shown (map (λ t. t.items) r.traces.items) r.taken.items r.stops.items r.blocks.items)) }
     ensures lock { IfOk result (λ r. r.lock ≡ boot.now.lock) }
 {
     let open = table_of::<K>(alloc, boot)?;
@@ -229,6 +231,8 @@ fn run_waiters<G: Gate + Sync, R: Threads + Wait + Sync>(
         (shown (map (λ t. t.items) r.traces.items) r.taken.items r.stops.items r.blocks.items)) }
     ensures words { IfOk result (λ r. HasWords boot.now (G.MayAnswer gate.now) turns
         (shown (map (λ t. t.items) r.traces.items) r.taken.items r.stops.items r.blocks.items)) }
+    ensures is_run { IfOk result (λ r. IsReportOfRun (setup_for boot.now) (G.MayAnswer gate.now) turns
+        (shown (map (λ t. t.items) r.traces.items) r.taken.items r.stops.items r.blocks.items)) }
     ensures lock { IfOk result (λ r. r.lock ≡ boot.now.lock) }
 {
     let open = table_of::<WaiterWords>(alloc, boot)?;
@@ -248,6 +252,7 @@ fn run_waiters<G: Gate + Sync, R: Threads + Wait + Sync>(
 ///
 /// The report is lawful by the plan's step table. The list of actions by which it is, and the order of
 /// its traces, are those of one words log, which is legal over the locks as the plan opens them.
+/// Under some schedule the step table's system leaves just what the report tells.
 ///
 /// It waits for its workers, so it need not return. All memory is taken and all workers are known to
 /// have started before any step is taken.
@@ -264,6 +269,9 @@ pub fn run_workers<G: Gate + Sync, R: Threads + Wait + Sync>(
     ensures lawful { IfOk result (λ r. IsLawfulReport (setup_for boot.now) (G.MayAnswer gate.now) turns
         (shown (map (λ t. t.items) r.traces.items) r.taken.items r.stops.items r.blocks.items)) }
     ensures words { IfOk result (λ r. HasWords boot.now (G.MayAnswer gate.now) turns
+        (shown (map (λ t. t.items) r.traces.items) r.taken.items r.stops.items r.blocks.items)) }
+    // What the threads did, the step table's system does under some schedule.
+    ensures is_run { IfOk result (λ r. IsReportOfRun (setup_for boot.now) (G.MayAnswer gate.now) turns
         (shown (map (λ t. t.items) r.traces.items) r.taken.items r.stops.items r.blocks.items)) }
     ensures lock { IfOk result (λ r. r.lock ≡ boot.now.lock) }
 {

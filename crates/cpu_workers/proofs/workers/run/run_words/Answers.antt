@@ -1,4 +1,4 @@
-use Rattle.{std.proofs.Common.{map, ap, sym, ◌∙◌}, cpu_workers.proofs.{Observed.words_so, SeatViews.workers_back, TableKeys.{all_covered, all_over}}}
+use Rattle.{std.proofs.Common.{map, ap, sym, ◌∙◌}, cpu_workers.proofs.{Observed.words_so, Scheduled.is_run, SeatViews.workers_back, TableKeys.{all_covered, all_over}}}
 use Rattle.cpu_workers.proofs.workers.run.run_words.Goals as goal
 
 pub closed-requires-clause-covers : goal.closed-requires-clause-covers
@@ -13,4 +13,9 @@ returns g c =
     let e = c.closed.ensures in
     let it = words_so told.plan told.cpus told.opens c.in_ok-back.ensures e.closes (ap (λ v. map (λ t. t.items) v.items) e.traces) (ap (λ v. v.items) e.taken)
     (ap (λ v. v.items) e.stops) in
-    record { lawful = it.tells.report; words = it; lock = e.lock ∙ sym c.requires.lock }
+    record {
+      lawful = it.tells.report;
+      words = it;
+      is_run = is_run _ _ _ _ it.tells.report;
+      lock = e.lock ∙ sym c.requires.lock;
+    }

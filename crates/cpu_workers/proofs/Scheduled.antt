@@ -1,0 +1,95 @@
+-- From a lawful report to a schedule under which the step table's system does the same.
+use Rattle.std.proofs.Common.{◌≡◌, ◌⊎◌, inl, inr, ℕ, suc, ◌<◌, ◌≤◌, List, [], ◌∷◌, All, length, map, Some, option_map, refl, ap, sym, ◌∙◌, arith}
+use Rattle.std.{proofs.lemmas.{Bool.cases_lt, List.length-map, Option.{slice_get_past, slice_get-map}}, specs.Prelude.slice_get}
+use Rattle.event_log.specs.{declared.{ids.{CpuId.CpuId, LockId.TheVariants.{Pending, Buffer as AtBuffer}}}, Actions.{Action, phase}}
+use Rattle.{layer_traits.specs.{OnePlace.cpu_at, Plans.is_in_section}, cpu.specs.{Sound.after_steps, Wakeups.{Lost.IsWorked, Merged.IsRunOfTable}}}
+use Rattle.cpu.specs.Table.{Blocks.Name, Setups.{Private, Setup}, Steps.{IsReached, Whole, block_at, boots, steps, system_step, whole_at_boot}}
+use Rattle.cpu.proofs.Wakeups.Merging.{work_is_a_run}
+use Rattle.cpu_workers.{proofs.Joining.{all_head, all_tail}, specs.declared.workers.gates.Go.Go}
+use Rattle.cpu_workers.specs.{Lawful.{AreLeft, CpuReport, IsCpuReportOf, IsLawfulReport, Shown}, ReportRuns.{IsReportOfRun, ReportsAreRuns, StandsAsTold, run_by}}
+
+-- two lists that read alike are one
+same_list : {X : Type 0} (xs ys : List X) → ((k : ℕ) → slice_get xs k ≡ slice_get ys k) → xs ≡ ys
+same_list [] [] each = refl
+same_list [] (y ∷ ys) each = absurd (cc (each 0))
+same_list (x ∷ xs) [] each = absurd (cc (each 0))
+same_list (x ∷ xs) (y ∷ ys) each =
+    let here : x ≡ y = (cc (each 0)) in
+    let more = same_list xs ys (λ k. each (suc k)) in
+    λ i. here i ∷ more i
+
+-- steps of a setup's CPUs lead on to states that it reaches
+reached_after : (setup : Setup) (room : ℕ) (schedule : List CpuId) (s : Whole) → All (λ c. c.0 < setup.cpus) schedule → IsReached setup room s
+    → IsReached setup room (after_steps setup schedule s)
+reached_after setup room [] s known reached = reached
+reached_after setup room (c ∷ schedule) s known reached =
+    reached_after setup room schedule (system_step setup c s).next (all_tail (λ d. d.0 < setup.cpus) (c ∷ schedule) schedule c refl known)
+    (steps c reached (all_head (λ d. d.0 < setup.cpus) (c ∷ schedule) schedule c refl known))
+
+module _ (setup : Setup) (May : CpuId → Go → ℕ → Type 0) (turns : ℕ) (r : Shown) (lawful : IsLawfulReport setup May turns r) where
+  abbrev worked : IsWorked setup lawful.log
+  worked = record {
+    ran = λ c below. let one = lawful.gone c below in record { count = one.2.took.count; last = one.2.last; steps = one.2.took.steps };
+    rest = lawful.rest;
+  }
+
+  abbrev run : IsRunOfTable setup lawful.log worked
+  run = work_is_a_run setup lawful.log worked
+
+  abbrev whole : Whole
+  whole = run_by setup run.steps
+
+  enough : length run.steps ≤ length run.steps
+  enough = omega arith
+
+  log_is : whole.log ≡ lawful.log
+  log_is = run.log_is (length run.steps) enough
+
+  traces_long : length (map (λ (p : Private). p.trace) whole.cpus) ≡ setup.cpus
+  traces_long = length-map whole.cpus _ ∙ run.many (length run.steps) enough
+
+  read_alike : (k : ℕ) → (k < setup.cpus) ⊎ (setup.cpus ≤ k) → slice_get r.traces k ≡ slice_get (map (λ (p : Private). p.trace) whole.cpus) k
+  read_alike k (inl below) =
+      let at = run.cpus_are (length run.steps) enough (cpu_at k) below in
+      let one = lawful.gone (cpu_at k) at.0 in
+      one.1.trace ∙ ap Some one.2.trace_is
+      ∙ sym (slice_get-map (λ (p : Private). p.trace) whole.cpus k ∙ ap (λ o. option_map (λ (p : Private). p.trace) o) at.1)
+  read_alike k (inr beyond) =
+      let count = lawful.report.traces_count in
+      slice_get_past r.traces k (omega (arith, beyond, count))
+      ∙ sym (slice_get_past (map (λ (p : Private). p.trace) whole.cpus) k (omega (arith, beyond, traces_long)))
+
+  stands : (c : CpuId) → c.0 < setup.cpus → (line : CpuReport) × IsCpuReportOf r c line × StandsAsTold setup (May c) turns whole c line
+  stands c below =
+      let at = run.cpus_are (length run.steps) enough c below in
+      let one = lawful.gone c at.0 in (
+        one.0,
+        one.1,
+        record {
+          private = one.2.last;
+          at = at.1;
+          trace = one.2.trace_is;
+          rests = ap (λ (l : List (Action Name)). is_in_section (phase c l)) log_is ∙ one.2.rests;
+          stop = one.2.stop_is;
+        },
+      )
+
+  left : AreLeft setup whole.log r
+  left = record {
+    buffers = λ b. lawful.left.buffers b ∙ ap (block_at setup (AtBuffer b)) (sym log_is);
+    queues = λ c below. lawful.left.queues c below ∙ ap (block_at setup (Pending c)) (sym log_is);
+  }
+
+  pub is_run : IsReportOfRun setup May turns r
+  is_run = record {
+    schedule = run.steps;
+    known = run.known;
+    taken = run.taken_is (length run.steps) enough;
+    reached = reached_after setup (length run.steps) run.steps (whole_at_boot setup (length run.steps)) run.known boots;
+    traces = same_list r.traces (map (λ (p : Private). p.trace) whole.cpus) (λ k. read_alike k (cases_lt k setup.cpus));
+    stands = stands;
+    left = left;
+  }
+
+pub reports_are_runs : (May : CpuId → Go → ℕ → Type 0) → ReportsAreRuns May
+reports_are_runs May setup turns r lawful = is_run setup May turns r lawful
