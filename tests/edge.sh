@@ -432,8 +432,12 @@ fi
 # The prover lets a function wait that is given the trait for it. Workers and the program are, and none of the crates beneath: no layer waits.
 source_row 'who names Wait, Mutex or Condvar' $'cpu_workers\nmctower' "$(waiting)"
 source_row 'what each error says of itself' "$named" "$(errors)"
-# A start is told as refused (`NoThread`) only where one was: its refusal is named in the pool of threads, and where it becomes that evidence.
-source_row 'who names a refused start' $'crates/cpu_workers/src/pool.rt\ncrates/cpu_workers/src/refusals.rt' "$(grep -rlw --include='*.rt' SpawnError crates/*/src | sort)"
+# A start is told as refused (`NoThread`) only where one was: its refusal is named where a thread is started, and becomes that evidence there.
+source_row 'who names a refused start' crates/cpu_workers/src/own_threads.rt "$(grep -rlw --include='*.rt' SpawnError crates/*/src | sort)"
+# Threads wait at their start by the library's wait group, in the crate of the workers alone.
+source_row 'who stands on crossbeam_utils' cpu_workers "$(sed -n 's/^\([a-z_]*\):.*\<crossbeam_utils\>.*/\1/p' crates.txt)"
+# The kind of the locks behind which an owned machine counted is named by one impl, which takes it from the locks' words.
+source_row 'who names the kind of a lock that counts' crates/mctower/src/locks.rt "$(grep -rE --include='*.rt' '^impl.*\<LockOfKind<' crates/*/src | cut -d: -f1)"
 # Who says NoMemory was refused memory: the type is made from the allocator's refusal alone. Such a refusal is made up at three places, where a library of the kit
 # tells of it without a value: toml's parser by a flag, clap and readers by a kind of error, and the table of atomic words by a type of its own.
 source_row 'who makes up a refused allocation' $'boot/src/plans.rt\nmctower/src/memory.rt\ntable_machine/src/open.rt' "$(made_up crates)"

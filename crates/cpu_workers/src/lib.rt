@@ -16,6 +16,7 @@
 pub mod counting;
 mod laws;
 mod natives;
+mod own_threads;
 mod pauses;
 mod plan_words;
 mod pool;
@@ -26,8 +27,9 @@ pub use laws::{
     actions_let_order_go_on, reports_are_lawful, stops_are_true, workers_lose_no_wake_up,
 };
 pub use natives::{Native, NativeReport, run_native};
+pub use own_threads::{Joined, NoThread};
 pub use plan_words::PlanWords;
-pub use refusals::{NoThread, WorkerError};
+pub use refusals::WorkerError;
 pub use workers::{
     Caller, Came, Closed, Did, Gate, Go, MOST_CALLS, OpenGate, Report, Stop, Worker, call,
     run_workers, work, work_all,

@@ -13,4 +13,4 @@ returns g c =
     let e = c.closed.ensures in
     let it = words_so told.plan told.cpus told.opens c.in_ok-back.ensures e.closes (ap (λ v. map (λ t. t.items) v.items) e.traces) (ap (λ v. v.items) e.taken)
     (ap (λ v. v.items) e.stops) in
-    record { lawful = it.tells.report; words = it; lock = e.lock ∙ sym c.requires.lock }
+    record { lawful = it.tells.report; words = it; lock = e.lock ∙ sym c.requires.lock; closed = e.closed }
