@@ -490,10 +490,9 @@ fi
 # The prover lets a function wait that is given the trait for it. Workers and the program are, and none of the crates beneath: no layer waits.
 source_row 'who names Wait, Mutex or Condvar' $'cpu_workers\nmctower' "$(waiting)"
 source_row 'what each error says of itself' "$named" "$(errors)"
-# A start is told as refused (`NoThread`) only where one was: its refusal is named in the pool of threads, and where it becomes that evidence. Anyone can write
+# A start is told as refused (`NoThread`) only where one was: its refusal is named where a thread is started, and becomes that evidence there. Anyone can write
 # the kit's type, and nobody does.
-source_row 'who names a refused start' $'crates/cpu_workers/src/pool.rt\ncrates/cpu_workers/src/refusals.rt' \
-  "$(grep -rlw --include='*.rt' SpawnError crates/*/src | sort)"
+source_row 'who names a refused start' crates/cpu_workers/src/own_threads.rt "$(grep -rlw --include='*.rt' SpawnError crates/*/src | sort)"
 source_row 'who makes up a refused start' '' "$(made_up crates SpawnError)"
 # Who says NoMemory was refused memory: the type is made from the allocator's refusal alone. Such a refusal is made up at three places, where a library of
 # the kit tells of it without a value: toml's parser by a flag, clap and readers by a kind of error, and the table of atomic words by a type of its own.

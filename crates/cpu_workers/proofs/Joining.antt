@@ -1,6 +1,6 @@
 -- Lists whose elements belong together, and loops over them.
 use Rattle.std.proofs.Common.{◌≡◌, ℕ, zero, suc, ◌+◌, ◌<◌, ◌≤◌, List, [], ◌∷◌, ◌++◌, length, map, All, refl, ap, sym, ◌∙◌, subst, length-append, arith}
-use Rattle.std.{proofs.lemmas.Option.{get_or_from_slice_get, slice_get_within}, specs.Prelude.{Result, Err, MatchResult, Some, slice_get}}
+use Rattle.std.{proofs.lemmas.Option.{get_or_from_slice_get, slice_get_within}, specs.Prelude.{Some, slice_get}}
 use Rattle.{layer_traits.proofs.PlanRenaming.map-append, event_log.proofs.ListLemmas.there_is, cpu_workers.specs.Reports.Both}
 pub use Rattle.table_machine.proofs.Returning.{all_tail, no_more, yield_more}
 
@@ -65,6 +65,10 @@ both_back Fits (x ∷ xs) [] all k y at = absurd all
 both_back Fits (x ∷ xs) (z ∷ ys) all zero y at = let same : z ≡ y = cc at in (x, refl, subst (λ w. Fits x w) same all.0)
 both_back Fits (x ∷ xs) (z ∷ ys) all (suc k) y at = both_back Fits xs ys all.1 k y at
 
+-- what belongs to a list belongs to it also as another value has it
+pub both_kept : {A B : Type 0} (Fits : A → B → Type 0) (xs : List A) {ys zs : List B} → zs ≡ ys → Both Fits xs ys → Both Fits xs zs
+both_kept Fits xs same all = subst (λ l. Both Fits xs l) (sym same) all
+
 -- what holds of each by its number holds of all
 pub all_by_number : {X : Type 0} (P : X → Type 0) (xs : List X) → ((k : ℕ) (x : X) → slice_get xs k ≡ Some x → P x) → All P xs
 all_by_number P xs each k d below =
@@ -77,6 +81,13 @@ pub both_all : {A B : Type 0} (Fits : A → B → Type 0) (P : A → Type 0) (Q 
 both_all Fits P Q over xs ys fits all =
     all_by_number Q ys (λ k y at. let of = both_back Fits xs ys fits k y at in over of.0 y of.2 (all_at P xs k of.0 all of.1))
 
--- what is kept of a task that came back
-pub came_back : {D T : Type 0} (HasDone : D → Type 0) (came : Result D T) (task same : T) → MatchResult came HasDone (λ t. t ≡ same) → came ≡ Err task → task ≡ same
-came_back HasDone came task same kept is = subst (λ (r : Result _ _). MatchResult r HasDone (λ t. t ≡ same)) is kept
+-- what holds of all of a list, and of one more behind them, holds of them all
+all_then : {A : Type 0} (P : A → Type 0) (xs : List A) (x : A) → All P xs → P x → All P (xs ++ x ∷ [])
+all_then P [] x all one zero d below = one
+all_then P [] x all one (suc k) d below = absurd (omega (arith, below))
+all_then P (y ∷ xs) x all one zero d below = all 0 d (omega arith)
+all_then P (y ∷ xs) x all one (suc k) d below =
+    all_then P xs x (λ i e within. all (suc i) e (omega (arith, within))) one k d (omega (arith, below))
+
+pub all_more : {A : Type 0} (P : A → Type 0) (xs ys : List A) (x : A) → ys ≡ xs ++ x ∷ [] → All P xs → P x → All P ys
+all_more P xs ys x is all one = subst (λ l. All P l) (sym is) (all_then P xs x all one)

@@ -5,6 +5,7 @@ use Rattle.event_log.specs.{declared.{ids.{CpuId.CpuId, LockId.LockId}, events.E
 use Rattle.{event_log.specs.{WordsLog.{cpu_of_event, frees, lock_phase, Idle}, Sections.{Section, cpu_of_section}}, layer_traits.specs.declared.edits.Mark.Mark}
 use Rattle.{layer_traits.specs.{OneLock.opened, Protocol.Rules, WordsProtocol.{MayCome, sections}}, table_machine.specs.SeatViews.{TableView, SeatView, IsIn}}
 use Rattle.{table_machine.specs.SeatViews.new_seat_view, cpu_workers.specs.{declared.counting.AddOne.AddOne, Reports.Both}}
+use Rattle.{boot.specs.declared.locks.LockKind.LockKind, cpu_workers.specs.declared.counting.counted.Counted.Counted}
 
 -- what adding 1 means: the number goes up by 1 modulo 2^64, the answer is the number before, and any CPU may do it at any time
 abbrev pub counting : Rules AddOne ℕ ℕ
@@ -55,3 +56,7 @@ pub record IsNumberOfFrees {E B O : Type 0} (rules : Rules E B O) (lock : LockId
   pub keys : (i : ℕ) (seat_view : SeatView E B) → slice_get seat_views i ≡ Some seat_view → IsIn log seat_view
   pub rest : (c : CpuId) → table_view.cpus ≤ c.0 → own_events cpu_of_event c log ≡ []
   pub is : number ≡ frees lock log
+
+-- nothing was counted: of so many CPUs none did a section, behind locks of this kind, and the number is 0
+abbrev pub IsUncounted : Counted → ℕ → LockKind → Type 0
+IsUncounted left cpus lock = (left.number ≡ 0) × (left.times ≡ 0) × (left.cpus ≡ cpus) × (left.lock ≡ lock)

@@ -16,6 +16,7 @@
 pub mod counting;
 mod laws;
 mod natives;
+mod own_threads;
 mod pauses;
 mod plan_words;
 mod pool;
@@ -27,8 +28,9 @@ pub use laws::{
     workers_lose_no_wake_up,
 };
 pub use natives::{Native, NativeReport, run_native};
+pub use own_threads::{Joined, NoThread};
 pub use plan_words::PlanWords;
-pub use refusals::{NoThread, WorkerError};
+pub use refusals::WorkerError;
 pub use workers::{
     Caller, Came, Closed, Did, Gate, Go, MOST_CALLS, OpenGate, Report, Stop, Worker, call,
     run_workers, work, work_all,

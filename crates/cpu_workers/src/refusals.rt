@@ -4,24 +4,10 @@
 ghost use Rattle.std.specs.Prelude.{◌≡◌};
 ghost use Rattle.{event_log.specs.Refusals.no_memory, cpu_workers.specs.declared.refusals.WorkerError.TheVariants.NoMemory as LacksMemory};
 
+use crate::own_threads::NoThread;
 use event_log::NoMemory;
 use std::alloc::AllocError;
-use std::thread::SpawnError;
 use thiserror::Error;
-
-/// A thread could not be started. Nothing was run. It is made of a refused start alone.
-#[derive(Clone, Copy, Debug, PartialEq, Eq, Error)]
-#[error("NoThread(5)")]
-pub struct NoThread {
-    refused: (),
-}
-
-impl NoThread {
-    /// What this refused start tells.
-    pub(crate) fn of<F>(_refused: &SpawnError<F>) -> NoThread {
-        NoThread { refused: () }
-    }
-}
 
 /// Why nothing was run.
 #[derive(Clone, Copy, Debug, PartialEq, Eq, Error)]

@@ -6,6 +6,7 @@ ghost use Rattle.{event_log.specs.{declared.ids.{CpuId.CpuId, TheConstants.CPUS}
 ghost use Rattle.cpu_workers.specs.Counts.{AllHaveMade, IsNumberOfFrees, after_rounds, counting};
 
 use crate::counting::{AddOne, NUMBER};
+use crate::own_threads::Joined;
 use crate::plan_words::PlanWords;
 use boot::LockKind;
 use layer_traits::OwnedLocks;
@@ -20,8 +21,9 @@ pub trait LockOfKind<L> {
 }
 
 /// A number that was counted behind locks of this kind: how often a lock was given on, where each of
-/// so many CPUs did so many sections. [`number_in`] makes it of an owned machine and [`number_left`]
-/// of a closed table, and nothing else does.
+/// so many CPUs did so many sections. [`number_in`] makes it of an owned machine, and [`number_left`]
+/// of a closed table whose CPUs counted each in a thread of its own. Of a table at which nothing was
+/// counted it tells no section.
 #[derive(Clone, Copy, Debug, PartialEq, Eq)]
 pub struct Counted {
     number: u64,
@@ -90,13 +92,8 @@ pub fn number_in<L: OwnedLocks<AddOne>, V: LockOfKind<L>>(
     }
 }
 
-/// Closes the table, whose number was 0 before each of its CPUs did `times` sections that add 1, and
-/// gives the number. It is how often its lock was freed in one legal log, which begins with the log
-/// of each key and has no other CPU's events.
-///
-/// Requires: the table has the one lock of the number, which was 0, and `cpus` CPUs, at most `CPUS`.
-/// Each key has made just so many sections. All sections together are fewer than 2^64.
-pub fn number_left<K: PlanWords>(
+// Closes a table with the keys of its CPUs, each of which has made so many sections.
+fn closed<K: PlanWords>(
     shared: Shared<AddOne, K>,
     keys: Vec<Key<AddOne>>,
     cpus: u8,
@@ -120,4 +117,52 @@ pub fn number_left<K: PlanWords>(
         cpus,
         times,
     }
+}
+
+/// Closes the table, whose number was 0 before each of its CPUs did `times` sections that add 1, each in
+/// a thread of its own, and gives the number. It is how often its lock was freed in one legal log, which
+/// begins with the log of each key and has no other CPU's events.
+///
+/// Requires: the table has the one lock of the number, which was 0, and `cpus` CPUs, at most `CPUS`.
+/// Each key has made just so many sections. All sections together are fewer than 2^64.
+pub fn number_left<K: PlanWords>(
+    shared: Shared<AddOne, K>,
+    came: Joined<Key<AddOne>>,
+    cpus: u8,
+    times: u64,
+) -> Counted
+    requires start { shared.start ≡ (NUMBER, 0) ∷ [] }
+    requires cpus { shared.cpus ≤ CPUS }
+    requires all { shared.cpus ≡ cpus }
+    requires times { times * CPUS < 2 ^ 64 }
+    requires came { AllHaveMade NUMBER (new_seat_views shared shared.cpus) came.done.items times }
+    ensures number { result.number ≡ times * shared.cpus }
+    ensures frees { IsNumberOfFrees counting NUMBER shared came.done.items result.number }
+    ensures lock { result.lock ≡ K.lock_kind }
+    ensures all { result.cpus ≡ cpus }
+    ensures times { result.times ≡ times }
+{
+    closed(shared, came.into_done(), cpus, times)
+}
+
+/// Closes the table, whose number was 0, with its keys as they were, and gives the number: nothing was
+/// counted.
+///
+/// Requires: the table has the one lock of the number, which was 0, and `cpus` CPUs, at most `CPUS`.
+/// No key has seen anything.
+pub(crate) fn number_untouched<K: PlanWords>(
+    shared: Shared<AddOne, K>,
+    keys: Vec<Key<AddOne>>,
+    cpus: u8,
+) -> Counted
+    requires start { shared.start ≡ (NUMBER, 0) ∷ [] }
+    requires cpus { shared.cpus ≤ CPUS }
+    requires all { shared.cpus ≡ cpus }
+    requires keys { keys.items ≡ new_seat_views shared shared.cpus }
+    ensures number { result.number ≡ 0 }
+    ensures lock { result.lock ≡ K.lock_kind }
+    ensures all { result.cpus ≡ cpus }
+    ensures times { result.times ≡ 0 }
+{
+    closed(shared, keys, cpus, 0)
 }

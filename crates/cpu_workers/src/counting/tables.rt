@@ -1,11 +1,11 @@
 //! The table of a count: opened with its number, counted at, and closed. To open it takes memory;
 //! to count waits for the workers.
 
-ghost use Rattle.std.specs.Prelude.{◌≡◌, ◌*◌, ◌<◌, ◌≤◌, ◌^◌, [], ◌∷◌, IsErr, IfOk, IfErr, OnErr};
-ghost use Rattle.{event_log.specs.Refusals.no_memory, table_machine.specs.SeatViews.new_seat_views};
+ghost use Rattle.std.specs.Prelude.{◌≡◌, ◌*◌, ◌<◌, ◌≤◌, ◌^◌, [], ◌∷◌, IsErr, IsSome, IfOk, IfErr, IfSome, OnErr};
+ghost use Rattle.{event_log.specs.Refusals.no_memory, table_machine.specs.SeatViews.new_seat_views, cpu_workers.specs.Counts.IsUncounted};
 ghost use Rattle.cpu_workers.specs.declared.refusals.WorkerError.TheVariants.{NoMemory as LacksMemory};
 
-use crate::counting::counted::{Counted, number_left};
+use crate::counting::counted::{Counted, number_left, number_untouched};
 use crate::counting::tasks::count_all;
 use crate::counting::{AddOne, CountFault, NUMBER};
 use crate::plan_words::PlanWords;
@@ -32,13 +32,13 @@ fn open_number<K: TableWords>(
     Shared::open(alloc, blocks, cpus)
 }
 
-/// Why nothing was counted, and the number that the table has when it is closed.
+/// Why nothing was counted, and the number that was left.
 #[derive(Debug, Drop)]
 pub struct NotCounted {
     /// Why.
     pub fault: CountFault,
-    /// The number.
-    pub left: u64,
+    /// What the closed table had, if there was a table: no section, and the number 0.
+    pub left: Option<Counted>,
 }
 
 // Counts at the table, if it was opened: memory is wanting where it was not. Where nothing was
@@ -59,30 +59,31 @@ fn count_if_open<K: PlanWords + Sync, R: Threads + Wait + Sync>(
     ensures lock { IfOk result (λ counted. counted.lock ≡ K.lock_kind) }
     ensures all { IfOk result (λ counted. counted.cpus ≡ cpus) }
     ensures times { IfOk result (λ counted. counted.times ≡ times) }
-    ensures none { IfErr result (λ not. not.left ≡ 0) }
+    ensures none { IfErr result (λ not. IfSome not.left (λ left. IsUncounted left cpus K.lock_kind)) }
+    ensures closed { IfOk opened (λ _. IfErr result (λ not. IsSome not.left)) }
     ensures memory { OnErr opened (IsErr result × IfErr result (λ not. not.fault ≡ LacksMemory no_memory)) }
 {
     let (shared, keys) = match opened {
         Ok(opened) => opened,
         Err(error) => {
             let fault = CountFault::from(error);
-            return Err(NotCounted { fault, left: 0 });
+            return Err(NotCounted { fault, left: None });
         }
     };
     match count_all(rt, alloc, &shared, keys, times) {
-        Ok(keys) => Ok(number_left(shared, keys, cpus, times)),
+        Ok(came) => Ok(number_left(shared, came, cpus, times)),
         Err(Refused { fault, back }) => {
-            let left = number_left(shared, back, cpus, 0).number();
+            let left = Some(number_untouched(shared, back, cpus));
             Err(NotCounted { fault, left })
         }
     }
 }
 
-/// As [`count_table`], with the number that is left where nothing was counted.
+/// As [`count_table`], with what is left where nothing was counted.
 ///
 /// Requires: there are at most `CPUS` CPUs, and all sections together are fewer than 2^64.
 ///
-/// Errors: as `count_table`; then the number that is left is 0.
+/// Errors: as `count_table`; then no section was done, and the table's number is 0, if there was a table.
 pub fn count_or_leave<R: Threads + Wait + Sync>(
     rt: &R,
     alloc: Global,
@@ -96,7 +97,7 @@ pub fn count_or_leave<R: Threads + Wait + Sync>(
     ensures lock { IfOk result (λ counted. counted.lock ≡ lock) }
     ensures all { IfOk result (λ counted. counted.cpus ≡ cpus) }
     ensures times { IfOk result (λ counted. counted.times ≡ times) }
-    ensures none { IfErr result (λ not. not.left ≡ 0) }
+    ensures none { IfErr result (λ not. IfSome not.left (λ left. IsUncounted left cpus lock)) }
 {
     match lock {
         LockKind::Ticket => {
@@ -112,7 +113,7 @@ pub fn count_or_leave<R: Threads + Wait + Sync>(
 /// 1 to one number, in a thread of its own, with its own seat at one table. All threads are started
 /// before any of them does a section, and all are joined. The number is read from the block that the
 /// closed table gives. That it was counted by so many CPUs, each of which did so many sections, is
-/// what the number is evidence of ([`Counted`]); that each ran in a thread of its own is no clause.
+/// what the number is evidence of ([`Counted`]): it is made of keys that threads left which were joined.
 ///
 /// Requires: there are at most `CPUS` CPUs, and all sections together are fewer than 2^64.
 ///

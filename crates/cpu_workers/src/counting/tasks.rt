@@ -5,8 +5,9 @@ ghost use Rattle.std.specs.Prelude.{◌≡◌, ◌≤◌, [], IsSome, IfOk, IfEr
 ghost use Rattle.{layer_traits.specs.OneLock.opened, cpu_workers.specs.{declared.counting.TheConstants.NUMBER, Counts.{AllHaveMade, IsFresh}, Reports.Both}};
 
 use crate::counting::AddOne;
+use crate::own_threads::{Joined, Task};
 use crate::plan_words::PlanWords;
-use crate::pool::{Refused, Task, run_all};
+use crate::pool::{Refused, run_all};
 use crate::refusals::WorkerError;
 use std::alloc::{AllocError, Global};
 use std::sync::Wait;
@@ -104,10 +105,10 @@ pub(crate) fn count_all<K: PlanWords + Sync, R: Threads + Wait + Sync>(
     shared: &Shared<AddOne, K>,
     keys: Vec<Key<AddOne>>,
     times: u64,
-) -> Result<Vec<Key<AddOne>>, Refused<Key<AddOne>>>
+) -> Result<Joined<Key<AddOne>>, Refused<Key<AddOne>>>
     requires fresh { All (IsFresh shared.now) keys.items }
     requires lock { IsSome (opened shared.now.start NUMBER) }
-    ensures came { IfOk result (λ came. AllHaveMade NUMBER keys.items came.items times) }
+    ensures came { IfOk result (λ came. AllHaveMade NUMBER keys.items came.done.items times) }
     ensures refused { IfErr result (λ r. r.back.items ≡ keys.items) }
 {
     let room = match room_for(alloc, keys.len()) {

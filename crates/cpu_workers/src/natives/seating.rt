@@ -140,7 +140,7 @@ where
     let left = Vec::with_capacity(alloc, machines.len())?;
     let tasks = tasks_over::<I, N>(alloc, caps, homes, machines, natives)?;
     let done = run_all(rt, alloc, tasks)?;
-    Ok(all_left::<I, N>(done, left))
+    Ok(all_left::<I, N>(done.into_done(), left))
 }
 
 /// Lets each native run over its machine, in a thread of its own, and gives what they leave, in their

@@ -3,7 +3,7 @@
 ghost use Rattle.std.specs.Prelude.{◌≡◌, []};
 
 use crate::natives::Native;
-use crate::pool::Task;
+use crate::own_threads::Task;
 use crate::workers::Caller;
 use layer_traits::{CallLayer, IpcLaw};
 use std::sync::Wait;

@@ -11,18 +11,30 @@ use boot::LockKind;
 use event_log::{BufId, CAPACITY, Entry, LockId, Msg};
 use ipc_calls::{TowerBlock, TowerEdit};
 use layer_traits::QueueBlock;
+use std::snapshot::Snapshot;
 use table_machine::{Key, Shared};
 
 /// What the workers of a plan leave behind. The lists of CPUs have one element for each CPU, by its
-/// number. It is evidence: it is made here alone, of a table of such words that was closed with the
+/// number. It is evidence: it is made here alone, of a table of shared words that was closed with the
 /// keys of its CPUs.
 #[derive(Drop)]
 pub struct Report {
-    traces: Vec<Vec<Entry>>,
-    blocks: Vec<(LockId, TowerBlock)>,
-    stops: Vec<Stop>,
-    taken: Vec<u64>,
+    /// The entries of each CPU's calls that took effect, oldest first.
+    pub traces: Vec<Vec<Entry>>,
+    /// Each lock of the tower, with the block that it guards.
+    pub blocks: Vec<(LockId, TowerBlock)>,
+    /// Why each worker stopped.
+    pub stops: Vec<Stop>,
+    /// How many turns each worker took; at 2^64 - 1 there may have been more.
+    pub taken: Vec<u64>,
+    closed: ClosedTable,
+}
+
+/// What tells of a table that was closed: the kind of its words, and the blocks that it gave.
+#[derive(Drop)]
+struct ClosedTable {
     lock: LockKind,
+    blocks: Snapshot<Vec<(LockId, TowerBlock)>>,
 }
 
 impl Report {
@@ -41,44 +53,29 @@ impl Report {
         ensures traces { result.traces ≡ traces }
         ensures taken { result.taken ≡ taken }
         ensures stops { result.stops ≡ stops }
-        ensures lock { result.lock ≡ K.lock_kind }
+        ensures lock { result.closed.lock ≡ K.lock_kind }
+        ensures closed { result.closed.blocks.value ≡ result.blocks }
         ensures closes { Closes tower_rules shared keys.items result.blocks.items }
     {
+        let blocks = shared.close(keys);
+        let closed = ClosedTable {
+            lock: K::kind(),
+            blocks: Snapshot::of(&blocks),
+        };
         Report {
             traces,
-            blocks: shared.close(keys),
+            blocks,
             stops,
             taken,
-            lock: K::kind(),
+            closed,
         }
-    }
-
-    /// The entries of each CPU's calls that took effect, oldest first.
-    pub fn traces(&self) -> &[Vec<Entry>]
-        ensures { result.now ≡ self.now.traces.items }
-    {
-        self.traces.as_slice()
-    }
-
-    /// Why each worker stopped.
-    pub fn stops(&self) -> &[Stop]
-        ensures { result.now ≡ self.now.stops.items }
-    {
-        self.stops.as_slice()
-    }
-
-    /// How many turns each worker took; at 2^64 - 1 there may have been more.
-    pub fn taken(&self) -> &[u64]
-        ensures { result.now ≡ self.now.taken.items }
-    {
-        self.taken.as_slice()
     }
 
     /// The kind of the words of the table's locks.
     pub fn lock(&self) -> LockKind
-        ensures { result ≡ self.now.lock }
+        ensures { result ≡ self.now.closed.lock }
     {
-        self.lock
+        self.closed.lock
     }
 
     /// The traces and the stops.

@@ -182,7 +182,8 @@ fn closed<K: PlanWords>(shared: Shared<TowerEdit, K>, back: Back<TowerEdit>) -> 
     ensures traces { result.traces ≡ back.traces }
     ensures taken { result.taken ≡ back.taken }
     ensures stops { result.stops ≡ back.stops }
-    ensures lock { result.lock ≡ K.lock_kind }
+    ensures lock { result.closed.lock ≡ K.lock_kind }
+    ensures closed { result.closed.blocks.value ≡ result.blocks }
     ensures closes { Closes tower_rules shared back.keys.items result.blocks.items }
 {
     let Back {
@@ -210,7 +211,8 @@ fn run_words<K: PlanWords + Sync, G: Gate + Sync, R: Threads + Wait + Sync>(
         (shown (map (λ t. t.items) r.traces.items) r.taken.items r.stops.items r.blocks.items)) }
     ensures is_run { IfOk result (λ r. IsReportOfRun (setup_for boot.now) (G.MayAnswer gate.now) turns
         (shown (map (λ t. t.items) r.traces.items) r.taken.items r.stops.items r.blocks.items)) }
-    ensures lock { IfOk result (λ r. r.lock ≡ boot.now.lock) }
+    ensures lock { IfOk result (λ r. r.closed.lock ≡ boot.now.lock) }
+    ensures closed { IfOk result (λ r. r.closed.blocks.value ≡ r.blocks) }
 {
     let open = table_of::<K>(alloc, boot)?;
     let (shared, keys) = open;
@@ -233,7 +235,8 @@ fn run_waiters<G: Gate + Sync, R: Threads + Wait + Sync>(
         (shown (map (λ t. t.items) r.traces.items) r.taken.items r.stops.items r.blocks.items)) }
     ensures is_run { IfOk result (λ r. IsReportOfRun (setup_for boot.now) (G.MayAnswer gate.now) turns
         (shown (map (λ t. t.items) r.traces.items) r.taken.items r.stops.items r.blocks.items)) }
-    ensures lock { IfOk result (λ r. r.lock ≡ boot.now.lock) }
+    ensures lock { IfOk result (λ r. r.closed.lock ≡ boot.now.lock) }
+    ensures closed { IfOk result (λ r. r.closed.blocks.value ≡ r.blocks) }
 {
     let open = table_of::<WaiterWords>(alloc, boot)?;
     let (shared, keys) = open;
@@ -252,7 +255,8 @@ fn run_waiters<G: Gate + Sync, R: Threads + Wait + Sync>(
 ///
 /// The report is lawful by the plan's step table. The list of actions by which it is, and the order of
 /// its traces, are those of one words log, which is legal over the locks as the plan opens them.
-/// Under some schedule the step table's system leaves just what the report tells.
+/// Under some schedule the step table's system leaves just what the report tells. The report is of
+/// a table of shared words that was closed, whose locks are of the plan's kind and whose blocks these are.
 ///
 /// It waits for its workers, so it need not return. All memory is taken and all workers are known to
 /// have started before any step is taken.
@@ -273,7 +277,8 @@ pub fn run_workers<G: Gate + Sync, R: Threads + Wait + Sync>(
     // What the threads did, the step table's system does under some schedule.
     ensures is_run { IfOk result (λ r. IsReportOfRun (setup_for boot.now) (G.MayAnswer gate.now) turns
         (shown (map (λ t. t.items) r.traces.items) r.taken.items r.stops.items r.blocks.items)) }
-    ensures lock { IfOk result (λ r. r.lock ≡ boot.now.lock) }
+    ensures lock { IfOk result (λ r. r.closed.lock ≡ boot.now.lock) }
+    ensures closed { IfOk result (λ r. r.closed.blocks.value ≡ r.blocks) }
 {
     match boot.lock() {
         LockKind::Ticket => run_words::<TicketWords, G, R>(rt, alloc, boot, turns, gate),

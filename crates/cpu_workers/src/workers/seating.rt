@@ -162,7 +162,7 @@ where
     let left = Vec::with_capacity(alloc, machines.len())?;
     let workers = workers_over::<I>(alloc, boot, machines)?;
     let came = work_all(rt, alloc, gate, workers, turns)?;
-    Ok(all_apart::<I>(came, left))
+    Ok(all_apart::<I>(came.into_done(), left))
 }
 
 /// Lets a worker of each CPU of the plan run over its machine, each in a thread of its own, and gives

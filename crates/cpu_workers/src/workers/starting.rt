@@ -3,7 +3,8 @@
 ghost use Rattle.std.specs.Prelude.{◌≡◌, [], All, IfOk};
 ghost use Rattle.cpu_workers.specs.Reports.{Both, HasRun};
 
-use crate::pool::{Task, run_all};
+use crate::own_threads::{Joined, Task};
+use crate::pool::run_all;
 use crate::refusals::WorkerError;
 use crate::workers::gates::Gate;
 use crate::workers::turns::{Did, work};
@@ -83,8 +84,8 @@ where
     Ok(tasks)
 }
 
-/// Lets each worker run in a thread of its own, as `work` does, and gives them back in their order.
-/// All memory is taken and all threads are known to have started before any step; all are joined.
+/// Lets each worker run in a thread of its own, as `work` does, and gives what the threads left, in
+/// their order: the workers. All memory is taken and all threads are known to have started before any step; all are joined.
 ///
 /// It waits for its threads, so it need not return.
 ///
@@ -98,11 +99,11 @@ pub fn work_all<I: CallLayer<IpcLaw> + Drop + Send, G: Gate + Sync, R: Threads +
     gate: &G,
     workers: Vec<Worker<I>>,
     turns: u64,
-) -> Result<Vec<Came<I>>, WorkerError>
+) -> Result<Joined<Came<I>>, WorkerError>
 where
     I::Machine: Drop + Send,
     requires { All (λ w. w.acts ≡ []) workers.items }
-    ensures { IfOk result (λ came. Both (λ w c. HasRun (G.MayAnswer gate.now) turns w c.worker c.did.taken c.did.stop) workers.items came.items) }
+    ensures { IfOk result (λ came. Both (λ w c. HasRun (G.MayAnswer gate.now) turns w c.worker c.did.taken c.did.stop) workers.items came.done.items) }
 {
     let tasks = all_turning(alloc, gate, workers, turns)?;
     match run_all(rt, alloc, tasks) {

@@ -1,6 +1,6 @@
-use Rattle.std.proofs.Common.{◌≡◌, All, sym, subst, ◌∙◌, rules}
-use Rattle.{table_machine.specs.SeatViews.new_seat_views, cpu_workers.specs.{declared.counting.{AddOne.AddOne, TheConstants.NUMBER}, Counts.AllHaveMade}}
-use Rattle.cpu_workers.{specs.Counts.IsFresh, proofs.{Counts.new_have_made_none, TableKeys.new_fresh}}
+use Rattle.std.proofs.Common.{◌≡◌, All, sym, subst, rules}
+use Rattle.{table_machine.specs.SeatViews.new_seat_views, cpu_workers.specs.declared.counting.AddOne.AddOne}
+use Rattle.cpu_workers.{specs.Counts.IsFresh, proofs.TableKeys.new_fresh}
 use Rattle.cpu_workers.proofs.counting.tables.count_if_open.Goals as goal
 
 pub count_all-requires-clause-fresh : goal.count_all-requires-clause-fresh
@@ -8,10 +8,3 @@ count_all-requires-clause-fresh g c κs within =
     let table = c.in-Ok.opened.0 in
     let keys : c.in-Ok.opened.1.items ≡ new_seat_views {E = AddOne} table table.cpus = first_of (cc, search rules) in
     subst (λ l. All (IsFresh table) l) (sym keys) (new_fresh table table.cpus)
-
-pub number_left-requires-in-Err-count_all-clause-came : goal.number_left-requires-in-Err-count_all-clause-came
-number_left-requires-in-Err-count_all-clause-came g c =
-    let table = c.in-Ok.opened.0 in
-    let keys : c.in-Ok.opened.1.items ≡ new_seat_views {E = AddOne} table table.cpus = first_of (cc, search rules) in
-    subst (λ l. AllHaveMade NUMBER (new_seat_views {E = AddOne} table table.cpus) l 0) (sym (c.in-Err-count_all.ensures.refused ∙ keys))
-    (new_have_made_none AddOne NUMBER table table.cpus)

@@ -25,7 +25,7 @@ returns-in-Ok-run_all-clause-came g c =
     both_then (λ k t. (t.key ≡ k) × (t.shared.now ≡ c.args.shared.now) × (t.times ≡ c.args.times)) (λ t k. HasMade NUMBER t.key k t.times)
     (λ d k. HasMade NUMBER d k c.args.times)
     (λ d t k is made. subst (λ x. HasMade NUMBER x k c.args.times) is.0 (subst (λ n. HasMade NUMBER t.key k n) is.2 made))
-    c.args.keys.items c.all_counting-tasks.result.items c.in-Ok-run_all.came.items c.all_counting-tasks.ensures c.in-Ok-run_all.ensures.ran
+    c.args.keys.items c.all_counting-tasks.result.items c.in-Ok-run_all.came.done.items c.all_counting-tasks.ensures c.in-Ok-run_all.ensures.ran
 
 pub keys_of-back-requires-clause-room : goal.keys_of-back-requires-clause-room
 keys_of-back-requires-clause-room g c =

@@ -18,4 +18,5 @@ returns g c =
       words = it;
       is_run = is_run _ _ _ _ it.tells.report;
       lock = e.lock ∙ sym c.requires.lock;
+      closed = e.closed;
     }

@@ -15,4 +15,4 @@ returns-in-Ok g c =
     (λ w t r is ran. subst (λ v. HasRun (g.G.Gate.MayAnswer c.args.gate.now) c.args.turns v r.worker r.did.taken r.did.stop) is.0
     (subst (λ n. HasRun (g.G.Gate.MayAnswer c.args.gate.now) n t.worker r.worker r.did.taken r.did.stop) is.2
     (subst (λ x. HasRun (g.G.Gate.MayAnswer x) t.turns t.worker r.worker r.did.taken r.did.stop) is.1 ran)))
-    c.args.workers.items c.in_ok-tasks.tasks.items c.in-Ok.came.items c.in_ok-tasks.ensures c.in-Ok.ensures.ran
+    c.args.workers.items c.in_ok-tasks.tasks.items c.in-Ok.came.done.items c.in_ok-tasks.ensures c.in-Ok.ensures.ran

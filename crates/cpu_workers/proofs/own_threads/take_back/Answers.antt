@@ -1,5 +1,5 @@
 use Rattle.cpu_workers.{specs.Tasks.task_of, proofs.Filling.{both_are, filled_all, filled_none, filled_one, has_room}}
-use Rattle.cpu_workers.proofs.pool.all_back.Goals as goal
+use Rattle.cpu_workers.proofs.own_threads.take_back.Goals as goal
 
 pub loop-start-init : goal.loop-start-init
 loop-start-init g c = filled_none c.into_iter-start-iterator.ensures.into_iter_gives.0 c.requires.empty c.requires.room
@@ -13,5 +13,5 @@ loop-start-preserved g c =
 
 pub returns : goal.returns
 returns g c =
-    both_are (task_of (λ h. h.promise.task.value)) c.args.starts.items c.loop-start.back.items
+    both_are (task_of (λ s. s.child.promise.task.value)) c.args.starts.items c.loop-start.back.items
     (filled_all c.loop-start.invariant c.loop-start.start-iterator.rest.ok.0 c.in-None.ensures.steps.0)

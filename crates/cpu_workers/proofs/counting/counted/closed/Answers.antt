@@ -1,6 +1,6 @@
 use Rattle.cpu_workers.{specs.declared.counting.TheConstants.NUMBER, proofs.Counts.{left_by_frees, made_back, number_is_left, number_read}}
 use Rattle.{cpu_workers.proofs.TableKeys.{all_covered, all_over}, std.proofs.Common.refl}
-use Rattle.cpu_workers.proofs.counting.counted.number_left.Goals as goal
+use Rattle.cpu_workers.proofs.counting.counted.closed.Goals as goal
 
 pub close-blocks-requires-clause-covers : goal.close-blocks-requires-clause-covers
 close-blocks-requires-clause-covers g c = all_covered (made_back NUMBER c.args.times c.requires.came) refl

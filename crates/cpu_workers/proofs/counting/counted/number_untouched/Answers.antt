@@ -1,0 +1,11 @@
+use Rattle.std.proofs.Common.{sym, subst}
+use Rattle.{table_machine.specs.SeatViews.new_seat_views, cpu_workers.specs.{declared.counting.{AddOne.AddOne, TheConstants.NUMBER}, Counts.AllHaveMade}}
+use Rattle.cpu_workers.proofs.Counts.{new_have_made_none}
+use Rattle.cpu_workers.proofs.counting.counted.number_untouched.Goals as goal
+
+-- each key has made no section
+pub closed-requires-clause-came : goal.closed-requires-clause-came
+closed-requires-clause-came g c =
+    let table = c.args.shared in
+    subst (λ l. AllHaveMade NUMBER (new_seat_views {E = AddOne} table table.cpus) l 0) (sym c.requires.keys)
+    (new_have_made_none AddOne NUMBER table table.cpus)

@@ -1,9 +1,0 @@
-use Rattle.{std.proofs.Common.{All, map, vec_capacity}, cpu_workers.{specs.Tasks.task_of, proofs.Filling.Filling}}
-use Rattle.cpu_workers.proofs.pool.all_done.Given as goal
-
-abbrev pub invariant-loop-start : goal.invariant-loop-start
-invariant-loop-start g l = record {
-  may : All g.T.Task.MayRun (map (task_of (λ h. h.promise.task.value)) l.start-iterator.rest.items);
-  done : Filling (λ start one. g.T.Task.HasDone (task_of (λ h. h.promise.task.value) start) one) l.fn.starts.items l.yielded l.start-iterator.rest.items
-      l.done.items (vec_capacity l.done);
-}
