@@ -12,6 +12,7 @@ pub mod Foreign
 pub mod Alone
 pub mod Renaming
 pub mod OneFree
+mod Bypass
 pub mod GrantWords
 mod Worked
 pub mod DigitsLemmas

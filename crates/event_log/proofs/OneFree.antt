@@ -14,7 +14,7 @@ pub own_not : {E : Type 0} (by : E → CpuId) (c : CpuId) (e : E) (past : List E
 own_not by c e past other = ap (λ b. if b then e ∷ own_events by c past else own_events by c past) other
 
 -- an action leaves its own CPU as it says
-left_own : {N : Type 0} (a : Action N) (log : List (Action N)) (c : CpuId) → cpu_of_action a ≡ c → phase c (a ∷ log) ≡ left_in a
+pub left_own : {N : Type 0} (a : Action N) (log : List (Action N)) (c : CpuId) → cpu_of_action a ≡ c → phase c (a ∷ log) ≡ left_in a
 left_own a log c by = subst (λ d. phase d (a ∷ log) ≡ left_in a) by (phase_own a log)
 
 module _ {N : Type 0} (lock : LockId) (cpu other : CpuId) (first : ℕ) (differ : same_cpu cpu other ≡ false) where
@@ -57,10 +57,10 @@ module _ {N : Type 0} (lock : LockId) (cpu other : CpuId) (first : ℕ) (differ 
       by_other a between log may legal so_far (same_cpu_true (cpu_of_action a) other is) not_cpu
   by_any a between log may legal so_far tries false false not_cpu not_other = by_third a between log so_far not_cpu not_other
 
-tries_before : {N : Type 0} (a : Action N) (past : List (Action N)) → OnlyTries (a ∷ past) → OnlyTries past
+pub tries_before : {N : Type 0} (a : Action N) (past : List (Action N)) → OnlyTries (a ∷ past) → OnlyTries past
 tries_before a past tries = grind arith
 
-own_tries : {N : Type 0} (cpu : CpuId) (a : Action N) (between : List (Action N)) → OnlyTries (own_events cpu_of_action cpu (a ∷ between))
+pub own_tries : {N : Type 0} (cpu : CpuId) (a : Action N) (between : List (Action N)) → OnlyTries (own_events cpu_of_action cpu (a ∷ between))
     → OnlyTries (own_events cpu_of_action cpu between)
 own_tries cpu a between tries = grind (arith, tries_before)
 

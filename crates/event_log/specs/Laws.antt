@@ -51,6 +51,11 @@ GivenOnceMeanwhile N = (past between : List (Action N)) (cpu other : CpuId) (loc
     → AreLegal (between ++ (Take cpu lock ∷ past)) → OnlyTries (own_events cpu_of_action cpu between) → same_cpu cpu other ≡ false
     → gives lock (own_events cpu_of_action other between) ≤ 1
 
+-- bounded waiting: from the Take of a CPU on, while it does nothing but try, the lock is given on fewer than CPUS times
+abbrev pub WaitsForFew : Type 0 → Type 0
+WaitsForFew N = (past between : List (Action N)) (cpu : CpuId) (lock : LockId)
+    → AreLegal (between ++ (Take cpu lock ∷ past)) → OnlyTries (own_events cpu_of_action cpu between) → gives lock between < CPUS
+
 -- each of these events is a look
 abbrev pub OnlyLooks : {M : Type 0} → List (Event M) → Type 0
 OnlyLooks [] = Unit {0}

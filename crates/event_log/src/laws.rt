@@ -2,7 +2,7 @@
 //! the law is proved with the crate.
 
 ghost use Rattle.event_log.specs.{Forms.BothFormsAgree, Forms.LegalLogsGrow, Grants.GrantsTellSpots, Grants.OneInsideGrants};
-ghost use Rattle.event_log.specs.Laws.{FreedOnceMeanwhile, FreeWhereAllRest, GivenOnceMeanwhile, OneHolds, OneInside, ThreeAreOneSection, TicketsTellSpots};
+ghost use Rattle.event_log.specs.Laws.{FreedOnceMeanwhile, FreeWhereAllRest, GivenOnceMeanwhile, OneHolds, OneInside, ThreeAreOneSection, TicketsTellSpots, WaitsForFew};
 
 /// A words log, oldest first, is legal where each event may follow what stands before it, however
 /// the log is split. The recursion on its history, newest first, says the same.
@@ -48,6 +48,13 @@ pub fn free_where_all_rest<N>()
 /// no other CPU gives that lock on twice: to come back it would have to pass the first one.
 pub fn given_once_meanwhile<N>()
     ensures { GivenOnceMeanwhile N }
+{}
+
+/// Bounded waiting: from the time that a CPU takes a spot in the line of a lock, and while it does
+/// nothing but try, the lock is given on fewer than [`CPUS`](crate::CPUS) times. So fewer sections
+/// than that pass it by. That its turn comes is not said.
+pub fn waits_for_few<N>()
+    ensures { WaitsForFew N }
 {}
 
 /// From the draw of a CPU on, and while it does nothing but look, no other CPU frees that lock

@@ -34,7 +34,7 @@ pub use ids::{BUFFERS, BufId, CAPACITY, CPUS, CpuId, ENTRIES, LOCKS, LockId, THR
 pub use laws::{
     both_forms_agree, free_where_all_rest, freed_once_meanwhile, given_once_meanwhile,
     grants_tell_spots, legal_logs_grow, one_holds, one_inside, one_inside_grants,
-    three_are_one_section, tickets_tell_spots,
+    three_are_one_section, tickets_tell_spots, waits_for_few,
 };
 pub use logs::EventLog;
 pub use messages::{Msg, WORDS};

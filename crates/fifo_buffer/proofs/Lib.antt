@@ -16,5 +16,6 @@ pub mod Starting
 pub mod Chains
 pub mod Opening
 pub mod PositionLemmas
+pub mod ServedLemmas
 pub mod Within
 pub mod Frames

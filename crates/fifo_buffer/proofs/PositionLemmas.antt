@@ -31,7 +31,7 @@ taken_same side x v = grind arith
 shut_same : (side : Side) (x : BufferState) → drawn_of side (shut x) ≡ drawn_of side x
 shut_same side x = grind arith
 
-joins_now : (t : Tid) (queue : List Tid) → t.0 < THREADS → is_in t queue ≡ false → may_join t queue ≡ true
+pub joins_now : (t : Tid) (queue : List Tid) → t.0 < THREADS → is_in t queue ≡ false → may_join t queue ≡ true
 joins_now t queue small out = ap (λ v. v && not (is_in t queue)) (lt-ltb t.0 THREADS small) ∙ ap not out
 
 section_counts : (side : Side) (O : LockId → Option BufferLock) (past : List BufferSection) (d : BufId) (call : CvCall BufferEdit) (lock : BufferLock)
@@ -56,7 +56,7 @@ module _ (opening : LockId → Option (QueueBlock BufferLock)) (starts : StartsW
       none : (s : Side) → drawn_in s (Some (fresh_lock (get_or (caps_in opening) b.0 0))) ≡ 0
       none s = grind arith
 
-  small_home : (t : Tid) (c : CpuId) → home_of (homes_in opening) t ≡ Some c → t.0 < THREADS
+  pub small_home : (t : Tid) (c : CpuId) → home_of (homes_in opening) t ≡ Some c → t.0 < THREADS
   small_home t c home = grind (arith, slice_get_within)
 
   abbrev drawn_if : List BufferSection → CvCall BufferEdit → Bool → ℕ

@@ -5,4 +5,5 @@ pub mod BlockSteps
 pub mod Tallies
 pub mod OwnedLaws
 pub mod Positions
+pub mod Served
 pub mod Laws

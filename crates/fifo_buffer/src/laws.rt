@@ -1,10 +1,16 @@
-//! What holds of positions. The law is the contract of a function that does nothing, so that it is
-//! proved with the crate.
+//! What holds of the lines of a buffer. Each law is the contract of a function that does nothing, so
+//! that it is proved with the crate.
 
-ghost use Rattle.fifo_buffer.specs.Positions.{PositionsAreCounts};
+ghost use Rattle.fifo_buffer.specs.{Positions.PositionsAreCounts, Served.FirstComeFirstServed};
 
 /// After lawful events the counter of a line, which is the position of the next thread that enters
 /// it, is the number of threads that entered it, modulo 2^64.
 pub fn positions_are_counts()
     ensures { PositionsAreCounts }
+{}
+
+/// After lawful events those who joined the line of a side are those whose calls of that side took
+/// effect, in the same order, and then those who still stand in line.
+pub fn first_come_first_served()
+    ensures { FirstComeFirstServed }
 {}

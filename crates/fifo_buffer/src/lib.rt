@@ -18,4 +18,4 @@ mod sections;
 
 pub use blocks::empty_blocks;
 pub use fifo::Fifo;
-pub use laws::positions_are_counts;
+pub use laws::{first_come_first_served, positions_are_counts};

@@ -24,6 +24,7 @@ fn each_law_of_events_can_be_called(_rt: HostRuntime) {
     three_are_one_section::<u8>();
     free_where_all_rest::<u8>();
     given_once_meanwhile::<u8>();
+    waits_for_few::<u8>();
     freed_once_meanwhile::<u8>();
     grants_tell_spots::<u8>();
     one_inside_grants::<u8>();

@@ -1,0 +1,207 @@
+-- The calls of one side take effect in the order in which their threads joined its line.
+use Rattle.std.proofs.Common.{◌≡◌, ℕ, ◌<◌, Bool, true, false, ◌&&◌, List, [], ◌∷◌, ◌++◌, length, Option, Some, None, option_map, if◌then◌else◌}
+use Rattle.std.proofs.Common.{refl, ap, sym, ◌∙◌, subst, arith, get_or, append_assoc, option_to_list}
+use Rattle.std.proofs.lemmas.{Option.{slice_get-get_or, same_Some}}
+use Rattle.event_log.specs.{declared.{entries.Entry.Entry, ids.{BufId.BufId, CpuId.CpuId, LockId.{LockId, TheVariants.Buffer}, Tid.Tid, TheConstants.THREADS}}}
+use Rattle.event_log.{specs.{History.{IsLawful, same_lock}, Messages.Message}, proofs.Same.same_lock_true}
+use Rattle.layer_traits.specs.declared.{buffer_edits.BufferEdit.{BufferEdit, TheVariants.{Enter, TryPut, TryTake, Shut}}, queue_edits.QueueBlock.QueueBlock}
+use Rattle.layer_traits.specs.declared.{conditions.CvEdit.TheVariants.{Edit, SignalFront}, locked.{QEdit.TheVariants.{Acquire, Inside, Release}, Side.Side}}
+use Rattle.layer_traits.specs.declared.locked.Side.TheVariants.{Receivers, Senders}
+use Rattle.{event_log.specs.Runs.{group_of, same_group}, std.specs.Prelude.{◌==◌}, fifo_buffer.specs.Laws.Tallies.effect_position}
+use Rattle.layer_traits.specs.{declared.queues.QueueCall.{QueueCall, TheVariants.{Push, TakeAll, OnBuffer}}, BufferEffects.{effect_of, effect_on, effects_in}}
+use Rattle.layer_traits.specs.{BufferEffects.{drawn, fresh_lock}, BufferProtocol.{BufferLock, BufferSection, IsDue, buffer_at, buffer_monitor_rules, is_in_line}}
+use Rattle.layer_traits.specs.{BufferProtocol.buffer_rules, Conditions.{CvCall, cv_rules}, QLockLaw.lock_kernel, QLocking.{asked, lock_caller, lock_edited}}
+use Rattle.layer_traits.specs.{Protocol.section, QueueBlocks.{StartsWell, inner}, Queues.{QueueAllowed, buffer_sections, with_section}}
+use Rattle.layer_traits.specs.BufferBlocks.{BufferState, entered, is_first, is_next, line_of, may_join, shut}
+use Rattle.{thread_blocks.{specs.Queues.rest, proofs.Members.same_tid_true}, fifo_buffer.specs.{FifoFits.{BootsSo, caps_in}, Laws.OwnedLaws.found}}
+use Rattle.fifo_buffer.{specs.{Positions.enters, SectionPolls.BufferEvent, Served.{FirstComeFirstServed, group_on, joined, served}, Stances.same_side}}
+use Rattle.fifo_buffer.proofs.PositionLemmas.{joins_now, small_home}
+
+-- What a section makes of a line.
+
+-- the first of a line, and those behind it
+first_in_line : (t : Tid) (line : List Tid) → is_first t line ≡ true → line ≡ t ∷ rest line
+first_in_line t [] first = absurd cc
+first_in_line t (u ∷ line) first = let same = same_tid_true t u first in ap (λ x. x ∷ line) (sym same)
+
+next_is_first : (side : Side) (t : Tid) (x : BufferState) → is_next side t x ≡ true → is_first t (line_of side x) ≡ true
+next_is_first side t x next = grind arith
+
+asked_stays : (side : Side) (t : Tid) (owner : Option Tid) (lock : BufferLock) → line_of side (asked t owner lock).above ≡ line_of side lock.above
+asked_stays side t owner lock = grind arith
+
+entered_line : (side at : Side) (t : Tid) (x : BufferState)
+    → line_of side (entered at t x) ≡ (if same_side side at then line_of side x ++ t ∷ [] else line_of side x)
+entered_line side at t x = grind arith
+
+-- those who joined are those who were served, and then those in line; so it stays if one more joins
+joins : (v : Bool) (t : Tid) (all before line : List Tid) → all ≡ before ++ line
+    → (if v then all ++ t ∷ [] else all) ≡ before ++ (if v then line ++ t ∷ [] else line)
+joins true t all before line is = ap (λ l. l ++ t ∷ []) is ∙ append_assoc before line (t ∷ [])
+joins false t all before line is = is
+
+-- and if the first in line is served
+serves : (t : Tid) (all before line : List Tid) → all ≡ before ++ line → is_first t line ≡ true → all ≡ (before ++ t ∷ []) ++ rest line
+serves t all before line is first =
+    is ∙ ap (λ l. before ++ l) (first_in_line t line first) ∙ sym (append_assoc before (t ∷ []) (rest line))
+
+-- The lines of a buffer, and what a section makes of them.
+
+module _ (side : Side) (b : BufId) (c : CpuId) (position : Side → Tid → ℕ) (all : List Tid) (es : List Entry) (lock : BufferLock)
+    (is : all ≡ served side b.0 es ++ line_of side lock.above) where
+  abbrev Keeps : CvCall BufferEdit → Option Entry → Type 0
+  Keeps call effect =
+      (if enters side call then all ++ lock_caller buffer_rules call ∷ [] else all)
+      ≡ served side b.0 (option_to_list effect ++ es) ++ line_of side (lock_edited buffer_rules call lock).above
+
+  abbrev effect : CvCall BufferEdit → Option Entry
+  effect call = effect_on c b call position (Some lock)
+
+  abbrev line : List Tid
+  line = line_of side lock.above
+
+  keeps_acquire : (t : Tid) → Keeps (Acquire t) (effect (Acquire t))
+  keeps_acquire t = is ∙ ap (λ l. served side b.0 es ++ l) (sym (asked_stays side t lock.owner lock))
+
+  keeps_enter : (t : Tid) (at : Side) → may_join t (line_of at lock.above) ≡ true → Keeps (Inside (Edit (Enter t at))) (effect (Inside (Edit (Enter t at))))
+  keeps_enter t at may =
+      joins (same_side side at) t all (served side b.0 es) line is
+      ∙ ap (λ l. served side b.0 es ++ l) (sym (ap (λ v. line_of side (if v then entered at t lock.above else lock.above)) may ∙ entered_line side at t lock.above))
+
+  -- a try that is not its thread's turn changes nothing; at its turn the first in line is served
+  keeps_put : (t : Tid) (m : Message) (v : Bool) → is_next Senders t lock.above ≡ v
+      → Keeps (Inside (Edit (TryPut t m))) (effect (Inside (Edit (TryPut t m))))
+  keeps_put t m v next = put side v next is
+    where
+      put : (s : Side) (v : Bool) → is_next Senders t lock.above ≡ v → all ≡ served s b.0 es ++ line_of s lock.above
+          → all ≡ served s b.0 (option_to_list (effect (Inside (Edit (TryPut t m)))) ++ es)
+          ++ line_of s (lock_edited buffer_rules (Inside (Edit (TryPut t m))) lock).above
+      put Senders true next so = grind (arith, serves t all (served Senders b.0 es) lock.above.send_line so, next_is_first Senders t lock.above next)
+      put Receivers true next so = grind arith
+      put s false next so = grind arith
+
+  keeps_take : (t : Tid) (v : Bool) → is_next Receivers t lock.above ≡ v → Keeps (Inside (Edit (TryTake t))) (effect (Inside (Edit (TryTake t))))
+  keeps_take t v next = take side v next is
+    where
+      take : (s : Side) (v : Bool) → is_next Receivers t lock.above ≡ v → all ≡ served s b.0 es ++ line_of s lock.above
+          → all ≡ served s b.0 (option_to_list (effect (Inside (Edit (TryTake t)))) ++ es)
+          ++ line_of s (lock_edited buffer_rules (Inside (Edit (TryTake t))) lock).above
+      take Receivers true next so = grind (arith, serves t all (served Receivers b.0 es) lock.above.receive_line so, next_is_first Receivers t lock.above next)
+      take Senders true next so = grind arith
+      take s false next so = grind arith
+
+  keeps_shut : (t : Tid) → Keeps (Inside (Edit (Shut t))) (effect (Inside (Edit (Shut t))))
+  keeps_shut t = shuts side is
+    where
+      shuts : (s : Side) → all ≡ served s b.0 es ++ line_of s lock.above
+          → all ≡ served s b.0 (option_to_list (effect (Inside (Edit (Shut t)))) ++ es) ++ line_of s (shut lock.above)
+      shuts Senders so = grind arith
+      shuts Receivers so = grind arith
+
+  keeps_call : (O : LockId → Option BufferLock) (past : List BufferSection) (call : CvCall BufferEdit) → buffer_at O past (Buffer b) ≡ Some lock
+      → IsDue O past (Buffer b) call → (lock_caller buffer_rules call).0 < THREADS → Keeps call (effect call)
+  keeps_call O past (Acquire t) at due small = keeps_acquire t
+  keeps_call O past (Inside (Edit (Enter t Receivers))) at due small =
+      keeps_enter t Receivers (joins_now t lock.above.receive_line small (subst (λ o. is_in_line Receivers t o ≡ false) at due.1))
+  keeps_call O past (Inside (Edit (Enter t Senders))) at due small =
+      keeps_enter t Senders (joins_now t lock.above.send_line small (subst (λ o. is_in_line Senders t o ≡ false) at due.0))
+  keeps_call O past (Inside (Edit (TryPut t m))) at due small = keeps_put t m (is_next Senders t lock.above) refl
+  keeps_call O past (Inside (Edit (TryTake t))) at due small = keeps_take t (is_next Receivers t lock.above) refl
+  keeps_call O past (Inside (Edit (Shut t))) at due small = keeps_shut t
+  keeps_call O past (Inside (SignalFront t at_side)) at due small = is
+  keeps_call O past (Release leave) at due small = is
+
+-- The history of a buffer.
+
+-- effects elsewhere serve nobody of this line
+elsewhere : (side : Side) (b : BufId) (d : BufId) (o : Option Entry) (es : List Entry) → same_lock (Buffer b) (Buffer d) ≡ false
+    → ((e : Entry) → o ≡ Some e → e.buffer ≡ d) → served side b.0 (option_to_list o ++ es) ≡ served side b.0 es
+elsewhere side b d None es other its = refl
+elsewhere side b d (Some e) es other its =
+    let apart : (b.0 == e.buffer.0) ≡ false = ap (λ (x : BufId). b.0 == x.0) (its e refl) ∙ other in
+    ap (λ v. if v && same_group (group_of e.kind) (group_on side) then served side b.0 es ++ e.thread ∷ [] else served side b.0 es) apart
+
+module _ (opening : LockId → Option (QueueBlock BufferLock)) (starts : StartsWell opening) (boots : BootsSo opening) (b : BufId) (side : Side)
+    (within : b.0 < length (caps_in opening)) where
+  abbrev lock_at : List BufferSection → Option BufferLock
+  lock_at past = buffer_at (inner opening) past (Buffer b)
+
+  -- those who joined are those who were served and then those in line
+  IsServed : List BufferSection → Type 0
+  IsServed past = (lock : BufferLock) → lock_at past ≡ Some lock
+      → joined side (Buffer b) past ≡ served side b.0 (effects_in (inner opening) past) ++ line_of side lock.above
+
+  nobody_yet : IsServed []
+  unfolding IsServed
+  nobody_yet lock at =
+      let fresh : lock ≡ fresh_lock (get_or (caps_in opening) b.0 0) = same_Some lock (fresh_lock (get_or (caps_in opening) b.0 0)) (sym at
+      ∙ ap (λ locks. locks (Buffer b)) boots
+      ∙ ap (option_map fresh_lock) (slice_get-get_or (caps_in opening) b.0 0 within)) in
+      sym (ap (λ (l : BufferLock). line_of side l.above) fresh ∙ empty side)
+    where
+      empty : (s : Side) → line_of s (fresh_lock (get_or (caps_in opening) b.0 0)).above ≡ []
+      empty s = grind arith
+
+  one_section : (past : List BufferEvent) (c : CpuId) (d : BufId) (call : CvCall BufferEdit) → IsDue (inner opening) (buffer_sections past) (Buffer d) call
+      → (lock_caller buffer_rules call).0 < THREADS → IsServed (buffer_sections past) → IsServed (section c (Buffer d) call ∷ buffer_sections past)
+  unfolding IsServed
+  one_section past c d call due small before = go (same_lock (Buffer b) (Buffer d)) refl
+    where
+      here : Option Entry
+      here = effect_of (inner opening) (buffer_sections past) (section c (Buffer d) call)
+
+      go : (v : Bool) → same_lock (Buffer b) (Buffer d) ≡ v → (lock : BufferLock) → lock_at (section c (Buffer d) call ∷ (buffer_sections past)) ≡ Some lock
+          → joined side (Buffer b) (section c (Buffer d) call ∷ (buffer_sections past))
+          ≡ served side b.0 (effects_in (inner opening) (section c (Buffer d) call ∷ (buffer_sections past))) ++ line_of side lock.above
+      go true is lock at =
+          let was = found opening boots b within past in
+          let one : Buffer b ≡ Buffer d = same_lock_true (Buffer b) (Buffer d) is in
+          let there : buffer_at (inner opening) (buffer_sections past) (Buffer d) ≡ Some was.0 = ap (buffer_at (inner opening) (buffer_sections past)) (sym one) ∙ was.1 in
+          let same : d ≡ b = buffer_same d b (sym one) in
+          let edited : lock ≡ lock_edited buffer_rules call was.0 = same_Some lock (lock_edited buffer_rules call was.0) (sym at
+          ∙ ap (λ (v : Bool). if v then option_map (lock_edited buffer_rules call) (lock_at (buffer_sections past)) else lock_at (buffer_sections past)) is
+          ∙ ap (option_map (lock_edited buffer_rules call)) was.1) in
+          let kept = keeps_call side b c (λ s t. drawn (inner opening) (Buffer d) s t (buffer_sections past)) (joined side (Buffer b) (buffer_sections past))
+          (effects_in (inner opening) (buffer_sections past)) was.0 (before was.0 was.1) (inner opening) (buffer_sections past) call was.1
+          (subst (λ (x : BufId). IsDue (inner opening) (buffer_sections past) (Buffer x) call) same due) small in
+          ap (λ (v : Bool). if v && enters side call then joined side (Buffer b) (buffer_sections past) ++ lock_caller buffer_rules call ∷ [] else joined side (Buffer b) (buffer_sections past))
+          is
+          ∙ kept
+          ∙ ap (λ (o : Option Entry). served side b.0 (option_to_list o ++ effects_in (inner opening) (buffer_sections past))
+          ++ line_of side (lock_edited buffer_rules call was.0).above) (sym (effect_here was.0 there same))
+          ∙ ap (λ (l : BufferLock). served side b.0 (effects_in (inner opening) (section c (Buffer d) call ∷ (buffer_sections past))) ++ line_of side l.above) (sym edited)
+        where
+          buffer_same : (x y : BufId) → Buffer x ≡ Buffer y → x ≡ y
+          buffer_same x y same = cc same
+
+          effect_here : (l : BufferLock) → buffer_at (inner opening) (buffer_sections past) (Buffer d) ≡ Some l → d ≡ b
+              → here ≡ effect_on c b call (λ s t. drawn (inner opening) (Buffer d) s t (buffer_sections past)) (Some l)
+          effect_here l there same =
+              ap (λ (o : Option BufferLock). effect_on c d call (λ s t. drawn (inner opening) (Buffer d) s t (buffer_sections past)) o) there
+              ∙ ap (λ (x : BufId). effect_on c x call (λ s t. drawn (inner opening) (Buffer d) s t (buffer_sections past)) (Some l)) same
+      go false is lock at =
+          let was : lock_at (buffer_sections past) ≡ Some lock
+          = sym (ap (λ (v : Bool). if v then option_map (lock_edited buffer_rules call) (lock_at (buffer_sections past)) else lock_at (buffer_sections past)) is) ∙ at in
+          ap (λ (v : Bool). if v && enters side call then joined side (Buffer b) (buffer_sections past) ++ lock_caller buffer_rules call ∷ [] else joined side (Buffer b) (buffer_sections past))
+          is
+          ∙ before lock was
+          ∙ ap (λ (l : List Tid). l ++ line_of side lock.above) (sym (elsewhere side b d here (effects_in (inner opening) (buffer_sections past)) is (λ e at_e.
+          (effect_position c d call (λ s t. drawn (inner opening) (Buffer d) s t (buffer_sections past)) (buffer_at (inner opening) (buffer_sections past) (Buffer d)) e at_e).1)))
+
+  served_all : (past : List BufferEvent) → IsLawful (QueueAllowed (lock_kernel (cv_rules buffer_monitor_rules) opening)) past
+      → IsServed (buffer_sections past)
+  served_all [] lawful = nobody_yet
+  served_all (e ∷ past) lawful = by_call e.call lawful.0 (served_all past lawful.1)
+    where
+      by_call : (call : QueueCall (CvCall BufferEdit))
+          → QueueAllowed (lock_kernel (cv_rules buffer_monitor_rules) opening) past (record { cpu = e.cpu; call = call })
+          → IsServed (buffer_sections past) → IsServed (with_section e.cpu call (buffer_sections past))
+      by_call (Push q t) may before = before
+      by_call (TakeAll q) may before = before
+      by_call (OnBuffer d call) may before =
+          one_section past e.cpu d call may.upper.granted
+          (small_home opening starts boots b side within (lock_caller buffer_rules call) e.cpu may.caller.home) before
+
+pub served_in_line : FirstComeFirstServed
+unfolding IsServed
+served_in_line opening past starts boots lawful b side within lock at = served_all opening starts boots b side within past lawful lock at

@@ -1,0 +1,32 @@
+-- First come, first served: the calls of one side of a buffer take effect in the order in which their threads joined its line.
+use Rattle.std.specs.Prelude.{◌≡◌, ℕ, ◌<◌, ◌==◌, ◌&&◌, List, [], ◌∷◌, ◌++◌, length, Option, Some, if◌then◌else◌}
+use Rattle.event_log.specs.declared.{entries.{Entry.Entry}, ids.{BufId.BufId, LockId.{LockId, TheVariants.Buffer}, Tid.Tid}}
+use Rattle.event_log.specs.{History.{IsLawful, same_lock}, Runs.{Group, Sends, Receives, group_of, same_group}}
+use Rattle.layer_traits.specs.declared.{locked.Side.{Side, TheVariants.{Receivers, Senders}}, queue_edits.QueueBlock.QueueBlock}
+use Rattle.layer_traits.specs.{BufferBlocks.line_of, BufferEffects.effects_in, BufferProtocol.{BufferLock, BufferSection, buffer_at, buffer_monitor_rules}}
+use Rattle.layer_traits.specs.{BufferProtocol.buffer_rules, Conditions.cv_rules, QLockLaw.lock_kernel, QLocking.lock_caller, QueueBlocks.{StartsWell, inner}}
+use Rattle.{layer_traits.specs.Queues.{QueueAllowed, buffer_sections}, fifo_buffer.specs.{FifoFits.{BootsSo, caps_in}, Positions.enters, SectionPolls.BufferEvent}}
+
+-- the threads that joined this side's line of a lock's buffer in these sections, the first in front
+abbrev pub joined : Side → LockId → List BufferSection → List Tid
+joined side lock [] = []
+joined side lock (s ∷ past) =
+    if same_lock lock s.lock && enters side s.edit then joined side lock past ++ lock_caller buffer_rules s.edit ∷ [] else joined side lock past
+
+-- the effects that are counted with this side's
+abbrev pub group_on : Side → Group
+group_on Receivers = Receives
+group_on Senders = Sends
+
+-- the threads whose calls of this side took effect on buffer b, the first in front
+abbrev pub served : Side → ℕ → List Entry → List Tid
+served side b [] = []
+served side b (e ∷ past) =
+    if (b == e.buffer.0) && same_group (group_of e.kind) (group_on side) then served side b past ++ e.thread ∷ [] else served side b past
+
+-- after lawful events those who joined a line are those whose calls of its side took effect, in the same order, and then those who still stand in line
+abbrev pub FirstComeFirstServed : Type 0
+FirstComeFirstServed = (opening : LockId → Option (QueueBlock BufferLock)) (past : List BufferEvent) → StartsWell opening → BootsSo opening
+    → IsLawful (QueueAllowed (lock_kernel (cv_rules buffer_monitor_rules) opening)) past → (b : BufId) (side : Side) → b.0 < length (caps_in opening)
+    → (lock : BufferLock) → buffer_at (inner opening) (buffer_sections past) (Buffer b) ≡ Some lock
+    → joined side (Buffer b) (buffer_sections past) ≡ served side b.0 (effects_in (inner opening) (buffer_sections past)) ++ line_of side lock.above
