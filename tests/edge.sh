@@ -467,7 +467,7 @@ asked_by_constant() {
 }
 # Each line of the folders and files $@ of more than 160 columns, of code, proofs and scripts.
 too_long() {
-  find "$@" -name out -prune -o -type f \( -name '*.rt' -o -name '*.antt' -o -name '*.rs' -o -name '*.py' -o -name '*.sh' -o -path '*/.ci/run' \) -print \
+  find "$@" -name out -prune -o -type f -regex '.*\(\.ci/run\|\.\(rt\|antt\|rs\|py\|sh\|c\|S\)\)' -print 2> /dev/null \
     | LC_ALL=C.UTF-8 xargs grep -nE '^.{161}' | cut -d: -f1,2 | sort
 }
 
@@ -535,7 +535,7 @@ source_row 'who stands on crossbeam_utils' cpu_workers "$(sed -nE 's/^([a-z_]+):
 source_row 'who names it' cpu_workers "$(grep -rlw --include='*.rt' crossbeam_utils crates/*/src | cut -d/ -f2 | sort -u)"
 source_row 'who says of what kind a counted lock is' 'mctower/src/locks.rt: impl<L: OnLock> LockOfKind<L> for KindOf {' \
   "$(cd crates && find . -path '*/src/*' -name '*.rt' -exec grep -HE '\<LockOfKind<.*> *for\>|^ *LockOfKind<.*>$' {} + | sed -e 's|^\./||' -e 's/:/: /')"
-source_row 'lines of more than 160 columns' '' "$(too_long .ci bench crates tests tools)"
+source_row 'lines of more than 160 columns' '' "$(too_long .ci bench crates metal plans tests tools web)"
 
 echo "edge: $passed passed, $failed failed"
 [ "$failed" = 0 ]
