@@ -1,7 +1,7 @@
 -- A text that is read and judged in parts has the verdict of the whole.
 use Rattle.std.proofs.Common.{◌≡◌, ℕ, ◌+◌, ◌-◌, ◌≤◌, ◌==◌, List, [], ◌∷◌, ◌++◌, length, take, drop, Option, Some, None, Ok, Err, IfSome, refl, sym, ap, ◌∙◌}
 use Rattle.std.proofs.{Common.{append_assoc, append-nil, eq-eqb, arith, length-append}, lemmas.List.{drop-take, length-drop, length-take, Edits.take-paste}}
-use Rattle.{std.{proofs.lemmas.List.Splits.slice_split_at, specs.Io.KnownBytes.{Consumes, IsAtEnd, Keeps}}, tracer.specs.declared.checking.TextJudge.TextJudge}
+use Rattle.{std.{proofs.lemmas.List.Splits.slice_split_at, specs.Io.KnownBytes.{Consumes, IsAtEnd}}, tracer.specs.declared.checking.TextJudge.TextJudge}
 use Rattle.tracer.specs.{declared.verdicts.{Reason.Reason, Verdict.{Verdict, TheVariants.{No, Yes}}}, Judging.{lines_in, step, verdict_from, verdict_of}}
 use Rattle.tracer.specs.{Inputs.IsReadBehind, Lines.IsFirstLine, Parts.verdict_behind, Tallies.progress_of, Verdicts.{IsTraceOfRun, IsVerdictOn}}
 use Rattle.tracer.proofs.VerdictLemmas.{line_taken, line_refused}
@@ -11,9 +11,6 @@ use lib.Seq.{paste, take-add}
 
 pub consumes_then : (from mid now : Option (List ℕ)) (xs ys : List ℕ) → Consumes from mid xs → Consumes mid now ys → Consumes from now (xs ++ ys)
 consumes_then from mid now xs ys first second = grind (arith, append_assoc)
-
-pub consumes_kept : (from mid now : Option (List ℕ)) (xs : List ℕ) → Consumes from mid xs → Keeps mid now → Consumes from now xs
-consumes_kept from mid now xs first kept = grind arith
 
 -- a reader that is at its end gave all that it had
 all_consumed : (from now : Option (List ℕ)) (seen : List ℕ) → Consumes from now seen → IsAtEnd now → IfSome from (λ known. seen ≡ known)
@@ -26,10 +23,6 @@ read_then old mid new from between now first second = record {
   read = consumes_then from between now first.more second.more first.read second.read;
   grown = second.grown ∙ ap (λ (t : List ℕ). t ++ second.more) first.grown ∙ append_assoc old first.more second.more;
 }
-
-pub read_kept : (old new : List ℕ) (from between now : Option (List ℕ)) → IsReadBehind old new from between → Keeps between now → IsReadBehind old new from now
-read_kept old new from between now first kept =
-    record { more = first.more; read = consumes_kept from between now first.more first.read kept; grown = first.grown }
 
 -- one read behind the first `at` bytes, which stay
 pub read_more : (xs ys : List ℕ) (at n : ℕ) (mid now : Option (List ℕ)) → take at ys ≡ take at xs → Consumes mid now (take n (drop at ys))

@@ -1,10 +1,14 @@
 -- A text that is read and judged in parts.
-use Rattle.{std.specs.Prelude.{ℕ, List, Some, None, take}, tracer.specs.declared.{parts.Part.Part, checking.TextJudge.TextJudge, verdicts.Verdict.Verdict}}
+use Rattle.{std.specs.Prelude.{ℕ, List, Some, None, length, take}, tracer.specs.declared.{parts.Part.Part, checking.TextJudge.TextJudge, verdicts.Verdict.Verdict}}
 use Rattle.tracer.specs.{declared.verdicts.Verdict.TheVariants.No, Judging.{lines_in, verdict_from}, Tallies.progress_of}
 
 -- the bytes that are read and not yet judged
 abbrev pub held : Part → List ℕ
 held part = take part.filled part.bytes.items
+
+-- the bytes for which it has room
+abbrev pub room_of : Part → ℕ
+room_of part = length part.bytes.items
 
 -- the verdict, where this text comes behind the lines that were judged
 abbrev pub verdict_behind : TextJudge → List ℕ → Verdict

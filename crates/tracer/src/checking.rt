@@ -10,6 +10,7 @@ use crate::judge::Judge;
 use crate::laws::yes_is_right;
 use crate::parts::Part;
 use crate::pieces::cut_line;
+use crate::reads::ReadFailed;
 use crate::verdicts::{Reason, Verdict};
 use event_log::NoMemory;
 use std::alloc::Global;
@@ -123,11 +124,11 @@ impl From<NoMemory> for InputFault {
     }
 }
 
-impl From<io::ErrorKind> for InputFault {
-    ghost from_gives = { λ kind fault. fault ≡ FaultOfRead kind };
+impl From<ReadFailed> for InputFault {
+    ghost from_gives = { λ failed fault. fault ≡ FaultOfRead failed.kind };
 
-    fn from(kind: io::ErrorKind) -> InputFault {
-        InputFault::ReadFault(kind)
+    fn from(failed: ReadFailed) -> InputFault {
+        InputFault::ReadFault(failed.kind())
     }
 }
 

@@ -20,6 +20,7 @@ mod next_lines;
 mod numerals;
 mod parts;
 mod pieces;
+mod reads;
 mod sinks;
 mod tally;
 mod verdicts;

@@ -6,7 +6,7 @@ use Rattle.tracer.proofs.checking.check_input.Goals as goal
 pub returns-in_err-ended-clause-retried : goal.returns-in_err-ended-clause-retried
 returns-in_err-ended-clause-retried g c =
     let failed = err_from_is_err_and c.from_residual-in_err-ended.result c.from_residual-in_err-ended.ensures.1 in
-    let told : failed.0 ≡ FaultOfRead c.in_err-ended.field-0.0 = failed.2 in
+    let told : failed.0 ≡ FaultOfRead c.in_err-ended.field-0.0.kind = failed.2 in
     rw failed.1 (λ same. c.in_err-ended.ensures.retried (let again : failed.0 ≡ FaultOfRead Interrupted = same in cc))
 
 pub returns-then-ended-clause-verdict : goal.returns-then-ended-clause-verdict
@@ -17,7 +17,7 @@ returns-then-ended-clause-verdict g c =
     let part = c.drop_front.new.self in
     let judged = judged_part (remaining c.args.input.now) (remaining c.loop.input) (remaining c.fill.new.input) c.loop.judge judge (held c.loop.part)
     (held c.fill.new.self) c.held-in-loop.result.now (held part) c.take_lines-taken.result c.loop.invariant read.read c.held-in-loop.ensures
-    c.take_lines-taken.ensures.judged c.drop_front.ensures in
+    c.take_lines-taken.ensures.judged c.drop_front.ensures.held in
     judged_all (remaining c.args.input.now) (remaining c.fill.new.input) judge (held part) c.verdict.result judged (read.end (ap Ok c.if-ended.true))
     (c.verdict.ensures ∙ ap (verdict_behind judge) c.held-then-ended.ensures) c.yes_is_right.ensures.sound
 
@@ -26,4 +26,4 @@ loop-preserved g c =
     let remaining = g.R.Read.remaining in
     judged_part (remaining c.args.input.now) (remaining c.loop.input) (remaining c.fill.new.input) c.loop.judge c.take_lines-taken.new.self (held c.loop.part)
     (held c.fill.new.self) c.held-in-loop.result.now (held c.make_room.new.self) c.take_lines-taken.result c.loop.invariant c.in_ok-ended.ensures.read
-    c.held-in-loop.ensures c.take_lines-taken.ensures.judged (c.make_room.ensures ∙ c.drop_front.ensures)
+    c.held-in-loop.ensures c.take_lines-taken.ensures.judged (c.make_room.ensures.held ∙ c.drop_front.ensures.held)

@@ -1,27 +1,20 @@
 -- One read more.
-use Rattle.std.proofs.Common.{◌+◌, take, ◌∙◌, arith}
-use Rattle.tracer.proofs.{PartLemmas.{read_kept, read_more, read_then}, parts.fill_behind.Goals.{in-Ok, in-Err+else-ne}}
+use Rattle.std.proofs.Common.{◌+◌, take, ◌∙◌}
+use Rattle.tracer.proofs.PartLemmas.{read_more, read_then}
 use Rattle.tracer.proofs.parts.fill_behind.Goals as goal
 
-pub loop-preserved : goal.loop-preserved
-loop-preserved g c =
+pub loop-filled-preserved : goal.loop-filled-preserved
+loop-filled-preserved g c =
     let remaining = g.R.Read.remaining in
-    let before = c.loop.invariant in
-    let filled = c.loop.filled in
+    let before = c.loop-filled.invariant in
+    let filled = c.loop-filled.filled in
+    let count = c.in_ok-count.count in
     let bytes = c.read_behind.new.bytes in
-    elim c.match-read_behind.branch [
-      | in-Ok w ↦ record {
-        room = c.read_behind.ensures.length ∙ before.room;
-        fits = rw w.filled-is w.in-Ok.ensures.fits;
-        read = rw w.filled-is (read_then (take c.args.at c.args.bytes.now) (take filled c.loop.bytes) (take (filled + w.in-Ok.count) bytes)
-            (remaining c.args.input.now) (remaining c.loop.input) (remaining c.read_behind.new.input) before.read
-            (read_more c.loop.bytes bytes filled w.in-Ok.count (remaining c.loop.input) (remaining c.read_behind.new.input) w.in-Ok.ensures.front
-            w.in-Ok.ensures.read));
-      }
-      | in-Err+else-ne w ↦ record {
-        room = c.read_behind.ensures.length ∙ before.room;
-        fits = (let same = w.filled-is in let long = c.read_behind.ensures.length in let inside = before.fits in omega arith);
-        read = rw (w.filled-is, w.in-Err.ensures.front) (read_kept (take c.args.at c.args.bytes.now) (take filled c.loop.bytes)
-            (remaining c.args.input.now) (remaining c.loop.input) (remaining c.read_behind.new.input) before.read w.in-Err.ensures.kept);
-      }
-    ]
+    let known = c.in_ok-count.ensures in
+    record {
+      room = known.length ∙ before.room;
+      fits = known.fits;
+      read = read_then (take c.args.at c.args.bytes.now) (take filled c.loop-filled.bytes) (take (filled + count) bytes) (remaining c.args.input.now)
+          (remaining c.loop-filled.input) (remaining c.read_behind.new.input) before.read
+          (read_more c.loop-filled.bytes bytes filled count (remaining c.loop-filled.input) (remaining c.read_behind.new.input) known.front known.read);
+    }
