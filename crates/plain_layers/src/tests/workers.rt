@@ -1,5 +1,7 @@
 //! Workers that are refused memory or a thread.
 
+ghost use Rattle.std.specs.Prelude.{◌≡◌};
+
 use boot::{Boot, BootError};
 use cpu_workers::{Gate, Go, Report, WorkerError, run_workers};
 use event_log::{BufId, CpuId, Msg};
