@@ -186,7 +186,7 @@ class Socket:
     """A WebSocket to a program of this machine, for texts."""
 
     def __init__(self, port):
-        self.line = socket.create_connection(("127.0.0.1", port), 120)
+        self.line = socket.create_connection(("127.0.0.1", port), 300)
         key = base64.b64encode(os.urandom(16)).decode()
         self.line.sendall(f"GET /session HTTP/1.1\r\nHost: 127.0.0.1:{port}\r\nUpgrade: websocket\r\nConnection: Upgrade\r\n"
                           f"Sec-WebSocket-Key: {key}\r\nSec-WebSocket-Version: 13\r\n\r\n".encode())
