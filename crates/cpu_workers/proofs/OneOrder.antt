@@ -1,6 +1,6 @@
 -- The traces of all CPUs are an order of the effects of one list of actions, if each CPU has seen a front of it that has all of its own.
 use Rattle.std.proofs.Common.{◌≡◌, ℕ, suc, ◌*◌, ◌<◌, ◌≤◌, ◌==◌, ◌^◌, false, List, [], ◌∷◌, ◌++◌, length, map, All, reverse, Option, Some, None, option_to_list}
-use Rattle.std.proofs.{Common.{slice_index_or, refl, ap, sym, ◌∙◌, subst, arith}, lemmas.{Bool.cases_lt, List.{length-reverse, reverse-append}}}
+use Rattle.std.proofs.{Common.{append_assoc, slice_index_or, refl, ap, sym, ◌∙◌, subst, arith}, lemmas.{Bool.cases_lt, List.{append-nil, length-reverse, reverse-append}}}
 use Rattle.std.{proofs.lemmas.{List.Sums.{sum_by-cons, sum_by-le, sum_by-set}, Option.{get_or_from_slice_get, slice_get_within}}, specs.List.AllByRecursion}
 use Rattle.std.specs.{List.sum_by, Prelude.slice_set}
 use Rattle.event_log.specs.{declared.{entries.Entry.Entry, ids.{CpuId.CpuId, LockId.TheVariants.Buffer}}, Actions.{Action, Take, Try, Give, cpu_of_action}}
@@ -10,7 +10,7 @@ use Rattle.layer_traits.specs.{BufferEffects.{MayTakeEffect, contents_of, drawn,
 use Rattle.layer_traits.specs.{BufferProtocol.buffer_at as block_at, OnePlace.cpu_at, Protocol.section, Queues.{buffer_at, buffer_sections, event_of}}
 use Rattle.{layer_traits.proofs.EffectRunLemmas.effects_are_run, fifo_buffer.specs.Laws.Tallies.effect_position, cpu.specs.{Cpus.of_cpu, Tower.Views.TowerName}}
 use Rattle.cpu.{specs.Linear.OrderGrows, proofs.{Moments.order_stays, ListReads.all_reversed, OneOrder.{filter_reversed, interleaved}}}
-use Rattle.cpu_workers.specs.Orders.{IsTraceOf, effects_of}
+use Rattle.cpu_workers.specs.{Laws.OrderGoesOn, Orders.{IsTraceOf, effects_of}}
 
 -- An action adds at most one effect, of its own CPU.
 
@@ -68,6 +68,30 @@ module _ (caps : List ℕ) where
       ∙ of_others c one.effect (effects_of caps (more ++ past))
       (λ e at. subst (λ (d : CpuId). same_cpu d c ≡ false) (sym (one.its e at)) others.0)
       ∙ effects_since c more past others.1
+
+  -- from a front to a later one
+  of_both : (c : CpuId) (es fs : List Entry) → of_cpu c es ≡ [] → of_cpu c fs ≡ [] → of_cpu c (es ++ fs) ≡ []
+  of_both c [] fs none nor = nor
+  of_both c (e ∷ es) fs none nor = grind (arith, none, nor, of_both c es fs)
+
+  pub fronts_keep_order : (later earlier : List (Action TowerName)) → OrderGoesOn caps later earlier
+  fronts_keep_order [] earlier = record { more = []; is = sym (append-nil (reverse (effects_of caps earlier))); own = λ c others. refl }
+  fronts_keep_order (a ∷ later) earlier =
+      let before = fronts_keep_order later earlier in
+      let one = adds a (later ++ earlier) in
+      record {
+        more = before.more ++ option_to_list one.effect;
+        is = ap (λ (es : List Entry). reverse es) one.is ∙ behind one.effect (effects_of caps (later ++ earlier))
+            ∙ ap (λ (es : List Entry). es ++ option_to_list one.effect) before.is
+            ∙ append_assoc (reverse (effects_of caps earlier)) before.more (option_to_list one.effect);
+        own = λ c others. of_both c before.more (option_to_list one.effect) (before.own c others.1)
+            (ap (of_cpu c) (sym (append-nil (option_to_list one.effect)))
+            ∙ of_others c one.effect [] (λ e at. subst (λ (d : CpuId). same_cpu d c ≡ false) (sym (one.its e at)) others.0));
+      }
+    where
+      behind : (o : Option Entry) (es : List Entry) → reverse (option_to_list o ++ es) ≡ reverse es ++ option_to_list o
+      behind None es = sym (append-nil (reverse es))
+      behind (Some e) es = reverse-append (e ∷ []) es
 
   -- where a CPU has seen a front of the list, and all of its own actions, its trace is its effects in the whole list
   pub trace_in : (c : CpuId) (more past log : List (Action TowerName)) (trace : List Entry) → log ≡ more ++ past → AreOthers cpu_of_action c more

@@ -1,9 +1,9 @@
 -- What holds of workers that run at one table.
 use Rattle.std.specs.Prelude.{◌≡◌, ℕ, ◌≤◌, ◌<◌, Bool, true, List, [], ◌∷◌, ◌++◌, reverse, None}
-use Rattle.{event_log.specs.{declared.ids.CpuId.CpuId, History.{AreOthers, own_events}, Actions.{Action, cpu_of_action}}, cpu.specs.Table.Blocks.Name}
+use Rattle.{event_log.specs.{declared.{entries.Entry.Entry, ids.CpuId.CpuId}, History.{AreOthers, own_events}, Actions.{Action, cpu_of_action}}, cpu.specs.Table.Blocks.Name}
 use Rattle.cpu.specs.{Table.{Setups.{Setup, Private, at_boot, have_ended, home_threads}, Steps.{cpu_step, halted_at}}, Wakeups.Lost.LosesNoWakeUp}
 use Rattle.cpu_workers.specs.{declared.workers.stops.Stop.{Stop, TheVariants.{AllEnded, TurnsUsed, Held}}, Orders.effects_of, Reports.{IsTrueStop, Took}}
-use Rattle.cpu.specs.{Linear.OrderGrows, Tower.Views.TowerName}
+use Rattle.cpu.specs.{Cpus.of_cpu, Linear.OrderGrows, Tower.Views.TowerName}
 
 -- a worker's CPU has come from boot by the step table along what it has seen, and the list goes on from that with other CPUs' actions
 pub record HasWorked (setup : Setup) (c : CpuId) (log : List (Action Name)) : Type 0 where
@@ -28,6 +28,17 @@ WorkersLoseNoWakeUp = (setup : Setup) (log : List (Action Name)) → HaveWorked 
 abbrev pub ActionsLetOrderGoOn : Type 0
 ActionsLetOrderGoOn = (caps : List ℕ) (a : Action TowerName) (past : List (Action TowerName))
     → OrderGrows (cpu_of_action a) (reverse (effects_of caps past)) (reverse (effects_of caps (a ∷ past)))
+
+-- at a later front of a list of actions the order of the calls is that at the earlier one and then more, none of which is of a CPU that did not
+-- act in between: a call that took effect by the earlier front comes before each that did so later
+pub record OrderGoesOn (caps : List ℕ) (later earlier : List (Action TowerName)) : Type 0 where
+  pub more : List Entry
+  pub is : reverse (effects_of caps (later ++ earlier)) ≡ reverse (effects_of caps earlier) ++ more
+  pub own : (c : CpuId) → AreOthers cpu_of_action c later → of_cpu c more ≡ []
+
+-- so it is with any two fronts
+abbrev pub FrontsKeepOrder : Type 0
+FrontsKeepOrder = (caps : List ℕ) (later earlier : List (Action TowerName)) → OrderGoesOn caps later earlier
 
 -- what a true stop says of the CPU: all its threads have ended, or it is not halted
 pub record SaysTrue (setup : Setup) (c : CpuId) (last : Private) (turns taken : ℕ) (stop : Stop) : Type 0 where

@@ -1,7 +1,7 @@
 //! What holds of workers that run at one table. Each law is the contract of a function that does
 //! nothing, so that the law is proved with the crate.
 
-ghost use Rattle.cpu_workers.specs.{Closing.ReportsAreLawful, Laws.ActionsLetOrderGoOn, Laws.StopsAreTrue, Laws.WorkersLoseNoWakeUp, ReportRuns.ReportsAreRuns};
+ghost use Rattle.cpu_workers.specs.{Closing.ReportsAreLawful, Laws.ActionsLetOrderGoOn, Laws.FrontsKeepOrder, Laws.StopsAreTrue, Laws.WorkersLoseNoWakeUp, ReportRuns.ReportsAreRuns};
 
 use crate::workers::Gate;
 
@@ -18,6 +18,13 @@ pub fn workers_lose_no_wake_up()
 /// of atomic steps, is that of the steps in which the calls took effect.
 pub fn actions_let_order_go_on()
     ensures { ActionsLetOrderGoOn }
+{}
+
+/// Of two fronts of one list of atomic steps: the order of the calls at the later one is that at the
+/// earlier one and then more, none of which is of a thread that took no step in between. So a call that
+/// took effect by the earlier one comes before each that did so later.
+pub fn fronts_keep_order()
+    ensures { FrontsKeepOrder }
 {}
 
 /// A worker stops with `AllEnded` only where each thread at home on its CPU has ended, and with

@@ -417,6 +417,8 @@ fn an_open_gate_lets_every_turn_pass(rt: HostRuntime) {
 fn each_law_of_workers_can_be_called(_rt: HostRuntime) {
     reports_are_lawful(&OpenGate);
     reports_are_runs(&OpenGate);
+    cpu_workers::actions_let_order_go_on();
+    cpu_workers::fronts_keep_order();
     stops_are_true();
     workers_lose_no_wake_up();
 }
