@@ -9,5 +9,6 @@ mod OrderNumbers
 mod SpellingLemmas
 mod TabledLemmas
 mod RunningLemmas
+mod ThreadsAreRuns
 mod ThreadsLemmas
 mod Unguarded

@@ -31,7 +31,7 @@ listed_is (x ∷ xs) f (suc n) k d count each =
     (λ b within. let next : k + suc b ≡ k + 1 + b = omega arith in each (suc b) (omega (arith, within)) ∙ ap f next) in
     λ i. here i ∷ more i
 
-listed_alike : {X : Type 0} (f g : ℕ → X) (n k : ℕ) → ((b : ℕ) → b < n → f (k + b) ≡ g (k + b)) → listed f k n ≡ listed g k n
+pub listed_alike : {X : Type 0} (f g : ℕ → X) (n k : ℕ) → ((b : ℕ) → b < n → f (k + b) ≡ g (k + b)) → listed f k n ≡ listed g k n
 listed_alike f g zero k each = refl
 listed_alike f g (suc n) k each =
     let same : k + 0 ≡ k = omega arith in

@@ -8,6 +8,7 @@ use Rattle.{cpu_workers.specs.Lawful.{CpuReport, Shown, ReportsTrue, left_in}, m
 use Rattle.mctower.specs.{declared.{run.Fault.Fault, serve.Done.{Done, TheVariants.Worked}}, Output.Output, Refusals.{from_fault, lacks_memory}, Serve.OfPlan}
 use Rattle.mctower.specs.{Serve.{RefusedBy, WorksPlan}, Texts.{HaveText, IsOut, IsTextOf, Writes}, Threads.{IsWorked, AlwaysOpen}}
 use Rattle.{event_log.{specs.Buffers.empty_buffers, proofs.RunLemmas.op_order_from}, tracer.proofs.OrderLemmas.orders_agree}
+use Rattle.mctower.proofs.ThreadsAreRuns.{printed_by_run}
 use Rattle.mctower.specs.declared.run.Fault.TheVariants as run
 
 -- what is so for a plan that was read
@@ -52,6 +53,7 @@ has_worked turns plan r stops text lawful same is = record {
   fifo = taken_put plan.caps is.order (left_in (length plan.caps) r) is.run;
   in_time = orders_agree r.traces is.order lawful.report.order is.keeps
       (lawful.report.keeps, op_order_from plan.caps [] (empty_buffers plan.caps) lawful.report.order (left_in (length plan.caps) r) lawful.report.run);
+  is_run = printed_by_run plan turns r lawful text is;
 }
 
 -- the plan's workers have run, their text is out, and nothing more was put out behind it

@@ -10,7 +10,7 @@ use Rattle.mctower.specs.declared.{refusals.Refusal.TheVariants.{BadSchedule, Pl
 use Rattle.mctower.specs.declared.{faults.NoOrder.TheVariants.{AsksHelp, AsksVersion}, help.TheConstants.VERSION, serve.Done.{Done, TheVariants.{Exit, Ran}}}
 use Rattle.mctower.specs.{declared.{serve.Done.TheVariants.Worked, states.State.State}, Running.{AreCpus, IsRunOf, NoCondition}, Faults.{IsFault, IsWhy}}
 use Rattle.mctower.specs.{Help.{help_of, topic_of}, State.{IsStateOf, text_of_state}, Schedule.steps_of, Tabled.{IsStateOfRun, IsTextOfRun}, Texts.IsTextOf}
-use Rattle.{mctower.specs.Threads.{IsWorked, stop_text}, cpu.specs.Claims.{Shown, traces_of}, cpu_workers.specs.declared.workers.stops.Stop.Stop}
+use Rattle.{tracer.specs.Gather.on_buffer, mctower.specs.Threads.{IsWorked, stop_text}, cpu.specs.Claims.{Shown, traces_of}, cpu_workers.specs.declared.workers.stops.Stop.Stop}
 use Rattle.tracer.specs.declared.verdicts.Verdict.TheVariants as verdict
 use Rattle.tracer.specs.Reasons as reasons
 use Rattle.tracer.specs.declared.checking.InputFault.TheVariants as unjudged
@@ -115,7 +115,8 @@ abbrev pub PutsRun : BootPlan → List CpuId → Shown → List ℕ → Result D
 PutsRun plan steps s text answer out = ReportsRun plan steps s answer out.failed × IsTold out text
 
 -- the plan's system took the steps, by the step table, and its trace text is written; in the order that it tells, for each buffer what was put is
--- what was taken, in that order, and then what is left; it is the text of the step table's system of the plan after these steps
+-- what was taken, in that order, and then what is left, and its calls stand as they took effect; it is the text of the step table's system of the
+-- plan after these steps
 pub record RunsTrace (plan : BootPlan) (steps : List CpuId) (answer : Result Done Refusal) (printed : Output) : Type 0 where
   pub cpus : AreCpus plan.cpus steps
   pub system : Shown
@@ -123,6 +124,7 @@ pub record RunsTrace (plan : BootPlan) (steps : List CpuId) (answer : Result Don
   pub trace : List ℕ
   pub traced : IsTextOf plan.caps (traces_of system) system.contents trace
   pub fifo : IsFirstInFirstOut traced.order system.contents
+  pub in_time : (b : ℕ) → on_buffer b traced.order ≡ on_buffer b system.order
   pub table : IsTextOfRun plan steps trace
   pub put : PutsRun plan steps system trace answer printed
 

@@ -32,6 +32,10 @@ reason_at setup w k = reason_by setup (cpu_numbered k) w (slice_get w.cpus k)
 abbrev pub IsTextOfRun : BootPlan → List CpuId → List ℕ → Type 0
 IsTextOfRun plan steps text = IsTextOf plan.caps (traces_at (table_run plan steps)) (contents_at (setup_for plan) (table_run plan steps)) text
 
+-- a run has one text
+abbrev pub RunsHaveOneText : Type 0
+RunsHaveOneText = (plan : BootPlan) (steps : List CpuId) (one other : List ℕ) → IsTextOfRun plan steps one → IsTextOfRun plan steps other → one ≡ other
+
 -- after no step there is no entry in the text
 abbrev pub NothingIsPrinted : Type 0
 NothingIsPrinted = (plan : BootPlan) (text : List ℕ) (told : IsTextOfRun plan [] text) → told.order ≡ []

@@ -4,7 +4,7 @@
 ghost use Rattle.std.specs.Prelude.{◌≡◌, ◌<◌, ℕ, List, false, length, map, slice_index_or};
 ghost use Rattle.event_log.specs.{declared.entries.Entry.Entry as AnEntry, Messages.IsMessage, Messages.Message};
 ghost use Rattle.tracer.specs.{Gather.traces_in, Judging.verdict_of, Sinks.has_failed, declared.verdicts.Verdict.TheVariants.Yes as SaysYes};
-ghost use Rattle.mctower.specs.{Output.between, Tabled.NothingIsPrinted, Texts.HaveText, Texts.IsTextOf, Texts.Writes};
+ghost use Rattle.mctower.specs.{Output.between, Tabled.{NothingIsPrinted, RunsHaveOneText}, Threads.ThreadsPrintARun, Texts.HaveText, Texts.IsTextOf, Texts.Writes};
 
 use crate::run::Fault;
 use arrayvec::ArrayVec;
@@ -18,6 +18,18 @@ use tracer::{Sink, gather, write_trace};
 pub fn texts_get_yes()
     ensures { (text caps : List ℕ) (traces : List (List AnEntry)) (left : List (List Message)) → IsTextOf caps traces left text
         → verdict_of text ≡ SaysYes }
+{}
+
+/// A law: a run by a schedule has one text. So what `run` prints of a plan is a function of the plan and
+/// the schedule.
+pub fn runs_have_one_text()
+    ensures { RunsHaveOneText }
+{}
+
+/// A law: what a run of a plan in threads prints, a run of the plan prints under some schedule of its
+/// CPUs, however its workers' actions came between one another.
+pub fn threads_print_a_run()
+    ensures { ThreadsPrintARun }
 {}
 
 /// A law: after no step the step table's system of a plan has a text without an entry.

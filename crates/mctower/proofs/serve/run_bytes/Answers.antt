@@ -32,6 +32,7 @@ ran_out steps (Ok s) state (Ok plan) answer first whole runs is given more same 
       trace = trace;
       traced = runs.1.out.is;
       fifo = runs.1.fifo;
+      in_time = runs.1.in_time;
       table = runs.1.table tt;
       put = (
         told plan steps s state answer whole.failed runs.1.ran is given,
@@ -66,6 +67,7 @@ fault_ran steps (Ok plan) run.WriteFault out runs = inr (inr (record {
   trace = runs.1.1.out.text;
   traced = runs.1.1.out.is;
   fifo = runs.1.1.fifo;
+  in_time = runs.1.1.in_time;
   table = runs.1.1.table tt;
   put = (reported_fault plan steps runs.1.0 out.failed runs.0, (runs.1.1.out.out, λ live. not_both out.failed live runs.0));
 }))
