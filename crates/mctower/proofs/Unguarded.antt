@@ -4,7 +4,9 @@ use Rattle.std.{proofs.Common.{◌≡◌, List, refl}, specs.Prelude.{Result, Ok
 use Rattle.{event_log.specs.declared.{ids.CpuId.CpuId, refusals.NoMemory.NoMemory as NoMemoryTold}, boot.specs.declared.refusals.BootError.BootError}
 use Rattle.{boot.specs.Plan.{BootPlan, Fails}, cpu.specs.{Claims.Shown, Systems.{Ran, WentOn, goes, starts, stayed, took}}}
 use Rattle.mctower.specs.{declared.{run.Fault.{Fault, TheVariants.{NoMemory, Boot, BadCpu, NoOrder, WriteFault}}, states.State.State}, Output.IsUntouched}
-use Rattle.mctower.specs.{Output.Output, Plans.from_boot, Running.{IsPrinted, IsRunOf, NoCondition, RunsOverTower, RunsPlan, RunsOn}, State.IsStateOf}
+use Rattle.mctower.specs.{Output.Output, Plans.from_boot, Running.{IsPrinted, IsRunOf, NoCondition, RunsOverTower, RunsPlan, RunsOn, on_lock}, State.IsStateOf}
+use Rattle.boot.specs.declared.locks.LockKind.{LockKind}
+use Rattle.boot.specs.declared.locks.LockKind.TheVariants as kind
 use Rattle.boot.specs.declared.refusals.BootError.TheVariants as refused
 
 module _ (If Where : Type 0) (follows : Where → If) where
@@ -62,6 +64,16 @@ module _ (If Where : Type 0) (follows : Where → If) where
     table = λ here. is.table (follows here);
     still = λ here. is.still (follows here);
   }
+
+-- what is said of layers is said of those over either lock, where these are the same
+either_lock : (Said : Type 0) (lock : LockKind) → Said → on_lock Said Said lock
+either_lock Said kind.Ticket said = said
+either_lock Said kind.Grant said = said
+
+pub runs_alike : (If : Type 0) → If → (plan : BootPlan) (steps : List CpuId) (result : Result Shown Fault) (out : Output)
+    → RunsPlan (on_lock If If plan.lock) plan steps result out → RunsOn NoCondition (Ok plan) steps result out
+runs_alike If here plan steps result out runs =
+    runs_plan (on_lock If If plan.lock) NoCondition (λ always. either_lock If plan.lock here) plan steps result out runs
 
 -- want of memory is no more than that, whatever the text
 wants_memory : (read : Result BootPlan BootError) (steps : List CpuId) (evidence : NoMemoryTold) (out : Output) → IsUntouched out

@@ -1,5 +1,5 @@
 -- Why the words of a command line make no order, and the lines that tell it.
-use Rattle.std.specs.Prelude.{◌≡◌, ◌≢◌, ◌≤◌, ◌++◌, ◌||◌, ℕ, All, Bool, false, true, List, [], ◌∷◌, Option, Some, Result, Ok, Err, IfSome, IsSomeAnd, codes}
+use Rattle.std.specs.Prelude.{◌≡◌, ◌≢◌, ◌≤◌, ◌++◌, ◌||◌, All, Bool, false, true, List, [], ◌∷◌, Option, Some, Result, Ok, Err, IfSome, IsSomeAnd, codes}
 use Rattle.std.specs.{Prelude.{bytes_eq, decimal, if◌then◌else◌, length, unwrap_or}, List.find, Option.is_none}
 use Rattle.clap.specs.{Kinds.IsAmong, Walk.{Row, Text, first_of}, declared.error.kind.ErrorKind.{ErrorKind, TheVariants.{UnknownArgument, InvalidSubcommand}}}
 use Rattle.clap.specs.declared.error.kind.ErrorKind.TheVariants.{MissingRequiredArgument, ArgumentConflict, InvalidValue, TooManyValues, DisplayHelp}

@@ -1,7 +1,7 @@
 //! A run of a plan: from the plan's text and a schedule to the trace text. `run_text` takes memory.
 //! No call waits, unless the sink's writer does.
 
-ghost use Rattle.std.specs.Prelude.{◌≡◌, ◌≤◌, false, length, map, IfOk};
+ghost use Rattle.std.specs.Prelude.{◌≡◌, ◌≤◌, false, length, map, IfOk, Ok};
 ghost use Rattle.{event_log.specs.{declared.ids.TheConstants.BUFFERS, Refusals.no_memory}, boot.specs.Plan.plan_of, tracer.specs.Gather.traces_in};
 ghost use Rattle.{tracer.specs.Sinks.has_failed, cpu.specs.Claims.traces_of, mctower.specs.{Output.between, Plans.{IsOfPlan, from_boot}, Running.RunsPlan}};
 ghost use Rattle.mctower.specs.{Running.{RunsText, on_lock}, Texts.Writes, declared.run.Fault.TheVariants.{NoMemory, NoOrder, BadCpu as BadCpuFault}};
@@ -117,13 +117,9 @@ where
     Grant(System<J>),
 }
 
-/// What [`run_text`] does once the plan is read, over one top layer: whatever lock the plan names, its
-/// system stands on the layers that `I` is the top of.
-///
-/// Requires: the sink has not failed. There are at most `MOST_STEPS` steps.
-///
-/// Errors: those of [`run_text`] but `Boot`.
-pub(crate) fn run_boot<I: Owned + Drop, W: Write>(
+// Lets the system of a plan take the steps of a schedule, and writes the trace text. Whatever lock the plan
+// names, the system stands on the layers that `I` is the top of.
+fn run_boot<I: Owned + Drop, W: Write>(
     alloc: Global,
     boot: &Boot,
     steps: &[CpuId],
@@ -167,12 +163,33 @@ where
     ensures { RunsText (on_lock I.IsStepwise J.IsStepwise) (plan_of plan.now) steps.now result (between W.contents sink.old sink.new) }
 {
     let boot = Boot::read(alloc, plan)?;
+    run_read(alloc, &boot, steps, sink)
+}
+
+/// What [`run_text`] does once the plan is read. The program runs each plan by it.
+///
+/// Requires: the sink has not failed. There are at most `MOST_STEPS` steps.
+///
+/// Errors: those of [`run_text`] but `Boot`.
+pub(crate) fn run_read<I: Owned + Drop, J: Owned + Drop, W: Write>(
+    alloc: Global,
+    boot: &Boot,
+    steps: &[CpuId],
+    sink: &mut Sink<W>,
+) -> Result<Ran<I, J>, Fault>
+where
+    I::Machine: Drop,
+    J::Machine: Drop,
+    requires live { has_failed sink.old ≡ false }
+    requires few { length steps.now ≤ MOST_STEPS }
+    ensures { RunsText (on_lock I.IsStepwise J.IsStepwise) (Ok boot.now) steps.now result (between W.contents sink.old sink.new) }
+{
     match boot.lock() {
-        LockKind::Ticket => match run_boot::<I, W>(alloc, &boot, steps, sink) {
+        LockKind::Ticket => match run_boot::<I, W>(alloc, boot, steps, sink) {
             Ok(system) => Ok(Ran::Ticket(system)),
             Err(fault) => Err(fault),
         },
-        LockKind::Grant => match run_boot::<J, W>(alloc, &boot, steps, sink) {
+        LockKind::Grant => match run_boot::<J, W>(alloc, boot, steps, sink) {
             Ok(system) => Ok(Ran::Grant(system)),
             Err(fault) => Err(fault),
         },

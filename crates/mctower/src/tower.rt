@@ -9,7 +9,7 @@ ghost use Rattle.{boot.specs.Plan.plan_of, tracer.specs.Sinks.has_failed, mctowe
 
 use crate::locks::{OnLock, over_lock};
 use crate::reading::state_of;
-use crate::run::{Fault, run_boot};
+use crate::run::{Fault, Ran, run_read};
 use crate::schedule::MOST_STEPS;
 use crate::states::State;
 use boot::Boot;
@@ -110,13 +110,16 @@ impl<O: Write> OverTower for PlanRun<'_, '_, '_, O> {
     where
         I::Machine: Drop,
     {
-        let system = run_boot::<I, O>(self.alloc, self.plan, self.steps, self.out)?;
-        Ok(state_of(&system))
+        let ran = run_read::<I, I, O>(self.alloc, self.plan, self.steps, self.out)?;
+        match ran {
+            Ran::Ticket(system) | Ran::Grant(system) => Ok(state_of(&system)),
+        }
     }
 }
 
 /// Runs a plan under a schedule over the tower of the lock that it names, as
-/// [`run_text`](crate::run::run_text) does, and gives what the state lines tell of the system.
+/// [`run_text`](crate::run::run_text) does over layers that it is given, and gives what the state lines
+/// tell of the system.
 ///
 /// Requires: the sink has not failed. There are at most `MOST_STEPS` steps.
 ///
