@@ -286,8 +286,8 @@ fn writes(sink: &mut Sink<&mut Narrow>, message: Option<Msg>) -> Result<(), Writ
         pos: 0,
     };
     match message {
-        Some(message) => written(sink, &[entry], &[message]),
-        None => written(sink, &[entry], &[]),
+        Some(message) => written(sink, &[&entry], &[message]),
+        None => written(sink, &[&entry], &[]),
     }
 }
 

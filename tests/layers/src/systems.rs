@@ -1,7 +1,7 @@
 //! Whole systems over one-step message calls: worked plans end as they do over the tower of ticket locks, with a step where the tower takes one for
 //! each action of a call.
 
-use crate::texts::{gathered, written};
+use crate::texts::written;
 use arrayvec::ArrayVec;
 use boot::Boot;
 use cpu::System;
@@ -12,7 +12,7 @@ use plain_layers::{Attempt, PlainFifo, PlainIpc, PlainSleep, ipc_is_whole};
 use std::alloc::Global;
 use std::process::Abort;
 use std::test::*;
-use tracer::Sink;
+use tracer::{Sink, gather};
 
 /// Plans with as many CPUs as threads and one buffer with room for one; a plan's first line says what it shows. Behind each stands which CPU takes
 /// each step, then the trace text, and then for each number why this CPU takes no more steps and where this thread stands.
@@ -316,7 +316,7 @@ where
     for cpu in 0..cpus {
         traces.push(system.trace(CpuId(cpu)))?;
     }
-    let order = gathered(alloc, traces.as_slice())?;
+    let order = gather(alloc, traces.as_slice())?;
     let mut page = ArrayVec::new();
     let left = system.buffer(BufId(0));
     written(&mut Sink::new(&mut page), order.as_slice(), left.as_slice())?;

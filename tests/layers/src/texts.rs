@@ -8,17 +8,17 @@ use tracer::{GatherError, Sink, WriteFault, gather, write_trace};
 
 /// The entries of these traces in one order.
 pub fn gathered(alloc: Global, traces: &[&[Entry]]) -> Result<Vec<Entry>, GatherError> {
-    let mut copies = Vec::new(alloc);
-    for trace in traces {
-        copies.push(Vec::from_slice(alloc, trace)?)?;
+    let mut entries = Vec::new(alloc);
+    for entry in gather(alloc, traces)? {
+        entries.push(*entry)?;
     }
-    gather(alloc, &copies)
+    Ok(entries)
 }
 
 /// Writes the text of these entries, and of the messages that are left.
 pub fn written<W: Write>(
     sink: &mut Sink<W>,
-    order: &[Entry],
+    order: &[&Entry],
     left: &[Msg],
 ) -> Result<(), WriteFault> {
     let mut items = ArrayVec::new();

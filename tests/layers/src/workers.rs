@@ -98,9 +98,9 @@ fn ran<G: Gate + Sync>(
 fn left(report: &Report, cpu: u8) -> (Stop, u64, &[Entry]) {
     let at = usize::from(cpu);
     (
-        report.stops()[at],
-        report.taken()[at],
-        report.traces()[at].as_slice(),
+        report.stops[at],
+        report.taken[at],
+        report.traces[at].as_slice(),
     )
 }
 
