@@ -237,7 +237,8 @@ def small(held):
 
 TRIALS = [
     ("deep", 1, 7, b""), ("full", 1, 125, b"host: a full stack, number 14"), ("bad", 1, 125, b"host: an instruction that is none, number 6"),
-    ("zero", 1, 125, b"host: a division by 0, number 0"), ("place", 1, 125, b"host: a page fault, number 14"), ("memory", 1, 1, b""), ("instruction", 1, 7, b""),
+    ("zero", 1, 125, b"host: a division by 0, number 0"), ("place", 1, 125, b"host: a page fault, number 14"), ("memory", 1, 1, b""),
+    ("instruction", 1, 7, b""),
     ("wait", 1, 122, b"host: every thread waits\n"), ("absent", 2, 121, b"host: processors that came: 2 of 3\n"),
     *(("rounds", processors, 7, b"") for processors in (1, 2, 3, 4, 8)),
 ]

@@ -2,8 +2,8 @@
 from kernel import Kernel
 from laws import broken_in, is_quiet
 
-PLACES = {"running": "Running", "ready": "Ready", "pending": "Pending", "hand": "Hand", "in hand": "Hand", "locksleeper": "LockSleeper", "asleep": "LockSleeper",
-          "waitrecv": "WaitRecv", "waitsend": "WaitSend", "ended": "Ended"}
+PLACES = {"running": "Running", "ready": "Ready", "pending": "Pending", "hand": "Hand", "in hand": "Hand", "locksleeper": "LockSleeper",
+          "asleep": "LockSleeper", "waitrecv": "WaitRecv", "waitsend": "WaitSend", "ended": "Ended"}
 CPU_STATES = ("waits", "inside", "rests", "AllEnded", "TraceFull")
 BUFFER_TESTS = {
     "full": lambda buffer: len(buffer.items) == buffer.capacity,

@@ -241,7 +241,8 @@ def take_line(judge, line, is_last):
         if not is_last or line:
             raise spelling("nothing may follow the line end")
     elif is_last:
-        raise spelling(f"the line does not end with a line feed: {shown(line)}" if line else f"the text ends where {judge.wanted} is wanted{judge.hint_at_end()}")
+        ends_early = f"the text ends where {judge.wanted} is wanted{judge.hint_at_end()}"
+        raise spelling(f"the line does not end with a line feed: {shown(line)}" if line else ends_early)
     elif line.endswith("\r"):
         raise spelling("the line ends with a carriage return: wanted a line feed alone, as files of Unix have it")
     elif strange_in(line):

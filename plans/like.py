@@ -34,7 +34,8 @@ class Wanted:
         self.of_thread = [[entry for entry in entries if entry[1] == t] for t in range(len(plan["thread"]))]
 
     def may_become(self, system):
-        """Whether what was done so far may become what is wanted: each CPU's entries begin its trace, and who has drawn a position drew that of its next entry."""
+        """Whether what was done so far may become what is wanted: each CPU's entries begin its trace, and who has drawn a position drew that of its
+        next entry."""
         if any(cpu.trace != wanted[:len(cpu.trace)] for cpu, wanted in zip(system.cpus, self.of_cpu)):
             return False
         done = [0] * len(system.guests)

@@ -4,8 +4,8 @@
     plans/picture.py PLAN [SCHEDULE] > picture.svg
 
 Without a schedule it takes the one in the first lines of the plan. It draws the record of a run (plans/record.py), in the colours of its pages. `mctower run`
-runs each beginning of the schedule, and has to print what plans/kernel.py prints, else nothing is drawn: so where each thread stands and which calls took effect is
-what the program says. Which section a CPU works in is told by plans/kernel.py alone. MCTOWER names the program to run.
+runs each beginning of the schedule, and has to print what plans/kernel.py prints, else nothing is drawn: so where each thread stands and which calls
+took effect is what the program says. Which section a CPU works in is told by plans/kernel.py alone. MCTOWER names the program to run.
 """
 import sys
 from html import escape
@@ -108,7 +108,8 @@ class Picture:
             self.text(x + 22, y + 11, words, 10)
             x += 44 + 5.8 * len(words)
         self.width = max(self.width, x)
-        self.text(6, y + 30, "A tick: a call takes effect, with its entry (what, buffer, value). On a CPU's lane: + takes a ticket, … looks in vain, light grey enters, "
+        self.text(6, y + 30, "A tick: a call takes effect, with its entry (what, buffer, value). "
+                             "On a CPU's lane: + takes a ticket, … looks in vain, light grey enters, "
                   "dark grey edits and leaves; under it the section.", 10)
 
     def svg(self):

@@ -240,7 +240,8 @@ def laws(faults):
     """Holds what README.md and the lessons say of kernels with a mistake; tells how much that was."""
     text = (ROOT / "README.md").read_text()
     count = sum(laws_told(page, faults) for page in sorted(BOOK.glob("*.md")))
-    return count + hold_to_laws("README.md", run_of(WRONG_RUN.search(text, text.index("--wrong") - len("plans/kernel.py ")).groups()), BREAKS.findall(text), faults)
+    run = run_of(WRONG_RUN.search(text, text.index("--wrong") - len("plans/kernel.py ")).groups())
+    return count + hold_to_laws("README.md", run, BREAKS.findall(text), faults)
 
 
 def version(faults):

@@ -181,7 +181,8 @@ def command_lines(to):
     to.hold("commands", "explain.py -", command(["plans/explain.py", "-"], to, b"cpus = 17"),
             (1, "error: OutOfRange(22) cpus\nstandard input:1: cpus is 17: wanted an integer, 1 to 16\n", ""))
     to.hold("commands", "explain.py --check", command(["plans/explain.py", "--check", "-"], to),
-            (3, "no 1 Spelling(30)\nstandard input:1: the text ends where mctower-trace 1 is wanted. It is empty: was the plan of the run before it refused?\n", ""))
+            (3, "no 1 Spelling(30)\n"
+                "standard input:1: the text ends where mctower-trace 1 is wanted. It is empty: was the plan of the run before it refused?\n", ""))
     to.hold("commands", "a folder", command(["plans/explain.py", "plans"], to), (1, "error: ReadFault(7)\nplans: Is a directory\n", ""))
     status, out, err = command(["plans/kernel.py", "--wrong", "other-side-only", "--wrong", "take-skips-the-turn", "plans/one-send.toml"], to)
     to.hold("commands", "a second mistake", (status, out, err.splitlines()[-1]), (2, "", "kernel.py: error: --wrong stands twice"))

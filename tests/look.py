@@ -5,8 +5,8 @@
 
 It makes the page of each plan's run and holds each beginning of it beside the proved program; holds reports on all states, the shortest schedules by which each
 mistake breaks a law, and the words of pages against the texts in tests/look; gives pages a program that is not the proved one; finds schedules for what threads
-printed; and looks at colours and sizes. The script of the pages is run by node, without a browser: tests/look_browser.py has a browser's checks, and is called where a
-Chromium is. --write puts what comes into tests/look, to be read before it is kept. The last line is 'look: N passed, M failed'.
+printed; and looks at colours and sizes. The script of the pages is run by node, without a browser: tests/look_browser.py has a browser's checks, and is
+called where a Chromium is. --write puts what comes into tests/look, to be read before it is kept. The last line is 'look: N passed, M failed'.
 """
 import itertools
 import json
@@ -217,7 +217,8 @@ def false_program(tally):
         for command in (["plans/explore.py", row, "0*26"], ["plans/explore.py", row, "--find", "effects 2"], ["plans/picture.py", row, "0*26"]):
             ran = subprocess.run([sys.executable, *command], cwd=ROOT, env=environment, capture_output=True, text=True, check=False)
             says = "after step 11 kernel.py and the proved program differ: kernel.py prints `left 0 7`, the proved program `left 0`"
-            tally.holds(ran.returncode == 1 and ran.stdout == "" and says in ran.stderr, f"{' '.join(command)} with a false program: {ran.returncode} {ran.stderr}")
+            is_refused = ran.returncode == 1 and ran.stdout == "" and says in ran.stderr
+            tally.holds(is_refused, f"{' '.join(command)} with a false program: {ran.returncode} {ran.stderr}")
 
 
 def threads(tally):
@@ -237,7 +238,8 @@ NODE = """
 const {runs, kept} = JSON.parse(require("fs").readFileSync(0, "utf8")), said = {}, faults = [];
 for (const record of runs) {
   const run = new Run(record), steps = counted(run.length + 1), lines = steps.map(at => wordsOf(run, at));
-  if (kept.includes(record.plan) && !record.wrong && !said[record.plan]) said[record.plan] = lines.map(({who, first, small}, at) => `${at} ${who}: ${first} (${small})`);
+  if (kept.includes(record.plan) && !record.wrong && !said[record.plan])
+    said[record.plan] = lines.map(({who, first, small}, at) => `${at} ${who}: ${first} (${small})`);
   for (const at of steps) {
     const cards = cpuCards(run, at) + bufferCards(run, at);
     const all = cards + threadCards(run, at) + orderTable(run, at) + lawList(run, at) + lanesOf(run, at, 1200, 0).svg + JSON.stringify(lines[at]);
@@ -314,7 +316,8 @@ def colours(tally):
     """Each two places look apart to all eyes, and each letter can be read on its colour."""
     fills = {name: colour for name, (_, colour, _, _) in record.PLACES.items()}
     for name, eye in EYES.items():
-        apart, one, other = min((sum((a - b) ** 2 for a, b in zip(seen(fills[x], eye), seen(fills[y], eye))) ** 0.5, x, y) for x, y in itertools.combinations(fills, 2))
+        apart, one, other = min((sum((a - b) ** 2 for a, b in zip(seen(fills[x], eye), seen(fills[y], eye))) ** 0.5, x, y)
+                                for x, y in itertools.combinations(fills, 2))
         tally.holds(apart >= LEAST_APART.get(name, 20), f"to {name} {one} and {other} are {apart:.0f} apart")
     for name, (_, colour, ink, _) in record.PLACES.items():
         dark, light = sorted(sum(weight * part for weight, part in zip((0.2126, 0.7152, 0.0722), linear(one))) for one in (colour, ink))

@@ -27,7 +27,8 @@ ONE_CHIP = """(() => { const wrong = []; for (let k = 0; k <= run.length; k++) {
   record.threads.forEach((_, t) => { if (count['t' + t] !== 1) wrong.push([k, t, count['t' + t] || 0]); });
   if (/undefined|NaN|\\[object/.test(document.body.innerText)) wrong.push([k, 'text']); } return wrong.slice(0, 5); })()"""
 # The lowest edge of cards and lanes over all steps.
-LOWEST = """(() => { let low = 0; for (let k = 0; k <= run.length; k++) { go(k); low = Math.max(low, document.querySelector('main').getBoundingClientRect().bottom); }
+LOWEST = """(() => { let low = 0;
+  for (let k = 0; k <= run.length; k++) { go(k); low = Math.max(low, document.querySelector('main').getBoundingClientRect().bottom); }
   return low; })()"""
 # Controls without a name for a screen reader.
 NAMELESS = """[...document.querySelectorAll('button, input, select, textarea, [role=img], [role=radiogroup]')]
@@ -90,7 +91,8 @@ def buttons(checks):
     checks.holds("by sections: the switch, then the end of AcqQ", checks.at(), [4, 118])
     browser.click("input[value=section]")
     browser.key("ArrowRight")
-    checks.holds("an arrow behind a click on a stride goes by it", [checks.at(), browser.read("document.querySelector('input[name=by]:checked').value")], [[7, 118], "section"])
+    stride = browser.read("document.querySelector('input[name=by]:checked').value")
+    checks.holds("an arrow behind a click on a stride goes by it", [checks.at(), stride], [[7, 118], "section"])
     browser.key("ArrowDown")
     checks.holds("an arrow down takes the next stride", browser.read("document.querySelector('input[name=by]:checked').value"), "effect")
     browser.click("input[value=step]")
@@ -180,7 +182,8 @@ def choosing(checks):
     browser.click("[data-step='0']")
     checks.holds("a click steps CPU 0", [checks.at(), browser.read("spelling()")], [[6, 6], "1*4,0*2"])
     browser.key("1", shift=True)
-    checks.holds("shift and a digit run a CPU until it blocks", browser.read("[isBlocked(run.length, 1), run.step(run.length).cpu, wordsOf(run, run.length).first]"),
+    checks.holds("shift and a digit run a CPU until it blocks",
+                 browser.read("[isBlocked(run.length, 1), run.step(run.length).cpu, wordsOf(run, run.length).first]"),
                  [True, 1, "looks in vain: CPU 0 comes first"])
     browser.key("r")
     checks.holds("at random each thread is one filled chip at each step", browser.read(ONE_CHIP), [])
@@ -194,7 +197,8 @@ def chosen_links(checks):
     checks.open("all", "#schedule=0*13,1*24&step=30")
     checks.holds("a link with a schedule", [checks.at(), checks.said()[:53]], [[30, 37], "CPU 1 Pend thread 0 goes home: it is pending at CPU 0"])
     checks.open("all", "#schedule=0*13,7*24&step=30")
-    checks.holds("a link with a CPU that is none", [checks.at(), browser.read("element('told').textContent")], [[13, 13], "the schedule names a CPU that the plan has not"])
+    told = browser.read("element('told').textContent")
+    checks.holds("a link with a CPU that is none", [checks.at(), told], [[13, 13], "the schedule names a CPU that the plan has not"])
     checks.open("lock", "#schedule=")
     for key in "00001111":
         browser.key(key)

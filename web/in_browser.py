@@ -36,8 +36,10 @@ CHIPS = """(() => { const wrong = []; for (const name of Object.keys(page.plans)
   return wrong.slice(0, 5); })()"""
 
 # What a run of each stored plan takes in a new instance, in milliseconds: of the plan that takes longest, the fastest of 20, since the machine may be busy.
-RUN_TIMES = """(() => { let slowest = ['', 0]; for (const [name, plan] of Object.entries(page.plans)) { const schedule = scheduleIn(plan); let fastest = Infinity;
-  for (let i = 0; i < 20; i++) { const start = performance.now(); page.program.runPlan(plan, schedule); fastest = Math.min(fastest, performance.now() - start); }
+RUN_TIMES = """(() => { let slowest = ['', 0];
+  for (const [name, plan] of Object.entries(page.plans)) { const schedule = scheduleIn(plan); let fastest = Infinity;
+  for (let i = 0; i < 20; i++) { const start = performance.now(); page.program.runPlan(plan, schedule);
+    fastest = Math.min(fastest, performance.now() - start); }
   if (fastest > slowest[1]) slowest = [name, fastest]; } return slowest; })()"""
 
 # Each step of a run of more than 1,000, forth and then back, as the arrow keys go, in milliseconds: the median, and the mean.
@@ -121,7 +123,8 @@ class Checks:
     def steps(self):
         self.open()
         self.holds("it opens before the first step", self.at(), [0, 57])
-        for keys, step, what in [(("ArrowRight", "ArrowRight"), 2, "two presses of the right arrow"), (("ArrowLeft",), 1, "the left arrow"), (("End", "ArrowRight"), 57, "the end"),
+        for keys, step, what in [(("ArrowRight", "ArrowRight"), 2, "two presses of the right arrow"), (("ArrowLeft",), 1, "the left arrow"),
+                                 (("End", "ArrowRight"), 57, "the end"),
                                  (("Home", "ArrowLeft"), 0, "the start"), (("PageDown",), 24, "Page Down: the first effect"), (("PageDown",), 47, "the second"),
                                  (("PageUp",), 24, "Page Up"), (("shift ArrowRight",), 27, "shift and right: a section")]:
             self.keys(*keys)
@@ -167,7 +170,8 @@ class Checks:
         self.open("#step=24")
         self.keys("ArrowRight")
         self.holds("the link has the plan, the schedule and the step", self.link(), "#plan=woken-from-afar&schedule=0*13,1*24,0*20&step=25")
-        for link, wanted in [("#plan=two-receivers&schedule=0*13,1*13&step=20", [20, 26]), ("#plan=two-senders&step=99999", [141, 141]), ("#plan=<script>&step=<script>", [0, 57]),
+        for link, wanted in [("#plan=two-receivers&schedule=0*13,1*13&step=20", [20, 26]), ("#plan=two-senders&step=99999", [141, 141]),
+                             ("#plan=<script>&step=<script>", [0, 57]),
                              ("#plan=two-receivers&wrong=other-side-only&schedule=0*3&step=1", [1, 3]), ("#step=-4", [0, 57]),
                              ("?plan=two-receivers&step=20", [20, 118])]:
             self.open(link)
@@ -227,10 +231,12 @@ class Checks:
                    "an instruction begins with one of set, add, sub, jnz, send, sendm, recv, recvm, close, yield, exit; near it: send")
         self.set_value("#planText", "'cpus = 2\\n<script>window.ran = 1</script>'")
         self.browser.click("#runPlan")
-        self.holds("a text with <script> is text", ["<script>window.ran = 1</script>" in self.text("#planRefused"), self.browser.read("window.ran ?? null")], [True, None])
+        is_shown = "<script>window.ran = 1</script>" in self.text("#planRefused")
+        self.holds("a text with <script> is text", [is_shown, self.browser.read("window.ran ?? null")], [True, None])
         self.set_value("#planText", f"'{OWN_PLAN}'")
         self.browser.click("#runPlan")
-        self.holds("a plan of one's own is shown", self.browser.read("[document.querySelector('#planPanel').open, document.querySelector('#plan').value]"), [False, "your own"])
+        shown = self.browser.read("[document.querySelector('#planPanel').open, document.querySelector('#plan').value]")
+        self.holds("a plan of one's own is shown", shown, [False, "your own"])
         self.holds("it begins with a schedule in rounds", self.browser.read("spelledSchedule(page.session.steps)"), "0*21")
         self.keys("End")
         self.holds("and runs", [self.at(), self.browser.read("page.session.evidence.at(page.at)")], [[21, 21], True])
@@ -247,7 +253,8 @@ class Checks:
     def judge(self):
         self.open("#step=57")
         self.browser.click("[data-panel=printedPanel]")
-        self.holds("what was printed", "mctower run --schedule '0*13,1*24,0*20' < woken-from-afar" in self.text("#printed") and "quiet yes" in self.text("#printed"), True)
+        printed = self.text("#printed")
+        self.holds("what was printed", "mctower run --schedule '0*13,1*24,0*20' < woken-from-afar" in printed and "quiet yes" in printed, True)
         self.browser.click("#printedPanel [data-close]")
         self.browser.click("[data-panel=judgePanel]")
         self.browser.click("#judge")
@@ -291,7 +298,8 @@ class Checks:
             self.holds(f"lesson {number}: where it breaks", [self.at()[0], f"BROKEN: {law}" in self.text("#order")], [step, True])
         self.lesson(6)
         self.holds("lesson 7: the lost wake-up", ["BROKEN: no lost wake-up" in self.text("#order"), self.browser.read("page.run.cell('b0.owner', page.at)"),
-                   self.browser.read("page.run.cell('b0.items', page.at)"), self.browser.read("page.run.place(1, page.at)")], [True, None, ["8"], "WaitRecv(0)"])
+                   self.browser.read("page.run.cell('b0.items', page.at)"), self.browser.read("page.run.place(1, page.at)")],
+                   [True, None, ["8"], "WaitRecv(0)"])
         self.browser.wait("document.querySelector('#warn').textContent.includes('prints something else from step')")
         self.set_value("#wrong", "''")
         self.holds("without the mistake it stands", ["BROKEN" in self.text("#order"), self.text("#warn")], [False, ""])
@@ -403,7 +411,8 @@ class Checks:
         broken.write_text(page[:start] + "AAAAAAAA" + page[start + 8:], encoding="utf-8")
         self.browser.open(broken.as_uri())
         self.browser.wait("document.querySelector('#warn').textContent !== ''")
-        self.holds("a broken module is said on the page", self.text("#warn").startswith("The program in this page is broken or this browser cannot run it"), True)
+        is_said = self.text("#warn").startswith("The program in this page is broken or this browser cannot run it")
+        self.holds("a broken module is said on the page", is_said, True)
 
     def pictures(self, folder):
         for link, name in [("#plan=two-receivers&step=59", "page"), (LOST, "lost-wake-up")]:

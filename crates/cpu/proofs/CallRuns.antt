@@ -31,7 +31,12 @@ module _ {P L M : Type 0} {I : Ghosts P L M} (laws : PartLaws I) (m : M) (p : Cp
     fits = looked.framed.fits;
     is = rw (looked.homes, looked.caps, looked.threads, looked.call_states, looked.under_way, number, limit, guests)
         (subst (λ (l : List Entry). IsCpu (I.homes_of m) (length (I.caps m)) (I.seen n) (I.threads p.part) (I.call_states p.part) (I.under_way p.part)
-        p.number p.guests.items l p.limit (vec_capacity r.trace)) (sym trace) (grind (arith, seen_stays (valid_cpu cpu.is) (I.seen n) (others_same (λ d. I.ActsFor m d) p.number (I.seen m) (I.seen n) looked.seen (acts_for cpu)), capacity)));
+        p.number p.guests.items l p.limit (vec_capacity r.trace)) (sym trace) (grind (
+          arith,
+          seen_stays (valid_cpu cpu.is) (I.seen n)
+              (others_same (λ d. I.ActsFor m d) p.number (I.seen m) (I.seen n) looked.seen (acts_for cpu)),
+          capacity,
+        )));
     leaves = left_framed I m n p r cpu.number number limit looked.framed looked.caps looked.homes (ap programs_of guests)
         (guests_rest guests trace) (others_grow _ _ _ _ looked.seen)
         (rw cpu.number at looked.moves)
@@ -105,7 +110,8 @@ module _ {P L M : Type 0} {I : Ghosts P L M} (laws : PartLaws I) (m : M) (p : Cp
         guest_calls t polls.guest call ((call_state_of (I.call_states r.part) t).effect) (answer_in (I.call_states r.part) t told) polls.at polls.asks
         (replies_so call (call_state_of (I.call_states r.part) t) (answer_in (I.call_states r.part) t told) (polled_so.called there).answers) guests_is
         (trace_is
-        ∙ ap (λ (o : Option Guest). p.trace.items ++ entries_of p.number t (buffer_of call) (fresh_at o ((call_state_of (I.call_states r.part) t).effect))) polls.at)
+        ∙ ap (λ (o : Option Guest). p.trace.items
+        ++ entries_of p.number t (buffer_of call) (fresh_at o ((call_state_of (I.call_states r.part) t).effect))) polls.at)
 
     pub poll_steps : SteppedAt I m p n r
     poll_steps = record {
@@ -218,7 +224,8 @@ module _ {P L M : Type 0} {I : Ghosts P L M} (laws : PartLaws I) (m : M) (p : Cp
       number limit guests trace capacity)
   call_runs (PolledOn.again {q = q} {n = n} {o = o} {told = told} on quiet last) r part number limit guests trace capacity =
       let amid : RunsAt I m p _ n (between q) = call_runs on (between q) refl refl refl refl (trace_between q quiet) (omega arith) in
-      RunsAt.more amid (poll_steps laws n (between q) (runs_layered laws cpu amid) (live_between q quiet) t call (chose_between q quiet) (free_between q quiet) o r
+      RunsAt.more amid (poll_steps laws n (between q) (runs_layered laws cpu amid) (live_between q quiet) t call (chose_between q quiet)
+      (free_between q quiet) o r
       told (subst (λ (x : P). PolledAt I ipc_plan t call q n x o told) (sym part) last) number limit
       (guests ∙ guests_between q quiet (had_in r.part) (answer_in (I.call_states r.part) t told))
       (trace ∙ ap (λ (f : Option Effect). p.trace.items ++ entries_of p.number t (buffer_of call) f) (fresh_same q quiet (had_in r.part))) capacity)

@@ -137,7 +137,8 @@ module _ (cpu : ValidCpu) (t : Tid) (c : Call) (chose : chosen cpu.own cpu.guest
         (λ none. called.stays none ∙ goes) (answered_by c (call_state_of states2 t) answer called.answers)
 
     mine_is : of_cpu number seen2 ≡ new ++ of_cpu number seen
-    mine_is = ap (λ (l : List Entry). of_cpu number l) (called.is ∙ ap (λ (x : Option Effect). entries_of number t (buffer_of c) x ++ (called.others ++ seen)) follow_t.0) ∙ cpu_grown ActsFor number t (buffer_of c) fresh called.others seen called.foreign acts
+    mine_is = ap (λ (l : List Entry). of_cpu number l) (called.is ∙ ap (λ (x : Option Effect). entries_of number t (buffer_of c) x ++ (called.others ++ seen))
+        follow_t.0) ∙ cpu_grown ActsFor number t (buffer_of c) fresh called.others seen called.foreign acts
 
     trace_new : trace2 ≡ trace ++ new
     trace_new = trace_is ∙ ap (λ (x : Option Effect). trace ++ entries_of number t (buffer_of c) x) (ap (λ (o : Option Guest). fresh_at o left) polls_at.at)
@@ -153,7 +154,8 @@ module _ (cpu : ValidCpu) (t : Tid) (c : Call) (chose : chosen cpu.own cpu.guest
 
     follow_new : AllFollow guests2 (of_cpu number seen2) states2
     follow_new = λ (u : Tid) (x : Guest) at. subst (λ (l : List Entry). HasCome x (of_thread u.0 l) (call_state_of states2 u)) (sym mine_is)
-        (with_each guests guests2 t.0 next guest_new guest_other (λ (k : ℕ) (y : Guest). HasCome y (of_thread k (new ++ of_cpu number seen)) (call_state_of states2 (record { 0 = k }))) (
+        (with_each guests guests2 t.0 next guest_new guest_other
+        (λ (k : ℕ) (y : Guest). HasCome y (of_thread k (new ++ of_cpu number seen)) (call_state_of states2 (record { 0 = k }))) (
           stays_settled c (call_state_of states2 t) answer called.answers,
           subst (λ (l : List Entry). HasComeIn next.stage g.program next.thread l (begun_of (call_state_of states2 t)) left)
               (sym (grind (arith, eq-eqb))) follow_t.1,

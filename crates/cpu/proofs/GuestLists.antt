@@ -51,7 +51,8 @@ pub programs_with : (guests : List (Option Guest)) (t : ℕ) (f : Guest → Gues
     → programs_of (with_guest guests t f) ≡ programs_of guests
 programs_with guests t f keeps =
     map-set (λ (g : Option Guest). option_map (λ x. x.program) g) guests t (option_map f (guest_at guests t))
-    ∙ (subst (λ y. slice_set (programs_of guests) t y ≡ (programs_of guests)) (at_programs guests t ∙ sym (same (guest_at guests t))) (set-get_or (programs_of guests) t None))
+    ∙ (subst (λ y. slice_set (programs_of guests) t y ≡ (programs_of guests)) (at_programs guests t ∙ sym (same (guest_at guests t)))
+    (set-get_or (programs_of guests) t None))
   where
     same : (o : Option Guest) → option_map (λ x. x.program) (option_map f o) ≡ option_map (λ x. x.program) o
     same o = grind arith

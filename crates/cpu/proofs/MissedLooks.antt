@@ -17,7 +17,15 @@ missed_one c lock s r here at cpus room taken log legal live setup for =
       next = record { cpus = map (λ p. p.private) (cpus i); log = log i; room = room i; taken = taken i };
       answer = Stepped;
     })
-    ∙ (grind (arith, ne_eqb, set_again, shows_at (λ (p : CpuShown). p.private) s.cpus c.0 here at, subst (λ (l : List (Action Name)). AreLegal l) log legal, live))
+    ∙ (grind (
+      arith,
+      ne_eqb,
+      set_again,
+      shows_at (λ (p : CpuShown). p.private) s.cpus c.0 here at,
+      subst
+          (λ (l : List (Action Name)). AreLegal l) log legal,
+      live,
+    ))
 
 -- So many looks.
 

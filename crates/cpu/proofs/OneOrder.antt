@@ -25,7 +25,8 @@ filter_reversed p (x ∷ xs) =
 
 -- a buffer is told to be closed where the effects have closed it, in their order
 pub closed_by_order : (seen : List Entry) (n b : ℕ) → b < n → slice_index_or (listed (is_closed seen) 0 n) b false ≡ is_closed (reverse seen) b
-closed_by_order seen n b within = listed_there (is_closed seen) n b false within ∙ sym (ap (nat_lt 0) (count_reversed (λ (e : Entry). (e.buffer.0 == b) && kind_eq e.kind Close) seen))
+closed_by_order seen n b within
+    = listed_there (is_closed seen) n b false within ∙ sym (ap (nat_lt 0) (count_reversed (λ (e : Entry). (e.buffer.0 == b) && kind_eq e.kind Close) seen))
 
 -- The interleaving.
 

@@ -61,5 +61,6 @@ once_of s n lines waiters_are agree within moved stands t =
     sleeps : (u : Tid) → total (λ b. in_waiters u (waiters_at s b)) (length s.waiters) ≡ one_if (is_asleep (where_is s.homes s.moves u))
     sleeps u =
         ap (λ (m : ℕ). total (λ b. in_waiters u (waiters_at s b)) m) (ap (λ (l : List Waiters). length l) waiters_are ∙ listed_length (waiters_by lines) n 0)
-        ∙ total_same (λ b. in_waiters u (waiters_at s b)) (λ b. in_waiters u (waiters_by lines b)) n (λ b inside. ap (in_waiters u) (ap (λ (l : List Waiters). slice_index_or l b no_waiters) waiters_are ∙ listed_there (waiters_by lines) n b no_waiters inside))
+        ∙ total_same (λ b. in_waiters u (waiters_at s b)) (λ b. in_waiters u (waiters_by lines b)) n (λ b inside. ap (in_waiters u)
+        (ap (λ (l : List Waiters). slice_index_or l b no_waiters) waiters_are ∙ listed_there (waiters_by lines) n b no_waiters inside))
         ∙ sleeping_is n s.homes s.moves lines agree u

@@ -105,7 +105,8 @@ module _ (cpu : ValidCpu) where
       let g = (computes_at t chose).1.0 in
       let at : guest_at guests t.0 ≡ Some g = (computes_at t chose).1.1 in
       let follows = is.follow t g at in
-      let quiet : (d : UnderWay) → under_way ≡ Some d → ⊥ = λ (d : UnderWay) does. let no : None ≡ Some d = (sym (ap under_way_of chose) ∙ is.agrees d does) in absurd
+      let quiet : (d : UnderWay) → under_way ≡ Some d → ⊥ = λ (d : UnderWay) does. let no : None ≡ Some d
+      = (sym (ap under_way_of chose) ∙ is.agrees d does) in absurd
       (cc no) in
       let at_idle : g.stage ≡ Idle = grind (arith, follows.1, (computes_at t chose).1.2) in
       let before = subst (λ (s : GuestStage). HasComeIn s g.program g.thread (of_thread t.0 (of_cpu number seen)) (begun_of (call_state_of call_states t))

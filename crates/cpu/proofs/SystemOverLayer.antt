@@ -62,8 +62,10 @@ module _ {P L M : Type 0} (I : Ghosts P L M) (owner : M → BufId → Option Tid
     by_table step setup goes =
         let number : x.number ≡ c = (is.each k x at).number_is ∙ ap (λ (j : ℕ). cpu_at j) same in
         shown_step (shown_by I) (λ d. I.ActsFor m d) setup c cpus k x y (I.acts m) (I.acts n) room taken at same
-        (subst (λ (d : CpuId). IsStep (λ a. I.ActsFor m a) (cpu_step setup d) (shown_by I x).private (shown_by I y).private (named (I.acts m)) (named (I.acts n))
-        Stepped) number (went step setup (goes.each k (shown_by I x) (shows_at (shown_by I) cpus k x at)))) is.acts_for legal (λ full. omega (arith, full, live))
+        (subst (λ (d : CpuId). IsStep (λ a. I.ActsFor m a) (cpu_step setup d) (shown_by I x).private (shown_by I y).private (named (I.acts m))
+        (named (I.acts n))
+        Stepped) number (went step setup (goes.each k (shown_by I x) (shows_at (shown_by I) cpus k x at)))) is.acts_for legal
+        (λ full. omega (arith, full, live))
 
     -- and all holds as before
     pub went_on : I.Fits y.part n → IsCpuAt I n y → (I.IsStepwise → IsTabledAt I n y) → AllByRecursion (λ e. e.cpu.0 < CPUS) (I.seen n)

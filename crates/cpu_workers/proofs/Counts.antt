@@ -136,5 +136,6 @@ pub new_have_made_none : (E : Type 0) {B : Type 0} (lock : LockId) (table_view :
     → AllHaveMade {E = E} lock (new_seat_views table_view n) (new_seat_views table_view n) 0
 new_have_made_none E lock table_view zero = tt
 new_have_made_none E lock table_view (suc n) =
-    both_more (λ d e. HasMade {E = E} lock d e 0) (new_seat_views table_view n) (new_seat_views table_view n) (new_seat_view table_view n) (new_seat_view table_view n)
+    both_more (λ d e. HasMade {E = E} lock d e 0) (new_seat_views table_view n) (new_seat_views table_view n) (new_seat_view table_view n)
+    (new_seat_view table_view n)
     (new_have_made_none E lock table_view n) (record { cpu = refl; table = refl; outside = refl; more = omega arith })

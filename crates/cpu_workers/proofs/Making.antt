@@ -10,7 +10,8 @@ use Rattle.layer_traits.specs.declared.calls.Reply.TheVariants as reply
 
 -- What an allowed effect carries.
 
-carries : (k : Kind) (closed : Bool) (capacity : ℕ) (items : List Message) (value : Message) → IsAllowedEffect k closed capacity items value → CarriesNone k value
+carries : (k : Kind) (closed : Bool) (capacity : ℕ) (items : List Message) (value : Message) → IsAllowedEffect k closed capacity items value
+    → CarriesNone k value
 carries k closed capacity items value allowed = grind arith
 
 -- a CPU's newest effect is one that may come

@@ -1,6 +1,7 @@
 -- The traces of all CPUs are an order of the effects of one list of actions, if each CPU has seen a front of it that has all of its own.
 use Rattle.std.proofs.Common.{◌≡◌, ℕ, suc, ◌*◌, ◌<◌, ◌≤◌, ◌==◌, ◌^◌, false, List, [], ◌∷◌, ◌++◌, length, map, All, reverse, Option, Some, None, option_to_list}
-use Rattle.std.proofs.{Common.{append_assoc, slice_index_or, refl, ap, sym, ◌∙◌, subst, arith}, lemmas.{Bool.cases_lt, List.{append-nil, length-reverse, reverse-append}}}
+use Rattle.std.proofs.Common.{append_assoc, slice_index_or, refl, ap, sym, ◌∙◌, subst, arith}
+use Rattle.std.proofs.lemmas.{Bool.cases_lt, List.{append-nil, length-reverse, reverse-append}}
 use Rattle.std.{proofs.lemmas.{List.Sums.{sum_by-cons, sum_by-le, sum_by-set}, Option.{get_or_from_slice_get, slice_get_within}}, specs.List.AllByRecursion}
 use Rattle.std.specs.{List.sum_by, Prelude.slice_set}
 use Rattle.event_log.specs.{declared.{entries.Entry.Entry, ids.{CpuId.CpuId, LockId.TheVariants.Buffer}}, Actions.{Action, Take, Try, Give, cpu_of_action}}

@@ -6,7 +6,8 @@ use Rattle.{layer_traits.specs.{OnePlace.cpu_at, Plans.is_in_section}, cpu.specs
 use Rattle.cpu.specs.Table.{Blocks.Name, Setups.{Private, Setup}, Steps.{IsReached, Whole, block_at, boots, steps, system_step, whole_at_boot}}
 use Rattle.cpu.proofs.Wakeups.Merging.{work_is_a_run}
 use Rattle.cpu_workers.{proofs.Joining.{all_head, all_tail}, specs.declared.workers.gates.Go.Go}
-use Rattle.cpu_workers.specs.{Lawful.{AreLeft, CpuReport, IsCpuReportOf, IsLawfulReport, Shown}, ReportRuns.{IsReportOfRun, ReportsAreRuns, StandsAsTold, run_by}}
+use Rattle.cpu_workers.specs.Lawful.{AreLeft, CpuReport, IsCpuReportOf, IsLawfulReport, Shown}
+use Rattle.cpu_workers.specs.ReportRuns.{IsReportOfRun, ReportsAreRuns, StandsAsTold, run_by}
 
 -- two lists that read alike are one
 same_list : {X : Type 0} (xs ys : List X) → ((k : ℕ) → slice_get xs k ≡ slice_get ys k) → xs ≡ ys

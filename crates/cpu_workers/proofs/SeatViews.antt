@@ -82,7 +82,8 @@ module _ (plan : BootPlan) (May : CpuId → Go → ℕ → Type 0) (turns : ℕ)
       → (cpu_at k ≡ x.machine.cpu) × IsLawful (MayCome (tower_rules.allowed (opened x.machine.start))) x.machine.seen)
       → ((k : ℕ) (x : Left Key) → slice_get left k ≡ Some x
       → HasLeft plan May turns (cpu_at k) (tower_acts (acts x.machine)) (site_of x.machine.table) x.trace.items x.did.taken x.did.stop)
-      → HaveLeft plan May turns table_view (map (λ x. x.machine) left) (map (λ x. x.trace.items) left) (map (λ x. x.did.taken) left) (map (λ x. x.did.stop) left)
+      → HaveLeft plan May turns table_view (map (λ x. x.machine) left) (map (λ x. x.trace.items) left) (map (λ x. x.did.taken) left)
+      (map (λ x. x.did.stop) left)
   have_left seats new count site owns has =
       let many : length left ≡ plan.cpus = count ∙ as_many table_view plan.cpus new in
       record {

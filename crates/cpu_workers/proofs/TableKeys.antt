@@ -5,7 +5,8 @@ use Rattle.table_machine.{specs.SeatViews.{TableView, SeatView, IsOf, new_seat_v
 use Rattle.{cpu.proofs.{InvariantAtBoot.at_end, ListReads.there_is}, cpu_workers.{specs.{Counts.IsFresh, Reports.Both}, proofs.Joining.all_by_number}}
 use Rattle.{cpu_workers.proofs.Joining.{both_back, both_length}, atomic_table.specs.Seated.TableId, layer_traits.specs.OnePlace.cpu_at}
 
-pub seat_views_at : {E B : Type 0} (table_view : TableView B) (n k : ℕ) (d : SeatView E B) → slice_get (new_seat_views table_view n) k ≡ Some d → d ≡ new_seat_view table_view k
+pub seat_views_at : {E B : Type 0} (table_view : TableView B) (n k : ℕ) (d : SeatView E B) → slice_get (new_seat_views table_view n) k ≡ Some d → d
+    ≡ new_seat_view table_view k
 seat_views_at table_view zero k d at = absurd (cc at)
 seat_views_at {E} table_view (suc n) k d at =
     at_end (λ j (e : SeatView _ _). e ≡ new_seat_view table_view j) (new_seat_views table_view n) (new_seat_view table_view n) (seat_views_at table_view n)
@@ -24,7 +25,8 @@ pub new_fresh : {E B : Type 0} (table_view : TableView B) (n : ℕ) → All (IsF
 new_fresh table_view = all_new table_view (λ d. IsFresh table_view d) (λ k. refl)
 
 -- what belongs to each of them, in a list that has come of them
-pub came_at : {E B : Type 0} (table_view : TableView B) (Fits : SeatView E B → SeatView E B → Type 0) (n : ℕ) (came : List (SeatView E B)) → Both Fits (new_seat_views table_view n) came
+pub came_at : {E B : Type 0} (table_view : TableView B) (Fits : SeatView E B → SeatView E B → Type 0) (n : ℕ) (came : List (SeatView E B))
+    → Both Fits (new_seat_views table_view n) came
     → (k : ℕ) → k < n → (e : SeatView E B) × (slice_get came k ≡ Some e) × Fits (new_seat_view table_view k) e
 came_at {E = E} table_view Fits n came all k below =
     let long : length came ≡ n = both_length Fits (new_seat_views table_view n) came all ∙ length_new E table_view n in

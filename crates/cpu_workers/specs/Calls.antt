@@ -47,7 +47,8 @@ pub record Returned (cpu : CpuId) (t : Tid) (call : Call) (reply : Reply) (old n
 
 -- however far the call had come, it has come as far after a poll that saw these entries
 abbrev pub KeepsOn : CpuId → Tid → Call → List CallState → List CallState → List Entry → List Entry → Type 0
-KeepsOn cpu t call before after seen new = (old : List Entry) → IsOn cpu t call (call_state_of before t) old seen → IsOn cpu t call (call_state_of after t) old new
+KeepsOn cpu t call before after seen new
+    = (old : List Entry) → IsOn cpu t call (call_state_of before t) old seen → IsOn cpu t call (call_state_of after t) old new
 
 -- however far the call had come, it has returned with a poll that saw these entries
 abbrev pub Ends : CpuId → Tid → Call → Reply → List CallState → List Entry → List Entry → Type 0

@@ -50,7 +50,8 @@ abbrev pub AllHaveMade : {E B : Type 0} → LockId → List (SeatView E B) → L
 AllHaveMade lock old new times = Both (λ d e. HasMade lock d e times) old new
 
 -- how often this lock was freed in one legal log of the table, in which all seat views stand whole, with no other CPU's events
-pub record IsNumberOfFrees {E B O : Type 0} (rules : Rules E B O) (lock : LockId) (table_view : TableView B) (seat_views : List (SeatView E B)) (number : ℕ) : Type 0 where
+pub record IsNumberOfFrees {E B O : Type 0} (rules : Rules E B O) (lock : LockId) (table_view : TableView B) (seat_views : List (SeatView E B))
+    (number : ℕ) : Type 0 where
   pub log : List (Event (Mark E))
   pub legal : IsLawful (MayCome (rules.allowed (opened table_view.start))) log
   pub keys : (i : ℕ) (seat_view : SeatView E B) → slice_get seat_views i ≡ Some seat_view → IsIn log seat_view

@@ -1,7 +1,8 @@
 //! What holds of workers that run at one table. Each law is the contract of a function that does
 //! nothing, so that the law is proved with the crate.
 
-ghost use Rattle.cpu_workers.specs.{Closing.ReportsAreLawful, Laws.ActionsLetOrderGoOn, Laws.FrontsKeepOrder, Laws.StopsAreTrue, Laws.WorkersLoseNoWakeUp, ReportRuns.ReportsAreRuns};
+ghost use Rattle.cpu_workers.specs.{Closing.ReportsAreLawful, Laws.ActionsLetOrderGoOn, Laws.FrontsKeepOrder};
+ghost use Rattle.cpu_workers.specs.{Laws.StopsAreTrue, Laws.WorkersLoseNoWakeUp, ReportRuns.ReportsAreRuns};
 
 use crate::workers::Gate;
 

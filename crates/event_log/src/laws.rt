@@ -2,7 +2,8 @@
 //! the law is proved with the crate.
 
 ghost use Rattle.event_log.specs.{Forms.BothFormsAgree, Forms.LegalLogsGrow, Grants.GrantsTellSpots, Grants.OneInsideGrants};
-ghost use Rattle.event_log.specs.Laws.{FreedOnceMeanwhile, FreeWhereAllRest, GivenOnceMeanwhile, OneHolds, OneInside, ThreeAreOneSection, TicketsTellSpots, WaitsForFew};
+ghost use Rattle.event_log.specs.Laws.{FreedOnceMeanwhile, FreeWhereAllRest, GivenOnceMeanwhile, OneHolds};
+ghost use Rattle.event_log.specs.Laws.{OneInside, ThreeAreOneSection, TicketsTellSpots, WaitsForFew};
 
 /// A words log, oldest first, is legal where each event may follow what stands before it, however
 /// the log is split. The recursion on its history, newest first, says the same.

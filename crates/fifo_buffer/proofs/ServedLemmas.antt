@@ -9,7 +9,8 @@ use Rattle.layer_traits.specs.declared.{conditions.CvEdit.TheVariants.{Edit, Sig
 use Rattle.layer_traits.specs.declared.locked.Side.TheVariants.{Receivers, Senders}
 use Rattle.{event_log.specs.Runs.{group_of, same_group}, std.specs.Prelude.{◌==◌}, fifo_buffer.specs.Laws.Tallies.effect_position}
 use Rattle.layer_traits.specs.{declared.queues.QueueCall.{QueueCall, TheVariants.{Push, TakeAll, OnBuffer}}, BufferEffects.{effect_of, effect_on, effects_in}}
-use Rattle.layer_traits.specs.{BufferEffects.{drawn, fresh_lock}, BufferProtocol.{BufferLock, BufferSection, IsDue, buffer_at, buffer_monitor_rules, is_in_line}}
+use Rattle.layer_traits.specs.BufferEffects.{drawn, fresh_lock}
+use Rattle.layer_traits.specs.BufferProtocol.{BufferLock, BufferSection, IsDue, buffer_at, buffer_monitor_rules, is_in_line}
 use Rattle.layer_traits.specs.{BufferProtocol.buffer_rules, Conditions.{CvCall, cv_rules}, QLockLaw.lock_kernel, QLocking.{asked, lock_caller, lock_edited}}
 use Rattle.layer_traits.specs.{Protocol.section, QueueBlocks.{StartsWell, inner}, Queues.{QueueAllowed, buffer_sections, with_section}}
 use Rattle.layer_traits.specs.BufferBlocks.{BufferState, entered, is_first, is_next, line_of, may_join, shut}
@@ -66,7 +67,8 @@ module _ (side : Side) (b : BufId) (c : CpuId) (position : Side → Tid → ℕ)
   keeps_enter : (t : Tid) (at : Side) → may_join t (line_of at lock.above) ≡ true → Keeps (Inside (Edit (Enter t at))) (effect (Inside (Edit (Enter t at))))
   keeps_enter t at may =
       joins (same_side side at) t all (served side b.0 es) line is
-      ∙ ap (λ l. served side b.0 es ++ l) (sym (ap (λ v. line_of side (if v then entered at t lock.above else lock.above)) may ∙ entered_line side at t lock.above))
+      ∙ ap (λ l. served side b.0 es ++ l)
+      (sym (ap (λ v. line_of side (if v then entered at t lock.above else lock.above)) may ∙ entered_line side at t lock.above))
 
   -- a try that is not its thread's turn changes nothing; at its turn the first in line is served
   keeps_put : (t : Tid) (m : Message) (v : Bool) → is_next Senders t lock.above ≡ v
@@ -156,7 +158,8 @@ module _ (opening : LockId → Option (QueueBlock BufferLock)) (starts : StartsW
       go true is lock at =
           let was = found opening boots b within past in
           let one : Buffer b ≡ Buffer d = same_lock_true (Buffer b) (Buffer d) is in
-          let there : buffer_at (inner opening) (buffer_sections past) (Buffer d) ≡ Some was.0 = ap (buffer_at (inner opening) (buffer_sections past)) (sym one) ∙ was.1 in
+          let there : buffer_at (inner opening) (buffer_sections past) (Buffer d) ≡ Some was.0
+          = ap (buffer_at (inner opening) (buffer_sections past)) (sym one) ∙ was.1 in
           let same : d ≡ b = buffer_same d b (sym one) in
           let edited : lock ≡ lock_edited buffer_rules call was.0 = same_Some lock (lock_edited buffer_rules call was.0) (sym at
           ∙ ap (λ (v : Bool). if v then option_map (lock_edited buffer_rules call) (lock_at (buffer_sections past)) else lock_at (buffer_sections past)) is
@@ -164,12 +167,14 @@ module _ (opening : LockId → Option (QueueBlock BufferLock)) (starts : StartsW
           let kept = keeps_call side b c (λ s t. drawn (inner opening) (Buffer d) s t (buffer_sections past)) (joined side (Buffer b) (buffer_sections past))
           (effects_in (inner opening) (buffer_sections past)) was.0 (before was.0 was.1) (inner opening) (buffer_sections past) call was.1
           (subst (λ (x : BufId). IsDue (inner opening) (buffer_sections past) (Buffer x) call) same due) small in
-          ap (λ (v : Bool). if v && enters side call then joined side (Buffer b) (buffer_sections past) ++ lock_caller buffer_rules call ∷ [] else joined side (Buffer b) (buffer_sections past))
+          ap (λ (v : Bool). if v && enters side call then joined side (Buffer b) (buffer_sections past)
+          ++ lock_caller buffer_rules call ∷ [] else joined side (Buffer b) (buffer_sections past))
           is
           ∙ kept
           ∙ ap (λ (o : Option Entry). served side b.0 (option_to_list o ++ effects_in (inner opening) (buffer_sections past))
           ++ line_of side (lock_edited buffer_rules call was.0).above) (sym (effect_here was.0 there same))
-          ∙ ap (λ (l : BufferLock). served side b.0 (effects_in (inner opening) (section c (Buffer d) call ∷ (buffer_sections past))) ++ line_of side l.above) (sym edited)
+          ∙ ap (λ (l : BufferLock). served side b.0 (effects_in (inner opening) (section c (Buffer d) call ∷ (buffer_sections past)))
+          ++ line_of side l.above) (sym edited)
         where
           buffer_same : (x y : BufId) → Buffer x ≡ Buffer y → x ≡ y
           buffer_same x y same = cc same
@@ -181,12 +186,15 @@ module _ (opening : LockId → Option (QueueBlock BufferLock)) (starts : StartsW
               ∙ ap (λ (x : BufId). effect_on c x call (λ s t. drawn (inner opening) (Buffer d) s t (buffer_sections past)) (Some l)) same
       go false is lock at =
           let was : lock_at (buffer_sections past) ≡ Some lock
-          = sym (ap (λ (v : Bool). if v then option_map (lock_edited buffer_rules call) (lock_at (buffer_sections past)) else lock_at (buffer_sections past)) is) ∙ at in
-          ap (λ (v : Bool). if v && enters side call then joined side (Buffer b) (buffer_sections past) ++ lock_caller buffer_rules call ∷ [] else joined side (Buffer b) (buffer_sections past))
+          = sym (ap (λ (v : Bool). if v then option_map (lock_edited buffer_rules call) (lock_at (buffer_sections past)) else lock_at
+          (buffer_sections past)) is) ∙ at in
+          ap (λ (v : Bool). if v && enters side call then joined side (Buffer b) (buffer_sections past)
+          ++ lock_caller buffer_rules call ∷ [] else joined side (Buffer b) (buffer_sections past))
           is
           ∙ before lock was
           ∙ ap (λ (l : List Tid). l ++ line_of side lock.above) (sym (elsewhere side b d here (effects_in (inner opening) (buffer_sections past)) is (λ e at_e.
-          (effect_position c d call (λ s t. drawn (inner opening) (Buffer d) s t (buffer_sections past)) (buffer_at (inner opening) (buffer_sections past) (Buffer d)) e at_e).1)))
+          (effect_position c d call (λ s t. drawn (inner opening) (Buffer d) s t (buffer_sections past))
+          (buffer_at (inner opening) (buffer_sections past) (Buffer d)) e at_e).1)))
 
   served_all : (past : List BufferEvent) → IsLawful (QueueAllowed (lock_kernel (cv_rules buffer_monitor_rules) opening)) past
       → IsServed (buffer_sections past)

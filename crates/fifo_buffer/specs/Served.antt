@@ -5,7 +5,8 @@ use Rattle.event_log.specs.{History.{IsLawful, same_lock}, Runs.{Group, Sends, R
 use Rattle.layer_traits.specs.declared.{locked.Side.{Side, TheVariants.{Receivers, Senders}}, queue_edits.QueueBlock.QueueBlock}
 use Rattle.layer_traits.specs.{BufferBlocks.line_of, BufferEffects.effects_in, BufferProtocol.{BufferLock, BufferSection, buffer_at, buffer_monitor_rules}}
 use Rattle.layer_traits.specs.{BufferProtocol.buffer_rules, Conditions.cv_rules, QLockLaw.lock_kernel, QLocking.lock_caller, QueueBlocks.{StartsWell, inner}}
-use Rattle.{layer_traits.specs.Queues.{QueueAllowed, buffer_sections}, fifo_buffer.specs.{FifoFits.{BootsSo, caps_in}, Positions.enters, SectionPolls.BufferEvent}}
+use Rattle.layer_traits.specs.Queues.{QueueAllowed, buffer_sections}
+use Rattle.fifo_buffer.specs.{FifoFits.{BootsSo, caps_in}, Positions.enters, SectionPolls.BufferEvent}
 
 -- the threads that joined this side's line of a lock's buffer in these sections, the first in front
 abbrev pub joined : Side → LockId → List BufferSection → List Tid

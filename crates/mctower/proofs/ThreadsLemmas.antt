@@ -13,7 +13,8 @@ use Rattle.mctower.specs.declared.run.Fault.TheVariants as run
 
 -- what is so for a plan that was read
 pub of_read : (Means : BootPlan → Result Done Refusal → Output → Type 0) (plan : BootPlan) (read : Result BootPlan BootError) (answer : Result Done Refusal)
-    (out : Output) → read ≡ Ok plan → RefusedBy lacks_memory answer out ⊎ Means plan answer out → RefusedBy lacks_memory answer out ⊎ OfPlan Means read answer out
+    (out : Output) → read ≡ Ok plan → RefusedBy lacks_memory answer out ⊎ Means plan answer out → RefusedBy lacks_memory answer out
+    ⊎ OfPlan Means read answer out
 of_read Means plan read answer out is (inl refused) = inl refused
 of_read Means plan read answer out is (inr means) = inr (subst (λ r. OfPlan Means r answer out) (sym is) means)
 
@@ -94,5 +95,8 @@ not_written A turns plan r stops run.WriteFault refusal out lawful same writes i
   stops = stops;
   trace = writes.1.text;
   worked = has_worked turns plan r stops writes.1.text lawful same writes.1.is;
-  put = (ap Err is ∙ ap (λ (b : Bool). if b then Err WriteFault else Ok (Worked stops)) (sym writes.0), (writes.1.out, λ live. not_both out.failed live writes.0));
+  put = (
+    ap Err is ∙ ap (λ (b : Bool). if b then Err WriteFault else Ok (Worked stops)) (sym writes.0),
+    (writes.1.out, λ live. not_both out.failed live writes.0),
+  );
 }))

@@ -3,7 +3,8 @@ use Rattle.{std.specs.Prelude.{◌≡◌, ◌<◌, ℕ, List, Option, None, leng
 pub use Rattle.cpu_workers.specs.Counts.{after_round, after_rounds, counting, sections_at}
 
 -- this part is the one of the CPU of this number, rests and agrees with the machine
-pub record IsCountReady {P M S : Type 0} (cpu_of : P → CpuId) (under_way : P → Option S) (Fits : P → M → Type 0) (number : ℕ) (part : P) (machine : M) : Type 0 where
+pub record IsCountReady {P M S : Type 0} (cpu_of : P → CpuId) (under_way : P → Option S) (Fits : P → M → Type 0) (number : ℕ) (part : P)
+    (machine : M) : Type 0 where
   pub cpu : (cpu_of part).0 ≡ number
   pub rests : under_way part ≡ None
   pub fits : Fits part machine

@@ -19,7 +19,8 @@ optional name = record (new_rule name) { long = Some name }
 
 -- `count --cpus n --times k [--lock L]`
 abbrev pub count_app : App
-count_app = with_rule (with_rule (with_rule (new_app (codes "count")) (required_option (codes "cpus"))) (required_option (codes "times"))) (optional (codes "lock"))
+count_app = with_rule (with_rule (with_rule (new_app (codes "count")) (required_option (codes "cpus"))) (required_option (codes "times")))
+    (optional (codes "lock"))
 
 -- `run [--schedule S]`
 abbrev pub run_app : App

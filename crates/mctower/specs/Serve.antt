@@ -10,7 +10,8 @@ use Rattle.mctower.specs.declared.{refusals.Refusal.TheVariants.{BadSchedule, Pl
 use Rattle.mctower.specs.declared.{faults.NoOrder.TheVariants.{AsksHelp, AsksVersion}, help.TheConstants.VERSION, serve.Done.{Done, TheVariants.{Exit, Ran}}}
 use Rattle.mctower.specs.{declared.{serve.Done.TheVariants.Worked, states.State.State}, Running.{AreCpus, IsRunOf, NoCondition}, Faults.{IsFault, IsWhy}}
 use Rattle.mctower.specs.{Help.{help_of, topic_of}, State.{IsStateOf, text_of_state}, Schedule.steps_of, Tabled.{IsStateOfRun, IsTextOfRun}, Texts.IsTextOf}
-use Rattle.{tracer.specs.Gather.on_buffer, mctower.specs.Threads.{IsWorked, stop_text}, cpu.specs.Claims.{Shown, traces_of}, cpu_workers.specs.declared.workers.stops.Stop.Stop}
+use Rattle.{tracer.specs.Gather.on_buffer, mctower.specs.Threads.{IsWorked, stop_text}}
+use Rattle.{cpu.specs.Claims.{Shown, traces_of}, cpu_workers.specs.declared.workers.stops.Stop.Stop}
 use Rattle.tracer.specs.declared.verdicts.Verdict.TheVariants as verdict
 use Rattle.tracer.specs.Reasons as reasons
 use Rattle.tracer.specs.declared.checking.InputFault.TheVariants as unjudged

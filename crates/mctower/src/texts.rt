@@ -4,7 +4,8 @@
 ghost use Rattle.std.specs.Prelude.{◌≡◌, ◌<◌, ℕ, IfOk, List, false, length, map, slice_index_or};
 ghost use Rattle.event_log.specs.{declared.entries.Entry.Entry as AnEntry, Messages.IsMessage, Messages.Message};
 ghost use Rattle.tracer.specs.{Gather.{traces_in, entries_in}, Judging.verdict_of, Sinks.has_failed, declared.verdicts.Verdict.TheVariants.Yes as SaysYes};
-ghost use Rattle.mctower.specs.{Output.between, Tabled.{NothingIsPrinted, RunsHaveOneText}, Threads.ThreadsPrintARun, Texts.HaveText, Texts.IsTextOf, Texts.Writes};
+ghost use Rattle.mctower.specs.{Output.between, Tabled.{NothingIsPrinted, RunsHaveOneText}, Threads.ThreadsPrintARun};
+ghost use Rattle.mctower.specs.{Texts.HaveText, Texts.IsTextOf, Texts.Writes};
 
 use crate::run::Fault;
 use arrayvec::ArrayVec;

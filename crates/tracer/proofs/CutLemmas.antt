@@ -37,7 +37,8 @@ pub chunk_inside : (text : List ℕ) (start n : ℕ) (chunk : List ℕ) → star
 chunk_inside text start n chunk inside first = omega (arith, first.enough, ap length (take_rest text start), length-drop start text)
 
 -- where they lack a byte that nothing before start is, nothing before their end is that byte
-pub chunk_passed : (at : ℕ) (text : List ℕ) (start n : ℕ) (chunk : List ℕ) → start ≤ length text → IsFirstChunk (take (length text - start) (drop start text)) chunk n
+pub chunk_passed : (at : ℕ) (text : List ℕ) (start n : ℕ) (chunk : List ℕ) → start ≤ length text
+    → IsFirstChunk (take (length text - start) (drop start text)) chunk n
     → list_any (λ b. b == at) chunk ≡ false → ((k : ℕ) → k < start → (get_or text k 0 == at) ≡ false)
     → (k : ℕ) → k < start + n → (get_or text k 0 == at) ≡ false
 chunk_passed at text start n chunk inside first lacks before k below =

@@ -97,7 +97,8 @@ entry_digits_taken pieces d e =
     let shape = ap shape_of (same_ok (spelled_as cpu.0.0 thread.0.0 kind.0 buffer.0.0 value.0.0 op.0.0 pos.0.0) d last.2) in
     digits_taken pieces cpu.0 cpu.1 ∙ ap (λ (t : List (List ℕ)). cpu.0.0 ∷ t)
     (digits_taken cpu.0.1 thread.0 thread.1 ∙ ap (λ (t : List (List ℕ)). thread.0.0 ∷ t)
-    (piece_taken thread.0.1 word.0 word.1 ∙ ap (λ (w : List ℕ). w ∷ word.0.1) (kind_taken word.0.0 kind.0 kind.1) ∙ ap (λ (t : List (List ℕ)). kind_word kind.0 ∷ t)
+    (piece_taken thread.0.1 word.0 word.1 ∙ ap (λ (w : List ℕ). w ∷ word.0.1) (kind_taken word.0.0 kind.0 kind.1)
+    ∙ ap (λ (t : List (List ℕ)). kind_word kind.0 ∷ t)
     (digits_taken word.0.1 buffer.0 buffer.1 ∙ ap (λ (t : List (List ℕ)). buffer.0.0 ∷ t)
     (piece_taken buffer.0.1 value.0 value.1 ∙ ap (λ (t : List (List ℕ)). value.0.0 ∷ t)
     (digits_taken value.0.1 op.0 op.1 ∙ ap (λ (t : List (List ℕ)). op.0.0 ∷ t)

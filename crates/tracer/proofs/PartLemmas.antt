@@ -47,7 +47,8 @@ moved xs filled count few inside =
 -- ---- the lines of a part
 
 -- a judge that found no fault
-live_verdict : (judge : TextJudge) (text : List ℕ) → judge.fault ≡ None → verdict_behind judge text ≡ verdict_from (progress_of judge.judge) judge.line (lines_in text)
+live_verdict : (judge : TextJudge) (text : List ℕ) → judge.fault ≡ None → verdict_behind judge text
+    ≡ verdict_from (progress_of judge.judge) judge.line (lines_in text)
 live_verdict judge text none = rw none refl
 
 first_line : (text line behind more : List ℕ) → IsFirstLine text line behind → lines_in (text ++ more) ≡ line ∷ lines_in (behind ++ more)
@@ -77,7 +78,8 @@ one_taken old part now new rest line behind taken is stepped next fault =
           ∙ sym (append_assoc taken.front (line ++ 10 ∷ []) behind);
       judged = (λ more.
           taken.judged more ∙ live_verdict now (rest ++ more) live_now
-          ∙ line_taken (progress_of now.judge) (progress_of new.judge) now.line (rest ++ more) line (behind ++ more) (first_line rest line behind more is) stepped
+          ∙ line_taken (progress_of now.judge) (progress_of new.judge) now.line (rest ++ more) line (behind ++ more)
+          (first_line rest line behind more is) stepped
           ∙ ap (λ n. verdict_from (progress_of new.judge) n (lines_in (behind ++ more))) (sym next) ∙ sym (live_verdict new (behind ++ more) live_new));
       live = live_new;
       counted = omega arith;
@@ -103,7 +105,8 @@ pub record IsJudgedTo (from now : Option (List ℕ)) (judge : TextJudge) (held :
   pub read : Consumes from now seen
   pub judged : (more : List ℕ) → verdict_of (seen ++ more) ≡ verdict_behind judge (held ++ more)
 
-pub judged_read : (from mid now : Option (List ℕ)) (judge : TextJudge) (held longer : List ℕ) → IsJudgedTo from mid judge held → IsReadBehind held longer mid now
+pub judged_read : (from mid now : Option (List ℕ)) (judge : TextJudge) (held longer : List ℕ) → IsJudgedTo from mid judge held
+    → IsReadBehind held longer mid now
     → IsJudgedTo from now judge longer
 judged_read from mid now judge held longer before read = record {
   seen = before.seen ++ read.more;
@@ -121,7 +124,8 @@ judged_lines from now old new held rest before taken =
 -- one part more: it is read, its lines are judged, and what is left is kept
 pub judged_part : (from mid now : Option (List ℕ)) (old new : TextJudge) (held longer part rest : List ℕ) (taken : ℕ) → IsJudgedTo from mid old held
     → IsReadBehind held longer mid now → part ≡ longer
-    → ((more : List ℕ) → verdict_behind old (part ++ more) ≡ verdict_behind new (drop taken part ++ more)) → rest ≡ drop taken longer → IsJudgedTo from now new rest
+    → ((more : List ℕ) → verdict_behind old (part ++ more) ≡ verdict_behind new (drop taken part ++ more)) → rest ≡ drop taken longer
+    → IsJudgedTo from now new rest
 judged_part from mid now old new held longer part rest taken before read same lines left =
     rw left (judged_lines from now old new longer (drop taken longer) (judged_read from mid now old held longer before read) (rw same at lines))
 

@@ -10,7 +10,8 @@ pub bind_ok : {A B : Type 0} (r : Result A Reason) (f : A → Result B Reason) (
 bind_ok (Ok x) f y e = (x, refl, e)
 bind_ok (Err reason) f y e = absurd (cc)
 
-pub wanted_ok : {A : Type 0} (test : Bool) (reason : Reason) (next : Result A Reason) (y : A) → or_reason test reason next ≡ Ok y → (test ≡ true) × (next ≡ Ok y)
+pub wanted_ok : {A : Type 0} (test : Bool) (reason : Reason) (next : Result A Reason) (y : A) → or_reason test reason next ≡ Ok y
+    → (test ≡ true) × (next ≡ Ok y)
 wanted_ok test reason next y e = grind arith
 
 abbrev pub fine : {A : Type 0} → A → Result A Reason

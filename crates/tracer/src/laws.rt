@@ -3,7 +3,8 @@
 
 ghost use Rattle.std.specs.Prelude.{◌≡◌, ℕ, List};
 ghost use Rattle.event_log.specs.{declared.entries.Entry.Entry as AnEntry, Messages.Message, Runs.IsRun};
-ghost use Rattle.tracer.specs.{declared.verdicts.Verdict.TheVariants.Yes as SaysYes, Judging.verdict_of, OneOrder.OneOrderIsTaken, TraceText.IsTraceText, Verdicts.IsTraceOfRun};
+ghost use Rattle.tracer.specs.{declared.verdicts.Verdict.TheVariants.Yes as SaysYes, Judging.verdict_of};
+ghost use Rattle.tracer.specs.{OneOrder.OneOrderIsTaken, TraceText.IsTraceText, Verdicts.IsTraceOfRun};
 
 /// A law: the judge says yes exactly to the texts that spell a run and where it ends. So the text
 /// that `write_trace` writes of a run, and of what it leaves, gets yes.

@@ -145,7 +145,8 @@ module _ (caller : Caller) where
 
   handed_to : (stage next : Stage) (b : BufId) → Stands next None None None None None → FitsStage next (Some call) → call_state_of call_states t ≡ so stage
       → slept_for slept t ≡ Some b → slept_for waits t ≡ None → (going (so stage) call).effect ≡ None → (going (so next) call).effect ≡ None
-      → thread_from (so next) None None false (is_in t ended) (guest_at guests t) ≡ thread_from (so stage) (Some b) None false (is_in t ended) (guest_at guests t)
+      → thread_from (so next) None None false (is_in t ended) (guest_at guests t)
+      ≡ thread_from (so stage) (Some b) None false (is_in t ended) (guest_at guests t)
       → fifo_plan setup.homes c t call was ≡ fifo_plan setup.homes c t call (handed_own next) → LineOf setup c t call was guests trace
   handed_to stage next b given fits is s w none none2 same goes =
       chained_line stage next (handed_own next) is (now_call_state next) none none2

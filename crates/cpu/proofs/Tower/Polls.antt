@@ -46,7 +46,8 @@ module _ {A : Type 0} (polled : Polled) (way : Way A polled) (got : Left Bufferi
   past = planned.past
 
   step_is : cpu_step setup c p (named past) ≡ acting_on setup c q line.lock (name_of line.name) (named past)
-  step_is = goes past (ap (phase c) planned.acted.joined ∙ phase_others c planned.acted.others old (planned.acted.foreign c acts)) ∙ ap (λ (x : Ask). acting_on setup c q x.lock x.name (named past)) line.asks
+  step_is = goes past (ap (phase c) planned.acted.joined ∙ phase_others c planned.acted.others old (planned.acted.foreign c acts))
+      ∙ ap (λ (x : Ask). acting_on setup c q x.lock x.name (named past)) line.asks
 
   -- the table's answer is the view of the layers'
   answer_is : option_map answer_view (reply tower opening c line.lock line.name past)

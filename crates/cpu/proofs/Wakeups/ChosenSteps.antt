@@ -40,7 +40,8 @@ module _ (setup : Setup) (c : CpuId) (p : Private) (T : Tid → Visit) (P : Tid 
       agrees_same setup c p (with_guest p t guest) t T T P agrees (same_with p t (record (thread_at p t) { guest = guest }) known refl) (λ u other. refl)
           (agrees.calls t (runs setup c p T P agrees t runs_now).0
           ∙ ap (λ y. visit_of_call y.call) (sym (at_same p t (record (thread_at p t) { guest = guest }) known))),
-      λ u local done. (refuted (ap is_some empty) (settled_before u local (ap is_done (sym (grind (arith, same_tid_true, at_same, at_other, known))) ∙ done)).0),
+      λ u local done. (refuted (ap is_some empty)
+          (settled_before u local (ap is_done (sym (grind (arith, same_tid_true, at_same, at_other, known))) ∙ done)).0),
     )
 
     calls_now : (call : Call) → call.stage ≡ Acquires → Agrees setup c (with_call p t (Some call)) T P × IsSettled setup c (with_call p t (Some call))

@@ -45,7 +45,15 @@ module _ (setup : Setup) (past : List (Section Name)) (good : Good setup past) (
       agrees_foreign setup c p (λ u. visit setup u past) (λ u. visit setup u (record { cpu = e; lock = AtBuffer d; edit = name } ∷ past))
       (λ u. post setup u past) (λ u. post setup u (record { cpu = e; lock = AtBuffer d; edit = name } ∷ past)) agrees
       (λ u local. grind (arith, false_from_ne_true, mine u, local))
-      (λ u local. grind (arith, false_from_ne_true, sleeps_not_home, mine u, local, moves_at setup past good e d name callers u (block_of setup (AtBuffer d) past) refl))
+      (λ u local. grind (
+        arith,
+        false_from_ne_true,
+        sleeps_not_home,
+        mine u,
+        local,
+        moves_at setup past good e d name callers u
+            (block_of setup (AtBuffer d) past) refl,
+      ))
       (λ u. grind (arith, moves_at setup past good e d name callers u (block_of setup (AtBuffer d) past) refl))
     where
       mine : (u : Tid) → is_caller u name ≡ true → same_cpu (home_of setup u) e ≡ true
@@ -166,7 +174,8 @@ module _ (setup : Setup) (past : List (Section Name)) (good : Good setup past) (
           let sleeps = (woken_sleeps call.buffer s k _ _ _ pair (section_at t call call.stage) (ap (is_thread s) woke ∙ same_tid_self s)).1 in
           let off = sleeps_not_home call.buffer (post setup s past) sleeps in
           (off, good.known s off) in
-          let calling : IsCalling setup c p (λ u. visit setup u past) (λ u. post setup u past) t call = assumption (agrees, settled_before, empty, runs_now, is) in
+          let calling : IsCalling setup c p (λ u. visit setup u past) (λ u. post setup u past) t call
+          = assumption (agrees, settled_before, empty, runs_now, is) in
           let now = agrees_call setup c p (λ u. visit setup u past) (λ u. post setup u past) t call calling k asleep in
           let a = answer_of_buffer (section_at t call call.stage) k in
           let gives : after_reply setup c p (option_map (answer (section_at t call call.stage)) (Some (OfBuffer k))) ≡ after_call setup c p t call a =

@@ -62,12 +62,14 @@ module _ (setup : Setup) (s : Whole) (homes : HomesExist setup) (kept : SystemIn
 
   at_buffer : (x : Where) → post setup u (sections_in s.log) ≡ x → (i : ℕ) → i < length setup.caps
       → count_in u (of_buffer setup s i)
-      ≡ marked u (sleeps_in (buffer_numbered i) wait_list.Sleepers x) + (marked u (sleeps_in (buffer_numbered i) wait_list.Receivers x) + marked u (sleeps_in (buffer_numbered i) wait_list.Senders x))
+      ≡ marked u (sleeps_in (buffer_numbered i) wait_list.Sleepers x) +
+      (marked u (sleeps_in (buffer_numbered i) wait_list.Receivers x) + marked u (sleeps_in (buffer_numbered i) wait_list.Senders x))
   at_buffer x is i below = by_block (buffer_there setup (buffer_numbered i) (sections_in s.log) below)
     where
       by_block : ((k : Buffer) × (block_of setup (AtBuffer (buffer_numbered i)) (sections_in s.log) ≡ Some (OfBuffer k)))
           → count_in u (of_buffer setup s i)
-          ≡ marked u (sleeps_in (buffer_numbered i) wait_list.Sleepers x) + (marked u (sleeps_in (buffer_numbered i) wait_list.Receivers x) + marked u (sleeps_in (buffer_numbered i) wait_list.Senders x))
+          ≡ marked u (sleeps_in (buffer_numbered i) wait_list.Sleepers x) +
+          (marked u (sleeps_in (buffer_numbered i) wait_list.Receivers x) + marked u (sleeps_in (buffer_numbered i) wait_list.Senders x))
       by_block there =
           let k = there.0 in
           let pair = good.pairs (buffer_numbered i) u k there.1 in

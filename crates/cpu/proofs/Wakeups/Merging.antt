@@ -1,6 +1,7 @@
 -- The ways of CPUs along one list, merged to one schedule.
 use Rattle.std.proofs.Common.{◌≡◌, ◌≢◌, ℕ, zero, suc, ◌+◌, ◌<◌, ◌≤◌, ◌⊎◌, inl, inr, false, true, List, [], ◌∷◌, ◌++◌, if◌then◌else◌, refl, sym, ap, ◌∙◌}
-use Rattle.std.proofs.{Common.{subst, arith, length, Some, slice_get, slice_set, zero-add}, lemmas.{Bool.{cases_eq, cases_lt, ne_eqb}, List.{length-append, length-set}, List.Elements.All-append}}
+use Rattle.std.proofs.Common.{subst, arith, length, Some, slice_get, slice_set, zero-add}
+use Rattle.std.proofs.lemmas.{Bool.{cases_eq, cases_lt, ne_eqb}, List.{length-append, length-set}, List.Elements.All-append}
 use Rattle.{std.specs.List.All, event_log.specs.{declared.ids.CpuId.CpuId, History.{same_cpu, own_events}, Actions.{Action, cpu_of_action}}}
 use Rattle.{event_log.proofs.Same.same_cpu_self, layer_traits.specs.{declared.steps.Step.TheVariants.Stepped, Along.{starts, others, steps}}}
 use Rattle.cpu.specs.{Sound.after_steps, Table.{Blocks.Name, Setups.{Setup, Private, at_boot}, Steps.{Whole, AlongTable, boots_from, cpu_numbered, cpu_step}}}
@@ -323,7 +324,8 @@ acted setup a past R within before = let x = before.all d within in by_turn x.0 
     by_turn r at mid (inr turn) on = record {
       sched = before.sched ++ cpu_of_action a ∷ [];
       ps = slice_set before.ps d (cpu_step setup (cpu_of_action a) r past).next;
-      way = subst (λ acts. Goes setup (before.sched ++ cpu_of_action a ∷ []) (slice_set before.ps d (cpu_step setup (cpu_of_action a) r past).next) (acts ++ past))
+      way = subst (λ acts. Goes setup (before.sched ++ cpu_of_action a ∷ [])
+          (slice_set before.ps d (cpu_step setup (cpu_of_action a) r past).next) (acts ++ past))
           turn.1 (goes (cpu_of_action a) r before.way within at turn.2);
       all = λ k below. each r mid turn.3 at on k below (cases_eq k d);
     }

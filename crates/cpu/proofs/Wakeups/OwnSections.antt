@@ -76,14 +76,17 @@ module _ (b : BufId) (u : Tid) where
   own_enter k g side joins is owner pair = grind (arith, at_work, not_counted, same_tid_self, count_append, unlined, lined, is)
 
   -- the thread gives the lock back, and is inside no longer
-  own_release : (k : Buffer) (g : Progress) (visit next : Visit) (x : Where) → Pair b u k g visit Home → is_inside b next ≡ false → sleeps_in b wait_list.Sleepers x ≡ false
+  own_release : (k : Buffer) (g : Progress) (visit next : Visit) (x : Where) → Pair b u k g visit Home → is_inside b next ≡ false
+      → sleeps_in b wait_list.Sleepers x ≡ false
       → count_in u k.send_line ≡ marked u (is_lined b Senders next) → count_in u k.receive_line ≡ marked u (is_lined b Receivers next)
-      → (sends receives : List Tid) → count_in u sends ≡ marked u (sleeps_in b wait_list.Senders x) → count_in u receives ≡ marked u (sleeps_in b wait_list.Receivers x)
+      → (sends receives : List Tid) → count_in u sends ≡ marked u (sleeps_in b wait_list.Senders x) → count_in u receives
+      ≡ marked u (sleeps_in b wait_list.Receivers x)
       → Pair b u (released (record k { waiting_senders = sends; waiting_receivers = receives })) Begins next x
   own_release k g visit next x pair outside off in_sends in_receives sends receives now_ws now_wr = paired
       (λ e. refuted (not_first k.sleepers (no_sleepers k g visit pair)) (ap (is_thread u) e ∙ same_tid_self u)) (λ ins awake. refuted outside ins)
       (λ on. refuted off on)
-      (first_left u k.sleepers (subst (λ n. n ≤ 1) (sym pair.sleepers) (marked_most u false)) ∙ ap (λ d. if d then 0 else count_in u k.sleepers) (not_first k.sleepers (no_sleepers k g visit pair)) ∙ no_sleepers k g visit pair ∙ sym (marked_none u (sleeps_in b wait_list.Sleepers x) off))
+      (first_left u k.sleepers (subst (λ n. n ≤ 1) (sym pair.sleepers) (marked_most u false)) ∙ ap (λ d. if d then 0 else count_in u k.sleepers)
+      (not_first k.sleepers (no_sleepers k g visit pair)) ∙ no_sleepers k g visit pair ∙ sym (marked_none u (sleeps_in b wait_list.Sleepers x) off))
       now_ws now_wr in_sends in_receives
 
   own_wait : (k : Buffer) (g : Progress) (side : Side) → Pair b u k g (In b (WasRefused side)) Home
@@ -105,13 +108,18 @@ module _ (b : BufId) (u : Tid) where
       let same : u ≡ t = same_Some u t (sym is) in
       rw (← same) (own_enter k g side (may_join u (line_of side k)) refl (subst (λ v. k.busy ≡ Some v) (sym same) may.0) at_b)
   own_at (Shut t) k g (In d Begins) is idle may due pair = grind (arith, at_work, unlined)
-  own_at (TryPut t m) k g (In d (HasEntered Senders)) is idle may due pair = grind (arith, same_Some, and_parts, unlined, at_work, first_left, marked_most, first_is, same_tid_self)
-  own_at (TryTake t) k g (In d (HasEntered Receivers)) is idle may due pair = grind (arith, same_Some, and_parts, unlined, at_work, first_left, marked_most, first_is, same_tid_self)
+  own_at (TryPut t m) k g (In d (HasEntered Senders)) is idle may due pair
+      = grind (arith, same_Some, and_parts, unlined, at_work, first_left, marked_most, first_is, same_tid_self)
+  own_at (TryTake t) k g (In d (HasEntered Receivers)) is idle may due pair
+      = grind (arith, same_Some, and_parts, unlined, at_work, first_left, marked_most, first_is, same_tid_self)
   own_at (WaitOn t side) k g (In d (WasRefused other)) is idle may due pair =
       let at_b : Pair b u k g (In b (WasRefused side)) Home = subst (λ x. x) (λ i. Pair b u k g (In (due.0 i) (WasRefused (due.1 i))) Home) pair in
-      subst (λ v. Pair b u (released (waiting v side k)) Begins (Waiting b side) (Asleep (At (AtBuffer b) (list_of side)))) (same_Some u t (sym is)) (own_wait k g side at_b)
-  own_at (SigRecv t) k g (In d (Owes r s)) is idle may due pair = grind (arith, no_senders, no_receivers, paired, and_from, buffer_self, marked_none, unlined, signal_left)
-  own_at (SigSend t) k g (In d (Owes r s)) is idle may due pair = grind (arith, no_senders, no_receivers, paired, and_from, buffer_self, marked_none, unlined, signal_left)
+      subst (λ v. Pair b u (released (waiting v side k)) Begins (Waiting b side) (Asleep (At (AtBuffer b) (list_of side)))) (same_Some u t (sym is))
+      (own_wait k g side at_b)
+  own_at (SigRecv t) k g (In d (Owes r s)) is idle may due pair
+      = grind (arith, no_senders, no_receivers, paired, and_from, buffer_self, marked_none, unlined, signal_left)
+  own_at (SigSend t) k g (In d (Owes r s)) is idle may due pair
+      = grind (arith, no_senders, no_receivers, paired, and_from, buffer_self, marked_none, unlined, signal_left)
   own_at (RelQ t) k g (In d (Owes r s)) is idle may due pair = grind (arith, own_release, unlined, marked_none)
   own_at name k g visit is idle may due pair = absurd due
 

@@ -155,11 +155,13 @@ module _ (setup : Setup) (s : Whole) (homes : HomesExist setup) (kept : SystemIn
 
   -- so a live thread waits at its wait
   waits : (p : Private) (u : Tid) → IsLive setup s p u
-      → (b : BufId) × (side : Side) × (post setup u (sections_in s.log) ≡ Asleep (At (AtBuffer b) (list_of side))) × (visit setup u (sections_in s.log) ≡ Waiting b side)
+      → (b : BufId) × (side : Side) × (post setup u (sections_in s.log) ≡ Asleep (At (AtBuffer b) (list_of side)))
+      × (visit setup u (sections_in s.log) ≡ Waiting b side)
   waits p u live = by_sleep (asleep p u live)
     where
       by_sleep : Sleeps (post setup u (sections_in s.log))
-          → (b : BufId) × (side : Side) × (post setup u (sections_in s.log) ≡ Asleep (At (AtBuffer b) (list_of side))) × (visit setup u (sections_in s.log) ≡ Waiting b side)
+          → (b : BufId) × (side : Side) × (post setup u (sections_in s.log) ≡ Asleep (At (AtBuffer b) (list_of side)))
+          × (visit setup u (sections_in s.log) ≡ Waiting b side)
       by_sleep (at_wait b side at) = grind arith
       by_sleep (at_lock b at) =
           let placed : (b.0 < length setup.caps) × Unit {0} = subst (IsPlaced setup (visit setup u (sections_in s.log))) at (kept.placed.posts u) in
@@ -172,7 +174,8 @@ module _ (setup : Setup) (s : Whole) (homes : HomesExist setup) (kept : SystemIn
   stuck_call : (p : Private) (u : Tid) → IsLive setup s p u → (call : Call) × ((thread_at p u).call ≡ Some call) × IsStuckCall setup s p u call
   stuck_call p u live = by_call (thread_at p u).call refl
     where
-      wait : (b : BufId) × (side : Side) × (post setup u (sections_in s.log) ≡ Asleep (At (AtBuffer b) (list_of side))) × (visit setup u (sections_in s.log) ≡ Waiting b side)
+      wait : (b : BufId) × (side : Side) × (post setup u (sections_in s.log) ≡ Asleep (At (AtBuffer b) (list_of side)))
+          × (visit setup u (sections_in s.log) ≡ Waiting b side)
       wait = waits p u live
 
       turned : visit setup u (sections_in s.log) ≡ visit_of_call (thread_at p u).call
@@ -228,7 +231,16 @@ module _ (setup : Setup) (s : Whole) (homes : HomesExist setup) (kept : SystemIn
                   (λ i. one_if (small t other.1.known i && there i)) in
                   let counts = wait_count call.buffer t k _ _ _ pair (side_of call.asks) in
                   let stands_there = counted_in t (waiting_of (side_of call.asks) k) (omega (arith, one, counts)) in
-                  grind (arith, calm_loses_nothing k _ (buffer_awake setup (sections_in s.log) good.ordered call.buffer k block), unowned call.buffer k block, line, front, stands_there, asks, allowed)
+                  grind (
+                    arith,
+                    calm_loses_nothing k _ (buffer_awake setup (sections_in s.log) good.ordered call.buffer k block),
+                    unowned call.buffer k block,
+                    line,
+                    front,
+                    stands_there,
+                    asks,
+                    allowed,
+                  )
 
   pub stuck : IsStuck setup s
   stuck = record {

@@ -180,8 +180,10 @@ module _ (setup : Setup) (c : CpuId) (b : BufId) (u t : Tid) (other : same_tid t
           let start = start_inside b visit (pair.starts on) in
           paired (λ e. (start.0, start.1, no_lock)) (λ ins awake. grind (arith, same_tid_true, is)) (λ now. refuted no_lock now)
           (first_left u k.sleepers most ∙ ap (λ x. if x then 0 else count_in u k.sleepers) is ∙ sym (marked_none u _ no_lock))
-          (pair.senders ∙ ap (marked u) (one_list b wait_list.Sleepers wait_list.Senders post refl on ∙ sym (woken_awake b wait_list.Senders (same_cpu (home_of setup u) c) c)))
-          (pair.receivers ∙ ap (marked u) (one_list b wait_list.Sleepers wait_list.Receivers post refl on ∙ sym (woken_awake b wait_list.Receivers (same_cpu (home_of setup u) c) c)))
+          (pair.senders ∙ ap (marked u)
+          (one_list b wait_list.Sleepers wait_list.Senders post refl on ∙ sym (woken_awake b wait_list.Senders (same_cpu (home_of setup u) c) c)))
+          (pair.receivers ∙ ap (marked u)
+          (one_list b wait_list.Sleepers wait_list.Receivers post refl on ∙ sym (woken_awake b wait_list.Receivers (same_cpu (home_of setup u) c) c)))
           pair.send_line pair.receive_line
       by_test false is = grind (arith, paired, refuted, same_tid_self, owner, first_left, most)
 
@@ -213,8 +215,10 @@ other_section setup c b u (TryPut t m) k g visit post other may pair = other_put
 other_section setup c b u (TryTake t) k g visit post other may pair = other_take setup c b u t other visit post k g (may_try Receivers t k) refl may.0 pair
 other_section setup c b u (Shut t) k g visit post other may pair = other_shut setup c b u t other visit post k g may.0 pair
 other_section setup c b u (WaitOn t side) k g visit post other may pair = other_wait setup c b u t other visit post k g side may.0 pair
-other_section setup c b u (SigRecv t) k g visit post other may pair = other_signal setup c b u t other visit post k g (progress_signalled Receivers g) Receivers may.0 pair
-other_section setup c b u (SigSend t) k g visit post other may pair = other_signal setup c b u t other visit post k g (progress_signalled Senders g) Senders may.0 pair
+other_section setup c b u (SigRecv t) k g visit post other may pair
+    = other_signal setup c b u t other visit post k g (progress_signalled Receivers g) Receivers may.0 pair
+other_section setup c b u (SigSend t) k g visit post other may pair
+    = other_signal setup c b u t other visit post k g (progress_signalled Senders g) Senders may.0 pair
 other_section setup c b u (RelQ t) k g visit post other may pair = other_release setup c b u t other visit post k g may.0 pair
 other_section setup c b u name k g visit post other may pair = absurd may
 

@@ -65,7 +65,8 @@ where
         requires number { I.cpu_of cpu.part ≡ cpu.number }
         requires is { IsCpu (I.homes_of machine) (length (I.caps machine)) (I.seen machine) (I.threads cpu.part) (I.call_states cpu.part)
             (I.under_way cpu.part) cpu.number cpu.guests.items cpu.trace.items cpu.limit (vec_capacity cpu.trace) }
-        requires tabled { IsTabled (I.homes_of machine) (I.caps machine) cpu.number (I.own cpu.part) (I.under_way cpu.part) cpu.guests.items (I.opening machine) }
+        requires tabled { IsTabled (I.homes_of machine) (I.caps machine) cpu.number (I.own cpu.part) (I.under_way cpu.part) cpu.guests.items
+            (I.opening machine) }
         requires room { (m : I.Machine) → 0 < I.room m }
         requires opens { inner (I.opening machine) ≡ opening_locks (I.caps machine) }
         ensures cpu { result.cpu ≡ cpu.number }

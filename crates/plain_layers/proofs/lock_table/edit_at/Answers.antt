@@ -23,4 +23,5 @@ returns-clause-answer g c =
     let slot = c.slot_of-slot.result in
     let tells = slot_reads c.args.lock slot blocks c.index_mut.result.now
     (subst (λ l. IsSlot c.args.lock slot l) c.deref.ensures.value c.slot_of-slot.ensures) c.index_mut.ensures.value in
-    ap (option_map (g.E.SplitEdit.rules.answer (g.E.SplitEdit.meant c.args.handed.now c.args.payload.now))) tells.1 ∙ ap Some (sym c.apply_handed.ensures.answer)
+    ap (option_map (g.E.SplitEdit.rules.answer (g.E.SplitEdit.meant c.args.handed.now c.args.payload.now))) tells.1
+    ∙ ap Some (sym c.apply_handed.ensures.answer)

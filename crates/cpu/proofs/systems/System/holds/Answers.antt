@@ -99,7 +99,8 @@ returns-clause-observed g c = λ step.
       few = let size = tabled.size in let few = one.2.few in omega (arith, size, few);
       cpus = cpus_told;
       buffers = buffers_told;
-      places = λ setup goes. place_read s (agree g c) (I.wait_lists m) refl (law.lists first.0.part m one.0) setup (cpus_told setup goes) (buffers_told setup goes)
+      places = λ setup goes. place_read s (agree g c) (I.wait_lists m) refl (law.lists first.0.part m one.0) setup (cpus_told setup goes)
+          (buffers_told setup goes)
           (homes setup goes);
     })
 

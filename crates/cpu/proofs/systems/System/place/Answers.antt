@@ -9,7 +9,8 @@ returns-in-Some g c =
     let x = c.at-item.result in
     let at = item_at items c.deref-at-items.result.now c.loop-at.at-index x c.deref-at-items.ensures.value c.loop-at-test.true c.at-item.is in
     let is = c.self.invariant.each c.loop-at.at-index x at in
-    rw (← c.self.view_is) (grind (arith, shows_at shown items c.loop-at.at-index x at, is.holds.1 ∙ is.number_is, c.place_at.ensures.observed c.in-Some.place c.in-Some.is))
+    rw (← c.self.view_is)
+    (grind (arith, shows_at shown items c.loop-at.at-index x at, is.holds.1 ∙ is.number_is, c.place_at.ensures.observed c.in-Some.place c.in-Some.is))
 
 pub loop-at-preserved : goal.loop-at-preserved
 loop-at-preserved g c =

@@ -1,4 +1,5 @@
-use Rattle.{std.proofs.Common.{map, ap, sym, ◌∙◌}, cpu_workers.proofs.{Observed.words_so, Scheduled.is_run, SeatViews.workers_back, TableKeys.{all_covered, all_over}}}
+use Rattle.std.proofs.Common.{map, ap, sym, ◌∙◌}
+use Rattle.cpu_workers.proofs.{Observed.words_so, Scheduled.is_run, SeatViews.workers_back, TableKeys.{all_covered, all_over}}
 use Rattle.cpu_workers.proofs.workers.run.run_waiters.Goals as goal
 
 pub closed-requires-clause-covers : goal.closed-requires-clause-covers

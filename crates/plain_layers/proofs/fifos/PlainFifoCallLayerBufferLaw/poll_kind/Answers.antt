@@ -125,7 +125,12 @@ returns-clause-framed g c =
         opening = ap (viewed shown) said.opening;
         site = said.site;
         room = half_of_two _ _ said.room;
-        acts = λ d acts. (said.acts d acts.0, acts.1, owned_after (λ e. S.ActsFor m e) (λ e. S.ActsFor n e) (S.opening m) (S.opening n) said.opening said.acts acts.2);
+        acts = λ d acts. (
+          said.acts d acts.0,
+          acts.1,
+          owned_after (λ e. S.ActsFor m e) (λ e. S.ActsFor n e) (S.opening m)
+              (S.opening n) said.opening said.acts acts.2,
+        );
       };
       others = λ p other theirs. (
         said.others p.lower other theirs.0,

@@ -99,7 +99,8 @@ returns-in-Err-clause-framed g c =
       fits = (
         fits.0,
         fits.1,
-        subst (λ o. PartFits rules mv (opening_of m.opening) self.cpu self.cpu self.homes.items None (calls_in m) o) (sym (passed g at.After-pass_locally)) kept,
+        subst (λ o. PartFits rules mv (opening_of m.opening) self.cpu self.cpu self.homes.items None (calls_in m) o)
+            (sym (passed g at.After-pass_locally)) kept,
       );
       cpu = refl;
       stays = untouched (λ k. opening_of k.opening) (λ k. no_site) (λ k. call_room k) (λ k c. HasKernel rules mv k c) m;

@@ -9,7 +9,8 @@ invariant_of-self g c =
     let x = c.self.inside in
     let is = c.self.invariant in
     let e = c.call-reply.ensures in
-    let back = subst (λ (d : CpuId). Returned d x.thread c.args.call.now c.call-reply.result (I.seen x.machine) (I.seen c.call-reply.new.m)) is.fits.1 e.returned in
+    let back = subst (λ (d : CpuId). Returned d x.thread c.args.call.now c.call-reply.result (I.seen x.machine) (I.seen c.call-reply.new.m))
+    is.fits.1 e.returned in
     let one = ap (λ (l : List Entry). length l) back.went.own in
     let before = is.counted in
     let more = c.if-self-lt-MOST_CALLS.true in
