@@ -1,5 +1,6 @@
 -- Counting: sections that each add 1 to one number.
-use Rattle.{std.specs.Prelude.{◌≡◌, ◌<◌, ℕ, List, Option, None, length, slice_index_or}, event_log.specs.declared.ids.CpuId.CpuId}
+use Rattle.std.specs.Prelude.{◌≡◌, ◌<◌, ℕ, List, Option, None, length, slice_index_or}
+use Rattle.event_log.specs.declared.ids.CpuId.{CpuId}
 pub use Rattle.cpu_workers.specs.Counts.{after_round, after_rounds, counting, sections_at}
 
 -- this part is the one of the CPU of this number, rests and agrees with the machine
