@@ -96,7 +96,9 @@ impl<M> Notes<M> {
             return;
         }
         self.look(cpu, lock);
-        self.again(looks - 1);
+        if looks > 1 {
+            self.again(looks - 1);
+        }
     }
 
     /// Notes a free with its mark.
