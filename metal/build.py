@@ -25,7 +25,7 @@ OBJECT, IMAGE, TRIAL = ROOT / "crates/mctower/out/mctower.o", OUT / "tower.elf",
 sys.path.append(str(ROOT / "tools"))
 import kit  # noqa: E402
 
-COMPILE = """--target=x86_64-unknown-none-elf -march=x86-64-v2 -O2 -ffreestanding -fno-builtin -fno-pic -mno-red-zone -fno-stack-protector
+COMPILE = """--target=x86_64-unknown-none-elf -march=x86-64 -O2 -ffreestanding -fno-builtin -fno-pic -mno-red-zone -fno-stack-protector
     -fno-asynchronous-unwind-tables -nostdinc -Wall -Wextra -Wno-unused-parameter -Werror --no-default-config -c""".split()
 LINK = "--gc-sections --fatal-warnings -z max-page-size=4096".split()
 MENU = """set timeout=0

@@ -304,7 +304,7 @@ def lesson(held):
 
 
 # By kind, its cases, and of how many of them the gate's part is.
-KINDS = {"plans": (plans, 22), "random": (random_runs, 24), "damaged": (damaged_runs, 30), "lines": (lines, 24), "count": (count, 20), "threads": (threads, 30),
+KINDS = {"plans": (plans, 22), "random": (random_runs, 24), "damaged": (damaged_runs, 20), "lines": (lines, 60), "count": (count, 20), "threads": (threads, 24),
          "rows": (rows, 12), "small": (small, 8), "host": (host, 14), "disk": (disk, 0), "other": (other, 12), "lesson": (lesson, 9)}
 
 
@@ -336,6 +336,8 @@ def main():
     if not machine.is_there():
         print("metal: no QEMU here: nothing was booted")
         return 0
+    if not NATIVE.exists():
+        sys.exit(f"metal: there is no {NATIVE.relative_to(ROOT)}: tools/prove-all.py builds it")
     if not asked.image:
         build.tower(None, build.IMAGE)
     if not asked.trial:

@@ -1,7 +1,6 @@
 /* From what a boot loader leaves to C, on the first processor and on each other: headers for loaders, page tables, long mode, SSE; the stubs of
    exceptions; the change from one stack to another; the instruction syscall. Nothing proves this file. */
         .set PRESENT, 3                 /* a page that is there and may be written */
-        .set LARGE, 0x80
         .set OTHERS_PAGE, 0x8000        /* as processors.c has it */
         .set PROCESSOR_BYTES, 8192      /* as host.h has it */
         .set MAGIC1, 0x1BADB002         /* Multiboot 1; the addresses behind its flags are for loaders of ELF64 files */
@@ -172,7 +171,7 @@ pdpt:   .quad   directories + PRESENT, directories + 0x1000 + PRESENT, directori
 directories:
         .set    n, 0
         .rept   4 * 512
-        .quad   n + LARGE + PRESENT
+        .quad   n + 0x80 + PRESENT      /* a large page */
         .set    n, n + 0x200000
         .endr
 

@@ -42,7 +42,7 @@ long rattle_arg(size i, byte *buffer, size room) {
 /* ---- output */
 
 static unsigned short lines[3] = {0, 0x3F8, 0x2F8}; /* by the descriptor: standard output, standard error */
-static int lines_lock;
+static int lines_lock, faults;
 
 /* Standard error goes to the second line, or to the first where there is no second. */
 void set_lines(void) {
@@ -107,6 +107,7 @@ _Noreturn void trapped(size number, size error, size at, size stack) {
   static const char *const names[32] = {"a division by 0", [6] = "an instruction that is none", [8] = "a fault in a fault", [13] = "a general protection fault",
                                         [PAGE_FAULT] = "a page fault"};
   size address;
+  if (faults++) _exit(TRAPPED); /* a fault in what tells of one */
   __asm__ volatile("movq %%cr2, %0" : "=r"(address));
   say("host: ");
   say(number == PAGE_FAULT && is_guard(address) ? "a full stack" : names[number] ? names[number] : "an exception");
