@@ -46,6 +46,7 @@ tests/threads.sh
 tests/refuse.sh
 web/in_browser.py
 metal/test.py
+metal/wrong_hosts.py
 """
 SUM = re.compile(r"(\d+) passed, (\d+) failed")
 
