@@ -116,8 +116,8 @@ impl<M> Notes<M> {
         self.marks.push_reserved(mark);
     }
 
-    /// Notes that the last event came so many times more.
-    #[inline(always)]
+    /// Notes that the last event came so many times more. It stands out of line: most looks are single.
+    #[inline(never)]
     fn again(&mut self, times: usize)
         requires { times ≤ room_left self.old }
         ensures history { history self.new ≡ repeated times (history self.old) }
