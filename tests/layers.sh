@@ -1,6 +1,6 @@
 #!/usr/bin/env bash
 # Runs the tests of the layers, which stand in tests/layers, with no proof: it lays them onto a copy of the tree as a crate of their own
-# (`layer_tests`, with the line of tests/layers/crates.txt), builds that and runs each test in a process of its own. .ci/run calls it; it takes
+# (`layer_tests`, with the line of tests/layers/stands-on.txt), builds that and runs each test in a process of its own. .ci/run calls it; it takes
 # one and a half minutes of processor time, most of it to compile the copy.
 #
 #   tests/layers.sh            prints each test, and of a failed one the file and line, and what was seen (left) and wanted (right)
@@ -26,7 +26,7 @@ fails() {
 }
 
 tar --exclude=out --exclude=wrong --exclude=must-fail -cf - crates crates.txt HANDLES | tar -xf - -C "$copy" || fails 'the tree could not be copied'
-mkdir -p "$crate/src" && cat "$tests/crates.txt" >> "$copy/crates.txt" || fails 'the tests could not be laid onto the copy'
+mkdir -p "$crate/src" && cat "$tests/stands-on.txt" >> "$copy/crates.txt" || fails 'the tests could not be laid onto the copy'
 for file in "$tests"/src/*.rs; do cp "$file" "$crate/src/$(basename "$file" .rs).rt" || fails "$file could not be laid onto the copy"; done
 cd "$crate" || fails 'the tests could not be laid onto the copy'
 

@@ -27,6 +27,6 @@ step layout rt fmt
 [ "$before" = "$(git diff -- "crates/$crate" | cksum)" ] || echo "quick: files of crates/$crate were laid out: look at git diff"
 step proof rt check
 if grep -rq '^ *#\[test\]' "crates/$crate/src"; then step tests rt try --test; fi
-if grep -qw "$crate" tests/layers/crates.txt; then step 'tests of layers' ../../tests/layers.sh; fi
+if grep -qw "$crate" tests/layers/stands-on.txt; then step 'tests of layers' ../../tests/layers.sh; fi
 [ ! -d "crates/$crate/wrong" ] || step 'wrong bodies' ../../tests/wrong-bodies.py "$crate"
 echo "quick: $crate passed, $SECONDS seconds"
