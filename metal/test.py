@@ -14,6 +14,7 @@ what docs/book/14-bare-processors.md shows. Where there is no QEMU it says so, a
 The last line counts; the status is 1 on any difference. It needs the built program, crates/mctower/out/mctower.
 """
 import argparse
+import math
 import random
 import re
 import shutil
@@ -316,9 +317,10 @@ KINDS = {"plans": (plans, 22), "random": (random_runs, 24), "damaged": (damaged_
 
 
 def part_of(cases, count):
-    """So many of the cases, evenly: an odd step takes both of what comes by turns."""
-    step = max(len(cases) // max(count, 1), 1) | 1
-    return cases[::step][:count]
+    """So many of the cases, evenly. The step has no factor in common with their number, so that it takes some of all that comes by turns."""
+    number = len(cases)
+    step = next(it for it in range(max(number // max(count, 1), 1), number + 2) if math.gcd(it, number) == 1)
+    return [cases[i * step % number] for i in range(min(count, number))]
 
 
 def tried(name, cases, jobs):
