@@ -2,7 +2,7 @@
 """Holds the booted program against the native one, and judges what its processors do.
 
     metal/test.py                   a part of each kind, in at most a minute of processor time: the gate's
-    metal/test.py --all             all of each kind: some four minutes
+    metal/test.py --all             all of each kind: some five minutes of processor time
     metal/test.py --only KIND..     these kinds alone: plans random damaged lines count threads rows small host disk
                                     other lesson
     metal/test.py --image IMAGE     another image, as of the object of the kit's other compiler; --trial IMAGE: another trial
