@@ -84,14 +84,18 @@ def object_built(room):
     return made
 
 
-def tower(given, out):
-    """Makes the image of the program: of a given object, of the one that is kept, or of a new one."""
+def object_of(given, room):
+    """The program's object: a given one, the one that is kept, or a new one."""
     if given and not given.exists():
         sys.exit(f"metal: there is no {given}")
-    if given or OBJECT.exists():
-        return linked(given or OBJECT, out)
+    kept = given or OBJECT
+    return kept if kept.exists() else object_built(room)
+
+
+def tower(given, out):
+    """Makes the image of the program."""
     with tempfile.TemporaryDirectory() as room:
-        return linked(object_built(Path(room)), out)
+        linked(object_of(given, Path(room)), out)
 
 
 def in_menu(word):

@@ -7,7 +7,7 @@ import tempfile
 from pathlib import Path
 
 QEMU = "qemu-system-x86_64"
-MACHINE = "-accel tcg,thread=multi -cpu max -display none -monitor none -nic none -no-reboot -device isa-debug-exit,iobase=0xf4,iosize=0x04".split()
+MACHINE = "-accel tcg,thread=multi -display none -monitor none -nic none -no-reboot -device isa-debug-exit,iobase=0xf4,iosize=0x04".split()
 SECONDS = int(os.environ.get("METAL_SECONDS", 300))  # that a run may take
 HUNG, NO_RUN = 117, 118  # statuses: the run did not end in time; QEMU ended by itself, or did not begin
 TIMED_OUT = {124, 137}  # what `timeout` answers
@@ -31,9 +31,9 @@ def own_processors(words, plan):
     return min(max(int(found[1][:3]), 1), 16) if has_threads else 1
 
 
-def ran(asked, room):
+def ran(asked, room, cpu="max"):
     """Runs QEMU in a folder with these words beside its own, and returns a status, standard output and standard error."""
-    words = ["timeout", "--foreground", "-k", "1", str(SECONDS), QEMU, *MACHINE, "-serial", "file:out", "-serial", "file:err", *asked]
+    words = ["timeout", "--foreground", "-k", "1", str(SECONDS), QEMU, *MACHINE, "-cpu", cpu, "-serial", "file:out", "-serial", "file:err", *asked]
     qemu = subprocess.run(words, cwd=room, stdin=subprocess.DEVNULL, stdout=subprocess.DEVNULL, stderr=subprocess.PIPE, check=False)
     out, err = ((room / name).read_bytes() if (room / name).exists() else b"" for name in ("out", "err"))
     if qemu.returncode in TIMED_OUT:
@@ -43,7 +43,7 @@ def ran(asked, room):
     return (qemu.returncode - 3) // 2, out, err
 
 
-def booted(image, words, plan=b"", processors=None, memory=256):
+def booted(image, words, plan=b"", processors=None, memory=256, cpu="max"):
     """Boots an image once, and returns its status, standard output and standard error, in bytes."""
     append = os.fsencode(" ".join(map(quoted, words)))
     if len(append) > MOST_WORDS:
@@ -56,4 +56,4 @@ def booted(image, words, plan=b"", processors=None, memory=256):
         if plan:
             (room / "plan").write_bytes(plan)
             asked += ["-initrd", "plan"]
-        return ran(asked, room)
+        return ran(asked, room, cpu)

@@ -2,7 +2,7 @@
 """Holds the booted program against the native one, and judges what its processors do.
 
     metal/test.py                   a part of each kind, in at most a minute of processor time: the gate's
-    metal/test.py --all             all of each kind: some four minutes
+    metal/test.py --all             all of each kind: some five minutes of processor time
     metal/test.py --only KIND..     these kinds alone: plans random damaged lines count threads rows small host disk
                                     other lesson
     metal/test.py --image IMAGE     another image, as of the object of the kit's other compiler; --trial IMAGE: another trial
@@ -14,6 +14,7 @@ what docs/book/14-bare-processors.md shows. Where there is no QEMU it says so, a
 The last line counts; the status is 1 on any difference. It needs the built program, crates/mctower/out/mctower.
 """
 import argparse
+import math
 import random
 import re
 import shutil
@@ -49,8 +50,8 @@ class Held:
     def __init__(self, image, trial):
         self.image, self.trial = image, trial
 
-    def booted(self, words, plan=b"", processors=None, memory=256):
-        return machine.booted(self.image, words, plan, processors, memory)
+    def booted(self, words, plan=b"", processors=None, memory=256, cpu="max"):
+        return machine.booted(self.image, words, plan, processors, memory, cpu)
 
     def native(self, words, text):
         ran = subprocess.run([NATIVE, *words], input=text, capture_output=True, timeout=120, check=False)
@@ -217,8 +218,14 @@ def with_full_traces():
     return ("cpus = 16\ntrace = 65536\nbuffers = [32]\n" + "".join(f"[[thread]]\ncpu = {cpu}\nprogram = {program}\n" for cpu in range(16))).encode()
 
 
+def lacking(held):
+    """The program itself refuses a processor that lacks what it was compiled for, as QEMU's first one does."""
+    status, out, err = held.booted(["--version"], cpu="qemu64")
+    return None if (status, out) == (126, b"") and err.startswith(b"this machine lacks a feature") else f"{status} {out} {err}"
+
+
 def small(held):
-    """Machines with too little memory: each refuses by name, the program what it asks for, the host what it needs."""
+    """Machines with too little memory, or too old a processor: each refuses by name, the program what it asks for, the host what it needs."""
     long_text = b"mctower-trace 1\n" + b"#" * (1 << 24)
     few, many = ["count", "--cpus", "2", "--times", "9"], ["count", "--cpus", "16", "--times", "9"]
     table = [
@@ -233,6 +240,7 @@ def small(held):
     ]
     for name, words, plan, processors, memory, wanted in table:
         yield name, lambda it=(words, plan, processors, memory), wanted=wanted: unlike(held.booted(*it), wanted)
+    yield "a processor that lacks a feature", lambda: lacking(held)
 
 
 TRIALS = [
@@ -305,13 +313,14 @@ def lesson(held):
 
 # By kind, its cases, and of how many of them the gate's part is.
 KINDS = {"plans": (plans, 22), "random": (random_runs, 24), "damaged": (damaged_runs, 20), "lines": (lines, 60), "count": (count, 20), "threads": (threads, 24),
-         "rows": (rows, 12), "small": (small, 8), "host": (host, 14), "disk": (disk, 0), "other": (other, 12), "lesson": (lesson, 9)}
+         "rows": (rows, 12), "small": (small, 9), "host": (host, 14), "disk": (disk, 0), "other": (other, 12), "lesson": (lesson, 9)}
 
 
 def part_of(cases, count):
-    """So many of the cases, evenly: an odd step takes both of what comes by turns."""
-    step = max(len(cases) // max(count, 1), 1) | 1
-    return cases[::step][:count]
+    """So many of the cases, evenly. The step has no factor in common with their number, so that it takes some of all that comes by turns."""
+    number = len(cases)
+    step = next(it for it in range(max(number // max(count, 1), 1), number + 2) if math.gcd(it, number) == 1)
+    return [cases[i * step % number] for i in range(min(count, number))]
 
 
 def tried(name, cases, jobs):

@@ -59,15 +59,15 @@ def first_difference(held, kinds):
     return None
 
 
-def tried(edit):
-    """Plants one fault, and returns the case that saw it, or nothing."""
+def tried(edit, program):
+    """Plants one fault beneath the program's object, and returns the case that saw it, or nothing."""
     with tempfile.TemporaryDirectory() as folder:
         room = Path(folder)
         host = room / "host"
         shutil.copytree(build.HOST, host)
         kinds = planted(edit, host)
         held = test.Held(room / "tower.elf", room / "trial.elf")
-        build.linked(build.OBJECT, held.image, host)
+        build.linked(program, held.image, host)
         build.linked(build.METAL / "trial.c", held.trial, host)
         return first_difference(held, kinds)
 
@@ -83,10 +83,12 @@ def main():
     names = sorted(path.stem for path in WRONG.glob("*.edit")) if asked.all else asked.names or OF_GATE
     build.kit_module()  # before any thread starts
     missed = 0
-    for name in names:
-        seen = tried(WRONG / f"{name}.edit")
-        missed += not seen
-        print(f"metal: {name}: {f'seen by {seen}' if seen else 'NOT SEEN'}", flush=True)
+    with tempfile.TemporaryDirectory() as room:
+        program = build.object_of(None, Path(room))
+        for name in names:
+            seen = tried(WRONG / f"{name}.edit", program)
+            missed += not seen
+            print(f"metal: {name}: {f'seen by {seen}' if seen else 'NOT SEEN'}", flush=True)
     print(f"metal: {len(names) - missed} wrong hosts seen, {missed} not")
     return 1 if missed or not names else 0
 

@@ -16,10 +16,7 @@ static void uses(size start, size end) { used[used_count++] = (struct region){st
 /* A piece of memory. What is above 3 GiB is of devices, or has no page. */
 static void has_memory(size at) {
   enum { IS_MEMORY = 1 };
-  const struct __attribute__((packed)) {
-    size start, length;
-    unsigned kind;
-  } *it = (const void *)at;
+  const struct __attribute__((packed)) { size start, length; unsigned kind; } *it = (const void *)at;
   const size top = 0xC0000000, end = it->start + it->length;
   if (it->kind != IS_MEMORY || it->start >= top || memory_count == MOST_REGIONS) return;
   memory[memory_count++] = (struct region){it->start, end < top ? end : top};

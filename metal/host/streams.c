@@ -76,8 +76,7 @@ void say(const char *text) {
 
 void say_number(size number, unsigned base) {
   char text[24] = {0}, *at = text + sizeof text - 1;
-  do *--at = "0123456789abcdef"[number % base];
-  while (number /= base);
+  do *--at = "0123456789abcdef"[number % base]; while (number /= base);
   say(base == 16 ? "0x" : "");
   say(at);
 }

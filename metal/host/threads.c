@@ -131,7 +131,8 @@ static struct thread *at_rest(void) {
 
 int pthread_attr_init(size *attributes) { return *attributes = 0; }
 int pthread_attr_destroy(size *attributes) { return 0; }
-int pthread_attr_setguardsize(size *attributes, size bytes) { return bytes <= LARGE_PAGE ? 0 : INVALID; } /* each stack has a guard of 2 MiB */
+int pthread_attr_setstacksize(size *attributes, size bytes) { return bytes <= STACK_BYTES ? 0 : INVALID; } /* each stack has so many */
+int pthread_attr_setguardsize(size *attributes, size bytes) { return bytes <= LARGE_PAGE ? 0 : INVALID; } /* and a guard of 2 MiB */
 
 int pthread_create(size *thread, const size *attributes, void *(*start)(void *), void *value) {
   lock(&threads_lock);
