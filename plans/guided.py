@@ -6,7 +6,7 @@ wants, else who has to run before it. It goes back where a thread owns a lock an
 
 Whole sections are steps, since a section counts as one event. It needs Python alone, 3.9 or later.
 """
-from kernel import RECEIVERS, SENDERS, SIDES, Kernel
+from kernel import RECEIVERS, SENDERS, Kernel
 
 BUFFER, OP, POSITION = 3, 5, 6
 GROUPS = {"send": SENDERS, "sendc": SENDERS, "recv": RECEIVERS, "recvc": RECEIVERS}
@@ -53,7 +53,7 @@ class Guided(Kernel):
             cpu.trace = Trace(own)
         homes = [guest.home for guest in self.guests]
         self.shared = [c for c in range(len(self.cpus)) if homes.count(c) > 1]
-        self.missing, self.key = len(wanted.entries), 0
+        self.missing, self.key, self.last = len(wanted.entries), 0, None
 
     # --- moves
 
@@ -105,7 +105,7 @@ class Guided(Kernel):
         while cpu.section is not None:
             self.step(c)
             taken += 1
-        entry = self.entry
+        entry, self.last = self.entry, c
         if entry:
             self.came[entry[1]] += 1
             self.missing -= 1
@@ -209,9 +209,9 @@ class Guided(Kernel):
                     yield c
 
     def suggested(self):
-        for c in self.shared:
-            if self.may_sleep_now(c):
-                yield c
+        yield from (c for c in self.shared if self.may_sleep_now(c))
+        if not self.shared and self.last is not None and self.ends_call(self.last):
+            yield self.last
         due = sorted((self.wanted.number[entry[BUFFER], entry[OP]], c) for c, entry in enumerate(cpu.trace.due() for cpu in self.cpus) if entry)
         for number, c in due:
             yield from self.towards(c, self.wanted.entries[number][1], set())
@@ -221,6 +221,11 @@ class Guided(Kernel):
                     live = next((t for t, guest in enumerate(self.guests) if guest.home == c and guest.place != "Ended"), None)
                     yield from self.towards(c, live, set())
         yield from range(len(self.cpus))
+
+    def ends_call(self, c):
+        """Whether the call of a CPU took effect and goes on to its end: where each CPU has one thread, its schedule is shorter so."""
+        t = self.cpus[c].current
+        return t is not None and self.guests[t].stage in ("Other", "Own", "RelQ")
 
     def may_sleep_now(self, c):
         """Whether the thread that runs on a CPU has to make room for another, and would sleep now."""
