@@ -24,6 +24,7 @@ from schedules import MOST_STEPS, schedule_of
 
 MOST_STATES = 100_000
 LOOPS = 1_000_000
+MOST_BYTES = 131_072
 STOPS = {"AllEnded": "AllEnded", "TraceFull": "TraceFull", "TurnsUsed": "live"}
 
 
@@ -170,7 +171,10 @@ def main():
             name = asked.stops
             stops = stops_in(bytes_at(name), plan["cpus"])
         name = asked.text
-        print(replay(plan, bytes_at(name), stops if asked.stops else None, asked.most))
+        schedule = replay(plan, bytes_at(name), stops if asked.stops else None, asked.most)
+        print(schedule)
+        if len(schedule) >= MOST_BYTES:
+            sys.stderr.write(f"replay: the schedule has {len(schedule)} bytes, and Linux hands an argument on that has fewer than {MOST_BYTES}\n")
     except Refusal as refusal:
         sys.stderr.write(refusal.told(name))
         return refusal.status

@@ -32,7 +32,8 @@ def plan_of(capacity, threads):
 
 def plans():
     """Each plan by its name: those of plans/, some rows, some of many calls, and random ones."""
-    paths = [*sorted((ROOT / "plans").glob("*.toml")), *(ROOT / "tests/rows" / f"{name}.toml" for name in ("closed-before-two-receivers", "words", "most-threads"))]
+    rows = [ROOT / "tests/rows" / f"{name}.toml" for name in ("closed-before-two-receivers", "words", "most-threads")]
+    paths = [*sorted((ROOT / "plans").glob("*.toml")), *rows]
     named = {path.stem: path.read_text() for path in paths}
     named["a hundred messages"] = plan_of(4, [(0, 100, "send 0 r0", ""), (1, 100, "recv 0 r2", "")])
     named["eight words"] = plan_of(4, [(0, 100, "sendm 0 8", "close 0"), (1, 100, "recv 0 r2", "")])
