@@ -6,9 +6,12 @@ wants, else who has to run before it. It goes back where a thread owns a lock an
 
 Whole sections are steps, since a section counts as one event. It needs Python alone, 3.9 or later.
 """
+import random
+
 from kernel import RECEIVERS, SENDERS, Kernel
 
 BUFFER, OP, POSITION = 3, 5, 6
+MOST_ATTEMPTS = 1000
 GROUPS = {"send": SENDERS, "sendc": SENDERS, "recv": RECEIVERS, "recvc": RECEIVERS}
 
 
@@ -53,7 +56,7 @@ class Guided(Kernel):
             cpu.trace = Trace(own)
         homes = [guest.home for guest in self.guests]
         self.shared = [c for c in range(len(self.cpus)) if homes.count(c) > 1]
-        self.missing, self.key, self.last = len(wanted.entries), 0, None
+        self.missing, self.key, self.last, self.choose = len(wanted.entries), 0, None, None
 
     # --- moves
 
@@ -200,9 +203,12 @@ class Guided(Kernel):
     # --- where to go on
 
     def moves(self):
-        """The CPUs that may move, the best first."""
-        seen = set()
-        for c in self.suggested():
+        """The CPUs that may move, the best first; now and then in any order, where the order of choices is another."""
+        seen, cpus = set(), self.suggested()
+        if self.choose and self.choose.random() < 0.1:
+            cpus = list(dict.fromkeys(cpus))
+            self.choose.shuffle(cpus)
+        for c in cpus:
             if c not in seen:
                 seen.add(c)
                 if not self.is_still(c):
@@ -330,18 +336,33 @@ def block_piece(block):
             tuple(block.line[0]), tuple(block.line[1]), tuple(block.positions), block.closed)
 
 
-def schedule_towards(system, most):
-    """The steps of a schedule as items (CPU, steps), or None; and how many states were looked at, and the fewest entries that were missing."""
+def schedule_towards(make_system, most):
+    """The steps of a schedule as items (CPU, steps), or None; and how many states were looked at, and the fewest entries that were missing.
+
+    An early mistake may cost a search all its states, so it begins anew, each time with more of them, and with another order of choices now and then."""
+    system = make_system()
+    limit, total, least = 2000 + 10 * system.missing, 0, system.missing
+    for attempt in range(MOST_ATTEMPTS):
+        system.choose = random.Random(attempt) if attempt else None
+        items, count, missing = search(system, min(limit, most - total))
+        total, least = total + count, min(least, missing)
+        if items is not None or total >= most or count < limit:
+            return items, total, least
+        limit += limit // 8
+        system = make_system()
+    return None, total, least
+
+
+def search(system, most):
+    """The same of one search, in which each state is looked at once."""
     seen, path, least = {system.key}, [], system.missing
     choices = [system.moves()]
-    while choices:
+    while choices and len(seen) < most:
         least = min(least, system.missing)
         if system.is_there():
             return [(moved[0], moved[1]) for moved in path], len(seen), 0
         c = next(choices[-1], None)
-        if c is None or len(seen) > most:
-            if len(seen) > most:
-                return None, len(seen), least
+        if c is None:
             choices.pop()
             if path:
                 system.undo(path.pop())

@@ -124,10 +124,11 @@ def hold_to_order(plan, entries):
 
 def found(plan, entries, stops, most):
     """The items of a schedule, each a CPU and its steps."""
-    items, count, least = schedule_towards(Guided(plan, Wanted(plan, entries), stops), most)
+    wanted = Wanted(plan, entries)
+    items, count, least = schedule_towards(lambda: Guided(plan, wanted, stops), most)
     if items is not None:
         return items
-    if count > most:
+    if count >= most:
         raise NoReplay(f"the search gave up after {most} states, with {least} of {len(entries)} entries missing: a larger --most may help")
     farthest = len(entries) - least
     what = f"at most {farthest} of {len(entries)} entries come" if least else "its entries come, but not with these stops"
