@@ -34,6 +34,7 @@ tests/explain.py
 tests/judge.py
 tests/tables.py
 tests/plans.sh
+tests/replay.py
 tests/gate.py
 tests/manual.sh
 tests/help.sh
