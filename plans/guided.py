@@ -190,21 +190,9 @@ class Guided(Kernel):
         if lock and lock[0] == "buffer" and self.blocks[lock].owner is not None:
             block = self.blocks[lock]
             owner = self.guests[block.owner]
-            if block.sleepers and not self.draws_well(lock[1], block):
-                return False
             if owner.stage in ("Enter", "Try", "Shut"):
                 return self.would(block.owner, block, owner.stage) in ("waits", "goes")
         return True
-
-    def draws_well(self, b, block):
-        """Whether the last who sleeps at a lock will draw its position: a lock is handed on in order, so it draws behind the owner and who sleeps before it."""
-        t, due = block.sleepers[-1], self.due_of(block.sleepers[-1])
-        if self.guests[t].stage != "Enter":
-            return True
-        side = self.guests[t].call()[1]
-        ahead = [self.guests[other] for other in (block.owner, *block.sleepers) if other != t]
-        drawn = block.positions[side] + sum(1 for guest in ahead if guest.stage == "Enter" and guest.call()[1] == side)
-        return due[BUFFER] == b and due[POSITION] == drawn if due else drawn >= len(self.wanted.drawn[b, side])
 
     def is_there(self):
         """Whether all that is wanted came."""
