@@ -10,7 +10,7 @@ It prints the schedule, so this prints the text once more:
 
 It is guided by the order of effects that the text tells (plans/guided.py), on plans/kernel.py, which is not proved; what is found is run once more by it
 before it is printed. A text that no run of the plan prints is refused, by the line that cannot come where that is found. The status is then 1. A search
-that gives up after --most states says so: that tells nothing of the text. It needs Python alone, 3.9 or later.
+that ends with no schedule, or gives up after --most states, says so: that tells nothing of the text. It needs Python alone, 3.9 or later.
 """
 import argparse
 import sys
@@ -34,6 +34,10 @@ class NoReplay(ValueError):
     def __init__(self, why, line=None):
         super().__init__(why)
         self.line = line
+
+
+class NotFound(NoReplay):
+    """A search found no schedule, which tells nothing of the text."""
 
 
 def entries_of(plan, raw):
@@ -129,10 +133,10 @@ def found(plan, entries, stops, most):
     if items is not None:
         return items
     if count >= most:
-        raise NoReplay(f"the search gave up after {most} states, with {least} of {len(entries)} entries missing: a larger --most may help")
+        raise NotFound(f"the search gave up after {most} states, with {least} of {len(entries)} entries missing: a larger --most may help")
     farthest = len(entries) - least
     what = f"at most {farthest} of {len(entries)} entries come" if least else "its entries come, but not with these stops"
-    raise NoReplay(f"no run of the plan prints this: {what}, in {count} states")
+    raise NotFound(f"the search found no schedule: {what}, in {count} states")
 
 
 def hold_to_run(plan, items, raw, stops):
