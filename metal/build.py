@@ -7,11 +7,14 @@
     metal/build.py --trial                     metal/out/trial.elf: trial.c in the place of the program
 
 It links the object with metal/host in the place of an operating system and a C library, by the kit's clang and linker, in a second. tools/prove-all.py,
-`rt run` and `rt ci` leave the object. Where they kept the program alone, it is built anew, over what is kept in crates/*/out: a minute and a half of
-processor time. A disk wants grub-mkrescue (Debian: grub-pc-bin, grub-efi-amd64-bin, xorriso, mtools).
+`rt run` and `rt ci` leave the object. It is kept in the folder mctower-objects of the user's cache, by the sum of the program that was linked from it; so it is
+there too where `rt ci` took that very program from its store. Else it is built anew, over what is kept in crates/*/out: a minute and a half of processor
+time, or the time of the program's proof where nothing is kept. A disk wants grub-mkrescue (Debian: grub-pc-bin, grub-efi-amd64-bin, xorriso, mtools).
 """
 import argparse
 import functools
+import hashlib
+import os
 import shutil
 import subprocess
 import sys
@@ -21,7 +24,7 @@ from pathlib import Path
 sys.dont_write_bytecode = True
 ROOT = Path(__file__).resolve().parent.parent
 METAL, HOST, OUT = ROOT / "metal", ROOT / "metal/host", ROOT / "metal/out"
-OBJECT, IMAGE, TRIAL = ROOT / "crates/mctower/out/mctower.o", OUT / "tower.elf", OUT / "trial.elf"
+PROGRAM, OBJECT, IMAGE, TRIAL = ROOT / "crates/mctower/out/mctower", ROOT / "crates/mctower/out/mctower.o", OUT / "tower.elf", OUT / "trial.elf"
 sys.path.append(str(ROOT / "tools"))
 import kit  # noqa: E402
 
@@ -84,12 +87,31 @@ def object_built(room):
     return made
 
 
+def place_in_cache():
+    """Where the object is kept that the program was linked from."""
+    cache = Path(os.environ.get("XDG_CACHE_HOME") or Path.home() / ".cache")
+    return cache / "mctower-objects" / f"{hashlib.sha256(PROGRAM.read_bytes()).hexdigest()}.o"
+
+
+def keep(made, place):
+    """Keeps an object, in the place of those of other programs."""
+    shutil.rmtree(place.parent, ignore_errors=True)
+    place.parent.mkdir(parents=True, exist_ok=True)
+    with tempfile.NamedTemporaryFile(dir=place.parent, delete=False) as file:
+        file.write(made.read_bytes())
+    os.replace(file.name, place)
+
+
 def object_of(given, room):
-    """The program's object: a given one, the one that is kept, or a new one."""
-    if given and not given.exists():
-        sys.exit(f"metal: there is no {given}")
-    kept = given or OBJECT
-    return kept if kept.exists() else object_built(room)
+    """The program's object: a given one, the one beside the program, the one that is kept, or a new one."""
+    if given:
+        return given if given.exists() else sys.exit(f"metal: there is no {given}")
+    if not PROGRAM.exists():
+        return OBJECT if OBJECT.exists() else object_built(room)
+    place = place_in_cache()
+    if not place.exists() or OBJECT.exists():
+        keep(OBJECT if OBJECT.exists() else object_built(room), place)
+    return place
 
 
 def tower(given, out):
