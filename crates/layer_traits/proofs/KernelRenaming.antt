@@ -4,7 +4,7 @@ use Rattle.std.proofs.Common.{◌≡◌, ◌≤◌, length, Bool, true, false, L
 use Rattle.std.proofs.{Common.{if◌then◌else◌, map, refl, ap, sym, ◌∙◌, subst, arith}, Math.Path.transport}
 use Rattle.event_log.specs.{declared.ids.{BufId.BufId, CpuId.CpuId, LockId.{LockId, TheVariants.{Pending, Buffer}}, TheConstants.THREADS}, History.IsLawful}
 use Rattle.event_log.specs.{History.{AreOthers, Grows}, Actions.{Action, renamed}, Sections.{Section, renamed_section, sections_in, block_after}}
-use Rattle.{event_log.proofs.Renaming.{next_action_renamed, others_renamed, sections_in_renamed}, layer_traits.specs.declared.passes.Pass.Pass}
+use Rattle.{event_log.proofs.Renaming.{next_action_renamed, others_renamed, sections_in_renamed}}
 use Rattle.layer_traits.specs.declared.{passes.Pass.TheVariants.{YieldNow, Drain, MakeReady}, queue_edits.{QueueBlock.QueueBlock, QueueEdit.QueueEdit}}
 use Rattle.layer_traits.specs.declared.{queues.{QueueAnswer.QueueAnswer, QueueCall.QueueCall, QueueEvent.QueueEvent}, scheds.SchedAnswer.SchedAnswer}
 use Rattle.layer_traits.specs.{declared.scheds.{SchedAnswer.TheVariants.Answer, SchedCall.SchedCall}, MoveRules.edit_move, Passes.{own_slept, own_woken}}
@@ -34,6 +34,10 @@ module _ {A B : Type 0} (view : A → B) (opening : LockId → Option (QueueBloc
   -- the homes are the same
   pub homes_viewed : homes_in (viewed view opening) ≡ homes_in opening
   homes_viewed = homes_seen (opening (Pending (record { 0 = 0 })))
+
+  -- so what is said of them is said of those that are seen
+  pub at_viewed : (Says : List CpuId → Type 0) → Says (homes_in opening) → Says (homes_in (viewed view opening))
+  at_viewed Says says = subst Says (sym homes_viewed) says
 
   -- a lock is there exactly where it was
   pub there_viewed : (lock : LockId) → IsSome (viewed view opening lock) → IsSome (opening lock)

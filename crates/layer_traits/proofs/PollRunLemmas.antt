@@ -1,10 +1,11 @@
 -- Runs of polls: what a run keeps, and that a call that was quiet so far may be polled again.
-use Rattle.std.proofs.Common.{◌≡◌, ◌≢◌, ◌⊎◌, ℕ, ◌+◌, ◌<◌, ◌≤◌, List, Option, Some, None, is_some, length, refl, ap, sym, ◌∙◌, subst, arith}
+use Rattle.std.proofs.Common.{true, ◌≡◌, ◌≢◌, ◌⊎◌, ℕ, ◌+◌, ◌<◌, ◌≤◌, List, Option, Some, None, is_some, length, refl, ap, sym, ◌∙◌, subst, arith}
 use Rattle.{std.proofs.Math.Nat.lt_of_not-le, event_log.specs.declared.ids.{CpuId.CpuId, Tid.Tid}, layer_traits.specs.declared.calls.{Call.Call, Effect.Effect}}
+use Rattle.layer_traits.specs.Capacities.{caps_in}
 use Rattle.layer_traits.specs.declared.{calls.{Reply.Reply, ReplyKind.ReplyKind}, call_layers.CallLayer.Ghosts, call_states.{Stage.Stage, CallState.CallState}}
 use Rattle.layer_traits.specs.BufferLaw.{BufferPlan, Buffering, Calling, IsEffectOf, MayGoOn, MayPollCall, UnderWay, begun_at, begun_of, buffer_of}
-use Rattle.layer_traits.specs.{BufferLaw.{call_state_of, going, going_at, still_calling}, Framed.Framed, LayerPolls.{IsQuietAt, LookedAt, PolledAt, PolledOnAt}}
-use Rattle.layer_traits.specs.{Places.Threads, PollRuns.{once, again, looks}}
+use Rattle.layer_traits.specs.{BufferLaw.{call_state_of, going, going_at, still_calling}, OwnParts.threads_in, Framed.Framed, LayerPolls.{IsQuietAt, LookedAt, PolledAt, PolledOnAt}}
+use Rattle.layer_traits.specs.PollRuns.{once, again, looks}
 
 -- a call that has begun goes on as it is
 going_begun_at : (stage : Stage) (call_state : CallState) (call : Call) → begun_at stage call_state.call ≡ Some call
@@ -49,12 +50,10 @@ module _ {P L M : Type 0} (I : Ghosts P L M) (plan : ℕ → List CpuId → CpuI
     pub acts : (c : CpuId) → I.ActsFor m c → I.ActsFor n c
     pub others : (r : P) → I.cpu_of r ≢ I.cpu_of p → I.Fits r m → I.Fits r n
     pub holders : (c : CpuId) → c ≢ I.cpu_of p → I.ActsFor m c → I.MayHold n c → I.MayHold m c
-    pub homes : I.homes_of n ≡ I.homes_of m
-    pub caps : I.caps n ≡ I.caps m
 
-  kept_by : (p q : P) (m n : M) → Framed I.Fits I.cpu_of I.opening I.site I.room I.ActsFor I.MayHold p q m n → I.homes_of n ≡ I.homes_of m → I.caps n ≡ I.caps m
+  kept_by : (p q : P) (m n : M) → Framed I.Fits I.cpu_of I.opening I.site I.room I.ActsFor I.MayHold p q m n
       → Kept p m 1 q n
-  kept_by p q m n framed homes caps = record {
+  kept_by p q m n framed = record {
     fits = framed.fits;
     cpu = framed.cpu;
     opening = framed.stays.opening;
@@ -63,8 +62,6 @@ module _ {P L M : Type 0} (I : Ghosts P L M) (plan : ℕ → List CpuId → CpuI
     acts = framed.stays.acts;
     others = framed.others;
     holders = framed.holders;
-    homes = homes;
-    caps = caps;
   }
 
   kept_on : {p q r : P} {m n o : M} (k : ℕ) → Kept p m k q n → Kept q n 1 r o → Kept p m (k + 1) r o
@@ -77,50 +74,48 @@ module _ {P L M : Type 0} (I : Ghosts P L M) (plan : ℕ → List CpuId → CpuI
     acts = λ c acts. second.acts c (first.acts c acts);
     others = λ s other fits. second.others s (λ same. other (same ∙ first.cpu)) (first.others s other fits);
     holders = λ c other acts held. first.holders c other acts (second.holders c (λ same. other (same ∙ first.cpu)) (first.acts c acts) held);
-    homes = second.homes ∙ first.homes;
-    caps = second.caps ∙ first.caps;
   }
 
   -- a run keeps the frame of each of its actions
   pub kept : (p : P) (m : M) (actions : ℕ) (q : P) (n : M) (told : Option ReplyKind) → PolledOnAt I plan t call p m actions q n told → Kept p m actions q n
-  kept p m _ q n told (once polled) = kept_by p q m n polled.framed polled.homes polled.caps
+  kept p m _ q n told (once polled) = kept_by p q m n polled.framed
   kept p m _ r o told (again {k = k} {q = q} {n = n} run quiet polled) =
-      kept_on k (kept p m k q n None run) (kept_by q r n o polled.framed polled.homes polled.caps)
+      kept_on k (kept p m k q n None run) (kept_by q r n o polled.framed)
   kept p m _ r o _ (looks {k = k} {q = q} {n = n} run quiet looked) =
-      kept_on k (kept p m k q n None run) (kept_by q r n o looked.framed looked.homes looked.caps)
+      kept_on k (kept p m k q n None run) (kept_by q r n o looked.framed)
 
   -- the call is under way
   pub record IsOn (q : P) : Type 0 where
     pub under_way : I.under_way q ≡ Some (Calling t)
-    pub begun : begun_of (call_state_of (I.call_states q) t) ≡ Some call
+    pub begun : begun_of (call_state_of (I.own q).call_states t) ≡ Some call
 
   -- a poll with no reply found its buffer
-  pub there : (p q : P) (m n : M) → PolledAt I plan t call p m q n None → (buffer_of call).0 < length (I.caps m)
+  pub there : (p q : P) (m n : M) → PolledAt I plan t call p m q n None → (buffer_of call).0 < length (caps_in (I.opening m))
   there p q m n polled = lt_of_not-le (λ none. absurd (let no = (polled.nothing none).answers in cc))
 
-  on_by : (p q : P) (m n : M) → PolledAt I plan t call p m q n None → (I.threads q).current ≡ Some t → IsOn q
+  on_by : (p q : P) (m n : M) → PolledAt I plan t call p m q n None → (threads_in (I.own q)).current ≡ Some t → IsOn q
   on_by p q m n polled runs = record {
-    under_way = still_called t (I.threads q).current (I.under_way q) runs (polled.under_way (there p q m n polled));
+    under_way = still_called t (threads_in (I.own q)).current (I.under_way q) runs (polled.under_way (there p q m n polled));
     begun = (polled.called (there p q m n polled)).answers;
   }
 
   -- after a run with no reply in which the thread runs its call is under way
-  pub is_on : (p : P) (m : M) (actions : ℕ) (q : P) (n : M) → PolledOnAt I plan t call p m actions q n None → (I.threads q).current ≡ Some t → IsOn q
+  pub is_on : (p : P) (m : M) (actions : ℕ) (q : P) (n : M) → PolledOnAt I plan t call p m actions q n None → (threads_in (I.own q)).current ≡ Some t → IsOn q
   is_on p m _ q n (once polled) runs = on_by p q m n polled runs
   is_on p m _ r o (again {q = q} {n = n} run quiet polled) runs = on_by q r n o polled runs
   is_on p m _ r o (looks {k = k} {q = q} {n = n} run quiet looked) runs =
       let on = is_on p m k q n run quiet.runs in
       record {
         under_way = looked.under_way ∙ on.under_way;
-        begun = ap (λ (l : List CallState). begun_of (call_state_of l t)) looked.call_states ∙ on.begun;
+        begun = ap (λ (o : Buffering). begun_of (call_state_of o.call_states t)) looked.own ∙ on.begun;
       }
 
   -- what a poll of the call asks of its part and machine
   pub record MayPoll (p : P) (m : M) : Type 0 where
     pub fits : I.Fits p m
-    pub runs : (I.threads p).current ≡ Some t
-    pub hand : I.under_way p ≡ None → (I.threads p).hand ≡ None
-    pub same : MayPollCall (call_state_of (I.call_states p) t) call
+    pub runs : (threads_in (I.own p)).current ≡ Some t
+    pub hand : I.under_way p ≡ None → (threads_in (I.own p)).hand ≡ None
+    pub same : MayPollCall (call_state_of (I.own p).call_states t) call
     pub goes_on : MayGoOn (I.under_way p) (Calling t)
 
   -- so far nothing was done, or the call was quiet
@@ -137,14 +132,14 @@ module _ {P L M : Type 0} (I : Ghosts P L M) (plan : ℕ → List CpuId → CpuI
         fits = (kept p m k q n None run).fits;
         runs = quiet.runs;
         hand = λ none. absurd (cc (none, on.under_way));
-        same = may_go_on (call_state_of (I.call_states q) t) call on.begun;
+        same = may_go_on (call_state_of (I.own q).call_states t) call on.begun;
         goes_on = subst (λ (u : Option UnderWay). MayGoOn u (Calling t)) (sym on.under_way) refl;
       }
 
-  -- the room that is left, and the capacities
-  pub left : (p : P) (m : M) (actions : ℕ) (q : P) (n : M) → SoFar p m actions q n → (I.room m ≤ I.room n + actions) × (I.caps n ≡ I.caps m)
+  -- the room that is left, and the opening blocks
+  pub left : (p : P) (m : M) (actions : ℕ) (q : P) (n : M) → SoFar p m actions q n → (I.room m ≤ I.room n + actions) × (I.opening n ≡ I.opening m)
   left p m _ _ _ nothing_yet = (omega arith, refl)
-  left p m _ q n (quiet_yet {k = k} some run quiet) = let k = kept p m k q n None run in (k.room, k.caps)
+  left p m _ q n (quiet_yet {k = k} some run quiet) = let k = kept p m k q n None run in (k.room, k.opening)
 
   -- one more poll, and one more look
   pub one_more : (p : P) (m : M) (actions : ℕ) (q : P) (n : M) (r : P) (o : M) (told : Option ReplyKind) → SoFar p m actions q n
@@ -153,37 +148,38 @@ module _ {P L M : Type 0} (I : Ghosts P L M) (plan : ℕ → List CpuId → CpuI
   one_more p m _ _ _ r o told nothing_yet polled = once polled
   one_more p m _ q n r o told (quiet_yet some run quiet) polled = again run quiet polled
 
-  pub one_look : (p : P) (m : M) (actions : ℕ) (q : P) (n : M) (r : P) (o : M) → SoFar p m actions q n → 0 < actions → LookedAt I plan q n r o
+  pub one_look : (p : P) (m : M) (actions : ℕ) (q : P) (n : M) (r : P) (o : M) → SoFar p m actions q n → 0 < actions → LookedAt I plan true q n r o
       → PolledOnAt I plan t call p m (actions + 1) r o None
   one_look p m _ _ _ r o nothing_yet some looked = absurd (omega arith)
   one_look p m _ q n r o (quiet_yet some run quiet) more looked = looks run quiet looked
 
-  pub quiet_after_look : (p : P) (m : M) (actions : ℕ) (q : P) (n : M) (r : P) (o : M) → SoFar p m actions q n → 0 < actions → LookedAt I plan q n r o
+  pub quiet_after_look : (p : P) (m : M) (actions : ℕ) (q : P) (n : M) (r : P) (o : M) → SoFar p m actions q n → 0 < actions → LookedAt I plan true q n r o
       → IsQuietAt I plan t call p r
   quiet_after_look p m _ _ _ r o nothing_yet some looked = absurd (omega arith)
   quiet_after_look p m _ q n r o (quiet_yet some run quiet) more looked = record {
-    runs = ap (λ (u : Threads). u.current) looked.threads ∙ quiet.runs;
-    effect = ap (λ (l : List CallState). (call_state_of l t).effect) looked.call_states ∙ quiet.effect;
+    runs = ap (λ (o : Buffering). (threads_in o).current) looked.own ∙ quiet.runs;
+    effect = ap (λ (o : Buffering). (call_state_of o.call_states t).effect) looked.own ∙ quiet.effect;
   }
 
   -- the effect with which the next poll goes on is that of the call when the run began
   pub same_effect : (p : P) (m : M) (actions : ℕ) (q : P) (n : M) → SoFar p m actions q n
-      → (going (call_state_of (I.call_states q) t) call).effect ≡ (going (call_state_of (I.call_states p) t) call).effect
+      → (going (call_state_of (I.own q).call_states t) call).effect ≡ (going (call_state_of (I.own p).call_states t) call).effect
   same_effect p m _ _ _ nothing_yet = refl
   same_effect p m _ q n (quiet_yet {k = k} some run quiet) =
-      ap (λ (x : CallState). x.effect) (going_begun (call_state_of (I.call_states q) t) call (is_on p m k q n run quiet.runs).begun) ∙ quiet.effect
+      ap (λ (x : CallState). x.effect) (going_begun (call_state_of (I.own q).call_states t) call (is_on p m k q n run quiet.runs).begun) ∙ quiet.effect
 
   -- a poll after which the thread runs, and the call has had its effect just where it had it at the start, leaves it quiet
   pub quiet_after_poll : (p : P) (m : M) (actions : ℕ) (q : P) (n : M) (r : P) (o : M) → SoFar p m actions q n → PolledAt I plan t call q n r o None
-      → (I.threads r).current ≢ None
-      → is_some (call_state_of (I.call_states r) t).effect ≡ is_some (going (call_state_of (I.call_states p) t) call).effect → IsQuietAt I plan t call p r
+      → (threads_in (I.own r)).current ≢ None
+      → is_some (call_state_of (I.own r).call_states t).effect ≡ is_some (going (call_state_of (I.own p).call_states t) call).effect
+      → IsQuietAt I plan t call p r
   quiet_after_poll p m actions q n r o so_far polled runs same =
       let found = there q r n o polled in
       let called = polled.called found in
       let before = same_effect p m actions q n so_far in
       record {
-        runs = still_runs t (I.threads r).current ((polled.runs found).current) runs;
-        effect = effect_kept call (going (call_state_of (I.call_states q) t) call).effect
-            (call_state_of (I.call_states r) t).effect called.mine called.fresh called.stays
+        runs = still_runs t (threads_in (I.own r)).current ((polled.runs found).current) runs;
+        effect = effect_kept call (going (call_state_of (I.own q).call_states t) call).effect
+            (call_state_of (I.own r).call_states t).effect called.mine called.fresh called.stays
             (same ∙ ap (λ (f : Option Effect). is_some f) (sym before)) ∙ before;
       }

@@ -30,6 +30,7 @@ pub mod BufferBlocks
 pub mod BufferProtocol
 pub mod BufferEffects
 pub mod BufferLaw
+pub mod OwnParts
 pub mod IpcLaw
 pub mod PollRuns
 pub mod LayerPolls

@@ -3,18 +3,18 @@
 //!
 //! No call takes memory, and none waits.
 
-ghost use Rattle.std.specs.Prelude.{◌≡◌, ◌≢◌, ℕ, ◌<◌, ◌≤◌, Bool, true, false, List, [], Option, Some, None, IsSome, length, map, replicate};
+ghost use Rattle.std.specs.Prelude.{◌≡◌, ◌≢◌, ℕ, ◌<◌, ◌≤◌, Bool, true, false, List, [], Option, Some, None, IsSome, length, map};
 ghost use Rattle.event_log.specs.declared.{ids.{CpuId.CpuId, Tid.Tid, BufId.BufId, LockId.LockId, TheConstants.THREADS}, entries.Entry.Entry};
 ghost use Rattle.{event_log.specs.{History.IsLawful, Actions.{Action, AreLegal, phase}, Sections.sections_in}, layer_traits.specs.declared.calls.Call.Call};
 ghost use Rattle.layer_traits.specs.declared.{calls.Reply.Reply, buffer_edits.BufferEdit.BufferEdit, moves.WaitList.WaitList, queue_edits.QueueEdit.QueueEdit};
-ghost use Rattle.layer_traits.specs.{declared.{queue_edits.QueueBlock.QueueBlock, call_states.CallState.CallState}, Acted.MovesAre, Conditions.CvCall};
-ghost use Rattle.layer_traits.specs.{Places.{Step, Stands, Threads, AreMoves, at_boot}, Plans.{Follows, table_of, is_in_section}, Framed.Framed, Looks.Tries};
+ghost use Rattle.layer_traits.specs.{declared.queue_edits.QueueBlock.QueueBlock, Acted.MovesAre, Capacities.caps_in, Conditions.CvCall};
+ghost use Rattle.layer_traits.specs.{OwnParts.threads_in, Places.{Step, Stands, AreMoves}, Plans.{Follows, table_of, is_in_section}, Framed.Framed};
 ghost use Rattle.layer_traits.specs.{Spins.{BeginWith, Spun, Misses}, QueueBlocks.{StartsWell, homes_in, inner}, Queues.{buffer_sections, event_of}};
 ghost use Rattle.layer_traits.specs.{QueueRules.queue_rules, Passes.{MayPass, IsLocalPass, PassPolled}, QLocking.{lock_moves, lock_rules}};
 ghost use Rattle.layer_traits.specs.{BufferProtocol.{BufferLock, buffer_rules}, BufferEffects.{MayTakeEffect, effects_in}, IpcLaw.WaitListsAgree};
-ghost use Rattle.layer_traits.specs.{IpcLaw.{NothingDone, OpensSo}, PollRuns.PolledOn, BufferLaw.{BufferPlan, Buffering, Called, answer_in, reply_with}};
-ghost use Rattle.layer_traits.specs.BufferLaw.{Calling, UnderWay, IsRefused, MayGoOn, MayPollCall, MovesGrow, OthersSeen, Passing, RunsOn, buffer_of};
-ghost use Rattle.layer_traits.specs.BufferLaw.{buffering_at_start, fifo_pass_plan, no_call, still_calling, still_passing, call_state_of, message_of};
+ghost use Rattle.layer_traits.specs.{IpcLaw.OpensSo, PollRuns.{Looked, Polled, PolledOn}, BufferLaw.{BufferPlan, Buffering, answer_in, reply_with}};
+ghost use Rattle.layer_traits.specs.BufferLaw.{Calling, UnderWay, MayGoOn, MayPollCall, OthersSeen, Passing};
+ghost use Rattle.layer_traits.specs.BufferLaw.{buffering_at_start, fifo_pass_plan, still_passing, call_state_of, message_of};
 
 use crate::calls::{Call, Effect, PollRun, Reply, ReplyKind};
 use crate::own_threads::OwnThreads;
@@ -41,12 +41,6 @@ pub trait CallLaw {
 pub trait CallLayer<L: CallLaw>: Sized {
     /// What lies beneath.
     type Machine;
-
-    /// The capacities of the buffers.
-    ghost caps: { Self.Machine → List ℕ };
-
-    /// The home of each thread.
-    ghost homes_of: { Self.Machine → List CpuId };
 
     /// The effects that the holder of the machine has seen, newest first.
     ghost seen: { Self.Machine → List Entry };
@@ -76,12 +70,6 @@ pub trait CallLayer<L: CallLaw>: Sized {
 
     /// Whose part it is.
     ghost cpu_of: { Self → CpuId };
-
-    /// The CPU's threads.
-    ghost threads: { Self → Threads };
-
-    /// The call state of each thread.
-    ghost call_states: { Self → List CallState };
 
     /// Whether a section is under way.
     ghost is_inside: { Self → Bool };
@@ -115,11 +103,9 @@ pub trait CallLayer<L: CallLaw>: Sized {
     fn part(cpu: CpuId, homes: &[CpuId], buffers: u8) -> Self
         requires { length homes.now ≤ THREADS }
         ensures cpu { cpu_of result ≡ cpu }
-        ensures threads { threads result ≡ at_boot homes.now cpu }
-        ensures call_states { call_states result ≡ replicate THREADS no_call }
         ensures under_way { under_way result ≡ None }
         ensures own { own result ≡ buffering_at_start homes.now cpu }
-        ensures fits { (m : Self.Machine) → IsFresh m homes.now cpu → L.IsCount (caps m) buffers → Fits result m };
+        ensures fits { (m : Self.Machine) → IsFresh m homes.now cpu → L.IsCount (caps_in (opening m)) buffers → Fits result m };
 
     /// Whether a section is under way.
     fn is_busy(&self) -> bool
@@ -127,12 +113,12 @@ pub trait CallLayer<L: CallLaw>: Sized {
 
     /// The CPU's threads, where they lie.
     fn own_threads(&self) -> &OwnThreads
-        ensures { result.now ≡ threads self.now };
+        ensures { result.now ≡ threads_in (own self.now) };
 
     /// The thread that runs.
     #[inline(always)]
     fn current(&self) -> Option<Tid>
-        ensures { result ≡ (threads self.now).current }
+        ensures { result ≡ (threads_in (own self.now)).current }
     {
         self.own_threads().current()
     }
@@ -140,7 +126,7 @@ pub trait CallLayer<L: CallLaw>: Sized {
     /// The thread that this CPU woke and has yet to send home.
     #[inline(always)]
     fn hand(&self) -> Option<Tid>
-        ensures { result ≡ (threads self.now).hand }
+        ensures { result ≡ (threads_in (own self.now)).hand }
     {
         self.own_threads().hand()
     }
@@ -148,8 +134,8 @@ pub trait CallLayer<L: CallLaw>: Sized {
     /// Whether a thread is ready.
     #[inline(always)]
     fn has_ready(&self) -> bool
-        ensures some { result ≡ true → (threads self.now).ready ≢ [] }
-        ensures none { result ≡ false → (threads self.now).ready ≡ [] }
+        ensures some { result ≡ true → (threads_in (own self.now)).ready ≢ [] }
+        ensures none { result ≡ false → (threads_in (own self.now)).ready ≡ [] }
     {
         self.own_threads().has_ready()
     }
@@ -160,14 +146,14 @@ pub trait CallLayer<L: CallLaw>: Sized {
     /// Requires: `t` is below `THREADS`.
     fn effect(&self, t: Tid) -> Option<Effect>
         requires { t.0 < THREADS }
-        ensures { result ≡ (call_state_of (call_states self.now) t).effect };
+        ensures { result ≡ (call_state_of (own self.now).call_states t).effect };
 
     /// The same effect where it lies: nothing is copied.
     ///
     /// Requires: `t` is below `THREADS`.
     fn effect_here(&self, t: Tid) -> &Option<Effect>
         requires { t.0 < THREADS }
-        ensures { result.now ≡ (call_state_of (call_states self.now) t).effect };
+        ensures { result.now ≡ (call_state_of (own self.now).call_states t).effect };
 
     /// Looks again for a section that waits at its lock, and tells whether it did: a poll that ends
     /// nothing, so it needs no call and has no answer. Where it tells `false` nothing has changed,
@@ -177,19 +163,8 @@ pub trait CallLayer<L: CallLaw>: Sized {
     fn look(&mut self, m: &mut Self::Machine) -> bool
         requires fits { Fits self.old m.old }
         requires room { 0 < room m.old }
-        ensures still { result ≡ false → (self.new ≡ self.old) × (m.new ≡ m.old) }
-        ensures waits { result ≡ true → is_inside self.old ≡ true }
-        ensures framed { Framed Fits cpu_of opening site room ActsFor MayHold self.old self.new m.old m.new }
-        ensures threads { threads self.new ≡ threads self.old }
-        ensures call_states { call_states self.new ≡ call_states self.old }
-        ensures own { own self.new ≡ own self.old }
-        ensures inside { is_inside self.new ≡ is_inside self.old }
-        ensures under_way { under_way self.new ≡ under_way self.old }
-        ensures seen { OthersSeen (ActsFor m.old) (seen m.old) (seen m.new) }
-        ensures moves { MovesGrow (ActsFor m.old) (cpu_of self.old) (moves m.old) (moves m.new) }
-        ensures homes { homes_of m.new ≡ homes_of m.old }
-        ensures caps { caps m.new ≡ caps m.old }
-        ensures tries { IsStepwise → result ≡ true → Tries (ActsFor m.old) (cpu_of self.old) (acts m.old) (acts m.new) };
+        ensures { Looked Fits cpu_of opening site room ActsFor MayHold own is_inside under_way seen moves acts
+            IsWhole IsStepwise L.plan result self.old m.old self.new m.new };
 
     /// Notes looks of a section that waits at its lock and whose look would miss: one for each of the
     /// steps at the front of `steps` that are this CPU's, at most. Returns how many it noted: each
@@ -204,8 +179,6 @@ pub trait CallLayer<L: CallLaw>: Sized {
         ensures still { result ≡ 0 → m.new ≡ m.old }
         ensures spun { Spun Fits opening site seen room ActsFor MayHold result m.old m.new }
         ensures moves { moves m.new ≡ moves m.old }
-        ensures homes { homes_of m.new ≡ homes_of m.old }
-        ensures caps { caps m.new ≡ caps m.old }
         ensures wait_lists { wait_lists m.new ≡ wait_lists m.old }
         ensures tries { IsStepwise → Misses (cpu_of self.now) result (acts m.old) (acts m.new) }
     {
@@ -222,31 +195,14 @@ pub trait CallLayer<L: CallLaw>: Sized {
     /// nothing else under way. If it has nothing under way, no woken thread is in its hand.
     fn poll_kind(&mut self, m: &mut Self::Machine, t: Tid, call: &Call) -> Option<ReplyKind>
         requires fits { Fits self.old m.old }
-        requires there { L.IsThere (caps m.old) call.now }
+        requires there { L.IsThere (caps_in (opening m.old)) call.now }
         requires room { 0 < room m.old }
-        requires runs { (threads self.old).current ≡ Some t }
-        requires hand { under_way self.old ≡ None → (threads self.old).hand ≡ None }
-        requires same { MayPollCall (call_state_of (call_states self.old) t) call.now }
+        requires runs { (threads_in (own self.old)).current ≡ Some t }
+        requires hand { under_way self.old ≡ None → (threads_in (own self.old)).hand ≡ None }
+        requires same { MayPollCall (call_state_of (own self.old).call_states t) call.now }
         requires goes_on { MayGoOn (under_way self.old) (Calling t) }
-        ensures nothing { length (caps m.old) ≤ (buffer_of call.now).0 → NothingDone m.old m.new self.old self.new
-            (answer_in (call_states self.new) t result) }
-        ensures called { (buffer_of call.now).0 < length (caps m.old)
-            → Called (ActsFor m.old) (cpu_of self.old) t call.now (call_states self.old) (call_states self.new) (seen m.old) (seen m.new)
-            (answer_in (call_states self.new) t result) }
-        ensures runs { (buffer_of call.now).0 < length (caps m.old) → RunsOn t (threads self.old) (threads self.new)
-            (answer_in (call_states self.new) t result) }
-        ensures under_way { (buffer_of call.now).0 < length (caps m.old)
-            → under_way self.new ≡ still_calling t (threads self.new).current (answer_in (call_states self.new) t result) }
-        ensures moves { MovesGrow (ActsFor m.old) (cpu_of self.old) (moves m.old) (moves m.new) }
-        ensures prompt { IsWhole → result ≡ None
-            → IsRefused call.now (caps m.old) (seen m.new) × ((threads self.new).current ≡ None) }
-        ensures framed { Framed Fits cpu_of opening site room ActsFor MayHold self.old self.new m.old m.new }
-        ensures homes { homes_of m.new ≡ homes_of m.old }
-        ensures caps { caps m.new ≡ caps m.old }
-        ensures follows { IsStepwise
-            → Follows (ActsFor m.old) (table_of (queue_rules (lock_rules buffer_rules) (lock_moves buffer_rules)))
-            (opening m.old) (cpu_of self.old) (L.plan (length (caps m.old)) (homes_in (opening m.old)) (cpu_of self.old) t call.now (own self.old))
-            (acts m.old) (acts m.new) (record { own = own self.new; answer = answer_in (call_states self.new) t result }) };
+        ensures { Polled Fits cpu_of opening site room ActsFor MayHold own is_inside under_way seen moves acts
+            IsWhole IsStepwise L.plan t call.now self.old m.old self.new m.new (answer_in (own self.new).call_states t result) };
 
     /// Does up to `most` actions of the call of `t`, one after the other: the first is a poll, and
     /// each after it a poll or a look of the call's section at its lock. It goes on at most until the
@@ -257,15 +213,15 @@ pub trait CallLayer<L: CallLaw>: Sized {
     #[inline(always)]
     fn poll_on(&mut self, m: &mut Self::Machine, t: Tid, call: &Call, most: usize) -> PollRun
         requires fits { Fits self.old m.old }
-        requires there { L.IsThere (caps m.old) call.now }
+        requires there { L.IsThere (caps_in (opening m.old)) call.now }
         requires some { 0 < most }
         requires room { most ≤ room m.old }
-        requires runs { (threads self.old).current ≡ Some t }
-        requires hand { under_way self.old ≡ None → (threads self.old).hand ≡ None }
-        requires same { MayPollCall (call_state_of (call_states self.old) t) call.now }
+        requires runs { (threads_in (own self.old)).current ≡ Some t }
+        requires hand { under_way self.old ≡ None → (threads_in (own self.old)).hand ≡ None }
+        requires same { MayPollCall (call_state_of (own self.old).call_states t) call.now }
         requires goes_on { MayGoOn (under_way self.old) (Calling t) }
         ensures few { result.actions ≤ most }
-        ensures polled_on { PolledOn Fits cpu_of opening site room ActsFor MayHold threads call_states own is_inside under_way caps homes_of seen moves acts
+        ensures polled_on { PolledOn Fits cpu_of opening site room ActsFor MayHold own is_inside under_way seen moves acts
             IsWhole IsStepwise L.plan t call.now self.old m.old result.actions self.new m.new result.reply }
     {
         PollRun {
@@ -280,28 +236,14 @@ pub trait CallLayer<L: CallLaw>: Sized {
     #[inline(always)]
     fn poll(&mut self, m: &mut Self::Machine, t: Tid, call: &Call) -> Option<Reply>
         requires fits { Fits self.old m.old }
-        requires there { L.IsThere (caps m.old) call.now }
+        requires there { L.IsThere (caps_in (opening m.old)) call.now }
         requires room { 0 < room m.old }
-        requires runs { (threads self.old).current ≡ Some t }
-        requires hand { under_way self.old ≡ None → (threads self.old).hand ≡ None }
-        requires same { MayPollCall (call_state_of (call_states self.old) t) call.now }
+        requires runs { (threads_in (own self.old)).current ≡ Some t }
+        requires hand { under_way self.old ≡ None → (threads_in (own self.old)).hand ≡ None }
+        requires same { MayPollCall (call_state_of (own self.old).call_states t) call.now }
         requires goes_on { MayGoOn (under_way self.old) (Calling t) }
-        ensures nothing { length (caps m.old) ≤ (buffer_of call.now).0 → NothingDone m.old m.new self.old self.new result }
-        ensures called { (buffer_of call.now).0 < length (caps m.old)
-            → Called (ActsFor m.old) (cpu_of self.old) t call.now (call_states self.old) (call_states self.new) (seen m.old) (seen m.new) result }
-        ensures runs { (buffer_of call.now).0 < length (caps m.old) → RunsOn t (threads self.old) (threads self.new) result }
-        ensures under_way { (buffer_of call.now).0 < length (caps m.old)
-            → under_way self.new ≡ still_calling t (threads self.new).current result }
-        ensures moves { MovesGrow (ActsFor m.old) (cpu_of self.old) (moves m.old) (moves m.new) }
-        ensures prompt { IsWhole → result ≡ None
-            → IsRefused call.now (caps m.old) (seen m.new) × ((threads self.new).current ≡ None) }
-        ensures framed { Framed Fits cpu_of opening site room ActsFor MayHold self.old self.new m.old m.new }
-        ensures homes { homes_of m.new ≡ homes_of m.old }
-        ensures caps { caps m.new ≡ caps m.old }
-        ensures follows { IsStepwise
-            → Follows (ActsFor m.old) (table_of (queue_rules (lock_rules buffer_rules) (lock_moves buffer_rules)))
-            (opening m.old) (cpu_of self.old) (L.plan (length (caps m.old)) (homes_in (opening m.old)) (cpu_of self.old) t call.now (own self.old))
-            (acts m.old) (acts m.new) (record { own = own self.new; answer = result }) }
+        ensures { Polled Fits cpu_of opening site room ActsFor MayHold own is_inside under_way seen moves acts
+            IsWhole IsStepwise L.plan t call.now self.old m.old self.new m.new result }
     {
         match self.poll_kind(m, t, call) {
             None => None,
@@ -316,18 +258,16 @@ pub trait CallLayer<L: CallLaw>: Sized {
     fn pass(&mut self, m: &mut Self::Machine, call: Pass) -> Option<()>
         requires fits { Fits self.old m.old }
         requires room { 0 < room m.old }
-        requires may { MayPass call (threads self.old) }
+        requires may { MayPass call (threads_in (own self.old)) }
         requires goes_on { MayGoOn (under_way self.old) (Passing call) }
         ensures seen { OthersSeen (ActsFor m.old) (seen m.old) (seen m.new) }
-        ensures passed { PassPolled (homes_of m.old) (ActsFor m.old) (cpu_of self.old) call result (moves m.old) (moves m.new)
-            (threads self.old) (threads self.new) }
+        ensures passed { PassPolled (homes_in (opening m.old)) (ActsFor m.old) (cpu_of self.old) call result (moves m.old) (moves m.new)
+            (threads_in (own self.old)) (threads_in (own self.new)) }
         ensures under_way { under_way self.new ≡ still_passing call result }
-        ensures call_states { call_states self.new ≡ call_states self.old }
+        ensures call_states { (own self.new).call_states ≡ (own self.old).call_states }
         ensures still { IsLocalPass call → m.new ≡ m.old }
         ensures prompt { IsWhole → IsSome result }
         ensures framed { Framed Fits cpu_of opening site room ActsFor MayHold self.old self.new m.old m.new }
-        ensures homes { homes_of m.new ≡ homes_of m.old }
-        ensures caps { caps m.new ≡ caps m.old }
         ensures follows { IsStepwise
             → Follows (ActsFor m.old) (table_of (queue_rules (lock_rules buffer_rules) (lock_moves buffer_rules)))
             (opening m.old) (cpu_of self.old) (fifo_pass_plan (homes_in (opening m.old)) (cpu_of self.old) call (own self.old))
@@ -337,25 +277,19 @@ pub trait CallLayer<L: CallLaw>: Sized {
     ghost own_cpu: { (p : Self) (m : Self.Machine) → Fits p m → ActsFor m (cpu_of p) };
 
     /// Law: each effect that was seen may come after those before it.
-    ghost lawful: { (m : Self.Machine) (c : CpuId) → ActsFor m c → IsLawful (MayTakeEffect (caps m)) (seen m) };
+    ghost lawful: { (m : Self.Machine) (c : CpuId) → ActsFor m c → IsLawful (MayTakeEffect (caps_in (opening m))) (seen m) };
 
     /// Law: a CPU's threads stand where the moves say.
-    ghost stands: { (p : Self) (m : Self.Machine) → Fits p m → Stands (homes_of m) (cpu_of p) (moves m) (threads p) };
+    ghost stands: { (p : Self) (m : Self.Machine) → Fits p m → Stands (homes_in (opening m)) (cpu_of p) (moves m) (threads_in (own p)) };
 
     /// Law: each move that was seen may follow those before it.
-    ghost moves_legal: { (m : Self.Machine) (c : CpuId) → ActsFor m c → AreMoves (homes_of m) (moves m) };
+    ghost moves_legal: { (m : Self.Machine) (c : CpuId) → ActsFor m c → AreMoves (homes_in (opening m)) (moves m) };
 
     /// Law: the waiting lists of the buffers and the threads' places agree.
-    ghost lists: { (p : Self) (m : Self.Machine) → Fits p m → WaitListsAgree (length (caps m)) (homes_of m) (moves m) (wait_lists m) };
+    ghost lists: { (p : Self) (m : Self.Machine) → Fits p m → WaitListsAgree (length (caps_in (opening m))) (homes_in (opening m)) (moves m) (wait_lists m) };
 
     /// Law: where the CPU has nothing begun, no section is under way.
     ghost idle: { (p : Self) (m : Self.Machine) → Fits p m → under_way p ≡ None → is_inside p ≡ false };
-
-    /// Law: the own state holds the threads and the call states.
-    ghost reads_own: { (p : Self) → ((own p).cv.lock.sleep.threads ≡ threads p) × ((own p).call_states ≡ call_states p) };
-
-    /// Law: the opening blocks hold the homes.
-    ghost reads_homes: { (m : Self.Machine) → homes_in (opening m) ≡ homes_of m };
 
     /// Law: the opening blocks are those of a machine in which nothing was done, and each home of a
     /// thread has its queue.
@@ -381,7 +315,7 @@ pub trait CallLayer<L: CallLaw>: Sized {
     /// Law: where a poll is one action, a fresh machine's blocks are those of its capacities and
     /// homes.
     ghost opens: { IsStepwise → (m : Self.Machine) (homes : List CpuId) (c : CpuId) → IsFresh m homes c
-        → OpensSo (caps m) homes c (opening m) };
+        → OpensSo (caps_in (opening m)) homes c (opening m) };
 }
 
 /// The reply of this kind, with the message of this effect where it has one.

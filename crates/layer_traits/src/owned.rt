@@ -2,6 +2,9 @@
 //!
 //! Only `open` takes memory, and no call waits.
 
+ghost use Rattle.layer_traits.specs.OwnParts.{threads_in};
+ghost use Rattle.layer_traits.specs.Capacities.{caps_in};
+ghost use Rattle.layer_traits.specs.QueueBlocks.{homes_in};
 ghost use Rattle.std.specs.Prelude.{◌≡◌, ◌⊎◌, ◌<◌, Bool, true, [], List, Option, Some, None, IfOk, length, option_map, slice_index};
 
 use crate::call_layers::CallLayer;
@@ -60,7 +63,7 @@ pub trait Owned: CallLayer<IpcLaw> {
     ) -> Result<Self::Machine, NoMemory>
         requires { AreOpenable cpus caps.now homes.now }
         ensures opened { IfOk result (λ m.
-            Opened (Self.caps m) (Self.homes_of m) (Self.seen m) (Self.moves m) (Self.room m) caps.now homes.now room) }
+            Opened (caps_in (Self.opening m)) (homes_in (Self.opening m)) (Self.seen m) (Self.moves m) (Self.room m) caps.now homes.now room) }
         ensures fresh { IfOk result (λ m. (c : CpuId) → c.0 < cpus → Self.IsFresh m homes.now c) }
         ensures acts { IfOk result (λ m. (c : CpuId) → c.0 < CPUS → Self.ActsFor m c) }
         ensures none { IfOk result (λ m. Self.acts m ≡ []) }
@@ -71,7 +74,7 @@ pub trait Owned: CallLayer<IpcLaw> {
     /// Requires: the machine's holder acts for some CPU, and the buffer is there.
     fn buffer_in(m: &Self::Machine, b: BufId) -> Option<ArrayVec<Msg, CAPACITY>>
         requires acts { (c : CpuId) × Self.ActsFor m.now c }
-        requires buffer { b.0 < length (Self.caps m.now) }
+        requires buffer { b.0 < length (caps_in (Self.opening m.now)) }
         ensures { option_map (λ items. items.items) result ≡ items_in m.now b };
 
     /// The same of a block in this CPU's hands; `None` where it is not there.
@@ -83,7 +86,7 @@ pub trait Owned: CallLayer<IpcLaw> {
     /// Requires: the machine's holder acts for some CPU, and the buffer is there.
     fn closed_at_home(m: &Self::Machine, b: BufId) -> Option<bool>
         requires acts { (c : CpuId) × Self.ActsFor m.now c }
-        requires buffer { b.0 < length (Self.caps m.now) }
+        requires buffer { b.0 < length (caps_in (Self.opening m.now)) }
         ensures { result ≡ closed_in m.now b };
 
     /// The same of a block in this CPU's hands; `None` where it is not there.
@@ -95,7 +98,7 @@ pub trait Owned: CallLayer<IpcLaw> {
     /// Requires: the machine's holder acts for some CPU, and the buffer is there.
     fn busy_in(m: &Self::Machine, b: BufId) -> Option<Option<Tid>>
         requires acts { (c : CpuId) × Self.ActsFor m.now c }
-        requires buffer { b.0 < length (Self.caps m.now) }
+        requires buffer { b.0 < length (caps_in (Self.opening m.now)) }
         ensures { result ≡ owner_in m.now b };
 
     /// The same of a block in this CPU's hands; `None` where it is not there.
@@ -108,10 +111,10 @@ pub trait Owned: CallLayer<IpcLaw> {
     /// Requires: part and machine agree, and `t` is a thread of the machine.
     fn place_at(&self, m: &Self::Machine, t: Tid) -> Option<Place>
         requires fits { Self.Fits self.now m.now }
-        requires thread { t.0 < length (Self.homes_of m.now) }
+        requires thread { t.0 < length (homes_in (Self.opening m.now)) }
         ensures observed { (x : Place) → result ≡ Some x
-            → IsOwnPlace (Self.cpu_of self.now) (Self.threads self.now) t x
-            ⊎ (queue_place (where_is (Self.homes_of m.now) (Self.moves m.now) t) ≡ Some x) }
+            → IsOwnPlace (Self.cpu_of self.now) (threads_in (Self.own self.now)) t x
+            ⊎ (queue_place (where_is (homes_in (Self.opening m.now)) (Self.moves m.now) t) ≡ Some x) }
         ensures silent { result ≡ None → IsSilent self.now m.now t };
 
     /// Law: each effect that was seen is one of a CPU that there may be.
@@ -119,20 +122,20 @@ pub trait Owned: CallLayer<IpcLaw> {
 
     /// Law: the items that the machine or a part tells of a buffer are those that the effects leave
     /// in it.
-    ghost items: { (m : Self.Machine) (c : CpuId) (b : BufId) → Self.ActsFor m c → b.0 < length (Self.caps m)
+    ghost items: { (m : Self.Machine) (c : CpuId) (b : BufId) → Self.ActsFor m c → b.0 < length (caps_in (Self.opening m))
         → IsObservedAs (λ (p : Self). Self.Fits p m) (λ p. Self.cpu_of p) (Self.MayHold m)
         (λ p. items_here p b) (items_in m b)
-        (items_of (contents_of (Self.caps m) (Self.seen m)) b.0) };
+        (items_of (contents_of (caps_in (Self.opening m)) (Self.seen m)) b.0) };
 
     /// Law: what the machine or a part tells of whether a buffer is closed is what the effects say.
-    ghost closed: { (m : Self.Machine) (c : CpuId) (b : BufId) → Self.ActsFor m c → b.0 < length (Self.caps m)
+    ghost closed: { (m : Self.Machine) (c : CpuId) (b : BufId) → Self.ActsFor m c → b.0 < length (caps_in (Self.opening m))
         → IsObservedAs (λ (p : Self). Self.Fits p m) (λ p. Self.cpu_of p) (Self.MayHold m)
         (λ p. closed_here p b) (closed_in m b)
         (is_closed (Self.seen m) b.0) };
 
     /// Law: the owner that the machine or a part tells of a buffer's lock is the one that its last
     /// section left.
-    ghost owners: { (m : Self.Machine) (c : CpuId) (b : BufId) → Self.ActsFor m c → b.0 < length (Self.caps m)
+    ghost owners: { (m : Self.Machine) (c : CpuId) (b : BufId) → Self.ActsFor m c → b.0 < length (caps_in (Self.opening m))
         → IsObservedAs (λ (p : Self). Self.Fits p m) (λ p. Self.cpu_of p) (Self.MayHold m)
         (λ p. owner_here p b) (owner_in m b)
         (owner m b) };
@@ -144,15 +147,15 @@ pub trait Owned: CallLayer<IpcLaw> {
 
     /// Law: where a poll is one action, what a buffer holds and may hold, and whether it is closed, is
     /// what the sections of the actions leave in its lock.
-    ghost items_are: { Self.IsStepwise → (m : Self.Machine) (c : CpuId) (b : BufId) → Self.ActsFor m c → b.0 < length (Self.caps m)
-        → ItemsAre (Self.opening m) (Self.acts m) b (items_of (contents_of (Self.caps m) (Self.seen m)) b.0) (slice_index (Self.caps m) b.0)
-        (is_closed (Self.seen m) b.0) };
+    ghost items_are: { Self.IsStepwise → (m : Self.Machine) (c : CpuId) (b : BufId) → Self.ActsFor m c → b.0 < length (caps_in (Self.opening m))
+        → ItemsAre (Self.opening m) (Self.acts m) b (items_of (contents_of (caps_in (Self.opening m)) (Self.seen m)) b.0)
+        (slice_index (caps_in (Self.opening m)) b.0) (is_closed (Self.seen m) b.0) };
 
     /// Law: of each thread some CPU can tell where it stands: its home, the CPU that has it in its
     /// hand, or one that may hold a lock.
-    ghost place: { (p : Self) (m : Self.Machine) (t : Tid) → Self.Fits p m → t.0 < length (Self.homes_of m)
+    ghost place: { (p : Self) (m : Self.Machine) (t : Tid) → Self.Fits p m → t.0 < length (homes_in (Self.opening m))
         → ReadsPlace (λ (q : Self). Self.Fits q m) (λ q. Self.cpu_of q) (Self.MayHold m) (λ q. IsSilent q m t)
-        (home_of (Self.homes_of m) t) (where_is (Self.homes_of m) (Self.moves m) t) };
+        (home_of (homes_in (Self.opening m)) t) (where_is (homes_in (Self.opening m)) (Self.moves m) t) };
 
     /// Law: if a poll is one action, a CPU that may hold a lock waits at one or holds one.
     ghost holding: { Self.IsStepwise → (m : Self.Machine) (c : CpuId) → Self.MayHold m c → is_in_section (phase c (Self.acts m)) ≡ true };

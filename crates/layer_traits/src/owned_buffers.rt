@@ -3,6 +3,7 @@
 //! No call takes memory, and none waits.
 
 ghost use Rattle.std.specs.Prelude.{◌≡◌, ◌<◌, Bool, true, List, Option, IsSome, length, option_and_then, option_map, slice_index};
+ghost use Rattle.layer_traits.specs.Capacities.{caps_in};
 
 use crate::buffer_layers::BufferLaw;
 use crate::call_layers::CallLayer;
@@ -56,7 +57,7 @@ pub trait OwnedBuffers: CallLayer<BufferLaw> {
     /// Requires: the machine's holder acts for some CPU, and the buffer is there.
     fn items_in(m: &Self::Machine, b: BufId) -> Option<ArrayVec<Msg, CAPACITY>>
         requires acts { (c : CpuId) × Self.ActsFor m.now c }
-        requires buffer { b.0 < length (Self.caps m.now) }
+        requires buffer { b.0 < length (caps_in (Self.opening m.now)) }
         ensures { option_map (λ items. items.items) result ≡ items_at m.now b };
 
     /// The same of a block in this CPU's hands; `None` where it is not there.
@@ -68,7 +69,7 @@ pub trait OwnedBuffers: CallLayer<BufferLaw> {
     /// Requires: the machine's holder acts for some CPU, and the buffer is there.
     fn closed_in(m: &Self::Machine, b: BufId) -> Option<bool>
         requires acts { (c : CpuId) × Self.ActsFor m.now c }
-        requires buffer { b.0 < length (Self.caps m.now) }
+        requires buffer { b.0 < length (caps_in (Self.opening m.now)) }
         ensures { result ≡ closed_at m.now b };
 
     /// The same of a block in this CPU's hands; `None` where it is not there.
@@ -80,7 +81,7 @@ pub trait OwnedBuffers: CallLayer<BufferLaw> {
     /// Requires: the machine's holder acts for some CPU, and the buffer is there.
     fn owner_in(m: &Self::Machine, b: BufId) -> Option<Option<Tid>>
         requires acts { (c : CpuId) × Self.ActsFor m.now c }
-        requires buffer { b.0 < length (Self.caps m.now) }
+        requires buffer { b.0 < length (caps_in (Self.opening m.now)) }
         ensures { result ≡ owner_at m.now b };
 
     /// The same of a block in this CPU's hands; `None` where it is not there.
@@ -93,7 +94,7 @@ pub trait OwnedBuffers: CallLayer<BufferLaw> {
     /// Requires: the machine's holder acts for some CPU, and the buffer is there.
     fn wait_list_in(m: &Self::Machine, b: BufId, t: Tid) -> Option<WaitList>
         requires acts { (c : CpuId) × Self.ActsFor m.now c }
-        requires buffer { b.0 < length (Self.caps m.now) }
+        requires buffer { b.0 < length (caps_in (Self.opening m.now)) }
         ensures { result ≡ option_and_then (wait_list_among t) (wait_lists_at m.now b) };
 
     /// The same of a block in this CPU's hands; `None` where it is not there.
@@ -118,20 +119,20 @@ pub trait OwnedBuffers: CallLayer<BufferLaw> {
 
     /// Law: the items that the machine or a part tells of a buffer are those that the effects leave
     /// in it.
-    ghost items: { (m : Self.Machine) (c : CpuId) (b : BufId) → Self.ActsFor m c → b.0 < length (Self.caps m)
+    ghost items: { (m : Self.Machine) (c : CpuId) (b : BufId) → Self.ActsFor m c → b.0 < length (caps_in (Self.opening m))
         → IsObservedAs (λ (p : Self). Self.Fits p m) (λ p. Self.cpu_of p) (Self.MayHold m)
         (λ p. items_with p b) (items_at m b)
-        (items_of (contents_of (Self.caps m) (Self.seen m)) b.0) };
+        (items_of (contents_of (caps_in (Self.opening m)) (Self.seen m)) b.0) };
 
     /// Law: what the machine or a part tells of whether a buffer is closed is what the effects say.
-    ghost closed: { (m : Self.Machine) (c : CpuId) (b : BufId) → Self.ActsFor m c → b.0 < length (Self.caps m)
+    ghost closed: { (m : Self.Machine) (c : CpuId) (b : BufId) → Self.ActsFor m c → b.0 < length (caps_in (Self.opening m))
         → IsObservedAs (λ (p : Self). Self.Fits p m) (λ p. Self.cpu_of p) (Self.MayHold m)
         (λ p. closed_with p b) (closed_at m b)
         (is_closed (Self.seen m) b.0) };
 
     /// Law: the owner that the machine or a part tells of a buffer's lock is the one that its last
     /// section left.
-    ghost owners: { (m : Self.Machine) (c : CpuId) (b : BufId) → Self.ActsFor m c → b.0 < length (Self.caps m)
+    ghost owners: { (m : Self.Machine) (c : CpuId) (b : BufId) → Self.ActsFor m c → b.0 < length (caps_in (Self.opening m))
         → IsObservedAs (λ (p : Self). Self.Fits p m) (λ p. Self.cpu_of p) (Self.MayHold m)
         (λ p. owner_with p b) (owner_at m b)
         (owner m b) };
@@ -143,13 +144,13 @@ pub trait OwnedBuffers: CallLayer<BufferLaw> {
 
     /// Law: where a poll is one action, what a buffer holds and may hold, and whether it is closed, is
     /// what the sections of the actions leave in its lock.
-    ghost items_are: { Self.IsStepwise → (m : Self.Machine) (c : CpuId) (b : BufId) → Self.ActsFor m c → b.0 < length (Self.caps m)
-        → ItemsAre (Self.opening m) (Self.acts m) b (items_of (contents_of (Self.caps m) (Self.seen m)) b.0) (slice_index (Self.caps m) b.0)
-        (is_closed (Self.seen m) b.0) };
+    ghost items_are: { Self.IsStepwise → (m : Self.Machine) (c : CpuId) (b : BufId) → Self.ActsFor m c → b.0 < length (caps_in (Self.opening m))
+        → ItemsAre (Self.opening m) (Self.acts m) b (items_of (contents_of (caps_in (Self.opening m)) (Self.seen m)) b.0)
+        (slice_index (caps_in (Self.opening m)) b.0) (is_closed (Self.seen m) b.0) };
 
     /// Law: the waiting lists that the machine or a part tells of a buffer are those that its last
     /// section left.
-    ghost waiters_law: { (m : Self.Machine) (c : CpuId) (b : BufId) → Self.ActsFor m c → b.0 < length (Self.caps m)
+    ghost waiters_law: { (m : Self.Machine) (c : CpuId) (b : BufId) → Self.ActsFor m c → b.0 < length (caps_in (Self.opening m))
         → IsObservedAs (λ (p : Self). Self.Fits p m) (λ p. Self.cpu_of p) (Self.MayHold m)
         (λ p. wait_lists_with p b) (wait_lists_at m b)
         (Self.wait_lists m b) };
