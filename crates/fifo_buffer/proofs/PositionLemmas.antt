@@ -1,6 +1,7 @@
 -- A line's counter counts the threads that entered it.
 use Rattle.std.proofs.Common.{◌≡◌, ℕ, ◌+◌, ◌<◌, ◌%◌, ◌^◌, Bool, true, false, not, ◌&&◌, List, [], ◌∷◌, length, Option, Some, option_map, if◌then◌else◌, get_or}
 use Rattle.std.proofs.{Common.{refl, ap, sym, ◌∙◌, arith, lt-ltb}, lemmas.Option.{slice_get_within, slice_get-get_or}}
+use Rattle.layer_traits.specs.Capacities.{caps_in}
 use Rattle.event_log.specs.{declared.ids.{BufId.BufId, CpuId.CpuId, LockId.{LockId, TheVariants.Buffer}, Tid.Tid, TheConstants.THREADS}, History.IsLawful}
 use Rattle.{event_log.{specs.{History.same_lock, Messages.Message}, proofs.Same.same_lock_true}, layer_traits.specs.declared.buffer_edits.BufferEdit.BufferEdit}
 use Rattle.layer_traits.specs.declared.{locked.Side.Side, queue_edits.QueueBlock.QueueBlock, queues.QueueCall.{QueueCall, TheVariants.{Push, TakeAll}}}
@@ -8,7 +9,7 @@ use Rattle.layer_traits.specs.{declared.queues.QueueCall.TheVariants.OnBuffer, B
 use Rattle.layer_traits.specs.{BufferProtocol.{IsDue, buffer_at, buffer_monitor_rules, buffer_rules}, Conditions.{CvCall, cv_rules}, QLockLaw.lock_kernel}
 use Rattle.layer_traits.specs.{QLocking.{asked, lock_caller, lock_edited}, Places.home_of, Protocol.section, QueueBlocks.{StartsWell, homes_in, inner}}
 use Rattle.layer_traits.specs.{Queues.{QueueAllowed, buffer_sections, with_section}, BufferBlocks.{BufferState, counted, entered, may_join, drawn_of, put_in}}
-use Rattle.{layer_traits.specs.BufferBlocks.{shut, taken_out}, thread_blocks.specs.Queues.is_in, fifo_buffer.specs.FifoFits.{BootsSo, caps_in}}
+use Rattle.{layer_traits.specs.BufferBlocks.{shut, taken_out}, thread_blocks.specs.Queues.is_in, fifo_buffer.specs.FifoFits.{BootsSo}}
 use Rattle.fifo_buffer.specs.{Laws.OwnedLaws.found, Positions.{PositionsAreCounts, enters, entries_of}, Stances.same_side, SectionPolls.BufferEvent}
 
 -- one more thread entered, or none

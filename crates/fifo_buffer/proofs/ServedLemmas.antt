@@ -2,6 +2,7 @@
 use Rattle.std.proofs.Common.{◌≡◌, ℕ, ◌<◌, Bool, true, false, ◌&&◌, List, [], ◌∷◌, ◌++◌, length, Option, Some, None, option_map, if◌then◌else◌}
 use Rattle.std.proofs.Common.{refl, ap, sym, ◌∙◌, subst, arith, get_or, append_assoc, option_to_list}
 use Rattle.std.proofs.lemmas.{Option.{slice_get-get_or, same_Some}}
+use Rattle.layer_traits.specs.Capacities.{caps_in}
 use Rattle.event_log.specs.{declared.{entries.Entry.Entry, ids.{BufId.BufId, CpuId.CpuId, LockId.{LockId, TheVariants.Buffer}, Tid.Tid, TheConstants.THREADS}}}
 use Rattle.event_log.{specs.{History.{IsLawful, same_lock}, Messages.Message}, proofs.Same.same_lock_true}
 use Rattle.layer_traits.specs.declared.{buffer_edits.BufferEdit.{BufferEdit, TheVariants.{Enter, TryPut, TryTake, Shut}}, queue_edits.QueueBlock.QueueBlock}
@@ -14,7 +15,7 @@ use Rattle.layer_traits.specs.BufferProtocol.{BufferLock, BufferSection, IsDue, 
 use Rattle.layer_traits.specs.{BufferProtocol.buffer_rules, Conditions.{CvCall, cv_rules}, QLockLaw.lock_kernel, QLocking.{asked, lock_caller, lock_edited}}
 use Rattle.layer_traits.specs.{Protocol.section, QueueBlocks.{StartsWell, inner}, Queues.{QueueAllowed, buffer_sections, with_section}}
 use Rattle.layer_traits.specs.BufferBlocks.{BufferState, entered, is_first, is_next, line_of, may_join, shut}
-use Rattle.{thread_blocks.{specs.Queues.rest, proofs.Members.same_tid_true}, fifo_buffer.specs.{FifoFits.{BootsSo, caps_in}, Laws.OwnedLaws.found}}
+use Rattle.{thread_blocks.{specs.Queues.rest, proofs.Members.same_tid_true}, fifo_buffer.specs.{FifoFits.{BootsSo}, Laws.OwnedLaws.found}}
 use Rattle.fifo_buffer.{specs.{Positions.enters, SectionPolls.BufferEvent, Served.{FirstComeFirstServed, group_on, joined, served}, Stances.same_side}}
 use Rattle.fifo_buffer.proofs.PositionLemmas.{joins_now, small_home}
 

@@ -3,12 +3,8 @@ use Rattle.std.specs.Prelude.{◌≡◌, ℕ, List, Option}
 use Rattle.{event_log.specs.declared.ids.{CpuId.CpuId, LockId.LockId, Tid.Tid}, layer_traits.specs.declared.buffer_edits.BufferEdit.BufferEdit}
 use Rattle.layer_traits.specs.declared.{buffer_edits.BufferOut.BufferOut, queue_edits.QueueBlock.QueueBlock, scheds.SchedCall.SchedCall}
 use Rattle.layer_traits.specs.{declared.call_states.CallState.CallState, BufferEffects.opening_locks, BufferProtocol.BufferLock, Conditions.CvCall}
-use Rattle.layer_traits.specs.{CvLaw.Waiting, QueueBlocks.{homes_in, inner}, Queues.buffer_sections, Capacities.caps_from}
+use Rattle.layer_traits.specs.{CvLaw.Waiting, QueueBlocks.{homes_in, inner}, Queues.buffer_sections, Capacities.caps_in}
 use Rattle.fifo_buffer.specs.SectionPolls.{BufferEvent, CallsFit, Sizes}
-
--- the capacities of the buffers: a buffer's number is less than 256
-unfoldable pub caps_in : (LockId → Option (QueueBlock BufferLock)) → List ℕ
-caps_in opening = caps_from (λ (lock : BufferLock). lock.above.capacity) 256 0 (inner opening)
 
 -- the machine opened with a fresh lock round each buffer
 abbrev pub BootsSo : (LockId → Option (QueueBlock BufferLock)) → Type 0

@@ -1,6 +1,7 @@
 //! First-in first-out buffers.
 
 ghost use Rattle.std.specs.Prelude.{◌≡◌, ◌<◌, [], Bool, Some, None, IsSome, refl, slice_set, if◌then◌else◌};
+ghost use Rattle.layer_traits.specs.Capacities.{caps_in};
 ghost use Rattle.{event_log.specs.declared.ids.{LockId.TheVariants.Buffer, TheConstants.THREADS}, layer_traits.specs.BufferLaw.{answer_in, buffer_of}};
 ghost use Rattle.layer_traits.specs.{BufferLaw.{buffering, going, plan_of, replied, call_state_of}, BufferProtocol.buffer_rules, Framed.Framed};
 ghost use Rattle.layer_traits.specs.{QLocking.{lock_moves, lock_rules}, QLockLaw.{is_handed, slept_for}, Plans.{Follows, table_of}, QueueBlocks.homes_in};
@@ -119,14 +120,10 @@ impl<C: ThreadLayer<CvLaw<BufferEdit>>> CallLayer<BufferLaw> for Fifo<C> {
     ghost use Rattle.{std.proofs.Common.ap, event_log.specs.declared.ids.LockId.TheVariants.{Buffer, Pending}, layer_traits.proofs.ActedLemmas.moves_read};
     ghost use Rattle.layer_traits.specs.{BufferEffects.{effects_in, opening_locks}, BufferLaw.buffering, Laws.Openings.opens_so};
     ghost use Rattle.layer_traits.specs.{BufferProtocol.buffer_monitor_rules, Conditions.cv_rules, QLockLaw.lock_kernel, QLocking.{wait_list_in, lock_after}};
-    ghost use Rattle.{layer_traits.specs.{QueueBlocks.inner, Queues.{buffer_sections, moves_in}}, fifo_buffer.specs.FifoFits.{BootsSo, PartFits, caps_in}};
+    ghost use Rattle.{layer_traits.specs.{QueueBlocks.inner, Queues.{buffer_sections, moves_in}}, fifo_buffer.specs.FifoFits.{BootsSo, PartFits}};
     ghost use Rattle.fifo_buffer.specs.{Laws.FifoLaws.{fifo_lawful, fifo_wait_lists, none_under}, SectionPolls.under_way_at};
 
     type Machine = C::Machine;
-
-    ghost caps = { λ m. caps_in (C.opening m) };
-
-    ghost homes_of = { λ m. homes_in (C.opening m) };
 
     ghost seen = { λ m. effects_in (inner (C.opening m)) (buffer_sections (C.seen m)) };
 
@@ -150,10 +147,6 @@ impl<C: ThreadLayer<CvLaw<BufferEdit>>> CallLayer<BufferLaw> for Fifo<C> {
     ghost MayHold = { λ m c. C.MayHold m c };
 
     ghost cpu_of = { λ p. C.cpu_of p.lower };
-
-    ghost threads = { λ p. (C.own p.lower).lock.sleep.threads };
-
-    ghost call_states = { λ p. p.call_states.call_states };
 
     ghost is_inside = { λ p. C.is_inside p.lower };
 
@@ -280,10 +273,6 @@ impl<C: ThreadLayer<CvLaw<BufferEdit>>> CallLayer<BufferLaw> for Fifo<C> {
 
     ghost lists = { λ p m fits. fifo_wait_lists (C.opening m) (C.seen m) fits.1.boots (C.stands p.lower m fits.0).lists };
 
-    ghost reads_own = { λ p. (refl, refl) };
-
-    ghost reads_homes = { λ m. refl };
-
     ghost starts = { λ m c acts. C.opens m c acts.0 };
 
     ghost legal = { λ m c acts. C.legal m c acts.0 };
@@ -305,7 +294,7 @@ impl<C: OwnedThreadLayer<CvLaw<BufferEdit>>> OwnedBuffers for Fifo<C> {
     ghost use Rattle.{std.specs.Prelude.option_map, event_log.specs.{Buffers.items_of, Runs.is_closed}, layer_traits.proofs.ActedLemmas.owner_by_acts};
     ghost use Rattle.layer_traits.specs.{BufferEffects.{contents_of, effects_in}, BufferProtocol.buffer_monitor_rules, Conditions.cv_rules};
     ghost use Rattle.layer_traits.specs.{QLockLaw.lock_kernel, QLocking.{wait_list_in, owner_in}, Places.pending_by, QueueBlocks.inner, Queues.buffer_sections};
-    ghost use Rattle.{layer_traits.specs.Queues.moves_in, fifo_buffer.specs.{FifoFits.caps_in, Laws.OwnedLaws.{block_there, closed_read, effects_known}}};
+    ghost use Rattle.{layer_traits.specs.Queues.moves_in, fifo_buffer.specs.{Laws.OwnedLaws.{block_there, closed_read, effects_known}}};
     ghost use Rattle.fifo_buffer.specs.{Laws.OwnedLaws.{items_acted, items_read, wait_lists_read, lock_read, owner_read, queue_read}, OwnedLaws.closed_of};
     ghost use Rattle.fifo_buffer.specs.OwnedLaws.{items_in, wait_lists_of, buffer_lock_of, owner_of};
 

@@ -1,6 +1,7 @@
 -- What the conditions beneath tell of their locks, the buffers tell of their items, owners and waiting lists.
 use Rattle.std.proofs.Common.{◌≡◌, ◌<◌, List, [], ◌∷◌, ◌++◌, length, map, Option, Some, None, IsSome, option_map, option_to_list}
 use Rattle.std.{proofs.{Common.{slice_index, refl, ap, sym, ◌∙◌, subst}, lemmas.Option.slice_get-get_or}, specs.List.AllByRecursion}
+use Rattle.layer_traits.specs.Capacities.{caps_in}
 use Rattle.event_log.specs.declared.{entries.Entry.Entry, ids.{BufId.BufId, CpuId.CpuId, LockId.{LockId, TheVariants.Buffer}, Tid.Tid, TheConstants.CPUS}}
 use Rattle.event_log.specs.{Buffers.items_of, History.IsLawful, Runs.is_closed, Sections.sections_in}
 use Rattle.layer_traits.specs.declared.{buffer_edits.BufferEdit.BufferEdit, moves.WaitList.WaitList, queue_edits.QueueBlock.QueueBlock}
@@ -10,7 +11,7 @@ use Rattle.layer_traits.specs.{BufferProtocol.buffer_monitor_rules, Conditions.{
 use Rattle.layer_traits.specs.{QLocking.{lock_edited, owner_in}, Owned.IsObserved, Protocol.section, QueueBlocks.{StartsWell, above_of, inner}}
 use Rattle.layer_traits.specs.{QueueRules.AreProper, Queues.{IsKnownEvent, QueueAllowed, buffer_sections, event_of, with_section}, Observed.IsObservedAs}
 use Rattle.layer_traits.proofs.{Alone.block_there as stays_there, ActedLemmas.lock_is, OwnedLemmas.{shown_under, observed_as, viewed_shown}}
-use Rattle.fifo_buffer.specs.{FifoFits.{BootsSo, caps_in}, Laws.Tallies.{all_tallied, effect_position}, OwnedLaws.{buffer_lock_of, closed_of, items_in}}
+use Rattle.fifo_buffer.specs.{FifoFits.{BootsSo}, Laws.Tallies.{all_tallied, effect_position}, OwnedLaws.{buffer_lock_of, closed_of, items_in}}
 use Rattle.fifo_buffer.specs.{OwnedLaws.{owner_of, wait_lists_of}, SectionPolls.BufferEvent}
 
 module _ (opening : LockId → Option (QueueBlock BufferLock)) (boots : BootsSo opening) (b : BufId) (within : b.0 < length (caps_in opening)) where

@@ -1,40 +1,36 @@
-use Rattle.std.proofs.Common.{[], refl}
+use Rattle.std.proofs.Common.{[], refl, rules}
 use Rattle.{layer_traits.specs.QueueBlocks.inner, fifo_buffer.proofs.{Frames.framed_over, Parts.{moves_grown, part_grown, seen_grown}}}
 use Rattle.fifo_buffer.proofs.fifo.FifoCallLayerBufferLaw.look.Goals as goal
 
-pub returns-clause-seen : goal.returns-clause-seen
-returns-clause-seen g c =
-    let C = g.C.ThreadLayer in
-    let m = c.args.m.now in
-    let grown = c.look.ensures.seen in
-    rw c.look.ensures.framed.stays.opening
-    (seen_grown (λ d. C.ActsFor m d) _ (inner (C.opening m)) grown.others (C.seen m) (C.seen c.look.new.m) (λ d both. both.0) grown.foreign grown.is)
-
-pub returns-clause-moves : goal.returns-clause-moves
-returns-clause-moves g c =
-    let C = g.C.ThreadLayer in
-    let m = c.args.m.now in
-    let grown = c.look.ensures.seen in
-    rw c.look.ensures.framed.stays.opening
-    (moves_grown (C.opening m) (λ d. C.ActsFor m d) _ (C.cpu_of c.args.self.now.lower) [] grown.others (C.seen m) (C.seen c.look.new.m)
-    (λ d both. both.0) grown.foreign tt grown.is)
-
-pub returns-clause-framed : goal.returns-clause-framed
-returns-clause-framed g c =
+pub returns : goal.returns
+returns g c =
     let C = g.C.ThreadLayer in
     let law = g.met.C.ThreadLayer in
     let m = c.args.m.now in
+    let n = c.look.new.m in
     let p = c.args.self.now in
     let cpu = C.cpu_of p.lower in
     let framed = c.look.ensures.framed in
     let grown = c.look.ensures.seen in
     let acts = law.own_cpu p.lower m c.requires.fits.0 in
-    let lawful = rw framed.stays.opening at (law.lawful c.look.new.m cpu (framed.stays.acts cpu acts)) in
-    framed_over _ framed refl refl
-    (rw (framed.stays.opening, framed.cpu, c.look.ensures.own, c.look.ensures.call)
-    (part_grown (C.opening m) cpu grown.others (C.seen m) (C.seen c.look.new.m) (grown.foreign cpu acts) lawful grown.is
-    (C.own p.lower) p.call_states.call_states (C.under_way p.lower) p.calling c.requires.fits.1))
-    (λ q other fits part. rw framed.stays.opening
-    (part_grown (C.opening m) (C.cpu_of q.lower) grown.others (C.seen m) (C.seen c.look.new.m)
-    (grown.foreign (C.cpu_of q.lower) (law.own_cpu q.lower m fits)) lawful grown.is (C.own q.lower) q.call_states.call_states
-    (C.under_way q.lower) q.calling part))
+    let lawful = rw framed.stays.opening at (law.lawful n cpu (framed.stays.acts cpu acts)) in
+    record {
+      still = search rules;
+      waits = search rules;
+      framed = framed_over _ framed refl refl
+          (rw (framed.stays.opening, framed.cpu, c.look.ensures.own, c.look.ensures.call)
+          (part_grown (C.opening m) cpu grown.others (C.seen m) (C.seen n) (grown.foreign cpu acts) lawful grown.is
+          (C.own p.lower) p.call_states.call_states (C.under_way p.lower) p.calling c.requires.fits.1))
+          (λ q other fits part. rw framed.stays.opening
+          (part_grown (C.opening m) (C.cpu_of q.lower) grown.others (C.seen m) (C.seen n)
+          (grown.foreign (C.cpu_of q.lower) (law.own_cpu q.lower m fits)) lawful grown.is (C.own q.lower) q.call_states.call_states
+          (C.under_way q.lower) q.calling part));
+      own = search rules;
+      inside = search rules;
+      under_way = search rules;
+      seen = rw framed.stays.opening
+          (seen_grown (λ d. C.ActsFor m d) _ (inner (C.opening m)) grown.others (C.seen m) (C.seen n) (λ d both. both.0) grown.foreign grown.is);
+      moves = rw framed.stays.opening
+          (moves_grown (C.opening m) (λ d. C.ActsFor m d) _ cpu [] grown.others (C.seen m) (C.seen n) (λ d both. both.0) grown.foreign tt grown.is);
+      tries = search rules;
+    }

@@ -1,4 +1,4 @@
-use Rattle.std.proofs.Common.{◌≡◌, ◌≢◌, ◌∙◌, List, ap, sym, subst, refl, true, false, Option, Some, inl, inr, ◌⊎◌, None, if◌then◌else◌, IsSome, slice_set}
+use Rattle.std.proofs.Common.{rules, ◌≡◌, ◌≢◌, ◌∙◌, List, ap, sym, subst, refl, true, false, Option, Some, inl, inr, ◌⊎◌, None, if◌then◌else◌, IsSome, slice_set}
 use Rattle.{std.proofs.Common.arith, event_log.specs.declared.ids.{CpuId.CpuId, LockId.TheVariants.Buffer, Tid.Tid}}
 use Rattle.layer_traits.specs.{declared.{calls.Reply.Reply, call_states.{Stage.Stage, CallState.CallState}}, BufferLaw.{Buffering, answer_in, buffer_of}}
 use Rattle.layer_traits.specs.{BufferLaw.{buffering, fifo_plan, going, plan_of, replied, call_state_of}, BufferProtocol.buffer_rules, Framed.Framed}
@@ -214,7 +214,7 @@ sections-preserved g c =
 -- the poll's last section
 module _ (g : Over) (c : After-complete g) where
   abbrev at : Start g
-  at = (goal.at.returns-in-sections-clause-framed g c).Start
+  at = (goal.at.returns-in-sections g c).Start
 
   abbrev states : List CallState
   states = c.sections.self.call_states.call_states
@@ -267,84 +267,85 @@ module _ (g : Over) (c : After-complete g) where
   apart : (u : Tid) → u.0 ≢ c.args.t.0 → call_state_of states1 u ≡ call_state_of c.args.self.now.call_states.call_states u
   apart u other = apart1 g at c.sections.self c.match-stage.self c.match-stage.m c.match-stage.polled did u other ∙ c.sections.invariant.on.apart u other
 
-pub returns-in-sections-clause-moves : goal.returns-in-sections-clause-moves
-returns-in-sections-clause-moves g c =
-    let C = g.C.ThreadLayer in
-    let m = c.args.m.now in
-    let polled = (did g c).polled in
-    rw (opens g c) (moves_grown (C.opening m) (λ d. C.ActsFor m d) _ (C.cpu_of c.args.self.now.lower) polled.mine polled.others
-    (C.seen m) (C.seen c.match-stage.m) (λ d both. both.0) polled.foreign polled.own_events polled.is)
-
-pub returns-in-sections-clause-framed : goal.returns-in-sections-clause-framed
-returns-in-sections-clause-framed g c =
-    let C = g.C.ThreadLayer in
-    let law = g.met.C.ThreadLayer in
-    let m = c.args.m.now in
-    let m1 = c.match-stage.m in
-    let cpu = C.cpu_of c.args.self.now.lower in
-    let before = c.sections.invariant in
-    let did = did g c in
-    let polled = did.polled in
-    let lawful = rw (opens g c) at (law.lawful m1 cpu (did.framed.stays.acts cpu (law.own_cpu c.args.self.now.lower m c.requires.fits.0))) in
-    framed_over _ did.framed before.cpu c.complete.ensures.lower
-    (rw (c.complete.ensures.lower, c.complete.ensures.call_states, c.complete.ensures.calling, (opens g c), did.cpu)
-    (record {
-      boots = c.requires.fits.1.boots;
-      sizes = sizes_of (last g c) (states g c) (states1 g c) did.states_are before.on.sizes;
-      calls = finish (last g c) (home g (at g c)) before.on.may.called (states g c) (states1 g c) refl (same g c) before.on.others
-          (answer g c) (replies g c);
-    }))
-    (λ q other fits part. rw (opens g c)
-    (other_part (C.opening m) cpu (C.cpu_of q.lower) other polled.mine polled.others (C.seen m) (C.seen m1) polled.own_events
-    (polled.foreign (C.cpu_of q.lower) (law.own_cpu q.lower m fits)) polled.is lawful (C.own q.lower) q.call_states.call_states
-    (C.under_way q.lower) q.calling part))
-
-pub returns-in-sections-clause-called : goal.returns-in-sections-clause-called
-returns-in-sections-clause-called g c there =
-    let C = g.C.ThreadLayer in
-    let m = c.args.m.now in
-    let before = c.sections.invariant in
-    rw (opens g c, c.complete.ensures.call_states)
-    (called_by (last g c) (home g (at g c)) before.on.may.called (states g c) (states1 g c) refl (same g c) _ (λ d both. both.0)
-    c.args.self.now.call_states.call_states before.on.effect (apart g c)
-    (in_call g c) (answer g c) (replies g c))
-
-pub returns-in-sections-clause-follows : goal.returns-in-sections-clause-follows
-returns-in-sections-clause-follows g c stepwise =
-    let C = g.C.ThreadLayer in
-    let m = c.args.m.now in
-    let p = c.args.self.now in
-    let cpu = C.cpu_of p.lower in
-    let t = c.args.t in
-    let call = c.args.call.now in
-    let homes = homes_in (C.opening m) in
-    let O = inner (C.opening m) in
-    let before = c.sections.invariant in
-    let m1 = c.match-stage.m in
-    let did = did g c in
-    let went = went g c in
-    let Acts0 : CpuId → Type 0 = λ d. C.ActsFor m d in
-    let table = table_of (queue_rules (lock_rules buffer_rules) (lock_moves buffer_rules)) in
-    let got : Left Buffering Reply = record {
-      own = buffering (C.own c.match-stage.self.lower) (states1 g c);
-      answer = if c.match-stage.polled.ended then replied call went went.stage else None;
-    } in
-    let handed = is_handed (C.own c.sections.self.lower).lock.slept (C.own c.sections.self.lower).lock.sleep.threads.current in
-    let marks = marks_of O (buffer_sections (C.seen m)) t call went (C.own c.sections.self.lower) (C.under_way c.sections.self.lower) before.on.may.goes in
-    let alone : c.sections.first ≡ true
-    → ((c.match-stage.polled.ended ≡ true) × (is_at_once went.stage handed ≡ false)) ⊎ (c.match-stage.polled.ended ≡ false)
-    → Follows Acts0 table (C.opening m) cpu (fifo_plan homes cpu t call (buffering (C.own p.lower) p.call_states.call_states)) (C.acts m) (C.acts m1) got
-    = λ is exits.
-    let free = exit_free (last g c) handed marks exits before.on.may.current refl in
-    subst (λ (o : Buffering). Follows Acts0 table (C.opening m) cpu (fifo_plan homes cpu t call o) (C.acts m) (C.acts m1) got) (rw is at before.begins)
-    (one_follows Acts0 table (C.opening m) cpu homes t call went.stage went
-    (buffering (C.own c.sections.self.lower) (states g c)) (C.acts m) (C.acts m1) got (in_call g c) free.0 free.1 (did.followed stepwise)) in
-    let done : Follows Acts0 table (C.opening m) cpu (fifo_plan homes cpu t call (buffering (C.own p.lower) p.call_states.call_states)) (C.acts m)
-    (C.acts m1) got = elim c.else-first.branch [
-      | else-first-via-then-first+then-polled+else-polled-2 w ↦ alone w.if-first.true (inl (w.if-polled.true, sym did.again_is ∙ w.if-polled-2.false))
-      | else-first-via-then-first+else-polled w ↦ alone w.if-first.true (inr w.if-polled.false)
-      | else-first-via-else-first w ↦ (rw w.if-first.false at before.follows) stepwise (C.acts m1) got (did.followed stepwise)
-    ] in
-    rw (c.complete.ensures.lower, c.complete.ensures.call_states, (replies g c))
-    (follows_for Acts0 _ (λ d both. both.0) table (C.opening m) cpu
-    (fifo_plan homes cpu t call (buffering (C.own p.lower) p.call_states.call_states)) (C.acts m) (C.acts m1) got done)
+-- what the whole poll did
+pub returns-in-sections : goal.returns-in-sections
+returns-in-sections g c = record {
+  nothing = λ none. let there = c.requires.there in absurd (omega (arith, none, there));
+  called = λ there.
+      let C = g.C.ThreadLayer in
+      let m = c.args.m.now in
+      let before = c.sections.invariant in
+      rw (opens g c, c.complete.ensures.call_states)
+      (called_by (last g c) (home g (at g c)) before.on.may.called (states g c) (states1 g c) refl (same g c) _ (λ d both. both.0)
+      c.args.self.now.call_states.call_states before.on.effect (apart g c)
+      (in_call g c) (answer g c) (replies g c));
+  runs = search rules;
+  under_way = search rules;
+  moves =
+      let C = g.C.ThreadLayer in
+      let m = c.args.m.now in
+      let polled = (did g c).polled in
+      rw (opens g c) (moves_grown (C.opening m) (λ d. C.ActsFor m d) _ (C.cpu_of c.args.self.now.lower) polled.mine polled.others
+      (C.seen m) (C.seen c.match-stage.m) (λ d both. both.0) polled.foreign polled.own_events polled.is);
+  prompt = λ whole. absurd whole;
+  framed =
+      let C = g.C.ThreadLayer in
+      let law = g.met.C.ThreadLayer in
+      let m = c.args.m.now in
+      let m1 = c.match-stage.m in
+      let cpu = C.cpu_of c.args.self.now.lower in
+      let before = c.sections.invariant in
+      let did = did g c in
+      let polled = did.polled in
+      let lawful = rw (opens g c) at (law.lawful m1 cpu (did.framed.stays.acts cpu (law.own_cpu c.args.self.now.lower m c.requires.fits.0))) in
+      framed_over _ did.framed before.cpu c.complete.ensures.lower
+      (rw (c.complete.ensures.lower, c.complete.ensures.call_states, c.complete.ensures.calling, (opens g c), did.cpu)
+      (record {
+        boots = c.requires.fits.1.boots;
+        sizes = sizes_of (last g c) (states g c) (states1 g c) did.states_are before.on.sizes;
+        calls = finish (last g c) (home g (at g c)) before.on.may.called (states g c) (states1 g c) refl (same g c) before.on.others
+            (answer g c) (replies g c);
+      }))
+      (λ q other fits part. rw (opens g c)
+      (other_part (C.opening m) cpu (C.cpu_of q.lower) other polled.mine polled.others (C.seen m) (C.seen m1) polled.own_events
+      (polled.foreign (C.cpu_of q.lower) (law.own_cpu q.lower m fits)) polled.is lawful (C.own q.lower) q.call_states.call_states
+      (C.under_way q.lower) q.calling part));
+  follows = λ stepwise.
+      let C = g.C.ThreadLayer in
+      let m = c.args.m.now in
+      let p = c.args.self.now in
+      let cpu = C.cpu_of p.lower in
+      let t = c.args.t in
+      let call = c.args.call.now in
+      let homes = homes_in (C.opening m) in
+      let O = inner (C.opening m) in
+      let before = c.sections.invariant in
+      let m1 = c.match-stage.m in
+      let did = did g c in
+      let went = went g c in
+      let Acts0 : CpuId → Type 0 = λ d. C.ActsFor m d in
+      let table = table_of (queue_rules (lock_rules buffer_rules) (lock_moves buffer_rules)) in
+      let got : Left Buffering Reply = record {
+        own = buffering (C.own c.match-stage.self.lower) (states1 g c);
+        answer = if c.match-stage.polled.ended then replied call went went.stage else None;
+      } in
+      let handed = is_handed (C.own c.sections.self.lower).lock.slept (C.own c.sections.self.lower).lock.sleep.threads.current in
+      let marks = marks_of O (buffer_sections (C.seen m)) t call went (C.own c.sections.self.lower) (C.under_way c.sections.self.lower) before.on.may.goes in
+      let alone : c.sections.first ≡ true
+      → ((c.match-stage.polled.ended ≡ true) × (is_at_once went.stage handed ≡ false)) ⊎ (c.match-stage.polled.ended ≡ false)
+      → Follows Acts0 table (C.opening m) cpu (fifo_plan homes cpu t call (buffering (C.own p.lower) p.call_states.call_states)) (C.acts m) (C.acts m1) got
+      = λ is exits.
+      let free = exit_free (last g c) handed marks exits before.on.may.current refl in
+      subst (λ (o : Buffering). Follows Acts0 table (C.opening m) cpu (fifo_plan homes cpu t call o) (C.acts m) (C.acts m1) got) (rw is at before.begins)
+      (one_follows Acts0 table (C.opening m) cpu homes t call went.stage went
+      (buffering (C.own c.sections.self.lower) (states g c)) (C.acts m) (C.acts m1) got (in_call g c) free.0 free.1 (did.followed stepwise)) in
+      let done : Follows Acts0 table (C.opening m) cpu (fifo_plan homes cpu t call (buffering (C.own p.lower) p.call_states.call_states)) (C.acts m)
+      (C.acts m1) got = elim c.else-first.branch [
+        | else-first-via-then-first+then-polled+else-polled-2 w ↦ alone w.if-first.true (inl (w.if-polled.true, sym did.again_is ∙ w.if-polled-2.false))
+        | else-first-via-then-first+else-polled w ↦ alone w.if-first.true (inr w.if-polled.false)
+        | else-first-via-else-first w ↦ (rw w.if-first.false at before.follows) stepwise (C.acts m1) got (did.followed stepwise)
+      ] in
+      rw (c.complete.ensures.lower, c.complete.ensures.call_states, (replies g c))
+      (follows_for Acts0 _ (λ d both. both.0) table (C.opening m) cpu
+      (fifo_plan homes cpu t call (buffering (C.own p.lower) p.call_states.call_states)) (C.acts m) (C.acts m1) got done);
+}

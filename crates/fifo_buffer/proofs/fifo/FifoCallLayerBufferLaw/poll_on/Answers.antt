@@ -31,7 +31,7 @@ module _ (g : Over) (c : Start g) (actions : ℕ) (p : Fifo g.row.C.Denot) (m : 
     goes_on = c.requires.goes_on;
   })
 
-  left_so_far : (g.C.ThreadLayer.room c.args.m.now ≤ g.C.ThreadLayer.room m + actions) × ((tells g).caps m ≡ (tells g).caps c.args.m.now)
+  left_so_far : (g.C.ThreadLayer.room c.args.m.now ≤ g.C.ThreadLayer.room m + actions) × (g.C.ThreadLayer.opening m ≡ g.C.ThreadLayer.opening c.args.m.now)
   left_so_far = left (tells g) plan c.args.t c.args.call.now c.args.self.now c.args.m.now actions p m so_far
 
   has_room : actions < c.args.most → 0 < g.C.ThreadLayer.room m
@@ -56,7 +56,7 @@ poll_kind-reply-requires g c =
 module _ (g : Over) (c : After-poll_kind-reply g) where
   polled : PolledAt (tells g) plan c.args.t c.args.call.now c.loop-actions.self c.loop-actions.m c.poll_kind-reply.new.self c.poll_kind-reply.new.m
       c.poll_kind-reply.result
-  polled = search rules
+  polled = c.poll_kind-reply.ensures
 
   ran : PolledOnAt (tells g) plan c.args.t c.args.call.now c.args.self.now c.args.m.now (c.loop-actions.actions + 1) c.poll_kind-reply.new.self
       c.poll_kind-reply.new.m c.poll_kind-reply.result
@@ -121,8 +121,9 @@ loop-actions-preserved g c =
 -- a look that was one
 module _ (g : Over) (c : Then-look g) (so_far : SoFar (tells g) plan c.args.t c.args.call.now c.args.self.now c.args.m.now
     (c.loop-actions.actions + 1) c.poll_kind-reply.new.self c.poll_kind-reply.new.m) where
-  looked : LookedAt (tells g) plan c.poll_kind-reply.new.self c.poll_kind-reply.new.m c.look.new.self c.look.new.m
-  looked = search rules
+  looked : LookedAt (tells g) plan true c.poll_kind-reply.new.self c.poll_kind-reply.new.m c.look.new.self c.look.new.m
+  looked = subst (λ told. LookedAt (tells g) plan told c.poll_kind-reply.new.self c.poll_kind-reply.new.m c.look.new.self c.look.new.m)
+      c.if-look.true c.look.ensures
 
   ran_looking : PolledOnAt (tells g) plan c.args.t c.args.call.now c.args.self.now c.args.m.now (c.loop-actions.actions + 1 + 1) c.look.new.self c.look.new.m
       None
@@ -164,4 +165,5 @@ returns-then-look-2-clause-polled_on g c =
     one_look (tells g) plan c.args.t c.args.call.now c.args.self.now c.args.m.now (c.loop-actions.actions + 1 + 1) c.look.new.self c.look.new.m
     c.look-then-look.new.self c.look-then-look.new.m
     (so_far_looking g at.Then-look (so_far_polled g at.Else-is_some-had (polled g at.After-poll_kind-reply))) (omega arith)
-    (search rules)
+    (subst (λ told. LookedAt (tells g) plan told c.look.new.self c.look.new.m c.look-then-look.new.self c.look-then-look.new.m) c.if-look-2.true
+    c.look-then-look.ensures)

@@ -1,16 +1,15 @@
 use Rattle.std.proofs.Common.{◌≡◌, [], ◌-◌, ◌<◌, IsSome}
+use Rattle.layer_traits.specs.Capacities.{caps_in}
 use Rattle.{event_log.specs.declared.ids.LockId.TheVariants.{Buffer, Pending}, layer_traits.specs.declared.call_layers.CallLayer.Ghosts}
 use Rattle.layer_traits.specs.{BufferEffects.{effects_in, opening_locks}, BufferLaw.{buffering, fifo_plan}, BufferProtocol.buffer_monitor_rules}
 use Rattle.layer_traits.specs.{Conditions.cv_rules, QLockLaw.lock_kernel, QLocking.{lock_after, wait_list_in}, QueueBlocks.{homes_in, inner}}
 use Rattle.{layer_traits.{specs.Queues.{buffer_sections, moves_in}, proofs.PollRunLemmas.SoFar}, fifo_buffer.specs.{declared.fifo.Fifo.Fifo, FifoFits.BootsSo}}
-use Rattle.fifo_buffer.{specs.{FifoFits.{PartFits, caps_in}, SectionPolls.under_way_at}, proofs.fifo.FifoCallLayerBufferLaw.poll_on.Given.Over}
+use Rattle.fifo_buffer.{specs.{FifoFits.{PartFits}, SectionPolls.under_way_at}, proofs.fifo.FifoCallLayerBufferLaw.poll_on.Given.Over}
 use Rattle.fifo_buffer.proofs.fifo.FifoCallLayerBufferLaw.poll_on.Given as goal
 
 -- what a part of buffers tells as a layer of calls
 abbrev pub tells : (g : Over) → Ghosts (Fifo g.row.C.Denot) (Unit {0}) g.row.C-Machine.Denot
 tells g = let C = g.C.ThreadLayer in record {
-  caps = λ m. caps_in (C.opening m);
-  homes_of = λ m. homes_in (C.opening m);
   seen = λ m. effects_in (inner (C.opening m)) (buffer_sections (C.seen m));
   moves = λ m. moves_in (lock_kernel (cv_rules buffer_monitor_rules) (C.opening m)) (C.seen m);
   wait_lists = λ m b line. wait_list_in line (lock_after (cv_rules buffer_monitor_rules) (inner (C.opening m)) (Buffer b) (buffer_sections (C.seen m)));
@@ -24,8 +23,6 @@ tells g = let C = g.C.ThreadLayer in record {
       × (inner (C.opening m) ≡ opening_locks (caps_in (C.opening m)));
   MayHold = λ m c. C.MayHold m c;
   cpu_of = λ p. C.cpu_of p.lower;
-  threads = λ p. (C.own p.lower).lock.sleep.threads;
-  call_states = λ p. p.call_states.call_states;
   is_inside = λ p. C.is_inside p.lower;
   under_way = λ p. under_way_at p.calling (C.under_way p.lower);
   Fits = λ p m. C.Fits p.lower m
