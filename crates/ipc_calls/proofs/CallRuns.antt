@@ -1,29 +1,26 @@
 -- Runs of polls of a call on a buffer that is there are runs of polls of the buffers beneath.
-use Rattle.std.proofs.{Common.{◌≡◌, ℕ, ◌<◌, List, Option, None, length, arith}, lemmas.Bool.lt-ltb}
+use Rattle.std.proofs.{Common.{◌≡◌, ℕ, ◌<◌, ◌≤◌, Bool, true, List, [], Option, Some, None, length, refl, ap, arith}, lemmas.Bool.{le-ltb, lt-ltb}}
+use Rattle.layer_traits.specs.Capacities.{caps_in}
 use Rattle.{event_log.specs.declared.ids.{CpuId.CpuId, Tid.Tid}, layer_traits.specs.declared.{call_layers.CallLayer.Ghosts, calls.{Call.Call, Reply.Reply}}}
-use Rattle.layer_traits.specs.{declared.calls.ReplyKind.ReplyKind, BufferLaw.{BufferPlan, Buffering, buffer_of, fifo_plan}, Framed.Framed, IpcLaw.ipc_plan}
+use Rattle.layer_traits.specs.{declared.calls.ReplyKind.{ReplyKind, TheVariants.NoBuffer as Refuses}, BufferLaw.{BufferPlan, Buffering, buffer_of, fifo_plan}, Framed.Framed, IpcLaw.ipc_plan, QueueBlocks.homes_in}
 use Rattle.layer_traits.{specs.{LayerPolls.{IsQuietAt, LookedAt, PolledAt, PolledOnAt}, PollRuns.{once, again, looks}}, proofs.PollRunLemmas.{Kept, kept}}
 use Rattle.ipc_calls.specs.{declared.ipc.Ipc.Ipc, Parts.KeepsPlan}
 
 -- what a part of message calls tells as a layer of calls, over a part of buffers
 abbrev pub tells : {P L M : Type 0} → Ghosts P L M → Ghosts (Ipc P) (Unit {0}) M
 tells B = record {
-  caps = λ m. B.caps m;
-  homes_of = λ m. B.homes_of m;
   seen = λ m. B.seen m;
   moves = λ m. B.moves m;
   wait_lists = λ m. B.wait_lists m;
   ActsFor = λ m c. B.ActsFor m c;
   room = λ m. B.room m;
   site = λ m. B.site m;
-  IsFresh = λ m homes c. B.IsFresh m homes c × (B.homes_of m ≡ homes);
+  IsFresh = λ m homes c. B.IsFresh m homes c × (homes_in (B.opening m) ≡ homes);
   MayHold = λ m c. B.MayHold m c;
   cpu_of = λ p. B.cpu_of p.lower;
-  threads = λ p. B.threads p.lower;
-  call_states = λ p. B.call_states p.lower;
   is_inside = λ p. B.is_inside p.lower;
   under_way = λ p. B.under_way p.lower;
-  Fits = λ p m. B.Fits p.lower m × KeepsPlan (B.homes_of m) (length (B.caps m)) (B.cpu_of p.lower) p.cpu p.homes.items p.buffers;
+  Fits = λ p m. B.Fits p.lower m × KeepsPlan (homes_in (B.opening m)) (length (caps_in (B.opening m))) (B.cpu_of p.lower) p.cpu p.homes.items p.buffers;
   IsWhole = B.IsWhole;
   IsStepwise = B.IsStepwise;
   opening = λ m. B.opening m;
@@ -34,70 +31,86 @@ tells B = record {
 abbrev pub plan_below : ℕ → List CpuId → CpuId → Tid → Call → Buffering → BufferPlan Reply
 plan_below buffers = fifo_plan
 
-module _ {P L M : Type 0} (B : Ghosts P L M) (t : Tid) (call : Call) (start : Ipc P) where
+module _ {P L M : Type 0} (B : Ghosts P L M) (start : Ipc P) where
   -- the part with another part of buffers
   abbrev over : P → Ipc P
   over q = record { lower = q; cpu = start.cpu; homes = start.homes; buffers = start.buffers }
 
   abbrev Keeps : P → M → Type 0
-  Keeps q n = KeepsPlan (B.homes_of n) (length (B.caps n)) (B.cpu_of q) start.cpu start.homes.items start.buffers
+  Keeps q n = KeepsPlan (homes_in (B.opening n)) (length (caps_in (B.opening n))) (B.cpu_of q) start.cpu start.homes.items start.buffers
 
-  keeps_on : (p q : P) (m n : M) → B.cpu_of q ≡ B.cpu_of p → B.homes_of n ≡ B.homes_of m → B.caps n ≡ B.caps m → Keeps p m → Keeps q n
-  keeps_on p q m n cpu homes caps keeps = rw (cpu, homes, caps) keeps
+  keeps_on : (p q : P) (m n : M) → B.cpu_of q ≡ B.cpu_of p → B.opening n ≡ B.opening m → Keeps p m → Keeps q n
+  keeps_on p q m n cpu opening keeps = rw (cpu, opening) keeps
 
   framed_over : (p q : P) (m n : M) → Framed B.Fits B.cpu_of B.opening B.site B.room B.ActsFor B.MayHold p q m n
-      → B.homes_of n ≡ B.homes_of m → B.caps n ≡ B.caps m → Keeps p m
+      → Keeps p m
       → Framed (tells B).Fits (tells B).cpu_of (tells B).opening (tells B).site (tells B).room (tells B).ActsFor (tells B).MayHold (over p) (over q) m n
-  framed_over p q m n framed homes caps keeps = record {
-    fits = (framed.fits, keeps_on p q m n framed.cpu homes caps keeps);
+  framed_over p q m n framed keeps = record {
+    fits = (framed.fits, keeps_on p q m n framed.cpu framed.stays.opening keeps);
     cpu = framed.cpu;
     stays = record { opening = framed.stays.opening; site = framed.stays.site; room = framed.stays.room; acts = framed.stays.acts };
-    others = λ r other fits. (framed.others r.lower other fits.0, rw (homes, caps) fits.1);
+    others = λ r other fits. (framed.others r.lower other fits.0, rw framed.stays.opening fits.1);
     holders = framed.holders;
   }
 
-  polled_over : (p q : P) (m n : M) (told : Option ReplyKind) → (buffer_of call).0 < length (B.caps m) → Keeps p m
-      → PolledAt B plan_below t call p m q n told → PolledAt (tells B) ipc_plan t call (over p) m (over q) n told
-  polled_over p q m n told there keeps polled = record {
-    nothing = λ none. absurd (omega arith);
-    called = polled.called;
-    runs = polled.runs;
-    under_way = polled.under_way;
-    moves = polled.moves;
-    prompt = polled.prompt;
-    framed = framed_over p q m n polled.framed polled.homes polled.caps keeps;
-    homes = polled.homes;
-    caps = polled.caps;
-    follows = λ stepwise. rw (lt-ltb (buffer_of call).0 (length (B.caps m)) there) (polled.follows stepwise);
-  }
-
-  looked_over : (p q : P) (m n : M) → Keeps p m → LookedAt B plan_below p m q n → LookedAt (tells B) ipc_plan (over p) m (over q) n
-  looked_over p q m n keeps looked = record {
+  pub looked_over : (p q : P) (m n : M) (told : Bool) → Keeps p m → LookedAt B plan_below told p m q n → LookedAt (tells B) ipc_plan told (over p) m (over q) n
+  looked_over p q m n told keeps looked = record {
+    still = λ no. (ap over (looked.still no).0, (looked.still no).1);
     waits = looked.waits;
-    framed = framed_over p q m n looked.framed looked.homes looked.caps keeps;
-    threads = looked.threads;
-    call_states = looked.call_states;
+    framed = framed_over p q m n looked.framed keeps;
     own = looked.own;
     inside = looked.inside;
     under_way = looked.under_way;
     seen = looked.seen;
     moves = looked.moves;
-    homes = looked.homes;
-    caps = looked.caps;
     tries = looked.tries;
   }
 
-  quiet_over : (p q : P) → IsQuietAt B plan_below t call p q → IsQuietAt (tells B) ipc_plan t call (over p) (over q)
-  quiet_over p q quiet = record { runs = quiet.runs; effect = quiet.effect }
+  module _ (t : Tid) (call : Call) where
+    -- a number that is no buffer's is refused, and nothing is done
+    pub refused : (p : Ipc P) (m : M) → length (caps_in (B.opening m)) ≤ (buffer_of call).0 → (tells B).Fits p m
+        → PolledAt (tells B) ipc_plan t call p m p m (Some Refuses)
+    refused p m none fits = record {
+      nothing = λ none. record { machine = refl; part = refl; answers = refl };
+      called = λ some. absurd (omega arith);
+      runs = λ some. absurd (omega arith);
+      under_way = λ some. absurd (omega arith);
+      moves = record { others = []; mine = []; foreign = λ d acts. tt; own = tt; is = refl };
+      prompt = λ whole none. absurd cc;
+      framed = record {
+        fits = fits;
+        cpu = refl;
+        stays = record { opening = refl; site = refl; room = omega arith; acts = λ d acts. acts };
+        others = λ p other fits. fits;
+        holders = λ d other acts held. held;
+      };
+      follows = λ stepwise. rw (le-ltb (buffer_of call).0 (length (caps_in (B.opening m))) none) (refl, refl);
+    }
 
-  pub ran_over : (p : P) (m : M) (actions : ℕ) (q : P) (n : M) (told : Option ReplyKind) → (buffer_of call).0 < length (B.caps m) → Keeps p m
-      → PolledOnAt B plan_below t call p m actions q n told → PolledOnAt (tells B) ipc_plan t call (over p) m actions (over q) n told
-  ran_over p m _ q n told there keeps (once polled) = once (polled_over p q m n told there keeps polled)
-  ran_over p m _ r o told there keeps (again {k = k} {q = q} {n = n} run quiet polled) =
-      let so_far : Kept B plan_below t call p m k q n = kept B plan_below t call p m k q n None run in
-      again (ran_over p m k q n None there keeps run) (quiet_over p q quiet)
-      (polled_over q r n o told (rw so_far.caps there) (keeps_on p q m n so_far.cpu so_far.homes so_far.caps keeps) polled)
-  ran_over p m _ r o _ there keeps (looks {k = k} {q = q} {n = n} run quiet looked) =
-      let so_far : Kept B plan_below t call p m k q n = kept B plan_below t call p m k q n None run in
-      looks (ran_over p m k q n None there keeps run) (quiet_over p q quiet)
-      (looked_over q r n o (keeps_on p q m n so_far.cpu so_far.homes so_far.caps keeps) looked)
+    pub polled_over : (p q : P) (m n : M) (told : Option ReplyKind) → (buffer_of call).0 < length (caps_in (B.opening m)) → Keeps p m
+        → PolledAt B plan_below t call p m q n told → PolledAt (tells B) ipc_plan t call (over p) m (over q) n told
+    polled_over p q m n told there keeps polled = record {
+      nothing = λ none. absurd (omega arith);
+      called = polled.called;
+      runs = polled.runs;
+      under_way = polled.under_way;
+      moves = polled.moves;
+      prompt = polled.prompt;
+      framed = framed_over p q m n polled.framed keeps;
+      follows = λ stepwise. rw (lt-ltb (buffer_of call).0 (length (caps_in (B.opening m))) there) (polled.follows stepwise);
+    }
+
+    quiet_over : (p q : P) → IsQuietAt B plan_below t call p q → IsQuietAt (tells B) ipc_plan t call (over p) (over q)
+    quiet_over p q quiet = record { runs = quiet.runs; effect = quiet.effect }
+
+    pub ran_over : (p : P) (m : M) (actions : ℕ) (q : P) (n : M) (told : Option ReplyKind) → (buffer_of call).0 < length (caps_in (B.opening m)) → Keeps p m
+        → PolledOnAt B plan_below t call p m actions q n told → PolledOnAt (tells B) ipc_plan t call (over p) m actions (over q) n told
+    ran_over p m _ q n told there keeps (once polled) = once (polled_over p q m n told there keeps polled)
+    ran_over p m _ r o told there keeps (again {k = k} {q = q} {n = n} run quiet polled) =
+        let so_far : Kept B plan_below t call p m k q n = kept B plan_below t call p m k q n None run in
+        again (ran_over p m k q n None there keeps run) (quiet_over p q quiet)
+        (polled_over q r n o told (rw so_far.opening there) (keeps_on p q m n so_far.cpu so_far.opening keeps) polled)
+    ran_over p m _ r o _ there keeps (looks {k = k} {q = q} {n = n} run quiet looked) =
+        let so_far : Kept B plan_below t call p m k q n = kept B plan_below t call p m k q n None run in
+        looks (ran_over p m k q n None there keeps run) (quiet_over p q quiet)
+        (looked_over q r n o true (keeps_on p q m n so_far.cpu so_far.opening keeps) looked)

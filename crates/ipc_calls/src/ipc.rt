@@ -1,9 +1,11 @@
 //! Message calls over buffers.
 
 ghost use Rattle.std.specs.Prelude.{◌≡◌, ◌<◌, None, Some, IsSome, length, refl};
+ghost use Rattle.layer_traits.specs.Capacities.{caps_in};
 ghost use Rattle.event_log.specs.declared.ids.{CpuId.CpuId, LockId.TheVariants.Pending, Tid.Tid, TheConstants.THREADS};
 ghost use Rattle.{layer_traits.specs.{declared.calls.Place.Place, Places.{home_of, is_thread}, Observed.IsOwnPlace}, ipc_calls.specs.Parts.{IsAway, asleep_at}};
 ghost use Rattle.ipc_calls.specs.Parts.{wait_list_read, pends_read, said};
+ghost use Rattle.layer_traits.specs.{OwnParts.threads_in, QueueBlocks.homes_in};
 
 use crate::opening::OpensBuffers;
 use arrayvec::ArrayVec;
@@ -61,10 +63,6 @@ impl<B: CallLayer<BufferLaw>> CallLayer<IpcLaw> for Ipc<B> {
 
     type Machine = B::Machine;
 
-    ghost caps = { λ m. B.caps m };
-
-    ghost homes_of = { λ m. B.homes_of m };
-
     ghost seen = { λ m. B.seen m };
 
     ghost moves = { λ m. B.moves m };
@@ -77,22 +75,18 @@ impl<B: CallLayer<BufferLaw>> CallLayer<IpcLaw> for Ipc<B> {
 
     ghost site = { λ m. B.site m };
 
-    ghost IsFresh = { λ m homes c. B.IsFresh m homes c × (B.homes_of m ≡ homes) };
+    ghost IsFresh = { λ m homes c. B.IsFresh m homes c × (homes_in (B.opening m) ≡ homes) };
 
     ghost MayHold = { λ m c. B.MayHold m c };
 
     ghost cpu_of = { λ p. B.cpu_of p.lower };
-
-    ghost threads = { λ p. B.threads p.lower };
-
-    ghost call_states = { λ p. B.call_states p.lower };
 
     ghost is_inside = { λ p. B.is_inside p.lower };
 
     ghost under_way = { λ p. B.under_way p.lower };
 
     ghost Fits = { λ p m. B.Fits p.lower m
-        × KeepsPlan (B.homes_of m) (length (B.caps m)) (B.cpu_of p.lower) p.cpu p.homes.items p.buffers };
+        × KeepsPlan (homes_in (B.opening m)) (length (caps_in (B.opening m))) (B.cpu_of p.lower) p.cpu p.homes.items p.buffers };
 
     ghost IsWhole = { B.IsWhole };
 
@@ -179,10 +173,6 @@ impl<B: CallLayer<BufferLaw>> CallLayer<IpcLaw> for Ipc<B> {
 
     ghost idle = { λ p m fits. B.idle p.lower m fits.0 };
 
-    ghost reads_own = { λ p. B.reads_own p.lower };
-
-    ghost reads_homes = { B.reads_homes };
-
     ghost starts = { B.starts };
 
     ghost legal = { B.legal };
@@ -203,8 +193,8 @@ impl<B: OwnedBuffers> Ipc<B> {
     fn own_place(&self, t: Tid) -> Option<Place>
         requires { B.cpu_of self.now.lower ≡ self.now.cpu }
         ensures observed { (x : Place) → result ≡ Some x
-            → IsOwnPlace (B.cpu_of self.now.lower) (B.threads self.now.lower) t x }
-        ensures away { result ≡ None → IsAway t (B.threads self.now.lower) }
+            → IsOwnPlace (B.cpu_of self.now.lower) (threads_in (B.own self.now.lower)) t x }
+        ensures away { result ≡ None → IsAway t (threads_in (B.own self.now.lower)) }
     {
         let own = self.lower.own_threads();
         if is_it(t, own.current()) {
@@ -242,7 +232,7 @@ impl<B: OwnedBuffers> Ipc<B> {
     /// The line of a buffer in which `t` stands, as the machine or the part tells it.
     fn wait_list(&self, m: &B::Machine, buffer: BufId, t: Tid) -> Option<WaitList>
         requires acts { (c : CpuId) × B.ActsFor m.now c }
-        requires buffer { buffer.0 < length (B.caps m.now) }
+        requires buffer { buffer.0 < length (caps_in (B.opening m.now)) }
         ensures { result ≡ wait_list_read t (B.wait_lists_at m.now buffer) (B.wait_lists_with self.now.lower buffer) }
     {
         match B::wait_list_in(m, buffer, t) {
@@ -254,10 +244,10 @@ impl<B: OwnedBuffers> Ipc<B> {
     /// The first buffer, and its line, in which the machine or the part tells that `t` stands.
     fn asleep(&self, m: &B::Machine, t: Tid) -> Option<(BufId, WaitList)>
         requires acts { (c : CpuId) × B.ActsFor m.now c }
-        requires count { length (B.caps m.now) ≡ self.now.buffers }
-        ensures within { (x : _) → result ≡ Some x → x.0.0 < length (B.caps m.now) }
+        requires count { length (caps_in (B.opening m.now)) ≡ self.now.buffers }
+        ensures within { (x : _) → result ≡ Some x → x.0.0 < length (caps_in (B.opening m.now)) }
         ensures found { (x : _) → result ≡ Some x → wait_list_read t (B.wait_lists_at m.now x.0) (B.wait_lists_with self.now.lower x.0) ≡ Some x.1 }
-        ensures none { result ≡ None → (b : BufId) → b.0 < length (B.caps m.now)
+        ensures none { result ≡ None → (b : BufId) → b.0 < length (caps_in (B.opening m.now))
             → wait_list_read t (B.wait_lists_at m.now b) (B.wait_lists_with self.now.lower b) ≡ None }
     {
         for number in 0..self.buffers {
@@ -289,7 +279,7 @@ impl<B: OpensBuffers> Owned for Ipc<B> {
 
     ghost owner_here = { λ p b. B.owner_with p.lower b };
 
-    ghost IsSilent = { λ p m t. IsSilentOf t (B.threads p.lower) (home_of (B.homes_of m) t) (length (B.caps m))
+    ghost IsSilent = { λ p m t. IsSilentOf t (threads_in (B.own p.lower)) (home_of (homes_in (B.opening m)) t) (length (caps_in (B.opening m)))
         (B.queue_at m) (B.queue_with p.lower) (B.wait_lists_at m) (B.wait_lists_with p.lower) };
 
     fn open(
@@ -343,7 +333,7 @@ impl<B: OpensBuffers> Owned for Ipc<B> {
     ghost items = { λ m c b acts within. read_under (λ (p : Self). p.lower) (λ p. B.Fits p m) (λ (p : Self). Self.Fits p m) (λ p. B.cpu_of p)
         (λ (p : Self). B.cpu_of p.lower) (B.MayHold m)
         (B.MayHold m) (λ p. B.items_with p b) (B.items_at m b)
-        (items_of (contents_of (B.caps m) (B.seen m)) b.0) (λ p fits. fits.0) (λ p fits. refl) (λ d inside. inside) (B.items m c b acts within) };
+        (items_of (contents_of (caps_in (B.opening m)) (B.seen m)) b.0) (λ p fits. fits.0) (λ p fits. refl) (λ d inside. inside) (B.items m c b acts within) };
 
     ghost closed = { λ m c b acts within. read_under (λ (p : Self). p.lower) (λ p. B.Fits p m) (λ (p : Self). Self.Fits p m) (λ p. B.cpu_of p)
         (λ (p : Self). B.cpu_of p.lower) (B.MayHold m)
@@ -360,18 +350,18 @@ impl<B: OpensBuffers> Owned for Ipc<B> {
     ghost items_are = { B.items_are };
 
     ghost place = { λ p m t fits there.
-        let home = home_there (B.homes_of m) t there in
+        let home = home_there (homes_in (B.opening m)) t there in
         let acts = B.own_cpu p.lower m fits.0 in
         let cpu = B.cpu_of p.lower in
         place_reads (record {
           Fits = λ (q : Self). Self.Fits q m;
           cpu_of = λ (q : Self). B.cpu_of q.lower;
           IsInside = B.MayHold m;
-          homes = B.homes_of m;
+          homes = homes_in (B.opening m);
           moves = B.moves m;
-          n = length (B.caps m);
+          n = length (caps_in (B.opening m));
           wait_lists = B.wait_lists m;
-          own = λ (q : Self). B.threads q.lower;
+          own = λ (q : Self). threads_in (B.own q.lower);
           queue_at = B.queue_at m;
           queue_with = λ (q : Self). B.queue_with q.lower;
           wait_lists_at = B.wait_lists_at m;
@@ -383,7 +373,7 @@ impl<B: OpensBuffers> Owned for Ipc<B> {
               (λ (q : Self). B.cpu_of q.lower) (B.MayHold m)
               (B.MayHold m) (λ q. B.queue_with q d) (B.queue_at m d)
               (pending_by (B.moves m) d) (λ q fit. fit.0) (λ q fit. refl) (λ d inside. inside)
-              (B.queues m cpu d acts ((B.starts m cpu acts).queues u d (subst (λ homes. home_of homes u ≡ Some d) (sym (B.reads_homes m)) at)));
+              (B.queues m cpu d acts ((B.starts m cpu acts).queues u d at));
           waiters_law = λ b within. read_under (λ (q : Self). q.lower) (λ q. B.Fits q m) (λ (q : Self). Self.Fits q m) (λ q. B.cpu_of q)
               (λ (q : Self). B.cpu_of q.lower) (B.MayHold m)
               (B.MayHold m) (λ q. B.wait_lists_with q b) (B.wait_lists_at m b)

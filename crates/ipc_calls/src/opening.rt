@@ -1,6 +1,7 @@
 //! A layer of buffers that opens a machine. Only `open` takes memory. No call waits.
 
 ghost use Rattle.std.specs.Prelude.{◌≡◌, ◌<◌, ◌≤◌, [], IsSome, IfOk};
+ghost use Rattle.layer_traits.specs.Capacities.{caps_in};
 
 use crate::tower::LockEdit;
 use event_log::{CpuId, NoMemory};
@@ -11,7 +12,7 @@ use std::alloc::Global;
 /// A layer of buffers whose machine is opened with its buffers, and tells of its blocks.
 pub trait OpensBuffers: OwnedBuffers {
     ghost use Rattle.event_log.specs.declared.ids.{CpuId.CpuId, LockId.TheVariants.Pending, TheConstants.CPUS};
-    ghost use Rattle.layer_traits.specs.{BufferEffects.opening_locks, Openings.AreOpenable, Openings.Opened, QueueBlocks.inner};
+    ghost use Rattle.layer_traits.specs.{BufferEffects.opening_locks, Openings.AreOpenable, Openings.Opened, QueueBlocks.{homes_in, inner}};
 
     /// A machine of so many CPUs, with a buffer of each of these capacities and a thread of each of
     /// these homes, and with room for `room` polls. All memory is taken here.
@@ -29,8 +30,8 @@ pub trait OpensBuffers: OwnedBuffers {
     ) -> Result<Self::Machine, NoMemory>
         requires { AreOpenable cpus caps.now homes.now }
         ensures opened { IfOk result (λ m.
-            Opened (Self.caps m) (Self.homes_of m) (Self.seen m) (Self.moves m) (Self.room m) caps.now homes.now room) }
-        ensures boot { IfOk result (λ m. inner (Self.opening m) ≡ opening_locks (Self.caps m)) }
+            Opened (caps_in (Self.opening m)) (homes_in (Self.opening m)) (Self.seen m) (Self.moves m) (Self.room m) caps.now homes.now room) }
+        ensures boot { IfOk result (λ m. inner (Self.opening m) ≡ opening_locks (caps_in (Self.opening m))) }
         ensures queues { IfOk result (λ m. (c : CpuId) → c.0 < cpus → IsSome (Self.opening m (Pending c))) }
         ensures fresh { IfOk result (λ m. (c : CpuId) → c.0 < cpus → Self.IsFresh m homes.now c) }
         ensures acts { IfOk result (λ m. (c : CpuId) → c.0 < CPUS → Self.ActsFor m c) }

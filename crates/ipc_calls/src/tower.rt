@@ -118,7 +118,7 @@ pub fn part_over<L: Layer<LockLaw<TowerEdit>>>(
     requires locks { inner (viewed nested_lock_of (viewed state_of (L.opening m.now))) ≡ opening_locks caps.now }
     ensures cpu { ⟦<Ipc<TowerOver<L>> as CallLayer<IpcLaw>>⟧.cpu_of result ≡ cpu }
     ensures under_way { ⟦<Ipc<TowerOver<L>> as CallLayer<IpcLaw>>⟧.under_way result ≡ None }
-    ensures call_states { ⟦<Ipc<TowerOver<L>> as CallLayer<IpcLaw>>⟧.call_states result ≡ replicate THREADS no_call }
+    ensures call_states { (⟦<Ipc<TowerOver<L>> as CallLayer<IpcLaw>>⟧.own result).call_states ≡ replicate THREADS no_call }
     ensures fits { ⟦<Ipc<TowerOver<L>> as CallLayer<IpcLaw>>⟧.Fits result m.now }
 {
     let _ = m;

@@ -1,6 +1,16 @@
-use Rattle.std.proofs.Common.{[], refl}
+use Rattle.std.proofs.Common.{◌<◌, sym}
+use Rattle.ipc_calls.proofs.CallRuns.{polled_over, refused}
 use Rattle.ipc_calls.proofs.ipc.IpcCallLayerIpcLaw.poll_kind.Goals as goal
 
--- a refused call moves no thread
-pub returns-then-buffer-self-clause-moves : goal.returns-then-buffer-self-clause-moves
-returns-then-buffer-self-clause-moves g c = record { others = []; mine = []; foreign = λ d acts. tt; own = tt; is = refl }
+-- a number that is no buffer's is refused
+pub returns-then-buffer-self : goal.returns-then-buffer-self
+returns-then-buffer-self g c =
+    refused g.B.CallLayer c.args.self.now c.args.t c.args.call.now c.args.self.now c.args.m.now
+    (rw (c.requires.fits.1.count_is, sym c.buffer-buffer.ensures) c.if-buffer-self.true) c.requires.fits
+
+-- any other call is the buffers'
+pub returns : goal.returns
+returns g c =
+    let within : c.buffer-buffer.result.0 < c.args.self.now.buffers = c.if-buffer-self.false in
+    polled_over g.B.CallLayer c.args.self.now c.args.t c.args.call.now c.args.self.now.lower c.poll_kind.new.self c.args.m.now c.poll_kind.new.m
+    c.poll_kind.result (rw (c.requires.fits.1.count_is, sym c.buffer-buffer.ensures) within) c.requires.fits.1 c.poll_kind.ensures

@@ -9,6 +9,6 @@ returns-clause-spun g c =
       seen = spun.seen;
       room = spun.room;
       acts = spun.acts;
-      fits = λ p fits. (spun.fits p.lower fits.0, rw (c.spin.ensures.homes, c.spin.ensures.caps) fits.1);
+      fits = λ p fits. (spun.fits p.lower fits.0, rw spun.opening fits.1);
       holders = spun.holders;
     }

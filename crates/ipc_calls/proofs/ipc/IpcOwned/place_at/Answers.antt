@@ -1,5 +1,6 @@
 use Rattle.std.proofs.{Common.{◌≡◌, false, length, Some, inr, refl, ap, sym, ◌∙◌, subst}, lemmas.Option.same_Some}
-use Rattle.{layer_traits.specs.{Places.{Asleep, At, Pend, home_of, where_is}, Observed.queue_place}, event_log.specs.declared.ids.LockId.TheVariants.Buffer}
+use Rattle.layer_traits.specs.Capacities.{caps_in}
+use Rattle.{layer_traits.specs.{Places.{Asleep, At, Pend, home_of, where_is}, Observed.queue_place, QueueBlocks.homes_in}, event_log.specs.declared.ids.LockId.TheVariants.Buffer}
 use Rattle.ipc_calls.specs.{Laws.PlaceLaws.{sleeps_there, read_pends, read_sleeps}, Parts.pends_read}
 use Rattle.ipc_calls.proofs.ipc.IpcOwned.place_at.Goals as goal
 
@@ -10,7 +11,7 @@ pends-requires-clause-queue g c =
     let m = c.args.m.now in
     let acts = law.own_cpu c.args.self.now.lower m c.requires.fits.0 in
     (law.starts m (g.B.CallLayer.cpu_of c.args.self.now.lower) acts).queues c.args.t c.home-home.result
-    (subst (λ homes. home_of homes c.args.t ≡ Some c.home-home.result) (c.requires.fits.1.homes_are ∙ sym (law.reads_homes m)) c.home-home.ensures)
+    (subst (λ homes. home_of homes c.args.t ≡ Some c.home-home.result) c.requires.fits.1.homes_are c.home-home.ensures)
 
 -- who is told to stand in the pending queue of its home stands there
 pub returns-then-pends-clause-observed : goal.returns-then-pends-clause-observed
@@ -23,11 +24,11 @@ returns-then-pends-clause-observed g c x is =
     let fits = c.requires.fits in
     let acts = law.own_cpu p m fits.0 in
     let home = c.home-home.result in
-    let pends : where_is (B.homes_of m) (B.moves m) c.args.t ≡ Pend home
-    = read_pends (λ q. B.Fits q m) (λ q. B.cpu_of q) (B.MayHold m) (B.homes_of m) (B.moves m)
+    let pends : where_is (homes_in (B.opening m)) (B.moves m) c.args.t ≡ Pend home
+    = read_pends (λ q. B.Fits q m) (λ q. B.cpu_of q) (B.MayHold m) (homes_in (B.opening m)) (B.moves m)
     c.args.t home p (λ q. O.queue_with q home) (O.queue_at m home) (law.moves_legal m (B.cpu_of p) acts) fits.0
     (g.met.B.OwnedBuffers.queues m (B.cpu_of p) home acts ((law.starts m (B.cpu_of p) acts).queues c.args.t home
-    (subst (λ homes. home_of homes c.args.t ≡ Some home) (fits.1.homes_are ∙ sym (law.reads_homes m)) c.home-home.ensures)))
+    (subst (λ homes. home_of homes c.args.t ≡ Some home) fits.1.homes_are c.home-home.ensures)))
     (sym c.pends.ensures ∙ c.if-pends.true) in
     inr (ap queue_place pends ∙ is)
 
@@ -58,8 +59,9 @@ returns-clause-observed g c x is =
     let buffer = c.in_ok-buffer.buffer in
     let line = c.in_ok-buffer.wait_list in
     let within = c.in_ok-buffer.ensures.within (buffer, line) refl in
-    let sleeps : where_is (B.homes_of m) (B.moves m) c.args.t ≡ Asleep (At (Buffer buffer) line)
-    = read_sleeps (λ q. B.Fits q m) (λ q. B.cpu_of q) (B.MayHold m) (B.homes_of m) (B.moves m)
-    (length (B.caps m)) (B.wait_lists m) (law.lists p m fits) buffer within c.args.t line p (λ q. O.wait_lists_with q buffer) (O.wait_lists_at m buffer) fits
+    let sleeps : where_is (homes_in (B.opening m)) (B.moves m) c.args.t ≡ Asleep (At (Buffer buffer) line)
+    = read_sleeps (λ q. B.Fits q m) (λ q. B.cpu_of q) (B.MayHold m) (homes_in (B.opening m)) (B.moves m)
+    (length (caps_in (B.opening m))) (B.wait_lists m) (law.lists p m fits) buffer within c.args.t line p (λ q. O.wait_lists_with q buffer)
+    (O.wait_lists_at m buffer) fits
     (g.met.B.OwnedBuffers.waiters_law m (B.cpu_of p) buffer (law.own_cpu p m fits) within) (c.in_ok-buffer.ensures.found (buffer, line) refl) in
     inr (ap queue_place sleeps ∙ (sleeps_there buffer line ∙ (ap Some (sym c.waiters_of.ensures) ∙ is)))

@@ -1,4 +1,4 @@
-use Rattle.std.proofs.{Common.{◌≡◌, [], ◌<◌, ◌≤◌, length, refl, rules, ◌∙◌, arith}, lemmas.Result.IfOk-weaker}
+use Rattle.std.proofs.{Common.{◌≤◌, length, refl, rules, ◌∙◌, arith}, lemmas.Result.IfOk-weaker}
 use Rattle.{event_log.specs.declared.ids.LockId.TheVariants.Pending, fifo_buffer.proofs.Opening.{boots_well, caps_are}, layer_traits.specs.Renaming.viewed}
 use Rattle.{layer_traits.proofs.KernelRenaming.{homes_viewed, viewed_there}, queuing_lock.specs.Nested.nested_lock_of, ipc_calls.proofs.Opened.both_ok}
 use Rattle.ipc_calls.proofs.tower.FifoCondQLockOpensBuffers.open.Goals as goal
