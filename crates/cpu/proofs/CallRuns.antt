@@ -1,21 +1,24 @@
 -- A message call that goes on for several steps: each poll and each look of it is a step of its CPU.
+use Rattle.layer_traits.specs.BufferLaw.{Buffering}
 use Rattle.std.proofs.Common.{◌≡◌, ◌++◌, ◌<◌, ◌≤◌, ◌+◌, ℕ, Bool, true, false, not, List, length, Option, Some, None, option_map, refl, ap, sym, ◌∙◌}
 use Rattle.std.proofs.{Common.{subst, arith, vec_capacity}, lemmas.List.{append-nil, length-set, Folds.list_all_at}}
+use Rattle.layer_traits.specs.Capacities.{caps_in}
 use Rattle.{event_log.specs.declared.{entries.Entry.Entry, ids.{CpuId.CpuId, Tid.Tid}}, guest.specs.declared.instructions.Instruction.Instruction}
 use Rattle.{guest.specs.State.State, layer_traits.specs.declared.{call_layers.CallLayer.Ghosts, calls.{Call.Call, Effect.Effect, ReplyKind.ReplyKind}}}
 use Rattle.layer_traits.specs.{declared.{calls.Reply.Reply, call_states.CallState.CallState}, Places.one_if}
 use Rattle.layer_traits.specs.BufferLaw.{Answered, answer_in, begun_of, buffer_of}
-use Rattle.layer_traits.specs.{BufferLaw.call_state_of, IpcLaw.ipc_plan, LayerPolls.{IsQuietAt, LookedAt, PolledAt, PolledOnAt}, Looks.Tries, PollRuns.PolledOn}
+use Rattle.layer_traits.specs.{BufferLaw.call_state_of, OwnParts.threads_in, IpcLaw.ipc_plan, LayerPolls.{IsQuietAt, LookedAt, PolledAt, PolledOnAt}}
+use Rattle.layer_traits.specs.{Looks.Tries, PollRuns.PolledOn}
 use Rattle.{layer_traits.specs.QueueBlocks.homes_in, cpu.specs.declared.{cpus.{Choice.TheVariants.Polls, Cpu.Cpu}, guests.{Guest.Guest, GuestStage.GuestStage}}}
 use Rattle.cpu.specs.{declared.guests.{GuestStage.TheVariants.Begun, Todo.Todo}, Cpus.{IsCpu, begins_at, begun_count, chosen, chosen_at, chosen_by, chosen_for}}
 use Rattle.cpu.specs.Cpus.{GuestsWent, Replies, guest_calls, guests_rest}
 use Rattle.cpu.specs.{Cpus.{chosen_todo, fresh_at, guest_at, is_begun_guest, of_cpu, of_thread, programs_of, with_guest}, CpuSteps.{RunsAt, SteppedAt}}
 use Rattle.cpu.specs.{CpuSteps.stops_at, Guests.{HasComeIn, entries_of, fresh_effect, had, is_begun, is_calling, polled, stage_after, todo_of}}
 use Rattle.cpu.proofs.{CallSteps.{PolledCpu, PollsAt, noted_call, poll_buffer, poll_call_states, poll_within, polls_at}, CpuOverLayer.{IsLayered, PartLaws}}
-use Rattle.cpu.proofs.{CpuOverLayer.{layered, acts_for, left_framed, observed_cpu, observed_outset, runs_home}, GuestsFollow.had_going, CpuRuns.one_run}
+use Rattle.cpu.proofs.{CpuOverLayer.{layered, acts_for, left_framed, tabled_cpu, outset, runs_home}, GuestsFollow.had_going, CpuRuns.one_run}
 use Rattle.cpu.proofs.{CpuStates.valid_cpu, GuestLists.{at_same, count_with, guest_within, programs_with}, PassSteps.seen_stays, StepsBesideGuests.called_grows}
-use Rattle.cpu.proofs.{StepsBesideGuests.{follows_grow, look_grows, others_grow, others_same}, ListReads.set_twice, TableCalls.{ObservedPoll, call_steps}}
-use Rattle.cpu.proofs.TableCalls.{call_tabled, hand_preserved, looked_steps}
+use Rattle.cpu.proofs.{StepsBesideGuests.{follows_grow, look_grows, others_grow, others_same}, ListReads.set_twice, TablePolls.{TabledPoll, poll_tabled, poll_steps as poll_by_table}}
+use Rattle.cpu.proofs.TableCalls.{fifo_follows, hand_preserved, looked_steps}
 
 -- a call that is answered has had an effect
 replies_so : (call : Call) (state : CallState) (answer : Option Reply) → Answered call state answer → Replies call state.effect answer
@@ -24,52 +27,52 @@ replies_so call state (Some reply) answered = answered.1
 
 module _ {P L M : Type 0} {I : Ghosts P L M} (laws : PartLaws I) (m : M) (p : Cpu P M) (cpu : IsLayered I m p) (live : stops_at I p ≡ None) where
   -- a look that took the CPU to r, with all else of the CPU as it was
-  pub look_steps : (n : M) (r : Cpu P M) → LookedAt I ipc_plan p.part m r.part n → r.number ≡ p.number → r.limit ≡ p.limit
+  pub look_steps : (n : M) (r : Cpu P M) → LookedAt I ipc_plan true p.part m r.part n → r.number ≡ p.number → r.limit ≡ p.limit
       → r.guests.items ≡ p.guests.items → r.trace.items ≡ p.trace.items → vec_capacity p.trace ≤ vec_capacity r.trace → SteppedAt I m p n r
   look_steps n r looked number limit guests trace capacity = record {
     live = live;
     fits = looked.framed.fits;
-    is = rw (looked.homes, looked.caps, looked.threads, looked.call_states, looked.under_way, number, limit, guests)
-        (subst (λ (l : List Entry). IsCpu (I.homes_of m) (length (I.caps m)) (I.seen n) (I.threads p.part) (I.call_states p.part) (I.under_way p.part)
-        p.number p.guests.items l p.limit (vec_capacity r.trace)) (sym trace) (grind (
+    is = rw (looked.framed.stays.opening, looked.own, looked.under_way, number, limit, guests)
+        (subst (λ (l : List Entry). IsCpu (homes_in (I.opening m)) (length (caps_in (I.opening m))) (I.seen n) (threads_in (I.own p.part))
+        (I.own p.part).call_states (I.under_way p.part) p.number p.guests.items l p.limit (vec_capacity r.trace)) (sym trace) (grind (
           arith,
           seen_stays (valid_cpu cpu.is) (I.seen n)
               (others_same (λ d. I.ActsFor m d) p.number (I.seen m) (I.seen n) looked.seen (acts_for cpu)),
           capacity,
         )));
-    leaves = left_framed I m n p r cpu.number number limit looked.framed looked.caps looked.homes (ap programs_of guests)
+    leaves = left_framed I m n p r cpu.number number limit looked.framed (ap programs_of guests)
         (guests_rest guests trace) (others_grow _ _ _ _ looked.seen)
         (rw cpu.number at looked.moves)
         (λ step. look_grows (λ d. I.ActsFor m d) p.number (I.acts m) (I.acts n) true
-        (λ yes. subst (λ (d : CpuId). Tries (λ e. I.ActsFor m e) d (I.acts m) (I.acts n)) cpu.number (looked.tries step)) (λ no. absurd (cc no)));
-    table = λ step. rw (looked.homes, looked.caps, looked.own, looked.under_way, looked.framed.stays.opening, number, guests) (cpu.table step);
-    steps = λ step. rw (guests, trace) (looked_steps (λ d. I.ActsFor m d) (I.homes_of m) (I.caps m) (I.cpu_of p.part) p.number p.limit (I.own p.part)
-        (I.own r.part) p.guests.items p.trace.items (I.acts m) (I.acts n) cpu.number looked.own (looked.tries step));
+        (λ yes. subst (λ (d : CpuId). Tries (λ e. I.ActsFor m e) d (I.acts m) (I.acts n)) cpu.number (looked.tries step refl)) (λ no. absurd (cc no)));
+    table = λ step. rw (looked.own, looked.under_way, looked.framed.stays.opening, number, guests) (cpu.table step);
+    steps = λ step. rw (guests, trace) (looked_steps (λ d. I.ActsFor m d) (homes_in (I.opening m)) (caps_in (I.opening m)) (I.cpu_of p.part) p.number p.limit
+        (I.own p.part) (I.own r.part) p.guests.items p.trace.items (I.acts m) (I.acts n) cpu.number looked.own (looked.tries step refl));
   }
 
   -- a poll of the call of t that took the CPU to r, which noted what it told
-  module _ (t : Tid) (call : Call) (chose : chosen (I.threads p.part) p.guests.items ≡ Polls t call)
+  module _ (t : Tid) (call : Call) (chose : chosen (threads_in (I.own p.part)) p.guests.items ≡ Polls t call)
       (free : begins_at (guest_at p.guests.items t.0) ≡ true → length p.trace.items + begun_count p.guests.items < p.limit)
       (n : M) (r : Cpu P M) (told : Option ReplyKind) (polled_so : PolledAt I ipc_plan t call p.part m r.part n told) (number : r.number ≡ p.number)
       (limit : r.limit ≡ p.limit)
       (guests_is : r.guests.items ≡ with_guest p.guests.items t.0
-      (λ g. polled g ((call_state_of (I.call_states r.part) t).effect) (answer_in (I.call_states r.part) t told)))
+      (λ g. polled g ((call_state_of (I.own r.part).call_states t).effect) (answer_in (I.own r.part).call_states t told)))
       (trace_is : r.trace.items ≡ p.trace.items
-      ++ entries_of p.number t (buffer_of call) (fresh_at (guest_at p.guests.items t.0) ((call_state_of (I.call_states r.part) t).effect)))
+      ++ entries_of p.number t (buffer_of call) (fresh_at (guest_at p.guests.items t.0) ((call_state_of (I.own r.part).call_states t).effect)))
       (capacity_is : vec_capacity p.trace ≤ vec_capacity r.trace) where
-    there : (buffer_of call).0 < length (I.caps m)
+    there : (buffer_of call).0 < length (caps_in (I.opening m))
     there = poll_buffer (valid_cpu cpu.is) t call chose
 
     abbrev polled_cpu : PolledCpu (λ d. I.ActsFor m d) (valid_cpu cpu.is) t call
     polled_cpu = record {
-      call_states = I.call_states r.part;
+      call_states = (I.own r.part).call_states;
       seen = I.seen n;
-      own = I.threads r.part;
+      own = threads_in (I.own r.part);
       under_way = I.under_way r.part;
       guests = r.guests.items;
       trace = r.trace.items;
       capacity = vec_capacity r.trace;
-      answer = answer_in (I.call_states r.part) t told;
+      answer = answer_in (I.own r.part).call_states t told;
       acts = acts_for cpu;
       home = runs_home cpu t (polls_at (valid_cpu cpu.is) t call chose).runs;
       called = rw cpu.number at (polled_so.called there);
@@ -81,22 +84,19 @@ module _ {P L M : Type 0} {I : Ghosts P L M} (laws : PartLaws I) (m : M) (p : Cp
       capacity_is = capacity_is;
     }
 
-    abbrev observed_poll : (step : I.IsStepwise) → ObservedPoll (λ d. I.ActsFor m d) (observed_cpu cpu step) t call (I.acts m)
-    observed_poll step = record {
-      homes = homes_in (I.opening m);
-      homes_are = laws.reads_homes step m;
-      part = I.own r.part;
-      own = I.threads r.part;
-      call_states = I.call_states r.part;
-      reads_own = laws.reads_own step r.part;
+    abbrev tabled_poll : (step : I.IsStepwise) → TabledPoll (λ d. I.ActsFor m d) (tabled_cpu cpu step) t call (I.acts m)
+    tabled_poll step = record {
+      own = I.own r.part;
       under_way = I.under_way r.part;
       guests = r.guests.items;
       trace = r.trace.items;
       new = I.acts n;
-      result = answer_in (I.call_states r.part) t told;
-      known = hand_preserved (I.homes_of m) (I.homes_of n) (I.cpu_of r.part) (I.moves n) (I.threads r.part) polled_so.homes
+      result = answer_in (I.own r.part).call_states t told;
+      known = hand_preserved (homes_in (I.opening m)) (homes_in (I.opening n)) (I.cpu_of r.part) (I.moves n) (threads_in (I.own r.part))
+          (ap homes_in polled_so.framed.stays.opening)
           (laws.stands r.part n polled_so.framed.fits) (laws.moves_legal n (I.cpu_of r.part) (laws.own_cpu r.part n polled_so.framed.fits));
-      follows = polled_so.follows step;
+      follows = fifo_follows (λ d. I.ActsFor m d) (I.opening m) (homes_in (I.opening m)) (length (caps_in (I.opening m))) (I.cpu_of p.part) p.number t call
+          (I.own p.part) (I.own r.part) (I.acts m) (I.acts n) (answer_in (I.own r.part).call_states t told) cpu.number there (polled_so.follows step);
       ended_is = (polled_so.runs there).ended;
       under_way_is = polled_so.under_way there;
       guests_is = guests_is;
@@ -107,27 +107,27 @@ module _ {P L M : Type 0} {I : Ghosts P L M} (laws : PartLaws I) (m : M) (p : Cp
     went : GuestsWent p.number p.guests.items p.trace.items r.guests.items r.trace.items
     went =
         let polls = polls_at (valid_cpu cpu.is) t call chose in
-        guest_calls t polls.guest call ((call_state_of (I.call_states r.part) t).effect) (answer_in (I.call_states r.part) t told) polls.at polls.asks
-        (replies_so call (call_state_of (I.call_states r.part) t) (answer_in (I.call_states r.part) t told) (polled_so.called there).answers) guests_is
+        guest_calls t polls.guest call ((call_state_of (I.own r.part).call_states t).effect) (answer_in (I.own r.part).call_states t told) polls.at polls.asks
+        (replies_so call (call_state_of (I.own r.part).call_states t) (answer_in (I.own r.part).call_states t told) (polled_so.called there).answers) guests_is
         (trace_is
         ∙ ap (λ (o : Option Guest). p.trace.items
-        ++ entries_of p.number t (buffer_of call) (fresh_at o ((call_state_of (I.call_states r.part) t).effect))) polls.at)
+        ++ entries_of p.number t (buffer_of call) (fresh_at o ((call_state_of (I.own r.part).call_states t).effect))) polls.at)
 
     pub poll_steps : SteppedAt I m p n r
     poll_steps = record {
       live = live;
       fits = polled_so.framed.fits;
-      is = rw (polled_so.homes, polled_so.caps, number, limit) (noted_call (valid_cpu cpu.is) t call chose _ polled_cpu);
-      leaves = left_framed I m n p r cpu.number number limit polled_so.framed polled_so.caps polled_so.homes
+      is = rw (polled_so.framed.stays.opening, number, limit) (noted_call (valid_cpu cpu.is) t call chose _ polled_cpu);
+      leaves = left_framed I m n p r cpu.number number limit polled_so.framed
           (ap programs_of guests_is ∙ programs_with p.guests.items t.0 _ (λ x. refl))
           went
           (called_grows _ _ _ _ _ _ _ _ _ (rw cpu.number at (polled_so.called there)))
           (rw cpu.number at polled_so.moves)
           (λ step. rw (← cpu.number) (follows_grow _ _ _ _ _ _ _ _ (polled_so.follows step)));
       table = λ step.
-          rw (polled_so.homes, polled_so.caps, polled_so.framed.stays.opening, number)
-          (call_tabled (observed_cpu cpu step) _ _ (observed_outset cpu step) t call chose live (observed_poll step));
-      steps = λ step. call_steps (observed_cpu cpu step) _ _ (observed_outset cpu step) t call chose live (observed_poll step);
+          rw (polled_so.framed.stays.opening, number)
+          (poll_tabled (tabled_cpu cpu step) t call chose _ _ (outset cpu step) live (tabled_poll step));
+      steps = λ step setup of. poll_by_table (tabled_cpu cpu step) t call chose _ _ (outset cpu step) live (tabled_poll step) setup of;
     }
 
 -- What a call's run leaves between its steps.
@@ -154,11 +154,11 @@ runs_layered laws cpu (RunsAt.more runs s) = stepped_layered laws s
 
 -- the CPU stands at the call of t
 module _ {P L M : Type 0} {I : Ghosts P L M} (laws : PartLaws I) (m : M) (p : Cpu P M) (cpu : IsLayered I m p) (live : stops_at I p ≡ None)
-    (t : Tid) (call : Call) (chose : chosen (I.threads p.part) p.guests.items ≡ Polls t call)
+    (t : Tid) (call : Call) (chose : chosen (threads_in (I.own p.part)) p.guests.items ≡ Polls t call)
     (free : begins_at (guest_at p.guests.items t.0) ≡ true → length p.trace.items + begun_count p.guests.items < p.limit) where
   -- the effect that the call has had, as a part has it
   abbrev had_in : P → Option Effect
-  had_in q = (call_state_of (I.call_states q) t).effect
+  had_in q = (call_state_of (I.own q).call_states t).effect
 
   -- the CPU after steps of the call that left it this part and told nothing
   abbrev between : P → Cpu P M
@@ -173,18 +173,18 @@ module _ {P L M : Type 0} {I : Ghosts P L M} (laws : PartLaws I) (m : M) (p : Cp
     };
   }
 
-  polls : PollsAt (I.threads p.part) p.guests.items t call
+  polls : PollsAt (threads_in (I.own p.part)) p.guests.items t call
   polls = polls_at (valid_cpu cpu.is) t call chose
 
   module _ (q : P) (quiet : IsQuietAt I ipc_plan t call p.part q) where
     guest_between : guest_at (between q).guests.items t.0 ≡ Some (polled polls.guest (had_in q) None)
     guest_between = at_same p.guests.items t.0 (λ g. polled g (had_in q) None) polls.guest polls.at
 
-    chose_between : chosen (I.threads q) (between q).guests.items ≡ Polls t call
+    chose_between : chosen (threads_in (I.own q)) (between q).guests.items ≡ Polls t call
     chose_between =
-        ap (λ (c : Option Tid). chosen_at c (I.threads q).hand (I.threads q).ready (between q).guests.items) quiet.runs
-        ∙ (ap (λ (o : Option Guest). chosen_for t (I.threads q).hand o) guest_between
-        ∙ (ap (λ (b : Bool). chosen_by t b (I.threads q).hand (todo_of polls.guest)) (calling (had_in q))
+        ap (λ (c : Option Tid). chosen_at c (threads_in (I.own q)).hand (threads_in (I.own q)).ready (between q).guests.items) quiet.runs
+        ∙ (ap (λ (o : Option Guest). chosen_for t (threads_in (I.own q)).hand o) guest_between
+        ∙ (ap (λ (b : Bool). chosen_by t b (threads_in (I.own q)).hand (todo_of polls.guest)) (calling (had_in q))
         ∙ ap (λ (todo : Todo). chosen_todo t todo) polls.asks))
 
     begins_between : begins_at (guest_at (between q).guests.items t.0) ≡ false
@@ -199,7 +199,7 @@ module _ {P L M : Type 0} {I : Ghosts P L M} (laws : PartLaws I) (m : M) (p : Cp
 
     fresh_same : (e : Option Effect) → fresh_at (guest_at p.guests.items t.0) e ≡ fresh_at (guest_at (between q).guests.items t.0) e
     fresh_same e =
-        let state = call_state_of (I.call_states p.part) t in
+        let state = call_state_of (I.own p.part).call_states t in
         let left = quiet.effect ∙ had_going state call (poll_call_states (valid_cpu cpu.is) t call chose) in
         ap (λ (o : Option Guest). fresh_at o e) polls.at
         ∙ (fresh_after polls.guest.stage polls.guest.program polls.guest.thread (of_thread t.0 (of_cpu p.number (I.seen m))) (begun_of state) state.effect
@@ -216,7 +216,7 @@ module _ {P L M : Type 0} {I : Ghosts P L M} (laws : PartLaws I) (m : M) (p : Cp
   -- a run of polls and looks of the call that took the CPU to r, which noted what the last told, is as many steps
   pub call_runs : {k : ℕ} {q : P} {n : M} {told : Option ReplyKind} → PolledOnAt I ipc_plan t call p.part m k q n told → (r : Cpu P M) → r.part ≡ q
       → r.number ≡ p.number → r.limit ≡ p.limit
-      → r.guests.items ≡ with_guest p.guests.items t.0 (λ g. polled g (had_in r.part) (answer_in (I.call_states r.part) t told))
+      → r.guests.items ≡ with_guest p.guests.items t.0 (λ g. polled g (had_in r.part) (answer_in (I.own r.part).call_states t told))
       → r.trace.items ≡ p.trace.items ++ entries_of p.number t (buffer_of call) (fresh_at (guest_at p.guests.items t.0) (had_in r.part))
       → vec_capacity p.trace ≤ vec_capacity r.trace → RunsAt I m p k n r
   call_runs (PolledOn.once {n = n} {told = told} one) r part number limit guests trace capacity =
@@ -227,12 +227,12 @@ module _ {P L M : Type 0} {I : Ghosts P L M} (laws : PartLaws I) (m : M) (p : Cp
       RunsAt.more amid (poll_steps laws n (between q) (runs_layered laws cpu amid) (live_between q quiet) t call (chose_between q quiet)
       (free_between q quiet) o r
       told (subst (λ (x : P). PolledAt I ipc_plan t call q n x o told) (sym part) last) number limit
-      (guests ∙ guests_between q quiet (had_in r.part) (answer_in (I.call_states r.part) t told))
+      (guests ∙ guests_between q quiet (had_in r.part) (answer_in (I.own r.part).call_states t told))
       (trace ∙ ap (λ (f : Option Effect). p.trace.items ++ entries_of p.number t (buffer_of call) f) (fresh_same q quiet (had_in r.part))) capacity)
   call_runs (PolledOn.looks {q = q} {n = n} {o = o} on quiet last) r part number limit guests trace capacity =
       let amid : RunsAt I m p _ n (between q) = call_runs on (between q) refl refl refl refl (trace_between q quiet) (omega arith) in
-      let looked : LookedAt I ipc_plan q n r.part o = subst (λ (x : P). LookedAt I ipc_plan q n x o) (sym part) last in
-      let same : had_in r.part ≡ had_in q = ap (λ (l : List CallState). (call_state_of l t).effect) looked.call_states in
+      let looked : LookedAt I ipc_plan true q n r.part o = subst (λ (x : P). LookedAt I ipc_plan true q n x o) (sym part) last in
+      let same : had_in r.part ≡ had_in q = ap (λ (own : Buffering). (call_state_of own.call_states t).effect) looked.own in
       RunsAt.more amid (look_steps laws n (between q) (runs_layered laws cpu amid) (live_between q quiet) o r looked number limit
       (guests ∙ ap (λ (e : Option Effect). with_guest p.guests.items t.0 (λ g. polled g e None)) same)
       (trace ∙ (ap (λ (e : Option Effect). p.trace.items ++ entries_of p.number t (buffer_of call) (fresh_at (guest_at p.guests.items t.0) e)) same

@@ -1,11 +1,12 @@
 -- A CPU over a layer of message calls, by what the layer's laws say of its part, as the lemmas about its steps take it.
 use Rattle.std.proofs.Common.{◌≡◌, ◌<◌, length, false, Some, None, ap, ◌∙◌, subst, refl, arith}
+use Rattle.layer_traits.specs.Capacities.{caps_in}
 use Rattle.{event_log.specs.{declared.ids.{CpuId.CpuId, Tid.Tid}, Actions.phase}, layer_traits.specs.contracts.call_layers.CallLayer.TheBound.Met}
 use Rattle.layer_traits.specs.{declared.call_layers.{CallLaw.Ghosts as LawGhosts, CallLayer.Ghosts}, BufferLaw.MovesGrow, Framed.Framed, Places.AreMoves}
 use Rattle.layer_traits.{specs.{Places.{Stands, home_of}, Plans.is_in_section, QueueBlocks.homes_in}, proofs.PlaceLemmas.current_at}
+use Rattle.layer_traits.specs.OwnParts.{threads_in}
 use Rattle.cpu.specs.{declared.cpus.Cpu.Cpu, Cpus.{ActsGrow, GuestsWent, SeenGrows, programs_of}, CpuSteps.{IsCpuAt, IsTabledAt, Leaves}}
-use Rattle.cpu.{specs.Tower.Privates.threads_in, proofs.{PassSteps.current_within, CpuStates.valid_cpu, StepsBesideGuests.{none_grow, none_moved, none_seen}}}
-use Rattle.cpu.proofs.TableCalls.{ObservedCpu, ObservedOutset, hand_known}
+use Rattle.cpu.proofs.{PassSteps.current_within, CpuStates.{Outset, TabledCpu, valid_cpu}, StepsBesideGuests.{none_grow, none_moved, none_seen}, TableCalls.hand_known}
 use borrow.Fn.World.{World}
 use denote.RattleType.{RattleType}
 use mir.Syntax.{Dict}
@@ -14,23 +15,20 @@ use mir.Syntax.{Dict}
 pub record IsLayered {P L M : Type 0} (I : Ghosts P L M) (m : M) (p : Cpu P M) : Type 0 where
   pub number : I.cpu_of p.part ≡ p.number
   pub acts : I.ActsFor m (I.cpu_of p.part)
-  pub stands : Stands (I.homes_of m) (I.cpu_of p.part) (I.moves m) (I.threads p.part)
-  pub moves_legal : AreMoves (I.homes_of m) (I.moves m)
+  pub stands : Stands (homes_in (I.opening m)) (I.cpu_of p.part) (I.moves m) (threads_in (I.own p.part))
+  pub moves_legal : AreMoves (homes_in (I.opening m)) (I.moves m)
   pub is : IsCpuAt I m p
   pub idle : I.under_way p.part ≡ None → I.is_inside p.part ≡ false
   pub busy : I.IsStepwise → I.is_inside p.part ≡ is_in_section (phase (I.cpu_of p.part) (I.acts m))
-  pub reads_own : I.IsStepwise → (threads_in (I.own p.part) ≡ I.threads p.part) × ((I.own p.part).call_states ≡ I.call_states p.part)
   pub table : I.IsStepwise → IsTabledAt I m p
 
 -- the laws of a layer that say so
 pub record PartLaws {P L M : Type 0} (I : Ghosts P L M) : Type 0 where
   pub own_cpu : (p : P) (m : M) → I.Fits p m → I.ActsFor m (I.cpu_of p)
-  pub stands : (p : P) (m : M) → I.Fits p m → Stands (I.homes_of m) (I.cpu_of p) (I.moves m) (I.threads p)
-  pub moves_legal : (m : M) (c : CpuId) → I.ActsFor m c → AreMoves (I.homes_of m) (I.moves m)
+  pub stands : (p : P) (m : M) → I.Fits p m → Stands (homes_in (I.opening m)) (I.cpu_of p) (I.moves m) (threads_in (I.own p))
+  pub moves_legal : (m : M) (c : CpuId) → I.ActsFor m c → AreMoves (homes_in (I.opening m)) (I.moves m)
   pub idle : (p : P) (m : M) → I.Fits p m → I.under_way p ≡ None → I.is_inside p ≡ false
   pub busy : (p : P) (m : M) → I.Fits p m → I.IsStepwise → I.is_inside p ≡ is_in_section (phase (I.cpu_of p) (I.acts m))
-  pub reads_own : I.IsStepwise → (p : P) → (threads_in (I.own p) ≡ I.threads p) × ((I.own p).call_states ≡ I.call_states p)
-  pub reads_homes : I.IsStepwise → (m : M) → homes_in (I.opening m) ≡ I.homes_of m
 
 -- from all that a bound by the layer's trait gives
 pub laws_of : {world : World} {Part Law Machine : RattleType} {I : Ghosts Part.Denot Law.Denot Machine.Denot} {dict : Dict}
@@ -42,8 +40,6 @@ laws_of law = record {
   moves_legal = law.moves_legal;
   idle = law.idle;
   busy = law.busy;
-  reads_own = λ step. law.reads_own;
-  reads_homes = λ step. law.reads_homes;
 }
 
 -- a CPU whose part fits the machine
@@ -53,11 +49,11 @@ layered {I} laws m p fits number is table = grind arith
 
 module _ {P L M : Type 0} {I : Ghosts P L M} {m : M} {p : Cpu P M} (at : IsLayered I m p) where
   -- a thread that runs is at home with it
-  pub runs_home : (t : Tid) → (I.threads p.part).current ≡ Some t → home_of (I.homes_of m) t ≡ Some p.number
+  pub runs_home : (t : Tid) → (threads_in (I.own p.part)).current ≡ Some t → home_of (homes_in (I.opening m)) t ≡ Some p.number
   runs_home t runs = grind (arith, current_at)
 
   -- and has a place in the table of guests
-  pub runs_within : (t : Tid) → (I.threads p.part).current ≡ Some t → t.0 < length p.guests.items
+  pub runs_within : (t : Tid) → (threads_in (I.own p.part)).current ≡ Some t → t.0 < length p.guests.items
   runs_within = current_within (valid_cpu at.is) runs_home
 
   -- the machine's holder acts for it
@@ -65,26 +61,24 @@ module _ {P L M : Type 0} {I : Ghosts P L M} {m : M} {p : Cpu P M} (at : IsLayer
   acts_for = subst (λ (d : CpuId). I.ActsFor m d) at.number at.acts
 
   module _ (step : I.IsStepwise) where
-    abbrev pub observed_cpu : ObservedCpu
-    observed_cpu = record {
-      cpu = valid_cpu at.is;
-      caps = I.caps m;
-      part = I.own p.part;
+    abbrev pub tabled_cpu : TabledCpu
+    tabled_cpu = record {
+      state = (valid_cpu at.is).state;
+      caps = caps_in (I.opening m);
+      own = I.own p.part;
       opening = I.opening m;
-      part_of = I.cpu_of p.part;
-      number_is = at.number;
-      reads_own = at.reads_own step;
+      is = at.is;
       tabled = at.table step;
       home = runs_home;
     }
 
-    abbrev pub observed_outset : ObservedOutset (λ d. I.ActsFor m d) observed_cpu (I.acts m)
-    observed_outset = record {
+    abbrev pub outset : Outset (λ d. I.ActsFor m d) tabled_cpu (I.acts m)
+    outset = record {
       inside = I.is_inside p.part;
       acts = acts_for;
       idle = at.idle;
-      busy = at.busy step;
-      known = hand_known (I.homes_of m) (I.cpu_of p.part) (I.moves m) (I.threads p.part) at.stands at.moves_legal;
+      busy = rw at.number at (at.busy step);
+      known = hand_known (homes_in (I.opening m)) (I.cpu_of p.part) (I.moves m) (threads_in (I.own p.part)) at.stands at.moves_legal;
     }
 
 -- a step that touches neither the machine nor the CPU's part
@@ -101,8 +95,6 @@ left_alone I m p q at number limit part programs guests = record {
   moves = none_moved _ _ _ _ refl;
   grows = λ step. none_grow _ _ _ _ refl;
   opening = refl;
-  caps = refl;
-  homes = refl;
   site = refl;
   room = omega arith;
   acts = λ c acts. acts;
@@ -112,11 +104,11 @@ left_alone I m p q at number limit part programs guests = record {
 
 -- a step of the CPU's part
 pub left_framed : {P L M : Type 0} (I : Ghosts P L M) (m n : M) (p q : Cpu P M) → I.cpu_of p.part ≡ p.number → q.number ≡ p.number → q.limit ≡ p.limit
-    → Framed I.Fits I.cpu_of I.opening I.site I.room I.ActsFor I.MayHold p.part q.part m n → I.caps n ≡ I.caps m → I.homes_of n ≡ I.homes_of m
+    → Framed I.Fits I.cpu_of I.opening I.site I.room I.ActsFor I.MayHold p.part q.part m n
     → programs_of q.guests.items ≡ programs_of p.guests.items → GuestsWent p.number p.guests.items p.trace.items q.guests.items q.trace.items
     → SeenGrows (I.ActsFor m) p.number (I.seen m) (I.seen n)
     → MovesGrow (I.ActsFor m) p.number (I.moves m) (I.moves n) → (I.IsStepwise → ActsGrow (I.ActsFor m) p.number (I.acts m) (I.acts n)) → Leaves I m p n q
-left_framed I m n p q at number limit framed caps homes programs guests seen moves grows = record {
+left_framed I m n p q at number limit framed programs guests seen moves grows = record {
   number = number;
   limit = limit;
   cpu = framed.cpu ∙ at;
@@ -126,8 +118,6 @@ left_framed I m n p q at number limit framed caps homes programs guests seen mov
   moves = moves;
   grows = grows;
   opening = framed.stays.opening;
-  caps = caps;
-  homes = homes;
   site = framed.stays.site;
   room = framed.stays.room;
   acts = framed.stays.acts;

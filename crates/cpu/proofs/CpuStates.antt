@@ -1,8 +1,9 @@
 -- A CPU at one moment with what holds of it then, as the lemmas about its steps take it.
 use Rattle.std.proofs.Common.{◌≡◌, ℕ, Bool, false, List, slice_get, Option, Some, None, IsSome}
+use Rattle.layer_traits.specs.OwnParts.{threads_in}
 use Rattle.event_log.specs.{declared.{entries.Entry.Entry, ids.{CpuId.CpuId, LockId.LockId, Tid.Tid}}, Actions.{Action, phase}}
 use Rattle.layer_traits.specs.{declared.call_states.CallState.CallState, Places.{Threads, home_of}, Plans.is_in_section, BufferLaw.{Buffering, UnderWay}}
-use Rattle.cpu.specs.{declared.guests.Guest.Guest, Cpus.IsCpu, Tables.IsTabled, Tower.{Privates.threads_in, Views.{TowerBlock, TowerName}}}
+use Rattle.cpu.specs.{declared.guests.Guest.Guest, Cpus.IsCpu, Tables.IsTabled, Tower.{Views.{TowerBlock, TowerName}}}
 
 -- all but its part of the layer: its machine's homes, how many buffers it has and the effects seen in it, and what the CPU keeps for itself
 pub record CpuState : Type 0 where

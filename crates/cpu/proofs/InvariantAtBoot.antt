@@ -1,4 +1,7 @@
 -- A CPU and a system before their first step are as they are always to be.
+use Rattle.layer_traits.specs.Capacities.{caps_in}
+use Rattle.layer_traits.specs.OwnParts.{threads_in}
+use Rattle.layer_traits.specs.QueueBlocks.{homes_in}
 use Rattle.std.proofs.Common.{◌≡◌, ◌⊎◌, inl, inr, ℕ, zero, suc, ◌+◌, ◌^◌, ◌<◌, ◌≤◌, false, List, [], ◌∷◌, ◌++◌, length, map, cond, drop, replicate}
 use Rattle.std.proofs.{Common.{vec_capacity, Option, Some, None, refl, ap, sym, ◌∙◌, subst, arith}, lemmas.{Bool.cases_lt, List.get_or-replicate}}
 use Rattle.std.proofs.lemmas.{List.{get_or_past, length-replicate, Elements.All-get_or, Sums.sum_by-cons}, Option.{get_or_from_slice_get, slice_get_within}}
@@ -50,16 +53,17 @@ boots homes buffers number guests limit capacity are few reserved = record {
 
 -- a CPU that was made so, in a machine that is fresh
 pub boots_as : {P L M : Type 0} (I : Ghosts P L M) (m : M) (p : Cpu P M) (homes : List CpuId) (buffers k : ℕ) (guests : List (Option Guest)) (most : ℕ)
-    → IsBootedAs (λ q n. I.Fits q n) (λ n d. I.IsFresh n homes d) (λ n. length (I.caps n)) I.IsStepwise buffers homes k guests most p.part (I.cpu_of p.part)
-    (I.own p.part) (I.threads p.part) (I.call_states p.part) (I.under_way p.part) p.number p.guests.items p.trace.items p.limit (vec_capacity p.trace)
-    → I.IsFresh m homes (cpu_at k) → length (I.caps m) ≡ buffers → I.homes_of m ≡ homes → I.seen m ≡ [] → AreGuests homes buffers (cpu_at k) guests
+    → IsBootedAs (λ q n. I.Fits q n) (λ n d. I.IsFresh n homes d) (λ n. length (caps_in (I.opening n))) buffers homes k guests most p.part (I.cpu_of p.part)
+    (I.own p.part) (I.under_way p.part) p.number p.guests.items p.trace.items p.limit (vec_capacity p.trace)
+    → I.IsFresh m homes (cpu_at k) → length (caps_in (I.opening m)) ≡ buffers → homes_in (I.opening m) ≡ homes → I.seen m ≡ [] → AreGuests homes buffers
+    (cpu_at k) guests
     → length homes ≤ THREADS
-    → I.Fits p.part m × (I.cpu_of p.part ≡ p.number) × IsCpu (I.homes_of m) (length (I.caps m)) (I.seen m) (I.threads p.part) (I.call_states p.part)
-    (I.under_way p.part) p.number p.guests.items p.trace.items p.limit (vec_capacity p.trace)
+    → I.Fits p.part m × (I.cpu_of p.part ≡ p.number) × IsCpu (homes_in (I.opening m)) (length (caps_in (I.opening m))) (I.seen m) (threads_in (I.own p.part))
+    (I.own p.part).call_states (I.under_way p.part) p.number p.guests.items p.trace.items p.limit (vec_capacity p.trace)
 boots_as I m p homes buffers k guests most is fresh counted same none are few = (
   is.fits m fresh counted,
   is.cpu_is ∙ sym is.booted.number_is,
-  subst (λ z. z) (λ i. IsCpu (sym same i) (sym counted i) (sym none i) (sym is.threads_are i) (sym is.nobody_calls i) (sym is.nothing_done i)
+  subst (λ z. z) (λ i. IsCpu (sym same i) (sym counted i) (sym none i) (threads_in (sym is.own_is i)) (sym is.own_is i).call_states (sym is.nothing_done i)
       (sym is.booted.number_is i) (sym is.booted.guests_are i) (sym is.booted.nothing i) (sym is.booted.limit_is i) (vec_capacity p.trace))
       (boots homes buffers (cpu_at k) guests most (vec_capacity p.trace) are few is.booted.reserved),
 )

@@ -1,8 +1,10 @@
 -- At each moment of a system over a layer of message calls its calls have one order, and a step lets it go on.
 use Rattle.std.proofs.{lemmas.{List.{append-nil, length-reverse, length-map, reverse-append}, Option.same_Some}, Common.{◌≡◌, ℕ, ◌<◌, ◌^◌, List, [], ◌++◌}}
 use Rattle.std.{proofs.Common.{length, map, reverse, Option, Some, ap, sym, ◌∙◌, subst, arith}, specs.{Prelude.slice_get, List.AllByRecursion}}
+use Rattle.layer_traits.specs.Capacities.{caps_in}
 use Rattle.event_log.specs.{declared.{entries.Entry.Entry, ids.{BufId.BufId, CpuId.CpuId, Tid.Tid, TheConstants.CPUS}}, Actions.AreLegal, History.IsLawful}
-use Rattle.{event_log.proofs.Streams.taken_put, layer_traits.specs.{declared.call_layers.CallLayer.Ghosts, BufferEffects.MayTakeEffect, Places.Stands}}
+use Rattle.{event_log.proofs.Streams.taken_put, layer_traits.specs.{declared.call_layers.CallLayer.Ghosts, BufferEffects.MayTakeEffect, OwnParts.threads_in, Places.Stands}}
+use Rattle.layer_traits.specs.QueueBlocks.{homes_in}
 use Rattle.{layer_traits.proofs.EffectRunLemmas.effects_are_run, cpu.specs.{declared.cpus.Cpu.Cpu, Claims.{CpuShown, HasOneOrder, IsMoment, Shown}}}
 use Rattle.cpu.{specs.{Cpus.{SeenGrows, guests_rest}, Linear.{CallsGoOn, OrderGrows}}, proofs.{InvariantOverSteps.{Holds, no_others}, ListReads.all_left}}
 use Rattle.cpu.proofs.{ListReads.{all_reversed, all_right}, ReachedSystems.shown_in, OneOrder.{Has, closed_by_order, follow_programs, stay_home}}
@@ -13,8 +15,8 @@ pub record MachineLaws {P L M : Type 0} (I : Ghosts P L M) : Type 0 where
   pub own_cpu : (part : P) (m : M) → I.Fits part m → I.ActsFor m (I.cpu_of part)
   pub legal : (m : M) (c : CpuId) → I.ActsFor m c → AreLegal (I.acts m)
   pub known : (m : M) (c : CpuId) → I.ActsFor m c → AllByRecursion (λ e. e.cpu.0 < CPUS) (I.seen m)
-  pub lawful : (m : M) (c : CpuId) → I.ActsFor m c → IsLawful (MayTakeEffect (I.caps m)) (I.seen m)
-  pub stands : (part : P) (m : M) → I.Fits part m → Stands (I.homes_of m) (I.cpu_of part) (I.moves m) (I.threads part)
+  pub lawful : (m : M) (c : CpuId) → I.ActsFor m c → IsLawful (MayTakeEffect (caps_in (I.opening m))) (I.seen m)
+  pub stands : (part : P) (m : M) → I.Fits part m → Stands (homes_in (I.opening m)) (I.cpu_of part) (I.moves m) (threads_in (I.own part))
 
 -- The order.
 
@@ -54,19 +56,20 @@ order_grows ActsFor c old new acts known grows = record {
 module _ {P L M : Type 0} (I : Ghosts P L M) (laws : MachineLaws I) (owner : M → BufId → Option Tid) (threads : ℕ) (m : M) (cpus : List (Cpu P M))
     (room taken : ℕ) (is : Holds (works_by I owner threads) m cpus room taken) where
   -- each CPU has what always holds of it
-  pub each_has : (k : ℕ) (p : CpuShown) → slice_get (map (shown_by I) cpus) k ≡ Some p → Has (I.homes_of m) (length (I.caps m)) (I.seen m) (I.moves m) k p
+  pub each_has : (k : ℕ) (p : CpuShown) → slice_get (map (shown_by I) cpus) k ≡ Some p
+      → Has (homes_in (I.opening m)) (length (caps_in (I.opening m))) (I.seen m) (I.moves m) k p
   each_has = cpus_have I m cpus is.each (λ part fits. laws.stands part m fits)
 
   pub one_order : HasOneOrder (shown_in (observed_by I owner m) (map (shown_by I) cpus) room taken)
   one_order =
       let count = length-map cpus (shown_by I) in
       let few : length (I.seen m) < 2 ^ 64 = let short = is.short in let used = is.used in let small = is.small in omega (arith, short, used, small) in
-      let run = effects_are_run (I.caps m) (I.seen m) (laws.lawful m (record { 0 = 0 }) (acts_first is)) few in
+      let run = effects_are_run (caps_in (I.opening m)) (I.seen m) (laws.lawful m (record { 0 = 0 }) (acts_first is)) few in
       record {
         keeps = traces_interleaved _ _ (I.seen m) _ _ each_has (subst (λ n. AllByRecursion (λ (e : Entry). e.cpu.0 < n) (I.seen m)) (sym count) is.known);
         run = run;
         fifo = taken_put _ _ _ run;
-        closed = λ b within. closed_by_order (I.seen m) (length (I.caps m)) b within;
+        closed = λ b within. closed_by_order (I.seen m) (length (caps_in (I.opening m))) b within;
         few = let short = is.short in let long = length-reverse (I.seen m) in omega (arith, short, long);
       }
 

@@ -1,5 +1,5 @@
 -- What always holds of a system says that its calls have one order, that each thread follows its program, and that entries stay at home.
-use Rattle.std.proofs.Common.{◌≡◌, ◌≢◌, ◌⊎◌, ℕ, zero, suc, ◌<◌, ◌==◌, ◌&&◌, Bool, true, false, nat_lt, List, [], ◌∷◌, ◌++◌, length, map, reverse, Option, Some}
+use Rattle.std.proofs.Common.{◌≡◌, ◌⊎◌, ℕ, zero, suc, ◌<◌, ◌==◌, ◌&&◌, Bool, true, false, nat_lt, List, [], ◌∷◌, ◌++◌, length, map, reverse, Option, Some}
 use Rattle.std.proofs.{Common.{refl, ap, sym, ◌∙◌, subst, arith, slice_set}, lemmas.{Bool.{cases_eq, cases_lt, eq-eqb, ne_eqb}, List.append-nil}}
 use Rattle.std.proofs.lemmas.List.{reverse-append, reverse-reverse, length-map, length-set, get_or_past, get_or-set_same, get_or-set_other}
 use Rattle.std.{proofs.lemmas.{List.Elements.filter-append, Option.slice_get-get_or}, specs.{Prelude.{filter, slice_get, slice_index_or}, List.AllByRecursion}}

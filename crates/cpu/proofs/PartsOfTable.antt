@@ -1,5 +1,5 @@
 -- What a system tells is what the step table has: its blocks, by the actions of all CPUs, and each CPU's threads.
-use Rattle.std.proofs.Common.{◌≡◌, inl, ℕ, ◌<◌, List, [], length, map, Option, Some, option_map, slice_index, refl, ap, sym, ◌∙◌, arith, subst, true}
+use Rattle.std.proofs.Common.{◌≡◌, inl, ℕ, ◌<◌, List, length, map, Option, Some, option_map, slice_index, refl, ap, sym, ◌∙◌, arith, subst, true}
 use Rattle.std.specs.Prelude.{slice_get}
 use Rattle.event_log.specs.{declared.ids.{BufId.BufId, CpuId.CpuId, LockId.{LockId, TheVariants.{Buffer as AtBuffer, Pending}}, Tid.Tid}, Actions.Action}
 use Rattle.event_log.{specs.{Buffers.{items_of, IsAllowedEffect}, Runs.is_closed, Sections.{block_after, sections_in}}, proofs.Renaming.sections_in_renamed}

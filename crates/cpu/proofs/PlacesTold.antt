@@ -1,15 +1,16 @@
 -- The place that a system tells of a thread is where the thread stands in the table's own lists.
 use Rattle.std.proofs.{Common.{◌≡◌, ℕ, ◌<◌, true, List, length, Option, Some, ap, sym, ◌∙◌, subst, arith}, lemmas.{Bool.and_parts, List.length-map}}
+use Rattle.layer_traits.specs.OwnParts.{threads_in}
 use Rattle.{std.{proofs.lemmas.Option.same_Some, specs.Prelude.{slice_get, slice_index_or}}, event_log.specs.declared.{entries.Entry.Entry, ids.BufId.BufId}}
 use Rattle.event_log.{specs.declared.ids.{CpuId.CpuId, LockId.TheVariants.Buffer as AtBuffer, Tid.Tid}, proofs.Same.same_cpu_self}
 use Rattle.{thread_blocks.specs.Queues.is_in, layer_traits.specs.declared.{calls.Place.Place, moves.WaitList.{WaitList, TheVariants.{Sleepers, Receivers}}}}
 use Rattle.layer_traits.specs.{declared.moves.WaitList.TheVariants.Senders, BufferLaw.Buffering, IpcLaw.WaitListsAgree, OnePlace.cpu_at, Passes.or_else}
-use Rattle.layer_traits.specs.{Observed.{IsOwnPlace, queue_place}, Places.{Asleep, At, Hand, Pend, Stands, Step, Threads, Where, home_of, is_pend, one_if}}
+use Rattle.layer_traits.specs.{Observed.{IsOwnPlace, queue_place}, Places.{Asleep, At, Pend, Stands, Step, Threads, Where, home_of, is_pend, one_if}}
 use Rattle.layer_traits.{specs.Places.{pending_by, where_is}, proofs.{CountLemmas.{in_counted, is_cpu_true}, ListsLemmas.{wait_channel_here, counted_in}}}
 use Rattle.{layer_traits.proofs.PlaceLemmas.{pend_count, pend_home}, cpu.specs.{declared.guests.Guest.Guest, Claims.{Waiters, CpuShown, IsPlaceOf, MovesAgree}}}
 use Rattle.cpu.specs.{Claims.{Shown, waiters_at, waiters_by, listed, no_waiters}, Systems.whole_of, Table.Setups.{Private, Setup, Thread, thread_at}}
 use Rattle.cpu.specs.{Table.Setups.home_of as table_home, Tables.{private, state_of, states}, Observed.{CpuHas, CpuIsObserved, HasBuffer, IsPlaceByTable}}
-use Rattle.cpu.{specs.Tower.Privates.threads_in, proofs.{ListReads.{listed_there, shows_at, there_is}, Tower.BegunPolls.thread_here}}
+use Rattle.cpu.{proofs.{ListReads.{listed_there, shows_at, there_is}, Tower.BegunPolls.thread_here}}
 use Rattle.event_log.specs.declared.ids.LockId.TheVariants as lock
 use Rattle.layer_traits.specs.declared.calls.Place.TheVariants as place
 

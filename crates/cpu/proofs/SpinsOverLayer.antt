@@ -1,5 +1,7 @@
 -- A system over a layer of message calls, after looks of one of its CPUs that all missed.
 use Rattle.std.proofs.Common.{◌≡◌, ◌≢◌, ℕ, zero, suc, ◌+◌, ◌<◌, ◌≤◌, false, List, [], ◌∷◌, ◌++◌, length, map, replicate, reverse, Option, Some, None, refl, ap}
+use Rattle.layer_traits.specs.Capacities.{caps_in}
+use Rattle.layer_traits.specs.QueueBlocks.{homes_in}
 use Rattle.std.{proofs.{Common.{sym, ◌∙◌, subst, arith}, lemmas.{Bool.ne_eqb, Option.slice_get_within}}, specs.Prelude.slice_get}
 use Rattle.event_log.specs.{declared.{entries.Entry.Entry, ids.{BufId.BufId, CpuId.CpuId, LockId.LockId, Tid.Tid}}, Actions.{Action, Try, AreLegal}}
 use Rattle.event_log.{specs.{Actions.{cpu_of_action, phase}, History.AreOthers}, proofs.{Foreign.phase_others, Renaming.legal_renamed}}
@@ -27,7 +29,7 @@ module _ {P L M : Type 0} (I : Ghosts P L M) (laws : MachineLaws I) (owner : M �
 
   -- CPU c, at number k, has a section under way, and so many looks of its part x took the machine from m to n
   module _ (k looks : ℕ) (c : CpuId) (x : Cpu P M) (is : Holds (works_by I owner threads) m cpus room taken) (at : slice_get cpus k ≡ Some x) (same : k ≡ c.0)
-      (spun : Spun I.Fits I.opening I.site I.seen I.room I.ActsFor I.MayHold looks m n) (homes : I.homes_of n ≡ I.homes_of m) (caps : I.caps n ≡ I.caps m)
+      (spun : Spun I.Fits I.opening I.site I.seen I.room I.ActsFor I.MayHold looks m n)
       (tries : I.IsStepwise → Misses (I.cpu_of x.part) looks (I.acts m) (I.acts n)) (still : looks ≡ 0 → n ≡ m) (live : own_reason (shown_by I x) ≡ None)
       (space : taken + looks ≤ room) (legal : AreLegal (I.acts n)) where
     number : I.cpu_of x.part ≡ c
@@ -43,13 +45,13 @@ module _ {P L M : Type 0} (I : Ghosts P L M) (laws : MachineLaws I) (owner : M �
         record {
           one_order = record {
             keeps = rw spun.seen one.keeps;
-            run = rw (caps, spun.seen) one.run;
-            fifo = rw (caps, spun.seen) one.fifo;
-            closed = rw (caps, spun.seen) one.closed;
+            run = rw (spun.opening, spun.seen) one.run;
+            fifo = rw (spun.opening, spun.seen) one.fifo;
+            closed = rw (spun.opening, spun.seen) one.closed;
             few = let few = one.few in let same = ap (λ (l : List Entry). length (reverse l)) spun.seen in omega (arith, few, same);
           };
           follow = before.follow;
-          stay = rw homes before.stay;
+          stay = rw spun.opening before.stay;
         }
 
     -- the looks are steps of the schedule
@@ -65,7 +67,7 @@ module _ {P L M : Type 0} (I : Ghosts P L M) (laws : MachineLaws I) (owner : M �
             misses_lead I.IsStepwise c (shows m taken) (shown_by I x)
             (subst (λ (j : ℕ). slice_get (map (shown_by I) cpus) j ≡ Some (shown_by I x)) same (shows_at (shown_by I) cpus k x at)) live more
             (shows n (taken + looks))
-            (record { caps = caps; homes = homes; programs = refl; count = refl; limits = refl; room = refl })
+            (record { caps = ap caps_in spun.opening; homes = ap homes_in spun.opening; programs = refl; count = refl; limits = refl; room = refl })
             (record {
               cpus = refl;
               room = refl;
@@ -92,16 +94,16 @@ module _ {P L M : Type 0} (I : Ghosts P L M) (laws : MachineLaws I) (owner : M �
             holds = (
               spun.fits z.part before.holds.0,
               before.holds.1,
-              rw (homes, caps, spun.seen) before.holds.2,
-              λ step. rw (homes, caps, spun.opening) (before.holds.3 step),
+              rw (spun.opening, spun.seen) before.holds.2,
+              λ step. rw spun.opening (before.holds.3 step),
             );
           };
       some = is.some;
       most = is.most;
-      crowd = rw homes is.crowd;
+      crowd = rw spun.opening is.crowd;
       acts_for = λ d exists. spun.acts d (is.acts_for d exists);
       known = rw spun.seen is.known;
-      within = rw homes is.within;
+      within = rw spun.opening is.within;
       rest = λ step d past exists.
           let missed = tries step in
           let apart : (I.cpu_of x.part).0 ≢ d.0 =
@@ -116,7 +118,7 @@ module _ {P L M : Type 0} (I : Ghosts P L M) (laws : MachineLaws I) (owner : M �
       small = is.small;
       enough = let enough = is.enough in let left = spun.room in omega (arith, enough, left);
       sound = (
-        is.sound.0 ∙ ap (λ (l : List CpuId). length l) (sym homes),
+        is.sound.0 ∙ ap (λ (l : List CpuId). length l) (sym (ap homes_in spun.opening)),
         λ step. reached_alone I.IsStepwise c looks (shows m taken) (shows n (taken + looks)) inside_shown spins_lead step (is.sound.1 step),
       );
     }

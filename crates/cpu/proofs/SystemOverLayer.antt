@@ -1,4 +1,7 @@
 -- A system over a layer of message calls, after a step of one of its CPUs.
+use Rattle.layer_traits.specs.Capacities.{caps_in}
+use Rattle.layer_traits.specs.OwnParts.{threads_in}
+use Rattle.layer_traits.specs.QueueBlocks.{homes_in}
 use Rattle.std.proofs.{lemmas.{List.{length-map, length-set}, Option.slice_get_within}, Common.{◌≡◌, ℕ, ◌+◌, ◌<◌, List, length, map, Option, Some, slice_set}}
 use Rattle.std.{proofs.Common.{vec_capacity, ap, arith, sym, subst, ◌∙◌}, specs.{Prelude.slice_get, List.AllByRecursion}}
 use Rattle.cpu.proofs.{ListReads.{map_twice, shows_same, shown_at, shows_at}, InvariantOverSteps.{Holds, Works, stepped}, ReachedSystems.{Observed, shown_in}}
@@ -9,13 +12,13 @@ use Rattle.layer_traits.specs.{declared.{call_layers.CallLayer.Ghosts, steps.Ste
 
 -- what a CPU shows
 abbrev pub shown_by : {P L M : Type 0} → Ghosts P L M → Cpu P M → CpuShown
-shown_by I x = cpu_shown (I.threads x.part) x.guests.items x.trace.items x.limit (I.is_inside x.part) (I.own x.part)
+shown_by I x = cpu_shown (threads_in (I.own x.part)) x.guests.items x.trace.items x.limit (I.is_inside x.part) (I.own x.part)
 
 -- what the machine tells, who owns its locks among it
 abbrev pub observed_by : {P L M : Type 0} → Ghosts P L M → (M → BufId → Option Tid) → M → Observed
 observed_by I owner m = record {
-  caps = I.caps m;
-  homes = I.homes_of m;
+  caps = caps_in (I.opening m);
+  homes = homes_in (I.opening m);
   seen = I.seen m;
   wait_lists = I.wait_lists m;
   owner = owner m;
@@ -30,7 +33,7 @@ works_by I owner threads = record {
   number = λ x. x.number;
   cpu = λ x. I.cpu_of x.part;
   shown = shown_by I;
-  call_states = λ x. I.call_states x.part;
+  call_states = λ x. (I.own x.part).call_states;
   under_way = λ x. I.under_way x.part;
   capacity = λ x. vec_capacity x.trace;
   ActsFor = λ m c. I.ActsFor m c;
@@ -39,7 +42,7 @@ works_by I owner threads = record {
   told = observed_by I owner;
   left = λ m. I.room m;
   Tabled = λ m x. I.IsStepwise → IsTabledAt I m x;
-  Sound = λ m cpus space done. (threads ≡ length (I.homes_of m))
+  Sound = λ m cpus space done. (threads ≡ length (homes_in (I.opening m)))
       × (I.IsStepwise → IsReachedByTable (shown_in (observed_by I owner m) (map (shown_by I) cpus) space done));
 }
 
@@ -73,19 +76,23 @@ module _ {P L M : Type 0} (I : Ghosts P L M) (owner : M → BufId → Option Tid
     went_on fits keeps table known =
         let there = slice_get_within (map (shown_by I) cpus) k (shown_by I x) (shows_at (shown_by I) cpus k x at) in
         stepped W m n cpus room taken k x y is (
-          is.sound.0 ∙ ap (λ (l : List CpuId). length l) (sym left.homes),
+          is.sound.0 ∙ ap (λ (l : List CpuId). length l) (sym (ap homes_in left.opening)),
           λ step. reached_on c _ _ Stepped (subst (λ (j : ℕ). j < length (map (shown_by I) cpus)) same there)
               (plan_preserved m n cpus room taken (taken + 1) k x y at left) (by_table step) (is.sound.1 step),
-        ) at left.number left.cpu fits keeps table (λ z before step. rw (left.homes, left.caps, left.opening) (before step))
-        (λ z other there. left.others z.part other there) left.acts left.holders left.seen left.grows known left.homes left.caps left.room live
+        ) at left.number left.cpu fits keeps table (λ z before step. rw left.opening (before step))
+        (λ z other there. left.others z.part other there) left.acts left.holders left.seen left.grows known (ap homes_in left.opening)
+        (ap caps_in left.opening) left.room live
 
 -- from what always holds of each CPU to what is shown of it
 pub cpus_have : {P L M : Type 0} (I : Ghosts P L M) (m : M) (cpus : List (Cpu P M))
     → ((k : ℕ) (x : Cpu P M) → slice_get cpus k ≡ Some x
     → IsAt (λ y. I.Fits y.part m × (I.cpu_of y.part ≡ y.number) × IsCpuAt I m y × (I.IsStepwise → IsTabledAt I m y)) (λ y. y.number) k x)
-    → ((part : P) → I.Fits part m → Stands (I.homes_of m) (I.cpu_of part) (I.moves m) (I.threads part))
-    → (k : ℕ) (p : CpuShown) → slice_get (map (shown_by I) cpus) k ≡ Some p → Has (I.homes_of m) (length (I.caps m)) (I.seen m) (I.moves m) k p
-cpus_have {P} {M} I m cpus each stand = shown_at (shown_by I) (λ k p. Has (I.homes_of m) (length (I.caps m)) (I.seen m) (I.moves m) k p) cpus has_of
+    → ((part : P) → I.Fits part m → Stands (homes_in (I.opening m)) (I.cpu_of part) (I.moves m) (threads_in (I.own part)))
+    → (k : ℕ) (p : CpuShown) → slice_get (map (shown_by I) cpus) k ≡ Some p → Has (homes_in (I.opening m)) (length (caps_in (I.opening m))) (I.seen m)
+    (I.moves m) k p
+cpus_have {P} {M} I m cpus each stand = shown_at (shown_by I)
+    (λ k p. Has (homes_in (I.opening m)) (length (caps_in (I.opening m))) (I.seen m) (I.moves m) k p) cpus has_of
   where
-    has_of : (k : ℕ) (x : Cpu P M) → slice_get cpus k ≡ Some x → Has (I.homes_of m) (length (I.caps m)) (I.seen m) (I.moves m) k (shown_by I x)
+    has_of : (k : ℕ) (x : Cpu P M) → slice_get cpus k ≡ Some x → Has (homes_in (I.opening m)) (length (caps_in (I.opening m))) (I.seen m) (I.moves m) k
+        (shown_by I x)
     has_of k x there = grind arith

@@ -1,5 +1,6 @@
 -- A poll of a pass, and an instruction of a thread's own, are steps of the table, and the CPU stays as the table asks.
 use Rattle.std.proofs.Common.{◌≡◌, ℕ, ◌<◌, Bool, true, false, ◌||◌, List, [], ◌∷◌, ◌++◌, length, slice_get, slice_set, Option, Some, None, IsSome, option_map}
+use Rattle.layer_traits.specs.OwnParts.{threads_in}
 use Rattle.std.proofs.{Common.{refl, ap, sym, ◌∙◌, subst, arith}, lemmas.List.map-set, Math.Bool.or-true}
 use Rattle.event_log.{specs.{declared.ids.{CpuId.CpuId, Tid.Tid}, Actions.{Action, phase}}, proofs.{Renaming.phase_renamed, BoolLemmas.none_of}}
 use Rattle.guest.specs.{declared.instructions.Instruction.Instruction, State.{State, after_local, after_yield, at_start, next_of}}
@@ -12,7 +13,7 @@ use Rattle.cpu.specs.declared.{cpus.Choice.TheVariants.Computes, guests.{Guest.G
 use Rattle.cpu.specs.{Guests.{after_pass, computed, ended, is_calling, passed, todo_at, todo_of}, Cpus.{chosen, chosen_by, guest_at, halted_at as cpu_halted}}
 use Rattle.cpu.specs.{Cpus.{of_cpu, of_thread, passed_by, reason_in, with_guest}, Table.{Setups.{Setup, Call as TableCall, Private, thread_at}, Choice.Alone}}
 use Rattle.cpu.specs.Table.{Choice.{Goes, at_instruction, at_ready, choice, ends, with_guest as with_state}, Steps.{cpu_step, halted_at as table_halted}}
-use Rattle.cpu.specs.Tower.{Views.{TowerName, name_of, tower}, Privates.{guests_passed, private_of, private_passed, threads_in}, Composed.{HandIsKnown, IsLine}}
+use Rattle.cpu.specs.Tower.{Views.{TowerName, name_of, tower}, Privates.{guests_passed, private_of, private_passed}, Composed.{HandIsKnown, IsLine}}
 use Rattle.cpu.specs.{Tower.{Composed.{OpensAs, named}, Positions.IsPart}, Tables.{IsSetupOf, IsTabled, private, state_of, states}}
 use Rattle.cpu.proofs.{CpuStates.{TabledCpu, Outset, valid}, GuestLists.guest_within, PassSteps.{PassCase, computes_at, finish_exit, in_no_call, pass_case}}
 use Rattle.cpu.proofs.{PassSteps.{switches, drains, sends_idle, sends_on, passes_on, finishes}, TableRows.{call_is, call_of, guest_there, halted_same}}

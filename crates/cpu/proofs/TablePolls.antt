@@ -1,5 +1,6 @@
 -- A poll of a call is a step of the table, and the CPU stays as the table asks.
 use Rattle.std.proofs.Common.{◌≡◌, ◌≢◌, ◌⊎◌, inl, inr, ℕ, ◌<◌, Bool, true, false, List, ◌++◌, length, slice_get, slice_set, Option, Some, None, IsSome}
+use Rattle.layer_traits.specs.OwnParts.{threads_in}
 use Rattle.std.proofs.{Common.{option_map, ap, sym, ◌∙◌, subst, arith}, lemmas.List.{append-nil, length-set, map-set}}
 use Rattle.event_log.specs.{declared.{entries.Entry.Entry, ids.{BufId.BufId, CpuId.CpuId, LockId.LockId, Tid.Tid, TheConstants.THREADS}}, Actions.Action}
 use Rattle.{event_log.specs.Actions.phase, guest.specs.{declared.instructions.Instruction.Instruction, State.{State, at_start, next_of}}}
@@ -11,7 +12,7 @@ use Rattle.cpu.specs.{declared.{cpus.Choice.TheVariants.Polls, guests.{Guest.Gue
 use Rattle.cpu.specs.{Guests.{after_answer, entries_of, fresh_effect, had, is_ended, polled, todo_at}, Cpus.{chosen, fresh_at, guest_at}}
 use Rattle.cpu.specs.{Cpus.{halted_at as cpu_halted, of_cpu, of_thread, reason_in, with_guest}, Table.{Setups.Setup, Steps.cpu_step}}
 use Rattle.cpu.specs.{Table.Steps.halted_at as table_halted, Tower.{Views.{TowerBlock, TowerName, tower}, Privates.{guests_after, private_after, private_of}}}
-use Rattle.cpu.specs.Tower.{Privates.{threads_in, trace_after}, Composed.{AsksFor, HandIsKnown, IsBeginning, IsGoing, OpensAs, named}, Positions.IsPart}
+use Rattle.cpu.specs.Tower.{Privates.{trace_after}, Composed.{AsksFor, HandIsKnown, IsBeginning, IsGoing, OpensAs, named}, Positions.IsPart}
 use Rattle.cpu.{specs.Tables.{IsSetupOf, IsTabled, bare, private, state_of, states}, proofs.GuestLists.{with_each, at_other, at_same, guest_within}}
 use Rattle.cpu.proofs.{CpuStates.{TabledCpu, Outset, valid}, GuestsFollow.had_going, CallSteps.{PollsAt, polls_at, poll_number, poll_call_states}}
 use Rattle.cpu.proofs.{TableRows.{call_is, halted_same, states_at, states_long}, Tower.{BegunPolls.{first_polls_are_steps, polls_are_steps}, Chains.put_same}}

@@ -1,5 +1,6 @@
 -- A CPU and the table's private state agree on each thread, and on why the CPU is halted.
 use Rattle.std.proofs.Common.{◌≡◌, ℕ, zero, suc, ◌+◌, ◌<◌, ◌==◌, Bool, true, false, ◌&&◌, List, [], ◌∷◌, length, cond, get_or, Option, Some, None, is_some}
+use Rattle.layer_traits.specs.OwnParts.{threads_in}
 use Rattle.std.{proofs.{Common.{option_map, slice_get, if◌then◌else◌, refl, ap, sym, ◌∙◌, subst, arith}, lemmas.List.Sums.sum_by-cons}, specs.List.list_all}
 use Rattle.event_log.{specs.{declared.{entries.Entry.Entry, ids.{CpuId.CpuId, Tid.Tid}}, History.same_cpu}, proofs.Same.{same_cpu_self, same_cpu_true}}
 use Rattle.{guest.specs.{declared.instructions.Instruction.Instruction, State.{State, next_of}}, layer_traits.specs.declared.calls.{Call.Call, Effect.Effect}}
@@ -8,7 +9,7 @@ use Rattle.{layer_traits.specs.BufferLaw.call_state_of, cpu.specs.{declared.gues
 use Rattle.cpu.specs.{Guests.{is_calling, is_ended}, Cpus.{begins, begun_count, chosen_at, guest_at, halted_at as cpu_halted, is_begun_guest, is_over, of_cpu}}
 use Rattle.cpu.specs.{Cpus.of_thread, Table.Setups.{Setup, Private, Thread, have_ended, home_threads, home_threads_from, is_open_call, open_calls, stands_at}}
 use Rattle.cpu.specs.Table.{Setups.thread_at, Choice.{Choice, Halts, at_call, at_current}, Steps.{halted_at as table_halted, halted_by}}
-use Rattle.cpu.specs.{Tower.Privates.{call_from, is_deferred, stage_from, thread_of, threads_in, tid}, Tables.{IsSetupOf, private, state_of, states}}
+use Rattle.cpu.specs.{Tower.Privates.{call_from, is_deferred, stage_from, thread_of, tid}, Tables.{IsSetupOf, private, state_of, states}}
 use Rattle.cpu.proofs.{CpuStates.TabledCpu, Tower.BegunPolls.thread_here, GuestLists.guest_within}
 
 -- the states of the guests

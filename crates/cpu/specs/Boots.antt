@@ -1,8 +1,8 @@
 -- CPUs and systems at boot: their guests, and that nothing has happened.
-use Rattle.std.specs.Prelude.{◌≡◌, ℕ, ◌≤◌, ◌==◌, List, [], length, map, replicate, Option, Some, None, slice_get, if◌then◌else◌}
-use Rattle.event_log.specs.declared.{entries.Entry.Entry, ids.{CpuId.CpuId, Tid.Tid, TheConstants.THREADS}}
-use Rattle.layer_traits.specs.{declared.call_states.CallState.CallState, Places.{Threads, at_boot, home_of}, BufferLaw.{Buffering, UnderWay}}
-use Rattle.{layer_traits.specs.BufferLaw.{buffering_at_start, no_call}, cpu.specs.{declared.guests.Guest.Guest, Guests.new_guest, Claims.listed}}
+use Rattle.std.specs.Prelude.{◌≡◌, ℕ, ◌≤◌, ◌==◌, List, [], length, map, Option, Some, None, slice_get, if◌then◌else◌}
+use Rattle.event_log.specs.declared.{entries.Entry.Entry, ids.{CpuId.CpuId, Tid.Tid}}
+use Rattle.layer_traits.specs.{Places.{home_of}, BufferLaw.{Buffering, UnderWay}}
+use Rattle.{layer_traits.specs.BufferLaw.{buffering_at_start}, cpu.specs.{declared.guests.Guest.Guest, Guests.new_guest, Claims.listed}}
 use Rattle.{cpu.specs.Cpus.{NamesBelow, guest_at}, boot.specs.Plan.{BootPlan, Task}}
 
 -- a CPU's guests at boot: a place for each thread; at the number of each thread at home with it, and there alone, a new guest, whose
@@ -29,16 +29,14 @@ pub record IsBooted (number : CpuId) (guests : List (Option Guest)) (most : ℕ)
 
 -- and its part of the layer is as at boot, and fits each machine that is fresh
 pub record IsBootedAs {P M : Type 0} (Fits : P → M → Type 0) (IsFresh : M → CpuId → Type 0)
-    (count : M → ℕ) (IsStepwise : Type 0) (buffers : ℕ) (homes : List CpuId)
-    (k : ℕ) (guests : List (Option Guest)) (most : ℕ) (part : P) (cpu : CpuId) (own : Buffering) (threads : Threads) (call_states : List CallState)
+    (count : M → ℕ) (buffers : ℕ) (homes : List CpuId)
+    (k : ℕ) (guests : List (Option Guest)) (most : ℕ) (part : P) (cpu : CpuId) (own : Buffering)
     (under_way : Option UnderWay)
     (its : CpuId) (table : List (Option Guest)) (trace : List Entry) (limit capacity : ℕ) : Type 0 where
   pub booted : IsBooted (record { 0 = k }) guests most its table trace limit capacity
   pub cpu_is : cpu ≡ record { 0 = k }
-  pub threads_are : threads ≡ at_boot homes (record { 0 = k })
-  pub nobody_calls : call_states ≡ replicate THREADS no_call
   pub nothing_done : under_way ≡ None
-  pub own_is : IsStepwise → own ≡ buffering_at_start homes (record { 0 = k })
+  pub own_is : own ≡ buffering_at_start homes (record { 0 = k })
   pub fits : (m : M) → IsFresh m (record { 0 = k }) → count m ≡ buffers → Fits part m
 
 -- what CPU c has at the number of a thread: a new guest where it is the thread's home

@@ -1,27 +1,28 @@
 -- One CPU over a layer of message calls and its machine: what always holds of it, and what each of its steps leaves.
 use Rattle.std.specs.Prelude.{◌≡◌, ◌≢◌, ℕ, ◌+◌, ◌≤◌, length, Option, None, vec_capacity}
+use Rattle.layer_traits.specs.Capacities.{caps_in}
 use Rattle.{event_log.specs.declared.ids.CpuId.CpuId, layer_traits.specs.declared.{call_layers.CallLayer.Ghosts, steps.{Reason.Reason, Step.Step}}}
-use Rattle.{layer_traits.specs.{declared.steps.Step.TheVariants.Stepped, BufferLaw.MovesGrow}, cpu.specs.{declared.cpus.Cpu.Cpu, Cpus.{ActsGrow, GuestsWent}}}
-use Rattle.cpu.specs.{Cpus.{IsCpu, SeenGrows, halted_at, programs_of, reason_in}, Tables.{IsTabled, WentByTable}}
+use Rattle.{layer_traits.specs.{declared.steps.Step.TheVariants.Stepped, BufferLaw.MovesGrow, OwnParts.threads_in, QueueBlocks.homes_in}}
+use Rattle.cpu.specs.{declared.cpus.Cpu.Cpu, Cpus.{ActsGrow, GuestsWent, IsCpu, SeenGrows, halted_at, programs_of, reason_in}, Tables.{IsTabled, WentByTable}}
 
 -- what always holds of the CPU
 abbrev pub IsCpuAt : {P L M : Type 0} → Ghosts P L M → M → Cpu P M → Type 0
-IsCpuAt I m p = IsCpu (I.homes_of m) (length (I.caps m)) (I.seen m) (I.threads p.part) (I.call_states p.part)
+IsCpuAt I m p = IsCpu (homes_in (I.opening m)) (length (caps_in (I.opening m))) (I.seen m) (threads_in (I.own p.part)) (I.own p.part).call_states
     (I.under_way p.part) p.number p.guests.items p.trace.items
     p.limit (vec_capacity p.trace)
 
 -- and what the step table asks of it besides
 abbrev pub IsTabledAt : {P L M : Type 0} → Ghosts P L M → M → Cpu P M → Type 0
-IsTabledAt I m p = IsTabled (I.homes_of m) (I.caps m) p.number (I.own p.part) (I.under_way p.part) p.guests.items (I.opening m)
+IsTabledAt I m p = IsTabled (homes_in (I.opening m)) (caps_in (I.opening m)) p.number (I.own p.part) (I.under_way p.part) p.guests.items (I.opening m)
 
 -- why the CPU takes no step
 abbrev pub stops_at : {P L M : Type 0} → Ghosts P L M → Cpu P M → Option Reason
-stops_at I p = reason_in (I.is_inside p.part) (halted_at (I.threads p.part) p.guests.items p.trace.items p.limit)
+stops_at I p = reason_in (I.is_inside p.part) (halted_at (threads_in (I.own p.part)) p.guests.items p.trace.items p.limit)
 
 -- the CPU and its machine went on from the first two to the last two by one step of the table, which gives this answer
 abbrev pub WentAt : {P L M : Type 0} → Ghosts P L M → M → Cpu P M → M → Cpu P M → Step → Type 0
-WentAt I m p n q answer = WentByTable (I.ActsFor m) (I.homes_of m) (I.caps m) p.number p.limit (I.own p.part) (I.own q.part) p.guests.items q.guests.items
-    p.trace.items q.trace.items (I.acts m) (I.acts n) answer
+WentAt I m p n q answer = WentByTable (I.ActsFor m) (homes_in (I.opening m)) (caps_in (I.opening m)) p.number p.limit (I.own p.part) (I.own q.part)
+    p.guests.items q.guests.items p.trace.items q.trace.items (I.acts m) (I.acts n) answer
 
 -- what the CPU and its machine keep, and what only grows
 pub record Leaves {P L M : Type 0} (I : Ghosts P L M) (m : M) (p : Cpu P M) (n : M) (q : Cpu P M) : Type 0 where
@@ -34,8 +35,6 @@ pub record Leaves {P L M : Type 0} (I : Ghosts P L M) (m : M) (p : Cpu P M) (n :
   pub moves : MovesGrow (I.ActsFor m) p.number (I.moves m) (I.moves n)
   pub grows : I.IsStepwise → ActsGrow (I.ActsFor m) p.number (I.acts m) (I.acts n)
   pub opening : I.opening n ≡ I.opening m
-  pub caps : I.caps n ≡ I.caps m
-  pub homes : I.homes_of n ≡ I.homes_of m
   pub site : I.site n ≡ I.site m
   pub room : I.room m ≤ I.room n + 1
   pub acts : (c : CpuId) → I.ActsFor m c → I.ActsFor n c

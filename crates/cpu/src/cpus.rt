@@ -1,5 +1,6 @@
 //! One CPU over a layer of message calls. No call takes memory or waits.
 
+ghost use Rattle.layer_traits.specs.OwnParts.{threads_in};
 ghost use Rattle.std.specs.Prelude.{◌≡◌, ◌+◌, ◌<◌, true, false, ◌≤◌, [], ◌∷◌, ◌++◌, Some, None, if◌then◌else◌, length, vec_capacity};
 ghost use Rattle.layer_traits.specs.{BufferLaw.entry_of, declared.calls.Call.Call};
 ghost use Rattle.cpu.specs.{Guests.entries_of, Cpus.begins_at, Cpus.begun_count, Cpus.chosen_for, Cpus.guest_at};
@@ -44,8 +45,8 @@ impl<I: CallLayer<IpcLaw>> Cpu<I> {
     /// What the CPU does next, where it is not halted.
     #[inline(always)]
     fn choice(&self) -> Choice
-        requires { (t : _) → (I.threads self.now.part).current ≡ Some t → t.0 < length self.now.guests.items }
-        ensures { result ≡ chosen (I.threads self.now.part) self.now.guests.items }
+        requires { (t : _) → (threads_in (I.own self.now.part)).current ≡ Some t → t.0 < length self.now.guests.items }
+        ensures { result ≡ chosen (threads_in (I.own self.now.part)) self.now.guests.items }
     {
         let hand = self.part.hand();
         match self.part.current() {
@@ -70,8 +71,8 @@ impl<I: CallLayer<IpcLaw>> Cpu<I> {
     /// Requires: the thread that runs, if there is one, has a place in the table of guests.
     #[inline(always)]
     pub fn halted(&self) -> Option<Reason>
-        requires { (t : _) → (I.threads self.now.part).current ≡ Some t → t.0 < length self.now.guests.items }
-        ensures { result ≡ halted_at (I.threads self.now.part) self.now.guests.items self.now.trace.items self.now.limit }
+        requires { (t : _) → (threads_in (I.own self.now.part)).current ≡ Some t → t.0 < length self.now.guests.items }
+        ensures { result ≡ halted_at (threads_in (I.own self.now.part)) self.now.guests.items self.now.trace.items self.now.limit }
     {
         if self.guests.are_over() && self.part.hand().is_none() {
             return Some(Reason::AllEnded);
@@ -95,7 +96,7 @@ impl<I: CallLayer<IpcLaw>> Cpu<I> {
     /// Requires: the thread that runs, if there is one, has a place in the table of guests.
     #[inline(always)]
     pub fn reason(&self) -> Option<Reason>
-        requires { (t : _) → (I.threads self.now.part).current ≡ Some t → t.0 < length self.now.guests.items }
+        requires { (t : _) → (threads_in (I.own self.now.part)).current ≡ Some t → t.0 < length self.now.guests.items }
         ensures { result ≡ stops_at ⟦<I as CallLayer<IpcLaw>>⟧ self.now }
     {
         if self.part.is_busy() {
@@ -125,7 +126,7 @@ impl<I: CallLayer<IpcLaw>> Cpu<I> {
         requires number { I.cpu_of self.old.part ≡ self.old.number }
         requires is { IsCpuAt ⟦<I as CallLayer<IpcLaw>>⟧ m.old self.old }
         requires live { stops_at ⟦<I as CallLayer<IpcLaw>>⟧ self.old ≡ None }
-        requires chosen { chosen (I.threads self.old.part) self.old.guests.items ≡ Polls thread asked }
+        requires chosen { chosen (threads_in (I.own self.old.part)) self.old.guests.items ≡ Polls thread asked }
         requires not_full { begins_at (guest_at self.old.guests.items thread.0) ≡ true
             → length self.old.trace.items + begun_count self.old.guests.items < self.old.limit }
         requires table { I.IsStepwise → IsTabledAt ⟦<I as CallLayer<IpcLaw>>⟧ m.old self.old }
@@ -150,7 +151,7 @@ impl<I: CallLayer<IpcLaw>> Cpu<I> {
         requires number { I.cpu_of self.old.part ≡ self.old.number }
         requires is { IsCpuAt ⟦<I as CallLayer<IpcLaw>>⟧ m.old self.old }
         requires live { stops_at ⟦<I as CallLayer<IpcLaw>>⟧ self.old ≡ None }
-        requires chosen { chosen (I.threads self.old.part) self.old.guests.items ≡ Passes pass }
+        requires chosen { chosen (threads_in (I.own self.old.part)) self.old.guests.items ≡ Passes pass }
         requires table { I.IsStepwise → IsTabledAt ⟦<I as CallLayer<IpcLaw>>⟧ m.old self.old }
         ensures fits { I.Fits self.new.part m.new }
         ensures is { IsCpuAt ⟦<I as CallLayer<IpcLaw>>⟧ m.new self.new }
@@ -173,7 +174,7 @@ impl<I: CallLayer<IpcLaw>> Cpu<I> {
         requires number { I.cpu_of self.old.part ≡ self.old.number }
         requires is { IsCpuAt ⟦<I as CallLayer<IpcLaw>>⟧ m.old self.old }
         requires live { stops_at ⟦<I as CallLayer<IpcLaw>>⟧ self.old ≡ None }
-        requires chosen { chosen (I.threads self.old.part) self.old.guests.items ≡ Passes pass }
+        requires chosen { chosen (threads_in (I.own self.old.part)) self.old.guests.items ≡ Passes pass }
         requires table { I.IsStepwise → IsTabledAt ⟦<I as CallLayer<IpcLaw>>⟧ m.old self.old }
         ensures { SteppedAt ⟦<I as CallLayer<IpcLaw>>⟧ m.old self.old m.new self.new }
     {
@@ -186,9 +187,9 @@ impl<I: CallLayer<IpcLaw>> Cpu<I> {
     /// Requires: the thread that runs, if there is one, has a place in the table of guests.
     #[inline(always)]
     fn goes_on_draining(&self) -> bool
-        requires { (t : _) → (I.threads self.now.part).current ≡ Some t → t.0 < length self.now.guests.items }
+        requires { (t : _) → (threads_in (I.own self.now.part)).current ≡ Some t → t.0 < length self.now.guests.items }
         ensures live { result ≡ true → stops_at ⟦<I as CallLayer<IpcLaw>>⟧ self.now ≡ None }
-        ensures chosen { result ≡ true → chosen (I.threads self.now.part) self.now.guests.items ≡ Passes Drain }
+        ensures chosen { result ≡ true → chosen (threads_in (I.own self.now.part)) self.now.guests.items ≡ Passes Drain }
     {
         if self.part.current().is_some() || self.part.hand().is_some() || self.part.has_ready() {
             return false;
@@ -209,7 +210,7 @@ impl<I: CallLayer<IpcLaw>> Cpu<I> {
         requires number { I.cpu_of self.old.part ≡ self.old.number }
         requires is { IsCpuAt ⟦<I as CallLayer<IpcLaw>>⟧ m.old self.old }
         requires live { stops_at ⟦<I as CallLayer<IpcLaw>>⟧ self.old ≡ None }
-        requires chosen { chosen (I.threads self.old.part) self.old.guests.items ≡ Passes Drain }
+        requires chosen { chosen (threads_in (I.own self.old.part)) self.old.guests.items ≡ Passes Drain }
         requires table { I.IsStepwise → IsTabledAt ⟦<I as CallLayer<IpcLaw>>⟧ m.old self.old }
         ensures some { 0 < result }
         ensures few { result ≤ most }
@@ -244,7 +245,7 @@ impl<I: CallLayer<IpcLaw>> Cpu<I> {
         requires number { I.cpu_of self.old.part ≡ self.old.number }
         requires is { IsCpuAt ⟦<I as CallLayer<IpcLaw>>⟧ m.old self.old }
         requires live { stops_at ⟦<I as CallLayer<IpcLaw>>⟧ self.old ≡ None }
-        requires chosen { chosen (I.threads self.old.part) self.old.guests.items ≡ Computes thread }
+        requires chosen { chosen (threads_in (I.own self.old.part)) self.old.guests.items ≡ Computes thread }
         requires table { I.IsStepwise → IsTabledAt ⟦<I as CallLayer<IpcLaw>>⟧ m.old self.old }
         ensures fits { I.Fits self.new.part m.new }
         ensures is { IsCpuAt ⟦<I as CallLayer<IpcLaw>>⟧ m.new self.new }
@@ -377,7 +378,7 @@ impl<I: CallLayer<IpcLaw>> Cpu<I> {
         ensures still { result ≡ false → (self.new ≡ self.old) × (m.new ≡ m.old) }
         ensures live { result ≡ true → stops_at ⟦<I as CallLayer<IpcLaw>>⟧ self.old ≡ None }
         ensures goes_on { result ≡ true → stops_at ⟦<I as CallLayer<IpcLaw>>⟧ self.new ≡ None }
-        ensures chosen { chosen (I.threads self.new.part) self.new.guests.items ≡ chosen (I.threads self.old.part) self.old.guests.items }
+        ensures chosen { chosen (threads_in (I.own self.new.part)) self.new.guests.items ≡ chosen (threads_in (I.own self.old.part)) self.old.guests.items }
         ensures table { I.IsStepwise → IsTabledAt ⟦<I as CallLayer<IpcLaw>>⟧ m.new self.new }
         ensures steps { I.IsStepwise → result ≡ true → WentAt ⟦<I as CallLayer<IpcLaw>>⟧ m.old self.old m.new self.new Stepped }
     {

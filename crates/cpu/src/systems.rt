@@ -6,6 +6,7 @@ mod opening;
 mod plans;
 mod quiet;
 
+ghost use Rattle.layer_traits.specs.{Capacities.caps_in, OwnParts.threads_in, QueueBlocks.homes_in};
 ghost use Rattle.std.specs.Prelude.{◌≡◌, ◌+◌, ◌<◌, ◌≤◌, ◌↔◌, true, false, All, IsOk, OnErr, OnOk, Some, None, [], length, map, slice_index_or, replicate, take};
 ghost use Rattle.layer_traits.specs.Spins.{BeginWith};
 
@@ -40,24 +41,28 @@ where
     I::Machine: Drop,
 {
     ghost use Rattle.std.specs.Prelude.{◌≡◌, length, map, vec_capacity};
+    ghost use Rattle.layer_traits.specs.{Capacities.caps_in, OwnParts.threads_in, QueueBlocks.homes_in};
     ghost use Rattle.cpu.specs.{Cpus.IsCpu, Claims.Shown, Claims.cpu_shown, Claims.shown_of, Tables.IsTabled, Sound.IsReachedByTable, Systems.IsSystem};
 
     ghost Value = { Shown };
 
-    ghost view = { λ s. shown_of (I.caps s.machine) (I.homes_of s.machine) (I.seen s.machine) (I.wait_lists s.machine) (I.owner s.machine) (I.moves s.machine)
-        (I.acts s.machine)
-        (map (λ c. cpu_shown (I.threads c.part) c.guests.items c.trace.items c.limit (I.is_inside c.part) (I.own c.part)) s.cpus.items) s.room s.taken };
+    ghost view = { λ s. shown_of (caps_in (I.opening s.machine)) (homes_in (I.opening s.machine)) (I.seen s.machine) (I.wait_lists s.machine)
+        (I.owner s.machine) (I.moves s.machine) (I.acts s.machine)
+        (map (λ c. cpu_shown (threads_in (I.own c.part)) c.guests.items c.trace.items c.limit (I.is_inside c.part) (I.own c.part)) s.cpus.items) s.room
+        s.taken };
 
     ghost invariant = { λ s. IsSystem (λ c. I.Fits c.part s.machine × (I.cpu_of c.part ≡ c.number)
-        × IsCpu (I.homes_of s.machine) (length (I.caps s.machine)) (I.seen s.machine) (I.threads c.part) (I.call_states c.part)
-        (I.under_way c.part) c.number c.guests.items c.trace.items c.limit (vec_capacity c.trace)
-        × (I.IsStepwise → IsTabled (I.homes_of s.machine) (I.caps s.machine) c.number (I.own c.part) (I.under_way c.part) c.guests.items (I.opening s.machine)))
+        × IsCpu (homes_in (I.opening s.machine)) (length (caps_in (I.opening s.machine))) (I.seen s.machine) (threads_in (I.own c.part))
+        (I.own c.part).call_states (I.under_way c.part) c.number c.guests.items c.trace.items c.limit (vec_capacity c.trace)
+        × (I.IsStepwise → IsTabled (homes_in (I.opening s.machine)) (caps_in (I.opening s.machine)) c.number (I.own c.part) (I.under_way c.part)
+        c.guests.items (I.opening s.machine)))
         (λ c. c.number) (λ c. I.ActsFor s.machine c) (λ c. I.MayHold s.machine c) I.IsStepwise (I.acts s.machine) s.cpus.items
-        (I.homes_of s.machine) (I.seen s.machine) s.room s.taken (I.room s.machine)
-        ((s.threads ≡ length (I.homes_of s.machine)) × (I.IsStepwise
-        → IsReachedByTable (shown_of (I.caps s.machine) (I.homes_of s.machine) (I.seen s.machine) (I.wait_lists s.machine) (I.owner s.machine)
-        (I.moves s.machine) (I.acts s.machine)
-        (map (λ c. cpu_shown (I.threads c.part) c.guests.items c.trace.items c.limit (I.is_inside c.part) (I.own c.part)) s.cpus.items) s.room s.taken))) };
+        (homes_in (I.opening s.machine)) (I.seen s.machine) s.room s.taken (I.room s.machine)
+        ((s.threads ≡ length (homes_in (I.opening s.machine))) × (I.IsStepwise
+        → IsReachedByTable (shown_of (caps_in (I.opening s.machine)) (homes_in (I.opening s.machine)) (I.seen s.machine) (I.wait_lists s.machine)
+        (I.owner s.machine) (I.moves s.machine) (I.acts s.machine)
+        (map (λ c. cpu_shown (threads_in (I.own c.part)) c.guests.items c.trace.items c.limit (I.is_inside c.part) (I.own c.part)) s.cpus.items) s.room
+        s.taken))) };
 }
 
 impl<I: Owned + Drop> System<I>
@@ -395,8 +400,8 @@ where
     /// moves and actions the system shows, and nobody else acts in it.
     pub fn machine(&self) -> &I::Machine
         ensures acts { (c : CpuId) → c.0 < CPUS → I.ActsFor result.now c }
-        ensures shows { self.now ≡ shown_of (I.caps result.now) (I.homes_of result.now) (I.seen result.now) (I.wait_lists result.now) (I.owner result.now)
-            (I.moves result.now) (I.acts result.now) self.now.cpus self.now.room self.now.taken }
+        ensures shows { self.now ≡ shown_of (caps_in (I.opening result.now)) (homes_in (I.opening result.now)) (I.seen result.now) (I.wait_lists result.now)
+            (I.owner result.now) (I.moves result.now) (I.acts result.now) self.now.cpus self.now.room self.now.taken }
     {
         &self.machine
     }

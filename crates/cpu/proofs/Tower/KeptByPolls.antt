@@ -1,12 +1,13 @@
 -- How all threads stand to a part is kept by every poll of a call.
 use Rattle.std.proofs.Common.{◌≡◌, inr, ◌<◌, List, [], length, slice_get, slice_set, Option, Some, None, IsSome, option_map, refl, ap, sym, ◌∙◌, subst, arith}
+use Rattle.layer_traits.specs.OwnParts.{threads_in}
 use Rattle.std.proofs.lemmas.{List.{get_or-set_other, length-set}, Bool.ne_eqb}
 use Rattle.event_log.specs.{declared.ids.{BufId.BufId, CpuId.CpuId, LockId.{TheVariants.Pending, LockId}, Tid.Tid}, Actions.{Action, Phase, phase}}
 use Rattle.{event_log.specs.Sections.{block_after, sections_in}, guest.specs.State.State, layer_traits.specs.declared.calls.Call.Call as TowerCall}
 use Rattle.layer_traits.specs.{declared.{calls.{Effect.Effect, Reply.Reply}, call_states.{Stage.Stage, CallState.CallState}}, QLockLaw.slept_for, Plans.Left}
 use Rattle.layer_traits.specs.{Plans.{Plan, Acting, Follows, at_give}, Places.is_thread, Passes.queue_for, BufferLaw.{Buffering, plan_at, call_state_of}}
 use Rattle.{layer_traits.specs.BufferLaw.{fifo_plan, going_at, section_at as call_section}, cpu.specs.{Table.Setups.Setup, Tower.Views.TowerAnswer}}
-use Rattle.cpu.specs.Tower.{Views.{TowerBlock, TowerName, TowerOut, tower}, Privates.threads_in, Positions.{IsPart, MayStand, inside, outside}}
+use Rattle.cpu.specs.Tower.{Views.{TowerBlock, TowerName, TowerOut, tower}, Positions.{IsPart, MayStand, inside, outside}}
 use Rattle.cpu.specs.Tower.Composed.{FitsStage, IsLined, HandIsKnown, Stands, asks, was_handed, enters, tries, waits as stands_waits, was_woken, asks_again}
 use Rattle.cpu.specs.Tower.Composed.{was_handed_again, signals, signals_own, releases, has_signalled, has_signalled_own, has_released, IsGoing, OpensAs}
 use Rattle.cpu.proofs.Tower.{Callers.{Caller, HasRoom, Site, awake, caller_in, call_state_at}, ChangedThread.{own_at, part_at}, SectionLines.{HasHad, own}}

@@ -1,5 +1,5 @@
 -- One buffer and the progress of its owner: whoever is due to be woken is the owner itself, or will be signalled before the lock is given back.
-use Rattle.std.proofs.Common.{◌≡◌, Bool, true, false, ◌&&◌, List, [], ◌∷◌, ◌++◌, Option, Some, None, if◌then◌else◌, refl, sym, ◌∙◌, subst, arith}
+use Rattle.std.proofs.Common.{◌≡◌, Bool, true, false, ◌&&◌, List, [], Option, Some, None, refl, sym, ◌∙◌, subst, arith}
 use Rattle.{std.proofs.lemmas.{Bool.{and_parts, and_from, false_from_ne_true}, Option.same_Some}, event_log.specs.declared.ids.Tid.Tid}
 use Rattle.thread_blocks.{specs.Queues.{first, rest}, proofs.{Members.{same_tid_self, same_tid_true}, Distinct.taken_absent}}
 use Rattle.{layer_traits.specs.{declared.locked.Side.TheVariants.{Receivers, Senders}, Sleeping.joined, BufferBlocks.is_first}, cpu.specs.Table.Blocks.Buffer}

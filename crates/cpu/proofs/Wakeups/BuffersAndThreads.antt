@@ -1,5 +1,5 @@
 -- What holds after any section log in which each section may come: every buffer with every thread, and where each thread is.
-use Rattle.std.proofs.Common.{◌≡◌, ℕ, Bool, true, false, ◌&&◌, List, [], ◌∷◌, length, Option, Some, None, option_map, nat_lt, if◌then◌else◌, refl, sym, ap, ◌∙◌}
+use Rattle.std.proofs.Common.{◌≡◌, Bool, true, false, ◌&&◌, List, [], ◌∷◌, length, Option, Some, None, option_map, nat_lt, if◌then◌else◌, refl, sym, ap, ◌∙◌}
 use Rattle.{std.proofs.{Common.{subst, arith}, lemmas.Bool.{and_parts, and_left, and_right, false_from_ne_true}}, event_log.specs.declared.ids.CpuId.CpuId}
 use Rattle.event_log.specs.declared.ids.{Tid.Tid, BufId.BufId, LockId.{LockId, TheVariants.{Pending, Buffer as AtBuffer}}, TheConstants.THREADS}
 use Rattle.event_log.{specs.{History.same_cpu, Sections.Section}, proofs.Same.{same_cpu_self, same_cpu_true, same_lock_self, same_lock_true}}

@@ -2,8 +2,8 @@
 use Rattle.std.proofs.Common.{◌≡◌, ℕ, ◌+◌, ◌<◌, ◌≤◌, Bool, true, false, not, ◌&&◌, List, [], ◌∷◌, ◌++◌, slice_get, Option, Some, None, option_map}
 use Rattle.std.proofs.{Common.{if◌then◌else◌, refl, sym, ap, ◌∙◌, subst, arith}, lemmas.Bool.lt-ltb}
 use Rattle.event_log.specs.declared.{ids.{CpuId.CpuId, Tid.Tid, LockId.TheVariants.Buffer as AtBuffer, TheConstants.THREADS}, entries.Entry.Entry}
-use Rattle.{event_log.specs.{History.same_cpu, Runs.{Sends, Receives, Group}, Sections.Section}, thread_blocks.specs.Queues.first}
-use Rattle.layer_traits.specs.declared.{locked.Side.{TheVariants.{Receivers, Senders}, Side}, call_states.Stage.TheVariants.{Idle, Acquires, Enters, Tries}}
+use Rattle.{event_log.specs.{History.same_cpu, Runs.{Group}, Sections.Section}, thread_blocks.specs.Queues.first}
+use Rattle.layer_traits.specs.declared.{locked.Side.{Side}, call_states.Stage.TheVariants.{Idle, Acquires, Enters, Tries}}
 use Rattle.{layer_traits.specs.{declared.call_states.Stage.TheVariants.{Signals, SignalsOwn, Releases}, BufferBlocks.may_join}, cpu.specs.Table.Blocks.Buffer}
 use Rattle.cpu.specs.Table.{Blocks.{OfBuffer, Name, RelQ, Pend, side_of, Reported, Nothing, Position, Answer, Enter}, Edits.{edited_buffer, acquired, entered}}
 use Rattle.cpu.specs.Table.{Edits.{reports, wakes, answer, answer_of_acquire, answer_of_buffer, line_of, drawn_position}, Setups.{Setup, Call, Private}}

@@ -5,7 +5,7 @@ use Rattle.guest.specs.{declared.instructions.Instruction.{Instruction, TheVaria
 use Rattle.{thread_blocks.{specs.Queues.same_tid, proofs.Members.same_tid_true}, layer_traits.specs.declared.steps.Reason.TheVariants.{AllEnded, TraceFull}}
 use Rattle.layer_traits.{specs.{declared.call_states.Stage.TheVariants.Acquires, Places.{Where, is_thread}}, proofs.CountLemmas.same_tid_sym}
 use Rattle.cpu.specs.Table.{Setups.{Setup, Call, Private, thread_at, stands_at, home_threads, open_calls, have_ended}, Choice.{Choice, Halts, Alone, Goes}}
-use Rattle.cpu.specs.Table.Choice.{new_call, with_call, with_guest, begins, ends, at_instruction, at_call, at_ready, at_current, at_hand, choice}
+use Rattle.cpu.specs.Table.Choice.{new_call, with_call, with_guest, begins, at_instruction, at_call, at_ready, at_current, at_hand, choice}
 use Rattle.cpu.proofs.Wakeups.{Lists.refuted, PostsAndVisits.{Visit, is_local}, Agreement.{visit_of_call, is_done, Agrees, IsSettled, at_same, at_other}}
 use Rattle.cpu.proofs.Wakeups.Agreement.{same_with, agrees_same, runs, within}
 

@@ -7,7 +7,7 @@ use Rattle.{event_log.proofs.Same.same_cpu_self, layer_traits.specs.{declared.st
 use Rattle.cpu.specs.{Sound.after_steps, Table.{Blocks.Name, Setups.{Setup, Private, at_boot}, Steps.{Whole, AlongTable, boots_from, cpu_numbered, cpu_step}}}
 use Rattle.cpu.specs.{Table.Steps.{system_step, whole_at_boot}, Wakeups.Lost.IsWorked}
 use Rattle.cpu.proofs.{ReachedSystems.after_more, Wakeups.Lists.refuted}
-use Rattle.cpu.specs.Wakeups.Merged.{IsRunOfTable, WorkIsARun}
+use Rattle.cpu.specs.Wakeups.Merged.{WorkIsARun}
 
 -- ---- lists
 

@@ -1,5 +1,5 @@
 -- Sections in the order of their calls lose no wake-up.
-use Rattle.std.proofs.Common.{◌≡◌, ℕ, Bool, true, false, List, [], ◌∷◌, length, slice_get, Option, Some, option_map, nat_lt, if◌then◌else◌, refl, sym, ap}
+use Rattle.std.proofs.Common.{◌≡◌, Bool, true, false, List, [], ◌∷◌, length, slice_get, Option, Some, option_map, nat_lt, if◌then◌else◌, refl, sym, ap}
 use Rattle.std.proofs.{Common.{subst, arith}, lemmas.Bool.{and_from, lt-ltb, or_right}}
 use Rattle.event_log.specs.{declared.{ids.{BufId.BufId, LockId.TheVariants.Buffer as AtBuffer}, entries.Kind.Kind}, Messages.Message, Runs.{Sends, Receives}}
 use Rattle.{event_log.{specs.{Runs.group_of, History.same_lock, Sections.Section}, proofs.Same.same_lock_true}, cpu.specs.Table.Blocks.{Buffer, Block}}

@@ -1,5 +1,5 @@
 -- A call that is ready, on a CPU alone, returns after just so many steps.
-use Rattle.std.proofs.Common.{◌≡◌, ℕ, ◌+◌, ◌<◌, ◌≤◌, Bool, true, false, ◌&&◌, ◌||◌, List, [], ◌∷◌, ◌++◌, length, Option, Some, None, is_some, if◌then◌else◌}
+use Rattle.std.proofs.Common.{◌≡◌, ℕ, ◌+◌, ◌<◌, ◌≤◌, Bool, true, false, ◌&&◌, List, [], ◌∷◌, ◌++◌, length, Option, Some, None, is_some, if◌then◌else◌}
 use Rattle.std.proofs.{Common.{refl, sym, ap, ◌∙◌, subst, arith, length-append}, lemmas.Bool.{and_from, cases_lt, lt-ltb, or_right}}
 use Rattle.event_log.specs.declared.{ids.{CpuId.CpuId, Tid.Tid, BufId.BufId, LockId.TheVariants.Buffer as AtBuffer, TheConstants.THREADS}, entries.Kind.Kind}
 use Rattle.event_log.specs.declared.entries.{Kind.TheVariants.{Send as SendKind, Recv as RecvKind, Close as CloseKind, SendClosed, RecvClosed}, Entry.Entry}

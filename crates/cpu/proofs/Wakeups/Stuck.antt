@@ -8,7 +8,7 @@ use Rattle.{guest.specs.{declared.instructions.Instruction.Instruction, State.St
 use Rattle.layer_traits.specs.declared.{steps.Reason.Reason, locked.Side.{Side, TheVariants.{Receivers, Senders}}, call_states.Stage.TheVariants.AcquiresAgain}
 use Rattle.layer_traits.specs.Places.{Where, Home, Hand, Pend as IsPending, Asleep, At, is_home, is_hand, is_thread, one_if, count_in}
 use Rattle.{layer_traits.proofs.ListsLemmas.counted_in, cpu.specs.Table.{Blocks.{Buffer, OfBuffer, side_of}, Edits.{line_of, waiting_of}, Setups.{Setup, Call}}}
-use Rattle.cpu.specs.{Table.{Setups.{Private, thread_at, home_of, stands_at}, Steps.{Whole, block_at, halted_at}}, Wakeups.Order.{Progress, progress}}
+use Rattle.cpu.specs.{Table.{Setups.{Private, thread_at, home_of, stands_at}, Steps.{Whole, block_at, halted_at}}, Wakeups.Order.{progress}}
 use Rattle.cpu.specs.Wakeups.{Lost.Allows, Quiet.{HomesExist, IsQuietBy, IsQuiet, IsNextEffect, IsStuckCall, IsLive, IsStuck, QuietIsStuck}}
 use Rattle.cpu.proofs.Wakeups.{Lists.refuted, Ordered.{buffer_awake, calm_loses_nothing}, PostsAndVisits.{Waiting, Visit, Outside, list_of, sleeps_in, is_side}}
 use Rattle.cpu.proofs.Wakeups.{PostsAndVisits.{is_pending, names, goes_on, starts_here, stands, is_lined, is_local, post, visit, marked}, ThreadAtBuffer.Pair}

@@ -9,8 +9,8 @@ use Rattle.layer_traits.specs.{declared.moves.WaitList.WaitList, ListsAgree.{is_
 use Rattle.layer_traits.{specs.{Places.count_in, Sleeping.joined, BufferBlocks.may_join}, proofs.CountLemmas.{same_tid_sym, count_append, count_front}}
 use Rattle.layer_traits.proofs.{CountLemmas.{in_counted, not_counted, count_behind}, ListsLemmas.{count_without, at_wait_channel, wait_channel_here}}
 use Rattle.cpu.specs.Table.{Blocks.{Buffer, Name, AcqQ, Enter, TryPut, TryTake, Shut, WaitOn, SigRecv, SigSend, RelQ, front_stands_in}, Edits.{may_go, may_try}}
-use Rattle.cpu.specs.Table.Edits.{due_on, without_any, acquired, line_of, entered, put, taken, shut, waiting, released, edited_buffer, answer_of_buffer, is_due}
-use Rattle.cpu.specs.{Table.{Edits.{on_side, signalled, waiting_of}, Setups.{Setup, home_of}}, Wakeups.Order.{Progress, Begins, HasEntered, WasRefused, Owes}}
+use Rattle.cpu.specs.Table.Edits.{due_on, without_any, acquired, line_of, entered, put, taken, shut, waiting, released, edited_buffer, answer_of_buffer}
+use Rattle.cpu.specs.{Table.{Edits.{signalled, waiting_of}, Setups.{Setup, home_of}}, Wakeups.Order.{Progress, Begins, HasEntered, WasRefused, Owes}}
 use Rattle.cpu.{specs.Wakeups.Order.{progress_after, progress_signalled, MayEdit}, proofs.Wakeups.{Lists.{refuted, first_is}, PostsAndVisits.Visit}}
 use Rattle.cpu.proofs.Wakeups.PostsAndVisits.{is_buffer, sleeps_in, sleeps_at, is_inside, is_starting, is_lined, InStep, is_caller, post_by, post_woken}
 use Rattle.cpu.proofs.Wakeups.PostsAndVisits.{post_moved, visit_moved, marked, list_of}

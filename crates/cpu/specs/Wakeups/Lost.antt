@@ -4,7 +4,7 @@ use Rattle.event_log.specs.{declared.{ids.{CpuId.CpuId, Tid.Tid, BufId.BufId, Lo
 use Rattle.event_log.specs.{Buffers.IsAllowedEffect, Runs.{Sends, Receives, group_of}, History.own_events, Actions.{Action, cpu_of_action}, Sections.Section}
 use Rattle.{event_log.specs.Sections.sections_in, cpu.specs.Table.{Blocks.{Buffer, OfBuffer, Name, front, stands_in}, Setups.{Setup, Private}, Steps.Whole}}
 use Rattle.cpu.specs.{Table.{Steps.{IsReached, block_at, AlongTable}, Edits.{line_of, waiting_of, on_side}}, Wakeups.Order.{block_of, IsInOrder}}
-use Rattle.layer_traits.specs.declared.locked.Side.{Side, TheVariants.{Receivers, Senders}}
+use Rattle.layer_traits.specs.declared.locked.Side.{Side}
 
 -- the buffer allows an effect of this kind with this message
 abbrev pub Allows : Buffer → Kind → Message → Type 0

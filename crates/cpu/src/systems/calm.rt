@@ -1,6 +1,7 @@
 //! What a system tells for the question whether it is quiet, and how long its traces are. No call
 //! takes memory or waits.
 
+ghost use Rattle.layer_traits.specs.OwnParts.{threads_in};
 ghost use Rattle.std.specs.Prelude.{◌≡◌, ◌<◌, length};
 ghost use Rattle.cpu.specs.Calm.{rests};
 
@@ -11,7 +12,7 @@ use layer_traits::{CallLayer, IpcLaw, Owned, Reason};
 /// Whether a CPU of this part has no section under way, nobody runs or is ready on it, and its hand
 /// is empty.
 fn rests<I: CallLayer<IpcLaw>>(part: &I) -> bool
-    ensures { result ≡ rests (I.is_inside part.now) (I.threads part.now) }
+    ensures { result ≡ rests (I.is_inside part.now) (threads_in (I.own part.now)) }
 {
     !part.is_busy() && part.current().is_none() && part.hand().is_none() && !part.has_ready()
 }

@@ -1,5 +1,8 @@
 //! Systems at boot. The calls here take memory. None waits.
 
+ghost use Rattle.layer_traits.specs.OwnParts.{threads_in};
+ghost use Rattle.layer_traits.specs.Capacities.{caps_in};
+ghost use Rattle.layer_traits.specs.QueueBlocks.{homes_in};
 ghost use Rattle.std.specs.Prelude.{◌≡◌, ℕ, ◌+◌, ◌≤◌, ◌∷◌, ◌++◌, IfOk, Some, None, [], length, map, replicate, slice_get, slice_index_or, vec_capacity};
 ghost use Rattle.{event_log.specs.declared.ids.TheConstants.{CPUS, THREADS}, layer_traits.specs.{BufferLaw.{buffering_at_start, no_call}, Places.at_boot}};
 ghost use Rattle.cpu.specs.Boots.{IsBooted, IsBootedAs};
@@ -31,11 +34,9 @@ impl<I: CallLayer<IpcLaw>> Cpu<I> {
         requires { length homes.now ≤ THREADS }
         ensures booted { IfOk result (λ c. IsBooted number guests.items limit c.number c.guests.items c.trace.items c.limit (vec_capacity c.trace)) }
         ensures cpu { IfOk result (λ c. I.cpu_of c.part ≡ number) }
-        ensures threads { IfOk result (λ c. I.threads c.part ≡ at_boot homes.now number) }
-        ensures call_states { IfOk result (λ c. I.call_states c.part ≡ replicate THREADS no_call) }
         ensures under_way { IfOk result (λ c. I.under_way c.part ≡ None) }
-        ensures own { IfOk result (λ c. I.IsStepwise → I.own c.part ≡ buffering_at_start homes.now number) }
-        ensures fits { IfOk result (λ c. (m : I.Machine) → I.IsFresh m homes.now number → length (I.caps m) ≡ buffers → I.Fits c.part m) }
+        ensures own { IfOk result (λ c. I.own c.part ≡ buffering_at_start homes.now number) }
+        ensures fits { IfOk result (λ c. (m : I.Machine) → I.IsFresh m homes.now number → length (caps_in (I.opening m)) ≡ buffers → I.Fits c.part m) }
     {
         let trace = Vec::with_capacity(alloc, limit)?;
         Ok(Cpu {
@@ -69,8 +70,8 @@ fn cpus_at_boot<I: CallLayer<IpcLaw> + Drop>(
     requires few { length tables.items ≤ CPUS }
     ensures count { IfOk result (λ cpus. length cpus.items ≡ length tables.items) }
     ensures booted { IfOk result (λ cpus. (k : ℕ) (x : _) → slice_get cpus.items k ≡ Some x
-        → IsBootedAs (λ p (m : I.Machine). I.Fits p m) (λ m number. I.IsFresh m homes.now number) (λ m. length (I.caps m)) I.IsStepwise buffers homes.now k
-        (slice_index_or (map (λ table. table.items) tables.items) k []) limit x.part (I.cpu_of x.part) (I.own x.part) (I.threads x.part) (I.call_states x.part)
+        → IsBootedAs (λ p (m : I.Machine). I.Fits p m) (λ m number. I.IsFresh m homes.now number) (λ m. length (caps_in (I.opening m))) buffers homes.now k
+        (slice_index_or (map (λ table. table.items) tables.items) k []) limit x.part (I.cpu_of x.part) (I.own x.part)
         (I.under_way x.part) x.number x.guests.items x.trace.items x.limit (vec_capacity x.trace)) }
 {
     let mut tables = tables;
@@ -144,15 +145,17 @@ where
     /// The system of a machine and its CPUs, before its first step.
     fn assembled(machine: I::Machine, cpus: Vec<Cpu<I>>, threads: usize, room: u64) -> System<I>
         requires { IsSystem (λ c. I.Fits c.part machine × (I.cpu_of c.part ≡ c.number)
-            × IsCpu (I.homes_of machine) (length (I.caps machine)) (I.seen machine) (I.threads c.part) (I.call_states c.part)
-            (I.under_way c.part) c.number c.guests.items c.trace.items c.limit (vec_capacity c.trace)
-            × (I.IsStepwise → IsTabled (I.homes_of machine) (I.caps machine) c.number (I.own c.part) (I.under_way c.part) c.guests.items (I.opening machine)))
-            (λ c. c.number) (λ c. I.ActsFor machine c) (λ c. I.MayHold machine c) I.IsStepwise (I.acts machine) cpus.items (I.homes_of machine)
-            (I.seen machine) room 0 (I.room machine) ((threads ≡ length (I.homes_of machine)) × (I.IsStepwise → BootsByTable
-            (shown_of (I.caps machine) (I.homes_of machine) (I.seen machine) (I.wait_lists machine) (I.owner machine) (I.moves machine) (I.acts machine)
-            (map (λ c. cpu_shown (I.threads c.part) c.guests.items c.trace.items c.limit (I.is_inside c.part) (I.own c.part)) cpus.items) room 0))) }
-        ensures caps { result.caps ≡ I.caps machine }
-        ensures homes { result.homes ≡ I.homes_of machine }
+            × IsCpu (homes_in (I.opening machine)) (length (caps_in (I.opening machine))) (I.seen machine) (threads_in (I.own c.part))
+            (I.own c.part).call_states (I.under_way c.part) c.number c.guests.items c.trace.items c.limit (vec_capacity c.trace)
+            × (I.IsStepwise → IsTabled (homes_in (I.opening machine)) (caps_in (I.opening machine)) c.number (I.own c.part) (I.under_way c.part)
+            c.guests.items (I.opening machine)))
+            (λ c. c.number) (λ c. I.ActsFor machine c) (λ c. I.MayHold machine c) I.IsStepwise (I.acts machine) cpus.items (homes_in (I.opening machine))
+            (I.seen machine) room 0 (I.room machine) ((threads ≡ length (homes_in (I.opening machine))) × (I.IsStepwise → BootsByTable
+            (shown_of (caps_in (I.opening machine)) (homes_in (I.opening machine)) (I.seen machine) (I.wait_lists machine) (I.owner machine)
+            (I.moves machine) (I.acts machine)
+            (map (λ c. cpu_shown (threads_in (I.own c.part)) c.guests.items c.trace.items c.limit (I.is_inside c.part) (I.own c.part)) cpus.items) room 0))) }
+        ensures caps { result.caps ≡ caps_in (I.opening machine) }
+        ensures homes { result.homes ≡ homes_in (I.opening machine) }
         ensures room { result.room ≡ room }
         ensures taken { result.taken ≡ 0 }
         ensures guests { map (λ p. p.guests) result.cpus ≡ map (λ c. c.guests.items) cpus.items }

@@ -1,6 +1,7 @@
 use Rattle.std.proofs.Common.{refl, ◌∙◌, sym, arith}
-use Rattle.cpu.{specs.{Cpus.guests_rest, CpuSteps.SteppedAt}, proofs.{TableCalls.stopped_steps, CpuRuns.one_step, CpuOverLayer.{laws_of, layered}}}
-use Rattle.cpu.proofs.{CpuOverLayer.{observed_cpu, observed_outset, left_alone, runs_within}, cpus.Cpu.act.{Given.Over, Goals.After-go}}
+use Rattle.cpu.{specs.{Cpus.guests_rest, CpuSteps.SteppedAt}, proofs.{TablePasses.halted_steps, CpuRuns.one_step}}
+use Rattle.cpu.proofs.CpuOverLayer.{laws_of, layered, tabled_cpu, outset, left_alone, runs_within}
+use Rattle.cpu.proofs.cpus.Cpu.act.{Given.Over, Goals.After-go}
 use Rattle.cpu.proofs.cpus.Cpu.act.Goals as goal
 
 pub reason-requires : goal.reason-requires
@@ -13,7 +14,8 @@ returns-in-Some-clause-leaves g c = left_alone g.I.CallLayer c.args.m.now c.args
 pub returns-in-Some-clause-steps : goal.returns-in-Some-clause-steps
 returns-in-Some-clause-steps g c = λ step.
     let cpu = layered (laws_of g.met.I.CallLayer) c.args.m.now c.args.self.now c.requires.fits c.requires.number c.requires.is c.requires.table in
-    stopped_steps (observed_cpu cpu step) _ _ (observed_outset cpu step) c.in-Some.reason (sym (sym c.in-Some.is ∙ c.reason.ensures))
+    λ setup of. halted_steps (tabled_cpu cpu step) _ _ setup of (outset cpu step).inside c.in-Some.reason (outset cpu step).busy
+    (sym (sym c.in-Some.is ∙ c.reason.ensures))
 
 -- the step that it took
 went : (g : Over) (c : After-go g) → SteppedAt g.I.CallLayer c.args.m.now c.args.self.now c.go.new.m c.go.new.self

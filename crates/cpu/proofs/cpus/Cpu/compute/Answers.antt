@@ -1,7 +1,10 @@
+use Rattle.layer_traits.specs.Capacities.{caps_in}
+use Rattle.layer_traits.specs.OwnParts.{threads_in}
+use Rattle.layer_traits.specs.QueueBlocks.{homes_in}
 use Rattle.std.proofs.Common.{List, length, Option, refl, ap, sym, ◌∙◌, subst, vec_capacity}
 use Rattle.cpu.{specs.{declared.guests.Guest.Guest, Cpus.{IsCpu, guest_computes, programs_of}, Tables.{IsTabled, WentByTable}}, proofs.GuestLists.programs_with}
-use Rattle.cpu.proofs.{PassSteps.noted_compute, TableCalls.{computed_steps, computed_tabled}, CpuStates.valid_cpu, CpuOverLayer.{laws_of, layered}}
-use Rattle.{cpu.proofs.CpuOverLayer.{observed_cpu, observed_outset, left_alone}, layer_traits.specs.declared.steps.Step.TheVariants.Stepped}
+use Rattle.cpu.proofs.{PassSteps.noted_compute, TablePasses.{compute_steps, compute_tabled}, CpuStates.valid_cpu, CpuOverLayer.{laws_of, layered}}
+use Rattle.{cpu.proofs.CpuOverLayer.{tabled_cpu, outset, left_alone}, layer_traits.specs.declared.steps.Step.TheVariants.Stepped}
 use Rattle.cpu.proofs.cpus.Cpu.compute.Goals as goal
 
 pub returns-clause-is : goal.returns-clause-is
@@ -9,8 +12,8 @@ returns-clause-is g c =
     let I = g.I.CallLayer in
     let m = c.args.m.now in
     let p = c.args.self.now in
-    subst (λ (l : List (Option Guest)). IsCpu (I.homes_of m) (length (I.caps m)) (I.seen m) (I.threads p.part) (I.call_states p.part)
-    (I.under_way p.part) p.number l p.trace.items p.limit
+    subst (λ (l : List (Option Guest)). IsCpu (homes_in (I.opening m)) (length (caps_in (I.opening m))) (I.seen m) (threads_in (I.own p.part))
+    (I.own p.part).call_states (I.under_way p.part) p.number l p.trace.items p.limit
     (vec_capacity p.trace)) (sym c.note_compute.ensures)
     (noted_compute (valid_cpu c.requires.is) c.args.thread c.requires.chosen)
 
@@ -25,8 +28,8 @@ returns-clause-table g c = λ step.
     let m = c.args.m.now in
     let p = c.args.self.now in
     let cpu = layered (laws_of g.met.I.CallLayer) m p c.requires.fits c.requires.number c.requires.is c.requires.table in
-    subst (λ (l : List (Option Guest)). IsTabled (I.homes_of m) (I.caps m) p.number (I.own p.part) (I.under_way p.part) l (I.opening m))
-    (sym c.note_compute.ensures) (computed_tabled (observed_cpu cpu step) c.args.thread c.requires.chosen)
+    subst (λ (l : List (Option Guest)). IsTabled (homes_in (I.opening m)) (caps_in (I.opening m)) p.number (I.own p.part) (I.under_way p.part) l (I.opening m))
+    (sym c.note_compute.ensures) (compute_tabled (tabled_cpu cpu step) c.args.thread c.requires.chosen)
 
 pub returns-clause-steps : goal.returns-clause-steps
 returns-clause-steps g c = λ step.
@@ -34,6 +37,6 @@ returns-clause-steps g c = λ step.
     let m = c.args.m.now in
     let p = c.args.self.now in
     let cpu = layered (laws_of g.met.I.CallLayer) m p c.requires.fits c.requires.number c.requires.is c.requires.table in
-    subst (λ (l : List (Option Guest)). WentByTable (λ d. I.ActsFor m d) (I.homes_of m) (I.caps m) p.number p.limit (I.own p.part) (I.own p.part)
-    p.guests.items l p.trace.items p.trace.items (I.acts m) (I.acts m) Stepped) (sym c.note_compute.ensures)
-    (computed_steps (observed_cpu cpu step) _ _ (observed_outset cpu step) c.args.thread c.requires.chosen c.requires.live)
+    subst (λ (l : List (Option Guest)). WentByTable (λ d. I.ActsFor m d) (homes_in (I.opening m)) (caps_in (I.opening m)) p.number p.limit (I.own p.part)
+    (I.own p.part) p.guests.items l p.trace.items p.trace.items (I.acts m) (I.acts m) Stepped) (sym c.note_compute.ensures)
+    (λ setup of. compute_steps (tabled_cpu cpu step) c.args.thread c.requires.chosen _ _ (outset cpu step) c.requires.live setup of)

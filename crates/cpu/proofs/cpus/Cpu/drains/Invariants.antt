@@ -1,3 +1,4 @@
+use Rattle.layer_traits.specs.OwnParts.{threads_in}
 use Rattle.std.proofs.Common.{◌≡◌, ◌-◌, ◌<◌, None}
 use Rattle.{layer_traits.specs.declared.passes.Pass.TheVariants.Drain, cpu.specs.{declared.cpus.Choice.TheVariants.Passes, Cpus.chosen, CpuSteps.RunsAt}}
 use Rattle.cpu.specs.CpuSteps.{stops_at}
@@ -8,7 +9,7 @@ abbrev pub invariant-loop-taken : goal.invariant-loop-taken
 invariant-loop-taken g l = record {
   few : l.taken < l.most;
   live : stops_at g.I.CallLayer l.self ≡ None;
-  chosen : chosen (g.I.CallLayer.threads l.self.part) l.self.guests.items ≡ Passes Drain;
+  chosen : chosen (threads_in (g.I.CallLayer.own l.self.part)) l.self.guests.items ≡ Passes Drain;
   ran : RunsAt g.I.CallLayer l.initial.m l.initial.self l.taken l.m l.self;
 }
 

@@ -1,7 +1,8 @@
-use Rattle.std.proofs.Common.{rules, ◌≡◌, true, false, ◌++◌, List, Option, Some, None, is_some, ap, sym, refl, ◌∙◌, if◌then◌else◌, arith}
+use Rattle.layer_traits.specs.OwnParts.{threads_in}
+use Rattle.std.proofs.Common.{rules, ◌≡◌, true, false, ◌++◌, List, Option, Some, None, is_some, ap, sym, refl, ◌∙◌, arith}
 use Rattle.cpu.proofs.{GuestLists.programs_with, StepsBesideGuests.{follows_grow, others_same, passed_grows, others_grow}, PassSteps.{current_within, may_pass}}
-use Rattle.cpu.proofs.{PassSteps.{noted_done, noted_wait}, TableCalls.{ObservedPass, hand_preserved, passed_steps, passed_tabled}, CpuStates.valid_cpu}
-use Rattle.cpu.proofs.{CpuOverLayer.{acts_for, laws_of, IsLayered, layered, left_framed, runs_home, observed_cpu, observed_outset}, cpus.Cpu.pass.Given.Over}
+use Rattle.cpu.proofs.{PassSteps.{noted_done, noted_wait}, TableCalls.hand_preserved, TablePasses.{TabledPass, pass_steps, pass_tabled, passed_if}, CpuStates.valid_cpu}
+use Rattle.cpu.proofs.{CpuOverLayer.{acts_for, laws_of, IsLayered, layered, left_framed, runs_home, tabled_cpu, outset}, cpus.Cpu.pass.Given.Over}
 use Rattle.cpu.{proofs.cpus.Cpu.pass.Goals.{Start, After-pass-done}, specs.Cpus.{GuestsWent, guest_passes, guests_rest, passed_by, programs_of}}
 use Rattle.{cpu.specs.declared.guests.Guest.Guest, event_log.specs.declared.{entries.Entry.Entry, ids.{CpuId.CpuId, Tid.Tid}}}
 use Rattle.layer_traits.specs.{declared.passes.Pass.Pass, Places.pending_by, QueueBlocks.homes_in}
@@ -33,9 +34,9 @@ returns-then-is_some-clause-is g c =
     let cpu = cpu g (goal.at.returns-then-is_some-clause-is g c).Start in
     let some : is_some c.pass-done.result ≡ true = search rules in
     let told = c.pass-done.ensures.passed in
-    rw (c.pass-done.ensures.homes, c.pass-done.ensures.caps, c.pass-done.ensures.call_states)
+    rw (c.pass-done.ensures.framed.stays.opening, c.pass-done.ensures.call_states)
     (noted_done (valid_cpu c.requires.is) c.args.pass (pending_by (told.others ++ I.moves m) (I.cpu_of p.part)) (I.seen c.pass-done.new.m)
-    (I.threads c.pass-done.new.self) (I.under_way c.pass-done.new.self) c.note_pass.new.self.items (runs_home cpu) c.requires.chosen
+    (threads_in (I.own c.pass-done.new.self)) (I.under_way c.pass-done.new.self) c.note_pass.new.self.items (runs_home cpu) c.requires.chosen
     (others_same (λ d. I.ActsFor m d) p.number (I.seen m) (I.seen c.pass-done.new.m) c.pass-done.ensures.seen (acts_for cpu))
     (rw some at told.after)
     (c.pass-done.ensures.under_way ∙ (grind (arith, some)))
@@ -44,7 +45,7 @@ returns-then-is_some-clause-is g c =
 pub returns-then-is_some-clause-leaves : goal.returns-then-is_some-clause-leaves
 returns-then-is_some-clause-leaves g c =
     let e = c.pass-done.ensures in
-    left_framed g.I.CallLayer c.args.m.now c.pass-done.new.m c.args.self.now _ c.requires.number refl refl e.framed e.caps e.homes
+    left_framed g.I.CallLayer c.args.m.now c.pass-done.new.m c.args.self.now _ c.requires.number refl refl e.framed
     (ap programs_of c.note_pass.ensures ∙ (grind (arith, programs_with))) (passed_so c.current-runs.result _ _ c.args.pass c.note_pass.ensures)
     (others_grow _ _ _ _ e.seen)
     (rw (← c.requires.number) (passed_grows _ _ _ _ _ _ _ _ _ e.passed))
@@ -56,8 +57,8 @@ returns-else-is_some-clause-is g c =
     let m = c.args.m.now in
     let cpu = cpu g (goal.at.returns-else-is_some-clause-is g c).Start in
     let none : is_some c.pass-done.result ≡ false = search rules in
-    rw (c.pass-done.ensures.homes, c.pass-done.ensures.caps, c.pass-done.ensures.call_states)
-    (noted_wait (valid_cpu c.requires.is) c.args.pass (I.seen c.pass-done.new.m) (I.threads c.pass-done.new.self)
+    rw (c.pass-done.ensures.framed.stays.opening, c.pass-done.ensures.call_states)
+    (noted_wait (valid_cpu c.requires.is) c.args.pass (I.seen c.pass-done.new.m) (threads_in (I.own c.pass-done.new.self))
     (I.under_way c.pass-done.new.self) c.requires.chosen
     (others_same (λ d. I.ActsFor m d) c.args.self.now.number (I.seen m) (I.seen c.pass-done.new.m) c.pass-done.ensures.seen (acts_for cpu))
     (rw none at c.pass-done.ensures.passed.after)
@@ -66,65 +67,64 @@ returns-else-is_some-clause-is g c =
 pub returns-else-is_some-clause-leaves : goal.returns-else-is_some-clause-leaves
 returns-else-is_some-clause-leaves g c =
     let e = c.pass-done.ensures in
-    left_framed g.I.CallLayer c.args.m.now c.pass-done.new.m c.args.self.now _ c.requires.number refl refl e.framed e.caps e.homes
+    left_framed g.I.CallLayer c.args.m.now c.pass-done.new.m c.args.self.now _ c.requires.number refl refl e.framed
     refl (guests_rest refl refl) (others_grow _ _ _ _ e.seen)
     (rw (← c.requires.number) (passed_grows _ _ _ _ _ _ _ _ _ e.passed))
     (λ step. rw (← c.requires.number) (follows_grow _ _ _ _ _ _ _ _ (e.follows step)))
 
 -- what the poll leaves of the CPU over the tower, with these guests
-abbrev observed : (g : Over) (c : After-pass-done g) (step : g.I.CallLayer.IsStepwise) (guests : List (Option Guest))
-    → guests ≡ (if is_some c.pass-done.result then passed_by (g.I.CallLayer.threads c.args.self.now.part).current c.args.self.now.guests.items c.args.pass
-    else c.args.self.now.guests.items)
-    → ObservedPass (λ d. g.I.CallLayer.ActsFor c.args.m.now d)
-    (observed_cpu (cpu g (goal.at.pass-done-requires-clause-may g c.before).Start) step) c.args.pass (g.I.CallLayer.acts c.args.m.now)
-observed g c step guests is =
+abbrev tabled : (g : Over) (c : After-pass-done g) (step : g.I.CallLayer.IsStepwise) (guests : List (Option Guest))
+    → guests ≡ passed_if (threads_in (g.I.CallLayer.own c.args.self.now.part)).current c.args.self.now.guests.items c.args.pass c.pass-done.result
+    → TabledPass (λ d. g.I.CallLayer.ActsFor c.args.m.now d)
+    (tabled_cpu (cpu g (goal.at.pass-done-requires-clause-may g c.before).Start) step) c.args.pass (g.I.CallLayer.acts c.args.m.now)
+tabled g c step guests is =
     let I = g.I.CallLayer in
     let law = g.met.I.CallLayer in
     let m = c.args.m.now in
     let q = c.pass-done.new.self in
     let n = c.pass-done.new.m in
+    let told = c.pass-done.ensures.passed in
     record {
-      homes = homes_in (I.opening m);
-      homes_are = law.reads_homes m;
-      part = I.own q;
-      own = I.threads q;
-      reads_own = (law.reads_own q).0;
+      own = I.own q;
       under_way = I.under_way q;
       guests = guests;
       new = I.acts n;
       result = c.pass-done.result;
-      before = I.moves m;
-      after = I.moves n;
-      known = hand_preserved (I.homes_of m) (I.homes_of n) (I.cpu_of q) (I.moves n) (I.threads q) c.pass-done.ensures.homes
+      queue = pending_by (told.others ++ I.moves m) (I.cpu_of c.args.self.now.part);
+      known = hand_preserved (homes_in (I.opening m)) (homes_in (I.opening n)) (I.cpu_of q) (I.moves n) (threads_in (I.own q))
+          (ap homes_in c.pass-done.ensures.framed.stays.opening)
           (law.stands q n c.pass-done.ensures.framed.fits) (law.moves_legal n (I.cpu_of q) (law.own_cpu q n c.pass-done.ensures.framed.fits));
-      follows = c.pass-done.ensures.follows step;
-      passed = c.pass-done.ensures.passed;
+      follows = rw c.requires.number at (c.pass-done.ensures.follows step);
+      threads_are = grind (arith, told.after);
       under_way_is = c.pass-done.ensures.under_way;
-      guests_is = is;
+      at_once = told.at_once;
+      guests_are = is;
     }
 
 pub returns-then-is_some-clause-table : goal.returns-then-is_some-clause-table
 returns-then-is_some-clause-table g c = λ step.
     let cpu = cpu g (goal.at.returns-then-is_some-clause-table g c).Start in
-    rw (c.pass-done.ensures.homes, c.pass-done.ensures.caps, c.pass-done.ensures.framed.stays.opening)
-    (passed_tabled (observed_cpu cpu step) _ _ (observed_outset cpu step) c.args.pass c.requires.chosen c.requires.live
-    (observed g (goal.at.returns-then-is_some-clause-table g c).After-pass-done step c.note_pass.new.self.items (grind arith)))
+    rw c.pass-done.ensures.framed.stays.opening
+    (pass_tabled (tabled_cpu cpu step) c.args.pass c.requires.chosen _ _
+    (tabled g (goal.at.returns-then-is_some-clause-table g c).After-pass-done step c.note_pass.new.self.items (grind arith)))
 
 pub returns-then-is_some-clause-steps : goal.returns-then-is_some-clause-steps
 returns-then-is_some-clause-steps g c = λ step.
     let cpu = cpu g (goal.at.returns-then-is_some-clause-steps g c).Start in
-    passed_steps (observed_cpu cpu step) _ _ (observed_outset cpu step) c.args.pass c.requires.chosen c.requires.live
-    (observed g (goal.at.returns-then-is_some-clause-steps g c).After-pass-done step c.note_pass.new.self.items (grind arith))
+    λ setup of. pass_steps (tabled_cpu cpu step) c.args.pass c.requires.chosen _ _
+    (tabled g (goal.at.returns-then-is_some-clause-steps g c).After-pass-done step c.note_pass.new.self.items (grind arith)) setup of (outset cpu step)
+    c.requires.live
 
 pub returns-else-is_some-clause-table : goal.returns-else-is_some-clause-table
 returns-else-is_some-clause-table g c = λ step.
     let cpu = cpu g (goal.at.returns-else-is_some-clause-table g c).Start in
-    rw (c.pass-done.ensures.homes, c.pass-done.ensures.caps, c.pass-done.ensures.framed.stays.opening)
-    (passed_tabled (observed_cpu cpu step) _ _ (observed_outset cpu step) c.args.pass c.requires.chosen c.requires.live
-    (observed g (goal.at.returns-else-is_some-clause-table g c).After-pass-done step c.args.self.now.guests.items (grind arith)))
+    rw c.pass-done.ensures.framed.stays.opening
+    (pass_tabled (tabled_cpu cpu step) c.args.pass c.requires.chosen _ _
+    (tabled g (goal.at.returns-else-is_some-clause-table g c).After-pass-done step c.args.self.now.guests.items (grind arith)))
 
 pub returns-else-is_some-clause-steps : goal.returns-else-is_some-clause-steps
 returns-else-is_some-clause-steps g c = λ step.
     let cpu = cpu g (goal.at.returns-else-is_some-clause-steps g c).Start in
-    passed_steps (observed_cpu cpu step) _ _ (observed_outset cpu step) c.args.pass c.requires.chosen c.requires.live
-    (observed g (goal.at.returns-else-is_some-clause-steps g c).After-pass-done step c.args.self.now.guests.items (grind arith))
+    λ setup of. pass_steps (tabled_cpu cpu step) c.args.pass c.requires.chosen _ _
+    (tabled g (goal.at.returns-else-is_some-clause-steps g c).After-pass-done step c.args.self.now.guests.items (grind arith)) setup of (outset cpu step)
+    c.requires.live

@@ -1,3 +1,4 @@
+use Rattle.layer_traits.specs.OwnParts.{threads_in}
 use Rattle.{std.proofs.{Common.{subst, arith}, lemmas.List.length-map}, cpu.specs.{declared.cpus.Cpu.Cpu, Claims.{Shown, cpu_shown}, Sound.ReturnsAlone}}
 use Rattle.cpu.proofs.{ListReads.there_is, ReachedSystems.alone_of}
 use Rattle.cpu.proofs.systems.System.alone.Goals as goal
@@ -8,7 +9,7 @@ returns g c = λ step.
     let is = c.self.invariant in
     let items = c.self.inside.cpus.items in
     let count = length-map items (λ (x : Cpu g.row.I.Denot g.row.I-Machine.Denot).
-    cpu_shown (I.threads x.part) x.guests.items x.trace.items x.limit (I.is_inside x.part) (I.own x.part)) in
+    cpu_shown (threads_in (I.own x.part)) x.guests.items x.trace.items x.limit (I.is_inside x.part) (I.own x.part)) in
     let some = is.some in
     let first = there_is items 0 some in
     let one = (is.each 0 first.0 first.1).holds in

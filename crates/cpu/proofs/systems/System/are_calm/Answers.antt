@@ -1,3 +1,4 @@
+use Rattle.layer_traits.specs.OwnParts.{threads_in}
 use Rattle.std.proofs.{Common.{◌≡◌, true, length, ap, sym, ◌∙◌, arith}, lemmas.List.length-map}
 use Rattle.cpu.{specs.{declared.cpus.Cpu.Cpu, Calm.calm_in, Claims.{Shown, cpu_shown}}, proofs.NobodyPending.{clash, up_more}}
 use Rattle.cpu.proofs.systems.System.are_calm.Goals as goal
@@ -6,7 +7,7 @@ pub returns-then-not-is_calm : goal.returns-then-not-is_calm
 returns-then-not-is_calm g c =
     let I = g.I.CallLayer in
     let count = length-map c.self.inside.cpus.items (λ (x : Cpu g.row.I.Denot g.row.I-Machine.Denot).
-    cpu_shown (I.threads x.part) x.guests.items x.trace.items x.limit (I.is_inside x.part) (I.own x.part)) in
+    cpu_shown (threads_in (I.own x.part)) x.guests.items x.trace.items x.limit (I.is_inside x.part) (I.own x.part)) in
     let shown = ap (λ (s : Shown). length s.cpus) c.self.view_is in
     let end = c.len-number-end.ensures in (
       (λ is. absurd (cc is)),

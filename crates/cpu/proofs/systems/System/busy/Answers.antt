@@ -1,4 +1,5 @@
 use Rattle.std.{proofs.Common.{arith, ◌≡◌, None, length, sym, ◌∙◌, subst}, specs.Prelude.slice_index_or}
+use Rattle.layer_traits.specs.Capacities.{caps_in}
 use Rattle.cpu.{specs.Claims.{Shown, buffer_at}, proofs.{ListReads.listed_there, PartsTold.{acts_first, told_here, told_somewhere, up_to}}}
 use Rattle.cpu.proofs.systems.System.busy.Goals as goal
 
@@ -20,8 +21,8 @@ returns-in-Some-busy_here g c =
     (told_here g.I.CallLayer c.self.inside.machine c.self.inside.cpus.items is.each is.holders told c.deref-at-items.result.now c.loop-at.at-index
     c.deref-at-items.ensures.value c.at-item.result c.in-Some-busy_here.owner c.loop-at-test.true c.at-item.is
     (sym c.busy_here.ensures ∙ c.in-Some-busy_here.is)
-    ∙ sym (listed_there (λ b. g.I.Owned.owner c.self.inside.machine (buffer_at b)) (length (g.I.CallLayer.caps c.self.inside.machine)) c.args.buffer.0 None
-    (rw (← c.self.view_is) at c.requires)))
+    ∙ sym (listed_there (λ b. g.I.Owned.owner c.self.inside.machine (buffer_at b)) (length (caps_in (g.I.CallLayer.opening c.self.inside.machine)))
+    c.args.buffer.0 None (rw (← c.self.view_is) at c.requires)))
 
 pub loop-at-preserved : goal.loop-at-preserved
 loop-at-preserved g c =

@@ -1,7 +1,7 @@
 use Rattle.std.{proofs.{Common.{arith, ◌≡◌, ℕ, map, Some, ap, sym, ◌∙◌, subst}, lemmas.Option.same_Some}, specs.Prelude.{Option, slice_get}}
 use Rattle.{event_log.specs.declared.ids.CpuId.CpuId, cpu.specs.{Claims.{CpuShown, Shown}, Systems.{halted_in, own_reason_in}, Cpus.step_answer}}
 use Rattle.cpu.{specs.{Table.Steps.cpu_step, Tower.Composed.named}, proofs.{ListReads.{read_at, shows_at}, TableCalls.answers_step, CpuOverLayer.laws_of}}
-use Rattle.cpu.proofs.{CpuOverLayer.{layered, IsLayered, runs_within, observed_cpu, observed_outset}, SystemOverLayer.shown_by}
+use Rattle.cpu.proofs.{CpuOverLayer.{layered, IsLayered, runs_within, tabled_cpu, outset}, SystemOverLayer.shown_by}
 use Rattle.{cpu.proofs.systems.System.halted.{Given.Over, Goals.After-index-at}, layer_traits.specs.OnePlace.cpu_at}
 use Rattle.cpu.proofs.systems.System.halted.Goals as goal
 
@@ -39,7 +39,7 @@ returns-clause-table g c =
     let number_is = (c.self.invariant.each c.from.result c.index-at.result.now (at g read)).number_is ∙ ap (λ (j : ℕ). cpu_at j) c.from.ensures in
     rw (← c.self.view_is) (λ step setup goes q at_q.
     let same : p ≡ q = same_Some p q (sym (shown_now g read) ∙ at_q) in
-    let answers = answers_step (observed_cpu (cpu g read) step) _ _ (observed_outset (cpu g read) step) setup (goes.each c.from.result p (shown g read)) in
+    let answers = answers_step (tabled_cpu (cpu g read) step) _ _ (outset (cpu g read) step) setup (goes.each c.from.result p (shown g read)) in
     subst (λ (x : CpuShown). (cpu_step setup c.args.cpu x.private (named (I.acts m))).answer ≡ step_answer (own_reason_in (slice_get items c.args.cpu.0))) same
     (subst (λ (d : CpuId). (cpu_step setup d p.private (named (I.acts m))).answer ≡ step_answer (own_reason_in (slice_get items c.args.cpu.0))) number_is
     (answers ∙ sym (ap (λ (o : Option CpuShown). step_answer (own_reason_in o)) (shown_now g read)))))

@@ -1,12 +1,13 @@
 use Rattle.std.{proofs.{Common.{◌≡◌, ◌<◌, length, map, refl, ap, sym, ◌∙◌, subst, arith}, lemmas.List.length-map}, specs.Prelude.{ℕ, Some, slice_get}}
+use Rattle.layer_traits.specs.Capacities.{caps_in}
 use Rattle.event_log.{specs.{declared.ids.{CpuId.CpuId, LockId.TheVariants.Pending}, Actions.phase}, proofs.Renaming.phase_renamed}
-use Rattle.{layer_traits.specs.{OnePlace.cpu_at, Places.{Threads, pending_by}, Plans.is_in_section}, cpu.specs.Claims.{CpuShown, IsMoment, MovesAgree, Shown}}
+use Rattle.{layer_traits.specs.{OnePlace.cpu_at, Places.pending_by, QueueBlocks.homes_in, Plans.is_in_section}, cpu.specs.Claims.{CpuShown, IsMoment, MovesAgree, Shown}}
 use Rattle.cpu.specs.{Claims.{StandsOnce, buffer_at}, Sound.{SoundByTable, IsSetupFor}, Table.{Blocks.OfPending, Setups.Setup, Steps.block_at}}
 use Rattle.cpu.{specs.{Observed.{CpuIsObserved, HasBuffer, ObservedByTable}, Tower.{Composed.named, Views.name_of}}, proofs.ListReads.{there_is, shown_at}}
 use Rattle.cpu.proofs.{ListReads.shows_at, Moments.{MachineLaws, each_has, moment}, OnePlaceEach.once_of, OneOrder.Has, ReachedSystems.{shown_in, sound_of}}
-use Rattle.cpu.proofs.{TableCalls.halted_read, PlacesTold.{ended_is, place_read}, PartsTold.acts_first, PartsOfTable.{has_buffer, pending_read}}
-use Rattle.cpu.proofs.{CpuOverLayer.{laws_of, layered, observed_cpu}, SystemOverLayer.{shown_by, observed_by}, systems.System.holds.Given.Over}
-use Rattle.{cpu.proofs.systems.System.holds.Goals.After-self, thread_blocks.specs.Queues.is_in}
+use Rattle.cpu.proofs.{TableRows.halted_same, PlacesTold.{ended_is, place_read}, PartsTold.acts_first, PartsOfTable.{has_buffer, pending_read}}
+use Rattle.cpu.proofs.{CpuOverLayer.{laws_of, layered, tabled_cpu}, SystemOverLayer.{shown_by, observed_by}, systems.System.holds.Given.Over}
+use Rattle.{cpu.proofs.systems.System.holds.Goals.After-self}
 use Rattle.cpu.proofs.systems.System.holds.Goals as goal
 
 pub returns-clause-sound : goal.returns-clause-sound
@@ -24,7 +25,7 @@ laws g = record {
 -- each CPU has what always holds of it
 each : (g : Over) (c : After-self g) → let I = g.I.CallLayer in let m = c.self.inside.machine in
     (k : ℕ) (p : CpuShown) → slice_get (map (shown_by I) c.self.inside.cpus.items) k ≡ Some p
-    → Has (I.homes_of m) (length (I.caps m)) (I.seen m) (I.moves m) k p
+    → Has (homes_in (I.opening m)) (length (caps_in (I.opening m))) (I.seen m) (I.moves m) k p
 each g c = each_has g.I.CallLayer (laws g) g.I.Owned.owner c.self.inside.threads c.self.inside.machine c.self.inside.cpus.items c.self.inside.room
     c.self.inside.taken c.self.invariant
 
@@ -64,7 +65,7 @@ returns-clause-observed g c = λ step.
     let tabled = one.3 step in
     let machine = observed_by I g.I.Owned.owner m in
     let s = shown_in machine (map shown items) c.self.inside.room c.self.inside.taken in
-    let caps : (setup : Setup) → IsSetupFor setup s → setup.caps ≡ I.caps m =
+    let caps : (setup : Setup) → IsSetupFor setup s → setup.caps ≡ caps_in (I.opening m) =
     λ setup goes. (goes.goes.each 0 (shown first.0) (shows_at shown items 0 first.0 first.1)).caps_are in
     let sound : SoundByTable s = sound_of s (c.self.invariant.sound.1 step) in
     let homes : (setup : Setup) → IsSetupFor setup s → setup.homes ≡ s.homes =
@@ -73,21 +74,19 @@ returns-clause-observed g c = λ step.
     λ setup goes. shown_at shown (λ j q. CpuIsObserved setup s j q) items (λ j x there.
     let at = (is.each j x there).holds in
     let number = (is.each j x there).number_is in
-    let reads_own = law.reads_own x.part in
     let cpu = layered (laws_of g.met.I.CallLayer) m x at.0 at.1 at.2 at.3 in
-    let halted = halted_read (observed_cpu cpu step) setup (goes.goes.each j (shown x) (shows_at shown items j x there)) in
+    let halted = halted_same (tabled_cpu cpu step) setup (goes.goes.each j (shown x) (shows_at shown items j x there)) in
     let pending = pending_read setup machine x.number (I.opening m) (at.3 step).opens (caps setup goes) are in
     record {
       inside = ap is_in_section (phase_renamed name_of (cpu_at j) (I.acts m))
           ∙ ap (λ (d : CpuId). is_in_section (phase d (I.acts m))) (sym (at.1 ∙ number)) ∙ sym (law.busy x.part m at.0 step);
       halted = rw (← number) halted;
-      current = ap (λ (t : Threads). t.current) reads_own.0;
-      ready = ap (λ (t : Threads). t.ready) reads_own.0;
-      hand = ap (λ (t : Threads). t.hand) reads_own.0;
+      current = refl;
+      ready = refl;
+      hand = refl;
       trace = refl;
       ended = λ t known.
-          ended_is (I.own x.part) x.guests.items x.trace.items t (omega (arith, known, (at.3 step).size))
-          ∙ ap (λ (own : Threads). is_in t own.ended) reads_own.0;
+          ended_is (I.own x.part) x.guests.items x.trace.items t (omega (arith, known, (at.3 step).size));
       pending = subst (λ (d : CpuId). block_at setup (Pending d) (named (I.acts m)) ≡ Some (OfPending (pending_by (I.moves m) d))) number pending;
     }) in
     let buffers_told : (setup : Setup) → IsSetupFor setup s → (b : ℕ) → b < length s.caps → HasBuffer setup s b =
@@ -123,4 +122,4 @@ returns-clause-once g c =
     subst (λ (s : Shown). StandsOnce s) c.self.view_is
     (once_of
     (shown_in (observed_by I g.I.Owned.owner m) (map (shown_by I) c.self.inside.cpus.items) c.self.inside.room c.self.inside.taken)
-    (length (I.caps m)) (I.wait_lists m) refl (g.met.I.CallLayer.lists first.0.part m fits) agreed.within agreed.lawful agreed.stands)
+    (length (caps_in (I.opening m))) (I.wait_lists m) refl (g.met.I.CallLayer.lists first.0.part m fits) agreed.within agreed.lawful agreed.stands)

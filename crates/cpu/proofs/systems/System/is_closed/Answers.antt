@@ -1,4 +1,5 @@
 use Rattle.std.{proofs.Common.{arith, ◌≡◌, false, length, None, sym, ◌∙◌, subst}, specs.Prelude.slice_index_or}
+use Rattle.layer_traits.specs.Capacities.{caps_in}
 use Rattle.{event_log.specs.Runs.is_closed, cpu.{specs.Claims.Shown, proofs.{ListReads.listed_there, PartsTold.{acts_first, told_here, told_somewhere, up_to}}}}
 use Rattle.cpu.proofs.systems.System.is_closed.Goals as goal
 
@@ -21,8 +22,8 @@ returns-in-Some-closed_in_hands g c =
     (told_here g.I.CallLayer c.self.inside.machine c.self.inside.cpus.items is.each is.holders told c.deref-at-items.result.now c.loop-at.at-index
     c.deref-at-items.ensures.value c.at-item.result c.in-Some-closed_in_hands.closed c.loop-at-test.true c.at-item.is
     (sym c.closed_in_hands.ensures ∙ c.in-Some-closed_in_hands.is)
-    ∙ sym (listed_there (is_closed (g.I.CallLayer.seen c.self.inside.machine)) (length (g.I.CallLayer.caps c.self.inside.machine)) c.args.buffer.0 false
-    (rw (← c.self.view_is) at c.requires)))
+    ∙ sym (listed_there (is_closed (g.I.CallLayer.seen c.self.inside.machine)) (length (caps_in (g.I.CallLayer.opening c.self.inside.machine)))
+    c.args.buffer.0 false (rw (← c.self.view_is) at c.requires)))
 
 pub loop-at-preserved : goal.loop-at-preserved
 loop-at-preserved g c =

@@ -1,3 +1,4 @@
+use Rattle.layer_traits.specs.QueueBlocks.{homes_in}
 use Rattle.std.proofs.Common.{arith, ◌∙◌}
 use Rattle.cpu.proofs.{ListReads.{shows_at, there_is}, PartsTold.{acts_first, item_at, wait_channel_here, up_to, up_to_end}, SystemOverLayer.shown_by}
 use Rattle.cpu.proofs.systems.System.place.Goals as goal
@@ -26,7 +27,7 @@ returns g c =
     let items = c.self.inside.cpus.items in
     let first = there_is items 0 is.some in
     let observed = g.met.I.Owned.place first.0.part m c.args.thread (is.each 0 first.0 first.1).holds.0 (rw (← c.self.view_is) at c.requires) in
-    absurd (wait_channel_here I m items is.each is.holders (λ p. g.I.Owned.IsSilent p m c.args.thread) (I.homes_of m) (I.moves m) c.args.thread
+    absurd (wait_channel_here I m items is.each is.holders (λ p. g.I.Owned.IsSilent p m c.args.thread) (homes_in (I.opening m)) (I.moves m) c.args.thread
     (g.met.I.CallLayer.moves_legal m (record { 0 = 0 }) (acts_first is)) is.within observed
     (up_to_end (λ x. g.I.Owned.IsSilent x.part m c.args.thread) items c.deref-at-items.result.now c.loop-at.at-index c.deref-at-items.ensures.value
     c.loop-at-test.false c.loop-at.invariant))

@@ -56,7 +56,7 @@ module _ (g : Over) (c : After-spin-looks g) where
   keeps =
       let e = c.spin-looks.ensures in
       spins_keep g.I.CallLayer laws g.I.Owned.owner c.self.inside.threads c.self.inside.machine c.spin-looks.new.m c.self.inside.cpus.items c.self.inside.room
-      c.self.inside.taken c.from.result c.spin-looks.result c.args.cpu c.index-at.result.now c.self.invariant there c.from.ensures e.spun e.homes e.caps e.tries
+      c.self.inside.taken c.from.result c.spin-looks.result c.args.cpu c.index-at.result.now c.self.invariant there c.from.ensures e.spun e.tries
       e.still live space legal
 
   leads : Leads g.I.CallLayer.IsStepwise
@@ -68,7 +68,7 @@ module _ (g : Over) (c : After-spin-looks g) where
   leads =
       let e = c.spin-looks.ensures in
       spins_lead g.I.CallLayer laws g.I.Owned.owner c.self.inside.threads c.self.inside.machine c.spin-looks.new.m c.self.inside.cpus.items c.self.inside.room
-      c.self.inside.taken c.from.result c.spin-looks.result c.args.cpu c.index-at.result.now c.self.invariant there c.from.ensures e.spun e.homes e.caps e.tries
+      c.self.inside.taken c.from.result c.spin-looks.result c.args.cpu c.index-at.result.now c.self.invariant there c.from.ensures e.spun e.tries
       e.still live space legal
 
 pub invariant_of-self : goal.invariant_of-self

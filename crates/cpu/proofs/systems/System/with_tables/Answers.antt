@@ -1,4 +1,7 @@
-use Rattle.std.proofs.{Common.{◌≡◌, ◌<◌, ◌^◌, ℕ, [], List, Option, length, map, refl, ap, sym, ◌∙◌, subst, arith}, lemmas.List.length-map}
+use Rattle.layer_traits.specs.Capacities.{caps_in}
+use Rattle.layer_traits.specs.OwnParts.{threads_in}
+use Rattle.layer_traits.specs.QueueBlocks.{homes_in}
+use Rattle.std.proofs.{Common.{◌≡◌, ◌<◌, ℕ, [], List, Option, length, map, refl, ap, sym, ◌∙◌, subst, arith}, lemmas.List.length-map}
 use Rattle.{std.{proofs.lemmas.Option.{slice_get-get_or, slice_get_within}, specs.Prelude.slice_index_or}, layer_traits.specs.OnePlace.cpu_at}
 use Rattle.cpu.specs.{declared.{cpus.Cpu.Cpu, guests.Guest.Guest}, Boots.AreGuests, Claims.{cpu_shown, shown_of}, Sound.BootsByTable, Tables.IsTabled}
 use Rattle.cpu.{specs.{Tables.private, Tower.Composed.named}, proofs.{ListReads.shown_at, SystemsAtBoot.{IsNew, starts_by_table}, TableCalls.boots_tabled}}
@@ -15,23 +18,24 @@ assembled-requires g c =
     let openable = c.requires.openable in
     let tables : List (List (Option Guest)) = map (λ t. t.items) c.args.tables.items in
     let so_many : length tables ≡ length c.args.tables.items = length-map c.args.tables.items (λ t. t.items) in
-    let shown = λ (x : Cpu g.row.I.Denot g.row.I-Machine.Denot). cpu_shown (I.threads x.part) x.guests.items x.trace.items x.limit (I.is_inside x.part)
+    let shown = λ (x : Cpu g.row.I.Denot g.row.I-Machine.Denot). cpu_shown (threads_in (I.own x.part)) x.guests.items x.trace.items x.limit (I.is_inside x.part)
     (I.own x.part) in
     let threads = ap (λ (l : List CpuId). length l) (sym c.in_ok-machine.ensures.opened.homes_are) in
     let below : (k : ℕ) → k < length cpus → k < length tables =
     λ k within. let count = c.in_ok-cpus.ensures.count in omega (arith, so_many, within, count) in
-    let start = shown_of (I.caps m) (I.homes_of m) (I.seen m) (I.wait_lists m) (g.I.Owned.owner m) (I.moves m) (I.acts m) (map shown cpus) c.args.room 0 in
+    let start = shown_of (caps_in (I.opening m)) (homes_in (I.opening m)) (I.seen m) (I.wait_lists m) (g.I.Owned.owner m) (I.moves m) (I.acts m)
+    (map shown cpus) c.args.room 0 in
     let boots : I.IsStepwise → BootsByTable start = λ step. starts_by_table start (ap (λ (l : List (Action _)). named l) e.none) refl
-    (shown_at shown (λ k p. IsNew (I.homes_of m) k p) cpus (λ k x at.
+    (shown_at shown (λ k p. IsNew (homes_in (I.opening m)) k p) cpus (λ k x at.
     let b = c.in_ok-cpus.ensures.booted k x at in
     let are = c.requires.tables k (slice_index_or tables k []) (slice_get-get_or tables k [] (below k (slice_get_within cpus k x at))) in
     subst (λ (h : List CpuId). IsNew h k (shown x)) (sym e.opened.homes_are) (record {
       buffers = length c.args.caps.now;
       guests = subst (λ (l : List (Option Guest)). AreGuests homes (length c.args.caps.now) (cpu_at k) l) (sym b.booted.guests_are) are;
-      private_is = (λ i. private (b.own_is step i) x.guests.items (b.booted.nothing i));
+      private_is = (λ i. private (b.own_is i) x.guests.items (b.booted.nothing i));
     }))) in
-    opens _ (λ x. x.number) (λ d. I.ActsFor m d) (λ d. I.MayHold m d) I.IsStepwise (I.acts m) cpus homes (I.homes_of m) (I.seen m) c.args.caps.now c.args.room
-    (I.room m) (length c.args.tables.items) _ (threads, boots)
+    opens _ (λ x. x.number) (λ d. I.ActsFor m d) (λ d. I.MayHold m d) I.IsStepwise (I.acts m) cpus homes (homes_in (I.opening m)) (I.seen m) c.args.caps.now
+    c.args.room (I.room m) (length c.args.tables.items) _ (threads, boots)
     openable c.in_ok-cpus.ensures.count (λ k x at.
     let b = c.in_ok-cpus.ensures.booted k x at in
     let within : k < length c.args.tables.items =
@@ -52,8 +56,8 @@ assembled-requires g c =
             one.2,
             λ step.
                 let opened = g.met.I.CallLayer.opens step m homes number (e.fresh number below) in
-                subst (λ z. z) (λ i. IsTabled (sym e.opened.homes_are i) (I.caps m) (sym b.booted.number_is i) (sym (b.own_is step) i) (sym b.nothing_done i)
-                (sym b.booted.guests_are i) (I.opening m)) (boots_tabled homes (I.caps m) number
+                subst (λ z. z) (λ i. IsTabled (sym e.opened.homes_are i) (caps_in (I.opening m)) (sym b.booted.number_is i) (sym b.own_is i)
+                (sym b.nothing_done i) (sym b.booted.guests_are i) (I.opening m)) (boots_tabled homes (caps_in (I.opening m)) number
                 (slice_index_or tables k []) (length c.args.caps.now) (I.opening m) are opened),
           );
     })

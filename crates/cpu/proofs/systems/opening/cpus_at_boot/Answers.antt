@@ -1,5 +1,6 @@
 use Rattle.std.proofs.{Common.{◌≡◌, ◌∷◌, ◌<◌, [], Some, drop, length, map, ap, ◌∙◌, subst, arith, vec_capacity}, lemmas.List.length-append}
 use Rattle.{std.specs.Prelude.{slice_get, slice_index_or}, cpu.specs.{declared.cpus.Cpu.Cpu, Boots.IsBootedAs}}
+use Rattle.layer_traits.specs.Capacities.{caps_in}
 use Rattle.cpu.proofs.InvariantAtBoot.{at_end, drop_more, first_left}
 use Rattle.cpu.proofs.systems.opening.cpus_at_boot.Goals as goal
 
@@ -21,15 +22,13 @@ loop-number-preserved g c =
           omega (arith, ap (λ l. length l) grown ∙ length-append c.loop-number.cpus.items (x ∷ []), inv.so_many);
       has_room = let room = inv.has_room in let more = c.put_cpu.ensures.capacity in omega (arith, room, more);
       booted = λ k z at. at_end (λ j (y : Cpu g.row.I.Denot g.row.I-Machine.Denot). IsBootedAs (λ p m. I.Fits p m) (λ m d. I.IsFresh m c.args.homes.now d)
-          (λ m. length (I.caps m)) I.IsStepwise c.args.buffers c.args.homes.now j
+          (λ m. length (caps_in (I.opening m))) c.args.buffers c.args.homes.now j
           (slice_index_or (map (λ t. t.items) tables) j []) c.args.limit y.part (I.cpu_of y.part)
-          (I.own y.part) (I.threads y.part) (I.call_states y.part) (I.under_way y.part) y.number y.guests.items y.trace.items y.limit (vec_capacity y.trace))
+          (I.own y.part) (I.under_way y.part) y.number y.guests.items y.trace.items y.limit (vec_capacity y.trace))
           c.loop-number.cpus.items x inv.booted
           (rw inv.so_many (record {
             booted = grind (arith, n, x, e);
             cpu_is = e.cpu;
-            threads_are = e.threads;
-            nobody_calls = e.call_states;
             nothing_done = e.under_way;
             own_is = e.own;
             fits = e.fits;
