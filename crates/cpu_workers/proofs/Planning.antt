@@ -5,10 +5,10 @@ use Rattle.{std.specs.List.{AllByRecursion, list_all}, event_log.specs.{declared
 use Rattle.guest.specs.{declared.instructions.Instruction.Instruction, Calls.{IsProgramsCalls, HasEnded}, State.{State, next_of}}
 use Rattle.layer_traits.specs.declared.{calls.{Call.Call, Effect.Effect}, steps.{Reason.TheVariants.{AllEnded, TraceFull, StepsUsed}, Step.Step}}
 use Rattle.{layer_traits.specs.{Along.{Outcome, IsStep}, BufferLaw.{begun_of, call_state_of}, Places.Threads}, cpu.specs.declared.guests.Guest.Guest}
-use Rattle.cpu.specs.{declared.guests.GuestStage.{GuestStage, TheVariants.{Idle, Begun, Done, Ended}}, Guests.{HasComeIn, after_effect, is_ended}, Cpus.IsCpu}
+use Rattle.cpu.specs.{declared.guests.GuestStage.{GuestStage, TheVariants.{Idle, Begun, Done, Ended}}, Guests.{HasComeIn, after_effect, is_ended}}
 use Rattle.cpu.specs.{Cpus.{IsOfHome, begins, begun_count, chosen, guest_at, halted_at, is_over, of_cpu, of_thread, programs_of}, Table.Setups.{Setup, Thread}}
-use Rattle.cpu.{specs.{Table.Setups.thread_at, Tables.{IsSetupOf, private}, Tower.{Privates.threads_in, Views.TowerName}}, proofs.ListReads.all_reversed}
-use Rattle.cpu.proofs.{OneOrder.filter_reversed, TableCalls.ObservedCpu, TableRows.guest_there, GuestLists.guest_with}
+use Rattle.cpu.{specs.{Table.Setups.thread_at, Tables.{IsSetupOf, private}, Tower.Views.TowerName}, proofs.ListReads.all_reversed}
+use Rattle.cpu.proofs.{OneOrder.filter_reversed, CpuStates.TabledCpu, TableRows.guest_there, GuestLists.guest_with}
 use Rattle.cpu_workers.specs.{Orders.{FollowsProgram, HasFollowed}, Working.IsPlanned}
 
 program_there : (guests : List (Option Guest)) (t : ℕ) (g : Guest) → guest_at guests t ≡ Some g → slice_index_or (programs_of guests) t None ≡ Some g.program
@@ -69,12 +69,8 @@ follows_by g es begun effect over ends come = go g.stage refl come
     go Ended at f = record { state = g.thread; calls = turned g.thread f.1; ends = λ is. f.2 }
 
 -- the threads of a worker have followed their programs
-module _ (told : ObservedCpu) where
-  open told use {homes, caps, buffers, seen, part, call_states, under_way, number, guests, trace, limit, capacity}
-  open told use {reads_own, is}
-
-  is_own : IsCpu homes buffers seen (threads_in part) part.call_states under_way number guests trace limit capacity
-  is_own = subst (λ x. x) (λ i. IsCpu homes buffers seen (sym reads_own.0 i) (sym reads_own.1 i) under_way number guests trace limit capacity) is
+module _ (told : TabledCpu) where
+  open told use {homes, caps, seen, own as part, number, guests, trace, limit, is}
 
   entries : (t : Tid) → of_thread t.0 trace ≡ reverse (of_thread t.0 (of_cpu number seen))
   entries t = ap (λ (l : List Entry). of_thread t.0 l) is.kept ∙ filter_reversed (λ (e : Entry). e.thread.0 == t.0) (of_cpu number seen)
@@ -94,8 +90,8 @@ module _ (told : ObservedCpu) where
     follows = λ t program at. let there = guest_with guests t.0 program at in
         subst (λ (l : List Instruction). FollowsProgram l (of_thread t.0 trace) (thread_at (private part guests trace) t).ended) there.2
         (subst (λ (l : List Entry). FollowsProgram there.0.program l (thread_at (private part guests trace) t).ended) (sym (entries t))
-        (follows_by there.0 (of_thread t.0 (of_cpu number seen)) (begun_of (call_state_of call_states t)) (call_state_of call_states t).effect
+        (follows_by there.0 (of_thread t.0 (of_cpu number seen)) (begun_of (call_state_of part.call_states t)) (call_state_of part.call_states t).effect
         (thread_at (private part guests trace) t).ended
-        (λ over. is_own.over t (sym (ap (λ (x : Thread). x.ended) (guest_there part guests trace t there.0 there.1)) ∙ over) there.0 there.1)
+        (λ over. is.over t (sym (ap (λ (x : Thread). x.ended) (guest_there part guests trace t there.0 there.1)) ∙ over) there.0 there.1)
         (is.follow t there.0 there.1).1));
   }

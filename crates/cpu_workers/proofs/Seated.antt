@@ -1,8 +1,8 @@
 -- A CPU that was made with its guests is one before its first step, over a machine in which nothing was done.
-use Rattle.std.{proofs.Common.{◌≡◌, ℕ, ◌≤◌, List, [], length, replicate, Option, None, ap, sym, ◌∙◌, subst}, specs.Prelude.{IfOk, Result, Ok, Err}}
+use Rattle.std.{proofs.Common.{◌≡◌, ℕ, ◌≤◌, List, [], length, Option, None, ap, sym, ◌∙◌, subst}, specs.Prelude.{IfOk, Result, Ok, Err}}
 use Rattle.{boot.specs.Plan.{BootPlan, IsPlan, Task}, event_log.specs.declared.{entries.Entry.Entry, ids.{CpuId.CpuId, LockId.LockId, TheConstants.THREADS}}}
-use Rattle.{event_log.specs.Actions.Action, layer_traits.specs.{declared.call_states.CallState.CallState, BufferLaw.{Buffering, UnderWay, buffering_at_start}}}
-use Rattle.{layer_traits.specs.{BufferLaw.no_call, IpcLaw.OpensSo, Places.{Threads, at_boot}}, cpu.specs.{declared.guests.Guest.Guest, Boots.AreGuests}}
+use Rattle.{event_log.specs.Actions.Action, layer_traits.specs.BufferLaw.{Buffering, UnderWay, buffering_at_start}}
+use Rattle.{layer_traits.specs.{IpcLaw.OpensSo, OwnParts.threads_in}, cpu.specs.{declared.guests.Guest.Guest, Boots.AreGuests}}
 use Rattle.cpu.specs.{Boots.{IsBooted, guests_for, homes_for}, Cpus.{IsCpu, guest_at, programs_of}, Sound.setup_for, Table.Setups.{Setup, Private}}
 use Rattle.cpu.specs.{Table.Setups.{at_boot as boot_of, program_or}, Tables.{IsTabled, private}, Tower.Views.{TowerBlock, TowerName}}
 use Rattle.cpu.proofs.{InvariantAtBoot.boots, ListReads.shows_at, PlanGuests.by_task, SystemsAtBoot.private_boots, TableCalls.boots_tabled}
@@ -12,11 +12,11 @@ use Rattle.cpu_workers.specs.{Seating.IsAtBoot, Working.{Charge, IsPlanned, Work
 module _ {homes : List CpuId} {buffers : ℕ} {number : CpuId} {guests : List (Option Guest)} {most : ℕ} {its : CpuId} {table : List (Option Guest)}
     {trace : List Entry} {limit capacity : ℕ} (are : AreGuests homes buffers number guests)
     (made : IsBooted number guests most its table trace limit capacity) where
-  pub boots_over : {its_homes : List CpuId} {count : ℕ} {seen : List Entry} {threads : Threads} {call_states : List CallState} {under_way : Option UnderWay}
-      → length homes ≤ THREADS → its_homes ≡ homes → count ≡ buffers → seen ≡ [] → threads ≡ at_boot homes number → call_states ≡ replicate THREADS no_call
-      → under_way ≡ None → IsCpu its_homes count seen threads call_states under_way its table trace limit capacity
-  boots_over few same counted none threads_are call_states_are nothing =
-      rw (same, counted, none, threads_are, call_states_are, nothing, made.number_is, made.guests_are, made.nothing, made.limit_is)
+  pub boots_over : {its_homes : List CpuId} {count : ℕ} {seen : List Entry} {own : Buffering} {under_way : Option UnderWay}
+      → length homes ≤ THREADS → its_homes ≡ homes → count ≡ buffers → seen ≡ [] → own ≡ buffering_at_start homes number
+      → under_way ≡ None → IsCpu its_homes count seen (threads_in own) own.call_states under_way its table trace limit capacity
+  boots_over few same counted none own_is nothing =
+      rw (same, counted, none, own_is, nothing, made.number_is, made.guests_are, made.nothing, made.limit_is)
       (boots homes buffers number guests most capacity are few made.reserved)
 
   pub tabled_over : {its_homes : List CpuId} {caps : List ℕ} {own : Buffering} {under_way : Option UnderWay} {opening : LockId → Option TowerBlock}

@@ -1,6 +1,7 @@
 //! Natives over machines of their own sides: from before their first calls to what they leave.
 
 ghost use Rattle.std.specs.Prelude.{◌≡◌, ℕ, ◌<◌, ◌≤◌, Some, [], All, IfOk, length, slice_get, vec_capacity};
+ghost use Rattle.layer_traits.specs.{Capacities.caps_in, QueueBlocks.homes_in};
 ghost use Rattle.{event_log.specs.declared.ids.TheConstants.{BUFFERS, CPUS, THREADS}, layer_traits.specs.{BufferEffects.opening_locks, OnePlace.cpu_at}};
 ghost use Rattle.{layer_traits.specs.QueueBlocks.inner, cpu_workers.specs.{Natives.{HasLeftCalls, HasLeftMachine, IsNewCaller, OpensWith}, Reports.Both}};
 ghost use Rattle.cpu_workers.specs.Seating.{IsReady, IsUnused, tower_acts};
@@ -41,8 +42,8 @@ where
     requires buffers { length caps.now ≤ BUFFERS }
     requires threads { length homes.now ≤ THREADS }
     requires unused { (k : ℕ) (m : I.Machine) → slice_get machines.items k ≡ Some m
-        → IsUnused (I.IsFresh m homes.now (cpu_at k)) (I.homes_of m ≡ homes.now) (I.caps m ≡ caps.now)
-        (I.seen m ≡ []) (I.acts m ≡ []) (inner (I.opening m) ≡ opening_locks (I.caps m)) }
+        → IsUnused (I.IsFresh m homes.now (cpu_at k)) (homes_in (I.opening m) ≡ homes.now) (caps_in (I.opening m) ≡ caps.now)
+        (I.seen m ≡ []) (I.acts m ≡ []) (inner (I.opening m) ≡ opening_locks (caps_in (I.opening m))) }
     ensures count { IfOk result (λ tasks. length tasks.items ≡ length machines.items) }
     ensures each { IfOk result (λ tasks. (k : ℕ) (t : _) → slice_get tasks.items k ≡ Some t
         → IsNewCaller caps.now (cpu_at k) t.caller × (slice_get natives.items k ≡ Some t.native)
@@ -128,8 +129,8 @@ where
     requires threads { length homes.now ≤ THREADS }
     requires needs { All (λ n. N.Needs n caps.now) natives.items }
     requires unused { (k : ℕ) (m : I.Machine) → slice_get machines.items k ≡ Some m
-        → IsUnused (I.IsFresh m homes.now (cpu_at k)) (I.homes_of m ≡ homes.now) (I.caps m ≡ caps.now)
-        (I.seen m ≡ []) (I.acts m ≡ []) (inner (I.opening m) ≡ opening_locks (I.caps m)) }
+        → IsUnused (I.IsFresh m homes.now (cpu_at k)) (homes_in (I.opening m) ≡ homes.now) (caps_in (I.opening m) ≡ caps.now)
+        (I.seen m ≡ []) (I.acts m ≡ []) (inner (I.opening m) ≡ opening_locks (caps_in (I.opening m))) }
     ensures count { IfOk result (λ left. length left.items ≡ length machines.items) }
     ensures site { IfOk result (λ left. (k : ℕ) (x : _) (m : I.Machine) → slice_get left.items k ≡ Some x → slice_get machines.items k ≡ Some m
         → I.site x.machine ≡ I.site m) }

@@ -2,6 +2,7 @@
 //! call takes memory. `send`, `recv` and `close` wait for other CPUs.
 
 ghost use Rattle.std.specs.Prelude.{◌≡◌, ◌<◌, ◌≤◌, false, [], MatchOption, if◌then◌else◌, is_ok, length};
+ghost use Rattle.layer_traits.specs.Capacities.{caps_in};
 ghost use Rattle.event_log.specs.declared.entries.Kind.TheVariants as kind;
 ghost use Rattle.{event_log.specs.Messages.no_message, layer_traits.specs.BufferLaw.buffer_of, cpu_workers.specs.Callers.{HasCalled, HasMade}};
 
@@ -42,7 +43,7 @@ where
     I::Machine: Drop,
 {
     ghost use Rattle.std.specs.Prelude.{◌≡◌, ◌<◌, None, reverse};
-    ghost use Rattle.layer_traits.specs.{declared.call_states.Stage.TheVariants.Idle, BufferEffects.opening_locks, BufferLaw.call_state_of, QueueBlocks.inner};
+    ghost use Rattle.layer_traits.specs.{declared.call_states.Stage.TheVariants.Idle, BufferEffects.opening_locks, BufferLaw.call_state_of, Capacities.caps_in, QueueBlocks.inner};
     ghost use Rattle.{cpu.specs.Cpus.of_cpu, cpu_workers.specs.Callers.{CallerView, IsCaller}};
 
     ghost Value = { CallerView };
@@ -50,13 +51,13 @@ where
     ghost view = { λ c. record {
       cpu = c.cpu;
       thread = c.thread;
-      caps = I.caps c.machine;
+      caps = caps_in (I.opening c.machine);
       site = I.site c.machine;
       calls = reverse (of_cpu c.cpu (I.seen c.machine));
     } };
 
     ghost invariant = { λ c. IsCaller (I.Fits c.part c.machine × (I.cpu_of c.part ≡ c.cpu)) ((m : I.Machine) → 0 < I.room m) (I.under_way c.part ≡ None)
-        ((call_state_of (I.call_states c.part) c.thread).stage ≡ Idle) (inner (I.opening c.machine) ≡ opening_locks (I.caps c.machine))
+        ((call_state_of (I.own c.part).call_states c.thread).stage ≡ Idle) (inner (I.opening c.machine) ≡ opening_locks (caps_in (I.opening c.machine)))
         c.cpu (I.seen c.machine) c.made };
 }
 
@@ -80,13 +81,13 @@ where
     ) -> Caller<I>
         requires threads { length homes.now ≤ THREADS }
         requires fresh { I.IsFresh machine homes.now cpu }
-        requires buffers { length (I.caps machine) ≡ buffers }
+        requires buffers { length (caps_in (I.opening machine)) ≡ buffers }
         requires seen { I.seen machine ≡ [] }
         requires room { (m : I.Machine) → 0 < I.room m }
-        requires opens { inner (I.opening machine) ≡ opening_locks (I.caps machine) }
+        requires opens { inner (I.opening machine) ≡ opening_locks (caps_in (I.opening machine)) }
         ensures cpu { result.cpu ≡ cpu }
         ensures thread { result.thread ≡ thread }
-        ensures caps { result.caps ≡ I.caps machine }
+        ensures caps { result.caps ≡ caps_in (I.opening machine) }
         ensures site { result.site ≡ I.site machine }
         ensures calls { result.calls ≡ [] }
     {

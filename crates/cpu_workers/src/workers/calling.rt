@@ -2,6 +2,7 @@
 //! other CPUs.
 
 ghost use Rattle.std.specs.Prelude.{◌≡◌, ◌≢◌, ◌<◌, None, Some, IfOk, IfErr, length};
+ghost use Rattle.layer_traits.specs.{Capacities.caps_in, OwnParts.threads_in};
 ghost use Rattle.layer_traits.specs.{declared.{call_states.Stage.TheVariants.Idle, passes.Pass.TheVariants.End}, BufferLaw.{Calling, MayGoOn, MayPollCall}};
 ghost use Rattle.layer_traits.specs.{BufferLaw.{Passing, buffer_of, call_state_of}, Passes.MayPass};
 ghost use Rattle.cpu_workers.specs.{declared.workers.calling.Begun.TheVariants.Calls, Calls.{Ends, KeepsOn, MayBegin, MayPoll, Returned, under_way_of}};
@@ -24,9 +25,9 @@ pub(crate) enum Begun {
 // What a CPU with nothing under way polls next for the call of `t`. A thread in its hand goes home
 // first.
 fn choose<I: CallLayer<IpcLaw>>(part: &I, t: Tid) -> Begun
-    ensures may { MayBegin t (I.threads part.now) result }
-    ensures hand { result ≡ Calls → (I.threads part.now).hand ≡ None }
-    ensures calls { (I.threads part.now).hand ≡ None → (I.threads part.now).current ≡ Some t → result ≡ Calls }
+    ensures may { MayBegin t (threads_in (I.own part.now)) result }
+    ensures hand { result ≡ Calls → (threads_in (I.own part.now)).hand ≡ None }
+    ensures calls { (threads_in (I.own part.now)).hand ≡ None → (threads_in (I.own part.now)).current ≡ Some t → result ≡ Calls }
 {
     if let Some(woken) = part.hand() {
         return Begun::Passes(Pass::MakeReady(woken));
@@ -49,18 +50,17 @@ fn poll_pass<I: CallLayer<IpcLaw>>(
 ) -> Option<Begun>
     requires fits { I.Fits part.old m.old }
     requires room { 0 < I.room m.old }
-    requires may { MayPass pass (I.threads part.old) }
+    requires may { MayPass pass (threads_in (I.own part.old)) }
     requires keeps { pass ≢ End }
     requires goes_on { MayGoOn (I.under_way part.old) (Passing pass) }
     ensures fits { I.Fits part.new m.new }
     ensures cpu { I.cpu_of part.new ≡ I.cpu_of part.old }
-    ensures caps { I.caps m.new ≡ I.caps m.old }
     ensures opening { I.opening m.new ≡ I.opening m.old }
     ensures site { I.site m.new ≡ I.site m.old }
     ensures under_way { I.under_way part.new ≡ under_way_of t result }
-    ensures may { MayPoll t (I.threads part.new) result }
-    ensures ended { (I.threads part.new).ended ≡ (I.threads part.old).ended }
-    ensures on { KeepsOn (I.cpu_of part.old) t call.now (I.call_states part.old) (I.call_states part.new) (I.seen m.old) (I.seen m.new) }
+    ensures may { MayPoll t (threads_in (I.own part.new)) result }
+    ensures ended { (threads_in (I.own part.new)).ended ≡ (threads_in (I.own part.old)).ended }
+    ensures on { KeepsOn (I.cpu_of part.old) t call.now (I.own part.old).call_states (I.own part.new).call_states (I.seen m.old) (I.seen m.new) }
 {
     let _ = t;
     let _ = call;
@@ -79,22 +79,21 @@ fn poll_call<I: CallLayer<IpcLaw>>(
 ) -> Result<Reply, Option<Begun>>
     requires fits { I.Fits part.old m.old }
     requires room { 0 < I.room m.old }
-    requires buffer { (buffer_of call.now).0 < length (I.caps m.old) }
-    requires runs { (I.threads part.old).current ≡ Some t }
-    requires hand { I.under_way part.old ≡ None → (I.threads part.old).hand ≡ None }
+    requires buffer { (buffer_of call.now).0 < length (caps_in (I.opening m.old)) }
+    requires runs { (threads_in (I.own part.old)).current ≡ Some t }
+    requires hand { I.under_way part.old ≡ None → (threads_in (I.own part.old)).hand ≡ None }
     requires goes_on { MayGoOn (I.under_way part.old) (Calling t) }
-    requires same { MayPollCall (call_state_of (I.call_states part.old) t) call.now }
+    requires same { MayPollCall (call_state_of (I.own part.old).call_states t) call.now }
     ensures fits { I.Fits part.new m.new }
     ensures cpu { I.cpu_of part.new ≡ I.cpu_of part.old }
-    ensures caps { I.caps m.new ≡ I.caps m.old }
     ensures opening { I.opening m.new ≡ I.opening m.old }
     ensures site { I.site m.new ≡ I.site m.old }
-    ensures ended { (I.threads part.new).ended ≡ (I.threads part.old).ended }
-    ensures runs { IfOk result (λ reply. (I.threads part.new).current ≡ Some t) }
-    ensures goes { IfErr result (λ begun. (I.under_way part.new ≡ under_way_of t begun) × MayPoll t (I.threads part.new) begun
-        × KeepsOn (I.cpu_of part.old) t call.now (I.call_states part.old) (I.call_states part.new) (I.seen m.old) (I.seen m.new)) }
-    ensures ends { IfOk result (λ reply. (I.under_way part.new ≡ None) × ((call_state_of (I.call_states part.new) t).stage ≡ Idle)
-        × Ends (I.cpu_of part.old) t call.now reply (I.call_states part.old) (I.seen m.old) (I.seen m.new)) }
+    ensures ended { (threads_in (I.own part.new)).ended ≡ (threads_in (I.own part.old)).ended }
+    ensures runs { IfOk result (λ reply. (threads_in (I.own part.new)).current ≡ Some t) }
+    ensures goes { IfErr result (λ begun. (I.under_way part.new ≡ under_way_of t begun) × MayPoll t (threads_in (I.own part.new)) begun
+        × KeepsOn (I.cpu_of part.old) t call.now (I.own part.old).call_states (I.own part.new).call_states (I.seen m.old) (I.seen m.new)) }
+    ensures ends { IfOk result (λ reply. (I.under_way part.new ≡ None) × ((call_state_of (I.own part.new).call_states t).stage ≡ Idle)
+        × Ends (I.cpu_of part.old) t call.now reply (I.own part.old).call_states (I.seen m.old) (I.seen m.new)) }
 {
     match part.poll(m, t, call) {
         Some(reply) => Ok(reply),
@@ -114,21 +113,20 @@ fn poll_once<I: CallLayer<IpcLaw>>(
 ) -> Result<Reply, Option<Begun>>
     requires fits { I.Fits part.old m.old }
     requires room { 0 < I.room m.old }
-    requires buffer { (buffer_of call.now).0 < length (I.caps m.old) }
+    requires buffer { (buffer_of call.now).0 < length (caps_in (I.opening m.old)) }
     requires under_way { I.under_way part.old ≡ under_way_of t begun }
-    requires may { MayPoll t (I.threads part.old) begun }
-    requires same { MayPollCall (call_state_of (I.call_states part.old) t) call.now }
+    requires may { MayPoll t (threads_in (I.own part.old)) begun }
+    requires same { MayPollCall (call_state_of (I.own part.old).call_states t) call.now }
     ensures fits { I.Fits part.new m.new }
     ensures cpu { I.cpu_of part.new ≡ I.cpu_of part.old }
-    ensures caps { I.caps m.new ≡ I.caps m.old }
     ensures opening { I.opening m.new ≡ I.opening m.old }
     ensures site { I.site m.new ≡ I.site m.old }
-    ensures ended { (I.threads part.new).ended ≡ (I.threads part.old).ended }
-    ensures runs { IfOk result (λ reply. (I.threads part.new).current ≡ Some t) }
-    ensures goes { IfErr result (λ begun. (I.under_way part.new ≡ under_way_of t begun) × MayPoll t (I.threads part.new) begun
-        × KeepsOn (I.cpu_of part.old) t call.now (I.call_states part.old) (I.call_states part.new) (I.seen m.old) (I.seen m.new)) }
-    ensures ends { IfOk result (λ reply. (I.under_way part.new ≡ None) × ((call_state_of (I.call_states part.new) t).stage ≡ Idle)
-        × Ends (I.cpu_of part.old) t call.now reply (I.call_states part.old) (I.seen m.old) (I.seen m.new)) }
+    ensures ended { (threads_in (I.own part.new)).ended ≡ (threads_in (I.own part.old)).ended }
+    ensures runs { IfOk result (λ reply. (threads_in (I.own part.new)).current ≡ Some t) }
+    ensures goes { IfErr result (λ begun. (I.under_way part.new ≡ under_way_of t begun) × MayPoll t (threads_in (I.own part.new)) begun
+        × KeepsOn (I.cpu_of part.old) t call.now (I.own part.old).call_states (I.own part.new).call_states (I.seen m.old) (I.seen m.new)) }
+    ensures ends { IfOk result (λ reply. (I.under_way part.new ≡ None) × ((call_state_of (I.own part.new).call_states t).stage ≡ Idle)
+        × Ends (I.cpu_of part.old) t call.now reply (I.own part.old).call_states (I.seen m.old) (I.seen m.new)) }
 {
     if part.look(m) {
         return Err(begun);
@@ -145,7 +143,7 @@ fn poll_once<I: CallLayer<IpcLaw>>(
 
 // Whether nobody runs on the CPU, is in its hand or is ready there.
 pub(crate) fn is_idle<I: CallLayer<IpcLaw>>(part: &I) -> bool
-    ensures { result ≡ is_idle (I.threads part.now).current (I.threads part.now).hand (I.threads part.now).ready }
+    ensures { result ≡ is_idle (threads_in (I.own part.now)).current (threads_in (I.own part.now)).hand (threads_in (I.own part.now)).ready }
 {
     match (part.current(), part.hand()) {
         (None, None) => !part.has_ready(),
@@ -170,18 +168,17 @@ pub fn call<I: CallLayer<IpcLaw>, R: Wait>(
 ) -> Reply
     requires fits { I.Fits part.old m.old }
     requires room { (w : I.Machine) → 0 < I.room w }
-    requires buffer { (buffer_of call.now).0 < length (I.caps m.old) }
+    requires buffer { (buffer_of call.now).0 < length (caps_in (I.opening m.old)) }
     requires under_way { I.under_way part.old ≡ None }
-    requires idle { (call_state_of (I.call_states part.old) t).stage ≡ Idle }
+    requires idle { (call_state_of (I.own part.old).call_states t).stage ≡ Idle }
     ensures fits { I.Fits part.new m.new }
     ensures under_way { I.under_way part.new ≡ None }
-    ensures idle { (call_state_of (I.call_states part.new) t).stage ≡ Idle }
+    ensures idle { (call_state_of (I.own part.new).call_states t).stage ≡ Idle }
     ensures cpu { I.cpu_of part.new ≡ I.cpu_of part.old }
-    ensures caps { I.caps m.new ≡ I.caps m.old }
     ensures opening { I.opening m.new ≡ I.opening m.old }
     ensures site { I.site m.new ≡ I.site m.old }
-    ensures ended { (I.threads part.new).ended ≡ (I.threads part.old).ended }
-    ensures runs { (I.threads part.new).current ≡ Some t }
+    ensures ended { (threads_in (I.own part.new)).ended ≡ (threads_in (I.own part.old)).ended }
+    ensures runs { (threads_in (I.own part.new)).current ≡ Some t }
     ensures returned { Returned (I.cpu_of part.old) t call.now result (I.seen m.old) (I.seen m.new) }
 {
     let mut begun: Option<Begun> = None;

@@ -2,6 +2,7 @@
 //! they leave.
 
 ghost use Rattle.std.specs.Prelude.{◌≡◌, ℕ, ◌<◌, ◌≤◌, Some, [], IfOk, length, slice_get, vec_capacity};
+ghost use Rattle.layer_traits.specs.{Capacities.caps_in, QueueBlocks.homes_in};
 ghost use Rattle.{event_log.specs.declared.ids.TheConstants.CPUS, boot.specs.Plan.IsPlan, cpu.specs.Boots.homes_for};
 ghost use Rattle.{layer_traits.specs.{BufferEffects.opening_locks, OnePlace.cpu_at, QueueBlocks.inner}, cpu_workers.specs.{Reports.Both, Seating.HasLeft}};
 ghost use Rattle.cpu_workers.specs.Seating.{IsApart, IsAtBoot, IsReady, IsUnused, OpensPlan, tower_acts};
@@ -40,8 +41,9 @@ where
     I::Machine: Drop,
     requires stepwise { I.IsStepwise }
     requires room { (m : I.Machine) → 0 < I.room m }
-    requires unused { IsUnused (I.IsFresh machine (homes_for boot.now) number) (I.homes_of machine ≡ homes_for boot.now) (I.caps machine ≡ boot.now.caps)
-        (I.seen machine ≡ []) (I.acts machine ≡ []) (inner (I.opening machine) ≡ opening_locks (I.caps machine)) }
+    requires unused { IsUnused (I.IsFresh machine (homes_for boot.now) number) (homes_in (I.opening machine) ≡ homes_for boot.now)
+        (caps_in (I.opening machine) ≡ boot.now.caps)
+        (I.seen machine ≡ []) (I.acts machine ≡ []) (inner (I.opening machine) ≡ opening_locks (caps_in (I.opening machine))) }
     ensures at_boot { IfOk result (IsAtBoot boot.now number) }
     ensures site { IfOk result (λ w. w.site ≡ I.site machine) }
 {
@@ -72,8 +74,8 @@ where
     requires room { (m : I.Machine) → 0 < I.room m }
     requires few { length machines.items ≤ CPUS }
     requires unused { (k : ℕ) (m : I.Machine) → slice_get machines.items k ≡ Some m
-        → IsUnused (I.IsFresh m (homes_for boot.now) (cpu_at k)) (I.homes_of m ≡ homes_for boot.now) (I.caps m ≡ boot.now.caps)
-        (I.seen m ≡ []) (I.acts m ≡ []) (inner (I.opening m) ≡ opening_locks (I.caps m)) }
+        → IsUnused (I.IsFresh m (homes_for boot.now) (cpu_at k)) (homes_in (I.opening m) ≡ homes_for boot.now) (caps_in (I.opening m) ≡ boot.now.caps)
+        (I.seen m ≡ []) (I.acts m ≡ []) (inner (I.opening m) ≡ opening_locks (caps_in (I.opening m))) }
     ensures count { IfOk result (λ workers. length workers.items ≡ length machines.items) }
     ensures each { IfOk result (λ workers. (k : ℕ) (w : _) → slice_get workers.items k ≡ Some w
         → IsAtBoot boot.now (cpu_at k) w × ((m : I.Machine) → slice_get machines.items k ≡ Some m → w.site ≡ I.site m)) }
@@ -150,8 +152,8 @@ where
     requires room { (m : I.Machine) → 0 < I.room m }
     requires few { length machines.items ≤ CPUS }
     requires unused { (k : ℕ) (m : I.Machine) → slice_get machines.items k ≡ Some m
-        → IsUnused (I.IsFresh m (homes_for boot.now) (cpu_at k)) (I.homes_of m ≡ homes_for boot.now) (I.caps m ≡ boot.now.caps)
-        (I.seen m ≡ []) (I.acts m ≡ []) (inner (I.opening m) ≡ opening_locks (I.caps m)) }
+        → IsUnused (I.IsFresh m (homes_for boot.now) (cpu_at k)) (homes_in (I.opening m) ≡ homes_for boot.now) (caps_in (I.opening m) ≡ boot.now.caps)
+        (I.seen m ≡ []) (I.acts m ≡ []) (inner (I.opening m) ≡ opening_locks (caps_in (I.opening m))) }
     ensures count { IfOk result (λ left. length left.items ≡ length machines.items) }
     ensures site { IfOk result (λ left. (k : ℕ) (x : _) (m : I.Machine) → slice_get left.items k ≡ Some x → slice_get machines.items k ≡ Some m
         → I.site x.machine ≡ I.site m) }

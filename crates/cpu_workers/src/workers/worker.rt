@@ -1,6 +1,7 @@
 //! A worker: one CPU with its machine. Only `at_boot` takes memory. No call waits.
 
 ghost use Rattle.std.specs.Prelude.{◌≡◌, ◌≢◌, ◌<◌, ◌≤◌, Some, None, IfOk, [], length, vec_capacity};
+ghost use Rattle.layer_traits.specs.{Capacities.caps_in, OwnParts.threads_in, QueueBlocks.homes_in};
 
 use crate::workers::calling::is_idle;
 use cpu::{Cpu, Guest};
@@ -26,23 +27,29 @@ where
 {
     ghost use Rattle.std.specs.Prelude.{◌≡◌, ◌<◌, length, vec_capacity};
     ghost use Rattle.{cpu.specs.{Cpus.{IsCpu, programs_of}, Tables.{IsTabled, private}}, cpu_workers.specs.{Working.Working, Seats.IsWorker}};
-    ghost use Rattle.layer_traits.specs.{BufferEffects.opening_locks, QueueBlocks.inner};
+    ghost use Rattle.layer_traits.specs.{BufferEffects.opening_locks, Capacities.caps_in, OwnParts.threads_in, QueueBlocks.{homes_in, inner}};
 
     ghost Value = { Working };
 
     ghost view = { λ w. record {
       cpu = w.cpu.number;
-      plan = record { homes = I.homes_of w.machine; caps = I.caps w.machine; programs = programs_of w.cpu.guests.items; limit = w.cpu.limit };
+      plan = record {
+        homes = homes_in (I.opening w.machine);
+        caps = caps_in (I.opening w.machine);
+        programs = programs_of w.cpu.guests.items;
+        limit = w.cpu.limit;
+      };
       private = private (I.own w.cpu.part) w.cpu.guests.items w.cpu.trace.items;
       acts = I.acts w.machine;
       site = I.site w.machine;
     } };
 
     ghost invariant = { λ w. IsWorker I.IsStepwise (I.Fits w.cpu.part w.machine) (I.cpu_of w.cpu.part ≡ w.cpu.number)
-        (IsCpu (I.homes_of w.machine) (length (I.caps w.machine)) (I.seen w.machine) (I.threads w.cpu.part) (I.call_states w.cpu.part)
-        (I.under_way w.cpu.part) w.cpu.number w.cpu.guests.items w.cpu.trace.items w.cpu.limit (vec_capacity w.cpu.trace))
-        (IsTabled (I.homes_of w.machine) (I.caps w.machine) w.cpu.number (I.own w.cpu.part) (I.under_way w.cpu.part) w.cpu.guests.items (I.opening w.machine))
-        ((m : I.Machine) → 0 < I.room m) (inner (I.opening w.machine) ≡ opening_locks (I.caps w.machine)) };
+        (IsCpu (homes_in (I.opening w.machine)) (length (caps_in (I.opening w.machine))) (I.seen w.machine) (threads_in (I.own w.cpu.part))
+        (I.own w.cpu.part).call_states (I.under_way w.cpu.part) w.cpu.number w.cpu.guests.items w.cpu.trace.items w.cpu.limit (vec_capacity w.cpu.trace))
+        (IsTabled (homes_in (I.opening w.machine)) (caps_in (I.opening w.machine)) w.cpu.number (I.own w.cpu.part) (I.under_way w.cpu.part)
+        w.cpu.guests.items (I.opening w.machine))
+        ((m : I.Machine) → 0 < I.room m) (inner (I.opening w.machine) ≡ opening_locks (caps_in (I.opening w.machine))) };
 }
 
 impl<I: CallLayer<IpcLaw> + Drop> Worker<I>
@@ -63,15 +70,15 @@ where
         requires stepwise { I.IsStepwise }
         requires fits { I.Fits cpu.part machine }
         requires number { I.cpu_of cpu.part ≡ cpu.number }
-        requires is { IsCpu (I.homes_of machine) (length (I.caps machine)) (I.seen machine) (I.threads cpu.part) (I.call_states cpu.part)
-            (I.under_way cpu.part) cpu.number cpu.guests.items cpu.trace.items cpu.limit (vec_capacity cpu.trace) }
-        requires tabled { IsTabled (I.homes_of machine) (I.caps machine) cpu.number (I.own cpu.part) (I.under_way cpu.part) cpu.guests.items
-            (I.opening machine) }
+        requires is { IsCpu (homes_in (I.opening machine)) (length (caps_in (I.opening machine))) (I.seen machine) (threads_in (I.own cpu.part))
+            (I.own cpu.part).call_states (I.under_way cpu.part) cpu.number cpu.guests.items cpu.trace.items cpu.limit (vec_capacity cpu.trace) }
+        requires tabled { IsTabled (homes_in (I.opening machine)) (caps_in (I.opening machine)) cpu.number (I.own cpu.part) (I.under_way cpu.part)
+            cpu.guests.items (I.opening machine) }
         requires room { (m : I.Machine) → 0 < I.room m }
-        requires opens { inner (I.opening machine) ≡ opening_locks (I.caps machine) }
+        requires opens { inner (I.opening machine) ≡ opening_locks (caps_in (I.opening machine)) }
         ensures cpu { result.cpu ≡ cpu.number }
         ensures plan { result.plan
-            ≡ record { homes = I.homes_of machine; caps = I.caps machine; programs = programs_of cpu.guests.items; limit = cpu.limit } }
+            ≡ record { homes = homes_in (I.opening machine); caps = caps_in (I.opening machine); programs = programs_of cpu.guests.items; limit = cpu.limit } }
         ensures private { result.private ≡ private (I.own cpu.part) cpu.guests.items cpu.trace.items }
         ensures acts { result.acts ≡ I.acts machine }
         ensures site { result.site ≡ I.site machine }
@@ -100,15 +107,15 @@ where
         requires stepwise { I.IsStepwise }
         requires threads { length homes.now ≤ THREADS }
         requires fresh { I.IsFresh machine homes.now number }
-        requires homes { I.homes_of machine ≡ homes.now }
-        requires buffers { length (I.caps machine) ≡ buffers }
+        requires homes { homes_in (I.opening machine) ≡ homes.now }
+        requires buffers { length (caps_in (I.opening machine)) ≡ buffers }
         requires seen { I.seen machine ≡ [] }
         requires guests { AreGuests homes.now buffers number guests.items }
         requires room { (m : I.Machine) → 0 < I.room m }
-        requires opens { inner (I.opening machine) ≡ opening_locks (I.caps machine) }
+        requires opens { inner (I.opening machine) ≡ opening_locks (caps_in (I.opening machine)) }
         ensures cpu { IfOk result (λ w. w.cpu ≡ number) }
         ensures plan { IfOk result (λ w. w.plan
-            ≡ record { homes = I.homes_of machine; caps = I.caps machine; programs = programs_of guests.items; limit = limit }) }
+            ≡ record { homes = homes_in (I.opening machine); caps = caps_in (I.opening machine); programs = programs_of guests.items; limit = limit }) }
         ensures boots { IfOk result (λ w. (setup : Setup) → setup.homes ≡ homes.now → w.private ≡ boot_of setup number) }
         ensures acts { IfOk result (λ w. w.acts ≡ I.acts machine) }
         ensures site { IfOk result (λ w. w.site ≡ I.site machine) }

@@ -6,7 +6,6 @@ pub loop-init : goal.loop-init
 loop-init g c = record {
   fits = c.requires.fits;
   cpu = refl;
-  caps = refl;
   opening = refl;
   site = refl;
   under_way = c.requires.under_way;
@@ -25,13 +24,12 @@ loop-preserved g c =
     let first = I.seen c.args.m.now in record {
       fits = e.fits;
       cpu = e.cpu ∙ known.cpu;
-      caps = e.caps ∙ known.caps;
       opening = e.opening ∙ known.opening;
       site = e.site ∙ known.site;
       under_way = goes.0;
       may = goes.1;
       ended = e.ended ∙ known.ended;
-      on = subst (λ (d : CpuId). IsOn d t c.args.call.now (call_state_of (I.call_states c.poll_once.new.part) t) first (I.seen c.poll_once.new.m)) known.cpu
-          (goes.2 first (subst (λ (d : CpuId). IsOn d t c.args.call.now (call_state_of (I.call_states c.loop.part) t) first (I.seen c.loop.m)) (sym known.cpu)
-          known.on));
+      on = subst (λ (d : CpuId). IsOn d t c.args.call.now (call_state_of (I.own c.poll_once.new.part).call_states t) first (I.seen c.poll_once.new.m)) known.cpu
+          (goes.2 first (subst (λ (d : CpuId). IsOn d t c.args.call.now (call_state_of (I.own c.loop.part).call_states t) first (I.seen c.loop.m))
+          (sym known.cpu) known.on));
     }

@@ -1,4 +1,5 @@
 use Rattle.std.proofs.Common.{◌≡◌}
+use Rattle.layer_traits.specs.OwnParts.{threads_in}
 use Rattle.{layer_traits.specs.BufferLaw.call_state_of, cpu_workers.specs.Calls.{IsOn, MayPoll, under_way_of}}
 use Rattle.cpu_workers.proofs.workers.calling.call.Given as goal
 
@@ -6,12 +7,11 @@ abbrev pub invariant-loop : goal.invariant-loop
 invariant-loop g l = record {
   fits : g.I.CallLayer.Fits l.part l.m;
   cpu : g.I.CallLayer.cpu_of l.part ≡ g.I.CallLayer.cpu_of l.initial.part;
-  caps : g.I.CallLayer.caps l.m ≡ g.I.CallLayer.caps l.initial.m;
   opening : g.I.CallLayer.opening l.m ≡ g.I.CallLayer.opening l.initial.m;
   site : g.I.CallLayer.site l.m ≡ g.I.CallLayer.site l.initial.m;
   under_way : g.I.CallLayer.under_way l.part ≡ under_way_of l.t l.begun;
-  may : MayPoll l.t (g.I.CallLayer.threads l.part) l.begun;
-  ended : (g.I.CallLayer.threads l.part).ended ≡ (g.I.CallLayer.threads l.initial.part).ended;
-  on : IsOn (g.I.CallLayer.cpu_of l.initial.part) l.t l.call (call_state_of (g.I.CallLayer.call_states l.part) l.t) (g.I.CallLayer.seen l.initial.m)
+  may : MayPoll l.t (threads_in (g.I.CallLayer.own l.part)) l.begun;
+  ended : (threads_in (g.I.CallLayer.own l.part)).ended ≡ (threads_in (g.I.CallLayer.own l.initial.part)).ended;
+  on : IsOn (g.I.CallLayer.cpu_of l.initial.part) l.t l.call (call_state_of (g.I.CallLayer.own l.part).call_states l.t) (g.I.CallLayer.seen l.initial.m)
       (g.I.CallLayer.seen l.m);
 }

@@ -1,4 +1,5 @@
 use Rattle.std.proofs.Common.{◌≡◌, is_some, true, false, rules, ◌∙◌}
+use Rattle.layer_traits.specs.OwnParts.{threads_in}
 use Rattle.cpu_workers.proofs.Going.{answers_run, calls_on, done_rests, ends, goes, idles, runs_on, sleeps}
 use Rattle.cpu_workers.proofs.workers.calling.poll_call.Goals as goal
 
@@ -13,7 +14,7 @@ returns-in-Some-clause-ends g c =
 pub returns-in-None-clause-goes : goal.returns-in-None-clause-goes
 returns-in-None-clause-goes g c =
     let e = c.poll.ensures in
-    let some : is_some ((g.I.CallLayer.threads c.poll.new.self).current) ≡ true = search rules in
+    let some : is_some ((threads_in (g.I.CallLayer.own c.poll.new.self)).current) ≡ true = search rules in
     let runs = runs_on c.args.t _ _ _ (e.runs c.requires.buffer) some in (
       e.under_way c.requires.buffer ∙ calls_on c.args.t _ _ c.in-None.is runs,
       runs,
@@ -23,7 +24,7 @@ returns-in-None-clause-goes g c =
 pub returns-in-None-2-clause-goes : goal.returns-in-None-2-clause-goes
 returns-in-None-2-clause-goes g c =
     let e = c.poll.ensures in
-    let none : is_some ((g.I.CallLayer.threads c.poll.new.self).current) ≡ false = search rules in (
+    let none : is_some ((threads_in (g.I.CallLayer.own c.poll.new.self)).current) ≡ false = search rules in (
       e.under_way c.requires.buffer ∙ sleeps c.args.t _ _ c.in-None-2.is none,
       tt,
       goes _ _ (g.met.I.CallLayer.own_cpu _ _ c.requires.fits) c.in-None-2.is (e.called c.requires.buffer),

@@ -1,5 +1,5 @@
-use Rattle.std.proofs.Common.{subst, sym, ◌∙◌}
-use Rattle.{layer_traits.specs.Places.Threads, cpu_workers.{specs.Calls.MayPoll, proofs.Going.keeps_on}}
+use Rattle.std.proofs.Common.{ap, subst, sym, ◌∙◌}
+use Rattle.{layer_traits.specs.{BufferLaw.Buffering, OwnParts.threads_in}, cpu_workers.{specs.Calls.MayPoll, proofs.Going.keeps_on}}
 use Rattle.cpu_workers.proofs.workers.calling.poll_once.Goals as goal
 
 -- a look leaves what is under way, and the call
@@ -7,8 +7,8 @@ pub returns-then-look-clause-goes : goal.returns-then-look-clause-goes
 returns-then-look-clause-goes g c =
     let e = c.look.ensures in (
       e.under_way ∙ c.requires.under_way,
-      subst (λ (own : Threads). MayPoll c.args.t own c.args.begun) (sym e.threads) c.requires.may,
-      keeps_on _ _ (g.met.I.CallLayer.own_cpu _ _ c.requires.fits) c.args.t c.args.call.now e.seen e.call_states,
+      subst (λ (own : Buffering). MayPoll c.args.t (threads_in own) c.args.begun) (sym e.own) c.requires.may,
+      keeps_on _ _ (g.met.I.CallLayer.own_cpu _ _ c.requires.fits) c.args.t c.args.call.now e.seen (ap (λ (own : Buffering). own.call_states) e.own),
     )
 
 -- no look: nothing has changed

@@ -1,6 +1,7 @@
-use Rattle.std.proofs.{Common.{◌∷◌, [], List, length, reverse, ap, sym, ◌∙◌, subst, arith}, lemmas.List.reverse-append}
-use Rattle.{event_log.specs.declared.{entries.Entry.Entry, ids.CpuId.CpuId}, layer_traits.specs.{BufferEffects.opening_locks, BufferLaw.{buffer_of, entry_of}}}
-use Rattle.{layer_traits.specs.QueueBlocks.inner, cpu.specs.Cpus.of_cpu, cpu_workers.{specs.Calls.Returned, proofs.Making.newest_carries}}
+use Rattle.std.proofs.{Common.{◌∷◌, [], List, length, reverse, ap, ◌∙◌, subst, arith}, lemmas.List.reverse-append}
+use Rattle.layer_traits.specs.Capacities.{caps_in}
+use Rattle.{event_log.specs.declared.{entries.Entry.Entry, ids.CpuId.CpuId}, layer_traits.specs.{BufferLaw.{buffer_of, entry_of}}}
+use Rattle.{cpu.specs.Cpus.of_cpu, cpu_workers.{specs.Calls.Returned, proofs.Making.newest_carries}}
 use Rattle.cpu_workers.proofs.workers.callers.Caller.make.Goals as goal
 
 pub invariant_of-self : goal.invariant_of-self
@@ -19,7 +20,7 @@ invariant_of-self g c =
       room = is.room;
       nothing = e.under_way;
       rests = e.idle;
-      opens = ap inner e.opening ∙ is.opens ∙ ap opening_locks (sym e.caps);
+      opens = rw e.opening is.opens;
       counted = omega (arith, one, before);
       few = omega (arith, more);
     }
@@ -38,8 +39,9 @@ returns-then-self-lt-MOST_CALLS g c =
     rw (← c.self.view_is) (record {
       effect = back.effect;
       is = back.is;
-      carries = newest_carries (I.caps n) x.cpu (I.seen n) its _ (law.lawful n (I.cpu_of c.call-reply.new.part) (law.own_cpu c.call-reply.new.part n e.fits))
+      carries = newest_carries (caps_in (I.opening n)) x.cpu (I.seen n) its _
+          (law.lawful n (I.cpu_of c.call-reply.new.part) (law.own_cpu c.call-reply.new.part n e.fits))
           back.went.own;
       replies = back.replies;
-      grows = λ i. record { cpu = x.cpu; thread = x.thread; caps = e.caps i; site = e.site i; calls = calls i };
+      grows = λ i. record { cpu = x.cpu; thread = x.thread; caps = caps_in (e.opening i); site = e.site i; calls = calls i };
     })

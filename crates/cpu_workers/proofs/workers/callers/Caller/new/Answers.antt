@@ -1,6 +1,6 @@
-use Rattle.std.proofs.{Common.{List, refl, ap, ◌∙◌, arith}, lemmas.List.get_or-replicate}
+use Rattle.std.proofs.{Common.{refl, ap, ◌∙◌, arith}, lemmas.List.get_or-replicate}
 use Rattle.{event_log.specs.declared.ids.TheConstants.THREADS, layer_traits.specs.{declared.call_states.CallState.CallState, BufferLaw.call_state_of}}
-use Rattle.{layer_traits.specs.BufferLaw.no_call}
+use Rattle.layer_traits.specs.BufferLaw.{Buffering, no_call}
 use Rattle.cpu_workers.proofs.workers.callers.Caller.new.Goals as goal
 
 pub invariant_of-result : goal.invariant_of-result
@@ -8,7 +8,7 @@ invariant_of-result g c = record {
   fits = (c.part.ensures.fits c.args.machine c.requires.fresh c.requires.buffers, c.part.ensures.cpu);
   room = c.requires.room;
   nothing = c.part.ensures.under_way;
-  rests = ap (λ (l : List CallState). (call_state_of l c.args.thread).stage) c.part.ensures.call_states
+  rests = ap (λ (own : Buffering). (call_state_of own.call_states c.args.thread).stage) c.part.ensures.own
       ∙ ap (λ (s : CallState). s.stage) (get_or-replicate THREADS c.args.thread.0 no_call no_call (omega arith));
   opens = c.requires.opens;
   counted = rw c.requires.seen refl;

@@ -1,6 +1,8 @@
 use Rattle.std.proofs.Common.{◌≡◌, sym, ◌∙◌, subst}
-use Rattle.cpu.{specs.Table.Steps.halted_at, proofs.{CpuStates.valid_cpu, PassSteps.current_within, CpuOverLayer.{laws_of, layered, runs_home, observed_cpu}}}
-use Rattle.{cpu.proofs.TableCalls.halted_read, cpu_workers.{specs.Working.{IsPlanned, Working}, proofs.Planning.{own_reason, planned}}}
+use Rattle.layer_traits.specs.Capacities.{caps_in}
+use Rattle.layer_traits.specs.{OwnParts.threads_in, QueueBlocks.homes_in}
+use Rattle.cpu.{specs.Table.Steps.halted_at, proofs.{CpuStates.valid_cpu, PassSteps.current_within, CpuOverLayer.{laws_of, layered, runs_home, tabled_cpu}}}
+use Rattle.{cpu.proofs.TableRows.halted_same, cpu_workers.{specs.Working.{IsPlanned, Working}, proofs.Planning.{own_reason, planned}}}
 use Rattle.cpu_workers.proofs.workers.worker.Worker.halted.Goals as goal
 
 pub halted-requires : goal.halted-requires
@@ -18,12 +20,13 @@ returns-clause-is g c = λ setup of.
     let p = c.self.inside.cpu in
     let is = c.self.invariant in
     let cpu = layered (laws_of g.met.I.CallLayer) m p is.fits is.number is.is (λ step. is.tabled) in
-    let same = halted_read (observed_cpu cpu is.stepwise) setup
-    (planned setup (I.homes_of m) (I.caps m) p.guests.items p.limit (subst (λ (w : Working). IsPlanned setup w.plan) (sym c.self.view_is) of)) in
+    let same = halted_same (tabled_cpu cpu is.stepwise) setup
+    (planned setup (homes_in (I.opening m)) (caps_in (I.opening m)) p.guests.items p.limit
+    (subst (λ (w : Working). IsPlanned setup w.plan) (sym c.self.view_is) of)) in
     subst (λ (w : Working). halted_at setup w.cpu w.private ≡ c.halted.result) c.self.view_is (same ∙ sym c.halted.ensures)
 
 pub returns-clause-own : goal.returns-clause-own
 returns-clause-own g c = λ used.
     let I = g.I.CallLayer in
     let p = c.self.inside.cpu in
-    own_reason (I.threads p.part) p.guests.items p.trace.items p.limit (sym c.halted.ensures ∙ used)
+    own_reason (threads_in (I.own p.part)) p.guests.items p.trace.items p.limit (sym c.halted.ensures ∙ used)

@@ -1,6 +1,6 @@
 use Rattle.std.proofs.Common.{ap, ◌∙◌, map, reverse}
 use Rattle.{event_log.specs.Sections.sections_in, layer_traits.specs.{BufferEffects.effects_in, Queues.{buffer_sections, event_of}}}
-use Rattle.{cpu.{specs.Cpus.of_cpu, proofs.CpuOverLayer.{laws_of, layered, observed_cpu}}, cpu_workers.proofs.Planning.has_followed}
+use Rattle.{cpu.{specs.Cpus.of_cpu, proofs.CpuOverLayer.{laws_of, layered, tabled_cpu}}, cpu_workers.proofs.Planning.has_followed}
 use Rattle.cpu_workers.proofs.workers.worker.Worker.keeps.Goals as goal
 
 pub returns : goal.returns
@@ -15,5 +15,5 @@ returns g c =
     rw (← c.self.view_is) (record {
       trace = is.is.kept ∙ ap (λ l. reverse (of_cpu p.number l)) seen;
       legal = law.legal m (I.cpu_of p.part) (law.own_cpu p.part m is.fits);
-      follows = has_followed (observed_cpu cpu is.stepwise) (I.acts m) (I.site m);
+      follows = has_followed (tabled_cpu cpu is.stepwise) (I.acts m) (I.site m);
     })

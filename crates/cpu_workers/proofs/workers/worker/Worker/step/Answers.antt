@@ -1,5 +1,7 @@
-use Rattle.std.proofs.Common.{ap, sym, ◌∙◌, subst}
-use Rattle.{event_log.specs.declared.ids.CpuId.CpuId, layer_traits.specs.{BufferEffects.opening_locks, QueueBlocks.inner}, cpu.specs.Table.Steps.cpu_step}
+use Rattle.std.proofs.Common.{sym, ◌∙◌, subst}
+use Rattle.layer_traits.specs.Capacities.{caps_in}
+use Rattle.layer_traits.specs.QueueBlocks.{homes_in}
+use Rattle.{event_log.specs.declared.ids.CpuId.CpuId, cpu.specs.Table.Steps.cpu_step}
 use Rattle.{cpu.specs.{Tables.private, Tower.Composed.named}, cpu_workers.proofs.Planning.{planned, step_behind}}
 use Rattle.cpu_workers.proofs.workers.worker.Worker.step.Goals as goal
 
@@ -14,7 +16,7 @@ invariant_of-self g c =
       is = e.is;
       tabled = e.table is.stepwise;
       room = is.room;
-      opens = ap inner e.leaves.opening ∙ (is.opens ∙ ap opening_locks (sym e.leaves.caps));
+      opens = rw e.leaves.opening is.opens;
     }
 
 pub returns-clause-turned : goal.returns-clause-turned
@@ -28,4 +30,4 @@ returns-clause-turned g c =
     let acts = subst (λ (d : CpuId). I.ActsFor m d) is.number (law.own_cpu p.part m is.fits) in
     rw (← c.self.view_is) (λ setup of. step_behind (λ d. I.ActsFor m d) p.number (cpu_step setup p.number) (private (I.own p.part) p.guests.items p.trace.items)
     (private (I.own q.part) q.guests.items q.trace.items) (named (I.acts m)) (named (I.acts c.step.new.m)) c.step.result acts
-    (c.step.ensures.steps is.stepwise setup (planned setup (I.homes_of m) (I.caps m) p.guests.items p.limit of)))
+    (c.step.ensures.steps is.stepwise setup (planned setup (homes_in (I.opening m)) (caps_in (I.opening m)) p.guests.items p.limit of)))
