@@ -3,6 +3,8 @@ use Rattle.std.proofs.Common.{◌≡◌, ◌≢◌, ℕ, ◌<◌, inl, inr, Bool
 use Rattle.std.proofs.Common.{if◌then◌else◌, refl, ap, sym, ◌∙◌, subst, slice_get, option_to_list, ◌≤◌, ◌==◌, get_or, replicate, slice_set, arith, subst₂}
 use Rattle.std.proofs.{Common.unwrap_or, lemmas.{Bool.{eqb-true, eqb-false, lt-ltb, or_parts}, List.{get_or-set_same, get_or-set_other}}}
 use Rattle.{std.{proofs.lemmas.Option.{slice_get-get_or, slice_get_within}, specs.Prelude.nat_lt}, event_log.specs.{Runs.group_of, declared.ids.Tid.Tid}}
+use Rattle.layer_traits.specs.{Capacities.caps_in, Renaming.viewed}
+use Rattle.plain_layers.specs.Fifos.{shown}
 use Rattle.event_log.specs.declared.ids.{TheConstants.{THREADS, CPUS}, BufId.BufId, CpuId.CpuId, LockId.{LockId, TheVariants.{Pending, Buffer}}}
 use Rattle.event_log.{specs.{declared.entries.Entry.Entry, Messages.Message, History.IsLawful}, proofs.ListLemmas.alike_at}
 use Rattle.layer_traits.specs.declared.calls.{Call.{Call, TheVariants.{Send, Recv, Close}}, Effect.Effect, Reply.Reply, ReplyKind.ReplyKind}
@@ -19,7 +21,7 @@ use Rattle.layer_traits.{specs.Scheds.pass_call, proofs.{PlaceLemmas.{current_at
 use Rattle.{layer_traits.proofs.Seen.lawful_rest, sleep_wakeup.proofs.BootLemmas.there_inside, plain_layers.specs.declared.attempts.Tried.TheVariants.Acted}
 use Rattle.plain_layers.specs.{declared.attempts.{Tried.{TheVariants.Refused, Tried}, Attempt.Attempt}, Attempts.{PlainState, allows, effect_at, effect_in}}
 use Rattle.plain_layers.specs.{Attempts.{wait_list_by, told, attempts}, Fifos.{ask_of, attempt_of, effect_by, locked_after, reply_to, call_state_after}}
-use Rattle.plain_layers.specs.{Fifos.{IsOwned, PlainLocked, caps_in, entries_in, fresh_buffer, fresh_buffers}, Wholes.{IsDoneWhole, asked}}
+use Rattle.plain_layers.specs.{Fifos.{IsOwned, PlainLocked, entries_in, fresh_buffer, fresh_buffers}, Wholes.{IsDoneWhole, asked}}
 use Rattle.plain_layers.{specs.Laws.FifoTallies.{block_of, no_position, plain_tally, reported_if}, proofs.WholeLemmas.no_foreign_events}
 use Rattle.fifo_buffer.specs.{Laws.BlockSteps.{put_counts, take_counts}, Tallies.Tally}
 use Rattle.plain_layers.specs.declared.attempts.Ask.TheVariants as ask
@@ -40,19 +42,19 @@ no_wait_list wait_list.Receivers (Some n) = refl
 no_wait_list wait_list.Senders (Some n) = refl
 
 -- nobody waits at fresh buffers
-pub nobody_waits : (locks : LockId → Option PlainLocked) → locks ≡ fresh_buffers (caps_in locks) → NobodySleeps locks
-nobody_waits locks fresh lock wait_list = ap (λ (o : LockId → Option PlainLocked). wait_list_at wait_list (o lock)) fresh ∙ go lock
+pub nobody_waits : (caps : List ℕ) (locks : LockId → Option PlainLocked) → locks ≡ fresh_buffers caps → NobodySleeps locks
+nobody_waits caps locks fresh lock wait_list = ap (λ (o : LockId → Option PlainLocked). wait_list_at wait_list (o lock)) fresh ∙ go lock
   where
-    go : (l : LockId) → wait_list_at wait_list (fresh_buffers (caps_in locks) l) ≡ []
+    go : (l : LockId) → wait_list_at wait_list (fresh_buffers caps l) ≡ []
     go (Pending d) = refl
-    go (Buffer b) = no_wait_list wait_list (slice_get (caps_in locks) b.0)
+    go (Buffer b) = no_wait_list wait_list (slice_get caps b.0)
 
 -- a machine keeps its one holder
 pub owned_after : (ActsFor Acts : CpuId → Type 0) (opening opening' : LockId → Option (QueueBlock PlainLocked)) → opening' ≡ opening
-    → ((c : CpuId) → ActsFor c → Acts c) → IsOwned ActsFor (inner opening) → IsOwned Acts (inner opening')
+    → ((c : CpuId) → ActsFor c → Acts c) → IsOwned ActsFor opening → IsOwned Acts opening'
 owned_after ActsFor Acts opening opening' same acts owned = record {
   all = λ c small. acts c (owned.all c small);
-  fresh = subst (λ (o : LockId → Option (QueueBlock PlainLocked)). inner o ≡ fresh_buffers (caps_in (inner o))) (sym same) owned.fresh;
+  fresh = subst (λ (o : LockId → Option (QueueBlock PlainLocked)). inner o ≡ fresh_buffers (caps_in (viewed shown o))) (sym same) owned.fresh;
 }
 
 -- A pass.
@@ -154,11 +156,11 @@ set_waits call_states t call effect within waits u = go (u.0 == t.0) refl
 -- A poll of a call.
 
 -- the buffer of a call is there
-pub buffer_there : (opening : LockId → Option (QueueBlock PlainLocked)) (b : BufId) → inner opening ≡ fresh_buffers (caps_in (inner opening))
-    → b.0 < length (caps_in (inner opening)) → IsSome (opening (Buffer b))
+pub buffer_there : (opening : LockId → Option (QueueBlock PlainLocked)) (b : BufId) → inner opening ≡ fresh_buffers (caps_in (viewed shown opening))
+    → b.0 < length (caps_in (viewed shown opening)) → IsSome (opening (Buffer b))
 buffer_there opening b fresh within =
-    let has = slice_get-get_or (caps_in (inner opening)) b.0 0 within in
-    let found : inner opening (Buffer b) ≡ Some (fresh_buffer (get_or (caps_in (inner opening)) b.0 0))
+    let has = slice_get-get_or (caps_in (viewed shown opening)) b.0 0 within in
+    let found : inner opening (Buffer b) ≡ Some (fresh_buffer (get_or (caps_in (viewed shown opening)) b.0 0))
     = ap (λ (o : LockId → Option PlainLocked). o (Buffer b)) fresh ∙ ap (option_map fresh_buffer) has in
     there_inside (opening (Buffer b)) (subst (λ x. IsSome x) (sym found) refl)
 
@@ -329,10 +331,10 @@ module _ (opening : LockId → Option (QueueBlock PlainLocked)) (c : CpuId) (b :
 
   -- a call without an effect was refused: the buffer allows it none, and its thread sleeps
   pub done_refused : (t : Tid) (call : Call) → a ≡ attempt_of t call → b ≡ buffer_of call
-      → inner opening ≡ fresh_buffers (caps_in (inner opening)) → effect_in outcome.out ≡ None
-      → IsRefused call (caps_in (inner opening)) (entries_in (inner opening) (buffer_sections new))
+      → inner opening ≡ fresh_buffers (caps_in (viewed shown opening)) → effect_in outcome.out ≡ None
+      → IsRefused call (caps_in (viewed shown opening)) (entries_in (inner opening) (buffer_sections new))
   done_refused t call attempt at fresh none =
-      subst (λ l. IsRefused call (caps_in (inner opening)) l)
+      subst (λ l. IsRefused call (caps_in (viewed shown opening)) l)
       (sym (done_entries ∙ ap (λ f. option_to_list (option_map (entry_of c a.thread b) f) ++ entries_in (inner opening) (buffer_sections old)) none))
       (go (locked_after (inner opening) (Buffer b) (buffer_sections old)) refl (out_is done))
     where
@@ -347,8 +349,8 @@ module _ (opening : LockId → Option (QueueBlock PlainLocked)) (c : CpuId) (b :
           by true nothing = absurd (cc nothing)
           by false nothing = refl
 
-      refused : (k : Call) (x : PlainState) → Tally (caps_in (inner opening)) (buffer_of k).0 E no_position (block_of x)
-          → effect_in (told (attempt_of t k) x) ≡ None → IsRefused k (caps_in (inner opening)) E
+      refused : (k : Call) (x : PlainState) → Tally (caps_in (viewed shown opening)) (buffer_of k).0 E no_position (block_of x)
+          → effect_in (told (attempt_of t k) x) ≡ None → IsRefused k (caps_in (viewed shown opening)) E
       refused (Send at m) x tally nothing =
           let full = or_parts x.closed (nat_lt (length x.items) x.capacity) (barred (Send at m) x nothing) in (
             λ room.
@@ -369,11 +371,11 @@ module _ (opening : LockId → Option (QueueBlock PlainLocked)) (c : CpuId) (b :
       refused (Close at) x tally nothing = absurd (cc nothing)
 
       go : (x : Option PlainLocked) → locked_after (inner opening) (Buffer b) (buffer_sections old) ≡ x → option_map (sleep_answer attempts a) x ≡ Some outcome
-          → IsRefused call (caps_in (inner opening)) (entries_in (inner opening) (buffer_sections old))
+          → IsRefused call (caps_in (viewed shown opening)) (entries_in (inner opening) (buffer_sections old))
       go None is out = absurd cc
       go (Some state) is out = refused call state.above
-          (subst (λ (d : BufId). Tally (caps_in (inner opening)) d.0 E no_position (block_of state.above)) at
-          (plain_tally (inner opening) (caps_in (inner opening)) (buffer_sections old) fresh b state is))
+          (subst (λ (d : BufId). Tally (caps_in (viewed shown opening)) d.0 E no_position (block_of state.above)) at
+          (plain_tally (inner opening) (caps_in (viewed shown opening)) (buffer_sections old) fresh b state is))
           (subst (λ e. effect_in (told e state.above) ≡ None) attempt (effect_is (Some state) out ∙ none))
 
   -- and its thread sleeps

@@ -1,11 +1,12 @@
 -- A machine that opens with empty buffers, as one-step buffers read it and as their layer's trait shows it.
 use Rattle.std.proofs.Common.{◌≡◌, ℕ, ◌≤◌, List, length, map, Option, Some, None, option_map, slice_get, refl, ap, sym, ◌∙◌, ◌*◌, ◌/◌, lit<}
 use Rattle.{std.proofs.{Math.{Nat.le-div_iff_mul-le, Path.fun_ext}, lemmas.Option.slice_get-map}, event_log.specs.declared.ids.{BufId.BufId, LockId.LockId}}
+use Rattle.layer_traits.specs.Capacities.{caps_in}
 use Rattle.{event_log.specs.declared.ids.{LockId.TheVariants.{Pending, Buffer}, Tid.Tid}, layer_traits.specs.declared.queue_edits.QueueBlock.QueueBlock}
 use Rattle.layer_traits.specs.{declared.queue_edits.QueueBlock.TheVariants.Queue, BufferEffects.{fresh_lock, opening_locks}, QueueBlocks.{above_of, inner}}
-use Rattle.layer_traits.{specs.{Renaming.viewed, Capacities.caps_from}, proofs.{KernelRenaming.inner_viewed, CapacityLemmas.caps_observed as caps_read}}
+use Rattle.{layer_traits.{specs.Renaming.viewed, proofs.KernelRenaming.inner_viewed}, fifo_buffer.proofs.Opening.caps_are}
 use Rattle.{sleep_wakeup.specs.{declared.edits.SleepBlock.SleepBlock, Nested.{resting, state_of}}, plain_layers.specs.declared.kernel.Opening.Opening}
-use Rattle.plain_layers.specs.{Attempts.{PlainState, empty_buffer}, Fifos.{PlainLocked, caps_in, fresh_buffer, fresh_buffers, shown}, Kernels.opening_of}
+use Rattle.plain_layers.specs.{Attempts.{PlainState, empty_buffer}, Fifos.{PlainLocked, fresh_buffer, fresh_buffers, shown}, Kernels.opening_of}
 
 -- the buffers of a machine of lists that opened with these blocks
 module _ (start : Opening (SleepBlock PlainState)) (caps : List ℕ) (buffers : List PlainState) (blocks : List (SleepBlock PlainState))
@@ -33,15 +34,6 @@ module _ (start : Opening (SleepBlock PlainState)) (caps : List ℕ) (buffers : 
 -- a machine whose locks are those of fresh buffers has their capacities
 module _ (opening : LockId → Option (QueueBlock PlainLocked)) (caps : List ℕ) (fresh : inner opening ≡ fresh_buffers caps)
     (few : length caps ≤ 256) where
-  pub caps_observed : caps_in (inner opening) ≡ caps
-  unfolding caps_in
-  caps_observed =
-      let capacity : PlainLocked → ℕ = λ state. state.above.capacity in
-      ap (caps_from capacity 256 0) fresh ∙ caps_read capacity fresh_buffer (λ n. refl) caps (fresh_buffers caps) (λ n. refl) 256 few
-
-  pub fresh_read : inner opening ≡ fresh_buffers (caps_in (inner opening))
-  fresh_read = fresh ∙ ap fresh_buffers (sym caps_observed)
-
   shown_fresh : (o : Option ℕ) → option_map shown (option_map fresh_buffer o) ≡ option_map fresh_lock o
   shown_fresh None = refl
   shown_fresh (Some capacity) = refl
@@ -53,8 +45,14 @@ module _ (opening : LockId → Option (QueueBlock PlainLocked)) (caps : List ℕ
   at_lock : (lock : LockId) → inner (viewed shown opening) lock ≡ opening_locks caps lock
   at_lock lock = inner_viewed shown opening lock ∙ ap (λ locks. option_map shown (locks lock)) fresh ∙ by_shown lock
 
+  pub caps_observed : caps_in (viewed shown opening) ≡ caps
+  caps_observed = caps_are (viewed shown opening) caps (fun_ext at_lock) few
+
+  pub fresh_read : inner opening ≡ fresh_buffers (caps_in (viewed shown opening))
+  fresh_read = fresh ∙ ap fresh_buffers (sym caps_observed)
+
   -- and shows the locks of empty buffers
-  pub boots_shown : inner (viewed shown opening) ≡ opening_locks (caps_in (inner opening))
+  pub boots_shown : inner (viewed shown opening) ≡ opening_locks (caps_in (viewed shown opening))
   boots_shown = fun_ext at_lock ∙ ap opening_locks (sym caps_observed)
 
 -- there is room for so many calls where there is room for twice as many events

@@ -1,11 +1,11 @@
 -- Buffers in one section a call: which section a call is, what it leaves, and what a machine of such sections shows.
 use Rattle.std.specs.Prelude.{◌≡◌, ◌≢◌, ℕ, ◌<◌, List, [], ◌∷◌, ◌++◌, length, Option, Some, None, option_map, option_to_list, replicate, slice_get}
 use Rattle.event_log.specs.declared.{entries.Entry.Entry, ids.{BufId.BufId, CpuId.CpuId, LockId.{LockId, TheVariants.{Pending, Buffer}}, Tid.Tid}}
-use Rattle.{event_log.specs.{declared.ids.TheConstants.{CPUS, THREADS}, Sections.{Section, block_after}}, layer_traits.specs.declared.calls.Call.Call}
+use Rattle.{event_log.specs.{declared.ids.TheConstants.{CPUS, THREADS}, Sections.{Section, block_after}}, layer_traits.specs.declared.{calls.Call.Call, queue_edits.QueueBlock.QueueBlock}}
 use Rattle.layer_traits.specs.declared.{calls.{Call.TheVariants.{Send, Recv, Close}, Effect.Effect, Reply.Reply}, moves.WaitList.WaitList}
 use Rattle.layer_traits.specs.{declared.{scheds.SchedCall.SchedCall, call_states.{Stage.TheVariants.{Idle, Waits}, CallState.CallState}}, BufferLaw.Buffering}
 use Rattle.layer_traits.specs.{BufferLaw.{buffering, entry_of, reply_of, call_state_of}, BufferProtocol.BufferLock, Places.Threads, Sleeping.SleepState}
-use Rattle.{layer_traits.specs.{Sleeping.{wait_list_at, sleep_edited}, SleepLaw.Sleeping, Capacities.caps_from}, plain_layers.specs.declared.attempts.Ask.Ask}
+use Rattle.{layer_traits.specs.{Sleeping.{wait_list_at, sleep_edited}, SleepLaw.Sleeping, Capacities.caps_in, QueueBlocks.inner, Renaming.viewed}, plain_layers.specs.declared.attempts.Ask.Ask}
 use Rattle.plain_layers.specs.{declared.attempts.{Attempt.Attempt, Tried.Tried}, Attempts.{PlainState, attempts, effect_in, empty_buffer, told}}
 use Rattle.plain_layers.specs.declared.attempts.Ask.TheVariants as ask
 
@@ -51,10 +51,6 @@ abbrev pub entries_in : (LockId → Option PlainLocked) → List (Section Attemp
 entries_in opening [] = []
 entries_in opening (s ∷ past) = option_to_list (entry_at s.cpu s.lock s.edit (locked_after opening s.lock past)) ++ entries_in opening past
 
--- the capacities of the buffers: a buffer's number is less than 256
-unfoldable pub caps_in : (LockId → Option PlainLocked) → List ℕ
-caps_in locks = caps_from (λ (state : PlainLocked). state.above.capacity) 256 0 locks
-
 -- a buffer with room for so many items, at which nobody waits
 abbrev pub fresh_buffer : ℕ → PlainLocked
 fresh_buffer capacity = record { sleepers = []; receivers = []; senders = []; above = empty_buffer capacity }
@@ -89,9 +85,9 @@ shown state = record {
 }
 
 -- the machine has one holder for all CPUs, and opened with fresh buffers
-pub record IsOwned (ActsFor : CpuId → Type 0) (locks : LockId → Option PlainLocked) : Type 0 where
+pub record IsOwned (ActsFor : CpuId → Type 0) (opening : LockId → Option (QueueBlock PlainLocked)) : Type 0 where
   pub all : (c : CpuId) → c.0 < CPUS → ActsFor c
-  pub fresh : locks ≡ fresh_buffers (caps_in locks)
+  pub fresh : inner opening ≡ fresh_buffers (caps_in (viewed shown opening))
 
 -- between its polls a part has nothing begun; and a thread has an effect only once its call is over
 pub record Rests (under : Option (SchedCall Attempt)) (own : Sleeping Tried) (call_states : List CallState) : Type 0 where

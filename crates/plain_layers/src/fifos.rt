@@ -1,6 +1,7 @@
 //! First-in first-out buffers in one section.
 
 ghost use Rattle.std.specs.Prelude.{◌≡◌, ◌<◌, [], None, Some, false, option_map, replicate, slice_set};
+ghost use Rattle.layer_traits.specs.Capacities.{caps_in};
 ghost use Rattle.{event_log.specs.declared.ids.TheConstants.THREADS, layer_traits.specs.BufferLaw.{buffer_of, no_call, reply_of, reply_with, call_state_of}};
 ghost use Rattle.plain_layers.specs.Fifos.{ask_of, attempt_of, reply_to, call_state_after};
 
@@ -92,17 +93,13 @@ fn reply(call: &Call, effect: &Option<Effect>) -> Option<ReplyKind>
 }
 
 impl<S: ThreadLayer<SleepLaw<Attempt>>> CallLayer<BufferLaw> for PlainFifo<S> {
-    ghost use Rattle.std.specs.Prelude.{◌/◌, IsSome, refl};
+    ghost use Rattle.std.specs.Prelude.{◌/◌, IsSome, length, refl};
     ghost use Rattle.{event_log.specs.declared.ids.LockId.TheVariants.Pending, plain_layers.specs.Laws.{FifoLaws.plain_wait_lists, FifoTallies.plain_lawful}};
-    ghost use Rattle.plain_layers.specs.{Attempts.attempts, Fifos.{IsOwned, Rests, caps_in, entries_in, wait_lists_in, own_of, shown}};
-    ghost use Rattle.layer_traits.{proofs.KernelRenaming.{homes_viewed, starts_viewed}, specs.{QueueBlocks.{homes_in, inner}, Queues.buffer_sections}};
-    ghost use Rattle.layer_traits.specs.{Queues.moves_in, Renaming.viewed, SleepLaw.sleep_kernel};
+    ghost use Rattle.plain_layers.specs.{Attempts.attempts, Fifos.{IsOwned, Rests, entries_in, wait_lists_in, own_of, shown}};
+    ghost use Rattle.layer_traits.{proofs.KernelRenaming.{at_viewed, starts_viewed}, specs.{QueueBlocks.{homes_in, inner}, Queues.buffer_sections}};
+    ghost use Rattle.layer_traits.specs.{IpcLaw.WaitListsAgree, Places.{AreMoves, Stands}, Queues.moves_in, Renaming.viewed, SleepLaw.sleep_kernel};
 
     type Machine = S::Machine;
-
-    ghost caps = { λ m. caps_in (inner (S.opening m)) };
-
-    ghost homes_of = { λ m. homes_in (S.opening m) };
 
     ghost seen = { λ m. entries_in (inner (S.opening m)) (buffer_sections (S.seen m)) };
 
@@ -110,30 +107,26 @@ impl<S: ThreadLayer<SleepLaw<Attempt>>> CallLayer<BufferLaw> for PlainFifo<S> {
 
     ghost wait_lists = { λ m b line. wait_lists_in (inner (S.opening m)) (buffer_sections (S.seen m)) b line };
 
-    ghost ActsFor = { λ m c. S.ActsFor m c × S.IsWhole × IsOwned (λ d. S.ActsFor m d) (inner (S.opening m)) };
+    ghost ActsFor = { λ m c. S.ActsFor m c × S.IsWhole × IsOwned (λ d. S.ActsFor m d) (S.opening m) };
 
     ghost room = { λ m. S.room m / 2 };
 
     ghost site = { λ m. S.site m };
 
-    ghost IsFresh = { λ m homes c. (S.ActsFor m c × S.IsWhole × IsOwned (λ d. S.ActsFor m d) (inner (S.opening m))) × S.IsOutside m c
+    ghost IsFresh = { λ m homes c. (S.ActsFor m c × S.IsWhole × IsOwned (λ d. S.ActsFor m d) (S.opening m)) × S.IsOutside m c
         × (entries_in (inner (S.opening m)) (buffer_sections (S.seen m)) ≡ [])
         × (moves_in (sleep_kernel attempts (S.opening m)) (S.seen m) ≡ [])
-        × (homes_in (S.opening m) ≡ homes) × IsSome (S.opening m (Pending c)) };
+        × (homes_in (viewed shown (S.opening m)) ≡ homes) × IsSome (S.opening m (Pending c)) };
 
     ghost MayHold = { λ m c. S.MayHold m c };
 
     ghost cpu_of = { λ p. S.cpu_of p.lower };
 
-    ghost threads = { λ p. (S.own p.lower).threads };
-
-    ghost call_states = { λ p. p.call_states };
-
     ghost is_inside = { λ p. false };
 
     ghost under_way = { λ p. None };
 
-    ghost Fits = { λ p m. S.Fits p.lower m × S.IsWhole × IsOwned (λ d. S.ActsFor m d) (inner (S.opening m))
+    ghost Fits = { λ p m. S.Fits p.lower m × S.IsWhole × IsOwned (λ d. S.ActsFor m d) (S.opening m)
         × Rests (S.under_way p.lower) (S.own p.lower) p.call_states };
 
     ghost IsWhole = { Unit {0} };
@@ -194,17 +187,17 @@ impl<S: ThreadLayer<SleepLaw<Attempt>>> CallLayer<BufferLaw> for PlainFifo<S> {
 
     ghost own_cpu = { λ p m fits. (S.own_cpu p.lower m fits.0, fits.1, fits.2) };
 
-    ghost lawful = { λ m c acts. plain_lawful (inner (S.opening m)) (caps_in (inner (S.opening m))) (buffer_sections (S.seen m)) acts.2.fresh };
+    ghost lawful = { λ m c acts. plain_lawful (inner (S.opening m)) (caps_in (viewed shown (S.opening m))) (buffer_sections (S.seen m)) acts.2.fresh };
 
-    ghost stands = { λ p m fits. (S.stands p.lower m fits.0).stands };
+    ghost stands = { λ p m fits. at_viewed shown (S.opening m) (λ homes. Stands homes (S.cpu_of p.lower)
+        (moves_in (sleep_kernel attempts (S.opening m)) (S.seen m)) (S.own p.lower).threads) (S.stands p.lower m fits.0).stands };
 
-    ghost moves_legal = { λ m c acts. S.moves_legal m c acts.0 };
+    ghost moves_legal = { λ m c acts. at_viewed shown (S.opening m)
+        (λ homes. AreMoves homes (moves_in (sleep_kernel attempts (S.opening m)) (S.seen m))) (S.moves_legal m c acts.0) };
 
-    ghost lists = { λ p m fits. plain_wait_lists (S.opening m) (S.seen m) fits.2.fresh (S.stands p.lower m fits.0).lists };
-
-    ghost reads_own = { λ p. (refl, refl) };
-
-    ghost reads_homes = { λ m. homes_viewed shown (S.opening m) };
+    ghost lists = { λ p m fits. at_viewed shown (S.opening m) (λ homes. WaitListsAgree (length (caps_in (viewed shown (S.opening m)))) homes
+        (moves_in (sleep_kernel attempts (S.opening m)) (S.seen m)) (wait_lists_in (inner (S.opening m)) (buffer_sections (S.seen m))))
+        (plain_wait_lists (S.opening m) (S.seen m) fits.2.fresh (S.stands p.lower m fits.0).lists) };
 
     ghost starts = { λ m c acts. starts_viewed shown (S.opening m) (S.opens m c acts.0) };
 
@@ -224,8 +217,8 @@ impl<S: ThreadLayer<SleepLaw<Attempt>>> CallLayer<BufferLaw> for PlainFifo<S> {
 impl<S: OwnedThreadLayer<SleepLaw<Attempt>>> OwnedBuffers for PlainFifo<S> {
     ghost use Rattle.{std.{specs.Prelude.option_map, proofs.Common.sym}, event_log.specs.{declared.ids.LockId.TheVariants.{Buffer, Pending}, Buffers.items_of}};
     ghost use Rattle.{event_log.specs.Runs.is_closed, layer_traits.specs.{BufferEffects.contents_of, Places.pending_by, QueueBlocks.inner}};
-    ghost use Rattle.layer_traits.specs.{Queues.{buffer_sections, moves_in}, Renaming.viewed_block, SleepLaw.sleep_kernel};
-    ghost use Rattle.plain_layers.specs.{Attempts.attempts, Fifos.{caps_in, entries_in, wait_lists_in, locked_after, shown}, FifoOwned.{closed_of, items_in}};
+    ghost use Rattle.layer_traits.specs.{Queues.{buffer_sections, moves_in}, Renaming.{viewed, viewed_block}, SleepLaw.sleep_kernel};
+    ghost use Rattle.plain_layers.specs.{Attempts.attempts, Fifos.{entries_in, wait_lists_in, locked_after, shown}, FifoOwned.{closed_of, items_in}};
     ghost use Rattle.plain_layers.specs.{FifoOwned.{wait_lists_of, nobody, nothing_read}, Laws.FifoOwned.{buffer_there, closed_read, entries_known}};
     ghost use Rattle.plain_layers.specs.Laws.FifoOwned.{items_read, wait_lists_read, nobody_owns, pending_read, there_viewed, view_read};
 
@@ -309,7 +302,7 @@ impl<S: OwnedThreadLayer<SleepLaw<Attempt>>> OwnedBuffers for PlainFifo<S> {
         (S.MayHold m) (S.MayHold m) (λ p fits. fits.0)
         (λ d held. held) (locked_after (inner (S.opening m)) (Buffer b) (buffer_sections (S.seen m))) items_in
         (λ p. S.block_with p b) (S.block_at m b)
-        (items_of (contents_of (caps_in (inner (S.opening m))) (entries_in (inner (S.opening m)) (buffer_sections (S.seen m)))) b.0)
+        (items_of (contents_of (caps_in (viewed shown (S.opening m))) (entries_in (inner (S.opening m)) (buffer_sections (S.seen m)))) b.0)
         (items_read (S.opening m) acts.2.fresh b within (buffer_sections (S.seen m)))
         (S.shown m c b acts.0 (buffer_there (S.opening m) acts.2.fresh b within)) };
 

@@ -1,6 +1,8 @@
 -- What sleep and wakeup beneath tells of its locks, buffers in one section a call tell of their items and waiting lists.
 use Rattle.std.specs.{Prelude.{◌≡◌, ◌<◌, List, [], ◌∷◌, ◌++◌, length, Option, Some, None, IsSome, option_map, option_to_list, refl}, List.AllByRecursion}
 use Rattle.std.proofs.{Common.{ap, sym, ◌∙◌, subst}, lemmas.Option.{same_Some, slice_get-get_or}}
+use Rattle.layer_traits.specs.{Capacities.caps_in, Renaming.viewed}
+use Rattle.plain_layers.specs.Fifos.{shown}
 use Rattle.event_log.specs.declared.{entries.Entry.Entry, ids.{BufId.BufId, CpuId.CpuId, LockId.{LockId, TheVariants.Buffer}, Tid.Tid, TheConstants.CPUS}}
 use Rattle.{event_log.specs.{Buffers.items_of, History.IsLawful, Runs.is_closed, Sections.Section}, layer_traits.specs.declared.calls.Effect.Effect}
 use Rattle.layer_traits.specs.declared.{moves.WaitList.WaitList, queue_edits.QueueBlock.QueueBlock, queues.QueueCall.{QueueCall, TheVariants.{Push, TakeAll}}}
@@ -8,7 +10,7 @@ use Rattle.layer_traits.specs.{declared.queues.{QueueCall.TheVariants.OnBuffer, 
 use Rattle.layer_traits.specs.{Owned.IsObserved, QueueBlocks.{above_of, inner}, Queues.{IsKnownEvent, buffer_sections, with_section}, Sleeping.wait_list_at}
 use Rattle.layer_traits.{specs.{Sleeping.sleep_edited, Observed.IsObservedAs}, proofs.{Alone.block_there, OwnedLemmas.{shown_under, observed_as, viewed_shown}}}
 use Rattle.plain_layers.specs.{declared.attempts.Attempt.Attempt, Attempts.attempts, FifoOwned.{closed_of, items_in, nobody, nothing_read, wait_lists_of}}
-use Rattle.plain_layers.specs.Fifos.{PlainLocked, caps_in, effect_by, entries_in, fresh_buffer, fresh_buffers, wait_lists_in, locked_after}
+use Rattle.plain_layers.specs.Fifos.{PlainLocked, effect_by, entries_in, fresh_buffer, fresh_buffers, wait_lists_in, locked_after}
 use Rattle.plain_layers.specs.Laws.FifoTallies.{plain_tally}
 
 -- a block that is seen is there
@@ -16,13 +18,13 @@ pub there_viewed : {A B : Type 0} (view : A → B) (o : Option A) → IsSome (op
 there_viewed view None some = absurd cc
 there_viewed view (Some x) some = refl
 
-module _ (opening : LockId → Option (QueueBlock PlainLocked)) (fresh : inner opening ≡ fresh_buffers (caps_in (inner opening))) (b : BufId)
-    (within : b.0 < length (caps_in (inner opening))) where
+module _ (opening : LockId → Option (QueueBlock PlainLocked)) (fresh : inner opening ≡ fresh_buffers (caps_in (viewed shown opening))) (b : BufId)
+    (within : b.0 < length (caps_in (viewed shown opening))) where
   -- a buffer of the capacities has a lock, at the start
   inner_there : IsSome (inner opening (Buffer b))
   inner_there =
       subst (λ (o : Option PlainLocked). IsSome o)
-      (sym (ap (λ locks. locks (Buffer b)) fresh ∙ ap (option_map fresh_buffer) (slice_get-get_or (caps_in (inner opening)) b.0 0 within))) refl
+      (sym (ap (λ locks. locks (Buffer b)) fresh ∙ ap (option_map fresh_buffer) (slice_get-get_or (caps_in (viewed shown opening)) b.0 0 within))) refl
 
   pub buffer_there : IsSome (opening (Buffer b))
   buffer_there = go (opening (Buffer b)) inner_there
@@ -42,11 +44,11 @@ module _ (opening : LockId → Option (QueueBlock PlainLocked)) (fresh : inner o
 
   -- its items are those that the effects leave
   pub items_read : (past : List (Section Attempt)) → option_map items_in (locked_after (inner opening) (Buffer b) past)
-      ≡ Some (items_of (contents_of (caps_in (inner opening)) (entries_in (inner opening) past)) b.0)
+      ≡ Some (items_of (contents_of (caps_in (viewed shown opening)) (entries_in (inner opening) past)) b.0)
   items_read past =
       let state = found past in
       ap (option_map items_in) state.1
-      ∙ ap Some (sym (plain_tally (inner opening) (caps_in (inner opening)) past fresh b state.0 state.1).items)
+      ∙ ap Some (sym (plain_tally (inner opening) (caps_in (viewed shown opening)) past fresh b state.0 state.1).items)
 
   -- it is closed where an effect has closed it
   pub closed_read : (past : List (Section Attempt)) → option_map closed_of (locked_after (inner opening) (Buffer b) past)
@@ -54,7 +56,7 @@ module _ (opening : LockId → Option (QueueBlock PlainLocked)) (fresh : inner o
   closed_read past =
       let state = found past in
       ap (option_map closed_of) state.1
-      ∙ ap Some (sym (plain_tally (inner opening) (caps_in (inner opening)) past fresh b state.0 state.1).closed)
+      ∙ ap Some (sym (plain_tally (inner opening) (caps_in (viewed shown opening)) past fresh b state.0 state.1).closed)
 
   pub wait_lists_read : (past : List (Section Attempt)) → option_map wait_lists_of (locked_after (inner opening) (Buffer b) past)
       ≡ Some (λ (line : WaitList). wait_lists_in (inner opening) past b line)

@@ -1,8 +1,22 @@
-use Rattle.std.proofs.Common.{[], refl}
+use Rattle.std.proofs.Common.{[], refl, arith}
 use Rattle.plain_layers.proofs.fifos.PlainFifoCallLayerBufferLaw.look.Goals as goal
 
-pub returns-clause-seen : goal.returns-clause-seen
-returns-clause-seen g c = record { others = []; foreign = λ d acts. tt; is = refl }
-
-pub returns-clause-moves : goal.returns-clause-moves
-returns-clause-moves g c = record { others = []; mine = []; foreign = λ d acts. tt; own = tt; is = refl }
+-- nothing is done
+pub returns : goal.returns
+returns g c = record {
+  still = λ no. (refl, refl);
+  waits = λ yes. absurd cc;
+  framed = record {
+    fits = c.requires.fits;
+    cpu = refl;
+    stays = record { opening = refl; site = refl; room = omega arith; acts = λ d acts. acts };
+    others = λ p other fits. fits;
+    holders = λ d other acts held. held;
+  };
+  own = refl;
+  inside = refl;
+  under_way = refl;
+  seen = record { others = []; foreign = λ d acts. tt; is = refl };
+  moves = record { others = []; mine = []; foreign = λ d acts. tt; own = tt; is = refl };
+  tries = λ step. absurd step;
+}

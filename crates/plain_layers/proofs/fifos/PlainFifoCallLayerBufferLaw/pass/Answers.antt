@@ -1,4 +1,5 @@
 use Rattle.std.proofs.Common.{ℕ, ◌+◌, ◌/◌, ◌≤◌, ap, arith, subst, sym, ◌∙◌}
+use Rattle.layer_traits.proofs.KernelRenaming.{at_viewed}
 use Rattle.{event_log.specs.declared.ids.CpuId.CpuId, layer_traits.specs.{BufferLaw.OthersSeen, Passes.PassPolled, QueueBlocks.{homes_in, inner}}}
 use Rattle.{layer_traits.specs.{Queues.{buffer_sections, moves_in}, Renaming.viewed, SleepLaw.sleep_kernel}, plain_layers.specs.Attempts.attempts}
 use Rattle.plain_layers.{specs.Fifos.{IsOwned, entries_in, shown}, proofs.FifoLemmas.{nothing_under, owned_after, passed_seen, passed_moves}}
@@ -54,7 +55,7 @@ returns-clause-seen g c =
     let lower = c.args.self.now.lower in
     let fits = c.requires.fits in
     let said = c.pass.ensures in
-    let Acts = λ (d : CpuId). S.ActsFor m d × S.IsWhole × IsOwned (λ e. S.ActsFor m e) (inner (S.opening m)) in
+    let Acts = λ (d : CpuId). S.ActsFor m d × S.IsWhole × IsOwned (λ e. S.ActsFor m e) (S.opening m) in
     let known = g.met.S.ThreadLayer.known n (S.cpu_of lower) (said.framed.stays.acts (S.cpu_of lower) (g.met.S.ThreadLayer.own_cpu lower m fits.0)) in
     subst (λ o. OthersSeen Acts (entries_in (inner (S.opening m)) (buffer_sections (S.seen m))) (entries_in (inner o) (buffer_sections (S.seen n))))
     (sym said.framed.stays.opening)
@@ -69,11 +70,14 @@ returns-clause-passed g c =
     let lower = c.args.self.now.lower in
     let fits = c.requires.fits in
     let said = c.pass.ensures in
-    let Acts = λ (d : CpuId). S.ActsFor m d × S.IsWhole × IsOwned (λ e. S.ActsFor m e) (inner (S.opening m)) in
+    let Acts = λ (d : CpuId). S.ActsFor m d × S.IsWhole × IsOwned (λ e. S.ActsFor m e) (S.opening m) in
     let known = g.met.S.ThreadLayer.known n (S.cpu_of lower) (said.framed.stays.acts (S.cpu_of lower) (g.met.S.ThreadLayer.own_cpu lower m fits.0)) in
-    subst (λ o. PassPolled (homes_in (S.opening m)) Acts (S.cpu_of lower) c.args.call c.pass.result
+    at_viewed shown (S.opening m) (λ homes. PassPolled homes Acts (S.cpu_of lower) c.args.call c.pass.result
+    (moves_in (sleep_kernel attempts (S.opening m)) (S.seen m)) (moves_in (sleep_kernel attempts (S.opening n)) (S.seen n)) (S.own lower).threads
+    (S.own c.pass.new.self).threads)
+    (subst (λ o. PassPolled (homes_in (S.opening m)) Acts (S.cpu_of lower) c.args.call c.pass.result
     (moves_in (sleep_kernel attempts (S.opening m)) (S.seen m)) (moves_in (sleep_kernel attempts o) (S.seen n)) (S.own lower).threads
     (S.own c.pass.new.self).threads)
     (sym said.framed.stays.opening)
     (passed_moves (S.opening m) (λ d. S.ActsFor m d) (S.cpu_of lower) c.args.call c.pass.result (S.seen m) (S.seen n)
-    (S.own lower).threads (S.own c.pass.new.self).threads (record { all = fits.2.all; known = known; polled = said.seen }) Acts (λ d acts. acts.0))
+    (S.own lower).threads (S.own c.pass.new.self).threads (record { all = fits.2.all; known = known; polled = said.seen }) Acts (λ d acts. acts.0)))
