@@ -38,19 +38,11 @@ one_more old e = record { more = e ∷ []; is = refl; many = refl }
 no_block : (name : Name) → grown name None ≡ 0
 no_block name = grind arith
 
-abbrev tail_of : List (Action Name) → List (Action Name)
-tail_of [] = []
-tail_of (b ∷ list) = list
-
-same_tail : (a b : Action Name) (past list : List (Action Name)) → a ∷ past ≡ b ∷ list → past ≡ list
-same_tail a b past list is = ap tail_of is
-
 module _ (setup : Setup) (c : CpuId) where
   -- What leaves the trace.
 
   slept_trace : (slept : Bool) (p : Private) → (slept_if slept p).trace ≡ p.trace
-  slept_trace true p = refl
-  slept_trace false p = refl
+  slept_trace slept p = grind arith
 
   woken_trace : (woke : Option Tid) (p : Private) → (woken setup c woke p).trace ≡ p.trace
   woken_trace woke p = grind arith
@@ -88,18 +80,16 @@ module _ (setup : Setup) (c : CpuId) where
   entry_grew p t call Receives (OfPending threads) = stays p.trace p.trace refl
   entry_grew p t call Closes (OfPending threads) = stays p.trace p.trace refl
 
-  signal_none : (t : Tid) (side : Side) (stage : Stage) (call : Call) (x : Block) → grown (section_at t call Signals) (Some x) ≡ 0
-  signal_none t side stage call x = grind arith
-
-  own_signal_none : (t : Tid) (call : Call) (x : Block) → grown (section_at t call SignalsOwn) (Some x) ≡ 0
-  own_signal_none t call x = grind arith
+  signals_none : (t : Tid) (call : Call) (x : Block)
+      → (grown (section_at t call Signals) (Some x) ≡ 0) × (grown (section_at t call SignalsOwn) (Some x) ≡ 0)
+  signals_none t call x = grind arith
 
   section_grew : (p : Private) (t : Tid) (call : Call) (stage : Stage) (x : Block)
       → Grew p.trace (recorded c p t call stage (answer (section_at t call stage) x).told).trace (grown (section_at t call stage) (Some x))
   section_grew p t call Enters x = entry_grew p t call call.asks x
   section_grew p t call Tries x = try_grew p t call (side_of call.asks) x
-  section_grew p t call Signals x = subst (λ n. Grew p.trace p.trace n) (sym (signal_none t Senders Signals call x)) (stays p.trace p.trace refl)
-  section_grew p t call SignalsOwn x = subst (λ n. Grew p.trace p.trace n) (sym (own_signal_none t call x)) (stays p.trace p.trace refl)
+  section_grew p t call Signals x = subst (λ n. Grew p.trace p.trace n) (sym (signals_none t call x).0) (stays p.trace p.trace refl)
+  section_grew p t call SignalsOwn x = subst (λ n. Grew p.trace p.trace n) (sym (signals_none t call x).1) (stays p.trace p.trace refl)
   section_grew p t call Acquires x = stays p.trace p.trace refl
   section_grew p t call Waits x = stays p.trace p.trace refl
   section_grew p t call AcquiresAgain x = stays p.trace p.trace refl
@@ -148,36 +138,7 @@ module _ (setup : Setup) (c : CpuId) where
   KeepsTrace p (Goes q) = q.trace ≡ p.trace
 
   choice_keeps : (p : Private) → KeepsTrace p (choice setup c p)
-  choice_keeps p = by_hand p.hand
-    where
-      begun : (t : Tid) (call : Call) → KeepsTrace p (begins setup c p t call)
-      begun t call = grind arith
-
-      instructed : (t : Tid) (line : Instruction) → KeepsTrace p (at_instruction setup c p t line)
-      instructed t (Send b r k) = begun t (new_call _ b _)
-      instructed t (Recv b r k) = begun t (new_call _ b _)
-      instructed t (Close b) = begun t (new_call _ b _)
-      instructed t line = grind arith
-
-      by_call : (t : Tid) (call : Option Call) → KeepsTrace p (at_call setup c p t call)
-      by_call t None = instructed t (stands_at setup p t)
-      by_call t (Some call) = refl
-
-      by_ready : (ready : List Tid) → KeepsTrace p (at_ready p ready)
-      by_ready [] = refl
-      by_ready (t ∷ rest) = refl
-
-      by_current : (current : Option Tid) → KeepsTrace p (at_current setup c p current)
-      by_current None = by_ready p.ready
-      by_current (Some t) = by_call t (thread_at p t).call
-
-      by_ended : (all : Bool) → KeepsTrace p (if all then Halts AllEnded else at_current setup c p p.current)
-      by_ended true = tt
-      by_ended false = by_current p.current
-
-      by_hand : (hand : Option Tid) → KeepsTrace p (at_hand setup c p hand)
-      by_hand (Some s) = refl
-      by_hand None = by_ended (have_ended p (home_threads setup c))
+  choice_keeps p = grind arith
 
   -- One step.
 
@@ -234,8 +195,7 @@ module _ (setup : Setup) (c : CpuId) where
   short p log = grind (arith, same_cpu_self c)
 
   total_acts : (acts log : List (Action Name)) → IsShort acts → total (acts ++ log) ≡ made acts log + total log
-  total_acts acts log (inl none) = rw none (omega arith)
-  total_acts acts log (inr one) = rw one.1 (ap (λ own. if own then made (one.0 ∷ []) log + total log else total log) one.2)
+  total_acts acts log short = grind arith
 
   -- where a CPU stood at a front of the list to which it came: its trace has one entry for each effect, and goes on from there
   pub record FrontOf (p : Private) (front : List (Action Name)) : Type 0 where
@@ -271,7 +231,7 @@ module _ (setup : Setup) (c : CpuId) where
   })
   front_of n p log starts fair (b ∷ later) earlier is = absurd (cc is)
   front_of n p log (others {n = m} {p = q} {log = past} a along off) fair (b ∷ later) earlier is =
-      front_of m q past along fair.1 later earlier (same_tail a b past (later ++ earlier) is)
+      front_of m q past along fair.1 later earlier (cc is)
   front_of n p log (steps {n = m} {p = q} {log = past} along stepped) fair (b ∷ later) earlier is =
       let acts = (cpu_step setup c q past).acts in
       let before = lawful_before (IsFair setup) acts past fair in
@@ -291,4 +251,4 @@ module _ (setup : Setup) (c : CpuId) where
       by_acts : IsShort (cpu_step setup c q past).acts
           → ((more front : List (Action Name)) → past ≡ more ++ front → FrontOf q front) → FrontOf q earlier
       by_acts (inl none) at = at (b ∷ later) earlier (ap (λ acts. acts ++ past) (sym none) ∙ is)
-      by_acts (inr one) at = at later earlier (same_tail one.0 b past (later ++ earlier) (ap (λ acts. acts ++ past) (sym one.1) ∙ is))
+      by_acts (inr one) at = at later earlier (cc (ap (λ acts. acts ++ past) (sym one.1) ∙ is))

@@ -7,6 +7,7 @@ use Rattle.event_log.specs.{Actions.{Action, Phase, Rests, Waits as WaitsAt, Hol
 use Rattle.{event_log.specs.{History.same_cpu, Sections.sections_in}, guest.specs.{State.{State, message_from, moved_on, moved_to, next_of, value_in, after_local, after_yield}, Calls.IsProgramsCalls}}
 use Rattle.guest.specs.Calls.{starts as starts_program, sets, adds, subtracts, jumps, goes_on, yields, sends, receives, closes, offers, asks as asks_closed}
 use Rattle.guest.specs.declared.instructions.Instruction.{Instruction, TheVariants.{Set, Add, Sub, Jnz, Send, Recv, Close, Yield, Exit}}
+use Rattle.guest.proofs.CallsLemmas.{calls-local, calls-yield}
 use Rattle.thread_blocks.{specs.Queues.same_tid, proofs.Members.same_tid_true}
 use Rattle.layer_traits.specs.declared.{locked.Side.{Side, TheVariants.{Receivers, Senders}}, call_states.Stage.Stage}
 use Rattle.layer_traits.specs.declared.call_states.Stage.TheVariants.{Idle, Acquires, Enters, Tries, Waits, AcquiresAgain, Signals, SignalsOwn, Releases}
@@ -18,7 +19,7 @@ use Rattle.cpu.specs.Table.Choice.{asked, asked_at, asked_by, asked_in, at_call,
 use Rattle.cpu.specs.Table.Choice.{after_at, after_by, after_call, after_in, begins, choice, effected, entry_of, first_section, guest_after, new_call, with_call, with_guest}
 use Rattle.cpu.specs.Table.Choice.{recorded, recorded_entry, recorded_try, returned_at, returned_by, returned_in, section_at, settled, slept_if, try_of, woken}
 use Rattle.cpu.specs.{Cpus.of_thread, Table.Steps.{AlongTable, acting, after_reply, chosen, cpu_step, step_in}, Wakeups.Order.block_of}
-use Rattle.{cpu.proofs.Wakeups.Agreement.{at_other, at_same}, cpu_workers.specs.Fronts.come_to}
+use Rattle.{cpu.proofs.Wakeups.{Agreement.{at_other, at_same}, ReachedStates.all_new}, cpu_workers.specs.Fronts.come_to}
 
 -- What a call has to do with its program.
 
@@ -95,35 +96,12 @@ effect_more program s es (Close b) group buffer message m true e at asks lined s
     absurd (subst IsLined asks.0 (lined refl))
 effect_more program s es other group buffer message m closed e at asks lined sent calls kind on value = absurd asks
 
--- an instruction of the thread's own leads on
-local_more : (program : List Instruction) (s : State) (es : List Entry) (i : Instruction) → next_of program s ≡ i → IsProgramsCalls program es s
-    → IsProgramsCalls program es (after_local i s)
-local_more program s es (Set r n) at calls = sets r n calls at
-local_more program s es (Add r q) at calls = adds r q calls at
-local_more program s es (Sub r q) at calls = subtracts r q calls at
-local_more program s es (Jnz r k) at calls = by_test (value_in s r == 0) refl
-  where
-    by_test : (zero : Bool) → (value_in s r == 0) ≡ zero → IsProgramsCalls program es (if zero then moved_on s else moved_to s k)
-    by_test true is = goes_on r k calls at (eqb-true (value_in s r) 0 is)
-    by_test false off = jumps r k calls at (eqb-false (value_in s r) 0 off)
-local_more program s es other at calls = calls
-
-yield_more : (program : List Instruction) (s : State) (es : List Entry) (i : Instruction) → next_of program s ≡ i → IsProgramsCalls program es s
-    → IsProgramsCalls program es (after_yield i s)
-yield_more program s es Yield at calls = yields calls at
-yield_more program s es other at calls = calls
-
 -- A CPU.
 
 -- a trace with one entry more, as a thread has it, newest first
 traced : (trace : List Entry) (e : Entry) (t : ℕ)
     → reverse (of_thread t (trace ++ e ∷ [])) ≡ (if e.thread.0 == t then e ∷ reverse (of_thread t trace) else reverse (of_thread t trace))
-traced trace e t = ap (λ l. reverse l) (filter-append (λ (x : Entry). x.thread.0 == t) trace (e ∷ [])) ∙ by_test (e.thread.0 == t) refl
-  where
-    by_test : (mine : Bool) → (e.thread.0 == t) ≡ mine
-        → reverse (of_thread t trace ++ (if mine then e ∷ [] else [])) ≡ (if mine then e ∷ reverse (of_thread t trace) else reverse (of_thread t trace))
-    by_test true is = reverse-append (of_thread t trace) (e ∷ [])
-    by_test false off = ap (λ l. reverse l) (append-nil (of_thread t trace))
+traced trace e t = grind (arith, filter-append (λ (x : Entry). x.thread.0 == t) trace (e ∷ []), reverse-append, append-nil)
 
 module _ (setup : Setup) where
   abbrev entries_in : Private → Tid → List Entry
@@ -149,6 +127,14 @@ module _ (setup : Setup) where
           (thread_at (with_thread p t x) v).call) (same_tid_true t u is) (here (cases_lt t.0 (length p.threads)))
       by_test false off = subst (λ (y : Thread). Stood (program_of setup u) y.guest (entries_in p u) y.call) (sym (at_other p t u x off)) (follow u)
 
+  -- one that is in no call has gone on by itself
+  set_guest : (p : Private) (t : Tid) (guest : State) → (thread_at p t).call ≡ None → Follow p
+      → (IsProgramsCalls (program_of setup t) (entries_in p t) (thread_at p t).guest → IsProgramsCalls (program_of setup t) (entries_in p t) guest)
+      → Follow (with_guest p t guest)
+  set_guest p t guest outside follow more =
+      set_thread p t _ follow (subst (λ o. Stood (program_of setup t) guest (entries_in p t) o) (sym outside)
+      (more (subst (λ o. Stood (program_of setup t) (thread_at p t).guest (entries_in p t) o) outside (follow t))))
+
   -- one thread has gone on by an effect
   set_effect : (p : Private) (t : Tid) (x : Thread) (e : Entry) → t.0 < length p.threads → e.thread ≡ t → Follow p
       → Stood (program_of setup t) x.guest (e ∷ entries_in p t) x.call → Follow (record (with_thread p t x) { trace = p.trace ++ e ∷ [] })
@@ -172,128 +158,113 @@ module _ (setup : Setup) where
   known : (p : Private) (t : Tid) (call : Call) → (thread_at p t).call ≡ Some call → t.0 < length p.threads
   known p t call inside = grind (arith, cases_lt, get_or_past)
 
-  module _ (p : Private) (t : Tid) (call : Call) (inside : (thread_at p t).call ≡ Some call) (follow : Follow p) where
-    stood : Inside (program_of setup t) (thread_at p t).guest (entries_in p t) call call.effect
-    stood = subst (λ o. Stood (program_of setup t) (thread_at p t).guest (entries_in p t) o) inside (follow t)
-
-    is_opened : (IsAfter call.stage → ⊥) → Opened (program_of setup t) (thread_at p t).guest (entries_in p t) call
-    is_opened early = by_effect call.effect stood
-      where
-        by_effect : (o : Option ℕ) → Inside (program_of setup t) (thread_at p t).guest (entries_in p t) call o
-            → Opened (program_of setup t) (thread_at p t).guest (entries_in p t) call
-        by_effect None opened = opened
-        by_effect (Some op) done = absurd (early done.stage)
-
-    is_effected : (IsBefore call.stage call.asks → ⊥) → Effected (program_of setup t) (thread_at p t).guest (entries_in p t) call
-    is_effected late = by_effect call.effect stood
-      where
-        by_effect : (o : Option ℕ) → Inside (program_of setup t) (thread_at p t).guest (entries_in p t) call o
-            → Effected (program_of setup t) (thread_at p t).guest (entries_in p t) call
-        by_effect None opened = absurd (late opened.stage)
-        by_effect (Some op) was = was
-
-    -- the call goes on to another stage, and has drawn this position
-    goes : (position : ℕ) (stage : Stage) → (IsBefore call.stage call.asks → IsBefore stage call.asks) → (IsAfter call.stage → IsAfter stage)
-        → Follow (with_thread p t (record (thread_at p t) { call = Some (record call { position = position; stage = stage }) }))
-    goes position stage early late =
-        set_thread p t (record (thread_at p t) { call = Some (record call { position = position; stage = stage }) }) follow (by_effect call.effect stood)
-      where
-        by_effect : (o : Option ℕ) → Inside (program_of setup t) (thread_at p t).guest (entries_in p t) call o
-            → Inside (program_of setup t) (thread_at p t).guest (entries_in p t) (record call { position = position; stage = stage }) o
-        by_effect None opened = record { stage = early opened.stage; closed = opened.closed; asks = opened.asks; calls = opened.calls }
-        by_effect (Some op) was = record { stage = late was.stage; calls = was.calls }
-
-    -- the call has its effect
-    takes_effect : (c : CpuId) (position : ℕ) (m : Message) (closed : Bool) (op : ℕ) → (IsAfter call.stage → ⊥) → (closed ≡ true → IsLined call.asks)
-        → (call.asks ≡ Sends → m ≡ call.message) → Follow (effected c p t (record call { position = position; message = m; closed = closed }) op)
-    takes_effect c position m closed op early lined sent =
-        let opened = is_opened early in
-        let e = entry_of c t (record call { position = position; message = m; closed = closed }) op m in
-        set_effect p t
-        (record (thread_at p t) { call = Some (record call { position = position; message = m; closed = closed; effect = Some op; stage = Signals }) })
-        e (known p t call inside) refl follow (record {
-          stage = tt;
-          calls = effect_more (program_of setup t) (thread_at p t).guest (entries_in p t) (stands_at setup p t) call.asks call.buffer call.message m closed e
-              refl opened.asks lined sent opened.calls refl refl refl;
-        })
-
-  -- What a section of a call told.
-
   put_message : (lets closed : Bool) (of op : ℕ) (put m : Message) → (if lets then report_of_put closed of put else NotYet) ≡ Done op m → m ≡ put
-  put_message true true of op put m is = absurd (cc is)
-  put_message true false of op put m is = cc is
-  put_message false closed of op put m is = absurd (cc is)
+  put_message lets closed of op put m is = grind arith
 
+  -- what a send tells that it has put is its message
   sent_message : (t : Tid) (call : Call) (side : Side) → side_of call.asks ≡ side → (x : Block) (op : ℕ) (m : Message)
       → (answer (try_of t call side) x).told ≡ Done op m → call.asks ≡ Sends → m ≡ call.message
   sent_message t call Senders is (OfBuffer k) op m told sent = put_message (may_try Senders t k) k.closed k.effects op call.message m told
   sent_message t call Senders is (OfPending threads) op m told sent = absurd (cc told)
   sent_message t call Receivers is x op m told sent = absurd (cc (sym (ap side_of sent) ∙ is))
 
-  module _ (c : CpuId) (p : Private) (t : Tid) (call : Call) (inside : (thread_at p t).call ≡ Some call) (follow : Follow p) where
-    not_after : (stage : Stage) → call.stage ≡ stage → (IsAfter stage → ⊥) → IsAfter call.stage → ⊥
-    not_after stage at never is = never (subst IsAfter at is)
+  -- A thread inside a call.
 
-    lined_at : (stage : Stage) → call.stage ≡ stage → (IsBefore stage call.asks → IsLined call.asks) → (IsAfter stage → ⊥) → IsLined call.asks
-    lined_at stage at in_line never = in_line (subst (λ s. IsBefore s call.asks) at (is_opened p t call inside follow (not_after stage at never)).stage)
+  module _ (p : Private) (t : Tid) (call : Call) (inside : (thread_at p t).call ≡ Some call) (follow : Follow p) where
+    abbrev program : List Instruction
+    program = program_of setup t
 
-    try_follows : call.stage ≡ Tries → (told : Reported) → ((op : ℕ) (m : Message) → told ≡ Done op m → call.asks ≡ Sends → m ≡ call.message)
-        → Follow (recorded_try c p t call told)
-    try_follows at (Done op m) sent =
-        takes_effect p t call inside follow c call.position m call.closed op (not_after Tries at (λ is. is)) (λ is. absurd (cc (
-          is,
-          (is_opened p t call inside follow
-              (not_after Tries at (λ is. is))).closed,
-        ))) (λ sender. sent op m refl sender)
-    try_follows at (WasClosed op) sent =
-        takes_effect p t call inside follow c call.position call.message true op (not_after Tries at (λ is. is))
-        (λ is. lined_at Tries at (λ lined. lined) (λ is. is)) (λ sender. refl)
-    try_follows at NotYet sent =
-        goes p t call inside follow call.position Waits (λ is. lined_at Tries at (λ lined. lined) (λ is. is)) (λ is. not_after Tries at (λ is. is) is)
-    try_follows at other sent = follow
+    abbrev guest : State
+    guest = (thread_at p t).guest
 
-    try_told : (side : Side) → side_of call.asks ≡ side → call.stage ≡ Tries → (x : Block) → Follow (recorded_try c p t call (answer (try_of t call side) x).told)
-    try_told side is at x = try_follows at (answer (try_of t call side) x).told (sent_message t call side is x)
+    -- what is said of its stage, where that is known
+    early_at : {stage : Stage} → call.stage ≡ stage → IsBefore call.stage call.asks → IsBefore stage call.asks
+    early_at at = subst (λ stage. IsBefore stage call.asks) at
 
-    entry_follows : call.stage ≡ Enters → (asks : Group) → call.asks ≡ asks → (x : Block)
-        → Follow (recorded_entry c p t call asks (answer (first_section t asks) x).told)
-    entry_follows at Sends is (OfBuffer k) =
-        goes p t call inside follow (drawn_position Senders k) Tries (λ before. subst IsLined (sym is) tt) (λ after. not_after Enters at (λ is. is) after)
-    entry_follows at Receives is (OfBuffer k) =
-        goes p t call inside follow (drawn_position Receivers k) Tries (λ before. subst IsLined (sym is) tt) (λ after. not_after Enters at (λ is. is) after)
-    entry_follows at Closes is (OfBuffer k) =
-        takes_effect p t call inside follow c k.closes call.message call.closed k.effects (not_after Enters at (λ is. is))
-        (λ shut. absurd (cc (shut, (is_opened p t call inside follow (not_after Enters at (λ is. is))).closed))) (λ sender. refl)
-    entry_follows at Sends is (OfPending threads) = follow
-    entry_follows at Receives is (OfPending threads) = follow
-    entry_follows at Closes is (OfPending threads) = follow
+    late_at : {stage : Stage} → call.stage ≡ stage → IsAfter call.stage → IsAfter stage
+    late_at at = subst IsAfter at
 
-    section_follows : (stage : Stage) → call.stage ≡ stage → (x : Block) → Follow (recorded c p t call stage (answer (section_at t call stage) x).told)
-    section_follows Enters at x = entry_follows at call.asks refl x
-    section_follows Tries at x = try_told (side_of call.asks) refl at x
-    section_follows Acquires at x = goes p t call inside follow call.position Enters (λ before. tt) (λ after. not_after Acquires at (λ is. is) after)
-    section_follows Waits at x = goes p t call inside follow call.position AcquiresAgain (λ before. lined_at Waits at (λ lined. lined) (λ is. is))
-        (λ after. not_after Waits at (λ is. is) after)
-    section_follows AcquiresAgain at x = goes p t call inside follow call.position Tries (λ before. lined_at AcquiresAgain at (λ lined. lined) (λ is. is))
-        (λ after. not_after AcquiresAgain at (λ is. is) after)
-    section_follows Signals at x = goes p t call inside follow call.position SignalsOwn (λ before. subst (λ s. IsBefore s call.asks) at before) (λ after. tt)
-    section_follows SignalsOwn at x = goes p t call inside follow call.position Releases (λ before. subst (λ s. IsBefore s call.asks) at before) (λ after. tt)
-    section_follows Releases at x = goes p t call inside follow call.position Idle (λ before. subst (λ s. IsBefore s call.asks) at before) (λ after. tt)
-    section_follows Idle at x = follow
+    stood : Inside program guest (entries_in p t) call call.effect
+    stood = subst (λ o. Stood program guest (entries_in p t) o) inside (follow t)
+
+    is_opened : (IsAfter call.stage → ⊥) → Opened program guest (entries_in p t) call
+    is_opened early = by_effect call.effect stood
+      where
+        by_effect : (o : Option ℕ) → Inside program guest (entries_in p t) call o → Opened program guest (entries_in p t) call
+        by_effect None opened = opened
+        by_effect (Some op) done = absurd (early done.stage)
+
+    is_effected : (IsBefore call.stage call.asks → ⊥) → Effected program guest (entries_in p t) call
+    is_effected late = by_effect call.effect stood
+      where
+        by_effect : (o : Option ℕ) → Inside program guest (entries_in p t) call o → Effected program guest (entries_in p t) call
+        by_effect None opened = absurd (late opened.stage)
+        by_effect (Some op) done = done
+
+    -- the call goes on to another stage, and has drawn this position
+    goes : (position : ℕ) (stage : Stage) → (IsBefore call.stage call.asks → IsBefore stage call.asks) → (IsAfter call.stage → IsAfter stage)
+        → Follow (with_thread p t (record (thread_at p t) { call = Some (record call { position = position; stage = stage }) }))
+    goes position stage early late = set_thread p t _ follow (by_effect call.effect stood)
+      where
+        by_effect : (o : Option ℕ) → Inside program guest (entries_in p t) call o
+            → Inside program guest (entries_in p t) (record call { position = position; stage = stage }) o
+        by_effect None opened = record { stage = early opened.stage; closed = opened.closed; asks = opened.asks; calls = opened.calls }
+        by_effect (Some op) done = record { stage = late done.stage; calls = done.calls }
+
+    module _ (c : CpuId) where
+      -- the call has its effect
+      takes_effect : (position : ℕ) (m : Message) (closed : Bool) (op : ℕ) → (IsAfter call.stage → ⊥) → (closed ≡ true → IsLined call.asks)
+          → (call.asks ≡ Sends → m ≡ call.message) → Follow (effected c p t (record call { position = position; message = m; closed = closed }) op)
+      takes_effect position m closed op early lined sent =
+          let opened = is_opened early in
+          set_effect p t _ _ (known p t call inside) refl follow (record {
+            stage = tt;
+            calls = effect_more program guest (entries_in p t) (stands_at setup p t) call.asks call.buffer call.message m closed _
+                refl opened.asks lined sent opened.calls refl refl refl;
+          })
+
+      -- and so where the buffer was open
+      serves : (position : ℕ) (m : Message) (op : ℕ) → (IsAfter call.stage → ⊥) → (call.asks ≡ Sends → m ≡ call.message)
+          → Follow (effected c p t (record call { position = position; message = m }) op)
+      serves position m op early sent =
+          let was_open = (is_opened early).closed in takes_effect position m call.closed op early (λ shut. absurd (cc (shut, was_open))) sent
+
+      try_follows : call.stage ≡ Tries → (told : Reported) → ((op : ℕ) (m : Message) → told ≡ Done op m → call.asks ≡ Sends → m ≡ call.message)
+          → Follow (recorded_try c p t call told)
+      try_follows at (Done op m) sent = serves call.position m op (late_at at) (sent op m refl)
+      try_follows at (WasClosed op) sent =
+          takes_effect call.position call.message true op (late_at at) (λ shut. early_at at (is_opened (late_at at)).stage) (λ sender. refl)
+      try_follows at NotYet sent = goes call.position Waits (early_at at) (late_at at)
+      try_follows at other sent = follow
+
+      entry_follows : call.stage ≡ Enters → (asks : Group) → call.asks ≡ asks → (x : Block)
+          → Follow (recorded_entry c p t call asks (answer (first_section t asks) x).told)
+      entry_follows at Sends is (OfBuffer k) = goes (drawn_position Senders k) Tries (λ early. subst IsLined (sym is) tt) (late_at at)
+      entry_follows at Receives is (OfBuffer k) = goes (drawn_position Receivers k) Tries (λ early. subst IsLined (sym is) tt) (late_at at)
+      entry_follows at Closes is (OfBuffer k) = serves k.closes call.message k.effects (late_at at) (λ sender. refl)
+      entry_follows at Sends is (OfPending threads) = follow
+      entry_follows at Receives is (OfPending threads) = follow
+      entry_follows at Closes is (OfPending threads) = follow
+
+      section_follows : (stage : Stage) → call.stage ≡ stage → (x : Block) → Follow (recorded c p t call stage (answer (section_at t call stage) x).told)
+      section_follows Acquires at x = goes call.position Enters (λ early. tt) (late_at at)
+      section_follows Enters at x = entry_follows at call.asks refl x
+      section_follows Tries at x =
+          let side = side_of call.asks in try_follows at (answer (try_of t call side) x).told (sent_message t call side refl x)
+      section_follows Waits at x = goes call.position AcquiresAgain (early_at at) (late_at at)
+      section_follows AcquiresAgain at x = goes call.position Tries (early_at at) (late_at at)
+      section_follows Signals at x = goes call.position SignalsOwn (early_at at) (λ late. tt)
+      section_follows SignalsOwn at x = goes call.position Releases (early_at at) (λ late. tt)
+      section_follows Releases at x = goes call.position Idle (early_at at) (λ late. tt)
+      section_follows Idle at x = follow
 
   -- What a section leaves.
 
   slept_follows : (slept : Bool) (p : Private) → Follow p → Follow (slept_if slept p)
-  slept_follows true p follow = follow
-  slept_follows false p follow = follow
+  slept_follows slept p follow = grind arith
 
   woken_follows : (c : CpuId) (woke : Option Tid) (p : Private) → Follow p → Follow (woken setup c woke p)
-  woken_follows c None p follow = follow
-  woken_follows c (Some s) p follow = by_home (same_cpu (home_of setup s) c)
-    where
-      by_home : (here : Bool) → Follow (if here then record p { ready = p.ready ++ s ∷ [] } else record p { hand = Some s })
-      by_home true = follow
-      by_home false = follow
+  woken_follows c woke p follow = grind arith
 
   settled_follows : (p : Private) → Follow p → Follow (settled setup p)
   settled_follows p follow = by_hand p.hand p.current
@@ -302,7 +273,7 @@ module _ (setup : Setup) where
           → Follow (returned_at setup p t call stage)
       by_stage t call inside Idle at =
           set_thread p t (record (thread_at p t) { guest = guest_after call.asks call.closed (stands_at setup p t) call.message (thread_at p t).guest; call = None })
-          follow (is_effected p t call inside follow (λ before. subst (λ s. IsBefore s call.asks) at before)).calls
+          follow (is_effected p t call inside follow (early_at p t call inside follow at)).calls
       by_stage t call inside other at = follow
 
       by_call : (t : Tid) (call : Option Call) → (thread_at p t).call ≡ call → Follow (returned_by setup p t call)
@@ -321,15 +292,12 @@ module _ (setup : Setup) where
         let a = answer (section_at t call call.stage) x in
         let q = recorded c p t call call.stage a.told in
         settled_follows (woken setup c a.woke (slept_if a.slept q))
-        (woken_follows c a.woke (slept_if a.slept q) (slept_follows a.slept q (section_follows c p t call inside follow call.stage refl x)))
+        (woken_follows c a.woke (slept_if a.slept q) (slept_follows a.slept q (section_follows p t call inside follow c call.stage refl x)))
 
     by_follows : (t : Tid) (call : Option Call) → (thread_at p t).call ≡ call → (x : Block)
         → Follow (after_by setup c p t call (answer (asked_by c t call).name x))
     by_follows t None outside x =
-        set_thread p t (record (thread_at p t) { guest = after_yield (stands_at setup p t) (thread_at p t).guest }) follow
-        (subst (λ o. Stood (program_of setup t) (after_yield (stands_at setup p t) (thread_at p t).guest) (entries_in p t) o) (sym outside)
-        (yield_more (program_of setup t) (thread_at p t).guest (entries_in p t) (stands_at setup p t) refl
-        (subst (λ o. Stood (program_of setup t) (thread_at p t).guest (entries_in p t) o) outside (follow t))))
+        set_guest p t _ outside follow (calls-yield (program_of setup t) (entries_in p t) (thread_at p t).guest)
     by_follows t (Some call) inside x = call_follows t call inside x
 
     at_follows : (current : Option Tid) (x : Block) → Follow (after_at setup c p current (answer (asked_at c p current).name x))
@@ -370,11 +338,9 @@ module _ (setup : Setup) where
 
       computes : (t : Tid) (i : Instruction) → (thread_at p t).call ≡ None → stands_at setup p t ≡ i
           → Follow (with_guest p t (after_local i (thread_at p t).guest))
-      computes t i outside at =
-          set_thread p t (record (thread_at p t) { guest = after_local i (thread_at p t).guest }) follow
-          (subst (λ o. Stood (program_of setup t) (after_local i (thread_at p t).guest) (entries_in p t) o) (sym outside)
-          (local_more (program_of setup t) (thread_at p t).guest (entries_in p t) i at
-          (subst (λ o. Stood (program_of setup t) (thread_at p t).guest (entries_in p t) o) outside (follow t))))
+      computes t i outside at = set_guest p t _ outside follow (λ calls.
+          subst (λ line. IsProgramsCalls (program_of setup t) (entries_in p t) (after_local line (thread_at p t).guest)) at
+          (calls-local (program_of setup t) (entries_in p t) (thread_at p t).guest calls))
 
       instructed : (t : Tid) (line : Instruction) → (thread_at p t).call ≡ None → stands_at setup p t ≡ line → FollowChosen (at_instruction setup c p t line)
       instructed t line outside at = by_line line at (subst (λ o. Stood (program_of setup t) (thread_at p t).guest (entries_in p t) o) outside (follow t))
@@ -399,8 +365,7 @@ module _ (setup : Setup) where
       by_call t (Some call) inside = follow
 
       by_ready : (ready : List Tid) → FollowChosen (at_ready p ready)
-      by_ready [] = follow
-      by_ready (t ∷ rest) = follow
+      by_ready ready = grind arith
 
       by_current : (current : Option Tid) → FollowChosen (at_current setup c p current)
       by_current None = by_ready p.ready
@@ -430,10 +395,6 @@ module _ (setup : Setup) where
       by_section : (inside : Bool) → Follow (step_in setup c p log inside).next
       by_section true = acted p follow
       by_section false = by_choice (choice setup c p) (choice_follows c p follow)
-
-  all_new : (homes : List CpuId) (i : ℕ) → slice_index_or (map (λ home. new_thread) homes) i new_thread ≡ new_thread
-  all_new (home ∷ homes) (suc i) = all_new homes i
-  all_new homes i = refl
 
   boot_follows : (c : CpuId) → Follow (at_boot setup c)
   boot_follows c t = subst (λ (x : Thread). Stood (program_of setup t) x.guest [] x.call) (sym (all_new setup.homes t.0)) starts_program
