@@ -2,22 +2,19 @@
 use Rattle.std.proofs.Common.{◌≡◌, ℕ, ◌+◌, ◌<◌, ◌==◌, Bool, List, [], ◌∷◌, ◌++◌, length, map, reverse, Option, Some, None, option_map, option_to_list}
 use Rattle.std.proofs.{Common.{append_assoc, if◌then◌else◌, refl, ap, sym, ◌∙◌, subst, arith}, lemmas.List.{Elements.filter-append, length-reverse}}
 use Rattle.std.proofs.lemmas.List.{reverse-append}
-use Rattle.event_log.specs.{declared.{entries.Entry.Entry, ids.{BufId.BufId, CpuId.CpuId, LockId.{LockId, TheVariants.{Pending, Buffer as AtBuffer}}, Tid.Tid}}}
-use Rattle.event_log.specs.{Actions.{Action, Take, Try, Give, renamed}, History.same_cpu, Sections.sections_in}
-use Rattle.layer_traits.specs.declared.{locked.{QEdit.TheVariants.{Acquire, Inside, Release}, Side.{Side, TheVariants.{Receivers, Senders}}}}
-use Rattle.layer_traits.specs.declared.{conditions.{CvEdit.TheVariants.{Edit, SignalFront}, CvLeave.TheVariants.{Leave, Wait}}, buffer_edits.BufferEdit.BufferEdit}
-use Rattle.layer_traits.specs.declared.{buffer_edits.BufferEdit.TheVariants.{Enter, TryPut, TryTake, Shut}, queue_edits.QueueEdit.TheVariants.{Push, TakeAll, Above}}
-use Rattle.layer_traits.specs.{Acted.guarded, BufferBlocks.is_next, BufferEffects.{effect_of, effect_on, opening_locks}, BufferProtocol.BufferSection}
-use Rattle.layer_traits.specs.{Conditions.CvCall, Protocol.section, QueueBlocks.{StartsWell, above_of, inner}, QueueRules.AreProper}
-use Rattle.layer_traits.{specs.Queues.{buffer_at, buffer_sections, event_of}, proofs.{ActedLemmas.lock_is, PlanRenaming.map-append}}
+use Rattle.event_log.specs.declared.{entries.Entry.Entry, ids.{BufId.BufId, CpuId.CpuId, LockId.{LockId, TheVariants.{Pending, Buffer as AtBuffer}}, Tid.Tid}}
+use Rattle.event_log.specs.{Actions.{Action, Take, Try, Give, renamed, cpu_of_action}, History.{same_cpu, own_events}, Sections.sections_in}
+use Rattle.{event_log.proofs.Foreign.own_append, layer_traits.specs.declared.locked.{QEdit.TheVariants.Inside, Side.{Side, TheVariants.{Receivers, Senders}}}}
+use Rattle.layer_traits.specs.declared.{conditions.CvEdit.TheVariants.Edit, buffer_edits.BufferEdit.{BufferEdit, TheVariants.{TryPut, TryTake}}}
+use Rattle.layer_traits.specs.{declared.queue_edits.QueueEdit.TheVariants.{Push, TakeAll, Above}, Acted.guarded, BufferBlocks.is_next, BufferEffects.effect_of}
+use Rattle.layer_traits.specs.{BufferEffects.{effect_on, opening_locks, drawn}, BufferProtocol.{BufferSection, BufferLock, buffer_rules, buffer_at as lock_at}}
+use Rattle.layer_traits.specs.{Conditions.CvCall, Protocol.section, QueueBlocks.{StartsWell, above_of, inner}, QueueRules.AreProper, Queues.buffer_at}
+use Rattle.layer_traits.{specs.{Queues.{buffer_sections, event_of}, QLocking.lock_after}, proofs.{ActedLemmas.lock_is, PlanRenaming.map-append}}
+use Rattle.cpu.specs.{Cpus.of_cpu, Table.{Setups.{Setup, opening as table_opening}, Steps.block_at}, Tower.{Composed.named, Views.{TowerBlock, TowerName}}}
+use Rattle.cpu.{specs.{Tower.Views.{name_of, view}, Wakeups.Lost.IsWorked}, proofs.{PartsOfTable.block_read, RealTime.come, Wakeups.CpusByTable.worked_fair}}
+use Rattle.cpu_workers.{specs.{Fronts.IsFront, Orders.{IsTraceOf, effects_of}}, proofs.{OneOrder.{adds, fronts_keep_order}, TableTraces.{FrontOf, front_of}}}
+use Rattle.{cpu_workers.proofs.{TableTraces.{grown, total}, ThreadsFollow.threads_follow}, fifo_buffer.specs.Laws.Tallies.effect_position}
 use Rattle.layer_traits.specs.declared.queue_edits.QueueBlock.TheVariants as block
-use Rattle.cpu.specs.{Cpus.of_cpu, Table.{Blocks.{Block, Name}, Setups.{Setup, opening as table_opening}, Steps.block_at}, Tower.Composed.named}
-use Rattle.cpu.{specs.{Tower.Views.{TowerBlock, TowerName, name_of, view}, Wakeups.Lost.IsWorked}, proofs.PartsOfTable.block_read}
-use Rattle.cpu.proofs.{RealTime.come, Wakeups.CpusByTable.worked_fair}
-use Rattle.cpu_workers.specs.{Fronts.IsFront, Orders.{IsTraceOf, effects_of}}
-use Rattle.cpu_workers.proofs.{OneOrder.{adds, fronts_keep_order}, TableTraces.{FrontOf, front_of, grown, total}, ThreadsFollow.threads_follow}
-use Rattle.{event_log.{specs.{Actions.cpu_of_action, History.own_events}, proofs.Foreign.own_append}, fifo_buffer.specs.Laws.Tallies.effect_position}
-use Rattle.layer_traits.specs.{BufferEffects.drawn, BufferProtocol.{BufferLock, buffer_rules, buffer_at as lock_at}, QLocking.lock_after}
 
 -- An effect comes just where the table's block lets it.
 

@@ -1,20 +1,17 @@
 -- The step table's trace of a CPU only grows, and just where a section is a close or a try that is let go: by one entry.
-use Rattle.std.proofs.Common.{◌≡◌, ◌⊎◌, inl, inr, ℕ, ◌+◌, Bool, true, false, List, [], ◌∷◌, ◌++◌, length, Option, Some, None, option_map, if◌then◌else◌, refl, sym, ap, ◌∙◌}
-use Rattle.std.proofs.{Common.{subst, arith, append_assoc}, lemmas.List.{append-nil, length-append}}
-use Rattle.event_log.specs.{declared.{entries.Entry.Entry, ids.{CpuId.CpuId, LockId.LockId, Tid.Tid}}, History.same_cpu, Messages.Message}
-use Rattle.event_log.specs.{Actions.{Action, Take, Try, Give, Phase, Rests, Waits as WaitsAt, Holds, action_in, cpu_of_action, phase}, Runs.Group}
-use Rattle.event_log.{specs.{Runs.{Sends, Receives, Closes}, Sections.sections_in}, proofs.{Same.same_cpu_self, Foreign.lawful_before}}
-use Rattle.layer_traits.specs.declared.{locked.Side.{Side, TheVariants.{Receivers, Senders}}, call_states.Stage.Stage}
-use Rattle.layer_traits.specs.declared.call_states.Stage.TheVariants.{Idle, Acquires, Enters, Tries, Waits, AcquiresAgain, Signals, SignalsOwn, Releases}
-use Rattle.layer_traits.specs.{Plans.{at_give, is_in_section}, Along.{starts, others, steps}}
-use Rattle.cpu.specs.Table.{Blocks.{Block, OfBuffer, OfPending, Name, TryPut, TryTake, Shut, Reported, NotYet, side_of}, Steps.{AlongTable, after_reply}}
-use Rattle.cpu.specs.Table.{Edits.{answer, may_try, report_of_put, report_of_take}, Setups.{Setup, Call, Private, thread_at, stands_at, home_threads, have_ended}}
-use Rattle.cpu.specs.Table.{Choice.{asked, asked_at, asked_by, asked_in, at_call, at_current, at_hand, at_instruction, at_ready, Choice, Halts, Alone, Goes}}
-use Rattle.cpu.specs.Table.Choice.{after_at, after_by, after_call, after_in, begins, choice, first_section, new_call, recorded, recorded_entry, recorded_try}
-use Rattle.cpu.specs.Table.{Choice.{returned_at, returned_by, returned_in, section_at, settled, slept_if, try_of, woken}, Steps.{block_at, chosen, cpu_step, step_in}}
-use Rattle.cpu.{specs.Wakeups.Order.block_of, proofs.Wakeups.{CpusByTable.along_ok, ReachedStates.{IsFair, IsFairLog, Ok, lock_in}}}
-use Rattle.guest.specs.declared.instructions.Instruction.{Instruction, TheVariants.{Send, Recv, Close, Yield as YieldLine, Exit}}
-use Rattle.layer_traits.specs.declared.steps.Reason.TheVariants.{AllEnded, TraceFull}
+use Rattle.std.proofs.Common.{◌≡◌, ◌⊎◌, inl, inr, ℕ, ◌+◌, Bool, true, false, List, [], ◌∷◌, ◌++◌, length, Option, Some, None, option_map, if◌then◌else◌, refl}
+use Rattle.std.proofs.{Common.{sym, ap, ◌∙◌, subst, arith, append_assoc}, lemmas.List.{append-nil, length-append}}
+use Rattle.event_log.specs.{declared.{entries.Entry.Entry, ids.{CpuId.CpuId, LockId.LockId, Tid.Tid}}, History.same_cpu, Messages.Message, Actions.Action}
+use Rattle.event_log.specs.{Actions.{Take, Try, Give, Phase, Rests, Waits as WaitsAt, Holds, action_in, cpu_of_action, phase}, Runs.{Group, Sends, Receives}}
+use Rattle.event_log.{specs.{Runs.Closes, Sections.sections_in}, proofs.{Same.same_cpu_self, Foreign.lawful_before}}
+use Rattle.layer_traits.specs.declared.{locked.Side.{Side, TheVariants.{Receivers, Senders}}, call_states.Stage.{Stage, TheVariants.{Idle, Acquires, Enters}}}
+use Rattle.layer_traits.specs.{declared.call_states.Stage.TheVariants.{Tries, Waits, AcquiresAgain, Signals, SignalsOwn, Releases}, Plans.at_give}
+use Rattle.{layer_traits.specs.{Plans.is_in_section, Along.{starts, others, steps}}, cpu.specs.Table.Blocks.{Block, OfBuffer, OfPending, Name, TryPut, TryTake}}
+use Rattle.cpu.specs.Table.{Blocks.{Shut, NotYet, side_of}, Steps.{AlongTable, after_reply, block_at, chosen, cpu_step, step_in}, Edits.{answer, may_try}}
+use Rattle.cpu.specs.Table.{Edits.{report_of_put, report_of_take}, Setups.{Setup, Call, Private, thread_at}, Choice.{asked, asked_at, asked_by, asked_in}}
+use Rattle.cpu.specs.Table.Choice.{Choice, Halts, Alone, Goes, after_at, after_by, after_call, after_in, choice, first_section, recorded, recorded_entry}
+use Rattle.cpu.{specs.{Table.Choice.{recorded_try, section_at, settled, slept_if, try_of, woken}, Wakeups.Order.block_of}, proofs.Wakeups.CpusByTable.along_ok}
+use Rattle.cpu.proofs.Wakeups.ReachedStates.{IsFair, IsFairLog, Ok, lock_in}
 
 -- how many effects a section has on this block: one or none
 abbrev pub grown : Name → Option Block → ℕ

@@ -1,25 +1,24 @@
 -- Along the step table each thread's entries are its program's calls up to where it has come.
-use Rattle.std.proofs.Common.{◌≡◌, ◌⊎◌, inl, inr, ℕ, ◌<◌, ◌≤◌, ◌==◌, Bool, true, false, List, [], ◌∷◌, ◌++◌, ◌+◌, suc, length, map, reverse, Option, Some, None, option_map}
-use Rattle.std.proofs.{Common.{if◌then◌else◌, slice_set, slice_index_or, refl, sym, ap, ◌∙◌, subst, arith}, lemmas.Bool.{cases_lt, eq-eqb, eqb-true, eqb-false}}
+use Rattle.std.proofs.Common.{◌≡◌, ◌⊎◌, inl, inr, ℕ, ◌<◌, ◌≤◌, ◌==◌, Bool, true, false, List, [], ◌∷◌, ◌++◌, ◌+◌, length, reverse, Option, Some, None}
+use Rattle.std.proofs.{Common.{option_map, if◌then◌else◌, slice_index_or, refl, sym, ap, ◌∙◌, subst, arith}, lemmas.Bool.{cases_lt, eq-eqb}}
 use Rattle.std.proofs.lemmas.List.{Elements.filter-append, append-nil, get_or_past, reverse-append, set_past}
-use Rattle.event_log.specs.{declared.{entries.{Entry.Entry, Kind.TheVariants.{Send as SendKind, Recv as RecvKind, Close as CloseKind}}, ids.{BufId.BufId, CpuId.CpuId, Tid.Tid}}}
-use Rattle.event_log.specs.{Actions.{Action, Phase, Rests, Waits as WaitsAt, Holds, phase}, Messages.{Message, no_message}, Runs.{Group, Sends, Receives, Closes}}
-use Rattle.{event_log.specs.{History.same_cpu, Sections.sections_in}, guest.specs.{State.{State, message_from, moved_on, moved_to, next_of, value_in, after_local, after_yield}, Calls.IsProgramsCalls}}
-use Rattle.guest.specs.Calls.{starts as starts_program, sets, adds, subtracts, jumps, goes_on, yields, sends, receives, closes, offers, asks as asks_closed}
-use Rattle.guest.specs.declared.instructions.Instruction.{Instruction, TheVariants.{Set, Add, Sub, Jnz, Send, Recv, Close, Yield, Exit}}
-use Rattle.guest.proofs.CallsLemmas.{calls-local, calls-yield}
-use Rattle.thread_blocks.{specs.Queues.same_tid, proofs.Members.same_tid_true}
-use Rattle.layer_traits.specs.declared.{locked.Side.{Side, TheVariants.{Receivers, Senders}}, call_states.Stage.Stage}
-use Rattle.layer_traits.specs.declared.call_states.Stage.TheVariants.{Idle, Acquires, Enters, Tries, Waits, AcquiresAgain, Signals, SignalsOwn, Releases}
-use Rattle.layer_traits.specs.{declared.steps.Reason.TheVariants.{AllEnded, TraceFull}, Plans.{at_give, is_in_section}, Along.{starts, others, steps}}
-use Rattle.cpu.specs.Table.Blocks.{Block, OfBuffer, OfPending, Name, Reported, Done, WasClosed, NotYet, Answer, side_of, effect_of}
-use Rattle.cpu.specs.Table.Edits.{answer, drawn_position, may_try, report_of_put, report_of_take}
-use Rattle.cpu.specs.Table.Setups.{Setup, Call, Private, Thread, has_none, have_ended, home_threads, home_of, new_thread, open_calls, program_of, stands_at, thread_at, with_thread, at_boot}
-use Rattle.cpu.specs.Table.Choice.{asked, asked_at, asked_by, asked_in, at_call, at_current, at_hand, at_instruction, at_ready, Choice, Halts, Alone, Goes}
-use Rattle.cpu.specs.Table.Choice.{after_at, after_by, after_call, after_in, begins, choice, effected, entry_of, first_section, guest_after, new_call, with_call, with_guest}
-use Rattle.cpu.specs.Table.Choice.{recorded, recorded_entry, recorded_try, returned_at, returned_by, returned_in, section_at, settled, slept_if, try_of, woken}
-use Rattle.cpu.specs.{Cpus.of_thread, Table.Steps.{AlongTable, acting, after_reply, chosen, cpu_step, step_in}, Wakeups.Order.block_of}
-use Rattle.{cpu.proofs.Wakeups.{Agreement.{at_other, at_same}, ReachedStates.all_new}, cpu_workers.specs.Fronts.come_to}
+use Rattle.event_log.specs.{declared.{entries.Entry.Entry, ids.{BufId.BufId, CpuId.CpuId, Tid.Tid}}, Actions.{Action, Phase, Rests, Waits as WaitsAt, Holds}}
+use Rattle.event_log.specs.{Actions.phase, Messages.{Message, no_message}, Runs.{Group, Sends, Receives, Closes}, Sections.sections_in}
+use Rattle.guest.specs.{State.{State, message_from, next_of, after_local}, Calls.{IsProgramsCalls, starts as starts_program, sends, receives, closes, offers}}
+use Rattle.guest.specs.{Calls.asks as asks_closed, declared.instructions.Instruction.{Instruction, TheVariants.{Set, Add, Sub, Jnz, Send, Recv, Close, Yield}}}
+use Rattle.guest.{specs.declared.instructions.Instruction.TheVariants.Exit, proofs.CallsLemmas.{calls-local, calls-yield}}
+use Rattle.{thread_blocks.{specs.Queues.same_tid, proofs.Members.same_tid_true}, layer_traits.specs.declared.locked.Side.{Side, TheVariants.Receivers}}
+use Rattle.layer_traits.specs.declared.{locked.Side.TheVariants.Senders, call_states.Stage.{Stage, TheVariants.{Idle, Acquires, Enters, Tries, Waits}}}
+use Rattle.layer_traits.specs.declared.{call_states.Stage.TheVariants.{AcquiresAgain, Signals, SignalsOwn, Releases}, steps.Reason.TheVariants.AllEnded}
+use Rattle.layer_traits.specs.{declared.steps.Reason.TheVariants.TraceFull, Plans.{at_give, is_in_section}, Along.{starts, others, steps}}
+use Rattle.cpu.specs.Table.{Blocks.{Block, OfBuffer, OfPending, Name, Reported, Done, WasClosed, NotYet, side_of, effect_of}, Edits.{answer, drawn_position}}
+use Rattle.cpu.specs.Table.{Edits.{may_try, report_of_put}, Setups.{Setup, Call, Private, Thread, has_none, have_ended, home_threads, new_thread, open_calls}}
+use Rattle.cpu.specs.Table.{Setups.{program_of, stands_at, thread_at, with_thread, at_boot}, Choice.{asked, asked_at, asked_by, asked_in, at_call, at_current}}
+use Rattle.cpu.specs.Table.Choice.{at_hand, at_instruction, at_ready, Choice, Halts, Alone, Goes, after_at, after_by, after_call, after_in, begins, choice}
+use Rattle.cpu.specs.Table.Choice.{effected, first_section, guest_after, new_call, with_call, with_guest, recorded, recorded_entry, recorded_try, returned_at}
+use Rattle.cpu.specs.Table.{Choice.{returned_by, returned_in, section_at, settled, slept_if, try_of, woken}, Steps.{AlongTable, acting, after_reply, chosen}}
+use Rattle.cpu.{specs.{Table.Steps.{cpu_step, step_in}, Cpus.of_thread, Wakeups.Order.block_of}, proofs.Wakeups.Agreement.{at_other, at_same}}
+use Rattle.{cpu.proofs.Wakeups.ReachedStates.all_new, cpu_workers.specs.Fronts.come_to}
 
 -- What a call has to do with its program.
 

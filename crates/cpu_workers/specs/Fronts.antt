@@ -1,5 +1,5 @@
--- Threads are linearizable (Herlihy and Wing 1990) by the order of their atomic steps: each call takes effect in one of them, at which it has begun
--- and has not returned, and the one order is that of these steps.
+-- Threads are linearizable (Herlihy and Wing 1990) by the order of their atomic steps: each call takes effect in one of these, from its first to
+-- that in which it returns, and the one order is that of these steps.
 use Rattle.std.specs.Prelude.{◌≡◌, ◌<◌, List, ◌++◌, Contains, reverse, Option, Some, None, if◌then◌else◌}
 use Rattle.{event_log.specs.{declared.{entries.Entry.Entry, ids.{CpuId.CpuId, Tid.Tid}}, Actions.Action}, guest.specs.{Calls.IsProgramsCalls, State.State}}
 use Rattle.{cpu.specs.{Cpus.of_thread, Linear.ComesBefore, Wakeups.Lost.IsWorked, Tower.{Composed.named, Views.TowerName}}}
