@@ -32,6 +32,7 @@ module _ (setup : Setup) (opening : LockId → Option TowerBlock) (starts : Star
   abbrev sections_before : List (Action TowerName) → List BufferSection
   sections_before past = buffer_sections (map event_of (sections_in past))
 
+  -- the effect of a section comes where the table's block lets it, since that is the view of the layers' block
   give_grown : (cpu : CpuId) (lock : LockId) (call : CvCall BufferEdit) (past : List (Action TowerName))
       → AreProper (sections_in (Give cpu lock (Above call) ∷ past))
       → length (option_to_list (effect_of (opening_locks setup.caps) (sections_before past) (section cpu (AtBuffer (buffer_at lock)) call)))
@@ -49,8 +50,9 @@ module _ (setup : Setup) (opening : LockId → Option TowerBlock) (starts : Star
     with_effect : (o : Option Entry) (cpu : CpuId) (es : List Entry) → ((e : Entry) → o ≡ Some e → e.cpu ≡ cpu)
         → length (of_cpu c (option_to_list o ++ es)) ≡ (if same_cpu cpu c then length (option_to_list o) + length (of_cpu c es) else length (of_cpu c es))
     with_effect None cpu es its = grind arith
-    with_effect (Some e) cpu es its = let is = its e refl in subst (λ (d : CpuId). length (of_cpu c (e ∷ es)) ≡ (if same_cpu d c then 1 + length (of_cpu c es)
-        else length (of_cpu c es))) is (grind arith)
+    with_effect (Some e) cpu es its =
+        subst (λ (d : CpuId). length (of_cpu c (e ∷ es)) ≡ (if same_cpu d c then 1 + length (of_cpu c es) else length (of_cpu c es))) (its e refl)
+        (grind arith)
 
     -- a CPU has as many effects in a list as the table's trace has entries
     pub counted : (acts : List (Action TowerName)) → AreProper (sections_in acts) → length (of_cpu c (effects_of setup.caps acts)) ≡ total setup c (named acts)
@@ -87,7 +89,8 @@ same_front (x ∷ xs) (y ∷ ys) us vs is long =
     λ i. first i ∷ rest i
 
 -- effects that come later stand in front
-effects_since_front : (caps : List ℕ) (later earlier : List (Action TowerName)) → (more : List Entry) × (effects_of caps (later ++ earlier) ≡ more ++ effects_of caps earlier)
+effects_since_front : (caps : List ℕ) (later earlier : List (Action TowerName))
+    → (more : List Entry) × (effects_of caps (later ++ earlier) ≡ more ++ effects_of caps earlier)
 effects_since_front caps [] earlier = ([], refl)
 effects_since_front caps (a ∷ later) earlier =
     let one = adds caps a (later ++ earlier) in

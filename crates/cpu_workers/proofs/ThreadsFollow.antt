@@ -71,8 +71,8 @@ Stood program s es None = IsProgramsCalls program es s
 Stood program s es (Some call) = Inside program s es call call.effect
 
 -- an effect is one more of the program's calls
-effect_more : (program : List Instruction) (s : State) (es : List Entry) (i : Instruction) (group : Group) (buffer : BufId) (message m : Message) (closed : Bool)
-    (e : Entry) → next_of program s ≡ i → Asks i s group buffer message → (closed ≡ true → IsLined group) → (group ≡ Sends → m ≡ message)
+effect_more : (program : List Instruction) (s : State) (es : List Entry) (i : Instruction) (group : Group) (buffer : BufId) (message m : Message)
+    (closed : Bool) (e : Entry) → next_of program s ≡ i → Asks i s group buffer message → (closed ≡ true → IsLined group) → (group ≡ Sends → m ≡ message)
     → IsProgramsCalls program es s → e.kind ≡ effect_of group closed → e.buffer ≡ buffer → e.value ≡ m
     → IsProgramsCalls program (e ∷ es) (guest_after group closed i m s)
 effect_more program s es (Send b from k) group buffer message m false e at asks lined sent calls kind on value =
@@ -139,11 +139,13 @@ module _ (setup : Setup) where
       → Stood (program_of setup t) x.guest (e ∷ entries_in p t) x.call → Follow (record (with_thread p t x) { trace = p.trace ++ e ∷ [] })
   set_effect p t x e known its follow now u = by_test (same_tid t u) refl
     where
-      entries_are : (v : Tid) (mine : Bool) → same_tid t v ≡ mine → reverse (of_thread v.0 (p.trace ++ e ∷ [])) ≡ (if mine then e ∷ entries_in p v else entries_in p v)
+      entries_are : (v : Tid) (mine : Bool) → same_tid t v ≡ mine
+          → reverse (of_thread v.0 (p.trace ++ e ∷ [])) ≡ (if mine then e ∷ entries_in p v else entries_in p v)
       entries_are v mine is = traced p.trace e v.0 ∙ ap (λ own. if own then e ∷ entries_in p v else entries_in p v) (ap (λ w. same_tid w v) its ∙ is)
 
       by_test : (mine : Bool) → same_tid t u ≡ mine
-          → Stood (program_of setup u) (thread_at (with_thread p t x) u).guest (reverse (of_thread u.0 (p.trace ++ e ∷ []))) (thread_at (with_thread p t x) u).call
+          → Stood (program_of setup u) (thread_at (with_thread p t x) u).guest (reverse (of_thread u.0 (p.trace ++ e ∷ [])))
+          (thread_at (with_thread p t x) u).call
       by_test true is = subst (λ (v : Tid). Stood (program_of setup v) (thread_at (with_thread p t x) v).guest (reverse (of_thread v.0 (p.trace ++ e ∷ [])))
           (thread_at (with_thread p t x) v).call) (same_tid_true t u is)
           (subst (λ l. Stood (program_of setup t) (thread_at (with_thread p t x) t).guest l (thread_at (with_thread p t x) t).call)
@@ -271,8 +273,7 @@ module _ (setup : Setup) where
       by_stage : (t : Tid) (call : Call) → (thread_at p t).call ≡ Some call → (stage : Stage) → call.stage ≡ stage
           → Follow (returned_at setup p t call stage)
       by_stage t call inside Idle at =
-          set_thread p t (record (thread_at p t) { guest = guest_after call.asks call.closed (stands_at setup p t) call.message (thread_at p t).guest; call = None })
-          follow (is_effected p t call inside follow (early_at p t call inside follow at)).calls
+          set_thread p t _ follow (is_effected p t call inside follow (early_at p t call inside follow at)).calls
       by_stage t call inside other at = follow
 
       by_call : (t : Tid) (call : Option Call) → (thread_at p t).call ≡ call → Follow (returned_by setup p t call)
