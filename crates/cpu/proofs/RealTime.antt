@@ -32,7 +32,7 @@ moment_after begins first = first
 moment_after (rests c before) first = moment_after before first
 moment_after (takes c r before grows now) first = now
 
-come : (first later more : List Entry) → later ≡ first ++ more → (a b : Entry) → Contains first a → Contains more b → ComesBefore later a b
+pub come : (first later more : List Entry) → later ≡ first ++ more → (a b : Entry) → Contains first a → Contains more b → ComesBefore later a b
 come first later more is a b has has_more =
     let long = length-append first more in
     subst (λ (l : List Entry). ComesBefore l a b) (sym is) (

@@ -101,12 +101,12 @@ module _ (setup : Setup) (table_view : TableView (QueueBlock LockBlock)) (so : S
   events_are : events ≡ map event_of (sections_in acts)
   events_are = ap (renamed_events lock.edit_in) (seen_renamed sleep.edit_in acts_words) ∙ seen_renamed lock.edit_in acts_slept
 
-  proper : AreProper (sections_in acts)
+  pub proper : AreProper (sections_in acts)
   proper = proper_renamed lock.edit_in acts_slept (proper_renamed sleep.edit_in acts_words
       (lawful_proper (nested_rules (busy_rules (cv_rules buffer_monitor_rules))) (nested_moves (busy_rules (cv_rules buffer_monitor_rules))) opening
       (sections_in acts_words) lawful_words))
 
-  starts : StartsWell above
+  pub starts : StartsWell above
   starts = starts_viewed nested_lock_of (viewed state_of opening) (starts_viewed state_of opening so.starts)
 
   -- Each effect may come after those before it.
@@ -137,7 +137,7 @@ module _ (setup : Setup) (table_view : TableView (QueueBlock LockBlock)) (so : S
       (homes_viewed nested_lock_of (viewed state_of opening) ∙ homes_viewed state_of opening ∙ so.homes)
       (viewed_there nested_lock_of (viewed state_of opening) (Pending c) (viewed_there state_of opening (Pending c) (so.queues c within))) so.locks
 
-  buffer_opens : (b : BufId) → option_map view (above (AtBuffer b)) ≡ table_opening setup (AtBuffer b)
+  pub buffer_opens : (b : BufId) → option_map view (above (AtBuffer b)) ≡ table_opening setup (AtBuffer b)
   buffer_opens b = opens_as setup.homes setup.caps (record { 0 = 0 }) above (opens (record { 0 = 0 }) so.some) (AtBuffer b) tt
 
   queue_opens : (c : CpuId) → c.0 < setup.cpus → option_map view (above (Pending c)) ≡ table_opening setup (Pending c)

@@ -5,6 +5,7 @@ pub mod Filling
 pub mod TableKeys
 pub mod Lasting
 pub mod OneOrder
+pub mod Fronts
 pub mod ClosedLog
 pub mod Reporting
 pub mod Scheduled
@@ -20,5 +21,7 @@ pub mod Making
 pub mod NativeKeys
 pub mod NativeLists
 pub mod TableOrder
+pub mod TableTraces
+pub mod ThreadsFollow
 pub mod NativeRuns
 pub mod TowerOpening

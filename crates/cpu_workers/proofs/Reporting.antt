@@ -12,7 +12,10 @@ use Rattle.layer_traits.{specs.{declared.queue_edits.QueueBlock.QueueBlock, Plan
 use Rattle.{table_machine.specs.SeatViews.{TableView, Closes}, cpu.specs.{Claims.{buffer_at, listed}, Cpus.of_thread, Table.{Blocks.Name, Setups.Setup}}}
 use Rattle.cpu.specs.{Table.{Setups.{Private, at_boot, thread_at}, Steps.{cpu_step, halted_at}}, Tower.{Composed.named, Views.{TowerName, name_of}}}
 use Rattle.cpu.{specs.{Wakeups.Lost.IsWorked, Sound.setup_for}, proofs.{TableQuiet.ended_at, Wakeups.CpusByTable.cpus_lose_no_wake_up}}
-use Rattle.boot.specs.Plan.{BootPlan}
+use Rattle.{event_log.specs.Sections.sections_in, layer_traits.specs.{OneLock.opened, QueueRules.AreProper}, cpu.specs.{Cpus.of_cpu, Tower.Views.TowerBlock}}
+use Rattle.cpu_workers.{proofs.{ClosedLog.{buffer_opens, proper, starts}, Fronts.{counted, is_front, proper_before}, OneOrder.trace_in, TableTraces.total}}
+use Rattle.cpu_workers.specs.{Closing.seen_above, Orders.IsTraceOf}
+use Rattle.{std.specs.Prelude.Option, boot.specs.Plan.BootPlan}
 use Rattle.layer_traits.specs.declared.steps.Reason.TheVariants as reason
 
 -- What a worker of a plan left is what its CPU did along what it has seen.
@@ -208,10 +211,28 @@ module _ (setup : Setup) (May : CpuId → Go → ℕ → Type 0) (turns : ℕ) (
     awake = λ b k is. cpus_lose_no_wake_up setup (named acts) worked b k (sym (left.buffers b) ∙ is);
   }
 
-  -- and it is that of the closed table's words log
+  -- The order of the atomic steps.
+
+  abbrev above : LockId → Option TowerBlock
+  above = seen_above (opened table_view.start)
+
+  ends : (c : CpuId) (within : c.0 < setup.cpus) → IsTraceOf c setup.caps acts (worked.ran c within).last.trace
+  unfolding worked gone gone_so
+  ends c within =
+      let one = come.each c within in
+      let goes = goes_on setup table_view so keys blocks closes c one.0 one.2 one.3 in
+      sym one.5.trace_is ∙ trace_in setup.caps c goes.more (acts_in one.0.seen) acts one.1.trace goes.is goes.others one.5.own
+
+  many : (c : CpuId) (later earlier : List (Action TowerName)) → acts ≡ later ++ earlier
+      → length (of_cpu c (effects_of setup.caps earlier)) ≡ total setup c (named earlier)
+  many c later earlier is =
+      counted setup above (starts setup table_view so closes.log closes.legal) so.locks (buffer_opens setup table_view so closes.log closes.legal) c earlier
+      (proper_before later earlier (subst (λ l. AreProper (sections_in l)) is (proper setup table_view so closes.log closes.legal)))
+
+  -- and it is that of the closed table's words log, by whose actions the calls are linearizable
   pub of_words : IsReportOfWords setup May turns closes.log r
   unfolding lawful report
-  of_words = record { report = lawful; log_is = refl; order_is = in_order.is }
+  of_words = record { report = lawful; log_is = refl; order_is = in_order.is; linear = is_front setup acts worked ends many }
 
 pub report_is_lawful : (May : CpuId → Go → ℕ → Type 0) → ReportsAreLawful May
 report_is_lawful May setup turns table_view keys blocks r it = lawful setup May turns table_view keys blocks r it

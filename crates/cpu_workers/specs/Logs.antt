@@ -2,14 +2,16 @@
 use Rattle.std.specs.Prelude.{◌≡◌, ℕ, reverse, Option}
 use Rattle.{boot.specs.Plan.BootPlan, event_log.specs.{declared.ids.{CpuId.CpuId, LockId.LockId}, History.IsLawful}, layer_traits.specs.WordsProtocol.MayCome}
 use Rattle.{cpu.specs.{Sound.setup_for, Table.Setups.Setup, Tower.Composed.named}, cpu_workers.specs.{declared.workers.gates.Go.Go, Closing.WordsOfTower}}
-use Rattle.cpu_workers.specs.{Closing.{acts_in, tower_rules}, Lawful.{IsLawfulReport, Shown}, Orders.effects_of, Seating.{Block, OpensPlan}}
+use Rattle.cpu_workers.specs.{Closing.{acts_in, tower_rules}, Fronts.AreLinearizable, Lawful.{IsLawfulReport, Shown}, Orders.effects_of}
+use Rattle.cpu_workers.specs.Seating.{Block, OpensPlan}
 
 -- a lawful report of this words log: the list along which each CPU went by the step table is that of the log's actions, and the order of the
--- traces is that of the effects of the log's frees
+-- traces is that of the effects of the log's frees; by the order of these actions the calls are linearizable
 pub record IsReportOfWords (setup : Setup) (May : CpuId → Go → ℕ → Type 0) (turns : ℕ) (words : WordsOfTower) (r : Shown) : Type 0 where
   pub report : IsLawfulReport setup May turns r
   pub log_is : report.log ≡ named (acts_in words)
   pub order_is : report.report.order ≡ reverse (effects_of setup.caps (acts_in words))
+  pub linear : AreLinearizable setup (acts_in words)
 
 -- the report of a plan's workers is that of one words log, which is legal over the locks as the plan opens them
 pub record HasWords (plan : BootPlan) (May : CpuId → Go → ℕ → Type 0) (turns : ℕ) (r : Shown) : Type 0 where

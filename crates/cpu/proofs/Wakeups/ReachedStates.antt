@@ -156,7 +156,7 @@ all_beside setup c e p log (a ∷ acts) off does fair ok =
 
 -- A CPU at boot.
 
-all_new : (homes : List CpuId) (i : ℕ) → get_or (map (λ home. new_thread) homes) i new_thread ≡ new_thread
+pub all_new : (homes : List CpuId) (i : ℕ) → get_or (map (λ home. new_thread) homes) i new_thread ≡ new_thread
 all_new (home ∷ homes) (suc i) = all_new homes i
 all_new homes i = refl
 
