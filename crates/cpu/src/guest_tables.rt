@@ -1,6 +1,6 @@
 //! The guests of a CPU, by thread.
 
-ghost use Rattle.std.specs.{Prelude.{◌≡◌, ◌+◌, ◌^◌, ◌<◌, ◌≤◌, not, length, if◌then◌else◌, Some, None, IfSome}, List.{count_by, list_all}};
+ghost use Rattle.std.specs.{Prelude.{◌≡◌, ◌+◌, ◌^◌, ◌<◌, ◌≤◌, not, length, if◌then◌else◌, Some, None, IfSome, is_some}, List.{count_by, list_all}};
 ghost use Rattle.{layer_traits.specs.{Places.one_if, BufferLaw.answer_with, declared.calls.Call.Call}, cpu.specs.Guests.{computed, is_begun, is_ended, polled}};
 ghost use Rattle.cpu.specs.Cpus.{begun_count, fresh_at, guest_at, is_begun_guest, is_over, passed_by, stands_at, with_guest};
 
@@ -64,6 +64,14 @@ impl Guests {
         ensures { result.now ≡ guest_at self.now.items thread.0 }
     {
         &self.table[usize::from(thread.0)]
+    }
+
+    /// Whether this thread is at home with the CPU: a guest stands at its number.
+    #[inline(always)]
+    pub(crate) fn has(&self, thread: Tid) -> bool
+        ensures { result ≡ is_some (guest_at self.now.items thread.0) }
+    {
+        matches!(self.table.get(usize::from(thread.0)), Some(Some(_)))
     }
 
     /// How many of the guests are in a call that has had no effect.

@@ -7,7 +7,7 @@ mod plans;
 mod quiet;
 
 ghost use Rattle.layer_traits.specs.{Capacities.caps_in, OwnParts.threads_in, QueueBlocks.homes_in};
-ghost use Rattle.std.specs.Prelude.{◌≡◌, ◌+◌, ◌<◌, ◌≤◌, ◌↔◌, true, false, All, IsOk, OnErr, OnOk, Some, None, [], length, map, slice_index_or, replicate, take};
+ghost use Rattle.std.specs.Prelude.{◌≡◌, ◌+◌, ◌<◌, ◌≤◌, ◌↔◌, true, false, All, IfSome, IsOk, OnErr, OnOk, Some, None, [], length, map, slice_index_or, replicate, take};
 ghost use Rattle.layer_traits.specs.Spins.{BeginWith};
 
 use crate::cpus::Cpu;
@@ -360,6 +360,19 @@ where
         requires { thread.0 < length self.now.homes }
         ensures { IsPlaceOf self.now thread result }
     {
+        match self.place_at_home(thread) {
+            Some(place) => place,
+            None => self.place_anywhere(thread),
+        }
+    }
+
+    /// Where `thread` stands, asked of each CPU.
+    ///
+    /// Requires: the system has a thread of this number.
+    fn place_anywhere(&self, thread: Tid) -> Place
+        requires { thread.0 < length self.now.homes }
+        ensures { IsPlaceOf self.now thread result }
+    {
         let machine = &self.machine;
         for at in &self.cpus {
             if let Some(place) = at.part.place_at(machine, thread) {
@@ -367,6 +380,21 @@ where
             }
         }
         Place::Ended
+    }
+
+    /// Where `thread` stands, as far as its home CPU can tell. Most threads stand there.
+    ///
+    /// Requires: the system has a thread of this number.
+    fn place_at_home(&self, thread: Tid) -> Option<Place>
+        requires { thread.0 < length self.now.homes }
+        ensures { IfSome result (IsPlaceOf self.now thread) }
+    {
+        for at in &self.cpus {
+            if at.guests.has(thread) {
+                return at.part.place_at(&self.machine, thread);
+            }
+        }
+        None
     }
 
     /// The entries of the calls that took effect on `cpu`, oldest first.

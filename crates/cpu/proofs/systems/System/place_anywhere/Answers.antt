@@ -1,7 +1,7 @@
 use Rattle.layer_traits.specs.QueueBlocks.{homes_in}
 use Rattle.std.proofs.Common.{arith, ◌∙◌}
 use Rattle.cpu.proofs.{ListReads.{shows_at, there_is}, PartsTold.{acts_first, item_at, wait_channel_here, up_to, up_to_end}, SystemOverLayer.shown_by}
-use Rattle.cpu.proofs.systems.System.place.Goals as goal
+use Rattle.cpu.proofs.systems.System.place_anywhere.Goals as goal
 
 pub returns-in-Some : goal.returns-in-Some
 returns-in-Some g c =

@@ -1,6 +1,6 @@
 use Rattle.std.{proofs.Common.{◌≡◌, ◌<◌, ℕ, Some}, specs.Prelude.slice_get}
 use Rattle.cpu.specs.declared.cpus.Cpu.{Cpu}
-use Rattle.cpu.proofs.systems.System.place.Given as goal
+use Rattle.cpu.proofs.systems.System.place_anywhere.Given as goal
 
 abbrev pub invariant-loop-at : goal.invariant-loop-at
 invariant-loop-at g l =
