@@ -11,7 +11,7 @@ use crate::cpus::Cpu;
 use crate::guest_tables::Guests;
 use crate::guests::Guest;
 use crate::systems::System;
-use event_log::{CpuId, Entry, NoMemory};
+use event_log::{CpuId, NoMemory};
 use layer_traits::{CallLayer, IpcLaw, Owned};
 use std::alloc::Global;
 
@@ -39,51 +39,23 @@ impl<I: CallLayer<IpcLaw>> Cpu<I> {
         ensures fits { IfOk result (λ c. (m : I.Machine) → I.IsFresh m homes.now number → length (caps_in (I.opening m)) ≡ buffers → I.Fits c.part m) }
     {
         let trace = Vec::with_capacity(alloc, limit)?;
-        Ok(Cpu::with_trace(number, homes, buffers, guests, trace, limit))
-    }
-
-    /// A CPU before its first step, as [`at_boot`](Cpu::at_boot) gives it, around its empty trace. No
-    /// `Result` stands around its many bytes, so that they are written where the CPU is to stay.
-    ///
-    /// Requires: there are at most `THREADS` homes. The trace is empty, and has room for `limit` entries.
-    #[inline(always)]
-    fn with_trace(
-        number: CpuId,
-        homes: &[CpuId],
-        buffers: u8,
-        guests: Vec<Option<Guest>>,
-        trace: Vec<Entry>,
-        limit: usize,
-    ) -> Cpu<I>
-        requires homes { length homes.now ≤ THREADS }
-        requires empty { trace.items ≡ [] }
-        requires reserved { limit ≤ vec_capacity trace }
-        ensures booted { IsBooted number guests.items limit result.number result.guests.items result.trace.items result.limit (vec_capacity result.trace) }
-        ensures cpu { I.cpu_of result.part ≡ number }
-        ensures threads { I.threads result.part ≡ at_boot homes.now number }
-        ensures call_states { I.call_states result.part ≡ replicate THREADS no_call }
-        ensures under_way { I.under_way result.part ≡ None }
-        ensures own { I.IsStepwise → I.own result.part ≡ buffering_at_start homes.now number }
-        ensures fits { (m : I.Machine) → I.IsFresh m homes.now number → length (I.caps m) ≡ buffers → I.Fits result.part m }
-    {
-        Cpu {
+        Ok(Cpu {
             part: I::part(number, homes, buffers),
             number,
             guests: Guests::new(guests),
             trace,
             limit,
-        }
+        })
     }
 }
 
 /// Puts one CPU more behind the others, for which there is room.
-#[inline(always)]
 fn put_cpu<I: CallLayer<IpcLaw> + Drop>(cpus: &mut Vec<Cpu<I>>, cpu: Cpu<I>)
     requires { length cpus.old.items + 1 ≤ vec_capacity cpus.old }
     ensures items { cpus.new.items ≡ cpus.old.items ++ cpu ∷ [] }
     ensures capacity { vec_capacity cpus.old ≤ vec_capacity cpus.new }
 {
-    cpus.push_reserved(cpu);
+    cpus.push(cpu).unwrap();
 }
 
 /// The CPUs of a machine before their first step, one for each table of guests.
@@ -107,11 +79,11 @@ fn cpus_at_boot<I: CallLayer<IpcLaw> + Drop>(
     let mut cpus = Vec::with_capacity(alloc, count)?;
     for number in 0..count {
         let guests = tables.remove(0);
-        let empty = Vec::with_capacity(alloc, limit)?;
-        put_cpu(
-            &mut cpus,
-            Cpu::with_trace(CpuId(number as u8), homes, buffers, guests, empty, limit),
-        );
+        // A match and no `?`, which would move the CPU's many bytes three times more.
+        match Cpu::at_boot(alloc, CpuId(number as u8), homes, buffers, guests, limit) {
+            Ok(cpu) => put_cpu(&mut cpus, cpu),
+            Err(error) => return Err(error),
+        }
     }
     Ok(cpus)
 }

@@ -10,8 +10,8 @@ loop-number-preserved g c =
     let inv = c.loop-number.invariant in
     let tables = c.args.tables.items in
     let n = c.loop-number.number in
-    let x = c.with_trace.result in
-    let e = c.with_trace.ensures in
+    let x = c.in-Ok.cpu in
+    let e = c.in-Ok.ensures in
     let within : n < length tables =
     let test = c.loop-number-test.true in let count = c.len-count.ensures in let ok = c.args.tables.ok.0 in omega (arith, test, count, ok) in
     let grown = c.put_cpu.ensures.items in
