@@ -262,7 +262,7 @@ def host(held):
             status, out, err = machine.booted(held.trial, [word], b"", processors, by_turns=by_turns)
             return None if (status, out) == (wanted, b"") and err.startswith(says) else f"{status} {out} {err}"
         yield f"{word} on {processors}", lambda one=one: one(False)
-        if processors > 1:
+        if processors == 8:
             yield f"{word} on {processors} by turns", lambda one=one: one(True)
 
 
@@ -318,7 +318,7 @@ def lesson(held):
 
 # By kind, its cases, and of how many of them the gate's part is.
 KINDS = {"plans": (plans, 22), "random": (random_runs, 24), "damaged": (damaged_runs, 20), "lines": (lines, 60), "count": (count, 20), "threads": (threads, 24),
-         "rows": (rows, 12), "small": (small, 9), "host": (host, 19), "disk": (disk, 0), "other": (other, 12), "lesson": (lesson, 9)}
+         "rows": (rows, 12), "small": (small, 9), "host": (host, 15), "disk": (disk, 0), "other": (other, 12), "lesson": (lesson, 9)}
 
 
 def part_of(cases, count):
