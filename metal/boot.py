@@ -1,11 +1,11 @@
 #!/usr/bin/env python3
 """Boots the proved program in QEMU, and gives its standard output, standard error and status, as if it were the program:
 
-    metal/boot.py [--processors N] [--memory MIB] [--image IMAGE] [--] WORD.. < PLAN
+    metal/boot.py [--processors N] [--parallel] [--memory MIB] [--image IMAGE] [--] WORD.. < PLAN
 
-Without N the machine has as many processors as the plan or the command has CPUs. It has 512 MiB if nothing else is said. metal/build.py makes the image,
-metal/out/tower.elf. QEMU is wanted (Debian: qemu-system-x86). Where the program did not end the run, the last line on standard error says why, and the
-status is one of these:
+Without N the machine has as many processors as the plan or the command has CPUs. Each is a thread of QEMU's own; where this machine has fewer cores, and
+nobody says --parallel, one thread runs them by turns. The machine has 512 MiB if nothing else is said. metal/build.py makes the image, metal/out/tower.elf.
+QEMU is wanted (Debian: qemu-system-x86). Where the program did not end the run, the last line on standard error says why, and the status is one of these:
 
     117  it did not end in the seconds that METAL_SECONDS names, or 300
     118  QEMU ended by itself, or did not begin
@@ -32,6 +32,7 @@ IMAGE = Path(__file__).resolve().parent / "out/tower.elf"
 def main():
     read = argparse.ArgumentParser(description=__doc__, formatter_class=argparse.RawDescriptionHelpFormatter)
     read.add_argument("--processors", type=int, metavar="N", default=int(os.environ.get("METAL_PROCESSORS", 0)))
+    read.add_argument("--parallel", dest="by_turns", action="store_false", default=None)
     read.add_argument("--memory", type=int, metavar="MIB", default=512)
     read.add_argument("--image", default=IMAGE, type=Path)
     read.add_argument("words", nargs=argparse.REMAINDER, metavar="WORD")
@@ -42,7 +43,7 @@ def main():
         sys.exit(f"metal: there is no {asked.image}: metal/build.py makes it")
     words = asked.words[1:] if asked.words[:1] == ["--"] else asked.words
     plan = b"" if sys.stdin.isatty() else sys.stdin.buffer.read()
-    status, out, err = machine.booted(asked.image, words, plan, asked.processors, asked.memory)
+    status, out, err = machine.booted(asked.image, words, plan, asked.processors, asked.memory, by_turns=asked.by_turns)
     sys.stdout.buffer.write(out)
     sys.stdout.flush()
     sys.stderr.buffer.write(err)

@@ -50,8 +50,8 @@ class Held:
     def __init__(self, image, trial):
         self.image, self.trial = image, trial
 
-    def booted(self, words, plan=b"", processors=None, memory=256, cpu="max"):
-        return machine.booted(self.image, words, plan, processors, memory, cpu)
+    def booted(self, words, plan=b"", processors=None, memory=256, cpu="max", by_turns=False):
+        return machine.booted(self.image, words, plan, processors, memory, cpu, by_turns)
 
     def native(self, words, text):
         ran = subprocess.run([NATIVE, *words], input=text, capture_output=True, timeout=120, check=False)
@@ -135,21 +135,23 @@ def lines(held):
 
 
 def count(held):
-    """Any number of CPUs counts right, on as many processors or on fewer."""
-    def one(processors, cpus, lock, times):
+    """Any number of CPUs counts right, on as many processors or on fewer, which run at once or by turns."""
+    def one(processors, by_turns, cpus, lock, times):
         total = cpus * times
         wanted = 0, f"plain {total}\ntable {total}\n".encode(), b""
-        return unlike(held.booted(["count", "--cpus", str(cpus), "--times", str(times), "--lock", lock], b"", processors), wanted)
-    for processors in (1, 2, 3, 4, 16):
+        words = ["count", "--cpus", str(cpus), "--times", str(times), "--lock", lock]
+        return unlike(held.booted(words, processors=processors, by_turns=by_turns), wanted)
+    for processors, by_turns in ((1, False), (2, False), (3, False), (4, False), (16, False), (2, True), (16, True)):
         for cpus in (1, 2, 3, 5, 8, 16):
             for lock in LOCKS:
                 for times in (1, 100, 1000):
-                    yield f"count {processors} {cpus} {lock} {times}", lambda it=(processors, cpus, lock, times): one(*it)
+                    how = " by turns" if by_turns else ""
+                    yield f"count {processors}{how} {cpus} {lock} {times}", lambda it=(processors, by_turns, cpus, lock, times): one(*it)
 
 
-def judged(held, plan, turns, processors):
+def judged(held, plan, turns, processors, by_turns=False):
     """A run in threads: the status is 0, each CPU has a stop, and the judge says yes to the text."""
-    status, out, err = held.booted(["threads", "--turns", str(turns)], plan, processors)
+    status, out, err = held.booted(["threads", "--turns", str(turns)], plan, processors, by_turns=by_turns)
     stops = [line.split() for line in err.decode().splitlines()]
     named = [stop[:2] for stop in stops] == [["cpu", str(cpu)] for cpu in range(cpus_of(plan))]
     if status != 0 or not named or any(stop[2] not in ("AllEnded", "TurnsUsed", "TraceFull") for stop in stops):
@@ -158,12 +160,13 @@ def judged(held, plan, turns, processors):
 
 
 def threads(held):
-    """Stored and random plans in threads, on as many processors as the plan has CPUs, on two and on one."""
+    """Stored and random plans in threads, on as many processors as the plan has CPUs, at once and by turns, on two and on one."""
     for path in stored():
         text = path.read_bytes()
         for lock in LOCKS:
             for processors in sorted({1, min(cpus_of(text), 2), cpus_of(text)}):
                 yield f"{path.name} {lock} on {processors}", lambda text=text, lock=lock, n=processors: judged(held, with_lock(text, lock), 400, n)
+            yield f"{path.name} {lock} by turns", lambda text=text, lock=lock: judged(held, with_lock(text, lock), 400, None, True)
     for seed in range(1, 201):
         def one(seed=seed):
             pick = random.Random(seed)
@@ -255,16 +258,18 @@ TRIALS = [
 def host(held):
     """The host alone, with trial.c in the place of the program."""
     for word, processors, wanted, says in TRIALS:
-        def one(word=word, processors=processors, wanted=wanted, says=says):
-            status, out, err = machine.booted(held.trial, [word], b"", processors)
+        def one(by_turns, word=word, processors=processors, wanted=wanted, says=says):
+            status, out, err = machine.booted(held.trial, [word], b"", processors, by_turns=by_turns)
             return None if (status, out) == (wanted, b"") and err.startswith(says) else f"{status} {out} {err}"
-        yield f"{word} on {processors}", one
+        yield f"{word} on {processors}", lambda one=one: one(False)
+        if processors == 8:
+            yield f"{word} on {processors} by turns", lambda one=one: one(True)
 
 
 def by_grub(held, room, words, plan, firmware):
     """Boots a disk by GRUB and returns a status and what came on both serial lines."""
     build.disk(held.image, room / "tower.iso", plan, *words)
-    return machine.ran(["-m", "256", "-smp", "4", *firmware, "-cdrom", "tower.iso"], room)
+    return machine.ran([*machine.processors_of(4, False, "max"), "-m", "256", *firmware, "-cdrom", "tower.iso"], room)
 
 
 def disk(held):
@@ -313,7 +318,7 @@ def lesson(held):
 
 # By kind, its cases, and of how many of them the gate's part is.
 KINDS = {"plans": (plans, 22), "random": (random_runs, 24), "damaged": (damaged_runs, 20), "lines": (lines, 60), "count": (count, 20), "threads": (threads, 24),
-         "rows": (rows, 12), "small": (small, 9), "host": (host, 14), "disk": (disk, 0), "other": (other, 12), "lesson": (lesson, 9)}
+         "rows": (rows, 12), "small": (small, 9), "host": (host, 15), "disk": (disk, 0), "other": (other, 12), "lesson": (lesson, 9)}
 
 
 def part_of(cases, count):
