@@ -1,7 +1,7 @@
 //! A thread for each task: all are started before any task runs, and all are joined. `run_all` takes
 //! memory, starts threads and waits for them.
 
-ghost use Rattle.std.specs.Prelude.{◌≡◌, ◌≤◌, [], All, IfOk, IfErr, IsOk, IsNone, length, map, vec_capacity};
+ghost use Rattle.std.specs.Prelude.{◌≡◌, ◌+◌, ◌≤◌, [], All, IfOk, IfErr, IsOk, IsNone, length, map, vec_capacity};
 ghost use Rattle.cpu_workers.specs.{Reports.Both, Tasks.task_of};
 
 use crate::own_threads::{
@@ -47,7 +47,9 @@ where
 }
 
 // A group of so many parts, and one more: while that one is there, no thread goes on.
-fn group_of(alloc: Global, count: usize) -> Result<Vec<WaitGroup>, AllocError> {
+fn group_of(alloc: Global, count: usize) -> Result<Vec<WaitGroup>, AllocError>
+    ensures { IfOk result (λ group. length group.items ≡ count + 1) }
+{
     let first = WaitGroup::new(alloc)?;
     let mut group = Vec::with_capacity(alloc, count.saturating_add(1))?;
     for _ in 0..count {

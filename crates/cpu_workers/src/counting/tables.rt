@@ -1,7 +1,7 @@
 //! The table of a count: opened with its number, counted at, and closed. To open it takes memory;
 //! to count waits for the workers.
 
-ghost use Rattle.std.specs.Prelude.{◌≡◌, ◌*◌, ◌<◌, ◌≤◌, ◌^◌, [], ◌∷◌, IsErr, IsSome, IfOk, IfErr, IfSome, OnErr};
+ghost use Rattle.std.specs.Prelude.{◌≡◌, ◌*◌, ◌<◌, ◌≤◌, ◌^◌, ◌⊎◌, [], ◌∷◌, IsErr, IsSome, IfOk, IfErr, IfSome, OnErr};
 ghost use Rattle.{event_log.specs.Refusals.no_memory, table_machine.specs.SeatViews.new_seat_views, cpu_workers.specs.Counts.IsUncounted};
 ghost use Rattle.cpu_workers.specs.declared.refusals.WorkerError.TheVariants.{NoMemory as LacksMemory};
 
@@ -84,6 +84,7 @@ fn count_if_open<K: PlanWords + Sync, R: Threads + Wait + Sync>(
 /// Requires: there are at most `CPUS` CPUs, and all sections together are fewer than 2^64.
 ///
 /// Errors: as `count_table`; then no section was done, and the table's number is 0, if there was a table.
+/// Without one memory was wanting.
 pub fn count_or_leave<R: Threads + Wait + Sync>(
     rt: &R,
     alloc: Global,
@@ -98,6 +99,7 @@ pub fn count_or_leave<R: Threads + Wait + Sync>(
     ensures all { IfOk result (λ counted. counted.cpus ≡ cpus) }
     ensures times { IfOk result (λ counted. counted.times ≡ times) }
     ensures none { IfErr result (λ not. IfSome not.left (λ left. IsUncounted left cpus lock)) }
+    ensures table { IfErr result (λ not. (not.fault ≡ LacksMemory no_memory) ⊎ IsSome not.left) }
 {
     match lock {
         LockKind::Ticket => {
