@@ -17,7 +17,8 @@ use Rattle.cpu.specs.{CpuSteps.stops_at, Guests.{HasComeIn, entries_of, fresh_ef
 use Rattle.cpu.proofs.{CallSteps.{PolledCpu, PollsAt, noted_call, poll_buffer, poll_call_states, poll_within, polls_at}, CpuOverLayer.{IsLayered, PartLaws}}
 use Rattle.cpu.proofs.{CpuOverLayer.{layered, acts_for, left_framed, tabled_cpu, outset, runs_home}, GuestsFollow.had_going, CpuRuns.one_run}
 use Rattle.cpu.proofs.{CpuStates.valid_cpu, GuestLists.{at_same, count_with, guest_within, programs_with}, PassSteps.seen_stays, StepsBesideGuests.called_grows}
-use Rattle.cpu.proofs.{StepsBesideGuests.{follows_grow, look_grows, others_grow, others_same}, ListReads.set_twice, TablePolls.{TabledPoll, poll_tabled, poll_steps as poll_by_table}}
+use Rattle.cpu.proofs.{StepsBesideGuests.{follows_grow, look_grows, others_grow, others_same}, ListReads.set_twice}
+use Rattle.cpu.proofs.TablePolls.{TabledPoll, poll_tabled, poll_steps as poll_by_table}
 use Rattle.cpu.proofs.TableCalls.{fifo_follows, hand_preserved, looked_steps}
 
 -- a call that is answered has had an effect

@@ -6,7 +6,8 @@ use Rattle.layer_traits.specs.{declared.call_layers.{CallLaw.Ghosts as LawGhosts
 use Rattle.layer_traits.{specs.{Places.{Stands, home_of}, Plans.is_in_section, QueueBlocks.homes_in}, proofs.PlaceLemmas.current_at}
 use Rattle.layer_traits.specs.OwnParts.{threads_in}
 use Rattle.cpu.specs.{declared.cpus.Cpu.Cpu, Cpus.{ActsGrow, GuestsWent, SeenGrows, programs_of}, CpuSteps.{IsCpuAt, IsTabledAt, Leaves}}
-use Rattle.cpu.proofs.{PassSteps.current_within, CpuStates.{Outset, TabledCpu, valid_cpu}, StepsBesideGuests.{none_grow, none_moved, none_seen}, TableCalls.hand_known}
+use Rattle.cpu.proofs.{PassSteps.current_within, CpuStates.{Outset, TabledCpu, valid_cpu}, StepsBesideGuests.{none_grow, none_moved, none_seen}}
+use Rattle.cpu.proofs.{TableCalls.hand_known}
 use borrow.Fn.World.{World}
 use denote.RattleType.{RattleType}
 use mir.Syntax.{Dict}

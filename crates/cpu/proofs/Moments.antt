@@ -3,7 +3,8 @@ use Rattle.std.proofs.{lemmas.{List.{append-nil, length-reverse, length-map, rev
 use Rattle.std.{proofs.Common.{length, map, reverse, Option, Some, ap, sym, ◌∙◌, subst, arith}, specs.{Prelude.slice_get, List.AllByRecursion}}
 use Rattle.layer_traits.specs.Capacities.{caps_in}
 use Rattle.event_log.specs.{declared.{entries.Entry.Entry, ids.{BufId.BufId, CpuId.CpuId, Tid.Tid, TheConstants.CPUS}}, Actions.AreLegal, History.IsLawful}
-use Rattle.{event_log.proofs.Streams.taken_put, layer_traits.specs.{declared.call_layers.CallLayer.Ghosts, BufferEffects.MayTakeEffect, OwnParts.threads_in, Places.Stands}}
+use Rattle.{event_log.proofs.Streams.taken_put}
+use Rattle.layer_traits.specs.{declared.call_layers.CallLayer.Ghosts, BufferEffects.MayTakeEffect, OwnParts.threads_in, Places.Stands}
 use Rattle.layer_traits.specs.QueueBlocks.{homes_in}
 use Rattle.{layer_traits.proofs.EffectRunLemmas.effects_are_run, cpu.specs.{declared.cpus.Cpu.Cpu, Claims.{CpuShown, HasOneOrder, IsMoment, Shown}}}
 use Rattle.cpu.{specs.{Cpus.{SeenGrows, guests_rest}, Linear.{CallsGoOn, OrderGrows}}, proofs.{InvariantOverSteps.{Holds, no_others}, ListReads.all_left}}

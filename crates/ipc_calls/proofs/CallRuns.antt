@@ -2,7 +2,8 @@
 use Rattle.std.proofs.{Common.{◌≡◌, ℕ, ◌<◌, ◌≤◌, Bool, true, List, [], Option, Some, None, length, refl, ap, arith}, lemmas.Bool.{le-ltb, lt-ltb}}
 use Rattle.layer_traits.specs.Capacities.{caps_in}
 use Rattle.{event_log.specs.declared.ids.{CpuId.CpuId, Tid.Tid}, layer_traits.specs.declared.{call_layers.CallLayer.Ghosts, calls.{Call.Call, Reply.Reply}}}
-use Rattle.layer_traits.specs.{declared.calls.ReplyKind.{ReplyKind, TheVariants.NoBuffer as Refuses}, BufferLaw.{BufferPlan, Buffering, buffer_of, fifo_plan}, Framed.Framed, IpcLaw.ipc_plan, QueueBlocks.homes_in}
+use Rattle.layer_traits.specs.{declared.calls.ReplyKind.{ReplyKind, TheVariants.NoBuffer as Refuses}, BufferLaw.{BufferPlan, Buffering, buffer_of, fifo_plan}}
+use Rattle.layer_traits.specs.{Framed.Framed, IpcLaw.ipc_plan, QueueBlocks.homes_in}
 use Rattle.layer_traits.{specs.{LayerPolls.{IsQuietAt, LookedAt, PolledAt, PolledOnAt}, PollRuns.{once, again, looks}}, proofs.PollRunLemmas.{Kept, kept}}
 use Rattle.ipc_calls.specs.{declared.ipc.Ipc.Ipc, Parts.KeepsPlan}
 

@@ -4,7 +4,8 @@ use Rattle.{std.proofs.Math.Nat.lt_of_not-le, event_log.specs.declared.ids.{CpuI
 use Rattle.layer_traits.specs.Capacities.{caps_in}
 use Rattle.layer_traits.specs.declared.{calls.{Reply.Reply, ReplyKind.ReplyKind}, call_layers.CallLayer.Ghosts, call_states.{Stage.Stage, CallState.CallState}}
 use Rattle.layer_traits.specs.BufferLaw.{BufferPlan, Buffering, Calling, IsEffectOf, MayGoOn, MayPollCall, UnderWay, begun_at, begun_of, buffer_of}
-use Rattle.layer_traits.specs.{BufferLaw.{call_state_of, going, going_at, still_calling}, OwnParts.threads_in, Framed.Framed, LayerPolls.{IsQuietAt, LookedAt, PolledAt, PolledOnAt}}
+use Rattle.layer_traits.specs.{BufferLaw.{call_state_of, going, going_at, still_calling}, OwnParts.threads_in, Framed.Framed}
+use Rattle.layer_traits.specs.LayerPolls.{IsQuietAt, LookedAt, PolledAt, PolledOnAt}
 use Rattle.layer_traits.specs.PollRuns.{once, again, looks}
 
 -- a call that has begun goes on as it is

@@ -1,6 +1,8 @@
 -- Runs of polls of a layer of calls, said of the layer.
-use Rattle.{std.specs.Prelude.{ℕ, Bool, List, Option}, event_log.specs.declared.ids.{CpuId.CpuId, Tid.Tid}, layer_traits.specs.declared.call_layers.CallLayer.Ghosts}
-use Rattle.layer_traits.specs.{declared.calls.{Call.Call, Reply.Reply, ReplyKind.ReplyKind}, BufferLaw.{BufferPlan, Buffering, answer_in}, PollRuns.{IsQuiet, Looked}}
+use Rattle.{std.specs.Prelude.{ℕ, Bool, List, Option}, event_log.specs.declared.ids.{CpuId.CpuId, Tid.Tid}}
+use Rattle.{layer_traits.specs.declared.call_layers.CallLayer.Ghosts}
+use Rattle.layer_traits.specs.{declared.calls.{Call.Call, Reply.Reply, ReplyKind.ReplyKind}, BufferLaw.{BufferPlan, Buffering, answer_in}}
+use Rattle.layer_traits.specs.PollRuns.{IsQuiet, Looked}
 use Rattle.layer_traits.specs.PollRuns.{Polled, PolledOn}
 
 module _ {P L M : Type 0} (I : Ghosts P L M) (plan : ℕ → List CpuId → CpuId → Tid → Call → Buffering → BufferPlan Reply) where

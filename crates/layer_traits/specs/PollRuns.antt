@@ -4,7 +4,8 @@ use Rattle.event_log.specs.{declared.{entries.Entry.Entry, ids.{CpuId.CpuId, Loc
 use Rattle.layer_traits.specs.declared.{calls.{Call.Call, Reply.Reply, ReplyKind.ReplyKind}, buffer_edits.BufferEdit.BufferEdit}
 use Rattle.layer_traits.specs.{declared.queue_edits.{QueueEdit.QueueEdit, QueueBlock.QueueBlock}, BufferLaw.BufferPlan}
 use Rattle.layer_traits.specs.BufferLaw.{Buffering, Called, IsRefused, MovesGrow, OthersSeen, RunsOn, UnderWay, answer_in, buffer_of, call_state_of, going}
-use Rattle.layer_traits.specs.{BufferLaw.still_calling, OwnParts.threads_in, BufferProtocol.{BufferLock, buffer_rules}, Conditions.CvCall, Framed.Framed, IpcLaw.NothingDone}
+use Rattle.layer_traits.specs.{BufferLaw.still_calling, OwnParts.threads_in, BufferProtocol.{BufferLock, buffer_rules}, Conditions.CvCall, Framed.Framed}
+use Rattle.layer_traits.specs.{IpcLaw.NothingDone}
 use Rattle.layer_traits.specs.{Looks.Tries, Places.Step, Plans.{Follows, table_of}, QLocking.{lock_moves, lock_rules}, QueueBlocks.homes_in}
 use Rattle.layer_traits.specs.{Capacities.caps_in, QueueRules.queue_rules}
 

@@ -43,7 +43,8 @@ where
     I::Machine: Drop,
 {
     ghost use Rattle.std.specs.Prelude.{◌≡◌, ◌<◌, None, reverse};
-    ghost use Rattle.layer_traits.specs.{declared.call_states.Stage.TheVariants.Idle, BufferEffects.opening_locks, BufferLaw.call_state_of, Capacities.caps_in, QueueBlocks.inner};
+    ghost use Rattle.layer_traits.specs.{declared.call_states.Stage.TheVariants.Idle, BufferEffects.opening_locks, BufferLaw.call_state_of};
+    ghost use Rattle.layer_traits.specs.{Capacities.caps_in, QueueBlocks.inner};
     ghost use Rattle.{cpu.specs.Cpus.of_cpu, cpu_workers.specs.Callers.{CallerView, IsCaller}};
 
     ghost Value = { CallerView };

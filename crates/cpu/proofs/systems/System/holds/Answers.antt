@@ -1,7 +1,8 @@
 use Rattle.std.{proofs.{Common.{◌≡◌, ◌<◌, length, map, refl, ap, sym, ◌∙◌, subst, arith}, lemmas.List.length-map}, specs.Prelude.{ℕ, Some, slice_get}}
 use Rattle.layer_traits.specs.Capacities.{caps_in}
 use Rattle.event_log.{specs.{declared.ids.{CpuId.CpuId, LockId.TheVariants.Pending}, Actions.phase}, proofs.Renaming.phase_renamed}
-use Rattle.{layer_traits.specs.{OnePlace.cpu_at, Places.pending_by, QueueBlocks.homes_in, Plans.is_in_section}, cpu.specs.Claims.{CpuShown, IsMoment, MovesAgree, Shown}}
+use Rattle.layer_traits.specs.{OnePlace.cpu_at, Places.pending_by, QueueBlocks.homes_in, Plans.is_in_section}
+use Rattle.cpu.specs.Claims.{CpuShown, IsMoment, MovesAgree, Shown}
 use Rattle.cpu.specs.{Claims.{StandsOnce, buffer_at}, Sound.{SoundByTable, IsSetupFor}, Table.{Blocks.OfPending, Setups.Setup, Steps.block_at}}
 use Rattle.cpu.{specs.{Observed.{CpuIsObserved, HasBuffer, ObservedByTable}, Tower.{Composed.named, Views.name_of}}, proofs.ListReads.{there_is, shown_at}}
 use Rattle.cpu.proofs.{ListReads.shows_at, Moments.{MachineLaws, each_has, moment}, OnePlaceEach.once_of, OneOrder.Has, ReachedSystems.{shown_in, sound_of}}

@@ -1,4 +1,5 @@
-use Rattle.std.proofs.Common.{rules, ◌≡◌, ◌≢◌, ◌∙◌, List, ap, sym, subst, refl, true, false, Option, Some, inl, inr, ◌⊎◌, None, if◌then◌else◌, IsSome, slice_set}
+use Rattle.std.proofs.Common.{rules, ◌≡◌, ◌≢◌, ◌∙◌, List, ap, sym, subst, refl, true, false, Option, Some, inl, inr, ◌⊎◌, None, if◌then◌else◌, IsSome}
+use Rattle.std.proofs.Common.{slice_set}
 use Rattle.{std.proofs.Common.arith, event_log.specs.declared.ids.{CpuId.CpuId, LockId.TheVariants.Buffer, Tid.Tid}}
 use Rattle.layer_traits.specs.{declared.{calls.Reply.Reply, call_states.{Stage.Stage, CallState.CallState}}, BufferLaw.{Buffering, answer_in, buffer_of}}
 use Rattle.layer_traits.specs.{BufferLaw.{buffering, fifo_plan, going, plan_of, replied, call_state_of}, BufferProtocol.buffer_rules, Framed.Framed}
