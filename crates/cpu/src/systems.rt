@@ -7,7 +7,8 @@ mod plans;
 mod quiet;
 
 ghost use Rattle.layer_traits.specs.{Capacities.caps_in, OwnParts.threads_in, QueueBlocks.homes_in};
-ghost use Rattle.std.specs.Prelude.{◌≡◌, ◌+◌, ◌<◌, ◌≤◌, ◌↔◌, true, false, All, IfSome, IsOk, OnErr, OnOk, Some, None, [], length, map, slice_index_or, replicate, take};
+ghost use Rattle.std.specs.Prelude.{◌≡◌, ◌+◌, ◌<◌, ◌≤◌, ◌↔◌, true, false, All, IfSome, IsOk, OnErr, OnOk, Some, None, [], length, map};
+ghost use Rattle.std.specs.Prelude.{slice_index_or, replicate, take};
 ghost use Rattle.layer_traits.specs.Spins.{BeginWith};
 
 use crate::cpus::Cpu;
