@@ -1,15 +1,16 @@
 #!/usr/bin/env bash
 # Measures how many messages `mctower threads` moves between CPUs, beside plain_threads.rs, which does the same sections in threads of its
-# own and writes the same text. Whole commands, by turns (turns.py). First through one buffer between two CPUs and through four buffers on
-# eight, also beside messages.rs, with a Mutex and two Condvars for each buffer and no text.
+# own and writes the same text, with the manners of `mctower` and without. Whole commands, by turns (turns.py). First through one buffer
+# between two CPUs and through four buffers on eight, also beside messages.rs, with a Mutex and two Condvars for each buffer and no text.
 #
 #   bench/messages.sh [--patterns] [MESSAGES] [CAPACITY] [LOCK] [TURNS]
 #
 # MESSAGES go through each buffer, at most 32,768 (5,000 where nothing is said); a buffer holds CAPACITY (32). LOCK is the plan's key,
 # `ticket` or `grant` (grant). With --patterns it measures, on two processors and on one: a pair, a pair with both threads at home on one
 # CPU, a ping-pong of two buffers, a pipe of three CPUs, two senders and two receivers on four CPUs at one buffer, and four pairs on eight
-# CPUs and on four. It takes some minutes. Threads that wait for each other are measured on a quiet machine, or ahead of all other work:
-# chrt --rr 1 bench/messages.sh. Build first: (cd crates/mctower && rt run -- count --cpus 1 --times 1).
+# CPUs and on four; a pair and four pairs through buffers of one place too. It takes some minutes. Threads that wait for each other are
+# measured on a quiet machine, or ahead of all other work: chrt --rr 1 bench/messages.sh.
+# Build first: (cd crates/mctower && rt run -- count --cpus 1 --times 1).
 if [ "${1:-}" = --help ]; then sed -n '2,/^[^#]/ s/^# \{0,1\}//p' "$0"; exit; fi
 set -eu
 cd "$(dirname "$0")"
@@ -22,6 +23,7 @@ turns=${4:-51}
 rustc -O -o "$work/messages" messages.rs
 rustc -O -o "$work/plain_threads" plain_threads.rs
 same=(timeout 60 "$work/plain_threads" "$lock")
+polite=("${same[@]}" manners)
 mine=(timeout 60 "$ours" threads --turns 1000000000)
 
 # Writes the head of a plan with $1 CPUs and $2 buffers.
@@ -48,17 +50,18 @@ judge() {
 }
 # Measures the plan, called $1, through which $2 messages go; the rest is for turns.py.
 beside() {
-  judge same "$2"; judge mine "$2"
+  judge same "$2"; judge polite "$2"; judge mine "$2"
   echo "$1, $2 messages through buffers of $capacity places, $lock locks:"
-  ./turns.py --turns "$turns" --seconds 60 "${@:3}" "$work/plan" 'the same sections' "${same[@]}" -- ours "${mine[@]}"
+  ./turns.py --turns "$turns" --seconds 60 "${@:3}" "$work/plan" 'the same sections' "${same[@]}" \
+    -- 'the same with manners' "${polite[@]}" -- ours "${mine[@]}"
 }
 
 if [ $patterns = no ]; then
   for buffers in 1 4; do
     pairs $buffers 2 > "$work/plan"
-    judge same $((buffers * messages)); judge mine $((buffers * messages))
+    judge same $((buffers * messages)); judge polite $((buffers * messages)); judge mine $((buffers * messages))
     echo "$((buffers * messages)) messages through $buffers buffers of $capacity places on $((2 * buffers)) CPUs, $lock locks:"
-    ./turns.py --turns "$turns" --seconds 60 "$work/plan" 'the same sections' "${same[@]}" \
+    ./turns.py --turns "$turns" --seconds 60 "$work/plan" 'the same sections' "${same[@]}" -- 'the same with manners' "${polite[@]}" \
       -- 'a Mutex with two Condvars' timeout 60 "$work/messages" $buffers "$capacity" "$messages" -- ours "${mine[@]}"
   done
   exit
@@ -72,4 +75,8 @@ for cores in 0,1 0; do
   four_at_one > "$work/plan"; beside 'four CPUs at one buffer' $((2 * messages)) --cores $cores
   pairs 4 2 > "$work/plan"; beside 'four pairs on eight CPUs' $((4 * messages)) --cores $cores
   pairs 4 1 > "$work/plan"; beside 'four pairs, each at home on one CPU' $((4 * messages)) --cores $cores
+  places=$capacity; capacity=1
+  pairs 1 2 > "$work/plan"; beside 'a pair' "$messages" --cores $cores
+  pairs 4 2 > "$work/plan"; beside 'four pairs on eight CPUs' $((4 * messages)) --cores $cores
+  capacity=$places
 done

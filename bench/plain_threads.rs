@@ -1,12 +1,15 @@
 //! A plain Rust program of the step table in threads, to measure `mctower threads` against: the same
 //! sections behind the same words of the same locks, a thread for each CPU that waits as a worker of
-//! `mctower` does, and the same text; no contracts, no layers. It takes turns without an end.
+//! `mctower` does, and the same text; no contracts, no layers. It takes turns without an end. With `manners`
+//! its CPUs ask for a buffer's lock as those of `mctower` do; without, they ask at once.
 //!
-//! plain_threads ticket|grant < plan > trace 2> stops
+//! plain_threads ticket|grant [manners] < plan > trace 2> stops
 
+mod manners;
 #[path = "../tests/step_table.rs"]
 mod step_table;
 
+use manners::Asks;
 use std::cell::UnsafeCell;
 use std::collections::VecDeque;
 use std::io::{Read, Write};
@@ -95,6 +98,8 @@ struct Worker<'a, const GRANT: bool> {
     ready: VecDeque<usize>,
     live: usize,
     begun: usize,
+    is_mannered: bool,
+    asks: Vec<Asks>,
     section: Section,
     trace: Vec<Entry>,
     guests: Vec<Option<Guest>>,
@@ -125,6 +130,9 @@ impl<const GRANT: bool> Worker<'_, GRANT> {
             Done::Wakes(woken) => woken,
             Done::Sleeps(woken) => {
                 self.current = None;
+                if self.guest(t).stage != Stage::AcquiresAgain {
+                    self.asks[b].found_owner(shared.buffers[b].inside().sleepers.front() == Some(&t));
+                }
                 woken
             }
             Done::TakesEffect { op, pos } => {
@@ -133,6 +141,9 @@ impl<const GRANT: bool> Worker<'_, GRANT> {
                 return self.trace.push(entry);
             }
         };
+        if matches!(self.guest(t).stage, Stage::Returns | Stage::AcquiresAgain) {
+            self.asks[b].gave = woken.is_some();
+        }
         if let Some(u) = woken {
             self.wake(u);
         }
@@ -173,6 +184,17 @@ impl<const GRANT: bool> Worker<'_, GRANT> {
 
     fn draw(&mut self, lock: usize) {
         self.section = Section::Drawn { lock, ticket: self.shared.locks[lock].draw() };
+    }
+
+    /// Draws at the lock of buffer `b` for the call of thread `t`.
+    fn draw_at_buffer(&mut self, t: usize, b: usize) {
+        let lock = self.shared.pending.len() + b;
+        if self.is_mannered && matches!(self.guest(t).stage, Stage::Acquires | Stage::AcquiresAgain) {
+            self.asks[b].ask(&self.shared.locks[lock].next.0);
+        }
+        let ticket = self.shared.locks[lock].draw();
+        self.asks[b].note_draw(ticket);
+        self.section = Section::Drawn { lock, ticket };
     }
 
     fn compute(&mut self, t: usize, instruction: Instruction) {
@@ -239,7 +261,7 @@ impl<const GRANT: bool> Worker<'_, GRANT> {
                     self.guest_mut(t).stage = Stage::Acquires;
                     self.begun += 1;
                 }
-                self.draw(self.shared.pending.len() + b);
+                self.draw_at_buffer(t, b);
             }
             Instruction::Yield => self.draw(self.c),
             instruction => self.compute(t, instruction),
@@ -281,15 +303,16 @@ fn shared_of<const GRANT: bool>(plan: &Plan) -> Shared {
     }
 }
 
-fn worker_of<'a, const GRANT: bool>(plan: &Plan, shared: &'a Shared, c: usize) -> Worker<'a, GRANT> {
+fn worker_of<'a, const GRANT: bool>(plan: &Plan, shared: &'a Shared, c: usize, is_mannered: bool) -> Worker<'a, GRANT> {
     let guest = |(home, program): &(usize, Vec<Instruction>)| (*home == c).then(|| Guest::new(program.clone()));
     let guests: Vec<Option<Guest>> = plan.threads.iter().map(guest).collect();
     let ready: VecDeque<usize> = (0..guests.len()).filter(|&t| guests[t].is_some()).collect();
     let (live, section, trace) = (ready.len(), Section::None, Vec::with_capacity(plan.limit));
-    Worker { shared, c, limit: plan.limit, current: None, hand: None, ready, live, begun: 0, section, trace, guests }
+    let asks = vec![Asks::new(); plan.capacities.len()];
+    Worker { shared, c, limit: plan.limit, current: None, hand: None, ready, live, begun: 0, is_mannered, asks, section, trace, guests }
 }
 
-fn run<const GRANT: bool>(plan: &Plan) -> std::io::Result<()> {
+fn run<const GRANT: bool>(plan: &Plan, is_mannered: bool) -> std::io::Result<()> {
     let shared = shared_of::<GRANT>(plan);
     let start = Barrier::new(plan.cpus);
     let done: Vec<(&'static str, Vec<Entry>)> = thread::scope(|scope| {
@@ -297,7 +320,7 @@ fn run<const GRANT: bool>(plan: &Plan) -> std::io::Result<()> {
             .map(|c| {
                 let (shared, start) = (&shared, &start);
                 scope.spawn(move || {
-                    let mut worker = worker_of::<GRANT>(plan, shared, c);
+                    let mut worker = worker_of::<GRANT>(plan, shared, c, is_mannered);
                     start.wait();
                     (worker.work(), worker.trace)
                 })
@@ -320,9 +343,12 @@ fn main() -> std::io::Result<()> {
     let mut plan = String::new();
     std::io::stdin().read_to_string(&mut plan)?;
     let plan = read_plan(&plan);
-    match std::env::args().nth(1).as_deref() {
-        Some("ticket") => run::<false>(&plan),
-        Some("grant") => run::<true>(&plan),
-        _ => panic!("plain_threads ticket|grant < plan"),
+    let words: Vec<String> = std::env::args().skip(1).collect();
+    match words.iter().map(String::as_str).collect::<Vec<_>>()[..] {
+        ["ticket"] => run::<false>(&plan, false),
+        ["ticket", "manners"] => run::<false>(&plan, true),
+        ["grant"] => run::<true>(&plan, false),
+        ["grant", "manners"] => run::<true>(&plan, true),
+        _ => panic!("plain_threads ticket|grant [manners] < plan"),
     }
 }

@@ -206,7 +206,7 @@ pub enum Done {
 pub struct Buffer {
     capacity: usize,
     owner: Option<usize>,
-    sleepers: VecDeque<usize>,
+    pub sleepers: VecDeque<usize>,
     waiting: [VecDeque<usize>; 2],
     line: [VecDeque<usize>; 2],
     items: VecDeque<Message>,
