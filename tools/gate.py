@@ -39,6 +39,7 @@ tests/gate.py
 tests/manual.sh
 tests/help.sh
 tools/trusted.py
+tools/words.py
 """
 # These start as many threads as a plan may have CPUs and give up after a while, or measure time: each has the machine for itself.
 ALONE = """

@@ -1,0 +1,69 @@
+#!/usr/bin/env python3
+"""Holds definitions to one sense a word: a name stands in one file of crates/*/specs, or TWICE says why it stands in more.
+
+    tools/words.py            status 1 if a name stands in two files and not in TWICE, or in TWICE and not in two files
+    tools/words.py NAME..     tells in which files each name is defined
+
+A name is that of a definition, or of a case of one. Fields are not counted, since each is read behind a value of its record.
+"""
+import argparse
+import collections
+import re
+import sys
+from pathlib import Path
+
+ROOT = Path(__file__).resolve().parent.parent
+# Why a name has two senses.
+TWICE = {
+    "Waiting": "a CPU's phase at the words of a lock; its own state at conditions, in one row with Sleeping, Locking and Buffering",
+}
+DEFINITION = re.compile(r"( *)((?:(?:unfoldable|abbrev|pub|record|data) )+)(?!(?:use|mod) )([^\s(:{]+)")
+CASE = re.compile(r" +([^\s(:{]+) :")
+
+
+def names_of(text):
+    """Yields the names that a file defines. A `pub` that stands further in and says no more is a field's."""
+    is_data = False
+    for line in text.splitlines():
+        found = DEFINITION.match(line)
+        case = CASE.match(line) if is_data else None
+        if found and (not found[1] or found[2] != "pub "):
+            is_data = "data " in found[2]
+            yield found[3]
+        elif found:
+            is_data = False
+        elif case:
+            yield case[1]
+        elif line[:1].strip():
+            is_data = False
+
+
+def files_by_name():
+    """Returns by name the files that define it."""
+    found = collections.defaultdict(set)
+    for path in sorted(ROOT.glob("crates/*/specs/**/*.antt")):
+        for name in names_of(path.read_text()):
+            found[name].add(str(path.relative_to(ROOT)))
+    return found
+
+
+def main():
+    read = argparse.ArgumentParser(description=__doc__, formatter_class=argparse.RawDescriptionHelpFormatter)
+    read.add_argument("names", nargs="*", metavar="NAME")
+    given = read.parse_args()
+    files = files_by_name()
+    for name in given.names:
+        print(f"{name}: {', '.join(sorted(files.get(name, ()))) or 'nowhere'}")
+    if given.names:
+        return 0
+    twice = {name for name, where in files.items() if len(where) > 1}
+    for name in sorted(twice - TWICE.keys()):
+        print(f"words: {name} stands in {' and '.join(sorted(files[name]))}: two senses want two names")
+    for name in sorted(TWICE.keys() - twice):
+        print(f"words: {name} stands in one file at most, and tools/words.py lists it as one with two senses")
+    print(f"words: {len(files):,} names of definitions, {len(twice)} of them in two files or more, {len(TWICE)} with a reason")
+    return 0 if files and twice == TWICE.keys() else 1
+
+
+if __name__ == "__main__":
+    sys.exit(main())
