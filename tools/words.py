@@ -1,7 +1,7 @@
 #!/usr/bin/env python3
-"""Holds definitions to one sense a word: a name stands in one file of crates/*/specs, or TWICE says why it stands in more.
+"""Holds definitions to one sense a word: a name stands in one file of crates/*/specs, or tools/words.txt lists it.
 
-    tools/words.py            status 1 if a name stands in two files and not in TWICE, or in TWICE and not in two files
+    tools/words.py            status 1 if a name stands in two files and not in the list, or in the list and not in two files
     tools/words.py NAME..     tells in which files each name is defined
 
 A name is that of a definition, or of a case of one. Fields are not counted, since each is read behind a value of its record.
@@ -13,10 +13,8 @@ import sys
 from pathlib import Path
 
 ROOT = Path(__file__).resolve().parent.parent
-# Why a name has two senses.
-TWICE = {
-    "Waiting": "a CPU's phase at the words of a lock; its own state at conditions, in one row with Sleeping, Locking and Buffering",
-}
+# A line a name that has two senses: why, or by which name one of them would be told apart.
+LIST = ROOT / "tools/words.txt"
 DEFINITION = re.compile(r"( *)((?:(?:unfoldable|abbrev|pub|record|data) )+)(?!(?:use|mod) )([^\s(:{]+)")
 CASE = re.compile(r" +([^\s(:{]+) :")
 
@@ -47,6 +45,12 @@ def files_by_name():
     return found
 
 
+def listed():
+    """Returns the names that may stand in two files."""
+    lines = (line.partition("#")[0].strip() for line in LIST.read_text().splitlines())
+    return {line.partition(":")[0] for line in lines if line}
+
+
 def main():
     read = argparse.ArgumentParser(description=__doc__, formatter_class=argparse.RawDescriptionHelpFormatter)
     read.add_argument("names", nargs="*", metavar="NAME")
@@ -56,13 +60,13 @@ def main():
         print(f"{name}: {', '.join(sorted(files.get(name, ()))) or 'nowhere'}")
     if given.names:
         return 0
-    twice = {name for name, where in files.items() if len(where) > 1}
-    for name in sorted(twice - TWICE.keys()):
+    twice, known = {name for name, where in files.items() if len(where) > 1}, listed()
+    for name in sorted(twice - known):
         print(f"words: {name} stands in {' and '.join(sorted(files[name]))}: two senses want two names")
-    for name in sorted(TWICE.keys() - twice):
-        print(f"words: {name} stands in one file at most, and tools/words.py lists it as one with two senses")
-    print(f"words: {len(files):,} names of definitions, {len(twice)} of them in two files or more, {len(TWICE)} with a reason")
-    return 0 if files and twice == TWICE.keys() else 1
+    for name in sorted(known - twice):
+        print(f"words: {name} stands in one file at most, and tools/words.txt lists it as one with two senses")
+    print(f"words: {len(files):,} names of definitions, {len(twice)} of them in two files or more, {len(known)} listed")
+    return 0 if files and twice == known else 1
 
 
 if __name__ == "__main__":
