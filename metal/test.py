@@ -317,7 +317,7 @@ def lesson(held):
 
 
 # By kind, its cases, and of how many of them the gate's part is.
-KINDS = {"plans": (plans, 22), "random": (random_runs, 24), "damaged": (damaged_runs, 20), "lines": (lines, 60), "count": (count, 20), "threads": (threads, 24),
+KINDS = {"plans": (plans, 18), "random": (random_runs, 20), "damaged": (damaged_runs, 16), "lines": (lines, 40), "count": (count, 16), "threads": (threads, 20),
          "rows": (rows, 12), "small": (small, 9), "host": (host, 15), "disk": (disk, 0), "other": (other, 12), "lesson": (lesson, 9)}
 
 
