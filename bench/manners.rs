@@ -1,4 +1,4 @@
-//! How a CPU asks for a buffer's lock, as in `mctower` (`cpu_workers/src/manners.rt`). Where its asks keep
+//! How a CPU asks for a buffer's lock, a policy that `mctower` does not have. Where its asks keep
 //! finding an owner, it lets other threads run before it asks, until no CPU draws at the lock.
 
 use std::sync::atomic::{AtomicU64, Ordering::SeqCst};

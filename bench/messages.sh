@@ -1,6 +1,6 @@
 #!/usr/bin/env bash
 # Measures how many messages `mctower threads` moves between CPUs, beside plain_threads.rs, which does the same sections in threads of its
-# own and writes the same text, with the manners of `mctower` and without. Whole commands, by turns (turns.py). First through one buffer
+# own and writes the same text, with manners (manners.rs) and without. Whole commands, by turns (turns.py). First through one buffer
 # between two CPUs and through four buffers on eight, also beside messages.rs, with a Mutex and two Condvars for each buffer and no text.
 #
 #   bench/messages.sh [--patterns] [MESSAGES] [CAPACITY] [LOCK] [TURNS]

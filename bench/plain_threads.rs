@@ -1,7 +1,8 @@
 //! A plain Rust program of the step table in threads, to measure `mctower threads` against: the same
 //! sections behind the same words of the same locks, a thread for each CPU that waits as a worker of
 //! `mctower` does, and the same text; no contracts, no layers. It takes turns without an end. With `manners`
-//! its CPUs ask for a buffer's lock as those of `mctower` do; without, they ask at once.
+//! its CPUs wait before they ask for a buffer's lock, where that pays; without, they ask at once, as those of
+//! `mctower` do.
 //!
 //! plain_threads ticket|grant [manners] < plan > trace 2> stops
 

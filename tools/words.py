@@ -1,5 +1,5 @@
 #!/usr/bin/env python3
-"""Holds definitions to one sense a word: a name stands in one file of crates/*/specs, or tools/words.txt lists it.
+"""Lets no definition get a name that another has: a name stands in one file of crates/*/specs, or tools/words.txt lists it.
 
     tools/words.py            status 1 if a name stands in two files and not in the list, or in the list and not in two files
     tools/words.py NAME..     tells in which files each name is defined
