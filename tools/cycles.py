@@ -28,7 +28,6 @@ KNOWN = (
     "mctower: faults, line, memory, refusals",
     "mctower: run, texts",
     "mctower: serve, threads",
-    "thread_blocks: lists, queues",
 )
 CRATES = Path(__file__).resolve().parent.parent / "crates"
 COMMENT = re.compile(r"//.*")

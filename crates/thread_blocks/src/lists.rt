@@ -1,9 +1,8 @@
 //! The threads that were taken out of a queue at once. No call takes memory or waits.
 
 ghost use Rattle.std.specs.Prelude.{◌≡◌, ◌<◌, ◌++◌, ◌∷◌, [], false, length, MatchOption};
-ghost use Rattle.{event_log.specs.declared.ids.TheConstants.THREADS, thread_blocks.specs.Queues.{is_in, AreApart}};
+ghost use Rattle.{event_log.specs.declared.ids.TheConstants.THREADS, thread_blocks.specs.Queues.{is_in}};
 
-use crate::queues::ThreadQueue;
 use arrayvec::ArrayVec;
 use event_log::{THREADS, Tid};
 use std::marker::Model;
@@ -65,25 +64,12 @@ impl ThreadList {
     }
 
     /// Takes the first thread out; `None` where there is none.
-    fn pop(&mut self) -> Option<Tid>
+    pub(crate) fn pop(&mut self) -> Option<Tid>
         ensures { MatchOption result ((self.old ≡ []) × (self.new ≡ [])) (λ t. (t.0 < THREADS) × (is_in t self.new ≡ false) × (self.old ≡ t ∷ self.new)) }
     {
         if self.threads.is_empty() {
             return None;
         }
         Some(self.threads.remove(0))
-    }
-
-    /// Moves all threads behind those of `to`, and keeps their order.
-    ///
-    /// Requires: no thread stands in both.
-    pub fn drain_into(&mut self, to: &mut ThreadQueue)
-        requires { AreApart self.old to.old }
-        ensures to { to.new ≡ to.old ++ self.old }
-        ensures empty { self.new ≡ [] }
-    {
-        while let Some(t) = self.pop() {
-            to.push(t);
-        }
     }
 }

@@ -187,6 +187,21 @@ impl ThreadQueue {
     }
 }
 
+impl ThreadList {
+    /// Moves all threads behind those of `to`, and keeps their order.
+    ///
+    /// Requires: no thread stands in both.
+    pub fn drain_into(&mut self, to: &mut ThreadQueue)
+        requires { AreApart self.old to.old }
+        ensures to { to.new ≡ to.old ++ self.old }
+        ensures empty { self.new ≡ [] }
+    {
+        while let Some(thread) = self.pop() {
+            to.push(thread);
+        }
+    }
+}
+
 fn contains_from<L: Ledger>(queue: &ThreadQueue, t: Tid, blank: Blank) -> bool
     requires name { blank.name ≡ L.name }
     requires parts { blank.parts ≡ L.parts }

@@ -3,8 +3,8 @@ use Rattle.thread_blocks.specs.Queues.{AreApart}
 use Rattle.thread_blocks.proofs.lists.ThreadList.drain_into.Given as goal
 
 -- what is not moved yet stands behind what was
-abbrev pub invariant-loop-t : goal.invariant-loop-t
-invariant-loop-t l = (l.to ++ l.self ≡ l.fn.to ++ l.fn.self) × AreApart l.self l.to
+abbrev pub invariant-loop-thread : goal.invariant-loop-thread
+invariant-loop-thread l = (l.to ++ l.self ≡ l.fn.to ++ l.fn.self) × AreApart l.self l.to
 
-abbrev pub decreases-loop-t : goal.decreases-loop-t
-decreases-loop-t l = length l.self
+abbrev pub decreases-loop-thread : goal.decreases-loop-thread
+decreases-loop-thread l = length l.self
