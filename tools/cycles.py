@@ -21,7 +21,6 @@ import imports  # noqa: E402, of this folder
 # Cycles that are there, each as it is told.
 KNOWN = (
     "cpu_workers: counting, plan_words",
-    "guest: instructions, reading",
     "ipc_calls: ipc, opening, tower",
     "layer_traits: queue_edits, queues",
     "mctower: count, locks, tower",

@@ -16,11 +16,13 @@
 
 mod instructions;
 mod laws;
+mod programs;
 mod reading;
 mod refusals;
 mod threads;
 
-pub use instructions::{Instruction, Into, LINES, Program, REGISTERS, Register, Source};
+pub use instructions::{Instruction, Into, REGISTERS, Register, Source};
 pub use laws::{instruction_has_one_line, steps_keep_calls};
+pub use programs::{LINES, Program};
 pub use refusals::{GuestError, GuestFault};
 pub use threads::Thread;

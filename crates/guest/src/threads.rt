@@ -1,7 +1,8 @@
 //! One thread's private state, and what each instruction makes of it. No call takes memory or
 //! waits.
 
-use crate::instructions::{Instruction, Into, Program, REGISTERS, Register, Source};
+use crate::instructions::{Instruction, Into, REGISTERS, Register, Source};
+use crate::programs::Program;
 use event_log::Msg;
 use std::marker::Model;
 
