@@ -22,7 +22,6 @@ import imports  # noqa: E402, of this folder
 KNOWN = (
     "cpu_workers: counting, plan_words",
     "ipc_calls: ipc, opening, tower",
-    "layer_traits: queue_edits, queues",
     "mctower: count, locks, tower",
     "mctower: faults, line, memory, refusals",
     "mctower: run, texts",

@@ -1,9 +1,9 @@
 -- What a poll of a lock with conditions leaves, and why whoever was woken out of a wait stands on no waiting list.
 use Rattle.std.proofs.Common.{◌≡◌, ◌<◌, ◌≤◌, Bool, true, false, ◌&&◌, List, length, slice_set, Option, Some, None, is_some, if◌then◌else◌, refl, ap, ◌∙◌, sym}
-use Rattle.{std.proofs.{Common.arith, lemmas.Option.slice_get_within}, event_log.specs.declared.ids.{BufId.BufId, CpuId.CpuId, LockId.LockId}}
-use Rattle.event_log.specs.{declared.ids.{LockId.TheVariants.Buffer, Tid.Tid, TheConstants.THREADS}, Actions.Action}
+use Rattle.std.proofs.{Common.arith, lemmas.Option.slice_get_within}
+use Rattle.event_log.specs.{declared.ids.{BufId.BufId, CpuId.CpuId, LockId.{LockId, TheVariants.Buffer}, Tid.Tid, TheConstants.THREADS}, Actions.Action}
 use Rattle.layer_traits.specs.declared.{conditions.{CvLeave.TheVariants.Wait, CvOut.CvOut}, moves.WaitList.WaitList, payloads.Parcel.Parcel}
-use Rattle.layer_traits.specs.declared.{queue_edits.{QueueBlock.QueueBlock, QueueEdit.QueueEdit}, queues.{QueueAnswer.QueueAnswer, QueueEvent.QueueEvent}}
+use Rattle.layer_traits.specs.declared.{queue_edits.{QueueBlock.QueueBlock, QueueEdit.QueueEdit, QueueAnswer.QueueAnswer}, queues.QueueEvent.QueueEvent}
 use Rattle.layer_traits.specs.declared.{scheds.SchedCall.SchedCall, sleeps.Outcome.Outcome, locked.{QEdit.TheVariants.Release, QOut.QOut}}
 use Rattle.layer_traits.specs.{declared.locked.{QOut.TheVariants.Released, Side.Side}, Conditions.{MonitorRules, CvCall, cv_rules}, CvLaw.CvPolled}
 use Rattle.layer_traits.specs.{CvLaw.{MayCallCond, MayWait, Waiting, cv_plan_for, left_reported, left_waiting, waited, waiting_with}, ListsAgree.is_at}

@@ -8,13 +8,13 @@ use denote.Param.Send.{IsSend, IsSync, sendable, array_send, enum_send, enum_syn
 use Rattle.{std.{proofs.Crossing.crosses, specs.contracts.option.Option.the_row as option_row}, layer_traits.specs.Payloads.{buffer_meant, buffer_told}}
 use Rattle.layer_traits.specs.{Payloads.{cv_meant, cv_told, lock_told, queue_meant, queue_told}, contracts.queue_edits.QueueBlock.the_field as block_field}
 use Rattle.layer_traits.specs.contracts.queue_edits.{QueueBlock.{the_row as block_row, the_type as block_type}, QueueEdit.the_row as edit_row}
+use Rattle.layer_traits.specs.contracts.queue_edits.{QueueAnswer.the_row as queue_answer_row, BareQueueAnswer.the_row as bare_answer_row}
 use Rattle.layer_traits.specs.contracts.{calls.Call.the_row as call_row, call_states.CallState.{the_row as call_state_row, the_type as call_state_type}}
 use Rattle.layer_traits.specs.contracts.{payloads.Ghost.the_row as ghost_of_row, conditions.{CvEdit.the_row as cv_edit_row, CvLeave.the_row as cv_leave_row}}
 use Rattle.layer_traits.specs.contracts.{conditions.CvOut.the_row as cv_out_row, buffer_edits.BufferEdit.the_row as buffer_edit_row}
 use Rattle.layer_traits.specs.contracts.buffer_edits.{BareBufferEdit.the_row as bare_edit_row, BufferOut.the_row as buffer_out_row}
 use Rattle.layer_traits.specs.contracts.{buffer_edits.BareBufferOut.the_row as bare_out_row, edits.Mark.the_row as mark_row}
-use Rattle.layer_traits.specs.contracts.{buffer_blocks.BufferBlock.the_row as buffer_block_row, queues.QueueAnswer.the_row as queue_answer_row}
-use Rattle.layer_traits.specs.contracts.{queues.BareQueueAnswer.the_row as bare_answer_row, sleeps.Outcome.the_row as outcome_row}
+use Rattle.layer_traits.specs.contracts.{buffer_blocks.BufferBlock.the_row as buffer_block_row, sleeps.Outcome.the_row as outcome_row}
 use Rattle.layer_traits.{specs.contracts.locked.QOut.the_row as lock_out_row, proofs.block_box.BlockBox.TheSendSync.the_send as box_send}
 use Rattle.layer_traits.proofs.{block_box.BlockBox.TheSendSync.the_sync as box_sync, buffer_edits.BareBufferOut.TheSendSync.the_send as bare_out_send}
 use Rattle.layer_traits.proofs.{conditions.CvOut.TheSendSync.the_send as cv_out_send, locked.QOut.TheSendSync.the_send as lock_out_send}

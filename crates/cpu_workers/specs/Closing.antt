@@ -3,16 +3,16 @@ use Rattle.std.specs.{Prelude.{◌≡◌, ℕ, ◌*◌, ◌^◌, ◌<◌, ◌≤
 use Rattle.event_log.specs.declared.{entries.Entry.Entry, events.Event.Event, ids.{CpuId.CpuId, LockId.{LockId, TheVariants.Pending}, TheConstants.BUFFERS}}
 use Rattle.event_log.specs.{declared.ids.Tid.Tid, Actions.{Action, AreLegal, acts_of, phase, renamed}}
 use Rattle.layer_traits.specs.declared.{buffer_edits.{BufferEdit.BufferEdit, BufferOut.BufferOut}, conditions.{CvEdit.CvEdit, CvLeave.CvLeave, CvOut.CvOut}}
-use Rattle.layer_traits.specs.declared.{edits.Mark.Mark, locked.QOut.QOut, queue_edits.{QueueBlock.QueueBlock, QueueEdit.QueueEdit}}
-use Rattle.layer_traits.specs.{declared.{queues.QueueAnswer.QueueAnswer, sleeps.Outcome.Outcome}, BufferBlocks.BufferState, BufferEffects.opening_locks}
-use Rattle.layer_traits.specs.{BufferProtocol.buffer_monitor_rules, Conditions.cv_rules, OneLock.opened, Places.home_of, Plans.is_in_section, Protocol.Rules}
-use Rattle.layer_traits.specs.{QueueBlocks.{StartsWell, homes_in, inner}, QueueRules.queue_rules, Renaming.{renamed_edit, viewed, viewed_block}}
-use Rattle.{layer_traits.specs.WordsProtocol.edit_of, sleep_wakeup.specs.{declared.edits.{SleepBlock.SleepBlock, SleepEdit.SleepEdit}, Nested.nested_moves}}
-use Rattle.{sleep_wakeup.specs.Nested.{nested_rules, state_of}, queuing_lock.specs.{declared.edits.{QBlock.QBlock, QLockEdit.QLockEdit}, Nested.busy_rules}}
-use Rattle.{queuing_lock.specs.Nested.nested_lock_of, table_machine.specs.SeatViews.{TableView, Closes, SeatView}, cpu.specs.Table.{Blocks.Block, Setups.Setup}}
-use Rattle.cpu.specs.{Table.{Setups.{Private, at_boot, program_of, thread_at}, Steps.{cpu_step, halted_at}}, Cpus.{IsOfHome, of_thread}, Tower.Composed.named}
-use Rattle.{cpu.specs.Tower.Views.{TowerBlock, TowerName, view}, cpu_workers.specs.declared.workers.{gates.Go.{Go, TheVariants.{Limit, Pass}}, stops.Stop.Stop}}
-use Rattle.cpu_workers.specs.{declared.workers.stops.Stop.TheVariants.{Held, TurnsUsed}, Lawful.{IsLawfulReport, IsCpuReportOf, CpuReport, Shown}}
+use Rattle.layer_traits.specs.declared.{edits.Mark.Mark, locked.QOut.QOut, queue_edits.{QueueBlock.QueueBlock, QueueEdit.QueueEdit, QueueAnswer.QueueAnswer}}
+use Rattle.layer_traits.specs.{declared.sleeps.Outcome.Outcome, BufferBlocks.BufferState, BufferEffects.opening_locks, BufferProtocol.buffer_monitor_rules}
+use Rattle.layer_traits.specs.{Conditions.cv_rules, OneLock.opened, Places.home_of, Plans.is_in_section, Protocol.Rules, QueueBlocks.{StartsWell, homes_in}}
+use Rattle.layer_traits.specs.{QueueBlocks.inner, QueueRules.queue_rules, Renaming.{renamed_edit, viewed, viewed_block}, WordsProtocol.edit_of}
+use Rattle.sleep_wakeup.specs.{declared.edits.{SleepBlock.SleepBlock, SleepEdit.SleepEdit}, Nested.{nested_moves, nested_rules, state_of}}
+use Rattle.queuing_lock.specs.{declared.edits.{QBlock.QBlock, QLockEdit.QLockEdit}, Nested.{busy_rules, nested_lock_of}}
+use Rattle.{table_machine.specs.SeatViews.{TableView, Closes, SeatView}, cpu.specs.Table.{Blocks.Block, Setups.{Setup, Private, at_boot, program_of}}}
+use Rattle.cpu.specs.{Table.{Setups.thread_at, Steps.{cpu_step, halted_at}}, Cpus.{IsOfHome, of_thread}, Tower.{Composed.named, Views.{TowerBlock, TowerName}}}
+use Rattle.{cpu.specs.Tower.Views.view, cpu_workers.specs.declared.workers.{gates.Go.{Go, TheVariants.{Limit, Pass}}, stops.Stop.{Stop, TheVariants.Held}}}
+use Rattle.cpu_workers.specs.{declared.workers.stops.Stop.TheVariants.TurnsUsed, Lawful.{IsLawfulReport, IsCpuReportOf, CpuReport, Shown}}
 use Rattle.cpu_workers.specs.{Orders.{FollowsProgram, IsTraceOf}, Reports.{IsTrueStop, MayTake, Took, TookWithin, WasHeld, PassedAtEach, AskedAtEach}}
 use Rattle.sleep_wakeup.specs.Nested as sleep
 use Rattle.queuing_lock.specs.Nested as lock

@@ -2,7 +2,7 @@
 use Rattle.std.proofs.Common.{◌≡◌, Bool, true, false, List, Option, Some, None, is_some, arith}
 use Rattle.event_log.specs.{declared.ids.{CpuId.CpuId, LockId.LockId, Tid.Tid}, Actions.Action}
 use Rattle.layer_traits.specs.declared.{buffer_edits.{BufferEdit.BufferEdit, BufferOut.BufferOut}, calls.{Call.Call, Reply.Reply}, conditions.CvOut.CvOut}
-use Rattle.layer_traits.specs.declared.{locked.QOut.QOut, queue_edits.QueueEdit.QueueEdit, queues.QueueAnswer.QueueAnswer, call_states.Stage.Stage}
+use Rattle.layer_traits.specs.declared.{locked.QOut.QOut, queue_edits.{QueueEdit.QueueEdit, QueueAnswer.QueueAnswer}, call_states.Stage.Stage}
 use Rattle.layer_traits.specs.declared.call_states.Stage.TheVariants.{Idle, Acquires, Enters, Tries, Waits, AcquiresAgain, Signals, SignalsOwn, Releases}
 use Rattle.layer_traits.specs.{declared.call_states.CallState.CallState, BufferLaw.{Buffering, BufferPlan, buffer_of, chained, recorded, plan_at, plan_beneath}}
 use Rattle.layer_traits.specs.{BufferLaw.{plan_of, section_at, call_state_of}, BufferProtocol.buffer_rules, Conditions.CvCall, CvLaw.Waiting}

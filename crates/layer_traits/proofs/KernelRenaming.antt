@@ -4,20 +4,20 @@ use Rattle.std.proofs.Common.{◌≡◌, ◌≤◌, length, Bool, true, false, L
 use Rattle.std.proofs.{Common.{if◌then◌else◌, map, refl, ap, sym, ◌∙◌, subst, arith}, Math.Path.transport}
 use Rattle.event_log.specs.{declared.ids.{BufId.BufId, CpuId.CpuId, LockId.{LockId, TheVariants.{Pending, Buffer}}, TheConstants.THREADS}, History.IsLawful}
 use Rattle.event_log.specs.{History.{AreOthers, Grows}, Actions.{Action, renamed}, Sections.{Section, renamed_section, sections_in, block_after}}
-use Rattle.{event_log.proofs.Renaming.{next_action_renamed, others_renamed, sections_in_renamed}}
-use Rattle.layer_traits.specs.declared.{passes.Pass.TheVariants.{YieldNow, Drain, MakeReady}, queue_edits.{QueueBlock.QueueBlock, QueueEdit.QueueEdit}}
-use Rattle.layer_traits.specs.declared.{queues.{QueueAnswer.QueueAnswer, QueueCall.QueueCall, QueueEvent.QueueEvent}, scheds.SchedAnswer.SchedAnswer}
-use Rattle.layer_traits.specs.{declared.scheds.{SchedAnswer.TheVariants.Answer, SchedCall.SchedCall}, MoveRules.edit_move, Passes.{own_slept, own_woken}}
-use Rattle.layer_traits.specs.{Passes.{pass_after, queue_for}, Places.{Threads, Moved, step, MayEdit, MayPush, home_of, pending_by}, Plans.{Left, Plan, Now}}
-use Rattle.layer_traits.specs.{Plans.{Act, Follows, raised, reply, table_of}, Protocol.section, QueueBlocks.{StartsAs, StartsWell, homes_in, homes_of, inner}}
-use Rattle.layer_traits.specs.{QueueRules.{AreProper, IsProper, queue_answer, queue_edited, queue_rules}, Queues.{Kernel, CallAllowed, IsKnownEvent}}
-use Rattle.layer_traits.specs.Queues.{QueueAllowed, buffer_sections, call_move, event, cpu_of_queue_event, event_of, call_at, moves_in, out_at, with_section}
-use Rattle.layer_traits.specs.Renaming.{named, renamed_call, renamed_edit, renamed_event, renamed_events, renamed_sched, viewed, viewed_block}
-use Rattle.layer_traits.specs.Scheds.{EditStays, IsLocal, SchedPolled, answer_to, events_of, left, left_by, own_after, own_answered, queue_call, sched_plan}
-use Rattle.layer_traits.proofs.PlanRenaming.{block_viewed, map-append, reply_viewed}
+use Rattle.{event_log.proofs.Renaming.{next_action_renamed, others_renamed, sections_in_renamed}, layer_traits.specs.declared.passes.Pass.TheVariants.YieldNow}
+use Rattle.layer_traits.specs.declared.{passes.Pass.TheVariants.{Drain, MakeReady}, queue_edits.{QueueBlock.QueueBlock, QueueEdit.QueueEdit}}
+use Rattle.layer_traits.specs.declared.{queue_edits.QueueAnswer.QueueAnswer, queues.{QueueCall.QueueCall, QueueEvent.QueueEvent}}
+use Rattle.layer_traits.specs.{declared.scheds.{SchedAnswer.{SchedAnswer, TheVariants.Answer}, SchedCall.SchedCall}, MoveRules.edit_move, Passes.own_slept}
+use Rattle.layer_traits.specs.{Passes.{own_woken, pass_after, queue_for}, Places.{Threads, Moved, step, MayEdit, MayPush, home_of, pending_by}, Plans.Left}
+use Rattle.layer_traits.specs.{Plans.{Plan, Now, Act, Follows, raised, reply, table_of}, Protocol.section, QueueBlocks.{StartsAs, StartsWell, homes_in}}
+use Rattle.layer_traits.specs.{QueueBlocks.{homes_of, inner}, QueueRules.{AreProper, IsProper, queue_answer, queue_edited, queue_rules}, Queues.Kernel}
+use Rattle.layer_traits.specs.Queues.{CallAllowed, IsKnownEvent, QueueAllowed, buffer_sections, call_move, event, cpu_of_queue_event, event_of, call_at}
+use Rattle.layer_traits.specs.{Queues.{moves_in, out_at, with_section}, Renaming.{named, renamed_call, renamed_edit, renamed_event, renamed_events}}
+use Rattle.layer_traits.specs.{Renaming.{renamed_sched, viewed, viewed_block}, Scheds.{EditStays, IsLocal, SchedPolled, answer_to, events_of, left, left_by}}
+use Rattle.layer_traits.{specs.Scheds.{own_after, own_answered, queue_call, sched_plan}, proofs.PlanRenaming.{block_viewed, map-append, reply_viewed}}
 use Rattle.layer_traits.specs.declared.queue_edits.QueueBlock.TheVariants as block
 use Rattle.layer_traits.specs.declared.queue_edits.QueueEdit.TheVariants as edit
-use Rattle.layer_traits.specs.declared.queues.QueueAnswer.TheVariants as told
+use Rattle.layer_traits.specs.declared.queue_edits.QueueAnswer.TheVariants as told
 use Rattle.layer_traits.specs.declared.queues.QueueCall.TheVariants as queue
 use Rattle.layer_traits.specs.declared.scheds.SchedCall.TheVariants as call
 

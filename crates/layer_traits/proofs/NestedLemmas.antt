@@ -4,8 +4,8 @@ use Rattle.std.proofs.Common.{◌≡◌, ◌<◌, Bool, true, false, ◌&&◌, n
 use Rattle.std.proofs.{Common.{map, refl, ap, sym, ◌∙◌, subst, arith}, lemmas.{Bool.lt-ltb, Option.slice_get_within}}
 use Rattle.event_log.specs.declared.ids.{BufId.BufId, CpuId.CpuId, LockId.{LockId, TheVariants.{Pending, Buffer}}, Tid.Tid, TheConstants.THREADS}
 use Rattle.event_log.specs.{History.{AreForeign, AreOthers, Grows, IsLawful, same_cpu, same_lock}, Sections.{Section, block_after, cpu_of_section}}
-use Rattle.{thread_blocks.specs.Queues.is_in, layer_traits.specs.declared.queue_edits.{QueueBlock.QueueBlock, QueueEdit.QueueEdit}}
-use Rattle.layer_traits.specs.declared.queues.{QueueAnswer.{QueueAnswer, TheVariants.{Done, Taken, Answer}}, QueueCall.{QueueCall, TheVariants.{Push, TakeAll}}}
+use Rattle.{thread_blocks.specs.Queues.is_in, layer_traits.specs.declared.queue_edits.{QueueBlock.QueueBlock, QueueEdit.QueueEdit, QueueAnswer.QueueAnswer}}
+use Rattle.layer_traits.specs.declared.{queue_edits.QueueAnswer.TheVariants.{Done, Taken, Answer}, queues.QueueCall.{QueueCall, TheVariants.{Push, TakeAll}}}
 use Rattle.layer_traits.specs.{declared.queues.{QueueCall.TheVariants.OnBuffer, QueueEvent.QueueEvent}, MoveRules.{MoveRules, WakesSleepers, edit_move}}
 use Rattle.layer_traits.specs.{Places.{AreMoves, MayMove, MayPush, pending_after, pending_by}, Protocol.{IsKnown, Rules, StaysAllowed, section}}
 use Rattle.layer_traits.specs.{QueueBlocks.{StartsAs, StartsWell, homes_in, inner, with_queue}, QueueRules.{AreProper, IsProper, IsProperCall, SectionAllowed}}

@@ -1,19 +1,18 @@
 -- The law of the layer of buffers: the stages of a message call, what one poll of a call does to the effects, to the moves and to
 -- the part's own state, and the plan of a poll.
 use Rattle.std.specs.Prelude.{◌≡◌, ◌≢◌, ◌⊎◌, ℕ, List, ◌++◌, Option, Some, None, option_map, option_to_list, replicate, slice_index, slice_index_or, slice_set}
-use Rattle.{std.specs.List.AllByRecursion, event_log.specs.declared.{entries.{Entry.Entry, Kind.Kind}, ids.{BufId.BufId, CpuId.CpuId, Tid.Tid}}}
-use Rattle.event_log.specs.{declared.ids.TheConstants.THREADS, Buffers.{IsAllowedEffect, items_of}, Runs.{Closes, Receives, Sends, group_of, is_closed}}
-use Rattle.{event_log.specs.{History.AreForeign, Messages.{Message, no_message}}, layer_traits.specs.declared.locked.QEdit.TheVariants.{Acquire, Inside}}
-use Rattle.layer_traits.specs.declared.locked.{QEdit.TheVariants.Release, QOut.QOut, Side.{Side, TheVariants.{Receivers, Senders}}}
+use Rattle.std.specs.List.{AllByRecursion}
+use Rattle.event_log.specs.{declared.{entries.{Entry.Entry, Kind.Kind}, ids.{BufId.BufId, CpuId.CpuId, Tid.Tid, TheConstants.THREADS}}, Buffers.IsAllowedEffect}
+use Rattle.event_log.specs.{Buffers.items_of, Runs.{Closes, Receives, Sends, group_of, is_closed}, History.AreForeign, Messages.{Message, no_message}}
+use Rattle.layer_traits.specs.declared.locked.{QEdit.TheVariants.{Acquire, Inside, Release}, QOut.QOut, Side.{Side, TheVariants.{Receivers, Senders}}}
 use Rattle.layer_traits.specs.declared.conditions.{CvEdit.TheVariants.{Edit, SignalFront}, CvLeave.TheVariants.{Leave, Wait}, CvOut.CvOut}
 use Rattle.layer_traits.specs.declared.buffer_edits.{BufferEdit.{BufferEdit, TheVariants.{Enter, TryPut, TryTake, Shut}}, BufferOut.BufferOut}
 use Rattle.layer_traits.specs.declared.{buffer_edits.BufferOut.TheVariants.{Entered, NotYet, Done, WasShut}, calls.Call.{Call, TheVariants.{Send, Recv, Close}}}
-use Rattle.layer_traits.specs.declared.{calls.{Effect.Effect, Reply.Reply, ReplyKind.ReplyKind}, queue_edits.QueueEdit.QueueEdit}
-use Rattle.layer_traits.specs.declared.{queues.QueueAnswer.QueueAnswer, passes.Pass.Pass, sleeps.Outcome.Outcome, call_states.Stage.{Stage, TheVariants.Idle}}
-use Rattle.layer_traits.specs.declared.call_states.Stage.TheVariants.{Acquires, Enters, Tries, Waits, AcquiresAgain, Signals, SignalsOwn, Releases}
-use Rattle.layer_traits.specs.{declared.call_states.CallState.CallState, Conditions.CvCall, CvLaw.{Waiting, cv_pass_plan, cv_plan, waiting_at_start}}
-use Rattle.layer_traits.specs.{QLocking.lock_moves, BufferProtocol.buffer_rules, BufferEffects.{contents_of, entry}, Places.{Step, Threads, cpu_of_step}}
-use Rattle.layer_traits.specs.Plans.{Left, Plan, Now, Act, raised}
+use Rattle.layer_traits.specs.declared.{calls.{Effect.Effect, Reply.Reply, ReplyKind.ReplyKind}, queue_edits.{QueueEdit.QueueEdit, QueueAnswer.QueueAnswer}}
+use Rattle.layer_traits.specs.declared.{passes.Pass.Pass, sleeps.Outcome.Outcome, call_states.Stage.{Stage, TheVariants.{Idle, Acquires, Enters, Tries, Waits}}}
+use Rattle.layer_traits.specs.{declared.call_states.{Stage.TheVariants.{AcquiresAgain, Signals, SignalsOwn, Releases}, CallState.CallState}, Conditions.CvCall}
+use Rattle.layer_traits.specs.{CvLaw.{Waiting, cv_pass_plan, cv_plan, waiting_at_start}, QLocking.lock_moves, BufferProtocol.buffer_rules}
+use Rattle.layer_traits.specs.{BufferEffects.{contents_of, entry}, Places.{Step, Threads, cpu_of_step}, Plans.{Left, Plan, Now, Act, raised}}
 use Rattle.event_log.specs.declared.entries.Kind.TheVariants as kind
 use Rattle.layer_traits.specs.declared.locked.QOut.TheVariants as out
 use Rattle.layer_traits.specs.declared.conditions.CvOut.TheVariants as answer

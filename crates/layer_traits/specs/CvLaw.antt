@@ -4,7 +4,7 @@ use Rattle.std.specs.Prelude.{◌≡◌, ◌⊎◌, false, List, Option, Some, N
 use Rattle.event_log.specs.declared.ids.{BufId.BufId, CpuId.CpuId, LockId.{LockId, TheVariants.Buffer}, Tid.Tid, TheConstants.THREADS}
 use Rattle.layer_traits.specs.declared.locked.{QEdit.TheVariants.{Acquire, Inside, Release}, QOut.{QOut, TheVariants.{Acquired, Queued, Did, Released}}}
 use Rattle.layer_traits.specs.declared.{locked.Side.Side, conditions.{CvLeave.TheVariants.{Leave, Wait}, CvOut.CvOut}, moves.WaitList.WaitList}
-use Rattle.layer_traits.specs.declared.{queues.{QueueEvent.QueueEvent, QueueAnswer.QueueAnswer}, queue_edits.QueueEdit.QueueEdit, passes.Pass.Pass}
+use Rattle.layer_traits.specs.declared.{queues.QueueEvent.QueueEvent, queue_edits.{QueueAnswer.QueueAnswer, QueueEdit.QueueEdit}, passes.Pass.Pass}
 use Rattle.layer_traits.specs.{declared.{scheds.SchedCall.SchedCall, sleeps.Outcome.Outcome}, Conditions.{MonitorRules, CvCall, cv_rules}, MoveRules.MoveRules}
 use Rattle.layer_traits.specs.{Queues.{Kernel, buffer_sections}, QLocking.{LockState, lock_after, lock_caller, wait_list_in}, QLockLaw.{Locking, LockPolled}}
 use Rattle.layer_traits.specs.{QLockLaw.{MayGo, MayLock, MustWait, at_start, slept_for, lock_plan, lock_pass_plan}, Plans.{Left, Plan, Now, raised}}

@@ -4,17 +4,17 @@ use Rattle.{std.specs.Prelude.{Option, option_map}, layer_traits.specs.declared.
 use Rattle.layer_traits.specs.declared.buffer_edits.{BufferEdit.{BufferEdit, TheVariants.{Enter, TryPut, TryTake, Shut}}, BufferOut.BufferOut}
 use Rattle.layer_traits.specs.declared.{conditions.{CvEdit.{CvEdit, TheVariants.{Edit, SignalFront}}, CvOut.CvOut}, locked.QEdit.{QEdit, TheVariants.Acquire}}
 use Rattle.layer_traits.specs.declared.{locked.{QEdit.TheVariants.{Inside, Release}, QOut.QOut}, queue_edits.QueueEdit.QueueEdit}
-use Rattle.layer_traits.specs.declared.queues.{BareQueueAnswer.BareQueueAnswer, QueueAnswer.QueueAnswer, QueueCall.{QueueCall, TheVariants.{Push, TakeAll}}}
-use Rattle.layer_traits.specs.declared.{queues.QueueCall.TheVariants.OnBuffer, scheds.{SchedAnswer.SchedAnswer, SchedCall.SchedCall}, sleeps.Outcome.Outcome}
-use Rattle.layer_traits.specs.declared.payloads.{Parcel.Parcel, Payload.Payload}
+use Rattle.layer_traits.specs.declared.{queue_edits.{BareQueueAnswer.BareQueueAnswer, QueueAnswer.QueueAnswer}, queues.QueueCall.{QueueCall, TheVariants.Push}}
+use Rattle.layer_traits.specs.declared.{queues.QueueCall.TheVariants.{TakeAll, OnBuffer}, scheds.{SchedAnswer.SchedAnswer, SchedCall.SchedCall}}
+use Rattle.layer_traits.specs.declared.{sleeps.Outcome.Outcome, payloads.{Parcel.Parcel, Payload.Payload}}
 use Rattle.layer_traits.specs.declared.buffer_edits.BareBufferEdit.TheVariants as bare
 use Rattle.layer_traits.specs.declared.buffer_edits.BareBufferOut.TheVariants as brought
 use Rattle.layer_traits.specs.declared.buffer_edits.BufferOut.TheVariants as told
 use Rattle.layer_traits.specs.declared.conditions.CvOut.TheVariants as cv
 use Rattle.layer_traits.specs.declared.locked.QOut.TheVariants as lock
 use Rattle.layer_traits.specs.declared.queue_edits.QueueEdit.TheVariants as edit
-use Rattle.layer_traits.specs.declared.queues.BareQueueAnswer.TheVariants as bare_queue
-use Rattle.layer_traits.specs.declared.queues.QueueAnswer.TheVariants as queue
+use Rattle.layer_traits.specs.declared.queue_edits.BareQueueAnswer.TheVariants as bare_queue
+use Rattle.layer_traits.specs.declared.queue_edits.QueueAnswer.TheVariants as queue
 use Rattle.layer_traits.specs.declared.scheds.SchedAnswer.TheVariants as sched
 use Rattle.layer_traits.specs.declared.scheds.SchedCall.TheVariants as call
 

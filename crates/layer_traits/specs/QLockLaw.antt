@@ -3,7 +3,7 @@ use Rattle.std.specs.Prelude.{◌≡◌, ◌⊎◌, Bool, true, false, List, ◌
 use Rattle.event_log.specs.{declared.ids.{BufId.BufId, CpuId.CpuId, LockId.{LockId, TheVariants.Buffer}, TheConstants.THREADS, Tid.Tid}, History.IsLawful}
 use Rattle.{event_log.specs.History.AreOthers, layer_traits.specs.declared.locked.{QEdit.{QEdit, TheVariants.{Acquire, Inside, Release}}, QOut.QOut}}
 use Rattle.layer_traits.specs.declared.{locked.QOut.TheVariants.{Acquired, Queued, Did, Released}, moves.WaitList.WaitList, queue_edits.QueueBlock.QueueBlock}
-use Rattle.layer_traits.specs.declared.{queue_edits.QueueEdit.QueueEdit, queues.{QueueAnswer.QueueAnswer, QueueEvent.QueueEvent}, passes.Pass.Pass}
+use Rattle.layer_traits.specs.declared.{queue_edits.{QueueEdit.QueueEdit, QueueAnswer.QueueAnswer}, queues.QueueEvent.QueueEvent, passes.Pass.Pass}
 use Rattle.layer_traits.specs.{declared.{scheds.SchedCall.SchedCall, sleeps.Outcome.Outcome}, ListsAgree.is_at, MoveRules.MoveRules, Places.{Stands, one_if}}
 use Rattle.layer_traits.specs.{Places.{count_in, wait_channel_of, where_is, at_boot}, Plans.{Left, Plan, Now, raised}, Protocol.section, QueueBlocks.inner}
 use Rattle.layer_traits.specs.{QueueBlocks.homes_in, Queues.{Kernel, kernel, cpu_of_queue_event, buffer_sections, moves_in, QueueAllowed}, SleepLaw.Sleeping}

@@ -1,9 +1,9 @@
 -- What the edits of shared queues mean as edits of locks' blocks, and which sections of them are allowed.
 use Rattle.std.specs.{Prelude.{◌≡◌, List, [], Option, Some, None, map}, List.AllByRecursion}
 use Rattle.{event_log.specs.{declared.ids.LockId.LockId, Sections.Section}, layer_traits.specs.declared.queue_edits.QueueBlock.QueueBlock}
-use Rattle.layer_traits.specs.declared.{queue_edits.QueueEdit.{QueueEdit, TheVariants.{Push, TakeAll, Above}}, queues.QueueAnswer.QueueAnswer}
-use Rattle.layer_traits.specs.{declared.queues.QueueAnswer.TheVariants.{Done, Taken, Answer}, MoveRules.MoveRules, Protocol.Rules, Queues.kernel}
-use Rattle.layer_traits.specs.{Queues.{QueueAllowed, event_of, lock_of, call_at}, Sleeping.joined}
+use Rattle.layer_traits.specs.declared.queue_edits.{QueueEdit.{QueueEdit, TheVariants.{Push, TakeAll, Above}}, QueueAnswer.{QueueAnswer, TheVariants.Done}}
+use Rattle.layer_traits.specs.{declared.queue_edits.QueueAnswer.TheVariants.{Taken, Answer}, MoveRules.MoveRules, Protocol.Rules, Queues.{kernel, QueueAllowed}}
+use Rattle.layer_traits.specs.{Queues.{event_of, lock_of, call_at}, Sleeping.joined}
 use Rattle.layer_traits.specs.declared.queue_edits.QueueBlock.TheVariants as block
 
 -- the block that an edit leaves: a thread that is pushed joins the queue; an edit of the other kind of block changes nothing

@@ -3,7 +3,7 @@
 use Rattle.std.specs.Prelude.{◌≡◌, ◌<◌, List, [], ◌∷◌, ◌++◌, Option, Some, None, option_map, is_some, MatchOption, if◌then◌else◌}
 use Rattle.event_log.specs.{declared.ids.{BufId.BufId, CpuId.CpuId, LockId.{LockId, TheVariants.{Pending, Buffer}}, TheConstants.CPUS}, History.AreForeign}
 use Rattle.{event_log.specs.{History.{AreOthers, IsLawful}, Sections.{Section, block_after}}, layer_traits.specs.declared.queue_edits.QueueBlock.QueueBlock}
-use Rattle.layer_traits.specs.declared.{queue_edits.QueueEdit.QueueEdit, queues.QueueAnswer.{QueueAnswer, TheVariants.{Done, Taken, Answer}}}
+use Rattle.layer_traits.specs.declared.queue_edits.{QueueEdit.QueueEdit, QueueAnswer.{QueueAnswer, TheVariants.{Done, Taken, Answer}}}
 use Rattle.layer_traits.specs.{declared.queues.{QueueCall.{QueueCall, TheVariants.{Push, TakeAll, OnBuffer}}, QueueEvent.QueueEvent}, MoveRules.MoveRules}
 use Rattle.layer_traits.specs.{MoveRules.edit_move, Places.{Move, Pushed, Took, Step, step, MayEdit, MayPush, pending_by}, Plans.{Plan, section_plan}}
 use Rattle.layer_traits.specs.{Protocol.{Rules, section}, QueueBlocks.{inner, homes_in}}

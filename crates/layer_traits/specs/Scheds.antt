@@ -3,12 +3,12 @@
 use Rattle.std.specs.Prelude.{◌≡◌, List, [], ◌∷◌, ◌++◌, Option, Some, None, IsSome, option_map, is_some, MatchOption, if◌then◌else◌}
 use Rattle.event_log.specs.{declared.ids.{CpuId.CpuId, LockId.{LockId, TheVariants.Buffer}}, History.{AreForeign, AreOthers, IsLawful}}
 use Rattle.layer_traits.specs.declared.{passes.Pass.{Pass, TheVariants.{Switch, YieldNow, Drain, MakeReady, End}}, queue_edits.QueueEdit.QueueEdit}
-use Rattle.layer_traits.specs.declared.{queues.{QueueAnswer.QueueAnswer, QueueCall.QueueCall, QueueEvent.QueueEvent}, scheds.SchedAnswer.SchedAnswer}
-use Rattle.layer_traits.specs.{declared.scheds.{SchedAnswer.TheVariants.{Done, Answer}, SchedCall.SchedCall}, MoveRules.MoveRules, Passes.MayPass}
-use Rattle.layer_traits.specs.{Passes.{IsLocalPass, own_slept, own_woken, pass_after, passed_on, queue_for, took}, Places.{Threads, pending_by}, Plans.Left}
-use Rattle.layer_traits.specs.{Plans.{Plan, Now, raised}, Protocol.section, Queues.{Kernel, QueueAllowed, buffer_sections, event, cpu_of_queue_event, moves_in}}
-use Rattle.layer_traits.specs.Queues.{out_at, queue_plan}
-use Rattle.layer_traits.specs.declared.queues.QueueAnswer.TheVariants as told
+use Rattle.layer_traits.specs.declared.{queue_edits.QueueAnswer.QueueAnswer, queues.{QueueCall.QueueCall, QueueEvent.QueueEvent}}
+use Rattle.layer_traits.specs.{declared.scheds.{SchedAnswer.{SchedAnswer, TheVariants.{Done, Answer}}, SchedCall.SchedCall}, MoveRules.MoveRules}
+use Rattle.layer_traits.specs.{Passes.{MayPass, IsLocalPass, own_slept, own_woken, pass_after, passed_on, queue_for, took}, Places.{Threads, pending_by}}
+use Rattle.layer_traits.specs.{Plans.{Left, Plan, Now, raised}, Protocol.section, Queues.{Kernel, QueueAllowed, buffer_sections, event, cpu_of_queue_event}}
+use Rattle.layer_traits.specs.Queues.{moves_in, out_at, queue_plan}
+use Rattle.layer_traits.specs.declared.queue_edits.QueueAnswer.TheVariants as told
 use Rattle.layer_traits.specs.declared.queues.QueueCall.TheVariants as queue
 use Rattle.layer_traits.specs.declared.scheds.SchedCall.TheVariants as call
 

@@ -1,7 +1,7 @@
 -- What one poll of a sleeping layer adds to the history, and what it leaves of the part's own state.
 use Rattle.std.specs.Prelude.{◌≡◌, Bool, not, ◌&&◌, List, ◌∷◌, ◌++◌, Option, Some, None, IsSome, option_map, is_some, if◌then◌else◌}
 use Rattle.event_log.specs.{declared.ids.{BufId.BufId, CpuId.CpuId, LockId.LockId, Tid.Tid}, History.AreForeign}
-use Rattle.layer_traits.specs.declared.{queue_edits.{QueueBlock.QueueBlock, QueueEdit.QueueEdit}, queues.{QueueAnswer.QueueAnswer, QueueCall.TheVariants.Push}}
+use Rattle.layer_traits.specs.declared.{queue_edits.{QueueBlock.QueueBlock, QueueEdit.QueueEdit, QueueAnswer.QueueAnswer}, queues.QueueCall.TheVariants.Push}
 use Rattle.layer_traits.specs.declared.{queues.{QueueCall.TheVariants.OnBuffer, QueueEvent.QueueEvent}, passes.Pass.{Pass, TheVariants.MakeReady}}
 use Rattle.layer_traits.specs.declared.{sleeps.Outcome.Outcome, scheds.{SchedAnswer.{SchedAnswer, TheVariants.{Done, Answer}}, SchedCall.SchedCall}}
 use Rattle.layer_traits.specs.{MoveRules.MoveRules, Passes.{queue_for, passed_on}, Places.Threads, Plans.{Left, Plan, raised}, Queues.{Kernel, kernel, event}}

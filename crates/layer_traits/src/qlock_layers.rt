@@ -14,8 +14,8 @@ ghost use Rattle.layer_traits.specs.declared.scheds.SchedCall.TheVariants as sch
 use crate::layers::Law;
 use crate::locked::{Locked, QEdit, QOut};
 use crate::owned_layers::SleeperLaw;
-use crate::queue_edits::{QueueBlock, QueueEdit};
-use crate::queues::{QueueAnswer, QueueEvent};
+use crate::queue_edits::{QueueAnswer, QueueBlock, QueueEdit};
+use crate::queues::QueueEvent;
 use crate::scheds::SchedCall;
 use crate::sleep_layers::BufferCall;
 use crate::sleeps::Outcome;

@@ -1,4 +1,4 @@
-//! The edits of shared queues, and the blocks that they edit.
+//! The edits of shared queues, what they answer, and the blocks that they edit.
 //!
 //! No call takes memory, and none waits.
 
@@ -6,11 +6,10 @@ use crate::block_box::{BlockBox, edit_in_box, push_in, take_from};
 use crate::edits::{Edit, SplitEdit};
 use crate::moves::Moves;
 use crate::payloads::Payload;
-use crate::queues::{BareQueueAnswer, QueueAnswer};
 use arrayvec::ArrayVec;
 use event_log::{CpuId, THREADS, Tid};
 use std::snapshot::Snapshot;
-use thread_blocks::ThreadQueue;
+use thread_blocks::{ThreadList, ThreadQueue};
 
 /// An edit at shared queues: of a pending queue, or of a block of the layer above.
 #[derive(Clone, Copy)]
@@ -21,6 +20,28 @@ pub enum QueueEdit<E> {
     TakeAll,
     /// Edits the block of the layer above.
     Above(E),
+}
+
+/// What a call at shared queues answers.
+#[derive(Drop)]
+pub enum QueueAnswer<O> {
+    /// The thread was pushed.
+    Done,
+    /// The threads that were taken, in their order.
+    Taken(ThreadList),
+    /// What the edit answers.
+    Answer(O),
+}
+
+/// What layers hand back of an answer at shared queues: threads that it brings lie in the payload.
+#[derive(Clone, Copy)]
+pub enum BareQueueAnswer<O> {
+    /// [`QueueAnswer::Done`].
+    Done,
+    /// [`QueueAnswer::Taken`], of the threads beside it.
+    Taken,
+    /// [`QueueAnswer::Answer`].
+    Answer(O),
 }
 
 /// What a lock guards at shared queues. The blocks lie behind pointers, so that a block passes from

@@ -11,10 +11,9 @@ ghost use Rattle.layer_traits.specs.Queues.{event, event_of, kernel, lock_of, mo
 use crate::layers::{Law, Layer};
 use crate::moves::Moves;
 use crate::owned_layers::BlockLaw;
-use crate::queue_edits::{QueueBlock, QueueEdit};
+use crate::queue_edits::{BareQueueAnswer, QueueAnswer, QueueBlock, QueueEdit};
 use event_log::{BufId, CpuId, Tid};
 use std::marker::PhantomData;
-use thread_blocks::ThreadList;
 
 /// A call at shared queues.
 #[derive(Clone, Copy)]
@@ -34,28 +33,6 @@ pub struct QueueEvent<E> {
     pub cpu: CpuId,
     /// The call.
     pub call: QueueCall<E>,
-}
-
-/// What a call at shared queues answers.
-#[derive(Drop)]
-pub enum QueueAnswer<O> {
-    /// The thread was pushed.
-    Done,
-    /// The threads that were taken, in their order.
-    Taken(ThreadList),
-    /// What the edit answers.
-    Answer(O),
-}
-
-/// What layers hand back of an answer at shared queues: threads that it brings lie in the payload.
-#[derive(Clone, Copy)]
-pub enum BareQueueAnswer<O> {
-    /// [`QueueAnswer::Done`].
-    Done,
-    /// [`QueueAnswer::Taken`], of the threads beside it.
-    Taken,
-    /// [`QueueAnswer::Answer`].
-    Answer(O),
 }
 
 /// The law of shared queues: each CPU has a queue of pending threads, into which others push and of

@@ -11,8 +11,8 @@ use crate::moves::Moves;
 use crate::own_threads::OwnThreads;
 use crate::owned_layers::BlockLaw;
 use crate::passes::Pass;
-use crate::queue_edits::{QueueBlock, QueueEdit};
-use crate::queues::{QueueAnswer, QueueEvent};
+use crate::queue_edits::{QueueAnswer, QueueBlock, QueueEdit};
+use crate::queues::QueueEvent;
 use event_log::{BufId, Tid};
 use std::marker::PhantomData;
 

@@ -2,17 +2,18 @@
 use Rattle.std.proofs.Common.{◌≡◌, ◌≢◌, ℕ, ◌<◌, Bool, true, false, List, [], ◌∷◌, ◌++◌, length, slice_get, slice_set, ◌==◌, if◌then◌else◌, Option, Some, None}
 use Rattle.std.proofs.Common.{IsSome, IfSome, option_map, refl, ap, sym, ◌∙◌, subst, arith, Result, Ok, OnOk, replicate, reverse, unwrap_or, ◌≤◌}
 use Rattle.std.proofs.lemmas.{Bool.{eq-eqb, eqb-true}, List.{get_or-replicate, length-replicate, reverse-append}, Option.get_or_from_slice_get}
-use Rattle.{std.proofs.lemmas.Option.{slice_get-get_or, slice_get_within}, event_log.specs.declared.ids.{BufId.BufId, CpuId.CpuId, LockId.LockId}}
-use Rattle.event_log.specs.{declared.ids.{LockId.TheVariants.{Pending, Buffer}, Tid.Tid, TheConstants.{CPUS, THREADS}}, History.same_cpu, Sections.block_after}
-use Rattle.{event_log.proofs.{Same.same_cpu_true, ListLemmas.{set_else, set_there}}, thread_blocks.specs.Queues.is_in}
-use Rattle.layer_traits.specs.declared.{queue_edits.QueueBlock.{QueueBlock, TheVariants.{Queue, Above}}, payloads.Payload.Payload, scheds.SchedCall.SchedCall}
-use Rattle.layer_traits.specs.declared.queues.{QueueAnswer.{QueueAnswer, TheVariants.{Taken, Answer}}, QueueCall.{QueueCall, TheVariants.{Push, TakeAll}}}
-use Rattle.layer_traits.specs.{declared.queues.{QueueCall.TheVariants.OnBuffer, QueueEvent.QueueEvent}, MoveRules.{MoveRules, WakesSleepers, edit_move}}
-use Rattle.layer_traits.specs.{Payloads.{call_meant, sched_meant}, Places.{home_of, pending_after, pending_by}, Protocol.Rules, QueueBlocks.StartsAs}
-use Rattle.layer_traits.specs.{QueueBlocks.{above_of, homes_in, homes_of, inner}, Queues.{CallAllowed, Kernel, answer_of, buffer_sections, event, kernel}}
-use Rattle.layer_traits.{specs.{Queues.{lock_of, moves_in, out_at}, Scheds.BufferIsThere}, proofs.{Alone.block_there, CallLemmas.moves_lawful}}
-use Rattle.{layer_traits.proofs.NestedLemmas.{push_known, push_new}, plain_layers.specs.{declared.kernel.{Lists.Lists, Opening.Opening}, Kernels.CanDo}}
-use Rattle.{plain_layers.specs.Kernels.{IsDone, IsKernel, SetsBlock, SetsQueue, opening_of, pending_in}, shared_queue.specs.Opening.AreQueues}
+use Rattle.std.proofs.lemmas.Option.{slice_get-get_or, slice_get_within}
+use Rattle.event_log.specs.declared.ids.{BufId.BufId, CpuId.CpuId, LockId.{LockId, TheVariants.{Pending, Buffer}}, Tid.Tid, TheConstants.{CPUS, THREADS}}
+use Rattle.event_log.{specs.{History.same_cpu, Sections.block_after}, proofs.{Same.same_cpu_true, ListLemmas.{set_else, set_there}}}
+use Rattle.{thread_blocks.specs.Queues.is_in, layer_traits.specs.declared.queue_edits.QueueBlock.{QueueBlock, TheVariants.{Queue, Above}}}
+use Rattle.layer_traits.specs.declared.{queue_edits.QueueAnswer.{QueueAnswer, TheVariants.{Taken, Answer}}, payloads.Payload.Payload}
+use Rattle.layer_traits.specs.declared.{scheds.SchedCall.SchedCall, queues.QueueCall.{QueueCall, TheVariants.{Push, TakeAll, OnBuffer}}}
+use Rattle.layer_traits.specs.{declared.queues.QueueEvent.QueueEvent, MoveRules.{MoveRules, WakesSleepers, edit_move}, Payloads.{call_meant, sched_meant}}
+use Rattle.layer_traits.specs.{Places.{home_of, pending_after, pending_by}, Protocol.Rules, QueueBlocks.{StartsAs, above_of, homes_in, homes_of, inner}}
+use Rattle.layer_traits.specs.{Queues.{CallAllowed, Kernel, answer_of, buffer_sections, event, kernel, lock_of, moves_in, out_at}, Scheds.BufferIsThere}
+use Rattle.layer_traits.proofs.{Alone.block_there, CallLemmas.moves_lawful, NestedLemmas.{push_known, push_new}}
+use Rattle.plain_layers.specs.{declared.kernel.{Lists.Lists, Opening.Opening}, Kernels.{CanDo, IsDone, IsKernel, SetsBlock, SetsQueue, opening_of, pending_in}}
+use Rattle.shared_queue.specs.Opening.{AreQueues}
 use Rattle.layer_traits.specs.declared.scheds.SchedCall.TheVariants as sched
 
 -- a list of events that has grown by one, newest first

@@ -2,8 +2,8 @@
 use Rattle.std.specs.Prelude.{◌≡◌, ◌<◌, ℕ, ◌-◌, false, List, [], ◌∷◌, ◌++◌, length, reverse, Option, IfSome, option_map, slice_get, slice_index_or, slice_set}
 use Rattle.event_log.specs.declared.ids.{BufId.BufId, CpuId.CpuId, LockId.{LockId, TheVariants.{Pending, Buffer}}, Tid.Tid, TheConstants.{CPUS, THREADS}}
 use Rattle.{event_log.specs.{History.IsLawful, Log.{events_in, room_of}, Sections.block_after}, thread_blocks.specs.Queues.is_in}
-use Rattle.layer_traits.specs.declared.{queue_edits.QueueBlock.{QueueBlock, TheVariants.{Queue, Above}}, queues.QueueAnswer.{QueueAnswer, TheVariants.Done}}
-use Rattle.layer_traits.specs.declared.queues.{QueueAnswer.TheVariants.{Taken, Answer}, QueueCall.{QueueCall, TheVariants.{Push, TakeAll, OnBuffer}}}
+use Rattle.layer_traits.specs.declared.queue_edits.{QueueBlock.{QueueBlock, TheVariants.{Queue, Above}}, QueueAnswer.{QueueAnswer, TheVariants.{Done, Taken}}}
+use Rattle.layer_traits.specs.declared.{queue_edits.QueueAnswer.TheVariants.Answer, queues.QueueCall.{QueueCall, TheVariants.{Push, TakeAll, OnBuffer}}}
 use Rattle.layer_traits.specs.{declared.queues.QueueEvent.QueueEvent, MoveRules.MoveRules, Places.pending_by, Protocol.Rules, QueueBlocks.{StartsWell, inner}}
 use Rattle.{layer_traits.specs.Queues.{IsKnownEvent, QueueAllowed, buffer_sections, kernel, moves_in}, plain_layers.specs.declared.kernel.Lists.Lists}
 use Rattle.plain_layers.specs.declared.kernel.{Opening.Opening, PlainKernel.PlainKernel}

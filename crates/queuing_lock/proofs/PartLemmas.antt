@@ -1,10 +1,10 @@
 -- A part and its polls, from what the part beneath says of its own: what is owed beneath, and what was done here.
 use Rattle.std.proofs.Common.{◌≡◌, ◌≢◌, true, false, if◌then◌else◌, List, ◌++◌, Option, Some, None, option_map, is_some, map, refl, ap, sym, ◌∙◌, subst, ◌<◌}
-use Rattle.{std.proofs.{Common.arith, Math.Path.transport, lemmas.Option.slice_get_within}, event_log.specs.declared.ids.{BufId.BufId, CpuId.CpuId}}
-use Rattle.event_log.specs.{declared.ids.{LockId.{LockId, TheVariants.Buffer}, TheConstants.THREADS, Tid.Tid}, Actions.{Action, renamed}, History.IsLawful}
-use Rattle.{event_log.{specs.Sections.renamed_section, proofs.BoolLemmas.none_of}, layer_traits.specs.declared.locked.QEdit.{QEdit, TheVariants.Acquire}}
-use Rattle.layer_traits.specs.declared.{locked.{QEdit.TheVariants.{Inside, Release}, QOut.QOut}, passes.Pass.Pass, payloads.Parcel.Parcel}
-use Rattle.layer_traits.specs.declared.{queue_edits.{QueueBlock.QueueBlock, QueueEdit.QueueEdit}, queues.{QueueEvent.QueueEvent, QueueAnswer.QueueAnswer}}
+use Rattle.std.proofs.{Common.arith, Math.Path.transport, lemmas.Option.slice_get_within}
+use Rattle.event_log.specs.{declared.ids.{BufId.BufId, CpuId.CpuId, LockId.{LockId, TheVariants.Buffer}, TheConstants.THREADS, Tid.Tid}, Actions.Action}
+use Rattle.event_log.{specs.{Actions.renamed, History.IsLawful, Sections.renamed_section}, proofs.BoolLemmas.none_of}
+use Rattle.layer_traits.specs.declared.{locked.{QEdit.{QEdit, TheVariants.{Acquire, Inside, Release}}, QOut.QOut}, passes.Pass.Pass, payloads.Parcel.Parcel}
+use Rattle.layer_traits.specs.declared.{queue_edits.{QueueBlock.QueueBlock, QueueEdit.QueueEdit, QueueAnswer.QueueAnswer}, queues.QueueEvent.QueueEvent}
 use Rattle.layer_traits.specs.{declared.{scheds.SchedCall.SchedCall, moves.WaitList.TheVariants.Sleepers, sleeps.Outcome.Outcome}, ListsAgree.ListsAgree}
 use Rattle.layer_traits.specs.{ListsAgree.is_at, QLocking.{LockAllowed, LockRules, LockState, wait_list_in, lock_after, lock_caller, lock_moves, lock_rules}}
 use Rattle.layer_traits.specs.QLockLaw.{LockPolled, Locking, MayGo, MayLock, left_after, left_handed, lock_pass_plan, lock_plan, locks_passed, HasOrAwaits}

@@ -4,7 +4,7 @@ use Rattle.std.proofs.Common.{◌≡◌, ℕ, zero, suc, ◌<◌, true, false, L
 use Rattle.std.proofs.{Common.{sym, ◌∙◌, subst, subst₂, arith}, lemmas.Option.same_Some}
 use Rattle.event_log.specs.{declared.ids.{BufId.BufId, CpuId.CpuId, LockId.{LockId, TheVariants.Buffer}, Tid.Tid, TheConstants.THREADS}, History.AreOthers}
 use Rattle.{event_log.specs.History.{Grows, IsLawful, same_cpu}, layer_traits.specs.declared.passes.Pass.TheVariants.{Switch, MakeReady, End}}
-use Rattle.layer_traits.specs.declared.{queue_edits.QueueBlock.QueueBlock, queues.{QueueAnswer.QueueAnswer, QueueCall.{QueueCall, TheVariants.{Push, TakeAll}}}}
+use Rattle.layer_traits.specs.declared.{queue_edits.{QueueBlock.QueueBlock, QueueAnswer.QueueAnswer}, queues.QueueCall.{QueueCall, TheVariants.{Push, TakeAll}}}
 use Rattle.layer_traits.specs.declared.{queues.{QueueCall.TheVariants.OnBuffer, QueueEvent.QueueEvent}, scheds.SchedAnswer.TheVariants.Done}
 use Rattle.layer_traits.specs.{declared.scheds.SchedCall.SchedCall, MoveRules.{MoveRules, WakesSleepers, edit_move}, Passes.{or_else, queue_for}}
 use Rattle.layer_traits.specs.Places.{AreMoves, Where, MayEdit, MayMove, Stands, Threads, home_of, is_asleep, is_home, pending_by, step, where_is}
@@ -15,7 +15,7 @@ use Rattle.layer_traits.{specs.Scheds.queue_call, proofs.CallLemmas.{moves_appen
 use Rattle.layer_traits.proofs.{CountLemmas.not_counted, PlaceLemmas.{away_from, away_known, current_at, current_new, hand_free, hand_at, pending_at}}
 use Rattle.layer_traits.proofs.PlaceLemmas.{stands_finished, stands_moved, stands_others, stands_pushed, stands_switched, stands_taken, home_there}
 use Rattle.scheduler.specs.{Owns.{MayFinish, MayJoin, MaySettle, MayTake, local_after}, Parts.{IsCalling, PartFits, UnderFits, sched_call, sched_under}}
-use Rattle.layer_traits.specs.declared.queues.QueueAnswer.TheVariants as told
+use Rattle.layer_traits.specs.declared.queue_edits.QueueAnswer.TheVariants as told
 use Rattle.layer_traits.specs.declared.scheds.SchedCall.TheVariants as call
 
 -- a thread that has a home is one of those that the list of homes counts

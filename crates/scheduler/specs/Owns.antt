@@ -1,8 +1,8 @@
 -- What a CPU's own threads must be like for a change of them to be one, and what a call leaves that touches nothing shared.
 use Rattle.std.specs.Prelude.{◌≡◌, ◌<◌, false, List, ◌++◌, Option, Some}
 use Rattle.{event_log.specs.declared.ids.{Tid.Tid, TheConstants.THREADS}, thread_blocks.specs.Queues.{is_in, AreApart}}
-use Rattle.layer_traits.specs.declared.{passes.Pass.{Pass, TheVariants.{Switch, YieldNow, Drain, MakeReady, End}}, queues.QueueAnswer.QueueAnswer}
-use Rattle.layer_traits.specs.{declared.{queues.QueueAnswer.TheVariants.{Done, Taken, Answer}, scheds.SchedCall.SchedCall}, MoveRules.MoveRules}
+use Rattle.layer_traits.specs.declared.{passes.Pass.{Pass, TheVariants.{Switch, YieldNow, Drain, MakeReady, End}}, queue_edits.QueueAnswer.QueueAnswer}
+use Rattle.layer_traits.specs.{declared.{queue_edits.QueueAnswer.TheVariants.{Done, Taken, Answer}, scheds.SchedCall.SchedCall}, MoveRules.MoveRules}
 use Rattle.layer_traits.specs.{Passes.{switched, finished}, Places.Threads}
 use Rattle.layer_traits.specs.declared.scheds.SchedCall.TheVariants as call
 

@@ -2,7 +2,7 @@
 use Rattle.std.proofs.Common.{arith, ◌≡◌, List, Option, Some, None, option_map, map, refl, ap, sym, ◌∙◌, subst}
 use Rattle.event_log.specs.{declared.ids.{BufId.BufId, CpuId.CpuId, LockId.LockId, Tid.Tid}, History.IsLawful, Actions.{Action, renamed}}
 use Rattle.layer_traits.specs.declared.{passes.Pass.Pass, payloads.{Parcel.Parcel, Payload.Payload}, queue_edits.{QueueBlock.QueueBlock, QueueEdit.QueueEdit}}
-use Rattle.layer_traits.specs.declared.{queues.{QueueEvent.QueueEvent, QueueAnswer.QueueAnswer}, scheds.SchedAnswer.{SchedAnswer, TheVariants.Done}}
+use Rattle.layer_traits.specs.declared.{queue_edits.QueueAnswer.QueueAnswer, queues.QueueEvent.QueueEvent, scheds.SchedAnswer.{SchedAnswer, TheVariants.Done}}
 use Rattle.layer_traits.specs.{declared.{scheds.SchedCall.SchedCall, sleeps.Outcome.Outcome}, Payloads.{outcome_told, sched_told, told_by}, Places.Stands}
 use Rattle.layer_traits.specs.{Places.Threads, Plans.{Follows, Left, Plan, table_of}, QueueBlocks.{StartsWell, homes_in, inner}, QueueRules.queue_rules}
 use Rattle.layer_traits.specs.{Queues.{QueueAllowed, moves_in}, Renaming.{renamed_edit, renamed_events, renamed_sched, viewed}, Scheds.{MaySched, SchedPolled}}

@@ -15,7 +15,7 @@ use Rattle.cpu.proofs.Tower.{SettledAnswers.returns, SectionLines.react_in, Chai
 use Rattle.layer_traits.specs.declared.locked.QOut.TheVariants as lock
 use Rattle.layer_traits.specs.declared.conditions.CvOut.TheVariants as cv
 use Rattle.layer_traits.specs.declared.queue_edits.QueueEdit.TheVariants as queue
-use Rattle.layer_traits.specs.declared.queues.QueueAnswer.TheVariants as told
+use Rattle.layer_traits.specs.declared.queue_edits.QueueAnswer.TheVariants as told
 pub use Rattle.layer_traits.proofs.PlaceLemmas.{home_there}
 
 module _ (site : Site) (u : Tid) (f : Effect) (known : IsSome (slice_get site.setup.homes u.0)) where

@@ -24,7 +24,7 @@ use Rattle.cpu.proofs.Tower.{Callers.call_state_at, ChangedThread.{goes, gone, n
 use Rattle.cpu.proofs.Tower.SettledAnswers.{calling, done_with, from_t, goes_on, recorded_is, put, returns}
 use Rattle.event_log.specs.declared.entries.Kind.TheVariants as kind
 use Rattle.layer_traits.specs.declared.queue_edits.QueueEdit.TheVariants as queue
-use Rattle.layer_traits.specs.declared.queues.QueueAnswer.TheVariants as told
+use Rattle.layer_traits.specs.declared.queue_edits.QueueAnswer.TheVariants as told
 use Rattle.layer_traits.specs.declared.locked.QOut.TheVariants as lock
 use Rattle.layer_traits.specs.declared.conditions.CvOut.TheVariants as cv
 use Rattle.layer_traits.specs.declared.queue_edits.QueueBlock.TheVariants as block

@@ -4,7 +4,7 @@ use Rattle.{event_log.specs.{declared.{entries.Kind.Kind, ids.Tid.Tid}, Messages
 use Rattle.layer_traits.specs.declared.locked.{QEdit.TheVariants.{Inside, Release}, QOut.QOut, Side.{Side, TheVariants.{Receivers, Senders}}}
 use Rattle.layer_traits.specs.declared.conditions.{CvEdit.TheVariants.{Edit, SignalFront}, CvLeave.TheVariants.{Leave, Wait}, CvOut.CvOut}
 use Rattle.layer_traits.specs.declared.{buffer_edits.{BufferEdit.BufferEdit, BufferOut.BufferOut}, queue_edits.{QueueBlock.QueueBlock, QueueEdit.QueueEdit}}
-use Rattle.layer_traits.specs.{declared.{queues.QueueAnswer.QueueAnswer, sleeps.Outcome.Outcome}, BufferBlocks.BufferState, BufferProtocol.buffer_rules}
+use Rattle.layer_traits.specs.{declared.{queue_edits.QueueAnswer.QueueAnswer, sleeps.Outcome.Outcome}, BufferBlocks.BufferState, BufferProtocol.buffer_rules}
 use Rattle.layer_traits.specs.{Conditions.CvCall, QLocking.{LockState, lock_moves, lock_rules}, Plans.{Table, table_of}, QueueRules.queue_rules}
 use Rattle.cpu.specs.Table.Blocks.{Buffer, Block, OfBuffer, OfPending, Name, AcqQ, Enter, TryPut, TryTake, Shut, WaitOn, SigRecv, SigSend, RelQ, Pend, TakeAll}
 use Rattle.cpu.specs.Table.{Blocks.{Reported, Nothing, Position, Done, WasClosed, DidShut, NotYet, Drained, Answer}, Edits.{edited, answer, reports}}
@@ -15,7 +15,7 @@ use Rattle.layer_traits.specs.declared.buffer_edits.BufferEdit.TheVariants as ed
 use Rattle.layer_traits.specs.declared.buffer_edits.BufferOut.TheVariants as out
 use Rattle.layer_traits.specs.declared.queue_edits.QueueBlock.TheVariants as block
 use Rattle.layer_traits.specs.declared.queue_edits.QueueEdit.TheVariants as queue
-use Rattle.layer_traits.specs.declared.queues.QueueAnswer.TheVariants as told
+use Rattle.layer_traits.specs.declared.queue_edits.QueueAnswer.TheVariants as told
 
 -- the names, answers and blocks of the layers' sections
 abbrev pub TowerName : Type 0
