@@ -21,7 +21,6 @@ import imports  # noqa: E402, of this folder
 # Cycles that are there, each as it is told.
 KNOWN = (
     "cpu_workers: counting, plan_words",
-    "ipc_calls: ipc, opening, tower",
     "mctower: count, locks, tower",
     "mctower: faults, line, memory, refusals",
     "mctower: run, texts",

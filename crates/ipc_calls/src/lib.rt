@@ -17,13 +17,13 @@ mod tower;
 mod whole;
 
 pub use ipc::Ipc;
-pub use opening::{OpensBuffers, OpensLocks, OpensQueues, OpensScheds};
+pub use opening::{LockEdit, OpensBuffers, OpensLocks, OpensQueues, OpensScheds};
 pub use stepwise::{
     StepwiseBuffers, StepwiseLocks, StepwiseQueues, StepwiseScheds, StepwiseSections,
     tower_is_stepwise,
 };
 pub use tower::{
-    LockEdit, TowerBlock, TowerEdit, TowerHanded, TowerLaws, TowerLockLaws, TowerOver, part_over,
+    TowerBlock, TowerEdit, TowerHanded, TowerLaws, TowerLockLaws, TowerOver, part_over,
     tower_blocks,
 };
 pub use whole::{WholeBuffers, calls_are_whole};

@@ -3,11 +3,17 @@
 ghost use Rattle.std.specs.Prelude.{◌≡◌, ◌<◌, ◌≤◌, [], IsSome, IfOk};
 ghost use Rattle.layer_traits.specs.Capacities.{caps_in};
 
-use crate::tower::LockEdit;
 use event_log::{CpuId, NoMemory};
-use layer_traits::{OwnedBuffers, OwnedLayer, OwnedThreadLayer, QueueLaw, SchedLaw, SleepLaw};
+use layer_traits::{
+    BufferEdit, CvEdit, CvLeave, OwnedBuffers, OwnedLayer, OwnedThreadLayer, QueueLaw, SchedLaw,
+    SleepLaw,
+};
+use queuing_lock::QLockEdit;
 use sleep_wakeup::SleepEdit;
 use std::alloc::Global;
+
+/// A call on the lock of a buffer.
+pub type LockEdit = QLockEdit<CvEdit<BufferEdit>, CvLeave>;
 
 /// A layer of buffers whose machine is opened with its buffers, and tells of its blocks.
 pub trait OpensBuffers: OwnedBuffers {

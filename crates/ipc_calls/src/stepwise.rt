@@ -2,8 +2,8 @@
 //! here are laws, with nothing to run.
 
 use crate::ipc::Ipc;
-use crate::opening::{OpensBuffers, OpensLocks, OpensQueues, OpensScheds};
-use crate::tower::{LockEdit, TowerEdit};
+use crate::opening::{LockEdit, OpensBuffers, OpensLocks, OpensQueues, OpensScheds};
+use crate::tower::TowerEdit;
 use condvar::Cond;
 use fifo_buffer::Fifo;
 use layer_traits::{OwnedLocks, Stepwise};

@@ -8,7 +8,7 @@ ghost use Rattle.{layer_traits.specs.{QueueBlocks.{StartsWell, homes_in, inner},
 ghost use Rattle.sleep_wakeup.specs.Nested.{state_of};
 
 use crate::ipc::Ipc;
-use crate::opening::{OpensBuffers, OpensLocks, OpensQueues, OpensScheds};
+use crate::opening::{LockEdit, OpensBuffers, OpensLocks, OpensQueues, OpensScheds};
 use condvar::Cond;
 use event_log::{CpuId, LockId, NoMemory};
 use fifo_buffer::{Fifo, empty_blocks};
@@ -24,9 +24,6 @@ use shared_queue::{SharedQueues, queue_blocks};
 use sleep_wakeup::{SleepBlock, SleepEdit, Sleeper, sleep_blocks};
 use std::alloc::Global;
 use std::marker::PhantomData;
-
-/// A call on the lock of a buffer.
-pub type LockEdit = QLockEdit<CvEdit<BufferEdit>, CvLeave>;
 
 /// What a section of the tower does to the block of its lock.
 pub type TowerEdit = QueueEdit<SleepEdit<LockEdit>>;
