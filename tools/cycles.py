@@ -20,7 +20,6 @@ import imports  # noqa: E402, of this folder
 
 # Cycles that are there, each as it is told.
 KNOWN = (
-    "cpu_workers: counting, plan_words",
     "mctower: count, locks, tower",
     "mctower: faults, line, memory, refusals",
     "mctower: run, texts",

@@ -18,18 +18,17 @@ mod laws;
 mod natives;
 mod own_threads;
 mod pauses;
-mod plan_words;
 mod pool;
 mod refusals;
 mod workers;
 
+pub use counting::plan_words::PlanWords;
 pub use laws::{
     actions_let_order_go_on, fronts_keep_order, reports_are_lawful, reports_are_runs,
     stops_are_true, workers_lose_no_wake_up,
 };
 pub use natives::{Native, NativeReport, run_native};
 pub use own_threads::{Joined, NoThread};
-pub use plan_words::PlanWords;
 pub use refusals::WorkerError;
 pub use workers::{
     Caller, Came, Closed, Did, Gate, Go, MOST_CALLS, OpenGate, Report, Stop, Worker, call,

@@ -5,9 +5,9 @@ ghost use Rattle.std.specs.Prelude.{◌≡◌, ◌*◌, ◌%◌, ◌^◌, ◌<�
 ghost use Rattle.{event_log.specs.{declared.ids.{CpuId.CpuId, TheConstants.CPUS}, Actions.{gives, phase, Rests}}, table_machine.specs.SeatViews.new_seat_views};
 ghost use Rattle.cpu_workers.specs.Counts.{AllHaveMade, IsNumberOfFrees, after_rounds, counting};
 
+use crate::counting::plan_words::PlanWords;
 use crate::counting::{AddOne, NUMBER};
 use crate::own_threads::Joined;
-use crate::plan_words::PlanWords;
 use boot::LockKind;
 use layer_traits::OwnedLocks;
 use table_machine::{Key, Shared};

@@ -6,9 +6,9 @@ ghost use Rattle.{event_log.specs.Refusals.no_memory, table_machine.specs.SeatVi
 ghost use Rattle.cpu_workers.specs.declared.refusals.WorkerError.TheVariants.{NoMemory as LacksMemory};
 
 use crate::counting::counted::{Counted, number_left, number_untouched};
+use crate::counting::plan_words::PlanWords;
 use crate::counting::tasks::count_all;
 use crate::counting::{AddOne, CountFault, NUMBER};
-use crate::plan_words::PlanWords;
 use crate::pool::Refused;
 use boot::LockKind;
 use event_log::{CPUS, NoMemory};

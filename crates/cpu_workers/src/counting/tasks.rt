@@ -5,8 +5,8 @@ ghost use Rattle.std.specs.Prelude.{◌≡◌, ◌≤◌, [], IsSome, IfOk, IfEr
 ghost use Rattle.{layer_traits.specs.OneLock.opened, cpu_workers.specs.{declared.counting.TheConstants.NUMBER, Counts.{AllHaveMade, IsFresh}, Reports.Both}};
 
 use crate::counting::AddOne;
+use crate::counting::plan_words::PlanWords;
 use crate::own_threads::{Joined, Task};
-use crate::plan_words::PlanWords;
 use crate::pool::{Refused, run_all};
 use crate::refusals::WorkerError;
 use std::alloc::{AllocError, Global};

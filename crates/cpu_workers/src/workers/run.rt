@@ -8,7 +8,7 @@ ghost use Rattle.{boot.specs.Plan.IsPlan};
 ghost use Rattle.{cpu.specs.Sound.setup_for, cpu_workers.specs.{Closing.{shown, tower_rules}, Lawful.IsLawfulReport, Logs.HasWords, ReportRuns.IsReportOfRun}};
 ghost use Rattle.cpu_workers.specs.Seating.{HaveLeft, OpensPlan};
 
-use crate::plan_words::PlanWords;
+use crate::counting::plan_words::PlanWords;
 use crate::refusals::WorkerError;
 use crate::workers::gates::Gate;
 use crate::workers::report::Report;
