@@ -19,12 +19,7 @@ sys.dont_write_bytecode = True
 import imports  # noqa: E402, of this folder
 
 # Cycles that are there, each as it is told.
-KNOWN = (
-    "mctower: count, locks, tower",
-    "mctower: faults, line, memory, refusals",
-    "mctower: run, texts",
-    "mctower: serve, threads",
-)
+KNOWN = ()
 CRATES = Path(__file__).resolve().parent.parent / "crates"
 COMMENT = re.compile(r"//.*")
 USE = re.compile(r"(?<![\w ])(?P<indent> *)(?P<hands_on>pub(?:\([a-z]+\))? )?use (?P<path>[\w:]+(?:::\{[^;]*\}|::\*)?(?: as \w+)?);")

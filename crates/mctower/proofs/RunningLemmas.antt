@@ -6,8 +6,9 @@ use Rattle.cpu.specs.{Boots.{guests_for, homes_for, tables_for}, Cpus.programs_o
 use Rattle.cpu.specs.{Claims.traces_of, Sound.{BootsByTable, IsSetupFor, RanByTable, SoundByTable, after_steps, setup_for}, Systems.{Ran, SamePlan, whole_of}}
 use Rattle.cpu.{specs.{Table.Steps.{Whole, whole_at_boot}, Observed.ObservedByTable}, proofs.{ListReads.{listed_length, map_twice}, ReachedSystems.setup_on}}
 use Rattle.{cpu.proofs.RealTime.linear_ran, mctower.specs.{Output.{IsUntouched, Output}, Plans.{IsOpened, IsSystemOf, table_run}, Running.{AreCpus, IsRunOf}}}
-use Rattle.mctower.specs.{Running.{IsPrinted, RunsPlan}, Texts.{IsOut, Writes}, declared.run.Fault.{Fault, TheVariants.{NoMemory, Boot, BadCpu, NoOrder}}}
-use Rattle.{mctower.{specs.declared.run.Fault.TheVariants.WriteFault, proofs.TabledLemmas.text_of_run}, tracer.proofs.OrderLemmas.orders_agree}
+use Rattle.mctower.specs.{Running.{IsPrinted, RunsPlan}, Texts.{IsOut, Writes}, declared.run_faults.Fault.{Fault, TheVariants.{NoMemory, Boot, BadCpu}}}
+use Rattle.mctower.{specs.declared.run_faults.Fault.TheVariants.{NoOrder, WriteFault}, proofs.TabledLemmas.text_of_run}
+use Rattle.tracer.proofs.OrderLemmas.{orders_agree}
 
 -- a system that opens with a plan's buffers, homes, guests and room for entries is the plan's
 pub opened : (plan : BootPlan) (s : Shown) → s.caps ≡ plan.caps → s.homes ≡ homes_for plan → map (λ p. p.guests) s.cpus ≡ tables_for plan

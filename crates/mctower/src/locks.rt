@@ -1,7 +1,7 @@
 //! The locks that a plan or a count may name, each over an owned machine. What stands on a lock has
-//! its kind from the lock's words, by its type ([`OnLock`]). A further lock is two more impls here, of
-//! its words and of the lock, and an arm where a lock is chosen by its kind: `over_lock` and
-//! `count_plain`.
+//! its kind from the lock's words, by its type ([`OnLock`](crate::on_lock::OnLock)). A further lock is
+//! one more impl here and one there, of its words, and an arm where a lock is chosen by its kind:
+//! `over_lock` and `count_plain`.
 //!
 //! A climb takes the memory that its work takes, and a count takes that of its machine and parts. No
 //! call waits.
@@ -10,84 +10,17 @@ ghost use Rattle.std.specs.Prelude.{◌≡◌, ◌*◌, ◌≤◌, IfOk};
 ghost use Rattle.event_log.specs.declared.ids.TheConstants.{CPUS};
 ghost use Rattle.boot.specs.declared.locks.LockKind.TheVariants as kind;
 
-use crate::count::count_behind;
 use crate::line::MOST_TIMES;
+use crate::rounds::count_behind;
 use crate::tower::{OverTower, over_sections};
 use boot::LockKind;
-use condvar::Cond;
-use cpu_workers::counting::{AddOne, CountLaws, Counted, LockOfKind};
+use cpu_workers::counting::{AddOne, CountLaws, Counted};
 use event_log::NoMemory;
-use fifo_buffer::Fifo;
-use ipc_calls::{Ipc, TowerEdit, TowerLockLaws};
-use layer_traits::{Sleeps, SplitEdit};
-use plain_machine::{GrantPlain, Granting, LineWords, LockWords, Plain};
-use queuing_lock::QLock;
-use scheduler::Sched;
-use shared_queue::SharedQueues;
-use sleep_wakeup::Sleeper;
-use spinlock::{FairLock, Grant, SpinLock, Ticket};
+use ipc_calls::{TowerEdit, TowerLockLaws};
+use plain_machine::{GrantPlain, Plain};
+use spinlock::{Grant, Ticket};
 use std::alloc::Global;
 use std::marker::PhantomData;
-
-/// What stands on locks of one kind: their words, an owned machine of such words, and each layer of
-/// a tower over it.
-pub trait OnLock {
-    ghost use Rattle.boot.specs.declared.locks.LockKind.{LockKind};
-
-    /// The kind of these locks, as a plan names it.
-    ghost lock_kind: { LockKind };
-}
-
-impl OnLock for LockWords {
-    ghost lock_kind = { kind.Ticket };
-}
-
-impl OnLock for Granting {
-    ghost lock_kind = { kind.Grant };
-}
-
-impl<E: SplitEdit, K: LineWords + OnLock> OnLock for Plain<E, K> {
-    ghost lock_kind = { K.lock_kind };
-}
-
-impl<M: FairLock<LockProtocol> + OnLock, LockProtocol> OnLock for SpinLock<M, LockProtocol> {
-    ghost lock_kind = { M.lock_kind };
-}
-
-impl<L: OnLock> OnLock for SharedQueues<L> {
-    ghost lock_kind = { L.lock_kind };
-}
-
-impl<Q: OnLock> OnLock for Sched<Q> {
-    ghost lock_kind = { Q.lock_kind };
-}
-
-impl<E: Sleeps, S: OnLock> OnLock for Sleeper<E, S> {
-    ghost lock_kind = { S.lock_kind };
-}
-
-impl<S: OnLock> OnLock for QLock<S> {
-    ghost lock_kind = { S.lock_kind };
-}
-
-impl<Q: OnLock> OnLock for Cond<Q> {
-    ghost lock_kind = { Q.lock_kind };
-}
-
-impl<C: OnLock> OnLock for Fifo<C> {
-    ghost lock_kind = { C.lock_kind };
-}
-
-impl<B: OnLock> OnLock for Ipc<B> {
-    ghost lock_kind = { B.lock_kind };
-}
-
-/// The one name by which a count tells the kind of its lock: that of what stands on it.
-pub struct KindOf;
-
-impl<L: OnLock> LockOfKind<L> for KindOf {
-    ghost lock_kind = { L.lock_kind };
-}
 
 /// A lock by its kind: the tower over it in an owned machine, and a count behind it.
 pub trait OwnedLock {

@@ -1,10 +1,10 @@
-//! What the program prints: pieces, all of which go out, and texts that are shown in a line. No call
-//! takes memory or waits, unless the sink's writer does.
+//! What the program prints: pieces, all of which go out. No call takes memory or waits, unless the
+//! sink's writer does.
 
-ghost use Rattle.std.specs.{Prelude.{◌≡◌, IfOk, IfSome, false, is_err, true}, List.{before_first, flat_map}};
-ghost use Rattle.{tracer.specs.Sinks.{WentOut, has_failed, is_flushed}, mctower.specs.{Output.{IsTold, between}, Print.{is_line_feed, shown_line}}};
+ghost use Rattle.std.specs.{Prelude.{◌≡◌, IfOk, IfSome, false, is_err, true}, List.flat_map};
+ghost use Rattle.{tracer.specs.Sinks.{WentOut, has_failed, is_flushed}, mctower.specs.Output.{IsTold, between}};
 
-use arrayvec::{ArrayString, ArrayVec};
+use arrayvec::ArrayVec;
 use std::io::Write;
 use tracer::{Sink, WriteFault};
 
@@ -86,35 +86,4 @@ pub(crate) fn tell_text<W: Write>(sink: &mut Sink<W>, text: &str)
     ensures { IsTold (between W.contents sink.old sink.new) text.now }
 {
     tell(sink, &[text.as_bytes()]);
-}
-
-/// How many bytes of a text are shown at most.
-const LONGEST: usize = 200;
-
-/// A text as it is shown in a line.
-pub type Shown = ArrayString<LONGEST>;
-
-/// The text before its first line feed.
-fn first_line(text: &str) -> &str
-    ensures { result.now ≡ before_first is_line_feed text.now }
-{
-    match text.split_once('\n') {
-        Some((line, _)) => line,
-        None => text,
-    }
-}
-
-/// A text as it is shown in a line: what stands before its first line feed, or two dots if that is
-/// longer than 200 bytes.
-pub(crate) fn shown(text: &str) -> Shown
-    ensures { result.bytes ≡ shown_line text.now }
-{
-    match Shown::from(first_line(text)) {
-        Ok(shown) => shown,
-        Err(_) => {
-            let mut dots = Shown::new();
-            dots.push_str("..");
-            dots
-        }
-    }
 }

@@ -2,106 +2,21 @@
 //! No call waits, unless the sink's writer does.
 
 ghost use Rattle.std.specs.Prelude.{◌≡◌, ◌≤◌, false, length, map, IfOk, Ok};
-ghost use Rattle.{event_log.specs.{declared.ids.TheConstants.BUFFERS, Refusals.no_memory}, boot.specs.Plan.plan_of, tracer.specs.Gather.traces_in};
-ghost use Rattle.{tracer.specs.Sinks.has_failed, cpu.specs.Claims.traces_of, mctower.specs.{Output.between, Plans.{IsOfPlan, from_boot}, Running.RunsPlan}};
-ghost use Rattle.mctower.specs.{Running.{RunsText, on_lock}, Texts.Writes, declared.run.Fault.TheVariants.{NoMemory, NoOrder, BadCpu as BadCpuFault}};
-ghost use Rattle.mctower.specs.declared.run.Fault.TheVariants.{WriteFault as WriteFailed};
+ghost use Rattle.{event_log.specs.declared.ids.TheConstants.BUFFERS, boot.specs.Plan.plan_of, tracer.specs.{Gather.traces_in, Sinks.has_failed}};
+ghost use Rattle.{cpu.specs.Claims.traces_of, mctower.specs.{Output.between, Plans.IsOfPlan, Running.RunsPlan}};
+ghost use Rattle.mctower.specs.{Running.{RunsText, on_lock}, Texts.Writes};
 
+use crate::run_faults::Fault;
 use crate::schedule::MOST_STEPS;
 use crate::texts::write_text;
 use arrayvec::ArrayVec;
-use boot::{Boot, BootError, LockKind};
-use cpu::{BadCpu, System};
-use event_log::{BUFFERS, BufId, CAPACITY, CpuId, Entry, Msg, NoMemory};
+use boot::{Boot, LockKind};
+use cpu::System;
+use event_log::{BUFFERS, BufId, CAPACITY, CpuId, Entry, Msg};
 use layer_traits::Owned;
-use std::alloc::{AllocError, AllocFailed, Global};
+use std::alloc::{AllocError, Global};
 use std::io::Write;
-use thiserror::Error;
-use tracer::{GatherError, Sink, WriteFault};
-
-/// Why a run gave no trace text. Each prints as its name, its number and where it is.
-#[derive(Clone, Copy, Debug, PartialEq, Eq, Error)]
-pub enum Fault {
-    /// An allocation was refused.
-    #[error("{0}")]
-    NoMemory(NoMemory),
-    /// The plan is refused.
-    #[error("{0}")]
-    Boot(BootError),
-    /// The schedule names a CPU that the plan has not.
-    #[error("BadCpu(4)")]
-    BadCpu,
-    /// The traces have no order that keeps each of them. It never comes.
-    #[error("NoOrder(6)")]
-    NoOrder,
-    /// A write to the sink failed.
-    #[error("WriteFault(8)")]
-    WriteFault,
-}
-
-impl From<AllocError> for Fault {
-    ghost from_gives = { λ _ e. e ≡ NoMemory no_memory };
-
-    fn from(error: AllocError) -> Fault {
-        Fault::NoMemory(NoMemory::from(error))
-    }
-}
-
-impl<T: Drop> From<AllocFailed<T>> for Fault {
-    ghost from_gives = { λ _ e. e ≡ NoMemory no_memory };
-
-    fn from(error: AllocFailed<T>) -> Fault {
-        Fault::NoMemory(NoMemory::from(error))
-    }
-}
-
-impl From<NoMemory> for Fault {
-    ghost from_gives = { λ _ e. e ≡ NoMemory no_memory };
-
-    fn from(error: NoMemory) -> Fault {
-        Fault::NoMemory(error)
-    }
-}
-
-impl From<BootError> for Fault {
-    ghost from_gives = { λ error e. e ≡ from_boot error };
-
-    fn from(error: BootError) -> Fault {
-        match error {
-            BootError::NoMemory(refused) => Fault::NoMemory(refused),
-            refused => Fault::Boot(refused),
-        }
-    }
-}
-
-impl From<BadCpu> for Fault {
-    ghost from_gives = { λ _ e. e ≡ BadCpuFault };
-
-    fn from(_error: BadCpu) -> Fault {
-        Fault::BadCpu
-    }
-}
-
-impl From<GatherError> for Fault {
-    ghost use Rattle.mctower.specs.Plans.{from_gather};
-
-    ghost from_gives = { λ error e. e ≡ from_gather error };
-
-    fn from(error: GatherError) -> Fault {
-        match error {
-            GatherError::NoMemory(refused) => Fault::NoMemory(refused),
-            GatherError::NoOrder => Fault::NoOrder,
-        }
-    }
-}
-
-impl From<WriteFault> for Fault {
-    ghost from_gives = { λ _ e. e ≡ WriteFailed };
-
-    fn from(_error: WriteFault) -> Fault {
-        Fault::WriteFault
-    }
-}
+use tracer::Sink;
 
 /// The system of a plan after a run, by the lock that the plan names: `I` is the top of the layers
 /// over ticket locks, and `J` of those over locks with grant words.

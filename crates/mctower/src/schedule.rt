@@ -3,8 +3,9 @@
 ghost use Rattle.std.specs.Prelude.{◌≡◌, ◌+◌, ◌-◌, ◌<◌, ◌≤◌, ◌∷◌, ◌++◌, [], true, length, replicate, slice_index, take, option_map, IfSome, OnOk, vec_len};
 ghost use Rattle.{std.specs.{Char.is_ascii_digit, List.slice_split, Str.all_ascii_digits}, mctower.specs.Schedule.{cpu_of, item_of, is_comma, schedule_pieces}};
 ghost use Rattle.mctower.specs.{Schedule.{ReadsSteps, steps_of, steps_in}, declared.schedule.StepsError.TheVariants.NoMemory};
-ghost use Rattle.event_log.specs.Refusals.{no_memory};
+ghost use Rattle.{event_log.specs.Refusals.no_memory, mctower.specs.Refusals.from_steps};
 
+use crate::refusals::Refusal;
 use event_log::{CpuId, NoMemory, number_to};
 use std::alloc::{AllocError, AllocFailed, Global};
 use thiserror::Error;
@@ -31,6 +32,16 @@ impl From<AllocError> for StepsError {
 
     fn from(error: AllocError) -> StepsError {
         StepsError::NoMemory(NoMemory::from(error))
+    }
+}
+
+/// A text that is no schedule, as a refusal.
+pub(crate) fn steps_refused(error: StepsError) -> Refusal
+    ensures { result ≡ from_steps error }
+{
+    match error {
+        StepsError::NoMemory(refused) => Refusal::NoMemory(refused),
+        StepsError::BadSchedule => Refusal::BadSchedule,
     }
 }
 

@@ -1,64 +1,32 @@
 //! Serving a command line: reads the order, does it, prints, and gives the exit status. `serve`
 //! takes memory. It may wait: for its worker threads, and for the streams.
 
-ghost use Rattle.std.specs.{Prelude.{◌≡◌, ◌≤◌, ◌*◌, ◌⊎◌, IfOk, None, false, true, length, map, option_map, string_bytes}, List.flat_map};
+ghost use Rattle.std.specs.Prelude.{◌≡◌, ◌≤◌, ◌*◌, ◌⊎◌, IfOk, None, false, true, length, map, option_map, string_bytes};
 ghost use Rattle.{event_log.specs.declared.ids.TheConstants.CPUS, tracer.specs.Sinks.{has_failed, is_flushed}, mctower.specs.{Output.between, Line.order_of}};
-ghost use Rattle.mctower.specs.{Schedule.ReadsSteps, Serve.{Checks, Counts, Ends, OfBytes, OfInput, Puts, PutsAnswer, ReadsAll, RunsPlan, Serves}};
+ghost use Rattle.mctower.specs.{Schedule.ReadsSteps, Serve.{Checks, Counts, Ends, OfBytes, OfInput, PutsAnswer, RunsPlan, Serves}};
 ghost use Rattle.mctower.specs.Serve.{PrintsVerdict, fault_refused, reads_input, steps_asked};
 
 use crate::count::{count_plain, count_table};
-use crate::faults::{NoOrder, why_no_order};
+use crate::done::{Done, put_out, read_all};
+use crate::faults::NoOrder;
 use crate::help::{VERSION, help_on};
 use crate::line::{LineError, MOST_TIMES, Order, read_line};
 use crate::memory::read_refused;
-use crate::print::print;
-use crate::refusals::{
-    Refusal, run_refused, status_of_refusal, steps_refused, worker_refused, write_report,
-};
-use crate::schedule::{MOST_STEPS, StepsError, read_steps};
-use crate::states::State;
+use crate::no_orders::why_no_order;
+use crate::plan_run::run_plan;
+use crate::refusals::{Refusal, status_of_refusal, worker_refused};
+use crate::reports::write_report;
+use crate::run_faults::run_refused;
+use crate::schedule::{MOST_STEPS, StepsError, read_steps, steps_refused};
 use crate::threads::{serve_threads, write_stops};
-use crate::tower::run_plan;
 use boot::{BootError, LockKind};
-use cpu_workers::Stop;
 use event_log::CpuId;
 use itoa::Buffer;
 use std::alloc::Global;
 use std::io::{Read, Write};
 use std::sync::Wait;
 use std::thread::Threads;
-use tracer::{InputFault, Sink, Verdict, WriteFault, check_input};
-
-/// What serving an order gave, where it is done.
-#[derive(Drop)]
-pub enum Done {
-    /// This exit status; nothing is to be told.
-    Exit(u8),
-    /// A good run, whose system is in this state, which is to be told.
-    Ran(State),
-    /// A good run in threads, whose workers stopped so, by CPU, which is to be told.
-    Worked(Vec<Stop>),
-}
-
-/// Puts the pieces out and flushes; then this is done.
-///
-/// Requires: the sink has not failed.
-///
-/// Errors: `WriteFault` if a write or the flush failed.
-pub(crate) fn put_out<O: Write>(
-    out: &mut Sink<O>,
-    pieces: &[&[u8]],
-    done: Done,
-) -> Result<Done, Refusal>
-    requires { has_failed out.old ≡ false }
-    ensures put { Puts done (flat_map (λ p. p.now) pieces.now) result (between O.contents out.old out.new) }
-    ensures flushed { IfOk result (λ _. is_flushed out.new ≡ true) }
-{
-    match print(out, pieces) {
-        Ok(()) => Ok(done),
-        Err(WriteFault) => Err(Refusal::WriteFault),
-    }
-}
+use tracer::{InputFault, Sink, Verdict, check_input};
 
 /// Counts over both machines with locks of this kind, and prints `plain T` and `table T`.
 fn serve_count<O: Write, T: Threads + Wait + Sync>(
@@ -96,19 +64,6 @@ fn serve_count<O: Write, T: Threads + Wait + Sync>(
         b"\n".as_slice(),
     ];
     put_out(out, &lines, Done::Exit(0))
-}
-
-/// All of the input.
-///
-/// Errors: `NoMemory` if an allocation was refused. `ReadFault` if a read failed.
-pub(crate) fn read_all<R: Read>(alloc: Global, input: &mut R) -> Result<Vec<u8>, Refusal>
-    ensures { ReadsAll (R.remaining input.old) result }
-{
-    let mut bytes = Vec::new(alloc);
-    match input.read_to_end(&mut bytes) {
-        Ok(_) => Ok(bytes),
-        Err(error) => Err(read_refused(error.kind())),
-    }
 }
 
 /// Prints a verdict: `yes`, or `no L Name(N)`. Gives the exit status.

@@ -7,7 +7,7 @@ ghost use Rattle.tracer.specs.{Gather.{traces_in, entries_in}, Judging.verdict_o
 ghost use Rattle.mctower.specs.{Output.between, Tabled.{NothingIsPrinted, RunsHaveOneText}, Threads.ThreadsPrintARun};
 ghost use Rattle.mctower.specs.{Texts.HaveText, Texts.IsTextOf, Texts.Writes};
 
-use crate::run::Fault;
+use crate::run_faults::Fault;
 use arrayvec::ArrayVec;
 use event_log::{CAPACITY, Entry, Msg};
 use std::alloc::{AllocError, Global};

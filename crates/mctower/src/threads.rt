@@ -8,9 +8,9 @@ ghost use Rattle.{tracer.specs.TraceText.{text_line, numbered}, cpu.specs.Claims
 ghost use Rattle.mctower.specs.{Output.{IsTold, between}, Serve.{OfBytes, OfInput, OfPlan, RefusedBy, WorksPlan}, Threads.{stop_pieces, stop_text, stop_word}};
 ghost use Rattle.mctower.specs.Refusals.{lacks_memory};
 
-use crate::refusals::{Refusal, run_refused, worker_refused};
-use crate::run::Fault;
-use crate::serve::{Done, put_out, read_all};
+use crate::done::{Done, put_out, read_all};
+use crate::refusals::{Refusal, worker_refused};
+use crate::run_faults::{Fault, run_refused};
 use crate::states::put_cpu;
 use crate::texts::write_lists;
 use arrayvec::ArrayVec;

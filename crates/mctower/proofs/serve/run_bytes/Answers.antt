@@ -2,10 +2,10 @@ use Rattle.std.proofs.{Common.{◌≡◌, Bool, List, [], Result, Ok, Err, true,
 use Rattle.std.specs.{Prelude.if◌then◌else◌, Io.KnownBytes.Appends}
 use Rattle.{event_log.specs.declared.ids.CpuId.CpuId, boot.specs.{declared.refusals.BootError.BootError, Plan.{BootPlan, plan_of}}, tracer.specs.Sinks.Outs}
 use Rattle.{tracer.proofs.SinkLemmas.{all_out, outs_then}, mctower.specs.declared.refusals.Refusal.{Refusal, TheVariants.{WriteFault, Plan as BadPlan}}}
-use Rattle.mctower.specs.{declared.{serve.Done.{Done, TheVariants.Ran}, states.State.State, run.Fault.Fault}, State.IsStateOf, Running.{IsRunOf, NoCondition}}
-use Rattle.mctower.specs.{Running.{RunsOn, Tells}, Output.{Output, between}, Serve.{OfPlan, RefusedBy, RunsPlan, ReportsRun}, Refusals.from_fault}
+use Rattle.mctower.specs.{declared.{done.Done.{Done, TheVariants.Ran}, states.State.State, run_faults.Fault.Fault}, State.IsStateOf, Running.IsRunOf}
+use Rattle.mctower.specs.{Running.{NoCondition, RunsOn, Tells}, Output.{Output, between}, Serve.{OfPlan, RefusedBy, RunsPlan, ReportsRun}, Refusals.from_fault}
 use Rattle.{mctower.{specs.Refusals.lacks_memory, proofs.TabledLemmas.state_of_run}, cpu.specs.Claims.Shown}
-use Rattle.mctower.specs.declared.run.Fault.TheVariants as run
+use Rattle.mctower.specs.declared.run_faults.Fault.TheVariants as run
 use Rattle.mctower.proofs.serve.run_bytes.Goals as goal
 
 -- what is to be told of a run whose text was put out, and nothing more behind it

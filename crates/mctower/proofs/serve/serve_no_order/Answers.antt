@@ -1,5 +1,5 @@
 -- proofs/serve/serve_no_order/Answers.antt
-use Rattle.{std.proofs.Common.{inl, inr, map, rules, subst}, mctower.specs.{Faults.IsWhy, Output.between, Serve.Puts, declared.serve.Done.TheVariants.Exit}}
+use Rattle.{std.proofs.Common.{inl, inr, map, rules, subst}, mctower.specs.{Faults.IsWhy, Output.between, Serve.Puts, declared.done.Done.TheVariants.Exit}}
 use Rattle.mctower.proofs.HelpLemmas.{help_pieces}
 use Rattle.mctower.proofs.serve.serve_no_order.Goals as goal
 

@@ -1,6 +1,6 @@
 use Rattle.std.{proofs.Common.{◌<◌, List, ℕ, length, get_or, ap, refl, sym, ◌∙◌, subst}, specs.{Borrow.Bor, Prelude.Err}}
 use Rattle.{event_log.specs.{declared.entries.Entry.Entry, Messages.IsMessage}, tracer.specs.Gather.{traces_in, entries_in, IsOrder, TakesFirstReady}}
-use Rattle.mctower.{specs.{Plans.from_gather, declared.run.Fault.TheVariants.WriteFault}, proofs.SpellingLemmas.{err_writes, gather_refused, out_so}}
+use Rattle.mctower.{specs.{Plans.from_gather, declared.run_faults.Fault.TheVariants.WriteFault}, proofs.SpellingLemmas.{err_writes, gather_refused, out_so}}
 use Rattle.mctower.proofs.SpellingLemmas.{spelled_so}
 use Rattle.mctower.proofs.texts.write_text.Goals as goal
 
