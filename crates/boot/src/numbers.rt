@@ -16,13 +16,8 @@ fn number_within(integer: i64, least: u64, most: u64) -> Option<u64>
     ensures number { result ≡ number_within least most integer }
     ensures within { IfSome result (λ number. (least ≤ number) × (number ≤ most)) }
 {
-    let Ok(number) = u64::try_from(integer) else {
-        return None;
-    };
-    if number < least {
-        return None;
-    }
-    if most < number {
+    let number = u64::try_from(integer).ok()?;
+    if number < least || most < number {
         return None;
     }
     Some(number)
@@ -64,9 +59,7 @@ fn caps_of(integers: &[i64]) -> Option<ArrayVec<u8, BUFFERS>>
 {
     let mut caps = ArrayVec::new();
     for integer in integers {
-        let Some(capacity) = number_within(*integer, 1, CAPACITY as u64) else {
-            return None;
-        };
+        let capacity = number_within(*integer, 1, CAPACITY as u64)?;
         caps.push(capacity as u8);
     }
     Some(caps)

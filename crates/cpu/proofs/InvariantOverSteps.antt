@@ -6,7 +6,7 @@ use Rattle.event_log.{specs.{Actions.{Action, cpu_of_action, phase}, History.{Ar
 use Rattle.{event_log.proofs.Same.same_cpu_self, layer_traits.specs.{BufferLaw.{UnderWay, cpu_of_entry}, OnePlace.cpu_at, Places.Threads}}
 use Rattle.{layer_traits.specs.declared.call_states.CallState.CallState, cpu.specs.{declared.guests.Guest.Guest, Cpus.{ActsGrow, IsCpu, SeenGrows, of_cpu}}}
 use Rattle.cpu.{specs.{Claims.CpuShown, Systems.{IsAt, IsSystem}}, proofs.{CpuStates.valid_cpu, GuestLists.cpu_same}}
-use Rattle.cpu.proofs.{ListReads.{all_both, all_by, all_left, all_right, set_again, set_else, set_there}, PassSteps.seen_stays, ReachedSystems.Observed}
+use Rattle.cpu.proofs.{ListReads.{all_both, all_by, all_left, all_right, set_else, set_there}, PassSteps.seen_stays, ReachedSystems.Observed}
 
 -- where the holder acts for each CPU that there may be, no effect is foreign
 pub no_others : (ActsFor : CpuId → Type 0) (others : List Entry) → ((c : CpuId) → c.0 < CPUS → ActsFor c) → AllByRecursion (λ e. e.cpu.0 < CPUS) others
@@ -147,11 +147,6 @@ module _ {M X : Type 0} (of : Works M X) where
   abbrev pub Holds : M → List X → ℕ → ℕ → Type 0
   Holds m cpus room taken = IsSystem (IsOne m) of.number (of.ActsFor m) (of.MayHold m) of.IsStepwise (of.told m).acts cpus (of.told m).homes
       (of.told m).seen room taken (of.left m) (of.Sound m cpus room taken)
-
-  -- nothing has changed
-  pub again : (m m2 : M) (cpus : List X) (room taken k : ℕ) (x y : X) → Holds m cpus room taken → slice_get cpus k ≡ Some x → m2 ≡ m → y ≡ x
-      → Holds m2 (slice_set cpus k y) room taken
-  again m m2 cpus room taken k x y is at same_machine same = grind (arith, set_again)
 
   -- a CPU took a step
   pub stepped : (m m2 : M) (cpus : List X) (room taken k : ℕ) (x y : X) → Holds m cpus room taken → of.Sound m2 (slice_set cpus k y) room (taken + 1)

@@ -1,9 +1,8 @@
 -- The traces of all CPUs are an order of the effects of one list of actions, if each CPU has seen a front of it that has all of its own.
 use Rattle.std.proofs.Common.{◌≡◌, ℕ, suc, ◌*◌, ◌<◌, ◌≤◌, ◌==◌, ◌^◌, false, List, [], ◌∷◌, ◌++◌, length, map, All, reverse, Option, Some, None, option_to_list}
-use Rattle.std.proofs.Common.{append_assoc, slice_index_or, refl, ap, sym, ◌∙◌, subst, arith}
-use Rattle.std.proofs.lemmas.{Bool.cases_lt, List.{append-nil, length-reverse, reverse-append}}
-use Rattle.std.{proofs.lemmas.{List.Sums.{sum_by-cons, sum_by-le, sum_by-set}, Option.{get_or_from_slice_get, slice_get_within}}, specs.List.AllByRecursion}
-use Rattle.std.specs.{List.sum_by, Prelude.slice_set}
+use Rattle.std.proofs.{Common.{append_assoc, slice_index_or, refl, ap, sym, ◌∙◌, subst, arith}, lemmas.{Bool.cases_lt, List.{append-nil, length-reverse}}}
+use Rattle.std.proofs.lemmas.{List.{reverse-append, Sums.{sum_by-cons, sum_by-le, sum_by-set}}, Option.{get_or_from_slice_get, slice_get_within}}
+use Rattle.std.specs.{List.{AllByRecursion, sum_by}, Prelude.slice_set}
 use Rattle.event_log.specs.{declared.{entries.Entry.Entry, ids.{CpuId.CpuId, LockId.TheVariants.Buffer}}, Actions.{Action, Take, Try, Give, cpu_of_action}}
 use Rattle.event_log.specs.{History.{AreOthers, IsLawful, own_events, same_cpu}, Runs.IsRun, Sections.sections_in, Traces.IsInterleaving}
 use Rattle.{event_log.proofs.Same.same_cpu_self, layer_traits.specs.declared.queue_edits.QueueEdit.TheVariants.{Push, TakeAll, Above}}
@@ -136,7 +135,7 @@ all_used [] used = refl
 all_used (trace ∷ traces) used = sum_by-cons length trace traces ∙ omega (arith, ap length (used 0), all_used traces (λ k. used (suc k)))
 
 -- an order has as many entries as the traces together
-order_length : (traces : List (List Entry)) (order : List Entry) → IsInterleaving traces order → length order ≡ sum_by length traces
+pub order_length : (traces : List (List Entry)) (order : List Entry) → IsInterleaving traces order → length order ≡ sum_by length traces
 order_length traces [] keeps = sym (all_used traces keeps)
 order_length traces (e ∷ order) keeps =
     let set = sum_by-set length traces keeps.0 keeps.1 [] in

@@ -1,21 +1,19 @@
 -- From the workers that came back and the closed table to the lawful report.
-use Rattle.std.proofs.Common.{◌≡◌, ℕ, ◌+◌, ◌<◌, true, false, List, ◌++◌, length, Some, refl, ap, sym, ◌∙◌, subst, arith}
+use Rattle.std.{proofs.Common.{◌≡◌, ℕ, ◌+◌, ◌<◌, true, false, List, ◌++◌, length, Some, refl, ap, sym, ◌∙◌, subst, arith}, specs.Prelude.Option}
 use Rattle.cpu_workers.proofs.{TableOrder.{goes_on, ordered, rest, Goes}, Turning.{took_of, within_others}, ClosedLog.{acts_legal, buffers_left, queues_left}}
-use Rattle.cpu_workers.{proofs.{Lasting.all_ended, OneOrder.HasOrder}, specs.declared.workers.{gates.Go.{Go, TheVariants.Limit}, stops.Stop.Stop}}
+use Rattle.cpu_workers.proofs.{ClosedLog.{buffer_opens, proper, starts}, Lasting.all_ended, OneOrder.{HasOrder, trace_in}, Fronts.{counted, is_front}}
+use Rattle.cpu_workers.{proofs.{Fronts.proper_before, TableTraces.total}, specs.declared.workers.{gates.Go.{Go, TheVariants.Limit}, stops.Stop.Stop}}
 use Rattle.cpu_workers.specs.Lawful.{AreLeft, HasGone, IsLawfulReport, IsCpuReportOf, IsReport, CpuReport, Shown, ReportsTrue, left_in, held_at}
-use Rattle.cpu_workers.specs.{Logs.IsReportOfWords, Orders.{FollowsProgram, effects_of}, Working.Charge, Closing.{HasSeen, HaveCome, IsReported, Key}}
-use Rattle.cpu_workers.specs.{Closing.{LockBlock, ReportsAreLawful, StartsSo, acts_in, tower_rules}, Reports.{IsTrueStop, TookWithin, WentBy, Within}}
-use Rattle.{cpu_workers.specs.Seating.{HasLeft, IsApart}, event_log.specs.declared.{entries.Entry.Entry, ids.{CpuId.CpuId, LockId.LockId}}}
+use Rattle.cpu_workers.specs.{Logs.IsReportOfWords, Orders.{FollowsProgram, effects_of, IsTraceOf}, Working.Charge, Closing.{HasSeen, HaveCome, IsReported}}
+use Rattle.cpu_workers.specs.{Closing.{Key, LockBlock, ReportsAreLawful, StartsSo, acts_in, tower_rules, seen_above}, Reports.{IsTrueStop, TookWithin, WentBy}}
+use Rattle.{cpu_workers.specs.{Reports.Within, Seating.{HasLeft, IsApart}}, event_log.specs.declared.{entries.Entry.Entry, ids.{CpuId.CpuId, LockId.LockId}}}
 use Rattle.event_log.specs.{declared.ids.LockId.TheVariants.{Pending, Buffer as AtBuffer}, Actions.{Action, cpu_of_action, phase, renamed}, History.AreOthers}
-use Rattle.event_log.proofs.{Foreign.{own_none, phase_others}, Streams.taken_put, Renaming.{legal_renamed, others_renamed}, Same.same_cpu_self}
-use Rattle.layer_traits.{specs.{declared.queue_edits.QueueBlock.QueueBlock, Plans.is_in_section}, proofs.PlanRenaming.map-append}
-use Rattle.{table_machine.specs.SeatViews.{TableView, Closes}, cpu.specs.{Claims.{buffer_at, listed}, Cpus.of_thread, Table.{Blocks.Name, Setups.Setup}}}
-use Rattle.cpu.specs.{Table.{Setups.{Private, at_boot, thread_at}, Steps.{cpu_step, halted_at}}, Tower.{Composed.named, Views.{TowerName, name_of}}}
-use Rattle.cpu.{specs.{Wakeups.Lost.IsWorked, Sound.setup_for}, proofs.{TableQuiet.ended_at, Wakeups.CpusByTable.cpus_lose_no_wake_up}}
-use Rattle.{event_log.specs.Sections.sections_in, layer_traits.specs.{OneLock.opened, QueueRules.AreProper}, cpu.specs.{Cpus.of_cpu, Tower.Views.TowerBlock}}
-use Rattle.cpu_workers.{proofs.{ClosedLog.{buffer_opens, proper, starts}, Fronts.{counted, is_front, proper_before}, OneOrder.trace_in, TableTraces.total}}
-use Rattle.cpu_workers.specs.{Closing.seen_above, Orders.IsTraceOf}
-use Rattle.{std.specs.Prelude.Option, boot.specs.Plan.BootPlan}
+use Rattle.event_log.{specs.Sections.sections_in, proofs.{Foreign.{own_none, phase_others}, Streams.taken_put, Renaming.{legal_renamed, others_renamed}}}
+use Rattle.{event_log.proofs.Same.same_cpu_self, layer_traits.specs.{declared.queue_edits.QueueBlock.QueueBlock, Plans.is_in_section, OneLock.opened}}
+use Rattle.{layer_traits.{specs.QueueRules.AreProper, proofs.PlanRenaming.map-append}, table_machine.specs.SeatViews.{TableView, Closes}}
+use Rattle.cpu.specs.{Claims.{buffer_at, listed}, Cpus.{of_thread, of_cpu}, Table.{Blocks.Name, Setups.{Setup, Private, at_boot, thread_at}, Steps.cpu_step}}
+use Rattle.cpu.specs.{Table.Steps.halted_at, Tower.{Composed.named, Views.{TowerName, name_of, TowerBlock}}, Wakeups.Lost.IsWorked, Sound.setup_for}
+use Rattle.{cpu.proofs.{TableQuiet.ended_at, Wakeups.CpusByTable.cpus_lose_no_wake_up}, boot.specs.Plan.BootPlan}
 use Rattle.layer_traits.specs.declared.steps.Reason.TheVariants as reason
 
 -- What a worker of a plan left is what its CPU did along what it has seen.

@@ -1,11 +1,10 @@
 -- Counting in threads: sections that each add 1 to one number, and what a worker leaves: its CPU has done so many sections more.
 use Rattle.std.specs.Prelude.{◌≡◌, ℕ, zero, suc, ◌+◌, ◌%◌, ◌^◌, ◌≤◌, true, List, [], ◌∷◌, slice_get, Some}
-use Rattle.event_log.specs.Actions.{Action, Take, Try, Give}
-use Rattle.event_log.specs.{declared.{ids.{CpuId.CpuId, LockId.LockId}, events.Event.Event}, History.{IsLawful, how_many, own_events, same_lock}}
-use Rattle.{event_log.specs.{WordsLog.{cpu_of_event, frees, lock_phase, Idle}, Sections.{Section, cpu_of_section}}, layer_traits.specs.declared.edits.Mark.Mark}
-use Rattle.{layer_traits.specs.{OneLock.opened, Protocol.Rules, WordsProtocol.{MayCome, sections}}, table_machine.specs.SeatViews.{TableView, SeatView, IsIn}}
-use Rattle.{table_machine.specs.SeatViews.new_seat_view, cpu_workers.specs.{declared.counting.AddOne.AddOne, Reports.Both}}
-use Rattle.{boot.specs.declared.locks.LockKind.LockKind, cpu_workers.specs.declared.counting.counted.Counted.Counted}
+use Rattle.event_log.specs.{Actions.{Action, Take, Try, Give}, declared.{ids.{CpuId.CpuId, LockId.LockId}, events.Event.Event}, History.{IsLawful, how_many}}
+use Rattle.event_log.specs.{History.{own_events, same_lock}, WordsLog.{cpu_of_event, frees, lock_phase, Idle}, Sections.{Section, cpu_of_section}}
+use Rattle.layer_traits.specs.{declared.edits.Mark.Mark, OneLock.opened, Protocol.Rules, WordsProtocol.{MayCome, sections}}
+use Rattle.{table_machine.specs.SeatViews.{TableView, SeatView, IsIn, new_seat_view}, cpu_workers.specs.declared.counting.AddOne.AddOne}
+use Rattle.{cpu_workers.specs.{declared.counting.counted.Counted.Counted, Reports.Both}, boot.specs.declared.locks.LockKind.LockKind}
 
 -- what adding 1 means: the number goes up by 1 modulo 2^64, the answer is the number before, and any CPU may do it at any time
 abbrev pub counting : Rules AddOne ℕ ℕ

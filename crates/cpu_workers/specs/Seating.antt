@@ -2,13 +2,12 @@
 use Rattle.std.specs.Prelude.{◌≡◌, ℕ, List, [], map, length, slice_get, Option, Some, IsSome, ◌<◌}
 use Rattle.{boot.specs.Plan.BootPlan, event_log.specs.declared.{entries.Entry.Entry, ids.{BufId.BufId, CpuId.CpuId, LockId.{LockId, TheVariants.Pending}}}}
 use Rattle.{event_log.specs.{Actions.{Action, AreLegal, acts_of, renamed}, Messages.Message}, layer_traits.specs.declared.queue_edits.QueueBlock.QueueBlock}
-use Rattle.layer_traits.specs.{declared.queue_edits.QueueEdit.QueueEdit, BufferEffects.opening_locks, OneLock.{AreDistinct, opened}, QueueBlocks.StartsWell}
-use Rattle.layer_traits.specs.{QueueBlocks.{homes_in, inner}, Renaming.{renamed_edit, viewed}, WordsProtocol.edit_of}
-use Rattle.{queuing_lock.specs.Nested.{edit_in as lock_call, nested_lock_of}, sleep_wakeup.specs.Nested.{edit_in as slept_edit, state_of}}
-use Rattle.{cpu.specs.{Boots.homes_for, Sound.setup_for, Table.Setups.at_boot, Tower.Views.TowerName}, table_machine.specs.SeatViews.{TableView, Closes}}
-use Rattle.{table_machine.specs.SeatViews.{IsOver, site_of}, cpu_workers.specs.{declared.workers.{gates.Go.Go, stops.Stop.Stop}, Closing.{Key, LockBlock}}}
-use Rattle.cpu_workers.specs.{Closing.{LockEdit, blocks_read, tower_rules}, Lawful.held_at, Orders.{HasFollowed, IsTraceOf}, Reports.HasRun, Working.IsPlanned}
-use Rattle.cpu_workers.specs.Working.{Working}
+use Rattle.layer_traits.specs.{declared.queue_edits.QueueEdit.QueueEdit, BufferEffects.opening_locks, QueueBlocks.{StartsWell, homes_in, inner}}
+use Rattle.{layer_traits.specs.{Renaming.{renamed_edit, viewed}, WordsProtocol.edit_of}, queuing_lock.specs.Nested.{edit_in as lock_call, nested_lock_of}}
+use Rattle.{sleep_wakeup.specs.Nested.{edit_in as slept_edit, state_of}, cpu.specs.{Boots.homes_for, Sound.setup_for, Table.Setups.at_boot}}
+use Rattle.{cpu.specs.Tower.Views.TowerName, table_machine.specs.SeatViews.{TableView, IsOver, site_of}, cpu_workers.specs.declared.workers.gates.Go.Go}
+use Rattle.cpu_workers.specs.{declared.workers.stops.Stop.Stop, Closing.{Key, LockBlock, LockEdit, blocks_read}, Lawful.held_at, Orders.HasFollowed}
+use Rattle.cpu_workers.specs.{Orders.IsTraceOf, Reports.HasRun, Working.{IsPlanned, Working}}
 
 -- what a section of the tower's locks does, and what such a lock guards
 abbrev pub Edit : Type 0
@@ -90,17 +89,6 @@ pub record HaveLeft (plan : BootPlan) (May : CpuId → Go → ℕ → Type 0) (t
   pub each : (c : CpuId) → c.0 < plan.cpus → (key : Key) × (trace : List Entry) × (n : ℕ) × (stop : Stop)
       × (slice_get keys c.0 ≡ Some key) × (slice_get traces c.0 ≡ Some trace) × (slice_get taken c.0 ≡ Some n) × (slice_get stops c.0 ≡ Some stop)
       × LeftKey plan May turns table_view c key trace n stop
-
--- the workers of a plan have run at one table that opened as the plan says, and these are the blocks that it left when it was closed
-pub record IsReportOf (plan : BootPlan) (May : CpuId → Go → ℕ → Type 0) (turns : ℕ) (traces : List (List Entry)) (taken : List ℕ) (stops : List Stop)
-    (blocks : List (LockId × Block)) : Type 0 where
-  pub table_view : TableView Block
-  pub cpus_are : table_view.cpus ≡ plan.cpus
-  pub distinct : AreDistinct table_view.start
-  pub opens : OpensPlan plan (opened table_view.start)
-  pub keys : List Key
-  pub left : HaveLeft plan May turns table_view keys traces taken stops
-  pub closes : Closes tower_rules table_view keys blocks
 
 -- the items of a buffer among these blocks, as a report tells them
 abbrev pub items_of_block : List (LockId × Block) → BufId → List Message

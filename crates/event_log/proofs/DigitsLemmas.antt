@@ -1,6 +1,6 @@
 -- Numbers in digits: what `number_to` reads, and the one text that spells a number.
 use Rattle.std.proofs.Common.{◌≢◌, ◌==◌, ◌≡◌, ℕ, ◌+◌, ◌*◌, ◌^◌, ◌<◌, ◌≤◌, ◌-◌, true, false, ◌&&◌, List, [], ◌∷◌, length, get_or, take, Some, None, decimal}
-use Rattle.std.proofs.{Common.{refl, sym, ◌∙◌, ap, arith, take_all}, lemmas.{Bool.{Decides.nat_tests, cases_Bool, cases_lt}, Str.Parse.IsNumeralModel}}
+use Rattle.std.proofs.{Common.{refl, sym, ◌∙◌, ap, arith, take_all}, lemmas.{Bool.Decides.nat_tests, Str.Parse.IsNumeralModel}}
 use Rattle.std.proofs.lemmas.Str.{Parse.{numerals_by_value, tells_all_ascii_digits, digits_value-take-le, digit_at, digits_value_short}, digit_value_digit}
 use Rattle.std.proofs.lemmas.{Int.Digits.{digits_value_more, digits_more}, Fmt.{decimal-digits_value, digits_decimal, digits_value-decimal, decimal_nonempty}}
 use Rattle.std.{proofs.lemmas.{Fmt.{first_decimal, decimal_digit}, List.length-take}, specs.{Int.IsInRange, List.list_all, Str.all_ascii_digits}}
@@ -157,13 +157,3 @@ short_stays_below text i n r h few is =
 pub digits_spelled : (text : List ℕ) (count : ℕ) → all_ascii_digits (take count text) ≡ true → length text ≤ count → 0 < length text
     → (get_or text 0 0 ≡ 48 → length text ≡ 1) → IsSpelled text
 digits_spelled text count digits end some lead = record { digits = rw take_all at digits; some = some; lead = lead }
-
--- a number of 64 bits, or none, tells of a smaller range
-pub number_to-narrow : (most : ℕ) (text : List ℕ) (n : ℕ) → number_to 18446744073709551615 text ≡ Some n → n ≤ most → number_to most text ≡ Some n
-number_to-narrow most text n is le = grind (arith, number_to-Some, number_to-spelled)
-
-pub number_to-past : (most : ℕ) (text : List ℕ) (n : ℕ) → number_to 18446744073709551615 text ≡ Some n → most < n → number_to most text ≡ None
-number_to-past most text n is lt = grind (arith, number_to-Some, number_to-beyond)
-
-pub number_to-none : (most : ℕ) (text : List ℕ) → most ≤ 18446744073709551615 → number_to 18446744073709551615 text ≡ None → number_to most text ≡ None
-number_to-none most text le none = grind (arith, cases_Bool, cases_lt, number_to-beyond, number_to-spelled, spelled_number, number_to-not)

@@ -1,9 +1,9 @@
 -- Events of other CPUs: they change nothing of a CPU's own, and where a holder acts for every CPU there are none.
 use Rattle.std.proofs.Common.{arith, ◌≡◌, ◌<◌, false, List, [], ◌∷◌, ◌++◌, if◌then◌else◌, refl, ap, sym, subst, ◌∙◌}
 use Rattle.event_log.specs.{declared.{ids.{CpuId.CpuId, TheConstants.CPUS}, events.Event.Event}, History.{same_cpu, own_events, IsLawful, AreOthers}}
-use Rattle.event_log.specs.{WordsLog.{cpu_of_event, lock_phase, IsLegalWords}, Actions.{Action, Take, Try, Give, phase, cpu_of_action, spot_of, MayAct}}
+use Rattle.event_log.specs.{WordsLog.{cpu_of_event, lock_phase}, Actions.{Action, Take, Try, Give, phase, cpu_of_action, spot_of, MayAct}}
 use Rattle.event_log.{specs.{Actions.{AreLegal, act_of, acts_of}, Sections.{cpu_of_section, sections_of, sections_in}}, proofs.Same.same_lock_self}
-use Rattle.event_log.proofs.{Exclusion.{is_at, phase_other, spot_other, knows}, Tickets.{lock_phase_other, legal_acts, cpu_of_action_is}}
+use Rattle.event_log.proofs.{Exclusion.{is_at, phase_other, spot_other, knows}, Tickets.{lock_phase_other, cpu_of_action_is}}
 
 -- Any relation and any event.
 
@@ -96,8 +96,3 @@ pub sections_in_known : {N : Type 0} (actions : List (Action N)) → IsLawful (�
     → IsLawful (λ before s. s.cpu.0 < CPUS) (sections_in actions)
 sections_in_known [] known = tt
 sections_in_known (a ∷ past) known = grind (arith, sections_in_known past known.1)
-
-pub sections_of_known : {M E : Type 0} (edit : M → E) (log : List (Event M)) → IsLegalWords log → IsLawful (λ before s. s.cpu.0 < CPUS) (sections_of edit log)
-sections_of_known edit log legal =
-    subst (IsLawful (λ before s. s.cpu.0 < CPUS)) (sections_acts edit log)
-    (sections_in_known (acts_of edit log) (cpus_of_actions_known (acts_of edit log) (legal_acts edit log legal)))

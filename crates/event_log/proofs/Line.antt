@@ -1,5 +1,5 @@
 -- The line at one lock: who stands in it, in which spot, and why nobody enters out of turn.
-use Rattle.std.proofs.Common.{◌≡◌, ℕ, zero, suc, ◌+◌, ◌<◌, ◌≤◌, ◌⊎◌, inl, inr, Bool, true, false, if◌then◌else◌, refl, sym, subst, ◌∙◌, arith}
+use Rattle.std.proofs.Common.{◌≡◌, ℕ, zero, suc, ◌+◌, ◌<◌, ◌≤◌, ◌⊎◌, inl, inr, Bool, true, false, if◌then◌else◌, refl, sym, ◌∙◌, arith}
 use Rattle.{std.proofs.lemmas.Bool.{eqb-true, cases_Bool, cases_eq}, event_log.specs.{declared.ids.{CpuId.CpuId, TheConstants.CPUS}, History.same_cpu}}
 use Rattle.event_log.proofs.Same.{cpu_numbered, same_cpu_true}
 
@@ -43,13 +43,6 @@ crowd_more f g (suc n) d within absent present same = elim (cases_eq d n) [
       let here = same n other in
       let below = crowd_more f g n d (omega arith) absent present same in
       grind arith
-]
-
--- a fact on every CPU: on d, and on each other one
-pub by_cpu : (d : CpuId) (P : CpuId → Type 0) → P d → ((c : CpuId) → same_cpu d c ≡ false → P c) → (c : CpuId) → P c
-by_cpu d P at_d elsewhere c = elim (cases_Bool (same_cpu d c)) [
-  | inl same ↦ subst P (same_cpu_true d c same) at_d
-  | inr other ↦ elsewhere c other
 ]
 
 -- another number names another CPU

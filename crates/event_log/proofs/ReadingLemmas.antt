@@ -1,6 +1,6 @@
 -- The loops that read parts one after another: what is read so far, and what is left.
-use Rattle.std.proofs.Common.{arith, ◌≡◌, ℕ, ◌+◌, ◌<◌, ◌≤◌, List, [], ◌∷◌, ◌++◌, length, get_or, drop, map, Option, Some, None, Result, Ok, Err, option_map}
-use Rattle.std.proofs.Common.{option_and_then, sym, ◌∙◌, ap, add-one, drop-cons, drop_of_length-le, append_assoc, append-nil}
+use Rattle.std.proofs.Common.{arith, ◌≡◌, ℕ, ◌+◌, ◌<◌, ◌≤◌, List, [], ◌∷◌, ◌++◌, length, get_or, drop, map, Option, Result, Ok, Err, option_map}
+use Rattle.std.proofs.Common.{sym, ◌∙◌, ap, add-one, drop-cons, drop_of_length-le, append-nil}
 use Rattle.event_log.specs.Reading.{◌>>=◌, read_from, all_as}
 
 -- what is read so far stands in front of the rest
@@ -15,15 +15,6 @@ module _ {X A B E : Type 0} (view : X → A) (read : ℕ → A → Result B E) w
   left_at : (xs : List X) (i : ℕ) (d : X) → i < length xs → left_from view read xs i
       ≡ (read i (view (get_or xs i d)) >>= λ y. left_from view read xs (i + 1) >>= λ ys. Ok (y ∷ ys))
   left_at xs i d h = ap (λ rest. read_from read i (map view rest)) (drop-cons xs i d h ∙ ap (λ k. get_or xs i d ∷ drop k xs) (sym (add-one i)))
-
-  -- before the first part
-  pub read_none : (xs : List X) → after [] (left_from view read xs 0) ≡ read_from read 0 (map view xs)
-  read_none xs = grind arith
-
-  -- a part that reads as `y`
-  pub read_one : (xs : List X) (i : ℕ) (d : X) (front : List B) (y : B) → i < length xs → read i (view (get_or xs i d)) ≡ Ok y
-      → after (front ++ y ∷ []) (left_from view read xs (i + 1)) ≡ after front (left_from view read xs i)
-  read_one xs i d front y h e = grind (arith, left_at xs i d h, append_assoc)
 
   -- a part with a fault
   pub read_fault : (xs : List X) (i : ℕ) (d : X) (front : List B) (e : E) → i < length xs → read i (view (get_or xs i d)) ≡ Err e
@@ -42,20 +33,5 @@ abbrev pub left_as : {X A B : Type 0} → (X → A) → (A → Option B) → Lis
 left_as view kind xs i = all_as kind (map view (drop i xs))
 
 module _ {X A B : Type 0} (view : X → A) (kind : A → Option B) where
-  seen_at : (xs : List X) (i : ℕ) (d : X) → i < length xs → left_as view kind xs i
-      ≡ option_and_then (λ y. option_map (λ ys. y ∷ ys) (left_as view kind xs (i + 1))) (kind (view (get_or xs i d)))
-  seen_at xs i d h = ap (λ rest. all_as kind (map view rest)) (drop-cons xs i d h ∙ ap (λ k. get_or xs i d ∷ drop k xs) (sym (add-one i)))
-
   pub seen_none : (xs : List X) → with_front [] (left_as view kind xs 0) ≡ all_as kind (map view xs)
   seen_none xs = grind arith
-
-  pub seen_one : (xs : List X) (i : ℕ) (d : X) (front : List B) (y : B) → i < length xs → kind (view (get_or xs i d)) ≡ Some y
-      → with_front (front ++ y ∷ []) (left_as view kind xs (i + 1)) ≡ with_front front (left_as view kind xs i)
-  seen_one xs i d front y h e = grind (arith, seen_at xs i d h, append_assoc)
-
-  pub seen_other : (xs : List X) (i : ℕ) (d : X) (front : List B) → i < length xs → kind (view (get_or xs i d)) ≡ None
-      → with_front front (left_as view kind xs i) ≡ None
-  seen_other xs i d front h other = grind (arith, seen_at xs i d h)
-
-  pub seen_all : (xs : List X) (i : ℕ) (front : List B) → length xs ≤ i → with_front front (left_as view kind xs i) ≡ Some front
-  seen_all xs i front h = ap (λ rest. with_front front (all_as kind (map view rest))) (drop_of_length-le xs h) ∙ ap Some (append-nil front)

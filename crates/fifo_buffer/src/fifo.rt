@@ -1,12 +1,11 @@
 //! First-in first-out buffers.
 
 ghost use Rattle.std.specs.Prelude.{◌≡◌, ◌<◌, [], Bool, Some, None, IsSome, refl, slice_set, if◌then◌else◌};
-ghost use Rattle.layer_traits.specs.Capacities.{caps_in};
-ghost use Rattle.{event_log.specs.declared.ids.{LockId.TheVariants.Buffer, TheConstants.THREADS}, layer_traits.specs.BufferLaw.{answer_in, buffer_of}};
-ghost use Rattle.layer_traits.specs.{BufferLaw.{buffering, going, plan_of, replied, call_state_of}, BufferProtocol.buffer_rules, Framed.Framed};
-ghost use Rattle.layer_traits.specs.{QLocking.{lock_moves, lock_rules}, QLockLaw.{is_handed, slept_for}, Plans.{Follows, table_of}, QueueBlocks.homes_in};
-ghost use Rattle.{layer_traits.specs.{QueueBlocks.inner, QueueRules.queue_rules, Queues.buffer_sections}, fifo_buffer.specs.SectionPolls.MayPollSection};
-ghost use Rattle.fifo_buffer.specs.SectionPolls.{Sizes, SectionPolled, calling_after, is_at_once, reply_at};
+ghost use Rattle.layer_traits.specs.{Capacities.caps_in, BufferLaw.{answer_in, buffer_of, buffering, going, plan_of, replied, call_state_of}};
+ghost use Rattle.layer_traits.specs.{BufferProtocol.buffer_rules, Framed.Framed, QLocking.{lock_moves, lock_rules}, QLockLaw.{is_handed, slept_for}};
+ghost use Rattle.layer_traits.specs.{Plans.{Follows, table_of}, QueueBlocks.{homes_in, inner}, QueueRules.queue_rules, Queues.buffer_sections};
+ghost use Rattle.{event_log.specs.declared.ids.{LockId.TheVariants.Buffer, TheConstants.THREADS}, fifo_buffer.specs.SectionPolls.{MayPollSection, Sizes}};
+ghost use Rattle.fifo_buffer.specs.SectionPolls.{SectionPolled, calling_after, is_at_once, reply_at};
 
 use crate::call_state_table::CallStates;
 use crate::sections::{answers_at_once, reply, section};
@@ -292,11 +291,11 @@ impl<C: ThreadLayer<CvLaw<BufferEdit>>> CallLayer<BufferLaw> for Fifo<C> {
 
 impl<C: OwnedThreadLayer<CvLaw<BufferEdit>>> OwnedBuffers for Fifo<C> {
     ghost use Rattle.{std.specs.Prelude.option_map, event_log.specs.{Buffers.items_of, Runs.is_closed}, layer_traits.proofs.ActedLemmas.owner_by_acts};
-    ghost use Rattle.layer_traits.specs.{BufferEffects.{contents_of, effects_in}, BufferProtocol.buffer_monitor_rules, Conditions.cv_rules};
-    ghost use Rattle.layer_traits.specs.{QLockLaw.lock_kernel, QLocking.{wait_list_in, owner_in}, Places.pending_by, QueueBlocks.inner, Queues.buffer_sections};
-    ghost use Rattle.{layer_traits.specs.Queues.moves_in, fifo_buffer.specs.{Laws.OwnedLaws.{block_there, closed_read, effects_known}}};
-    ghost use Rattle.fifo_buffer.specs.{Laws.OwnedLaws.{items_acted, items_read, wait_lists_read, lock_read, owner_read, queue_read}, OwnedLaws.closed_of};
-    ghost use Rattle.fifo_buffer.specs.OwnedLaws.{items_in, wait_lists_of, buffer_lock_of, owner_of};
+    ghost use Rattle.layer_traits.{proofs.OwnedLemmas.{parts_on, read_on, view_read}, specs.BufferEffects.{contents_of, effects_in}};
+    ghost use Rattle.layer_traits.specs.{BufferProtocol.buffer_monitor_rules, Conditions.cv_rules, QLockLaw.lock_kernel, QLocking.{wait_list_in, owner_in}};
+    ghost use Rattle.layer_traits.specs.{Places.pending_by, QueueBlocks.inner, Queues.{buffer_sections, moves_in}};
+    ghost use Rattle.fifo_buffer.specs.Laws.OwnedLaws.{block_there, closed_read, effects_known, items_acted, items_read, wait_lists_read, owner_read};
+    ghost use Rattle.fifo_buffer.specs.OwnedLaws.{closed_of, items_in, wait_lists_of, buffer_lock_of, owner_of};
 
     ghost owner = { λ m b. owner_in (buffer_lock_of (C.opening m) (C.seen m) b) };
 
@@ -321,31 +320,19 @@ impl<C: OwnedThreadLayer<CvLaw<BufferEdit>>> OwnedBuffers for Fifo<C> {
     ghost queue_with = { λ p d. C.queue_with p.lower d };
 
     fn items_in(m: &C::Machine, b: BufId) -> Option<ArrayVec<Msg, CAPACITY>> {
-        match C::block_in(m, b) {
-            None => None,
-            Some(block) => Some(block.items()),
-        }
+        Some(C::block_in(m, b)?.items())
     }
 
     fn items_here(&self, b: BufId) -> Option<ArrayVec<Msg, CAPACITY>> {
-        match self.lower.block_here(b) {
-            None => None,
-            Some(block) => Some(block.items()),
-        }
+        Some(self.lower.block_here(b)?.items())
     }
 
     fn closed_in(m: &C::Machine, b: BufId) -> Option<bool> {
-        match C::block_in(m, b) {
-            None => None,
-            Some(block) => Some(block.is_closed()),
-        }
+        Some(C::block_in(m, b)?.is_closed())
     }
 
     fn closed_here(&self, b: BufId) -> Option<bool> {
-        match self.lower.block_here(b) {
-            None => None,
-            Some(block) => Some(block.is_closed()),
-        }
+        Some(self.lower.block_here(b)?.is_closed())
     }
 
     #[inline(always)]
@@ -380,23 +367,23 @@ impl<C: OwnedThreadLayer<CvLaw<BufferEdit>>> OwnedBuffers for Fifo<C> {
 
     ghost known = { λ m c acts. effects_known (inner (C.opening m)) (C.seen m) (C.known m c acts.0) };
 
-    ghost items = { λ m c b acts within. lock_read (λ (p : Self). p.lower) (λ p. C.Fits p m) (λ (p : Self). Self.Fits p m)
-        (λ p. C.cpu_of p) (C.MayHold m) (λ p fits. fits.0)
-        (buffer_lock_of (C.opening m) (C.seen m) b) items_in (λ p. C.block_with p b) (C.block_at m b)
+    ghost items = { λ m c b acts within. view_read
+        (parts_on (λ (p : Self). p.lower) (λ p. C.Fits p m) (λ (p : Self). Self.Fits p m) (λ p. C.cpu_of p) (C.MayHold m) (λ p fits. fits.0))
+        items_in (buffer_lock_of (C.opening m) (C.seen m) b) (λ p. C.block_with p b) (C.block_at m b)
         (items_of (contents_of (caps_in (C.opening m)) (effects_in (inner (C.opening m)) (buffer_sections (C.seen m)))) b.0)
         (items_read (C.opening m) acts.1 b within (C.seen m) (C.lawful m c acts.0))
         (C.shown m c b acts.0 (block_there (C.opening m) acts.1 b within)) };
 
-    ghost closed = { λ m c b acts within. lock_read (λ (p : Self). p.lower) (λ p. C.Fits p m) (λ (p : Self). Self.Fits p m)
-        (λ p. C.cpu_of p) (C.MayHold m) (λ p fits. fits.0)
-        (buffer_lock_of (C.opening m) (C.seen m) b) closed_of (λ p. C.block_with p b) (C.block_at m b)
+    ghost closed = { λ m c b acts within. view_read
+        (parts_on (λ (p : Self). p.lower) (λ p. C.Fits p m) (λ (p : Self). Self.Fits p m) (λ p. C.cpu_of p) (C.MayHold m) (λ p fits. fits.0))
+        closed_of (buffer_lock_of (C.opening m) (C.seen m) b) (λ p. C.block_with p b) (C.block_at m b)
         (is_closed (effects_in (inner (C.opening m)) (buffer_sections (C.seen m))) b.0)
         (closed_read (C.opening m) acts.1 b within (C.seen m) (C.lawful m c acts.0))
         (C.shown m c b acts.0 (block_there (C.opening m) acts.1 b within)) };
 
-    ghost owners = { λ m c b acts within. lock_read (λ (p : Self). p.lower) (λ p. C.Fits p m) (λ (p : Self). Self.Fits p m)
-        (λ p. C.cpu_of p) (C.MayHold m) (λ p fits. fits.0)
-        (buffer_lock_of (C.opening m) (C.seen m) b) owner_of (λ p. C.block_with p b) (C.block_at m b)
+    ghost owners = { λ m c b acts within. view_read
+        (parts_on (λ (p : Self). p.lower) (λ p. C.Fits p m) (λ (p : Self). Self.Fits p m) (λ p. C.cpu_of p) (C.MayHold m) (λ p fits. fits.0))
+        owner_of (buffer_lock_of (C.opening m) (C.seen m) b) (λ p. C.block_with p b) (C.block_at m b)
         (owner_in (buffer_lock_of (C.opening m) (C.seen m) b)) (owner_read (C.opening m) acts.1 b within (C.seen m))
         (C.shown m c b acts.0 (block_there (C.opening m) acts.1 b within)) };
 
@@ -406,14 +393,14 @@ impl<C: OwnedThreadLayer<CvLaw<BufferEdit>>> OwnedBuffers for Fifo<C> {
     ghost items_are = { λ step m c b acts within. items_acted (C.opening m) acts.1 b within (C.seen m) (C.acts m) (C.opens m c acts.0)
         (C.proper step m c acts.0) (C.seen_is step m) (C.lawful m c acts.0) };
 
-    ghost waiters_law = { λ m c b acts within. lock_read (λ (p : Self). p.lower) (λ p. C.Fits p m) (λ (p : Self). Self.Fits p m)
-        (λ p. C.cpu_of p) (C.MayHold m) (λ p fits. fits.0)
-        (buffer_lock_of (C.opening m) (C.seen m) b) wait_lists_of (λ p. C.block_with p b) (C.block_at m b)
+    ghost waiters_law = { λ m c b acts within. view_read
+        (parts_on (λ (p : Self). p.lower) (λ p. C.Fits p m) (λ (p : Self). Self.Fits p m) (λ p. C.cpu_of p) (C.MayHold m) (λ p fits. fits.0))
+        wait_lists_of (buffer_lock_of (C.opening m) (C.seen m) b) (λ p. C.block_with p b) (C.block_at m b)
         (λ line. wait_list_in line (buffer_lock_of (C.opening m) (C.seen m) b)) (wait_lists_read (C.opening m) acts.1 b within (C.seen m))
         (C.shown m c b acts.0 (block_there (C.opening m) acts.1 b within)) };
 
-    ghost queues = { λ m c d acts there. queue_read (λ (p : Self). p.lower) (λ p. C.Fits p m)
-        (λ (p : Self). Self.Fits p m) (λ p. C.cpu_of p) (C.MayHold m) (λ p fits. fits.0)
+    ghost queues = { λ m c d acts there. read_on
+        (parts_on (λ (p : Self). p.lower) (λ p. C.Fits p m) (λ (p : Self). Self.Fits p m) (λ p. C.cpu_of p) (C.MayHold m) (λ p fits. fits.0))
         (λ p. C.queue_with p d) (C.queue_at m d) (pending_by (moves_in (lock_kernel (cv_rules buffer_monitor_rules) (C.opening m)) (C.seen m)) d)
         (C.queues m c d acts.0 there) };
 

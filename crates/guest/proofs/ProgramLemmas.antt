@@ -1,9 +1,8 @@
 -- Reading a program line by line: what stands after some lines.
-use Rattle.std.proofs.Common.{◌≡◌, ℕ, ◌+◌, ◌<◌, ◌≤◌, List, [], ◌∷◌, ◌++◌, length, get_or, map, All, Ok, refl, sym, ◌∙◌, ap, length-append}
-use Rattle.{std.proofs.lemmas.List.{length-map, Elements.{All-push, All-nil}}, event_log.{specs.Reading.read_from, proofs.ReadingLemmas.{after, left_from}}}
-use Rattle.{event_log.proofs.ReadingLemmas.{read_none, read_one, read_fault, read_all}, guest.specs.declared.instructions.Instruction.Instruction}
-use Rattle.guest.specs.{declared.refusals.GuestError.{GuestError, TheVariants.{NoMemory, At}}, Instructions.IsWithin, Language.{numbered_line, program_lines}}
-use Rattle.guest.specs.Language.{Fails}
+use Rattle.std.proofs.{Common.{◌≡◌, ℕ, ◌<◌, ◌≤◌, List, length, get_or, map, All, Ok, sym, ◌∙◌, ap}, lemmas.List.length-map}
+use Rattle.event_log.{specs.Reading.read_from, proofs.ReadingLemmas.{after, left_from, read_fault, read_all}}
+use Rattle.guest.specs.{declared.{instructions.Instruction.Instruction, refusals.GuestError.{GuestError, TheVariants.{NoMemory, At}}}, Instructions.IsWithin}
+use Rattle.guest.specs.Language.{numbered_line, program_lines, Fails}
 
 -- after the first `i` lines: their instructions stand in front of what is left to read
 pub record ReadSoFar {X : Type 0} (text : X → List ℕ) (lines : List X) (i : ℕ) (front : List Instruction) : Type 0 where
@@ -12,22 +11,6 @@ pub record ReadSoFar {X : Type 0} (text : X → List ℕ) (lines : List X) (i : 
   pub within : All (IsWithin (length lines)) front
 
 module _ {X : Type 0} (text : X → List ℕ) (lines : List X) where
-  pub so_far_none : ReadSoFar text lines 0 []
-  so_far_none = record {
-    read = read_none text (numbered_line (length lines)) lines;
-    len = refl;
-    within = All-nil (IsWithin (length lines));
-  }
-
-  pub so_far_one : (i : ℕ) (d : X) (front : List Instruction) (instruction : Instruction) → ReadSoFar text lines i front → i < length lines
-      → numbered_line (length lines) i (text (get_or lines i d)) ≡ Ok instruction → IsWithin (length lines) instruction
-      → ReadSoFar text lines (i + 1) (front ++ instruction ∷ [])
-  so_far_one i d front instruction so_far h e within = record {
-    read = read_one text (numbered_line (length lines)) lines i d front instruction h e ∙ so_far.read;
-    len = length-append front (instruction ∷ []) ∙ ap (λ n. n + 1) so_far.len;
-    within = All-push (IsWithin (length lines)) front instruction so_far.within within;
-  }
-
   -- the lines as the program's text has them
   pub lines_seen : program_lines (map text lines) ≡ read_from (numbered_line (length lines)) 0 (map text lines)
   unfolding program_lines

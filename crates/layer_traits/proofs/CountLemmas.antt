@@ -1,5 +1,5 @@
 -- Threads in lists, by count.
-use Rattle.std.proofs.Common.{◌≡◌, ◌+◌, ◌<◌, Bool, true, false, List, [], ◌∷◌, ◌++◌, Option, Some, None, refl, ap, sym, ◌∙◌, arith, add_assoc, zero-add}
+use Rattle.std.proofs.Common.{◌≡◌, ◌+◌, ◌<◌, true, false, List, [], ◌∷◌, ◌++◌, Option, Some, None, refl, ap, sym, ◌∙◌, arith, add_assoc, zero-add}
 use Rattle.event_log.{specs.{declared.ids.{CpuId.CpuId, Tid.Tid}, History.same_cpu}, proofs.Same.{same_cpu_self, same_cpu_true}}
 use Rattle.{thread_blocks.{specs.Queues.{same_tid, is_in, first, rest}, proofs.Members.same_tid_self}, layer_traits.specs.{Passes.as_list, Places.is_cpu}}
 use Rattle.layer_traits.specs.Places.{is_thread, one_if, count_in}
@@ -43,9 +43,6 @@ count_as_list t (Some u) = let turned : one_if (same_tid t u) ≡ one_if (same_t
 pub count_front : (t : Tid) (q : List Tid) → one_if (is_thread t (first q)) + count_in t (rest q) ≡ count_in t q
 count_front t [] = refl
 count_front t (x ∷ q) = ap (λ b. one_if b + count_in t q) (same_tid_sym x t)
-
-pub one_if_most : (b : Bool) → one_if b < 2
-one_if_most b = grind arith
 
 -- who stands in a list is counted, and the other way round
 pub in_counted : (t : Tid) (q : List Tid) → is_in t q ≡ true → 0 < count_in t q

@@ -98,3 +98,18 @@ observed_as Fits cpu_of IsInside here home truth x is shown = record {
   by_part = λ p y fits tells. same_Some y x (sym (shown.by_part p y fits tells) ∙ is);
   somewhere = shown.somewhere;
 }
+
+-- they tell a view of what those beneath tell of a block that there is
+pub view_read : {P Q A B : Type 0} (parts : PartsOn P Q) (view : A → B) (truth : Option A) (tells : P → Option A) (home : Option A) (x : B)
+    → option_map view truth ≡ Some x → IsObserved parts.FitsP parts.cpu_below parts.MayHold tells home truth
+    → IsObservedAs parts.FitsQ (λ q. parts.cpu_below (parts.below q)) parts.MayHold (λ q. option_map view (tells (parts.below q))) (option_map view home) x
+view_read parts view truth tells home x is shown =
+    observed_as parts.FitsQ _ parts.MayHold (λ q. option_map view (tells (parts.below q))) (option_map view home) (option_map view truth) x is
+    (viewed_shown view parts.FitsQ _ parts.MayHold (λ q. tells (parts.below q)) home truth (option_map view truth) refl (shown_on parts tells home truth shown))
+
+-- and what they tell of one as it is
+pub read_on : {P Q A : Type 0} (parts : PartsOn P Q) (tells : P → Option A) (home : Option A) (x : A)
+    → IsObserved parts.FitsP parts.cpu_below parts.MayHold tells home (Some x)
+    → IsObservedAs parts.FitsQ (λ q. parts.cpu_below (parts.below q)) parts.MayHold (λ q. tells (parts.below q)) home x
+read_on parts tells home x shown =
+    observed_as parts.FitsQ _ parts.MayHold (λ q. tells (parts.below q)) home (Some x) x refl (shown_on parts tells home (Some x) shown)

@@ -17,9 +17,6 @@ pub record StandsOn {M N A B Q R : Type 0} (low : Table M A Q) (high : Table N B
 module _ {M N A B Q R : Type 0} (low : Table M A Q) (high : Table N B R) (stands : StandsOn low high) (opening : LockId → Option A) where
   open stands use {name, view, told, edits, answers}
 
-  viewed_edit : (m : M) (block : Option A) → option_map (high.edited (name m)) (option_map view block) ≡ option_map view (option_map (low.edited m) block)
-  viewed_edit m block = grind (arith, edits)
-
   viewed_answer : (m : M) (block : Option A) → option_map told (option_map (low.answer m) block) ≡ option_map (high.answer (name m)) (option_map view block)
   viewed_answer m block = grind (arith, answers)
 

@@ -3,4 +3,3 @@ pub mod SleptLemmas
 pub mod DeferredLemmas
 pub mod PollLemmas
 pub mod PartLemmas
-pub mod BootLemmas

@@ -6,7 +6,6 @@ use Rattle.layer_traits.specs.{declared.{queue_edits.QueueBlock.QueueBlock, queu
 use Rattle.layer_traits.specs.{QLocking.{wait_list_in, lock_after, lock_caller, owner_in, owner_of}, QLockLaw.lock_kernel, Places.home_of, QueueBlocks.homes_in}
 use Rattle.{layer_traits.specs.{QueueBlocks.inner, Queues.{QueueAllowed, buffer_sections, cpu_of_queue_event}}, thread_blocks.specs.Queues.is_in}
 use Rattle.queuing_lock.specs.{Laws.Steady.{keeps_nothing, keeps_owned, preserved_by_others}, Steady.{HasNothing, IsPreserved, IsOwner}}
-use Rattle.layer_traits.specs.declared.scheds.SchedCall.TheVariants as call
 
 module _ {F R B O : Type 0} (rules : LockRules F R B O) (opening : LockId → Option (QueueBlock (LockState B))) where
   nothing_at : (t : Tid) (o : Option (LockState B)) → owner_in o ≢ Some t → is_in t (wait_list_in Sleepers o) ≡ false → HasNothing rules t o

@@ -101,9 +101,9 @@ impl<F: Locked, S: ThreadLayer<SleepLaw<QLockEdit<F, F::Release>>>> ThreadLayer<
         payload: &mut Payload,
     ) -> Option<Outcome<QOut<F::Brought>>> {
         let BufferCall { buffer, edit } = call;
-        let section = QLockEdit { edit };
-        let t = <QLockEdit<F, F::Release> as Sleeps>::caller(&section);
-        if self.slept.asks_again(&section.edit) {
+        let edit = QLockEdit { edit };
+        let t = <QLockEdit<F, F::Release> as Sleeps>::caller(&edit);
+        if self.slept.asks_again(&edit.edit) {
             self.slept.over(t);
             return Some(Outcome {
                 out: QOut::Acquired,
@@ -111,11 +111,7 @@ impl<F: Locked, S: ThreadLayer<SleepLaw<QLockEdit<F, F::Release>>>> ThreadLayer<
                 woke: None,
             });
         }
-        let call = BufferCall {
-            buffer,
-            edit: section,
-        };
-        match self.lower.poll(m, call, payload) {
+        match self.lower.poll(m, BufferCall { buffer, edit }, payload) {
             None => None,
             Some(outcome) => self.slept.complete(t, buffer, outcome),
         }
@@ -171,31 +167,19 @@ impl<F: Locked, S: OwnedThreadLayer<SleepLaw<QLockEdit<F, F::Release>>>> OwnedTh
     ghost queue_with = { λ p d. S.queue_with p.lower d };
 
     fn block_in(m: &S::Machine, b: BufId) -> Option<&F::Block> {
-        match S::block_in(m, b) {
-            None => None,
-            Some(block) => Some(&block.above),
-        }
+        Some(&S::block_in(m, b)?.above)
     }
 
     fn block_here(&self, b: BufId) -> Option<&F::Block> {
-        match self.lower.block_here(b) {
-            None => None,
-            Some(block) => Some(&block.above),
-        }
+        Some(&self.lower.block_here(b)?.above)
     }
 
     fn owner_in(m: &S::Machine, b: BufId) -> Option<Option<Tid>> {
-        match S::block_in(m, b) {
-            None => None,
-            Some(block) => Some(block.busy),
-        }
+        Some(S::block_in(m, b)?.busy)
     }
 
     fn owner_here(&self, b: BufId) -> Option<Option<Tid>> {
-        match self.lower.block_here(b) {
-            None => None,
-            Some(block) => Some(block.busy),
-        }
+        Some(self.lower.block_here(b)?.busy)
     }
 
     #[inline(always)]

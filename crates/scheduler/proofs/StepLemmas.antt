@@ -10,7 +10,7 @@ use Rattle.layer_traits.specs.{declared.scheds.SchedCall.SchedCall, MoveRules.{M
 use Rattle.layer_traits.specs.Places.{AreMoves, Where, MayEdit, MayMove, Stands, Threads, home_of, is_asleep, is_home, pending_by, step, where_is}
 use Rattle.layer_traits.specs.{Plans.answered, Protocol.{Rules, section}, QueueBlocks.{StartsWell, homes_in}, Queues.{CallAllowed, Kernel, buffer_sections}}
 use Rattle.layer_traits.specs.Queues.{MayQueue, QueueAllowed, QueuePolled, answer_of, call_move, event, cpu_of_queue_event, kernel, lock_of, moves_in, out_at}
-use Rattle.layer_traits.specs.Scheds.{BufferIsThere, EditStays, IsLocal, MaySched, SchedPolled, StateFor, answer_by, answer_to, events_of, own_after, own_by}
+use Rattle.layer_traits.specs.Scheds.{BufferIsThere, EditStays, MaySched, SchedPolled, StateFor, answer_by, answer_to, events_of, own_after, own_by}
 use Rattle.layer_traits.{specs.Scheds.queue_call, proofs.CallLemmas.{moves_append, moves_lawful, moves_others, moves_over, woken_sleeps}}
 use Rattle.layer_traits.proofs.{CountLemmas.not_counted, PlaceLemmas.{away_from, away_known, current_at, current_new, hand_free, hand_at, pending_at}}
 use Rattle.layer_traits.proofs.PlaceLemmas.{stands_finished, stands_moved, stands_others, stands_pushed, stands_switched, stands_taken, home_there}
@@ -31,10 +31,6 @@ asleep_away w asleep = grind arith
 -- Which call it is.
 
 module _ {E : Type 0} (homes : List CpuId) (c : CpuId) where
-  -- and one that is none touches nothing shared
-  pub is_local : (s : SchedCall E) → queue_call homes c s ≡ None → IsLocal s
-  is_local s is = grind arith
-
   -- what the CPU has of its own tells which scheduler's call it is
   same_call : {O : Type 0} (mv : MoveRules E O) (s : SchedCall E) (q : QueueCall E) (own : Threads) → StateFor mv s own → queue_call homes c s ≡ Some q
       → sched_call q own.current ≡ s

@@ -98,13 +98,9 @@ fn release<E, B: Drop>(
     ensures answer { result ≡ option_map (λ k. k.outcome) deferred.old }
     ensures parcel { payload.new.parcel ≡ parcel_reported deferred.old Done payload.old.parcel }
 {
-    match deferred.take() {
-        None => None,
-        Some(k) => {
-            payload.parcel = k.parcel;
-            Some(k.outcome)
-        }
-    }
+    let k = deferred.take()?;
+    payload.parcel = k.parcel;
+    Some(k.outcome)
 }
 
 /// Keeps this outcome of a section, with the parcel that lies in the payload. It stands out of line, as
@@ -140,8 +136,6 @@ fn forget<E, B: Drop>(deferred: &mut Option<DeferredOutcome<E, B>>)
 pub(crate) fn done<O: Drop>(answer: Option<SchedAnswer<O>>) -> Option<()>
     ensures { result ≡ done_of answer }
 {
-    match answer {
-        None => None,
-        Some(_) => Some(()),
-    }
+    answer?;
+    Some(())
 }

@@ -201,45 +201,29 @@ impl<E: Sleeps, S: OwnedLayer<SchedLaw<SleepEdit<E>>>> OwnedThreadLayer<SleepLaw
     ghost queue_with = { λ p d. S.queue_with p.lower d };
 
     fn block_in(m: &S::Machine, b: BufId) -> Option<&E::Block> {
-        match S::block_in(m, b) {
-            None => None,
-            Some(block) => Some(&block.above),
-        }
+        Some(&S::block_in(m, b)?.above)
     }
 
     fn block_here(&self, b: BufId) -> Option<&E::Block> {
-        match self.lower.block_here(b) {
-            None => None,
-            Some(block) => Some(&block.above),
-        }
+        Some(&self.lower.block_here(b)?.above)
     }
 
     fn owner_in(m: &S::Machine, b: BufId) -> Option<Option<Tid>> {
-        match S::block_in(m, b) {
-            None => None,
-            Some(_) => Some(None),
-        }
+        S::block_in(m, b)?;
+        Some(None)
     }
 
     fn owner_here(&self, b: BufId) -> Option<Option<Tid>> {
-        match self.lower.block_here(b) {
-            None => None,
-            Some(_) => Some(None),
-        }
+        self.lower.block_here(b)?;
+        Some(None)
     }
 
     fn wait_list_in(m: &S::Machine, b: BufId, t: Tid) -> Option<WaitList> {
-        match S::block_in(m, b) {
-            None => None,
-            Some(block) => wait_list_in_block(block, t),
-        }
+        wait_list_in_block(S::block_in(m, b)?, t)
     }
 
     fn wait_list_here(&self, b: BufId, t: Tid) -> Option<WaitList> {
-        match self.lower.block_here(b) {
-            None => None,
-            Some(block) => wait_list_in_block(block, t),
-        }
+        wait_list_in_block(self.lower.block_here(b)?, t)
     }
 
     #[inline(always)]

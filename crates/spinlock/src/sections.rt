@@ -11,10 +11,7 @@ use layer_traits::{Edit, LockCall, LockLayer, Payload};
 fn answer_in<E: Edit>(brought: Option<E::Brought>, payload: &mut Payload) -> Option<E::Out>
     ensures { result ≡ told_by E.told brought payload.old }
 {
-    match brought {
-        None => None,
-        Some(out) => Some(E::bring_back(out, payload)),
-    }
+    Some(E::bring_back(brought?, payload))
 }
 
 /// One poll on a machine whose holder acts for every CPU: exactly the action that is due.

@@ -1,13 +1,13 @@
 -- How the words and the slots change with a step.
-use Rattle.std.proofs.Common.{length-set, ◌≡◌, ◌≢◌, ℕ, ◌+◌, ◌<◌, ◌≤◌, ◌==◌, if◌then◌else◌, Bool, true, false, List, [], ◌∷◌, length, set, get_or}
-use Rattle.std.proofs.Common.{map, replicate, Option, Some, None, IsSome, slice_index, refl, ap, ◌∙◌, arith, get_or-set_same, get_or-set_other}
-use Rattle.{std.proofs.lemmas.{Grind.get_or-set_at, List.get_or-replicate}, event_log.specs.declared.ids.{LockId.LockId, TheConstants.CPUS}}
+use Rattle.std.proofs.Common.{length-set, ◌≡◌, ◌≢◌, ℕ, ◌<◌, ◌≤◌, Bool, true, false, List, [], ◌∷◌, length, set}
+use Rattle.std.proofs.Common.{map, Option, Some, None, IsSome, refl, ap, ◌∙◌, arith, get_or-set_same, get_or-set_other}
+use Rattle.event_log.specs.declared.ids.{LockId.LockId, TheConstants.CPUS}
 use Rattle.event_log.{specs.{declared.events.Event.Event, History.same_lock, WordsLog.{MayFollow, draws, frees}}, proofs.Same.{same_lock_true, same_lock_self}}
 use Rattle.layer_traits.{specs.{declared.edits.Mark.Mark, OneLock.opened}, proofs.OneLockLemmas.{counts_elsewhere, event_lock, elsewhere, fresh}}
-use Rattle.table_machine.specs.{declared.views.Home.Home, Kinds.{WordKind, IsWordKind, first_words}, Layout.{AreFirst, rank_of, word_at, words_of, word_count}}
+use Rattle.table_machine.specs.{declared.views.Home.Home, Kinds.{WordKind, IsWordKind}, Layout.{AreFirst, rank_of, word_at, words_of, word_count}}
 use Rattle.table_machine.{specs.Rule.{home_block, fresh_home, ShowsLock, Shows}, proofs.Finding.{rank_same, rank_below, opened_there}}
 use mathlib.Core.Option.{Option as Maybe, none, some}
-use lib.ListN.{get_elem?, length-replicate, length-map}
+use lib.ListN.{get_elem?, length-map}
 
 -- words of two locks, and two words of one lock, lie apart
 pub locks_apart : (j k a b : ℕ) → j ≢ k → a ≤ CPUS → b ≤ CPUS → word_at j a ≢ word_at k b
@@ -47,31 +47,6 @@ map_both : {E B : Type 0} (start : List (LockId × B)) → map some (map (λ (o 
     ≡ map (λ (o : LockId × B). some (fresh_home {E = E} o.1)) start
 map_both [] = refl
 map_both {E = E} (o ∷ rest) = ap (λ l. some (fresh_home {E = E} o.1) ∷ l) (map_both {E = E} rest)
-
--- one's own words at the opening
-pub first_zeros : (opens locks : ℕ) (words : List ℕ) → words ≡ replicate (word_count locks) 0 → AreFirst opens locks 0 words
-first_zeros opens locks words are = record {
-  count = ap length are ∙ length-replicate (word_count locks) 0;
-  done_so = λ rank word none within. absurd (omega arith);
-  zeros = λ rank word from below within. ap (λ l. slice_index l (word_at rank word)) are
-      ∙ get_or-replicate (word_count locks) (word_at rank word) 0 0 (omega arith);
-}
-
--- one lock more
-pub first_more : (opens locks done : ℕ) (words : List ℕ) → done < locks → AreFirst opens locks done words
-    → AreFirst opens locks (done + 1) (set words (word_at done 1) opens)
-first_more opens locks done words below first =
-    let lies : word_at done 1 < length words = rw first.count (lies_within done locks 1 below (omega arith)) in
-    record {
-      count = length-set words (word_at done 1) opens ∙ first.count;
-      done_so = λ rank word more within. here rank word within more lies;
-      zeros = λ rank word from under within. get_or-set_other words (word_at done 1) (word_at rank word) opens 0
-          (locks_apart rank done word 1 (λ e. omega arith) within (omega arith)) ∙ first.zeros rank word (omega arith) under within;
-    }
-  where
-    here : (rank word : ℕ) → word ≤ CPUS → rank < done + 1 → word_at done 1 < length words
-        → words_of (set words (word_at done 1) opens) rank word ≡ first_words opens word
-    here rank word within more lies = grind (arith, get_or-set_at, get_or-set_other, first.done_so, first.zeros)
 
 module _ (K : WordKind) (law : IsWordKind K) {E B : Type 0} (edited : E → B → B) (start : List (LockId × B)) where
   -- a word of a lock lies within the table

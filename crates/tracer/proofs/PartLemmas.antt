@@ -94,10 +94,6 @@ refused old part now new rest line behind reason taken is stepped same fault mor
     ∙ line_refused (progress_of now.judge) now.line (rest ++ more) line (behind ++ more) reason (first_line rest line behind more is) stepped
     ∙ ap (λ n. No n reason) (sym same) ∙ (rw fault refl)
 
--- a judge that found a fault before
-pub passed : (judge : TextJudge) (reason : Reason) (xs ys : List ℕ) → judge.fault ≡ Some reason → verdict_behind judge xs ≡ verdict_behind judge ys
-passed judge reason xs ys fault = rw fault refl
-
 -- ---- an input that is judged as far as it was read
 
 pub record IsJudgedTo (from now : Option (List ℕ)) (judge : TextJudge) (held : List ℕ) : Type 0 where

@@ -1,7 +1,6 @@
 -- A text that is read and judged in parts.
-use Rattle.std.specs.Prelude.{ℕ, List, Some, None, length, take}
-use Rattle.tracer.specs.declared.{parts.Part.Part, checking.TextJudge.TextJudge, verdicts.Verdict.Verdict}
-use Rattle.tracer.specs.{declared.verdicts.Verdict.TheVariants.No, Judging.{lines_in, verdict_from}, Tallies.progress_of}
+use Rattle.{std.specs.Prelude.{ℕ, List, Some, None, length, take}, tracer.specs.declared.{parts.Part.Part, checking.TextJudge.TextJudge}}
+use Rattle.tracer.specs.{declared.verdicts.Verdict.{Verdict, TheVariants.No}, Judging.{lines_in, verdict_from}, Tallies.progress_of}
 
 -- the bytes that are read and not yet judged
 abbrev pub held : Part → List ℕ

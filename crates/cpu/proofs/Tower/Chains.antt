@@ -4,14 +4,12 @@ use Rattle.std.proofs.Common.{◌≡◌, ◌≢◌, ℕ, ◌<◌, false, ◌&&�
 use Rattle.std.proofs.lemmas.{Bool.ne_eqb, List.{get_or-set_same, get_or-set_other, length-set, set-get_or}}
 use Rattle.{thread_blocks.{proofs.Members.same_tid_self, specs.Queues.is_in}, event_log.specs.declared.{entries.Entry.Entry, ids.{BufId.BufId, CpuId.CpuId}}}
 use Rattle.{event_log.specs.declared.ids.Tid.Tid, guest.specs.State.{State, at_start}, layer_traits.specs.declared.calls.Call.Call as TowerCall}
-use Rattle.layer_traits.specs.declared.{calls.Effect.Effect, buffer_edits.{BufferEdit.BufferEdit, BufferOut.BufferOut}, call_states.CallState.CallState}
-use Rattle.layer_traits.specs.{declared.call_states.Stage.{Stage, TheVariants.{Acquires, Enters, Tries, Waits, AcquiresAgain}}, BufferProtocol.buffer_rules}
-use Rattle.layer_traits.specs.{BufferLaw.{Buffering, buffer_of, fifo_plan, going, plan_at, no_call, call_state_of, going_at}, Conditions.CvCall, CvLaw.Waiting}
-use Rattle.{layer_traits.specs.{CvLaw.cv_plan, QLockLaw.slept_for, QLocking.lock_moves, Plans.Plan}, cpu.specs.{Table.Setups.Setup, Tower.Views.TowerAnswer}}
-use Rattle.cpu.specs.Tower.{Views.{TowerName, TowerOut}, Composed.{IsLine, IsLined, Stands, FitsStage, enters, tries, asks_again}, Privates.guest_at}
-use Rattle.cpu.{specs.Tower.Privates.{private_after, private_of, thread_from, tid}, proofs.Tower.Callers.{Caller, Runner, Site, at_next, awake, call_state_at}}
-use Rattle.cpu.proofs.Tower.{ChangedThread.{changed, goes, own_at, part_at, parts, threads_at}, SectionLines.{HasHad, after, own, call_state, threads, plan}}
-use Rattle.cpu.proofs.Tower.SectionLines.{section_line, stands_as}
+use Rattle.layer_traits.specs.declared.{calls.Effect.Effect, call_states.{CallState.CallState, Stage.{Stage, TheVariants.{Acquires, Enters, Tries, Waits}}}}
+use Rattle.layer_traits.specs.{declared.call_states.Stage.TheVariants.AcquiresAgain, BufferLaw.{Buffering, fifo_plan, going, plan_at, no_call, call_state_of}}
+use Rattle.{layer_traits.specs.{BufferLaw.going_at, QLockLaw.slept_for}, cpu.specs.{Table.Setups.Setup, Tower.{Views.TowerOut, Composed.{IsLine, IsLined}}}}
+use Rattle.cpu.specs.Tower.{Composed.{Stands, FitsStage, enters, tries, asks_again}, Privates.{guest_at, private_after, private_of, thread_from, tid}}
+use Rattle.cpu.proofs.Tower.{Callers.{Caller, Runner, Site, at_next, awake, call_state_at}, ChangedThread.{changed, goes, own_at, part_at, parts, threads_at}}
+use Rattle.cpu.proofs.Tower.SectionLines.{HasHad, after, own, call_state, threads, plan, section_line, stands_as}
 
 -- the plan of a poll of this call is a line of the table
 abbrev pub LineOf : Setup → CpuId → Tid → TowerCall → Buffering → List State → List Entry → Type 0
@@ -108,9 +106,6 @@ module _ (caller : Caller) where
       → private_of own2 guests trace ≡ private_of was guests trace → fifo_plan setup.homes c t call was ≡ fifo_plan setup.homes c t call own2
       → LineOf setup c t call own2 guests trace → LineOf setup c t call was guests trace
   chained_line stage next own2 is is2 none none2 private plan line = grind arith
-
-  abbrev beneath : CvCall BufferEdit → Plan TowerName TowerAnswer (Waiting BufferOut) TowerOut
-  beneath s = cv_plan (lock_moves buffer_rules) setup.homes c (buffer_of call) s was.cv
 
   -- the thread was handed the lock, or was woken, and stands at the next stage
   abbrev pub handed_own : Stage → Buffering

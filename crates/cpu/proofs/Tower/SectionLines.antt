@@ -16,7 +16,7 @@ use Rattle.layer_traits.specs.{Conditions.CvCall, CvLaw.{Waiting, cv_plan, left_
 use Rattle.layer_traits.specs.{QLocking.{lock_answer, lock_moves, wait_list_asked, asker_report}, Places.{Threads, is_cpu}, Plans.{Left, Plan, Now, Act}}
 use Rattle.{layer_traits.specs.{Plans.raised, SleepLaw.{Sleeping, left_done, sleep_plan}}, cpu.specs.{Guests.after_answer, Table.Blocks.effect_of}}
 use Rattle.cpu.specs.Table.{Setups.{Call, Thread, Private, home_of, program_of, thread_at}, Choice.{after_section, at_buffer, recorded, returned_at}}
-use Rattle.cpu.specs.{Table.Choice.{section_at, settled, slept_if, with_call as call_put, woken}, Tower.Views.{TowerAnswer, TowerBlock, TowerName, TowerOut}}
+use Rattle.cpu.specs.{Table.Choice.{section_at, settled, slept_if, woken}, Tower.Views.{TowerAnswer, TowerBlock, TowerName, TowerOut}}
 use Rattle.cpu.specs.Tower.{Views.{answer_view, name_of, tower, report_in}, Composed.{HandIsKnown, IsKind, IsLine, IsLined, Stands, FitsStage, asks, enters}}
 use Rattle.cpu.specs.Tower.{Composed.{tries, waits as stands_waits, asks_again, signals, signals_own, releases}, Privates.{asks_in, call_from, guest_at}}
 use Rattle.cpu.{specs.Tower.Privates.{guests_after, message_of, private_after, private_of, thread_from, trace_after, tid}, proofs.Tower.Callers.Site}
@@ -67,10 +67,6 @@ try_answer t (Recv b) x lined = grind (arith, lt-ltb)
 try_answer t (Close b) x lined = absurd lined
 
 -- What the table hears.
-
--- the call has its effect, and its entry is written
-abbrev pub effected_so : Private → Tid → Call → Entry → Private
-effected_so p t next entry = record (call_put p t (Some next)) { trace = p.trace ++ entry ∷ [] }
 
 -- the effect of a try that found the buffer closed or not
 abbrev pub effect_by : TowerCall → (closed : Bool) → (op : ℕ) → Message → (pos : ℕ) → Effect

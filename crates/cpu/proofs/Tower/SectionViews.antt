@@ -1,10 +1,9 @@
 -- The layers' sections are the table's: of every section on every block.
-use Rattle.std.proofs.Common.{◌≡◌, true, List, ◌∷◌, length, nat_lt, ap, arith, lt-ltb}
-use Rattle.{event_log.specs.Messages.Message, thread_blocks.proofs.Distinct.without_none, layer_traits.specs.declared.locked.QEdit.TheVariants.Acquire}
-use Rattle.layer_traits.specs.declared.{locked.{QEdit.TheVariants.Inside, Side.TheVariants.{Receivers, Senders}}, conditions.CvEdit.TheVariants.Edit}
-use Rattle.layer_traits.specs.{declared.buffer_edits.BufferEdit.BufferEdit, Conditions.CvCall, QLocking.LockState, BufferBlocks.BufferState}
-use Rattle.cpu.specs.{Table.{Blocks.{Buffer, OfBuffer, Name}, Edits.{answer, edited}}, Tower.Views.{TablesAgree, TowerBlock, TowerName, answer_view}}
-use Rattle.cpu.specs.Tower.Views.{buffer_view, code, name_of, tower, view}
+use Rattle.std.proofs.Common.{◌≡◌, ap, arith}
+use Rattle.{thread_blocks.proofs.Distinct.without_none, layer_traits.specs.declared.locked.{QEdit.TheVariants.{Acquire, Inside}, Side.TheVariants.Receivers}}
+use Rattle.layer_traits.specs.declared.{locked.Side.TheVariants.Senders, conditions.CvEdit.TheVariants.Edit, buffer_edits.BufferEdit.BufferEdit}
+use Rattle.{layer_traits.specs.{Conditions.CvCall, QLocking.LockState, BufferBlocks.BufferState}, cpu.specs.Table.{Blocks.{OfBuffer, Name}, Edits.answer}}
+use Rattle.cpu.specs.{Table.Edits.edited, Tower.Views.{TablesAgree, TowerBlock, TowerName, answer_view, code, name_of, tower, view}}
 use Rattle.layer_traits.specs.declared.buffer_edits.BufferEdit.TheVariants as edit
 use Rattle.layer_traits.specs.declared.queue_edits.QueueBlock.TheVariants as block
 use Rattle.layer_traits.specs.declared.queue_edits.QueueEdit.TheVariants as queue
@@ -20,10 +19,6 @@ codes e = grind arith
 -- The blocks.
 
 module _ (state : LockState BufferState) where
-  -- the lock round another buffer
-  abbrev round : BufferState → Buffer
-  round x = buffer_view (record state { above = x })
-
   edits_above : (e : CvCall BufferEdit) → view (tower.edited (queue.Above e) (block.Above state))
       ≡ edited (name_of (queue.Above e)) (view (block.Above state))
   edits_above (Acquire t) = ap OfBuffer (grind arith)
@@ -32,11 +27,7 @@ module _ (state : LockState BufferState) where
   edits_above (Inside (Edit (edit.TryPut t m))) = ap OfBuffer (grind arith)
   edits_above (Inside (Edit (edit.TryTake t))) = ap OfBuffer (grind arith)
   edits_above e = grind (arith, without_none)
-
   -- The answers.
-
-  some_left : (m : Message) (items : List Message) → nat_lt 0 (length (m ∷ items)) ≡ true
-  some_left m items = lt-ltb 0 (length (m ∷ items)) (omega arith)
 
 edits : (e : TowerName) (x : TowerBlock) → view (tower.edited e x) ≡ edited (name_of e) (view x)
 edits (queue.Above e) (block.Above state) = edits_above state e

@@ -9,6 +9,7 @@ use Rattle.cpu.specs.Table.{Blocks.{OfBuffer, Name, Answer}, Edits.{edited_buffe
 use Rattle.cpu.specs.Table.{Steps.{after_reply, acting, step_in, cpu_step, Whole, whole_after, system_step, steps_by}, Choice.{Ask, at_buffer, section_at}}
 use Rattle.cpu.specs.Table.Choice.{asked_by, asked_at, asked_in, asked, Goes, choice, with_call, returned_at, returned_by, returned_in, settled, after_call}
 use Rattle.cpu.{specs.{Table.Choice.{after_by, after_at, after_in, after_section}, Wakeups.Order.block_of}, proofs.Wakeups.Agreement.{at_same, Same, same_with}}
+use Rattle.cpu.proofs.Wakeups.Lists.{set_here}
 
 -- Steps one after the other.
 
@@ -17,10 +18,6 @@ steps_more setup c zero m s = let same : 0 + m ≡ m = omega arith in ap (λ k. 
 steps_more setup c (suc n) m s =
     let same : suc n + m ≡ suc (n + m) = omega arith in
     ap (λ k. steps_by setup c k s) same ∙ steps_more setup c n m (system_step setup c s).next
-
-set_here : (xs : List Private) (i : ℕ) (p x : Private) → slice_get xs i ≡ Some p → slice_get (slice_set xs i x) i ≡ Some x
-set_here (y ∷ xs) (suc i) p x is = set_here xs i p x is
-set_here xs i p x is = grind arith
 
 -- a section's name
 abbrev pub section_of : CpuId → Ask → Section Name

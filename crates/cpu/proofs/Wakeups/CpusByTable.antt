@@ -3,7 +3,8 @@ use Rattle.std.proofs.Common.{◌≡◌, ℕ, ◌<◌, ◌≤◌, ◌⊎◌, inl
 use Rattle.{std.proofs.lemmas.Bool.cases_lt, event_log.specs.{declared.ids.CpuId.CpuId, History.{same_cpu, own_events}, Sections.sections_in, Actions.Action}}
 use Rattle.{event_log.{specs.Actions.cpu_of_action, proofs.{Same.same_cpu_self, Foreign.lawful_before}}, layer_traits.specs.Along.{starts, others, steps}}
 use Rattle.cpu.specs.{Table.{Blocks.Name, Setups.{Setup, Private}, Steps.{cpu_step, AlongTable}}, Wakeups.Lost.{IsWorked, CpusLoseNoWakeUp}}
-use Rattle.cpu.proofs.Wakeups.{Lists.refuted, Ordered.order_loses_no_wake_up, ReachedStates.{IsFair, IsFairLog, fair_good, Ok, step_ok, ok_beside, ok_at_boot}}
+use Rattle.cpu.proofs.Wakeups.{Lists.{refuted, same_head, same_tail}, Ordered.order_loses_no_wake_up, ReachedStates.{IsFair, IsFairLog, fair_good, Ok, step_ok}}
+use Rattle.cpu.proofs.Wakeups.ReachedStates.{ok_beside, ok_at_boot}
 
 -- along a log whose sections may come a CPU agrees with the log
 pub along_ok : (setup : Setup) (c : CpuId) (n : ℕ) (p : Private) (log : List (Action Name))
@@ -19,24 +20,6 @@ along_ok setup c n p log (steps {n = m} {p = q} {log = past} along goes) =
 -- a step does one action or none
 abbrev IsShort : List (Action Name) → Type 0
 IsShort acts = (acts ≡ []) ⊎ ((a : Action Name) × (acts ≡ a ∷ []))
-
--- Lists.
-
-head_or : Action Name → List (Action Name) → Action Name
-head_or a [] = a
-head_or a (b ∷ list) = b
-
-tail_of : List (Action Name) → List (Action Name)
-tail_of [] = []
-tail_of (b ∷ list) = list
-
-same_head : (a b : Action Name) (p q : List (Action Name)) → a ∷ p ≡ b ∷ q → a ≡ b
-unfolding head_or
-same_head a b p q is = ap (head_or a) is
-
-same_tail : (a b : Action Name) (p q : List (Action Name)) → a ∷ p ≡ b ∷ q → p ≡ q
-unfolding tail_of
-same_tail a b p q is = ap tail_of is
 
 -- a CPU's way before the newest action: that action was another CPU's, or the CPU's next step does it
 pub record Cut (setup : Setup) (c : CpuId) (a : Action Name) (past : List (Action Name)) : Type 0 where

@@ -2,16 +2,15 @@
 use Rattle.std.proofs.Common.{◌≡◌, ℕ, zero, suc, ◌+◌, ◌<◌, Bool, true, false, not, ◌&&◌, ◌==◌, List, ◌++◌, length, slice_get, Some, nat_lt, refl, sym, ap, ◌∙◌}
 use Rattle.std.proofs.{Common.{subst, arith}, lemmas.Bool.{and_from, and_left, and_right, false_from_ne_true, lt-ltb, ltb-true, ne_eqb}}
 use Rattle.event_log.specs.declared.ids.{CpuId.CpuId, Tid.Tid, BufId.BufId, LockId.TheVariants.{Pending, Buffer as AtBuffer}, TheConstants.THREADS}
-use Rattle.event_log.{specs.{History.same_cpu, Sections.{Section, sections_in}}, proofs.Same.same_cpu_self}
-use Rattle.layer_traits.specs.{declared.moves.WaitList.WaitList, ListsAgree.same_list, Passes.as_list, OnePlace.total, Places.{Where, Home, Hand}}
-use Rattle.layer_traits.{specs.Places.{Pend as IsPending, Asleep, At, is_home, is_hand, is_thread, one_if, count_in}, proofs.CountLemmas.count_append}
-use Rattle.{layer_traits.proofs.{CountLemmas.count_as_list, OnePlaceLemmas.{total_at, total_none}}, cpu.specs.Table.Blocks.{Buffer, OfBuffer, Name}}
-use Rattle.cpu.specs.{Table.{Setups.{Setup, Private, thread_at, home_of}, Steps.{Whole, cpu_numbered}, Worked.buffer_numbered}, Wakeups.Order.block_of}
-use Rattle.cpu.specs.Wakeups.{Quiet.HomesExist, OnePlace.{own_queues, queues_in, all_of, of_cpu, of_pending, of_buffer, everyone, thread_in, thread_of}}
-use Rattle.cpu.{specs.Wakeups.OnePlace.{is_live, StandInOnePlace}, proofs.Wakeups.{Lists.refuted, PostsAndVisits.{sleeps_in, is_pending, is_local}}}
-use Rattle.cpu.proofs.Wakeups.{PostsAndVisits.{post, visit, marked}, ThreadAtBuffer.{sleeps_here, marked_none}, BuffersAndThreads.Good, Placed.IsListed}
-use Rattle.cpu.proofs.Wakeups.{Placed.{IsPlaced, buffer_there}, Agreement.seat, CpuStep.pending_there, ReachedStates.fair_good, SystemInv.SystemInv}
-use Rattle.cpu.proofs.Wakeups.SystemInv.{reached_inv, cpu_there}
+use Rattle.{event_log.{specs.{History.same_cpu, Sections.sections_in}, proofs.Same.same_cpu_self}, layer_traits.specs.declared.moves.WaitList.WaitList}
+use Rattle.layer_traits.specs.{ListsAgree.same_list, Passes.as_list, OnePlace.total, Places.{Where, Home, Hand, Pend as IsPending, Asleep, At, is_home}}
+use Rattle.layer_traits.{specs.Places.{is_hand, is_thread, one_if, count_in}, proofs.{CountLemmas.{count_append, count_as_list}, OnePlaceLemmas.total_at}}
+use Rattle.{layer_traits.proofs.OnePlaceLemmas.total_none, cpu.specs.Table.{Blocks.{Buffer, OfBuffer}, Setups.{Setup, Private, thread_at, home_of}}}
+use Rattle.cpu.specs.{Table.{Steps.{Whole, cpu_numbered}, Worked.buffer_numbered}, Wakeups.{Order.block_of, Quiet.HomesExist, OnePlace.{own_queues, queues_in}}}
+use Rattle.cpu.specs.Wakeups.OnePlace.{all_of, of_cpu, of_pending, of_buffer, everyone, thread_in, thread_of, is_live, StandInOnePlace}
+use Rattle.cpu.proofs.Wakeups.{Lists.refuted, PostsAndVisits.{sleeps_in, is_pending, is_local, post, visit, marked}, ThreadAtBuffer.{sleeps_here, marked_none}}
+use Rattle.cpu.proofs.Wakeups.{BuffersAndThreads.Good, Placed.{IsListed, IsPlaced, buffer_there}, Agreement.seat, CpuStep.pending_there}
+use Rattle.cpu.proofs.Wakeups.{ReachedStates.fair_good, SystemInv.{SystemInv, reached_inv, cpu_there}}
 use Rattle.layer_traits.specs.declared.moves.WaitList.TheVariants as wait_list
 
 -- Sums of the numbers below n.
@@ -21,9 +20,6 @@ count_all t f zero = refl
 count_all t f (suc n) = count_append t (all_of f n) (f n) ∙ ap (λ m. m + count_in t (f n)) (count_all t f n)
 
 module _ (setup : Setup) (s : Whole) (homes : HomesExist setup) (kept : SystemInv setup s) (u : Tid) where
-  abbrev past : List (Section Name)
-  past = sections_in s.log
-
   good : Good setup (sections_in s.log)
   good = fair_good setup s.log kept.sound.fair
 

@@ -1,14 +1,14 @@
 -- A CPU whose hand holds a thread either runs nobody or runs a thread inside its call.
 use Rattle.std.proofs.Common.{◌≡◌, ℕ, ◌+◌, ◌<◌, ◌==◌, Bool, true, false, List, [], ◌∷◌, length, slice_get, slice_set, Option, Some, None, is_some}
 use Rattle.std.proofs.{Common.{if◌then◌else◌, refl, sym, ap, ◌∙◌, subst, arith}, lemmas.Bool.{eqb-true, eqb-false}}
-use Rattle.event_log.specs.{declared.ids.{CpuId.CpuId, Tid.Tid}, History.same_cpu, Actions.{Action, phase}, Sections.sections_in}
+use Rattle.event_log.{specs.{declared.ids.{CpuId.CpuId, Tid.Tid}, History.same_cpu, Actions.{Action, phase}, Sections.sections_in}, proofs.ListLemmas.set_else}
 use Rattle.guest.specs.declared.instructions.Instruction.{Instruction, TheVariants.{Send, Recv, Close, Yield as YieldLine}}
 use Rattle.layer_traits.specs.{declared.{steps.Reason.TheVariants.{AllEnded, TraceFull}, call_states.Stage.Stage}, Plans.is_in_section}
 use Rattle.cpu.specs.Table.{Blocks.{Name, Reported}, Setups.{Setup, Call, Private, thread_at, stands_at, home_threads, open_calls, have_ended}, Choice.Choice}
 use Rattle.cpu.specs.Table.Choice.{Halts, Alone, Goes, with_call, at_instruction, at_call, at_ready, at_current, at_hand, choice, recorded, slept_if, woken}
 use Rattle.cpu.specs.Table.{Choice.{returned_in, settled}, Steps.{acting, chosen, step_in, cpu_step, Whole, system_step, IsReached, boots, steps}}
 use Rattle.cpu.proofs.Wakeups.{Lists.refuted, Agreement.{at_same, within, runs}, PostsAndVisits.{post, visit}, ChosenSteps.{ChoiceOk, choice_ok}}
-use Rattle.cpu.proofs.Wakeups.{ReachedStates.{Ok, get_set, get_set_other, boots_at, reached_sound, Sound}, SystemInv.{NextIs, same, went, next_is}}
+use Rattle.cpu.proofs.Wakeups.{ReachedStates.{Ok, get_set, boots_at, reached_sound, Sound}, SystemInv.{NextIs, same, went, next_is}}
 
 abbrev pub IsFilled : Private → Type 0
 IsFilled p = (t : Tid) → is_some p.hand ≡ true → p.current ≡ Some t → is_some (thread_at p t).call ≡ true
@@ -119,7 +119,7 @@ filled_next setup c s next sound filled (went p here) = λ e q is. by_test e q i
     by_test e q is true own =
         subst IsFilled (get_set s.cpus c.0 e.0 (cpu_step setup c p s.log).next q is (eqb-true c.0 e.0 own))
         (filled_step setup c p s.log (sound.cpus c p here) (filled c p here))
-    by_test e q is false off = filled e q (sym (get_set_other s.cpus c.0 e.0 (cpu_step setup c p s.log).next (eqb-false c.0 e.0 off)) ∙ is)
+    by_test e q is false off = filled e q (sym (set_else s.cpus c.0 e.0 (cpu_step setup c p s.log).next (λ same. eqb-false c.0 e.0 off (sym same))) ∙ is)
 
 pub reached_filled : (setup : Setup) (room : ℕ) (s : Whole) → IsReached setup room s → AllFilled s
 reached_filled setup room s boots = grind (arith, boots_at, empty_filled)

@@ -1,7 +1,7 @@
 -- Lists of threads: who stands in them, and who is first.
-use Rattle.std.proofs.{Common.{◌≡◌, true, false, ◌||◌, List, [], ◌∷◌, ◌++◌, Some, None, ap, arith}, lemmas.Bool.{or_parts, or_from}}
-use Rattle.{event_log.specs.declared.ids.Tid.Tid, thread_blocks.{specs.Queues.{same_tid, is_in, first}, proofs.Members.same_tid_true}}
-use Rattle.layer_traits.specs.{Sleeping.joined, BufferBlocks.is_first}
+use Rattle.std.proofs.Common.{◌≡◌, ℕ, true, false, ◌||◌, List, [], ◌∷◌, ◌++◌, Some, None, slice_get, slice_set, ap, arith}
+use Rattle.{std.proofs.lemmas.{Bool.{or_parts, or_from}, Option.slice_get_within}, event_log.{specs.declared.ids.Tid.Tid, proofs.ListLemmas.set_there}}
+use Rattle.{thread_blocks.{specs.Queues.{same_tid, is_in, first}, proofs.Members.same_tid_true}, layer_traits.specs.{Sleeping.joined, BufferBlocks.is_first}}
 pub use Rattle.event_log.proofs.BoolLemmas.{refuted}
 
 pub none_is_not : {A : Type 0} {t : Tid} → None ≡ Some t → A
@@ -20,3 +20,14 @@ in_end u t (x ∷ list) absent other =
 
 pub in_joined : (u t : Tid) (list : List Tid) → is_in u list ≡ false → same_tid u t ≡ false → is_in u (joined t list) ≡ false
 in_joined u t list absent other = grind (arith, in_end)
+
+-- of one list in two forms, what is in front and what is behind it are the same
+pub same_head : {X : Type 0} (a b : X) (p q : List X) → a ∷ p ≡ b ∷ q → a ≡ b
+same_head a b p q is = cc
+
+pub same_tail : {X : Type 0} (a b : X) (p q : List X) → a ∷ p ≡ b ∷ q → p ≡ q
+same_tail a b p q is = cc
+
+-- what is written where something stood is read
+pub set_here : {X : Type 0} (xs : List X) (i : ℕ) (p x : X) → slice_get xs i ≡ Some p → slice_get (slice_set xs i x) i ≡ Some x
+set_here xs i p x is = set_there xs i x (slice_get_within xs i p is)

@@ -1,23 +1,14 @@
 -- The ways of CPUs along one list, merged to one schedule.
-use Rattle.std.proofs.Common.{◌≡◌, ◌≢◌, ℕ, zero, suc, ◌+◌, ◌<◌, ◌≤◌, ◌⊎◌, inl, inr, false, true, List, [], ◌∷◌, ◌++◌, if◌then◌else◌, refl, sym, ap, ◌∙◌}
-use Rattle.std.proofs.Common.{subst, arith, length, Some, slice_get, slice_set, zero-add}
-use Rattle.std.proofs.lemmas.{Bool.{cases_eq, cases_lt, ne_eqb}, List.{length-append, length-set}, List.Elements.All-append}
-use Rattle.{std.specs.List.All, event_log.specs.{declared.ids.CpuId.CpuId, History.{same_cpu, own_events}, Actions.{Action, cpu_of_action}}}
-use Rattle.{event_log.proofs.Same.same_cpu_self, layer_traits.specs.{declared.steps.Step.TheVariants.Stepped, Along.{starts, others, steps}}}
+use Rattle.std.proofs.Common.{◌≡◌, ◌≢◌, ℕ, zero, suc, ◌+◌, ◌<◌, ◌≤◌, ◌⊎◌, inl, inr, false, true, List, [], ◌∷◌, ◌++◌, if◌then◌else◌, refl, sym, ap, ◌∙◌, subst}
+use Rattle.std.proofs.{Common.{arith, length, Some, slice_get, slice_set, zero-add}, lemmas.{Bool.{cases_eq, cases_lt, ne_eqb}, List.length-append}}
+use Rattle.std.{proofs.lemmas.List.{length-set, Elements.All-append}, specs.List.All}
+use Rattle.event_log.{specs.{declared.ids.CpuId.CpuId, History.{same_cpu, own_events}, Actions.{Action, cpu_of_action}}, proofs.Same.same_cpu_self}
+use Rattle.{event_log.proofs.ListLemmas.set_else, layer_traits.specs.{declared.steps.Step.TheVariants.Stepped, Along.{starts, others, steps}}}
 use Rattle.cpu.specs.{Sound.after_steps, Table.{Blocks.Name, Setups.{Setup, Private, at_boot}, Steps.{Whole, AlongTable, boots_from, cpu_numbered, cpu_step}}}
-use Rattle.cpu.specs.{Table.Steps.{system_step, whole_at_boot}, Wakeups.Lost.IsWorked}
-use Rattle.cpu.proofs.{ReachedSystems.after_more, Wakeups.Lists.refuted}
-use Rattle.cpu.specs.Wakeups.Merged.{WorkIsARun}
+use Rattle.cpu.{specs.{Table.Steps.{system_step, whole_at_boot}, Wakeups.{Lost.IsWorked, Merged.WorkIsARun}}, proofs.ReachedSystems.after_more}
+use Rattle.cpu.proofs.Wakeups.{Lists.{refuted, same_head, same_tail, set_here}, SystemInv.boots_length}
 
 -- ---- lists
-
-set_here : (xs : List Private) (i : ℕ) (p x : Private) → slice_get xs i ≡ Some p → slice_get (slice_set xs i x) i ≡ Some x
-set_here (y ∷ xs) (suc i) p x is = set_here xs i p x is
-set_here xs i p x is = grind arith
-
-set_other : (xs : List Private) (i j : ℕ) (x : Private) → j ≢ i → slice_get (slice_set xs i x) j ≡ slice_get xs j
-set_other (y ∷ xs) (suc i) (suc j) x off = set_other xs i j x (λ same. off (ap suc same))
-set_other xs i j x off = grind arith
 
 booted : (setup : Setup) (n k i : ℕ) → i < k → slice_get (boots_from setup n k) i ≡ Some (at_boot setup (cpu_numbered (n + i)))
 booted setup n zero i below = absurd (omega (arith, below))
@@ -63,12 +54,8 @@ goes_known setup sched ps log boots = λ k d below. absurd (omega (arith, below)
 goes_known setup sched ps log (goes {before = before} {ps = qs} {log = past} c p way below at stepped) =
     All-append (λ (d : CpuId). d.0 < setup.cpus) before (c ∷ []) (goes_known setup before qs past way) (one_known setup c below)
 
-boots_long : (setup : Setup) (n k : ℕ) → length (boots_from setup n k) ≡ k
-boots_long setup n zero = refl
-boots_long setup n (suc k) = ap suc (boots_long setup (n + 1) k)
-
 goes_long : (setup : Setup) (sched : List CpuId) (ps : List Private) (log : List (Action Name)) → Goes setup sched ps log → length ps ≡ setup.cpus
-goes_long setup sched ps log boots = boots_long setup 0 setup.cpus
+goes_long setup sched ps log boots = boots_length setup 0 setup.cpus
 goes_long setup sched ps log (goes {before = before} {ps = qs} {log = past} c p way below at stepped) =
     length-set qs c.0 (cpu_step setup c p past).next ∙ goes_long setup before qs past way
 
@@ -97,22 +84,6 @@ record Cut (setup : Setup) (c : CpuId) (a : Action Name) (past : List (Action Na
       ⊎ ((same_cpu (cpu_of_action a) c ≡ true) × ((cpu_step setup c before past).acts ≡ a ∷ []) × ((cpu_step setup c before past).answer ≡ Stepped)
       × (mid ≡ (cpu_step setup c before past).next))
   way : Way setup c (a ∷ past) mid p
-
-head_or : Action Name → List (Action Name) → Action Name
-head_or a [] = a
-head_or a (b ∷ list) = b
-
-tail_of : List (Action Name) → List (Action Name)
-tail_of [] = []
-tail_of (b ∷ list) = list
-
-same_head : (a b : Action Name) (p q : List (Action Name)) → a ∷ p ≡ b ∷ q → a ≡ b
-unfolding head_or
-same_head a b p q is = ap (head_or a) is
-
-same_tail : (a b : Action Name) (p q : List (Action Name)) → a ∷ p ≡ b ∷ q → p ≡ q
-unfolding tail_of
-same_tail a b p q is = ap tail_of is
 
 -- one more step without an action
 longer : (setup : Setup) (c : CpuId) (from q : Private) (log log2 : List (Action Name)) → log ≡ log2 → Way setup c log2 from q
@@ -212,7 +183,7 @@ move setup log sched ps k q p below at here (alone {p = r} way stepped none) =
       way = subst (λ acts. Goes setup (m.sched ++ cpu_numbered k ∷ []) (slice_set m.qs k (cpu_step setup (cpu_numbered k) r log).next) (acts ++ log)) none
           (goes (cpu_numbered k) r m.way below m.here stepped);
       here = set_here m.qs k r (cpu_step setup (cpu_numbered k) r log).next m.here;
-      others = λ i off. set_other m.qs k i (cpu_step setup (cpu_numbered k) r log).next off ∙ m.others i off;
+      others = λ i off. set_else m.qs k i (cpu_step setup (cpu_numbered k) r log).next off ∙ m.others i off;
     }
 
 -- a CPU has a way from here to where it is to be
@@ -314,7 +285,7 @@ acted setup a past R within before = let x = before.all d within in by_turn x.0 
     each r mid is at on k below (inr off) =
         let x = before.all k below in (
           x.0,
-          set_other before.ps d k (cpu_step setup (cpu_of_action a) r past).next off ∙ x.1,
+          set_else before.ps d k (cpu_step setup (cpu_of_action a) r past).next off ∙ x.1,
           idle setup a past R k x.0 off x.2,
         )
 

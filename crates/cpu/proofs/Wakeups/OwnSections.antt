@@ -1,5 +1,5 @@
 -- One thread and one buffer: what its own sections leave, and what its sections at another buffer do.
-use Rattle.std.proofs.Common.{◌≡◌, ◌≢◌, ◌≤◌, Bool, true, false, ◌&&◌, List, [], ◌∷◌, ◌++◌, Option, Some, None, if◌then◌else◌, refl, sym, ap, ◌∙◌, subst, arith}
+use Rattle.std.proofs.Common.{◌≡◌, ◌≢◌, ◌≤◌, Bool, true, false, ◌&&◌, List, Option, Some, None, if◌then◌else◌, refl, sym, ap, ◌∙◌, subst, arith}
 use Rattle.std.proofs.{lemmas.{Bool.{and_parts, and_from, and_right, false_from_ne_true}, Option.same_Some}, Math.Bool.and-true}
 use Rattle.{event_log.specs.declared.ids.{CpuId.CpuId, Tid.Tid, BufId.BufId, LockId.TheVariants.Buffer as AtBuffer}, thread_blocks.specs.Queues.first}
 use Rattle.{thread_blocks.proofs.Members.same_tid_self, layer_traits.specs.declared.locked.Side.{Side, TheVariants.{Receivers, Senders}}}
@@ -65,11 +65,6 @@ module _ (b : BufId) (u : Tid) where
 
   lined : (progress : Progress) (side : Side) → stands side (In b progress) ≡ true → marked u (is_lined b side (In b progress)) ≡ marked u true
   lined progress side on = ap (marked u) (and_from (is_buffer b b) (stands side (In b progress)) (buffer_self b) on)
-
-  -- a line that the thread enters, or may not enter since it is no thread's number
-  entered_list : (line : List Tid) (joins : Bool) → may_join u line ≡ joins → count_in u line ≡ 0
-      → count_in u (if joins then line ++ u ∷ [] else line) ≡ marked u true
-  entered_list line joins is none = grind (arith, not_counted, same_tid_self, count_append)
 
   own_enter : (k : Buffer) (g : Progress) (side : Side) (joins : Bool) → may_join u (line_of side k) ≡ joins → k.busy ≡ Some u → Pair b u k g (In b Begins) Home
       → Pair b u (if joins then entered u side k else k) (HasEntered side) (In b (HasEntered side)) Home

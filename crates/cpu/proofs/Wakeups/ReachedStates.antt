@@ -4,11 +4,11 @@ use Rattle.std.proofs.{Common.{Option, Some, None, option_map, nat_lt, if◌then
 use Rattle.std.proofs.{lemmas.{Bool.{ne_eqb, eqb-true, eqb-false, lt-ltb, le-ltb, ltb-true, ltb-false}, List.length-map}, Math.Bool.and-true}
 use Rattle.event_log.specs.{declared.ids.{CpuId.CpuId, Tid.Tid, LockId.LockId}, History.{same_cpu, IsLawful}, Sections.sections_in, Actions.{Action, Take, Try}}
 use Rattle.event_log.{specs.Actions.{Give, Phase, Rests, Waits as WaitsAt, Holds, phase, cpu_of_action, spot_of, gives, action_in}, proofs.Same.same_cpu_true}
-use Rattle.{event_log.proofs.Exclusion.{phase_own, phase_other}, layer_traits.specs.{declared.steps.Step.TheVariants.Stepped, Places.{one_if, count_in}}}
-use Rattle.{layer_traits.specs.{Plans.{is_in_section, at_give}, Along.Outcome, Passes.or_else}, cpu.specs.Table.{Blocks.Name, Edits.answer, Setups.Setup}}
-use Rattle.cpu.specs.Table.{Setups.{Private, new_thread, home_threads_from, at_boot}, Choice.{asked, Choice, Halts, Alone, Goes, choice}, Steps.after_reply}
-use Rattle.cpu.specs.Table.Steps.{chosen, step_in, cpu_step, Whole, cpu_numbered, boots_from, whole_at_boot, whole_after, step_at, system_step, IsReached}
-use Rattle.cpu.specs.{Table.Steps.{boots, steps}, Wakeups.{Order.block_of, Lost.{SystemsKeepOrder, SystemsLoseNoWakeUp, FreeLocksHaveNoSleepers}}}
+use Rattle.{event_log.proofs.{Exclusion.{phase_own, phase_other}, ListLemmas.set_else}, layer_traits.specs.declared.steps.Step.TheVariants.Stepped}
+use Rattle.{layer_traits.specs.{Places.{one_if, count_in}, Plans.{is_in_section, at_give}, Along.Outcome, Passes.or_else}, cpu.specs.Table.Blocks.Name}
+use Rattle.cpu.specs.Table.{Edits.answer, Setups.{Setup, Private, new_thread, home_threads_from, at_boot}, Choice.{asked, Choice, Halts, Alone, Goes, choice}}
+use Rattle.cpu.specs.Table.Steps.{after_reply, chosen, step_in, cpu_step, Whole, cpu_numbered, boots_from, whole_at_boot, whole_after, step_at, system_step}
+use Rattle.cpu.specs.{Table.Steps.{IsReached, boots, steps}, Wakeups.{Order.block_of, Lost.{SystemsKeepOrder, SystemsLoseNoWakeUp, FreeLocksHaveNoSleepers}}}
 use Rattle.cpu.proofs.Wakeups.{Lists.refuted, Ordered.{buffer_awake, order_loses_no_wake_up}, PostsAndVisits.{post, visit, MayComeAt}, BuffersAndThreads.Good}
 use Rattle.cpu.proofs.Wakeups.{BuffersAndThreads.{good_none, good_step}, Agreement.{Agrees, IsSettled}, CpuStep.{foreign_step, give_ok}, ChosenSteps.ChoiceOk}
 use Rattle.cpu.proofs.Wakeups.ChosenSteps.{choice_ok}
@@ -205,11 +205,6 @@ get_set (z ∷ xs) zero zero x y is same = same_private x y is
 get_set (z ∷ xs) (suc i) (suc j) x y is same = get_set xs i j x y is (omega (arith, same))
 get_set xs i j x y is same = grind (arith, same)
 
-pub get_set_other : (xs : List Private) (i j : ℕ) (x : Private) → (i ≡ j → ⊥) → slice_get (slice_set xs i x) j ≡ slice_get xs j
-get_set_other (z ∷ xs) zero zero x off = absurd (off refl)
-get_set_other (z ∷ xs) (suc i) (suc j) x off = get_set_other xs i j x (λ same. off (ap suc same))
-get_set_other xs i j x off = refl
-
 pub boots_at : (setup : Setup) (n k i : ℕ) (p : Private) → slice_get (boots_from setup n k) i ≡ Some p → at_boot setup (cpu_numbered (n + i)) ≡ p
 boots_at setup n (suc k) (suc i) p is = ap (λ m. at_boot setup (cpu_numbered m)) (by_suc n i) ∙ boots_at setup (n + 1) k i p is
   where
@@ -244,7 +239,7 @@ module _ (setup : Setup) (s : Whole) (sound : Sound setup s) (c : CpuId) where
           (rw (← get_set s.cpus c.0 e.0 (cpu_step setup c p s.log).next q is (eqb-true c.0 e.0 same)) step.ok)
       by_test e q is false off =
           all_beside setup c e q s.log (cpu_step setup c p s.log).acts off step.does step.fair
-          (sound.cpus e q (sym (get_set_other s.cpus c.0 e.0 (cpu_step setup c p s.log).next (eqb-false c.0 e.0 off)) ∙ is))
+          (sound.cpus e q (sym (set_else s.cpus c.0 e.0 (cpu_step setup c p s.log).next (λ same. eqb-false c.0 e.0 off (sym same))) ∙ is))
 
   sound_at : (o : Option Private) → slice_get s.cpus c.0 ≡ o → Sound setup (step_at setup c s o).next
   sound_at o here = grind (arith, sound_after)

@@ -1,5 +1,5 @@
 -- A quiet state that a system reaches is stuck.
-use Rattle.std.proofs.Common.{◌≡◌, ◌+◌, ◌<◌, Bool, true, false, not, ◌&&◌, List, [], ◌∷◌, length, slice_get, Option, Some, None, nat_lt, refl, sym, ap, ◌∙◌}
+use Rattle.std.proofs.Common.{◌≡◌, ◌+◌, ◌<◌, true, false, not, ◌&&◌, List, [], ◌∷◌, length, slice_get, Option, Some, None, nat_lt, refl, sym, ap, ◌∙◌}
 use Rattle.std.proofs.{Common.{subst, arith}, lemmas.Bool.{and_parts, and_from, false_from_ne_true, lt-ltb, ltb-true}}
 use Rattle.event_log.specs.declared.ids.{CpuId.CpuId, Tid.Tid, BufId.BufId, LockId.TheVariants.{Pending, Buffer as AtBuffer}, TheConstants.THREADS}
 use Rattle.event_log.specs.{declared.entries.Kind.{Kind, TheVariants.{Recv as RecvKind, SendClosed, RecvClosed}}, Messages.{Message, no_message}, Runs.Group}
@@ -38,11 +38,6 @@ front_of u (t ∷ line) some = (t, refl)
 
 side_self : (side : Side) → is_side side side ≡ true
 side_self side = grind arith
-
--- whether a visit waits in a line
-abbrev is_waiting : Visit → Bool
-is_waiting (Waiting d other) = true
-is_waiting other = false
 
 -- the call whose visit is a wait has to ask for the lock again
 waits_again : (call : Call) (b : BufId) (side : Side) → visit_of_call (Some call) ≡ Waiting b side

@@ -7,7 +7,8 @@ use Rattle.cpu.specs.Table.{Setups.{Private, thread_at, at_boot}, Choice.{Choice
 use Rattle.cpu.specs.Table.Steps.{cpu_numbered, boots_from, whole_at_boot, whole_after, roomy, answered_by, step_at, system_step, IsReached, boots, steps}
 use Rattle.cpu.proofs.Wakeups.{PostsAndVisits.{post, visit}, Placed.{Placed, placed_none, placed_at}, Agreement.{Agrees, runs, within}, ChosenSteps.ChoiceOk}
 use Rattle.cpu.proofs.Wakeups.{ChosenSteps.choice_ok, EndedThreads.{AllFine, fine_at_boot, FineChoice, fine_choice, fine_acting}, ReachedStates.{IsFairLog, Ok}}
-use Rattle.cpu.proofs.Wakeups.ReachedStates.{StepOk, step_ok, AllDo, Sound, sound_step, reached_sound, get_set, get_set_other, boots_at}
+use Rattle.cpu.proofs.Wakeups.ReachedStates.{StepOk, step_ok, AllDo, Sound, sound_step, reached_sound, get_set, boots_at}
+use Rattle.event_log.proofs.ListLemmas.{set_else}
 
 -- what a step of a system leaves: the same, or the state after its CPU's step
 pub data NextIs (setup : Setup) (c : CpuId) (s : Whole) : Whole → Type 0 where
@@ -71,7 +72,7 @@ pub record SystemInv (setup : Setup) (s : Whole) : Type 0 where
   pub fine : (e : CpuId) (p : Private) → slice_get s.cpus e.0 ≡ Some p → AllFine setup p
   pub size : length s.cpus ≡ setup.cpus
 
-boots_length : (setup : Setup) (n k : ℕ) → length (boots_from setup n k) ≡ k
+pub boots_length : (setup : Setup) (n k : ℕ) → length (boots_from setup n k) ≡ k
 boots_length setup n zero = refl
 boots_length setup n (suc k) = let more = boots_length setup (n + 1) k in omega (arith, more)
 
@@ -102,7 +103,7 @@ inv_next setup c s next known kept sound (went p here) = record {
     by_test e q is true own =
         subst (AllFine setup) (get_set s.cpus c.0 e.0 (cpu_step setup c p s.log).next q is (eqb-true c.0 e.0 own))
         (fine_step setup c p s.log (kept.sound.cpus c p here) (kept.fine c p here))
-    by_test e q is false off = kept.fine e q (sym (get_set_other s.cpus c.0 e.0 (cpu_step setup c p s.log).next (eqb-false c.0 e.0 off)) ∙ is)
+    by_test e q is false off = kept.fine e q (sym (set_else s.cpus c.0 e.0 (cpu_step setup c p s.log).next (λ same. eqb-false c.0 e.0 off (sym same))) ∙ is)
 
 pub reached_inv : (setup : Setup) (room : ℕ) (s : Whole) → IsReached setup room s → SystemInv setup s
 reached_inv setup room s boots = inv_at_boot setup room

@@ -1,18 +1,16 @@
 -- What the conditions beneath tell of their locks, the buffers tell of their items, owners and waiting lists.
-use Rattle.std.proofs.Common.{◌≡◌, ◌<◌, List, [], ◌∷◌, ◌++◌, length, map, Option, Some, None, IsSome, option_map, option_to_list}
-use Rattle.std.{proofs.{Common.{slice_index, refl, ap, sym, ◌∙◌, subst}, lemmas.Option.slice_get-get_or}, specs.List.AllByRecursion}
-use Rattle.layer_traits.specs.Capacities.{caps_in}
-use Rattle.event_log.specs.declared.{entries.Entry.Entry, ids.{BufId.BufId, CpuId.CpuId, LockId.{LockId, TheVariants.Buffer}, Tid.Tid, TheConstants.CPUS}}
-use Rattle.event_log.specs.{Buffers.items_of, History.IsLawful, Runs.is_closed, Sections.sections_in}
-use Rattle.layer_traits.specs.declared.{buffer_edits.BufferEdit.BufferEdit, moves.WaitList.WaitList, queue_edits.QueueBlock.QueueBlock}
+use Rattle.std.proofs.Common.{◌≡◌, ◌<◌, List, [], ◌∷◌, ◌++◌, length, map, Option, Some, None, IsSome, option_map, option_to_list, slice_index, refl, ap, sym}
+use Rattle.std.{proofs.{Common.{◌∙◌, subst}, lemmas.Option.slice_get-get_or}, specs.List.AllByRecursion}
+use Rattle.layer_traits.specs.{Capacities.caps_in, declared.{buffer_edits.BufferEdit.BufferEdit, moves.WaitList.WaitList, queue_edits.QueueBlock.QueueBlock}}
 use Rattle.layer_traits.specs.{declared.queues.QueueCall.{QueueCall, TheVariants.{Push, TakeAll, OnBuffer}}, Acted.{BufferActs, ItemsAre}}
 use Rattle.layer_traits.specs.{BufferEffects.{contents_of, drawn, effect_of, effects_in, fresh_lock}, BufferProtocol.{BufferLock, buffer_at}}
-use Rattle.layer_traits.specs.{BufferProtocol.buffer_monitor_rules, Conditions.{CvCall, cv_rules}, QLockLaw.lock_kernel, QLocking.wait_list_in}
-use Rattle.layer_traits.specs.{QLocking.{lock_edited, owner_in}, Owned.IsObserved, Protocol.section, QueueBlocks.{StartsWell, above_of, inner}}
-use Rattle.layer_traits.specs.{QueueRules.AreProper, Queues.{IsKnownEvent, QueueAllowed, buffer_sections, event_of, with_section}, Observed.IsObservedAs}
-use Rattle.layer_traits.proofs.{Alone.block_there as stays_there, ActedLemmas.lock_is, OwnedLemmas.{shown_under, observed_as, viewed_shown}}
-use Rattle.fifo_buffer.specs.{FifoFits.{BootsSo}, Laws.Tallies.{all_tallied, effect_position}, OwnedLaws.{buffer_lock_of, closed_of, items_in}}
-use Rattle.fifo_buffer.specs.{OwnedLaws.{owner_of, wait_lists_of}, SectionPolls.BufferEvent}
+use Rattle.layer_traits.specs.{BufferProtocol.buffer_monitor_rules, Conditions.{CvCall, cv_rules}, QLockLaw.lock_kernel, QLocking.{wait_list_in, lock_edited}}
+use Rattle.layer_traits.specs.{QLocking.owner_in, Protocol.section, QueueBlocks.{StartsWell, above_of, inner}, QueueRules.AreProper, Queues.IsKnownEvent}
+use Rattle.layer_traits.{specs.Queues.{QueueAllowed, buffer_sections, event_of, with_section}, proofs.{Alone.block_there as stays_there, ActedLemmas.lock_is}}
+use Rattle.event_log.specs.declared.{entries.Entry.Entry, ids.{BufId.BufId, CpuId.CpuId, LockId.{LockId, TheVariants.Buffer}, TheConstants.CPUS}}
+use Rattle.{event_log.specs.{Buffers.items_of, History.IsLawful, Runs.is_closed, Sections.sections_in}, fifo_buffer.specs.FifoFits.BootsSo}
+use Rattle.fifo_buffer.specs.{Laws.Tallies.{all_tallied, effect_position}, OwnedLaws.{buffer_lock_of, closed_of, items_in, owner_of, wait_lists_of}}
+use Rattle.fifo_buffer.specs.SectionPolls.{BufferEvent}
 
 module _ (opening : LockId → Option (QueueBlock BufferLock)) (boots : BootsSo opening) (b : BufId) (within : b.0 < length (caps_in opening)) where
   -- a buffer of the capacities has a lock, at the start
@@ -79,26 +77,6 @@ module _ (opening : LockId → Option (QueueBlock BufferLock)) (boots : BootsSo 
   wait_lists_read past =
       let lock = found past in
       ap (option_map wait_lists_of) lock.1 ∙ ap (λ o. Some (λ (line : WaitList). wait_list_in line o)) (sym lock.1)
-
--- what the conditions tell of a lock, the buffers tell of a view of it
-module _ {P Q : Type 0} (below : Q → P) (FitsP : P → Type 0) (FitsQ : Q → Type 0) (cpu_below : P → CpuId)
-    (IsInside : CpuId → Type 0) (fits : (q : Q) → FitsQ q → FitsP (below q)) where
-  pub lock_read : {A : Type 0} (lock : Option BufferLock) (view : BufferLock → A) (tells : P → Option BufferLock) (home : Option BufferLock) (x : A)
-      → option_map view lock ≡ Some x → IsObserved FitsP cpu_below IsInside tells home lock
-      → IsObservedAs FitsQ (λ q. cpu_below (below q)) IsInside (λ q. option_map view (tells (below q))) (option_map view home) x
-  lock_read lock view tells home x is shown =
-      observed_as FitsQ (λ q. cpu_below (below q)) IsInside (λ q. option_map view (tells (below q))) (option_map view home) (option_map view lock) x is
-      (viewed_shown view FitsQ (λ q. cpu_below (below q)) IsInside (λ q. tells (below q)) home lock (option_map view lock) refl
-      (shown_under below FitsP FitsQ cpu_below (λ q. cpu_below (below q)) IsInside IsInside tells home lock fits (λ q fit. refl) (λ c is. is) shown))
-
-  -- and of a pending queue what they tell
-  pub queue_read : (tells : P → Option (List Tid)) (home : Option (List Tid)) (queue : List Tid)
-      → IsObserved FitsP cpu_below IsInside tells home (Some queue)
-      → IsObservedAs FitsQ (λ q. cpu_below (below q)) IsInside (λ q. tells (below q)) home queue
-  queue_read tells home queue shown =
-      observed_as FitsQ (λ q. cpu_below (below q)) IsInside (λ q. tells (below q)) home (Some queue) queue refl
-      (shown_under below FitsP FitsQ cpu_below (λ q. cpu_below (below q)) IsInside IsInside tells home (Some queue) fits (λ q fit. refl) (λ c is. is)
-      shown)
 
 -- each effect has its section's CPU, which is one that a machine may have
 pub effects_known : (O : LockId → Option BufferLock) (past : List BufferEvent) → IsLawful IsKnownEvent past

@@ -1,8 +1,7 @@
 use Rattle.std.proofs.{Common.{◌≡◌, ◌<◌, ◌+◌, ℕ, [], ◌∷◌, ◌++◌, length, get_or, vec_len, Some, refl, sym, ap, ◌∙◌, arith}, lemmas.List.length-map}
-use Rattle.{std.proofs.lemmas.List.{length_push, get_or_default}, tracer.specs.Gather.{traces_in, entries_in, next_entry, NoneDueBelow}}
-use Rattle.tracer.proofs.GatherLemmas.{gathers_start, gathers_next, gathered_all, gathered_no_order, some_left, one_more, some_left_in, next_within}
-use Rattle.tracer.proofs.GatherLemmas.{left_of_slices}
-use Rattle.tracer.proofs.gathering.gather.Goals.{In-Some}
+use Rattle.std.proofs.lemmas.List.{length_push, get_or_default}
+use Rattle.tracer.{specs.Gather.{traces_in, entries_in, next_entry, NoneDueBelow}, proofs.GatherLemmas.{gathers_start, gathers_next, gathered_all}}
+use Rattle.tracer.proofs.{GatherLemmas.{gathered_no_order, some_left, one_more, some_left_in, next_within, left_of_slices}, gathering.gather.Goals.In-Some}
 use Rattle.tracer.proofs.gathering.gather.Goals as goal
 
 pub loop-trace-init : goal.loop-trace-init

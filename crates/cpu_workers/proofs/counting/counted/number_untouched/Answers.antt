@@ -1,6 +1,5 @@
-use Rattle.std.proofs.Common.{sym, subst}
-use Rattle.{table_machine.specs.SeatViews.new_seat_views, cpu_workers.specs.{declared.counting.{AddOne.AddOne, TheConstants.NUMBER}, Counts.AllHaveMade}}
-use Rattle.cpu_workers.proofs.Counts.{new_have_made_none}
+use Rattle.{std.proofs.Common.{sym, subst}, table_machine.specs.SeatViews.new_seat_views, cpu_workers.specs.declared.counting.AddOne.AddOne}
+use Rattle.cpu_workers.{specs.{declared.counting.TheConstants.NUMBER, Counts.AllHaveMade}, proofs.Counts.new_have_made_none}
 use Rattle.cpu_workers.proofs.counting.counted.number_untouched.Goals as goal
 
 -- each key has made no section

@@ -1,6 +1,5 @@
 use Rattle.std.proofs.Common.{◌≡◌, All, sym, subst, rules}
-use Rattle.{table_machine.specs.SeatViews.new_seat_views, cpu_workers.specs.declared.counting.AddOne.AddOne}
-use Rattle.cpu_workers.{specs.Counts.IsFresh, proofs.TableKeys.new_fresh}
+use Rattle.{table_machine.specs.SeatViews.new_seat_views, cpu_workers.{specs.{declared.counting.AddOne.AddOne, Counts.IsFresh}, proofs.TableKeys.new_fresh}}
 use Rattle.cpu_workers.proofs.counting.tables.count_if_open.Goals as goal
 
 pub count_all-requires-clause-fresh : goal.count_all-requires-clause-fresh

@@ -1,6 +1,5 @@
-use Rattle.std.proofs.Common.{◌≡◌, ◌+◌, ◌*◌, ◌/◌, ◌%◌, ◌∷◌, [], reverse, ap, ◌∙◌, arith}
-use Rattle.{std.proofs.lemmas.List.reverse-append, event_log.specs.{Log.events_in}}
-use Rattle.plain_machine.specs.{Stored.{repeated, told}, declared.notes.Note.TheVariants.Again, Machine.history}
+use Rattle.std.proofs.{Common.{◌≡◌, ◌+◌, ◌*◌, ◌/◌, ◌%◌, ◌∷◌, [], reverse, ap, ◌∙◌, arith}, lemmas.List.reverse-append}
+use Rattle.{event_log.specs.Log.events_in, plain_machine.specs.{Stored.{repeated, told}, declared.notes.Note.TheVariants.Again, Machine.history}}
 use Rattle.plain_machine.proofs.NoteLemmas.{told_again, repeated_more}
 use Rattle.plain_machine.proofs.notes.Notes.again.Goals as goal
 
