@@ -9,8 +9,9 @@ use Rattle.tracer.{specs.Versions.{version_from, version_of, version_of_entry, v
 use Rattle.{tracer.proofs.{OrderLemmas.run_alike, VersionLemmas.{covers_next, covers_second}}, cpu.specs.{Boots.homes_for, Cpus.IsOfHome, Calm.TracesFit}}
 use Rattle.{cpu.{specs.Claims.{CpuShown, HasOneOrder, Shown, StayHome, traces_of}, proofs.ListReads.shows_at}, mctower.specs.Output.{IsPut, IsUntouched}}
 use Rattle.mctower.specs.{Output.Output, Plans.{IsSystemOf, IsOfPlan, from_gather}, Texts.{HaveText, IsOut, Writes}, declared.run.Fault.Fault}
-use Rattle.mctower.proofs.{ListLemmas.map_get, OrderNumbers.{order_length, order_all, run_length, run_numbers, run_values, empty_length, empty_values}}
+use Rattle.mctower.proofs.{ListLemmas.map_get, OrderNumbers.{order_all, run_length, run_numbers, run_values, empty_length, empty_values}}
 use Rattle.tracer.specs.declared.gathering.GatherError.TheVariants as gathering
+use Rattle.cpu_workers.proofs.OneOrder.{order_length}
 
 all_by : {X : Type 0} (P : X → Type 0) (xs : List X) → All P xs → AllByRecursion P xs
 all_by P [] all = tt

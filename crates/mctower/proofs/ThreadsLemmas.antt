@@ -1,14 +1,14 @@
 -- What a run in threads answers, by what its parts answer.
 use Rattle.std.proofs.{Common.{◌≡◌, ◌⊎◌, inl, inr, ℕ, ◌<◌, ◌≤◌, Bool, false, true, List, [], length, Some, refl, sym, ap, ◌∙◌, subst}, lemmas.List.append-nil}
 use Rattle.std.{proofs.lemmas.Option.slice_get_within, specs.{Prelude.{Result, Ok, Err, Vec, slice_get, if◌then◌else◌}, Global.Global, List.AllByRecursion}}
-use Rattle.{std.specs.Io.KnownBytes.Appends, event_log.{specs.declared.entries.Entry.Entry, proofs.Streams.taken_put}, layer_traits.specs.OnePlace.cpu_at}
-use Rattle.{boot.specs.{declared.refusals.BootError.BootError, Plan.{BootPlan, IsPlan}}, tracer.{specs.Sinks.Outs, proofs.SinkLemmas.{all_out, outs_then}}}
-use Rattle.{cpu.specs.{Boots.homes_for, Cpus.IsOfHome, Sound.setup_for}, cpu_workers.specs.{declared.workers.stops.Stop.Stop, Lawful.IsLawfulReport}}
-use Rattle.{cpu_workers.specs.Lawful.{CpuReport, Shown, ReportsTrue, left_in}, mctower.specs.declared.refusals.Refusal.{Refusal, TheVariants.WriteFault}}
-use Rattle.mctower.specs.{declared.{run.Fault.Fault, serve.Done.{Done, TheVariants.Worked}}, Output.Output, Refusals.{from_fault, lacks_memory}, Serve.OfPlan}
-use Rattle.mctower.specs.{Serve.{RefusedBy, WorksPlan}, Texts.{HaveText, IsOut, IsTextOf, Writes}, Threads.{IsWorked, AlwaysOpen}}
-use Rattle.{event_log.{specs.Buffers.empty_buffers, proofs.RunLemmas.op_order_from}, tracer.proofs.OrderLemmas.orders_agree}
-use Rattle.mctower.proofs.ThreadsAreRuns.{printed_by_run}
+use Rattle.std.specs.Io.KnownBytes.{Appends}
+use Rattle.event_log.{specs.{declared.entries.Entry.Entry, Buffers.empty_buffers}, proofs.{Streams.taken_put, RunLemmas.op_order_from, BoolLemmas.refuted}}
+use Rattle.{layer_traits.specs.OnePlace.cpu_at, boot.specs.{declared.refusals.BootError.BootError, Plan.{BootPlan, IsPlan}}, tracer.specs.Sinks.Outs}
+use Rattle.{tracer.proofs.{SinkLemmas.{all_out, outs_then}, OrderLemmas.orders_agree}, cpu.specs.{Boots.homes_for, Cpus.IsOfHome, Sound.setup_for}}
+use Rattle.cpu_workers.specs.{declared.workers.stops.Stop.Stop, Lawful.{IsLawfulReport, CpuReport, Shown, ReportsTrue, left_in}}
+use Rattle.mctower.specs.{declared.{refusals.Refusal.{Refusal, TheVariants.WriteFault}, run.Fault.Fault, serve.Done.{Done, TheVariants.Worked}}, Output.Output}
+use Rattle.mctower.specs.{Refusals.{from_fault, lacks_memory}, Serve.{OfPlan, RefusedBy, WorksPlan}, Texts.{HaveText, IsOut, IsTextOf, Writes}}
+use Rattle.mctower.{specs.Threads.{IsWorked, AlwaysOpen}, proofs.ThreadsAreRuns.printed_by_run}
 use Rattle.mctower.specs.declared.run.Fault.TheVariants as run
 
 -- what is so for a plan that was read
@@ -77,11 +77,6 @@ worked turns plan r stops answer first whole lawful same writes given more old p
       );
     })
 
--- a sink has not failed and failed
-not_both : {A : Type 0} (failed : Bool) → failed ≡ false → failed ≡ true → A
-not_both false live is = absurd (cc)
-not_both true live is = absurd (cc)
-
 -- their text could not be written
 pub not_written : (A : Type 0) (turns : ℕ) (plan : BootPlan) (r : Shown) (stops : Vec Stop Global) (fault : Fault) (refusal : Refusal) (out : Output)
     → IsLawfulReport (setup_for plan) AlwaysOpen turns r → stops.items ≡ r.stops
@@ -97,6 +92,6 @@ not_written A turns plan r stops run.WriteFault refusal out lawful same writes i
   worked = has_worked turns plan r stops writes.1.text lawful same writes.1.is;
   put = (
     ap Err is ∙ ap (λ (b : Bool). if b then Err WriteFault else Ok (Worked stops)) (sym writes.0),
-    (writes.1.out, λ live. not_both out.failed live writes.0),
+    (writes.1.out, λ live. refuted live writes.0),
   );
 }))
