@@ -1,27 +1,9 @@
 -- The order of a system's traces has a spelling: there are few entries, and their numbers are in range.
-use Rattle.std.proofs.Common.{◌≡◌, ℕ, zero, suc, ◌+◌, ◌<◌, ◌≤◌, Bool, List, [], ◌∷◌, ◌++◌, length, set, get_or, Some, refl, sym, ap, ◌∙◌, subst, arith, inl}
-use Rattle.std.proofs.{Common.inr, lemmas.{List.{length-set, length_push, Sums.{sum_by-cons, sum_by-set, count_by-le-length}}, Option.slice_get_within}}
-use Rattle.std.{proofs.lemmas.Option.get_or_from_slice_get, specs.{Prelude.{slice_get, ◌==◌, ◌&&◌}, List.{AllByRecursion, sum_by}}}
+use Rattle.std.proofs.Common.{◌≡◌, ℕ, zero, suc, ◌+◌, ◌<◌, ◌≤◌, Bool, List, [], ◌∷◌, ◌++◌, length, set, Some, refl, sym, ap, ◌∙◌, subst, arith, inl, inr}
+use Rattle.std.{proofs.lemmas.List.{length-set, length_push, Sums.count_by-le-length}, specs.{Prelude.{slice_get, ◌==◌, ◌&&◌}, List.AllByRecursion}}
 use Rattle.event_log.specs.{declared.entries.{Entry.Entry, Kind.{Kind, TheVariants.{Send, Recv, Close, SendClosed, RecvClosed}}}, Runs.{kind_eq, IsNext}}
 use Rattle.event_log.specs.{Runs.{IsRunFrom, after_entry}, Traces.IsInterleaving, Buffers.{IsAllowedEffect, items_of, empty_buffers, after_effect}}
 use Rattle.{event_log.specs.Messages.{IsMessage, Message}, tracer.specs.TraceText.IsValueOf, mctower.proofs.ListLemmas.get_set}
-
--- where all traces are used up, they hold nothing together
-all_used : (traces : List (List Entry)) → ((k : ℕ) → get_or traces k [] ≡ []) → sum_by length traces ≡ 0
-all_used [] used = refl
-all_used (trace ∷ traces) used =
-    sum_by-cons length trace traces ∙ (ap (λ t. length t + sum_by length traces) (used 0) ∙ omega (arith, all_used traces (λ k. used (suc k))))
-
--- an order has as many entries as the traces together
-pub order_length : (traces : List (List Entry)) (order : List Entry) → IsInterleaving traces order → length order ≡ sum_by length traces
-order_length traces [] keeps = sym (all_used traces keeps)
-order_length traces (e ∷ order) keeps =
-    let within : keeps.0 < length traces = slice_get_within traces keeps.0 (e ∷ keeps.1) keeps.2 in
-    let here : length (get_or traces keeps.0 []) ≡ suc (length keeps.1) = ap length (get_or_from_slice_get traces keeps.0 (e ∷ keeps.1) [] keeps.2) in
-    let one_less : sum_by length (set traces keeps.0 keeps.1) + length (get_or traces keeps.0 []) ≡ sum_by length traces + length keeps.1 =
-    sum_by-set length traces keeps.0 keeps.1 [] within in
-    let others : length order ≡ sum_by length (set traces keeps.0 keeps.1) = order_length (set traces keeps.0 keeps.1) order keeps.3 in
-    omega arith
 
 -- what holds of the entries of all traces holds of the entries of an order
 pub order_all : (P : Entry → Type 0) (traces : List (List Entry)) (order : List Entry)

@@ -1,13 +1,12 @@
 -- Facts on the reading of schedules.
 use Rattle.std.proofs.Common.{◌≡◌, ◌≢◌, ◌≤◌, ◌<◌, ◌+◌, ◌-◌, ◌*◌, ◌==◌, ◌∙◌, ◌++◌, ◌∷◌, [], ℕ, true, false, List, Option, Some, None, refl, sym, ap, arith}
-use Rattle.std.proofs.{Common.{length, append_assoc, drop, get_or, inl, inr, option_map, take, zero-add}, lemmas.Bool.{and_parts, cases_lt, le-leb, lt-leb}}
-use Rattle.std.proofs.lemmas.{Bool.{ne_eqb, Decides.nat_tests}, List.{drop_more, get_or-take, length-take, take-append-drop, append-nil, length-append}}
-use Rattle.std.proofs.lemmas.List.{length-replicate, Elements.{All-from_recursion, All-from_get_or}, Splits.{slice_split_at, slice_split_first}}
-use Rattle.std.proofs.lemmas.{List.{Splits.slice_split_none, Sums.position_or_len_is}, Str.Pattern.{IsSplitOnceResult, split_once_first, split_parts}}
-use Rattle.std.specs.{Prelude.{nat_lt, option_and_then, replicate}, Borrow.Bor, Char.is_ascii_digit, List.{AllByRecursion, position_or_len, slice_split}}
-use Rattle.{std.specs.Str.all_ascii_digits, event_log.{specs.declared.ids.CpuId.CpuId, proofs.DigitsLemmas.{IsSpelled, ReadsUpTo, ascii_digits}}}
-use Rattle.{event_log.proofs.DigitsLemmas.{number_to-spelled, read_digits, reads_one_more}, mctower.specs.Schedule.{has_star, if_few, is_comma, is_star}}
-use Rattle.mctower.specs.{Schedule.{item_of, steps_in}, declared.schedule.{Item.Item, TheConstants.MOST_STEPS}}
+use Rattle.std.proofs.{Common.{length, drop, get_or, inl, inr, option_map, take, zero-add}, lemmas.Bool.{and_parts, cases_lt, ne_eqb, Decides.nat_tests}}
+use Rattle.std.proofs.lemmas.List.{drop_more, get_or-take, length-take, take-append-drop, Elements.{All-from_recursion, All-from_get_or}, Splits.slice_split_at}
+use Rattle.std.proofs.lemmas.{List.{Splits.{slice_split_first, slice_split_none}, Sums.position_or_len_is}, Str.Pattern.{IsSplitOnceResult, split_once_first}}
+use Rattle.std.{proofs.lemmas.Str.Pattern.split_parts, specs.{Prelude.nat_lt, Borrow.Bor, Char.is_ascii_digit, List.{AllByRecursion, position_or_len}}}
+use Rattle.std.specs.{List.slice_split, Str.all_ascii_digits}
+use Rattle.event_log.{specs.declared.ids.CpuId.CpuId, proofs.DigitsLemmas.{IsSpelled, ReadsUpTo, ascii_digits, number_to-spelled, read_digits, reads_one_more}}
+use Rattle.mctower.specs.Schedule.{has_star, is_comma, is_star, item_of, steps_in}
 
 -- a text with no comma is one item
 pub one_piece : (text : List ℕ) → IsSplitOnceResult 44 text None → slice_split is_comma text ≡ text ∷ []
@@ -99,40 +98,3 @@ step_cut text count cpu digits item inside comma = rw (digits_cut text count dig
 -- the steps that are read, and behind them those of the items to come
 abbrev pub after : List CpuId → Option (List CpuId) → Option (List CpuId)
 after done = option_map (λ more. done ++ more)
-
--- an item's steps stand behind those before it
-pub item_read : (all : Option (List CpuId)) (done : List CpuId) (text : List ℕ) (texts : List (List ℕ)) (item : Item)
-    → all ≡ after done (steps_in (text ∷ texts)) → item_of text ≡ Some item
-    → all ≡ after (done ++ replicate item.steps item.cpu) (steps_in texts)
-item_read all done text texts item so_far read =
-    so_far ∙ ap (λ o. after done (option_and_then (λ i. option_map (λ more. replicate i.steps i.cpu ++ more) (steps_in texts)) o)) read
-    ∙ regrouped (steps_in texts) where
-      regrouped : (o : Option (List CpuId)) → after done (option_map (λ more. replicate item.steps item.cpu ++ more) o)
-          ≡ after (done ++ replicate item.steps item.cpu) o
-      regrouped None = refl
-      regrouped (Some more) = ap Some (sym (append_assoc done (replicate item.steps item.cpu) more))
-
--- where a text is no item there are no steps
-pub item_refused : (all : Option (List CpuId)) (done : List CpuId) (text : List ℕ) (texts : List (List ℕ))
-    → all ≡ after done (steps_in (text ∷ texts)) → item_of text ≡ None → all ≡ None
-item_refused all done text texts so_far none =
-    so_far ∙ ap (λ o. after done (option_and_then (λ i. option_map (λ more. replicate i.steps i.cpu ++ more) (steps_in texts)) o)) none
-
--- more steps than a schedule may have are none
-pub too_many : (steps : List CpuId) → MOST_STEPS < length steps → if_few steps ≡ None
-too_many steps many = rw (lt-leb (length steps) MOST_STEPS many) refl
-
--- steps that are too many with an item stay so with the items behind it
-pub item_too_long : (all : Option (List CpuId)) (done : List CpuId) (item : Item) (more : Option (List CpuId))
-    → all ≡ after (done ++ replicate item.steps item.cpu) more → MOST_STEPS - length done < item.steps
-    → length done ≤ MOST_STEPS → option_and_then if_few all ≡ None
-item_too_long all done item more so_far long few = ap (option_and_then if_few) so_far ∙ go more where
-  go : (o : Option (List CpuId)) → option_and_then if_few (after (done ++ replicate item.steps item.cpu) o) ≡ None
-  go None = refl
-  go (Some rest) = too_many _ (simp (length-append, length-replicate) (omega arith))
-
--- at the end the steps that are read are all
-pub all_read : (all : Option (List CpuId)) (done : List CpuId) → all ≡ after done (Some []) → length done ≤ MOST_STEPS
-    → option_and_then if_few all ≡ Some done
-all_read all done so_far few =
-    ap (option_and_then if_few) (so_far ∙ ap Some (append-nil done)) ∙ rw (le-leb (length done) MOST_STEPS few) refl

@@ -2,14 +2,14 @@
 use Rattle.std.proofs.{Common.{◌≡◌, ◌⊎◌, inl, inr, ℕ, ◌<◌, ◌≤◌, Bool, false, true, List, [], length, Some, refl, sym, ap, ◌∙◌, subst}, lemmas.List.append-nil}
 use Rattle.std.{proofs.lemmas.Option.slice_get_within, specs.{Prelude.{Result, Ok, Err, Vec, slice_get, if◌then◌else◌}, Global.Global, List.AllByRecursion}}
 use Rattle.std.specs.Io.KnownBytes.{Appends}
-use Rattle.event_log.{specs.{declared.entries.Entry.Entry, Buffers.empty_buffers}, proofs.{Streams.taken_put, RunLemmas.op_order_from}}
+use Rattle.event_log.{specs.{declared.entries.Entry.Entry, Buffers.empty_buffers}, proofs.{Streams.taken_put, RunLemmas.op_order_from, BoolLemmas.refuted}}
 use Rattle.{layer_traits.specs.OnePlace.cpu_at, boot.specs.{declared.refusals.BootError.BootError, Plan.{BootPlan, IsPlan}}, tracer.specs.Sinks.Outs}
 use Rattle.{tracer.proofs.{SinkLemmas.{all_out, outs_then}, OrderLemmas.orders_agree}, cpu.specs.{Boots.homes_for, Cpus.IsOfHome, Sound.setup_for}}
 use Rattle.cpu_workers.specs.{declared.workers.stops.Stop.Stop, Lawful.{IsLawfulReport, CpuReport, Shown, ReportsTrue, left_in}}
-use Rattle.mctower.specs.declared.{refusals.Refusal.{Refusal, TheVariants.WriteFault}, run_faults.Fault.Fault, done.Done.{Done, TheVariants.Worked}}
-use Rattle.mctower.specs.{Output.Output, Refusals.{from_fault, lacks_memory}, Serve.{OfPlan, RefusedBy, WorksPlan}, Texts.{HaveText, IsOut, IsTextOf, Writes}}
+use Rattle.mctower.specs.{declared.{refusals.Refusal.{Refusal, TheVariants.WriteFault}, run.Fault.Fault, serve.Done.{Done, TheVariants.Worked}}, Output.Output}
+use Rattle.mctower.specs.{Refusals.{from_fault, lacks_memory}, Serve.{OfPlan, RefusedBy, WorksPlan}, Texts.{HaveText, IsOut, IsTextOf, Writes}}
 use Rattle.mctower.{specs.Threads.{IsWorked, AlwaysOpen}, proofs.ThreadsAreRuns.printed_by_run}
-use Rattle.mctower.specs.declared.run_faults.Fault.TheVariants as run
+use Rattle.mctower.specs.declared.run.Fault.TheVariants as run
 
 -- what is so for a plan that was read
 pub of_read : (Means : BootPlan → Result Done Refusal → Output → Type 0) (plan : BootPlan) (read : Result BootPlan BootError) (answer : Result Done Refusal)
@@ -77,11 +77,6 @@ worked turns plan r stops answer first whole lawful same writes given more old p
       );
     })
 
--- a sink has not failed and failed
-not_both : {A : Type 0} (failed : Bool) → failed ≡ false → failed ≡ true → A
-not_both false live is = absurd (cc)
-not_both true live is = absurd (cc)
-
 -- their text could not be written
 pub not_written : (A : Type 0) (turns : ℕ) (plan : BootPlan) (r : Shown) (stops : Vec Stop Global) (fault : Fault) (refusal : Refusal) (out : Output)
     → IsLawfulReport (setup_for plan) AlwaysOpen turns r → stops.items ≡ r.stops
@@ -97,6 +92,6 @@ not_written A turns plan r stops run.WriteFault refusal out lawful same writes i
   worked = has_worked turns plan r stops writes.1.text lawful same writes.1.is;
   put = (
     ap Err is ∙ ap (λ (b : Bool). if b then Err WriteFault else Ok (Worked stops)) (sym writes.0),
-    (writes.1.out, λ live. not_both out.failed live writes.0),
+    (writes.1.out, λ live. refuted live writes.0),
   );
 }))

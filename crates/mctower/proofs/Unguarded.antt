@@ -3,9 +3,8 @@
 use Rattle.std.{proofs.Common.{◌≡◌, List, refl}, specs.Prelude.{Result, Ok, Err, IsErrAnd}}
 use Rattle.{event_log.specs.declared.{ids.CpuId.CpuId, refusals.NoMemory.NoMemory as NoMemoryTold}, boot.specs.declared.refusals.BootError.BootError}
 use Rattle.{boot.specs.{declared.locks.LockKind.LockKind, Plan.{BootPlan, Fails}}, cpu.specs.{Claims.Shown, Systems.{Ran, WentOn, goes, starts, stayed, took}}}
-use Rattle.mctower.specs.declared.{run_faults.Fault.{Fault, TheVariants.{NoMemory, Boot, BadCpu, NoOrder, WriteFault}}, states.State.State}
-use Rattle.mctower.specs.{Output.{IsUntouched, Output}, Plans.from_boot, Running.{IsPrinted, IsRunOf, NoCondition, RunsOverTower, RunsPlan, RunsOn, on_lock}}
-use Rattle.mctower.specs.State.{IsStateOf}
+use Rattle.mctower.specs.{declared.{run.Fault.{Fault, TheVariants.{NoMemory, Boot, BadCpu, NoOrder, WriteFault}}, states.State.State}, Output.IsUntouched}
+use Rattle.mctower.specs.{Output.Output, Plans.from_boot, Running.{IsPrinted, IsRunOf, NoCondition, RunsOverTower, RunsPlan, RunsOn, on_lock}, State.IsStateOf}
 use Rattle.boot.specs.declared.locks.LockKind.TheVariants as kind
 use Rattle.boot.specs.declared.refusals.BootError.TheVariants as refused
 
@@ -48,11 +47,6 @@ module _ (If Where : Type 0) (follows : Where → If) where
   runs_plan plan steps (Err BadCpu) out runs = runs
   runs_plan plan steps (Err NoOrder) out runs = runs
   runs_plan plan steps (Err WriteFault) out runs = (runs.0, (runs.1.0, printed plan steps runs.1.0 out runs.1.1))
-
-  pub runs_on : (read : Result BootPlan BootError) (steps : List CpuId) (result : Result Shown Fault) (out : Output) → RunsOn If read steps result out
-      → RunsOn Where read steps result out
-  runs_on (Ok plan) steps result out runs = runs_plan plan steps result out runs
-  runs_on (Err e) steps result out runs = runs
 
   pub state_of : (s : Shown) (state : State) → IsStateOf If s state → IsStateOf Where s state
   state_of s state is = record {

@@ -2,27 +2,25 @@
 use Rattle.std.proofs.Common.{◌≡◌, ◌≢◌, ℕ, ◌<◌, inl, inr, Bool, true, false, List, [], ◌∷◌, ◌++◌, length, Option, Some, None, IsSome, is_some, option_map}
 use Rattle.std.proofs.Common.{if◌then◌else◌, refl, ap, sym, ◌∙◌, subst, slice_get, option_to_list, ◌≤◌, ◌==◌, get_or, replicate, slice_set, arith, subst₂}
 use Rattle.std.proofs.{Common.unwrap_or, lemmas.{Bool.{eqb-true, eqb-false, lt-ltb, or_parts}, List.{get_or-set_same, get_or-set_other}}}
-use Rattle.{std.{proofs.lemmas.Option.{slice_get-get_or, slice_get_within}, specs.Prelude.nat_lt}, event_log.specs.{Runs.group_of, declared.ids.Tid.Tid}}
-use Rattle.layer_traits.specs.{Capacities.caps_in, Renaming.viewed}
-use Rattle.plain_layers.specs.Fifos.{shown}
-use Rattle.event_log.specs.declared.ids.{TheConstants.{THREADS, CPUS}, BufId.BufId, CpuId.CpuId, LockId.{LockId, TheVariants.{Pending, Buffer}}}
-use Rattle.event_log.{specs.{declared.entries.Entry.Entry, Messages.Message, History.IsLawful}, proofs.ListLemmas.alike_at}
-use Rattle.layer_traits.specs.declared.calls.{Call.{Call, TheVariants.{Send, Recv, Close}}, Effect.Effect, Reply.Reply, ReplyKind.ReplyKind}
-use Rattle.layer_traits.specs.declared.{locked.Side.TheVariants.{Receivers, Senders}, queues.{QueueCall.TheVariants.OnBuffer, QueueEvent.QueueEvent}}
-use Rattle.layer_traits.specs.declared.call_states.Stage.{Stage, TheVariants.{Idle, Acquires, Enters, Tries, Waits, AcquiresAgain, Signals, SignalsOwn}}
-use Rattle.layer_traits.specs.declared.{call_states.{Stage.TheVariants.Releases, CallState.CallState}, moves.WaitList.WaitList, passes.Pass.Pass}
-use Rattle.layer_traits.specs.declared.{passes.Pass.TheVariants.{Switch, YieldNow, Drain, MakeReady, End}, queue_edits.QueueBlock.QueueBlock}
-use Rattle.layer_traits.specs.{declared.sleeps.Outcome.Outcome, BufferLaw.{Answered, Called, IsEffectOf, IsRefused, MayPollCall, answer_in, buffer_of}}
-use Rattle.layer_traits.specs.{BufferLaw.{entry_of, going, going_at, no_call, call_state_of, reply_with, MovesGrow, OthersSeen}, Passes.{own_slept, queue_for}}
-use Rattle.layer_traits.specs.{Passes.PassPolled, Places.{AreMoves, Pushed, Stands, Step, step, Threads}, Protocol.section, Queues.{call_move, out_at}}
-use Rattle.layer_traits.specs.{Queues.{IsKnownEvent, Kernel, buffer_sections, moves_in}, Sleeping.{sleep_answer, sleep_moves, NobodySleeps, wait_list_at}}
-use Rattle.layer_traits.specs.{SleepLaw.{Sleeping, done_if, sleep_kernel}, QueueBlocks.{homes_in, inner}, Scheds.{SchedPolled, events_of, own_answered}}
-use Rattle.layer_traits.{specs.Scheds.pass_call, proofs.{PlaceLemmas.{current_at, woken_current}, CallLemmas.pass_polled, SleepLemmas.done_same}}
-use Rattle.{layer_traits.proofs.Seen.lawful_rest, sleep_wakeup.proofs.BootLemmas.there_inside, plain_layers.specs.declared.attempts.Tried.TheVariants.Acted}
-use Rattle.plain_layers.specs.{declared.attempts.{Tried.{TheVariants.Refused, Tried}, Attempt.Attempt}, Attempts.{PlainState, allows, effect_at, effect_in}}
-use Rattle.plain_layers.specs.{Attempts.{wait_list_by, told, attempts}, Fifos.{ask_of, attempt_of, effect_by, locked_after, reply_to, call_state_after}}
-use Rattle.plain_layers.specs.{Fifos.{IsOwned, PlainLocked, entries_in, fresh_buffer, fresh_buffers}, Wholes.{IsDoneWhole, asked}}
-use Rattle.plain_layers.{specs.Laws.FifoTallies.{block_of, no_position, plain_tally, reported_if}, proofs.WholeLemmas.no_foreign_events}
+use Rattle.std.{proofs.lemmas.Option.{slice_get-get_or, slice_get_within}, specs.Prelude.nat_lt}
+use Rattle.event_log.specs.{Runs.group_of, declared.ids.{Tid.Tid, TheConstants.{THREADS, CPUS}, BufId.BufId, CpuId.CpuId, LockId.{LockId, TheVariants.Pending}}}
+use Rattle.event_log.{specs.{declared.{ids.LockId.TheVariants.Buffer, entries.Entry.Entry}, Messages.Message, History.IsLawful}, proofs.ListLemmas.alike_at}
+use Rattle.layer_traits.specs.{Capacities.caps_in, Renaming.viewed, declared.calls.{Call.{Call, TheVariants.{Send, Recv, Close}}, Effect.Effect, Reply.Reply}}
+use Rattle.layer_traits.specs.declared.{calls.ReplyKind.ReplyKind, locked.Side.TheVariants.{Receivers, Senders}, queues.QueueCall.TheVariants.OnBuffer}
+use Rattle.layer_traits.specs.declared.{queues.QueueEvent.QueueEvent, call_states.Stage.{Stage, TheVariants.{Idle, Acquires, Enters, Tries, Waits}}}
+use Rattle.layer_traits.specs.declared.call_states.{Stage.TheVariants.{AcquiresAgain, Signals, SignalsOwn, Releases}, CallState.CallState}
+use Rattle.layer_traits.specs.declared.{moves.WaitList.WaitList, passes.Pass.{Pass, TheVariants.{Switch, YieldNow, Drain, MakeReady, End}}}
+use Rattle.layer_traits.specs.{declared.{queue_edits.QueueBlock.QueueBlock, sleeps.Outcome.Outcome}, BufferLaw.{Answered, Called, IsEffectOf, IsRefused}}
+use Rattle.layer_traits.specs.BufferLaw.{MayPollCall, answer_in, buffer_of, entry_of, going, going_at, no_call, call_state_of, reply_with, MovesGrow}
+use Rattle.layer_traits.specs.{BufferLaw.OthersSeen, Passes.{own_slept, queue_for, PassPolled}, Places.{AreMoves, Pushed, Stands, Step, step, Threads}}
+use Rattle.layer_traits.specs.{Protocol.section, Queues.{call_move, out_at, IsKnownEvent, Kernel, buffer_sections, moves_in}, Sleeping.sleep_answer}
+use Rattle.layer_traits.specs.{Sleeping.{sleep_moves, NobodySleeps, wait_list_at}, SleepLaw.{Sleeping, done_if, sleep_kernel}, QueueBlocks.{homes_in, inner}}
+use Rattle.layer_traits.{specs.Scheds.{SchedPolled, events_of, own_answered, pass_call}, proofs.PlaceLemmas.{current_at, woken_current}}
+use Rattle.{layer_traits.proofs.{CallLemmas.pass_polled, SleepLemmas.done_same, Seen.lawful_rest}, plain_layers.specs.Fifos.{shown, ask_of, attempt_of}}
+use Rattle.plain_layers.specs.Fifos.{effect_by, locked_after, reply_to, call_state_after, IsOwned, PlainLocked, entries_in, fresh_buffer, fresh_buffers}
+use Rattle.plain_layers.specs.{declared.attempts.{Tried.{TheVariants.{Acted, Refused}, Tried}, Attempt.Attempt}, Attempts.{PlainState, allows, effect_at}}
+use Rattle.plain_layers.specs.{Attempts.{effect_in, wait_list_by, told, attempts}, Wholes.{IsDoneWhole, asked}, Laws.FifoTallies.{block_of, no_position}}
+use Rattle.{plain_layers.{specs.Laws.FifoTallies.{plain_tally, reported_if}, proofs.WholeLemmas.no_foreign_events}, sleep_wakeup.proofs.BootLemmas.there_inside}
 use Rattle.fifo_buffer.specs.{Laws.BlockSteps.{put_counts, take_counts}, Tallies.Tally}
 use Rattle.plain_layers.specs.declared.attempts.Ask.TheVariants as ask
 use Rattle.layer_traits.specs.declared.moves.WaitList.TheVariants as wait_list

@@ -1,9 +1,9 @@
 -- The list of blocks: the slot of a lock in it, what an edit at that slot leaves, and that a section keeps the list in agreement.
 use Rattle.std.proofs.Common.{◌≡◌, ℕ, zero, suc, ◌+◌, ◌<◌, Bool, true, false, List, [], ◌∷◌, length, get_or, drop, slice_set, if◌then◌else◌, Option, Some}
 use Rattle.std.proofs.Common.{IsSome, option_map, refl, ap, sym, ◌∙◌, subst, arith}
-use Rattle.event_log.{specs.{declared.ids.{CpuId.CpuId, LockId.LockId, TheConstants.CPUS}, History.same_lock, Sections.Section}, proofs.Same.same_lock_self}
+use Rattle.event_log.{specs.{declared.ids.LockId.LockId, History.same_lock, Sections.Section}, proofs.Same.same_lock_self}
 use Rattle.{event_log.proofs.{Same.same_lock_true, ListLemmas.from_index}, layer_traits.{proofs.Alone.block_there, specs.{OneLock.opened, Protocol.Rules}}}
-use Rattle.{layer_traits.specs.{Protocol.section, Polls.Answers}, plain_layers.specs.Tables.{IsSlot, IsTable}}
+use Rattle.plain_layers.specs.Tables.{IsSlot, IsTable}
 
 -- whether an entry that names the lock names another one too
 names : (lock m l : LockId) → same_lock m lock ≡ true → (b : Bool) → same_lock l lock ≡ b → same_lock m l ≡ b
@@ -95,18 +95,3 @@ module _ {E B O : Type 0} (rules : Rules E B O) (opening : LockId → Option B) 
   -- a lock that opened with a block has one in the list
   pub block_is_there : IsSome (opening lock) → IsSome (opened list lock)
   block_is_there there = subst (λ x. IsSome x) (sym (table.blocks lock)) (block_there rules.edited opening lock past there)
-
-  -- a section keeps the list in agreement
-  pub table_after : (cpu : CpuId) (edit : E) (new : List (LockId × B)) → cpu.0 < CPUS → rules.allowed opening past (section cpu lock edit)
-      → ((l : LockId) → opened new l ≡ (if same_lock l lock then option_map (rules.edited edit) (opened list l) else opened list l))
-      → IsTable rules opening (section cpu lock edit ∷ past) new
-  table_after cpu edit new known allowed edited = record {
-    lawful = (allowed, table.lawful);
-    known = (known, table.known);
-    blocks = λ l. edited l ∙ ap (λ o. if same_lock l lock then option_map (rules.edited edit) o else o) (table.blocks l);
-  }
-
-  -- and answers as its edit does
-  pub table_answers : (cpu : CpuId) (edit : E) (out : O) → option_map (rules.answer edit) (opened list lock) ≡ Some out
-      → Answers rules opening past (section cpu lock edit) out
-  table_answers cpu edit out is = ap (option_map (rules.answer edit)) (sym (table.blocks lock)) ∙ is

@@ -1,14 +1,12 @@
 -- Buffers in one section a call: which section a call is, what it leaves, and what a machine of such sections shows.
 use Rattle.std.specs.Prelude.{◌≡◌, ◌≢◌, ℕ, ◌<◌, List, [], ◌∷◌, ◌++◌, length, Option, Some, None, option_map, option_to_list, replicate, slice_get}
 use Rattle.event_log.specs.declared.{entries.Entry.Entry, ids.{BufId.BufId, CpuId.CpuId, LockId.{LockId, TheVariants.{Pending, Buffer}}, Tid.Tid}}
-use Rattle.event_log.specs.{declared.ids.TheConstants.{CPUS, THREADS}, Sections.{Section, block_after}}
-use Rattle.layer_traits.specs.declared.{calls.Call.Call, queue_edits.QueueBlock.QueueBlock}
-use Rattle.layer_traits.specs.declared.{calls.{Call.TheVariants.{Send, Recv, Close}, Effect.Effect, Reply.Reply}, moves.WaitList.WaitList}
-use Rattle.layer_traits.specs.{declared.{scheds.SchedCall.SchedCall, call_states.{Stage.TheVariants.{Idle, Waits}, CallState.CallState}}, BufferLaw.Buffering}
-use Rattle.layer_traits.specs.{BufferLaw.{buffering, entry_of, reply_of, call_state_of}, BufferProtocol.BufferLock, Places.Threads, Sleeping.SleepState}
-use Rattle.layer_traits.specs.{Sleeping.{wait_list_at, sleep_edited}, SleepLaw.Sleeping, Capacities.caps_in, QueueBlocks.inner, Renaming.viewed}
-use Rattle.{plain_layers.specs.declared.attempts.Ask.Ask}
-use Rattle.plain_layers.specs.{declared.attempts.{Attempt.Attempt, Tried.Tried}, Attempts.{PlainState, attempts, effect_in, empty_buffer, told}}
+use Rattle.{event_log.specs.{declared.ids.TheConstants.{CPUS, THREADS}, Sections.{Section, block_after}}, layer_traits.specs.declared.calls.Call.Call}
+use Rattle.layer_traits.specs.declared.{calls.{Call.TheVariants.{Send, Recv, Close}, Effect.Effect, Reply.Reply}, queue_edits.QueueBlock.QueueBlock}
+use Rattle.layer_traits.specs.declared.{moves.WaitList.WaitList, scheds.SchedCall.SchedCall, call_states.{Stage.TheVariants.{Idle, Waits}, CallState.CallState}}
+use Rattle.layer_traits.specs.{BufferLaw.{Buffering, buffering, entry_of, reply_of, call_state_of}, BufferProtocol.BufferLock, Places.Threads}
+use Rattle.layer_traits.specs.{Sleeping.{SleepState, wait_list_at, sleep_edited}, SleepLaw.Sleeping, Capacities.caps_in, QueueBlocks.inner, Renaming.viewed}
+use Rattle.plain_layers.specs.{declared.attempts.{Ask.Ask, Attempt.Attempt, Tried.Tried}, Attempts.{PlainState, attempts, effect_in, empty_buffer, told}}
 use Rattle.plain_layers.specs.declared.attempts.Ask.TheVariants as ask
 
 -- a buffer with the waiting lists of its lock

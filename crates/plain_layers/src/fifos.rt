@@ -1,9 +1,8 @@
 //! First-in first-out buffers in one section.
 
 ghost use Rattle.std.specs.Prelude.{◌≡◌, ◌<◌, [], None, Some, false, option_map, replicate, slice_set};
-ghost use Rattle.layer_traits.specs.Capacities.{caps_in};
-ghost use Rattle.{event_log.specs.declared.ids.TheConstants.THREADS, layer_traits.specs.BufferLaw.{buffer_of, no_call, reply_of, reply_with, call_state_of}};
-ghost use Rattle.plain_layers.specs.Fifos.{ask_of, attempt_of, reply_to, call_state_after};
+ghost use Rattle.layer_traits.specs.{Capacities.caps_in, BufferLaw.{buffer_of, no_call, reply_of, reply_with, call_state_of}};
+ghost use Rattle.{event_log.specs.declared.ids.TheConstants.THREADS, plain_layers.specs.Fifos.{ask_of, attempt_of, reply_to, call_state_after}};
 
 use crate::attempts::{Ask, Attempt, Tried};
 use crate::wholes::whole;
@@ -218,9 +217,9 @@ impl<S: OwnedThreadLayer<SleepLaw<Attempt>>> OwnedBuffers for PlainFifo<S> {
     ghost use Rattle.{std.{specs.Prelude.option_map, proofs.Common.sym}, event_log.specs.{declared.ids.LockId.TheVariants.{Buffer, Pending}, Buffers.items_of}};
     ghost use Rattle.{event_log.specs.Runs.is_closed, layer_traits.specs.{BufferEffects.contents_of, Places.pending_by, QueueBlocks.inner}};
     ghost use Rattle.layer_traits.specs.{Queues.{buffer_sections, moves_in}, Renaming.{viewed, viewed_block}, SleepLaw.sleep_kernel};
-    ghost use Rattle.plain_layers.specs.{Attempts.attempts, Fifos.{entries_in, wait_lists_in, locked_after, shown}, FifoOwned.{closed_of, items_in}};
-    ghost use Rattle.plain_layers.specs.{FifoOwned.{wait_lists_of, nobody, nothing_read}, Laws.FifoOwned.{buffer_there, closed_read, entries_known}};
-    ghost use Rattle.plain_layers.specs.Laws.FifoOwned.{items_read, wait_lists_read, nobody_owns, pending_read, there_viewed, view_read};
+    ghost use Rattle.{layer_traits.proofs.OwnedLemmas.{parts_on, read_on, view_read}, plain_layers.specs.{Attempts.attempts, Fifos.entries_in}};
+    ghost use Rattle.plain_layers.specs.{Fifos.{wait_lists_in, locked_after, shown}, FifoOwned.{closed_of, items_in, wait_lists_of, nobody, nothing_read}};
+    ghost use Rattle.plain_layers.specs.Laws.FifoOwned.{buffer_there, closed_read, entries_known, items_read, wait_lists_read, nobody_owns, there_viewed};
 
     ghost owner = { λ m b. nobody };
 
@@ -245,31 +244,19 @@ impl<S: OwnedThreadLayer<SleepLaw<Attempt>>> OwnedBuffers for PlainFifo<S> {
     ghost queue_with = { λ p d. S.queue_with p.lower d };
 
     fn items_in(m: &S::Machine, b: BufId) -> Option<ArrayVec<Msg, CAPACITY>> {
-        match S::block_in(m, b) {
-            None => None,
-            Some(block) => Some(block.items()),
-        }
+        Some(S::block_in(m, b)?.items())
     }
 
     fn items_here(&self, b: BufId) -> Option<ArrayVec<Msg, CAPACITY>> {
-        match self.lower.block_here(b) {
-            None => None,
-            Some(block) => Some(block.items()),
-        }
+        Some(self.lower.block_here(b)?.items())
     }
 
     fn closed_in(m: &S::Machine, b: BufId) -> Option<bool> {
-        match S::block_in(m, b) {
-            None => None,
-            Some(block) => Some(block.is_closed()),
-        }
+        Some(S::block_in(m, b)?.is_closed())
     }
 
     fn closed_here(&self, b: BufId) -> Option<bool> {
-        match self.lower.block_here(b) {
-            None => None,
-            Some(block) => Some(block.is_closed()),
-        }
+        Some(self.lower.block_here(b)?.is_closed())
     }
 
     fn owner_in(_m: &S::Machine, _b: BufId) -> Option<Option<Tid>> {
@@ -298,18 +285,16 @@ impl<S: OwnedThreadLayer<SleepLaw<Attempt>>> OwnedBuffers for PlainFifo<S> {
 
     ghost known = { λ m c acts. entries_known (inner (S.opening m)) (S.seen m) (S.known m c acts.0) };
 
-    ghost items = { λ m c b acts within. view_read (λ (p : Self). p.lower) (λ p. S.Fits p m) (λ (p : Self). Self.Fits p m) (λ p. S.cpu_of p)
-        (S.MayHold m) (S.MayHold m) (λ p fits. fits.0)
-        (λ d held. held) (locked_after (inner (S.opening m)) (Buffer b) (buffer_sections (S.seen m))) items_in
-        (λ p. S.block_with p b) (S.block_at m b)
+    ghost items = { λ m c b acts within. view_read
+        (parts_on (λ (p : Self). p.lower) (λ p. S.Fits p m) (λ (p : Self). Self.Fits p m) (λ p. S.cpu_of p) (S.MayHold m) (λ p fits. fits.0))
+        items_in (locked_after (inner (S.opening m)) (Buffer b) (buffer_sections (S.seen m))) (λ p. S.block_with p b) (S.block_at m b)
         (items_of (contents_of (caps_in (viewed shown (S.opening m))) (entries_in (inner (S.opening m)) (buffer_sections (S.seen m)))) b.0)
         (items_read (S.opening m) acts.2.fresh b within (buffer_sections (S.seen m)))
         (S.shown m c b acts.0 (buffer_there (S.opening m) acts.2.fresh b within)) };
 
-    ghost closed = { λ m c b acts within. view_read (λ (p : Self). p.lower) (λ p. S.Fits p m) (λ (p : Self). Self.Fits p m) (λ p. S.cpu_of p)
-        (S.MayHold m) (S.MayHold m) (λ p fits. fits.0)
-        (λ d held. held) (locked_after (inner (S.opening m)) (Buffer b) (buffer_sections (S.seen m))) closed_of
-        (λ p. S.block_with p b) (S.block_at m b)
+    ghost closed = { λ m c b acts within. view_read
+        (parts_on (λ (p : Self). p.lower) (λ p. S.Fits p m) (λ (p : Self). Self.Fits p m) (λ p. S.cpu_of p) (S.MayHold m) (λ p fits. fits.0))
+        closed_of (locked_after (inner (S.opening m)) (Buffer b) (buffer_sections (S.seen m))) (λ p. S.block_with p b) (S.block_at m b)
         (is_closed (entries_in (inner (S.opening m)) (buffer_sections (S.seen m))) b.0)
         (closed_read (S.opening m) acts.2.fresh b within (buffer_sections (S.seen m)))
         (S.shown m c b acts.0 (buffer_there (S.opening m) acts.2.fresh b within)) };
@@ -321,17 +306,16 @@ impl<S: OwnedThreadLayer<SleepLaw<Attempt>>> OwnedBuffers for PlainFifo<S> {
 
     ghost items_are = { λ step m c b acts within. absurd step };
 
-    ghost waiters_law = { λ m c b acts within. view_read (λ (p : Self). p.lower) (λ p. S.Fits p m) (λ (p : Self). Self.Fits p m) (λ p. S.cpu_of p)
-        (S.MayHold m) (S.MayHold m) (λ p fits. fits.0)
-        (λ d held. held) (locked_after (inner (S.opening m)) (Buffer b) (buffer_sections (S.seen m))) wait_lists_of
-        (λ p. S.block_with p b) (S.block_at m b)
+    ghost waiters_law = { λ m c b acts within. view_read
+        (parts_on (λ (p : Self). p.lower) (λ p. S.Fits p m) (λ (p : Self). Self.Fits p m) (λ p. S.cpu_of p) (S.MayHold m) (λ p fits. fits.0))
+        wait_lists_of (locked_after (inner (S.opening m)) (Buffer b) (buffer_sections (S.seen m))) (λ p. S.block_with p b) (S.block_at m b)
         (λ line. wait_lists_in (inner (S.opening m)) (buffer_sections (S.seen m)) b line)
         (wait_lists_read (S.opening m) acts.2.fresh b within (buffer_sections (S.seen m)))
         (S.shown m c b acts.0 (buffer_there (S.opening m) acts.2.fresh b within)) };
 
-    ghost queues = { λ m c d acts there. pending_read (λ (p : Self). p.lower) (λ p. S.Fits p m) (λ (p : Self). Self.Fits p m) (λ p. S.cpu_of p)
-        (S.MayHold m) (S.MayHold m) (λ p fits. fits.0)
-        (λ d held. held) (λ p. S.queue_with p d) (S.queue_at m d)
+    ghost queues = { λ m c d acts there. read_on
+        (parts_on (λ (p : Self). p.lower) (λ p. S.Fits p m) (λ (p : Self). Self.Fits p m) (λ p. S.cpu_of p) (S.MayHold m) (λ p fits. fits.0))
+        (λ p. S.queue_with p d) (S.queue_at m d)
         (pending_by (moves_in (sleep_kernel attempts (S.opening m)) (S.seen m)) d)
         (S.queues m c d acts.0 (there_viewed (viewed_block shown) (S.opening m (Pending d)) there)) };
 

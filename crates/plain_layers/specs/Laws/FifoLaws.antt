@@ -1,14 +1,10 @@
 -- What a machine of attempts tells of who waits: the waiting lists agree with the places.
-use Rattle.std.specs.Prelude.{◌≡◌, List, length, Option, refl}
-use Rattle.std.proofs.{Common.{ap}}
-use Rattle.layer_traits.specs.{Capacities.caps_in, Renaming.viewed}
-use Rattle.plain_layers.specs.Fifos.{shown}
-use Rattle.event_log.specs.{declared.ids.{LockId.{LockId, TheVariants.{Pending, Buffer}}}}
-use Rattle.layer_traits.specs.{declared.{queue_edits.QueueBlock.QueueBlock, queues.QueueEvent.QueueEvent}, IpcLaw.WaitListsAgree}
-use Rattle.layer_traits.specs.{ListsAgree.{ListsAgree}, QueueBlocks.{homes_in, inner}}
-use Rattle.layer_traits.specs.{Queues.{buffer_sections, moves_in}, Sleeping.{wait_list_at, sleep_edited}, SleepLaw.sleep_kernel}
-use Rattle.{fifo_buffer.specs.Laws.WaitLists.lists_agree, plain_layers.specs.{declared.attempts.Attempt.Attempt, Attempts.attempts, Fifos.PlainLocked}}
-use Rattle.plain_layers.specs.Fifos.{fresh_buffer, fresh_buffers, wait_lists_in}
+use Rattle.std.{specs.Prelude.{◌≡◌, List, length, Option, refl}, proofs.Common.ap}
+use Rattle.layer_traits.specs.{Capacities.caps_in, Renaming.viewed, declared.{queue_edits.QueueBlock.QueueBlock, queues.QueueEvent.QueueEvent}}
+use Rattle.layer_traits.specs.{IpcLaw.WaitListsAgree, ListsAgree.ListsAgree, QueueBlocks.{homes_in, inner}, Queues.{buffer_sections, moves_in}}
+use Rattle.{layer_traits.specs.{Sleeping.{wait_list_at, sleep_edited}, SleepLaw.sleep_kernel}, plain_layers.specs.Fifos.{shown, PlainLocked, fresh_buffer}}
+use Rattle.plain_layers.specs.{Fifos.{fresh_buffers, wait_lists_in}, declared.attempts.Attempt.Attempt, Attempts.attempts}
+use Rattle.{event_log.specs.declared.ids.LockId.{LockId, TheVariants.{Pending, Buffer}}, fifo_buffer.specs.Laws.WaitLists.lists_agree}
 
 -- the waiting lists of the buffers agree with the places
 pub plain_wait_lists : (opening : LockId → Option (QueueBlock PlainLocked)) (past : List (QueueEvent Attempt))

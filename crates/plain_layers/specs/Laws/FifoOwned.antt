@@ -1,17 +1,14 @@
 -- What sleep and wakeup beneath tells of its locks, buffers in one section a call tell of their items and waiting lists.
 use Rattle.std.specs.{Prelude.{◌≡◌, ◌<◌, List, [], ◌∷◌, ◌++◌, length, Option, Some, None, IsSome, option_map, option_to_list, refl}, List.AllByRecursion}
 use Rattle.std.proofs.{Common.{ap, sym, ◌∙◌, subst}, lemmas.Option.{same_Some, slice_get-get_or}}
-use Rattle.layer_traits.specs.{Capacities.caps_in, Renaming.viewed}
-use Rattle.plain_layers.specs.Fifos.{shown}
+use Rattle.layer_traits.specs.{Capacities.caps_in, Renaming.viewed, declared.{calls.Effect.Effect, moves.WaitList.WaitList, queue_edits.QueueBlock.QueueBlock}}
+use Rattle.layer_traits.specs.{declared.queues.{QueueCall.{QueueCall, TheVariants.{Push, TakeAll, OnBuffer}}, QueueEvent.QueueEvent}, BufferEffects.contents_of}
+use Rattle.layer_traits.specs.{BufferLaw.entry_of, QueueBlocks.{above_of, inner}, Queues.{IsKnownEvent, buffer_sections, with_section}, Sleeping.wait_list_at}
+use Rattle.{layer_traits.{specs.{Sleeping.sleep_edited, Observed.IsObservedAs}, proofs.Alone.block_there}, plain_layers.specs.Fifos.{shown, PlainLocked}}
+use Rattle.plain_layers.specs.{Fifos.{effect_by, entries_in, fresh_buffer, fresh_buffers, wait_lists_in, locked_after}, declared.attempts.Attempt.Attempt}
+use Rattle.plain_layers.specs.{Attempts.attempts, FifoOwned.{closed_of, items_in, nobody, nothing_read, wait_lists_of}, Laws.FifoTallies.plain_tally}
 use Rattle.event_log.specs.declared.{entries.Entry.Entry, ids.{BufId.BufId, CpuId.CpuId, LockId.{LockId, TheVariants.Buffer}, Tid.Tid, TheConstants.CPUS}}
-use Rattle.{event_log.specs.{Buffers.items_of, History.IsLawful, Runs.is_closed, Sections.Section}, layer_traits.specs.declared.calls.Effect.Effect}
-use Rattle.layer_traits.specs.declared.{moves.WaitList.WaitList, queue_edits.QueueBlock.QueueBlock, queues.QueueCall.{QueueCall, TheVariants.{Push, TakeAll}}}
-use Rattle.layer_traits.specs.{declared.queues.{QueueCall.TheVariants.OnBuffer, QueueEvent.QueueEvent}, BufferEffects.contents_of, BufferLaw.entry_of}
-use Rattle.layer_traits.specs.{Owned.IsObserved, QueueBlocks.{above_of, inner}, Queues.{IsKnownEvent, buffer_sections, with_section}, Sleeping.wait_list_at}
-use Rattle.layer_traits.{specs.{Sleeping.sleep_edited, Observed.IsObservedAs}, proofs.{Alone.block_there, OwnedLemmas.{shown_under, observed_as, viewed_shown}}}
-use Rattle.plain_layers.specs.{declared.attempts.Attempt.Attempt, Attempts.attempts, FifoOwned.{closed_of, items_in, nobody, nothing_read, wait_lists_of}}
-use Rattle.plain_layers.specs.Fifos.{PlainLocked, effect_by, entries_in, fresh_buffer, fresh_buffers, wait_lists_in, locked_after}
-use Rattle.plain_layers.specs.Laws.FifoTallies.{plain_tally}
+use Rattle.event_log.specs.{Buffers.items_of, History.IsLawful, Runs.is_closed, Sections.Section}
 
 -- a block that is seen is there
 pub there_viewed : {A B : Type 0} (view : A → B) (o : Option A) → IsSome (option_map view o) → IsSome o
@@ -63,25 +60,6 @@ module _ (opening : LockId → Option (QueueBlock PlainLocked)) (fresh : inner o
   wait_lists_read past =
       let state = found past in
       ap (option_map wait_lists_of) state.1 ∙ ap (λ o. Some (λ (line : WaitList). wait_list_at line o)) (sym state.1)
-
--- what is told beneath of a lock is told here of a view of it
-module _ {P Q : Type 0} (below : Q → P) (FitsP : P → Type 0) (FitsQ : Q → Type 0) (cpu_below : P → CpuId)
-    (InsideP InsideQ : CpuId → Type 0) (fits : (q : Q) → FitsQ q → FitsP (below q)) (inside : (c : CpuId) → InsideP c → InsideQ c) where
-  pub view_read : {A : Type 0} (lock : Option PlainLocked) (view : PlainLocked → A) (tells : P → Option PlainLocked) (home : Option PlainLocked) (x : A)
-      → option_map view lock ≡ Some x → IsObserved FitsP cpu_below InsideP tells home lock
-      → IsObservedAs FitsQ (λ q. cpu_below (below q)) InsideQ (λ q. option_map view (tells (below q))) (option_map view home) x
-  view_read lock view tells home x is shown =
-      observed_as FitsQ (λ q. cpu_below (below q)) InsideQ (λ q. option_map view (tells (below q))) (option_map view home) (option_map view lock) x is
-      (viewed_shown view FitsQ (λ q. cpu_below (below q)) InsideQ (λ q. tells (below q)) home lock (option_map view lock) refl
-      (shown_under below FitsP FitsQ cpu_below (λ q. cpu_below (below q)) InsideP InsideQ tells home lock fits (λ q fit. refl) inside shown))
-
-  -- and of a pending queue what is told beneath
-  pub pending_read : (tells : P → Option (List Tid)) (home : Option (List Tid)) (queue : List Tid)
-      → IsObserved FitsP cpu_below InsideP tells home (Some queue)
-      → IsObservedAs FitsQ (λ q. cpu_below (below q)) InsideQ (λ q. tells (below q)) home queue
-  pending_read tells home queue shown =
-      observed_as FitsQ (λ q. cpu_below (below q)) InsideQ (λ q. tells (below q)) home (Some queue) queue refl
-      (shown_under below FitsP FitsQ cpu_below (λ q. cpu_below (below q)) InsideP InsideQ tells home (Some queue) fits (λ q fit. refl) inside shown)
 
 -- nobody owns a lock of buffers in one section a call, and the machine tells it
 pub nobody_owns : {P : Type 0} (Fits : P → Type 0) (cpu_of : P → CpuId) (IsInside : CpuId → Type 0)

@@ -1,11 +1,11 @@
 use Rattle.std.proofs.{Common.{◌≡◌, Bool, List, [], Result, Ok, Err, true, false, refl, sym, ap, subst, inl, inr, ◌⊎◌}, lemmas.List.append-nil}
 use Rattle.std.specs.{Prelude.if◌then◌else◌, Io.KnownBytes.Appends}
-use Rattle.{event_log.specs.declared.ids.CpuId.CpuId, boot.specs.{declared.refusals.BootError.BootError, Plan.{BootPlan, plan_of}}, tracer.specs.Sinks.Outs}
-use Rattle.{tracer.proofs.SinkLemmas.{all_out, outs_then}, mctower.specs.declared.refusals.Refusal.{Refusal, TheVariants.{WriteFault, Plan as BadPlan}}}
-use Rattle.mctower.specs.{declared.{done.Done.{Done, TheVariants.Ran}, states.State.State, run_faults.Fault.Fault}, State.IsStateOf, Running.IsRunOf}
-use Rattle.mctower.specs.{Running.{NoCondition, RunsOn, Tells}, Output.{Output, between}, Serve.{OfPlan, RefusedBy, RunsPlan, ReportsRun}, Refusals.from_fault}
-use Rattle.{mctower.{specs.Refusals.lacks_memory, proofs.TabledLemmas.state_of_run}, cpu.specs.Claims.Shown}
-use Rattle.mctower.specs.declared.run_faults.Fault.TheVariants as run
+use Rattle.{event_log.{specs.declared.ids.CpuId.CpuId, proofs.BoolLemmas.refuted}, boot.specs.{declared.refusals.BootError.BootError, Plan.{BootPlan, plan_of}}}
+use Rattle.{tracer.{specs.Sinks.Outs, proofs.SinkLemmas.{all_out, outs_then}}, mctower.specs.declared.refusals.Refusal.{Refusal, TheVariants.WriteFault}}
+use Rattle.mctower.specs.declared.{refusals.Refusal.TheVariants.Plan as BadPlan, serve.Done.{Done, TheVariants.Ran}, states.State.State, run.Fault.Fault}
+use Rattle.mctower.specs.{State.IsStateOf, Running.{IsRunOf, NoCondition, RunsOn, Tells}, Output.{Output, between}, Serve.{OfPlan, RefusedBy, RunsPlan}}
+use Rattle.{mctower.{specs.{Serve.ReportsRun, Refusals.{from_fault, lacks_memory}}, proofs.TabledLemmas.state_of_run}, cpu.specs.Claims.Shown}
+use Rattle.mctower.specs.declared.run.Fault.TheVariants as run
 use Rattle.mctower.proofs.serve.run_bytes.Goals as goal
 
 -- what is to be told of a run whose text was put out, and nothing more behind it
@@ -47,11 +47,6 @@ reported_fault : (plan : BootPlan) (steps : List CpuId) (s : Shown) (failed : Bo
 reported_fault plan steps s false is = absurd (cc)
 reported_fault plan steps s true is = refl
 
--- a sink has not failed and failed
-not_both : {A : Type 0} (failed : Bool) → failed ≡ false → failed ≡ true → A
-not_both false live is = absurd (cc)
-not_both true live is = absurd (cc)
-
 -- a run that had a fault
 fault_ran : (steps : List CpuId) (read : Result BootPlan BootError) (fault : Fault) (out : Output)
     → RunsOn NoCondition read steps (Err fault) out
@@ -69,7 +64,7 @@ fault_ran steps (Ok plan) run.WriteFault out runs = inr (inr (record {
   fifo = runs.1.1.fifo;
   in_time = runs.1.1.in_time;
   table = runs.1.1.table tt;
-  put = (reported_fault plan steps runs.1.0 out.failed runs.0, (runs.1.1.out.out, λ live. not_both out.failed live runs.0));
+  put = (reported_fault plan steps runs.1.0 out.failed runs.0, (runs.1.1.out.out, λ live. refuted live runs.0));
 }))
 fault_ran steps (Err e) (run.NoMemory refused) out runs = inl (refl, runs)
 fault_ran steps (Err e) (run.Boot f) out runs = inr (ap (λ x. Err (BadPlan x)) runs.0, runs.1)
