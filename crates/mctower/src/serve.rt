@@ -1,7 +1,7 @@
 //! Serving a command line: reads the order, does it, prints, and gives the exit status. `serve`
 //! takes memory. It may wait: for its worker threads, and for the streams.
 
-ghost use Rattle.std.specs.{Prelude.{◌≡◌, ◌≤◌, ◌*◌, ◌⊎◌, IfOk, None, false, true, length, map, option_map, string_bytes}, List.flat_map};
+ghost use Rattle.std.specs.{Prelude.{◌≡◌, ◌≤◌, ◌⊎◌, IfOk, None, false, true, length, map, option_map, string_bytes}, List.flat_map};
 ghost use Rattle.{event_log.specs.declared.ids.TheConstants.CPUS, tracer.specs.Sinks.{has_failed, is_flushed}, mctower.specs.{Output.between, Line.order_of}};
 ghost use Rattle.mctower.specs.{Schedule.ReadsSteps, Serve.{Checks, Counts, Ends, OfBytes, OfInput, Puts, PutsAnswer, ReadsAll, RunsPlan, Serves}};
 ghost use Rattle.mctower.specs.Serve.{PrintsVerdict, fault_refused, reads_input, steps_asked};
@@ -21,6 +21,7 @@ use crate::threads::{serve_threads, write_stops};
 use crate::tower::run_plan;
 use boot::{BootError, LockKind};
 use cpu_workers::Stop;
+use cpu_workers::counting::Counted;
 use event_log::CpuId;
 use itoa::Buffer;
 use std::alloc::Global;
@@ -34,6 +35,8 @@ use tracer::{InputFault, Sink, Verdict, WriteFault, check_input};
 pub enum Done {
     /// This exit status; nothing is to be told.
     Exit(u8),
+    /// A count over the owned machine and one over the shared table; nothing is to be told.
+    BothCounted(Counted, Counted),
     /// A good run, whose system is in this state, which is to be told.
     Ran(State),
     /// A good run in threads, whose workers stopped so, by CPU, which is to be told.
@@ -73,7 +76,7 @@ fn serve_count<O: Write, T: Threads + Wait + Sync>(
     requires cpus { cpus ≤ CPUS }
     requires times { times ≤ MOST_TIMES }
     requires live { has_failed out.old ≡ false }
-    ensures counts { Counts (times * cpus) result (between O.contents out.old out.new) }
+    ensures counts { Counts cpus times lock result (between O.contents out.old out.new) }
     ensures flushed { IfOk result (λ _. is_flushed out.new ≡ true) }
 {
     let in_machine = match count_plain(alloc, cpus, times, lock) {
@@ -95,7 +98,7 @@ fn serve_count<O: Write, T: Threads + Wait + Sync>(
         table,
         b"\n".as_slice(),
     ];
-    put_out(out, &lines, Done::Exit(0))
+    put_out(out, &lines, Done::BothCounted(in_machine, in_table))
 }
 
 /// All of the input.
@@ -299,6 +302,7 @@ pub fn serve<R: Read, O: Write, E: Write, T: Threads + Wait + Sync>(
 {
     match answer(rt, alloc, words, input, out) {
         Ok(Done::Exit(status)) => status,
+        Ok(Done::BothCounted(_, _)) => 0,
         Ok(Done::Ran(state)) => {
             state.write_report(err);
             0
