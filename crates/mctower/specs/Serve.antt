@@ -224,3 +224,8 @@ reads_input (Some (count cpus times lock)) = false
 reads_input (Some check) = true
 reads_input (Some (run schedule)) = is_some (steps_asked schedule)
 reads_input (Some (threads turns)) = true
+
+-- whether it is read by a process: as its words say, and not where they could not be had
+abbrev pub process_reads : {A B : Type 0} → Result (Vec (String A) B) Refusal → Bool
+process_reads (Ok words) = reads_input (order_of (map string_bytes words.items))
+process_reads (Err refusal) = false
