@@ -42,6 +42,13 @@ little='ulimit -v 6000'
 takes='mctower-trace 1\nbuffers 1\ncap 0 2\ne 0 0 recv 0 7 0 0\nleft 0\nend\n'
 before=$'mctower-trace 1\nbuffers 1\ncap 0 1\nleft 0\nend\n'
 sevens="head -c 200000 /dev/zero | tr '\\0' 7"
+# the longest word that is shown
+word=$(printf 'a%.0s' {1..200})
+# an input from which no byte comes and which does not end
+silent="mkfifo '$room/silent' 2> /dev/null; exec 3<> '$room/silent'"
+# runs the program at a terminal, where the file in front is typed and then its end, once
+typed="timeout 20 python3 -c 'import os, pty, subprocess, sys; ours, theirs = pty.openpty(); os.write(ours, open(sys.argv[1], \"rb\").read() + b\"\\4\")
+sys.exit(subprocess.run(sys.argv[2:], stdin=theirs).returncode)'"
 version=$'mctower 0.5.0\n'
 waits=$'cpu 0 live\nthread 0 Ready(0)\nquiet no\n'
 # a run whose third entry takes from an empty buffer
@@ -128,7 +135,11 @@ rows() {
   # a state line, a worker's line and a refusal are a write each, whose bytes are told in front: so the lines of two programs do not mix
   row 0 $'15 cpu 0 AllEnded\n15 thread 0 Ended\n10 quiet yes\n' '' "tests/writes.py '$program' run --schedule '0*21' < plans/one-send.toml"
   row 0 $'15 cpu 0 AllEnded\n' '' "tests/writes.py '$program' threads --turns 1000 < plans/one-send.toml"
+  row 0 $'11 cpu 0 live\n18 thread 0 Ready(0)\n9 quiet no\n' '' "tests/writes.py '$program' run < plans/one-send.toml"
   row 1 $'19 error: BadToml(20)\n' '' "echo [ | tests/writes.py '$program' run"
+  # so is the longest, with the two lines of usage behind it
+  told="error: --turns $word: wanted 1 to 1000000000"$'\n'"$(usage threads)"$'\n'
+  row 2 "${#told} $told" '' "tests/writes.py '$program' threads --turns $word"
   # without a schedule no step is taken
   row 0 "$before" "$waits" 'mctower run < plans/one-send.toml'
   row 0 "$sent" $'cpu 0 AllEnded\n' "$thread"
@@ -197,6 +208,8 @@ rows() {
   bad_line 'mctower threads < plans/one-send.toml' 'a needed option is missing: --turns <turns>' threads
   bad_line 'mctower count' 'a needed option is missing: --cpus <cpus> --times <times>' count
   bad_line 'mctower count --cpus 2' 'a needed option is missing: --times <times>' count
+  # no word is left out behind the longest command line
+  bad_line 'mctower count --cpus 2 --times 3 --lock ticket more' "unexpected argument: 'more'" count
   # a value that its option does not take; the first that is wrong is told
   bad_line 'mctower threads --turns 0 < plans/one-send.toml' '--turns 0: wanted 1 to 1000000000' threads
   bad_line 'mctower threads --turns 1000000001 < plans/one-send.toml' '--turns 1000000001: wanted 1 to 1000000000' threads
@@ -327,6 +340,20 @@ rows() {
   row 0 $'plain 1\ntable 1\n' '' 'mctower count --cpus 1 --times 1 < .'
   row 2 '' $'error: BadSchedule(9)\n' 'mctower run --schedule x < .'
   bad_line 'mctower threads --turns 0 < .' '--turns 0: wanted 1 to 1000000000' threads
+  # nor is it waited for
+  row 0 $'plain 1\ntable 1\n' '' "$silent; mctower count --cpus 1 --times 1 < '$room/silent'"
+  row 2 "$version" '' "$silent; mctower --version < '$room/silent'"
+  row 2 '' $'error: BadSchedule(9)\n' "$silent; mctower run --schedule x < '$room/silent'"
+  # an end of the input is asked for once
+  printf '%s' "$sent" > "$room/sent"
+  row 0 $'yes\n' '' "$typed '$room/sent' '$program' check"
+  row 0 "$sent" "$state" "$typed plans/one-send.toml '$program' run --schedule '0*21'"
+  row 0 "$sent" $'cpu 0 AllEnded\n' "$typed plans/one-send.toml '$program' threads --turns 1000"
+  # an empty plan is read, and one of many parts
+  row 1 '' $'error: MissingKey(21) cpus\n' 'mctower run < /dev/null'
+  row 1 '' $'error: MissingKey(21) cpus\n' 'mctower threads --turns 9 < /dev/null'
+  row 0 "$sent" "$state" "{ cat plans/one-send.toml; yes '# no key' | head -n 99999; } | mctower run --schedule '0*21'"
+  row 0 "$sent" $'cpu 0 AllEnded\n' "{ cat plans/one-send.toml; yes '# no key' | head -n 99999; } | mctower threads --turns 1000"
   # an input of several parts: a line longer than a part, behind a good one and behind one with a fault, and one that comes slowly
   row 3 $'no 4 Range(31)\n' '' "{ printf '${before%left*}e 0 0 send 0 '; $sevens; printf ' 0 0\nleft 0 7\nend\n'; } | mctower check"
   row 3 $'no 4 Spelling(30)\n' '' "{ printf '${before%left*}x\n'; $sevens; printf '\n'; } | mctower check"

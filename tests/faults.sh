@@ -46,10 +46,6 @@ messages() {
 is_refusal() {
   [ "$status" = 1 ] && [ "$(cat "$room/err")" = "error: $1" ] && head -c "$2" "$room/true_out" | cmp -s - "$room/out"
 }
-# Whether the outcome is a bad command line, with nothing on standard output: what `clap` answers where it lacks memory.
-is_bad_line() {
-  [ "$status" = 2 ] && [ ! -s "$room/out" ]
-}
 # Counts an outcome, which is wrong where $1 is not 0; $2 tells what was refused.
 count() {
   outcomes=$((outcomes + 1))
@@ -64,7 +60,7 @@ count() {
 allocations() {
   local n=1 starting=0
   while run "$1=$n"; [ "$refused" = yes ]; do
-    is_true || is_refusal 'NoMemory(1)' 0 || is_bad_line || { starting=$((starting + 1)); [ "$starting" -le "$starts" ] && is_refusal 'NoThread(5)' 0; }
+    is_true || is_refusal 'NoMemory(1)' 0 || { starting=$((starting + 1)); [ "$starting" -le "$starts" ] && is_refusal 'NoThread(5)' 0; }
     count $? "$1=$n"
     n=$((n + 1))
   done

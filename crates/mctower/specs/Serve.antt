@@ -12,6 +12,8 @@ use Rattle.mctower.specs.declared.{faults.NoOrder.TheVariants.{AsksHelp, AsksVer
 use Rattle.mctower.specs.{declared.{done.Done.TheVariants.Worked, states.State.State}, Running.{AreCpus, IsRunOf, NoCondition}, Faults.{IsFault, IsWhy}}
 use Rattle.mctower.specs.{Help.{help_of, topic_of}, State.{IsStateOf, text_of_state}, Schedule.steps_of, Tabled.{IsStateOfRun, IsTextOfRun}, Texts.IsTextOf}
 use Rattle.{mctower.specs.Threads.{IsWorked, stop_text}, cpu.specs.Claims.{Shown, traces_of}, cpu_workers.specs.declared.workers.stops.Stop.Stop}
+use Rattle.{mctower.specs.declared.done.Done.TheVariants.BothCounted, boot.specs.declared.locks.LockKind.LockKind}
+use Rattle.cpu_workers.specs.declared.counting.counted.Counted.{Counted}
 use Rattle.tracer.specs.declared.verdicts.Verdict.TheVariants as verdict
 use Rattle.tracer.specs.Reasons as reasons
 use Rattle.tracer.specs.declared.checking.InputFault.TheVariants as unjudged
@@ -19,6 +21,7 @@ use Rattle.tracer.specs.declared.checking.InputFault.TheVariants as unjudged
 -- the exit status of an answer
 abbrev pub status_of : Result Done Refusal → ℕ
 status_of (Ok (Exit status)) = status
+status_of (Ok (BothCounted plain table)) = 0
 status_of (Ok (Ran state)) = 0
 status_of (Ok (Worked stops)) = 0
 status_of (Err refusal) = status_of_refusal refusal
@@ -63,11 +66,16 @@ ReadsAll input (Err refusal) = (kind : ErrorKind) × (refusal ≡ kind_refused k
 abbrev pub count_lines : ℕ → List ℕ
 count_lines number = codes "plain " ++ (decimal number ++ (codes "\ntable " ++ (decimal number ++ 10 ∷ [])))
 
--- this number was counted: it is printed, or the order is refused for want of memory or of a thread
-abbrev pub Counts : ℕ → Result Done Refusal → Output → Type 0
-Counts number answer out = RefusedBy lacks_memory answer out
+-- so many CPUs counted, so many sections each, behind locks of this kind
+abbrev pub IsCount : ℕ → ℕ → LockKind → Counted → Type 0
+IsCount cpus times lock counted = (counted.cpus ≡ cpus) × (counted.times ≡ times) × (counted.lock ≡ lock)
+
+-- Both machines counted so, and their number is printed; what counted is what is done. Or the order is refused for want of memory or of a thread.
+abbrev pub Counts : ℕ → ℕ → LockKind → Result Done Refusal → Output → Type 0
+Counts cpus times lock answer out = RefusedBy lacks_memory answer out
     ⊎ (RefusedBy lacks_thread answer out
-    ⊎ Puts (Exit 0) (count_lines number) answer out)
+    ⊎ ((plain : Counted) × (table : Counted) × IsCount cpus times lock plain × IsCount cpus times lock table
+    × Puts (BothCounted plain table) (count_lines (times * cpus)) answer out))
 
 -- ---- check
 
@@ -180,7 +188,7 @@ PutsAnswer words answer out = RefusedBy lacks_memory answer out
 -- input are `input`, where they are known. Memory or the input may be wanting always.
 abbrev pub Serves : List Text → Option Ghost → Option (List ℕ) → Result Done Refusal → Output → Type 0
 Serves words None input answer out = PutsAnswer words answer out
-Serves words (Some (count cpus times lock)) input answer out = Counts (times * cpus) answer out
+Serves words (Some (count cpus times lock)) input answer out = Counts cpus times lock answer out
 Serves words (Some check) input answer out = Checks input answer out
 Serves words (Some (run schedule)) input answer out = RunsAsked (steps_asked schedule) input answer out
 Serves words (Some (threads turns)) input answer out = OfInput (WorksPlan turns) input answer out
@@ -191,6 +199,7 @@ Serves words (Some (threads turns)) input answer out = OfInput (WorksPlan turns)
 -- threads, nothing after a yes, a no, a count, the help or the version; else what tells the refusal
 abbrev pub Reports : List Text → Result Done Refusal → Output → Type 0
 Reports words (Ok (Exit status)) out = IsUntouched out
+Reports words (Ok (BothCounted plain table)) out = IsUntouched out
 Reports words (Ok (Ran state)) out = IsTold out (text_of_state state)
 Reports words (Ok (Worked stops)) out = IsTold out (stop_text stops.items)
 Reports words (Err refusal) out = PutsRefusal words refusal out
@@ -216,3 +225,8 @@ reads_input (Some (count cpus times lock)) = false
 reads_input (Some check) = true
 reads_input (Some (run schedule)) = is_some (steps_asked schedule)
 reads_input (Some (threads turns)) = true
+
+-- whether it is read by a process: as its words say, and not where they could not be had
+abbrev pub process_reads : {A B : Type 0} → Result (Vec (String A) B) Refusal → Bool
+process_reads (Ok words) = reads_input (order_of (map string_bytes words.items))
+process_reads (Err refusal) = false

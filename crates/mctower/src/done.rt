@@ -9,6 +9,7 @@ use crate::print::print;
 use crate::refusals::Refusal;
 use crate::states::State;
 use cpu_workers::Stop;
+use cpu_workers::counting::Counted;
 use std::alloc::Global;
 use std::io::{Read, Write};
 use tracer::{Sink, WriteFault};
@@ -18,6 +19,8 @@ use tracer::{Sink, WriteFault};
 pub enum Done {
     /// This exit status; nothing is to be told.
     Exit(u8),
+    /// A count over the owned machine and one over the shared table; nothing is to be told.
+    BothCounted(Counted, Counted),
     /// A good run, whose system is in this state, which is to be told.
     Ran(State),
     /// A good run in threads, whose workers stopped so, by CPU, which is to be told.

@@ -14,7 +14,8 @@
 #![tactic(auto)]
 
 ghost use Rattle.std.specs.{Prelude.{◌≡◌, IfOk, false, map, string_bytes}, Process.exit_status};
-ghost use Rattle.{tracer.specs.Sinks.has_failed, mctower.specs.{Output.between, Refusals.{PutsRefusal, status_of_refusal}, Serve.{EndsProcess, words_refused}}};
+ghost use Rattle.{tracer.specs.Sinks.has_failed, mctower.specs.{Output.between, Refusals.{PutsRefusal, status_of_refusal}}};
+ghost use Rattle.mctower.specs.Serve.{EndsProcess, process_reads, words_refused};
 
 pub mod count;
 pub mod done;
@@ -112,7 +113,7 @@ fn refused<E: Write>(err: &mut Sink<E>, words: &[&str], refusal: Refusal) -> Exi
 }
 
 /// Serves the words over these streams, as [`serve`] says, and gives the exit status of the process.
-/// Where the words could not be had, that refusal is told.
+/// Where the words could not be had, that refusal is told, and no input is read.
 ///
 /// Requires: neither `out` nor `err` has failed.
 fn serve_words<T: AllocGlobal + Threads + Wait + Sync, R: Read, O: Write, E: Write>(
@@ -124,7 +125,8 @@ fn serve_words<T: AllocGlobal + Threads + Wait + Sync, R: Read, O: Write, E: Wri
 ) -> ExitCode
     requires out { has_failed out.old ≡ false }
     requires err { has_failed err.old ≡ false }
-    ensures { EndsProcess words (R.remaining input.old) (exit_status result) (between O.contents out.old out.new) (between E.contents err.old err.new) }
+    ensures ends { EndsProcess words (R.remaining input.old) (exit_status result) (between O.contents out.old out.new) (between E.contents err.old err.new) }
+    ensures unread { process_reads words ≡ false → input.new ≡ input.old }
 {
     let words = match words {
         Ok(words) => words,

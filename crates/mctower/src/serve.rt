@@ -1,7 +1,7 @@
 //! Serving a command line: reads the order, does it, prints, and gives the exit status. `serve`
 //! takes memory. It may wait: for its worker threads, and for the streams.
 
-ghost use Rattle.std.specs.Prelude.{◌≡◌, ◌≤◌, ◌*◌, ◌⊎◌, IfOk, None, false, true, length, map, option_map, string_bytes};
+ghost use Rattle.std.specs.Prelude.{◌≡◌, ◌≤◌, ◌⊎◌, IfOk, None, false, true, length, map, option_map, string_bytes};
 ghost use Rattle.{event_log.specs.declared.ids.TheConstants.CPUS, tracer.specs.Sinks.{has_failed, is_flushed}, mctower.specs.{Output.between, Line.order_of}};
 ghost use Rattle.mctower.specs.{Schedule.ReadsSteps, Serve.{Checks, Counts, Ends, OfBytes, OfInput, PutsAnswer, RunsPlan, Serves}};
 ghost use Rattle.mctower.specs.Serve.{PrintsVerdict, fault_refused, reads_input, steps_asked};
@@ -41,7 +41,7 @@ fn serve_count<O: Write, T: Threads + Wait + Sync>(
     requires cpus { cpus ≤ CPUS }
     requires times { times ≤ MOST_TIMES }
     requires live { has_failed out.old ≡ false }
-    ensures counts { Counts (times * cpus) result (between O.contents out.old out.new) }
+    ensures counts { Counts cpus times lock result (between O.contents out.old out.new) }
     ensures flushed { IfOk result (λ _. is_flushed out.new ≡ true) }
 {
     let in_machine = match count_plain(alloc, cpus, times, lock) {
@@ -63,7 +63,7 @@ fn serve_count<O: Write, T: Threads + Wait + Sync>(
         table,
         b"\n".as_slice(),
     ];
-    put_out(out, &lines, Done::Exit(0))
+    put_out(out, &lines, Done::BothCounted(in_machine, in_table))
 }
 
 /// Prints a verdict: `yes`, or `no L Name(N)`. Gives the exit status.
@@ -254,6 +254,7 @@ pub fn serve<R: Read, O: Write, E: Write, T: Threads + Wait + Sync>(
 {
     match answer(rt, alloc, words, input, out) {
         Ok(Done::Exit(status)) => status,
+        Ok(Done::BothCounted(_, _)) => 0,
         Ok(Done::Ran(state)) => {
             state.write_report(err);
             0

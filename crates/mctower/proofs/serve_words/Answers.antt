@@ -22,8 +22,11 @@ returns g c =
     let words = map string_bytes c.in-Ok.words.items in
     let out = between g.O.Write.contents c.args.out.now c.args.out.now in
     rw c.in-Ok.is (record {
-      answer = Err lacks_memory;
-      ends = c.refused-in-Err-texts_of.ensures.status;
-      served = order_refused words (order_of words) (g.R.Read.remaining c.args.input.now) out (c.requires.out, refl);
-      told = c.refused-in-Err-texts_of.ensures.told;
+      ends = record {
+        answer = Err lacks_memory;
+        ends = c.refused-in-Err-texts_of.ensures.status;
+        served = order_refused words (order_of words) (g.R.Read.remaining c.args.input.now) out (c.requires.out, refl);
+        told = c.refused-in-Err-texts_of.ensures.told;
+      };
+      unread = λ _. refl;
     })
