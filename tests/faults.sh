@@ -69,11 +69,12 @@ allocations() {
     n=$((n + 1))
   done
 }
-# Each start of a thread, alone or with all later ones, and in `starts` how many there are. None is started without need, so no outcome is the true one.
+# Each start of a thread, alone or with all later ones, and in `starts` how many there are. None is started without need, so no outcome is the true one, and
+# behind a refused start none is asked for.
 threads() {
   local n=1
   while run "$1=$n"; [ "$refused" = yes ]; do
-    is_refusal 'NoThread(5)' 0 || is_refusal 'NoMemory(1)' 0
+    { is_refusal 'NoThread(5)' 0 || is_refusal 'NoMemory(1)' 0; } && [ "$(grep -c '^refused$' "$room/told")" = 1 ]
     count $? "$1=$n"
     n=$((n + 1))
   done
