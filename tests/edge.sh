@@ -360,7 +360,7 @@ rows() {
   } > "$room/full"
   patience=120 row 0 $'yes\n589815\n' "$(printf 'cpu %d TraceFull\n' {0..8})"$'\n' \
     "mctower threads --turns 1000000000 < '$room/full' > '$room/long' && mctower check < '$room/long' && grep -c '^e ' '$room/long'"
-  # a worker that waits lets another run: on one processor a thousand messages through a buffer for one take a part of a second, and else a minute
+  # a worker whose CPU is idle lets another run: on one processor a thousand messages through a buffer for one take a part of a second, and else a minute
   {
     printf 'cpus = 2\ntrace = 1000\nbuffers = [1]\n'
     for call in '0 send' '1 recv'; do
@@ -496,7 +496,7 @@ tests=crates/plain_layers/out/plain_layers_tests
 if [ -x "$tests" ]; then
   program=$(realpath "$tests")
   row 0 $'\ntest result: ok\n' '' "$one_stack; mctower tests::counts::after_a_refused_allocation_or_start_the_number_is_0"
-  # and a native that waits lets another run: on one processor forty messages take a twentieth of a second of its time, and else more than one
+  # and so does a native: on one processor forty messages take a twentieth of a second of its time, and else more than one
   row 0 $'\ntest result: ok\n' '' "$one_processor; ulimit -t 1; mctower tests::natives::two_producers_and_a_consumer"
 fi
 
