@@ -37,6 +37,7 @@ thread="mctower threads --turns 1000 < plans/one-send.toml"
 sent=$'mctower-trace 1\nbuffers 1\ncap 0 1\ne 0 0 send 0 7 0 0\nleft 0 7\nend\n'
 state=$'cpu 0 AllEnded\nthread 0 Ended\nquiet yes\n'
 one_stack='ulimit -s 1000000; ulimit -v 1500000'
+one_processor='python3 -c "import os; os.sched_setaffinity(os.getppid(), {min(os.sched_getaffinity(0))})"'
 # room for the program and some two million bytes, in kilobytes
 little='ulimit -v 6000'
 takes='mctower-trace 1\nbuffers 1\ncap 0 2\ne 0 0 recv 0 7 0 0\nleft 0\nend\n'
@@ -386,6 +387,17 @@ rows() {
   } > "$room/full"
   patience=120 row 0 $'yes\n589815\n' "$(printf 'cpu %d TraceFull\n' {0..8})"$'\n' \
     "mctower threads --turns 1000000000 < '$room/full' > '$room/long' && mctower check < '$room/long' && grep -c '^e ' '$room/long'"
+  # a worker whose CPU is idle lets another run: on one processor a thousand messages through a buffer for one take a part of a second, and else a minute
+  {
+    printf 'cpus = 2\ntrace = 1000\nbuffers = [1]\n'
+    for call in '0 send' '1 recv'; do
+      printf '[[thread]]\ncpu = %d\nprogram = ["set r0 1000", "set r1 1", "%s 0 r2", "sub r0 r1", "jnz r0 2"]\n' $call
+    done
+  } > "$room/alternate"
+  for lock in grant ticket; do
+    row 0 $'2000\n' $'cpu 0 AllEnded\ncpu 1 AllEnded\n' \
+      "$one_processor; sed '1i lock = \"$lock\"' '$room/alternate' | mctower threads --turns 1000000000 | grep -c '^e '"
+  done
   # room for one thread's stack, and not for two; no room for the longest schedule
   row 0 $'plain 3\ntable 3\n' '' "$one_stack; mctower count --cpus 1 --times 3"
   row 1 '' $'error: NoThread(5)\n' "$one_stack; mctower count --cpus 2 --times 3"
@@ -511,6 +523,8 @@ tests=crates/plain_layers/out/plain_layers_tests
 if [ -x "$tests" ]; then
   program=$(realpath "$tests")
   row 0 $'\ntest result: ok\n' '' "$one_stack; mctower tests::counts::after_a_refused_allocation_or_start_the_number_is_0"
+  # and so does a native: on one processor forty messages take a twentieth of a second of its time, and else more than one
+  row 0 $'\ntest result: ok\n' '' "$one_processor; ulimit -t 1; mctower tests::natives::two_producers_and_a_consumer"
 fi
 
 [ $((passed + failed)) -gt 0 ] || { echo "edge: build the program first: (cd crates/mctower && rt run -- count --cpus 1 --times 1)"; exit 1; }

@@ -1,6 +1,6 @@
 #!/usr/bin/env bash
-# Runs the built program with one thing refused, at every point of a whole run of each command: every single allocation, all from
-# one on, every start of a thread, all from one on, standard output cut behind every byte, standard input that fails behind every byte.
+# Runs the built program with one thing refused, at every point of a whole run of each command: every single allocation, all from one on, every start of a
+# thread, all from one on, standard output cut behind every byte, standard input that fails behind every byte; and with slow starts and wakes of threads.
 # Each outcome has to be the one of the unhindered run, or the refusal that is promised for it with just what may be out. Where worker
 # threads race each other two runs may differ: there it is right where `check` says yes to the text, all messages went through and each
 # CPU has its line. It takes about a minute; .ci/run calls it after rt ci.
@@ -65,11 +65,12 @@ allocations() {
     n=$((n + 1))
   done
 }
-# Each start of a thread, alone or with all later ones, and in `starts` how many there are. None is started without need, so no outcome is the true one.
+# Each start of a thread, alone or with all later ones, and in `starts` how many there are. None is started without need, so no outcome is the true one, and
+# behind a refused start none is asked for.
 threads() {
   local n=1
   while run "$1=$n"; [ "$refused" = yes ]; do
-    is_refusal 'NoThread(5)' 0 || is_refusal 'NoMemory(1)' 0
+    { is_refusal 'NoThread(5)' 0 || is_refusal 'NoMemory(1)' 0; } && [ "$(grep -c '^refused$' "$room/told")" = 1 ]
     count $? "$1=$n"
     n=$((n + 1))
   done
@@ -111,6 +112,9 @@ command() {
   true_status=$status
   cp "$room/out" "$room/true_out"
   cp "$room/err" "$room/true_err"
+  run SLOWLY=10
+  is_true
+  count $? SLOWLY=10
   threads REFUSE_THREAD_FROM
   threads REFUSE_THREAD
   allocations REFUSE

@@ -3,11 +3,12 @@
 //! REFUSE_THREAD, and by REFUSE_THREAD_FROM all later ones too. Then it writes `refused` on standard
 //! error. All others are the C library's.
 //! By CUT_OUT so many bytes of standard output pass, and then a write fails; by CUT_IN so many of
-//! standard input, and then a read does.
+//! standard input, and then a read does. By SLOWLY who has started a thread, or has woken others that wait,
+//! sleeps so many milliseconds before it goes on.
 //!
 //! rustc --edition 2024 -O -C panic=abort --crate-type cdylib refuse.rs
 
-use std::ffi::{CStr, c_char, c_int, c_void};
+use std::ffi::{CStr, c_char, c_int, c_long, c_uint, c_void};
 use std::mem;
 use std::ptr;
 use std::sync::atomic::{AtomicU64, Ordering::SeqCst};
@@ -19,6 +20,7 @@ unsafe extern "C" {
     fn atoll(text: *const c_char) -> i64;
     fn dlsym(library: *mut c_void, name: *const c_char) -> *mut c_void;
     fn __errno_location() -> *mut c_int;
+    fn usleep(microseconds: c_uint) -> c_int;
 }
 
 static ALLOCATIONS: AtomicU64 = AtomicU64::new(0);
@@ -78,7 +80,31 @@ pub unsafe extern "C" fn pthread_create(thread: *mut c_void, how: *const c_void,
         return NO_MORE;
     }
     let create: Create = unsafe { mem::transmute(dlsym(NEXT, c"pthread_create".as_ptr())) };
-    unsafe { create(thread, how, start, with) }
+    let started = unsafe { create(thread, how, start, with) };
+    linger();
+    started
+}
+
+/// Sleeps for the milliseconds under SLOWLY, if they are there.
+fn linger() {
+    if let Some(time) = number(c"SLOWLY") {
+        unsafe { usleep(1000 * time as c_uint) };
+    }
+}
+
+/// A system call by its number: `futex` of x86-64 waits at a word, or wakes who waits there, as the lowest bits of its second word say.
+type System = unsafe extern "C" fn(c_long, usize, usize, usize, usize, usize, usize) -> c_long;
+const FUTEX: c_long = 202;
+const WAKES: usize = 1;
+
+#[unsafe(no_mangle)]
+pub unsafe extern "C" fn syscall(what: c_long, place: usize, how: usize, count: usize, until: usize, other: usize, value: usize) -> c_long {
+    let system: System = unsafe { mem::transmute(dlsym(NEXT, c"syscall".as_ptr())) };
+    let answer = unsafe { system(what, place, how, count, until, other, value) };
+    if what == FUTEX && how & 127 == WAKES {
+        linger();
+    }
+    answer
 }
 
 /// A read or a write.
