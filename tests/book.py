@@ -248,7 +248,7 @@ def version(faults):
     """Looks whether README.md, CHANGELOG.md and the help tell one version; tells how many that were."""
     told = re.findall(r"This is version ([\d.]+\d)", (ROOT / "README.md").read_text())
     told += re.findall(r"^## ([\d.]+)$", (ROOT / "CHANGELOG.md").read_text(), re.M)[:1]
-    told += re.findall(r'VERSION: &str = "([\d.]+)"', (ROOT / "crates/mctower/src/help.rt").read_text())
+    told += re.findall(r'VERSION: &str = "([\d.]+)"', (ROOT / "crates/mctower/src/line/help_texts.rt").read_text())
     if len(told) < 2 or len(set(told)) != 1:
         faults.append(f"README.md, CHANGELOG.md and the help tell the versions {', '.join(told)}")
     return len(told)

@@ -538,11 +538,11 @@ source_row 'who makes up a refused start' '' "$(made_up crates SpawnError)"
 # Who says NoMemory was refused memory: the type is made from the allocator's refusal alone. Such a refusal is made up at three places, where a library of
 # the kit tells of it without a value: toml's parser by a flag, clap and readers by a kind of error, and the table of atomic words by a type of its own.
 allocations='AllocError|AllocFailed'
-source_row 'who makes up a refused allocation' $'boot/src/plans.rt\nmctower/src/memory.rt\ntable_machine/src/open.rt' "$(made_up crates "$allocations")"
+source_row 'who makes up refused memory' $'boot/src/plans.rt\nmctower/src/refusals/no_memory.rt\ntable_machine/src/open.rt' "$(made_up crates "$allocations")"
 # Nor is a refusal had for the asking: what is asked for is what a value counts, or within a limit.
 source_row 'who asks for memory by a constant' '' "$(asked_by_constant crates)"
 # Such a kind of error is named in that file of mctower alone: who wrote it elsewhere could make a refusal of it.
-source_row 'who reads want of memory off a kind of error' crates/mctower/src/memory.rt "$(grep -rlw --include='*.rt' OutOfMemory crates/*/src | sort)"
+source_row 'who reads want of memory off an error' crates/mctower/src/refusals/no_memory.rt "$(grep -rlw --include='*.rt' OutOfMemory crates/*/src | sort)"
 mkdir -p "$room/of/src"
 cat > "$room/of/src/right.rt" <<'END'
 use std::alloc::{AllocError, AllocFailed, Global};
@@ -574,7 +574,7 @@ source_row 'who asks by a constant in lines that are right and lines that are wr
 # CPUs counted.
 source_row 'who stands on crossbeam_utils' cpu_workers "$(sed -nE 's/^([a-z_]+):.*\<crossbeam_utils\>.*/\1/p' crates.txt)"
 source_row 'who names it' cpu_workers "$(grep -rlw --include='*.rt' crossbeam_utils crates/*/src | cut -d/ -f2 | sort -u)"
-source_row 'who says of what kind a counted lock is' 'mctower/src/on_lock.rt: impl<L: OnLock> LockOfKind<L> for KindOf {' \
+source_row 'who says of what kind a counted lock is' 'mctower/src/locks/kinds.rt: impl<L: OnLock> LockOfKind<L> for KindOf {' \
   "$(cd crates && find . -path '*/src/*' -name '*.rt' -exec grep -HE '\<LockOfKind<.*> *for\>|^ *LockOfKind<.*>$' {} + | sed -e 's|^\./||' -e 's/:/: /')"
 source_row 'lines of more than 160 columns' '' "$(too_long .ci bench crates metal plans tests tools web)"
 

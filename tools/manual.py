@@ -8,7 +8,7 @@
     source manual/mctower.bash                  completes commands and options in bash
     fpath=($PWD/manual $fpath); compinit        the same in zsh
 
-The help's text is in crates/mctower/src/help.rt: a constant for the program, and one for each command, chosen by the command's name.
+The help's text is in crates/mctower/src/line/help_texts.rt: a constant for the program, and one for each command, chosen by the command's name.
 """
 import argparse
 import re
@@ -16,7 +16,7 @@ import sys
 from pathlib import Path
 
 ROOT = Path(__file__).resolve().parent.parent
-SOURCE = ROOT / "crates/mctower/src/help.rt"
+SOURCE = ROOT / "crates/mctower/src/line/help_texts.rt"
 FOLDER = ROOT / "manual"
 TEXT = re.compile(r'const (\w+): &str = "(?:\\\n)?((?:[^"\\]|\\.)*)";', re.S)
 CHOICE = re.compile(r'"(\w+)" => ([A-Z]+),')

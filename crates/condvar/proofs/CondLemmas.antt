@@ -5,13 +5,14 @@ use Rattle.event_log.specs.{declared.ids.{BufId.BufId, CpuId.CpuId, LockId.{Lock
 use Rattle.layer_traits.specs.declared.{conditions.{CvLeave.TheVariants.Wait, CvOut.CvOut}, moves.WaitList.WaitList, payloads.Parcel.Parcel}
 use Rattle.layer_traits.specs.declared.{queue_edits.{QueueBlock.QueueBlock, QueueEdit.QueueEdit, QueueAnswer.QueueAnswer}, queues.QueueEvent.QueueEvent}
 use Rattle.layer_traits.specs.declared.{scheds.SchedCall.SchedCall, sleeps.Outcome.Outcome, locked.{QEdit.TheVariants.Release, QOut.QOut}}
-use Rattle.layer_traits.specs.{declared.locked.{QOut.TheVariants.Released, Side.Side}, Conditions.{MonitorRules, CvCall, cv_rules}, CvLaw.CvPolled}
-use Rattle.layer_traits.specs.{CvLaw.{MayCallCond, MayWait, Waiting, cv_plan_for, left_reported, left_waiting, waited, waiting_with}, ListsAgree.is_at}
-use Rattle.layer_traits.specs.{QLocking.{LockState, lock_after, lock_caller, wait_list_in}, QLockLaw.{Locking, LockPolled, LocksAgree, lock_kernel, lock_plan}}
-use Rattle.layer_traits.specs.{QLockLaw.slept_for, MoveRules.MoveRules, Payloads.{cv_meant, cv_told, lock_meant, lock_told, outcome_told, told_by}}
-use Rattle.layer_traits.specs.{Places.{AreMoves, Stands, Threads, one_if, wait_channel_of}, Plans.{Follows, Table}, QueueBlocks.{homes_in, inner}}
-use Rattle.layer_traits.{specs.Queues.{Kernel, buffer_sections, moves_in}, proofs.{CallLemmas.follows_raised, CountLemmas.not_counted, PlaceLemmas.current_at}}
-use Rattle.{thread_blocks.specs.Queues.is_in, condvar.specs.Waiting.{calls_wait, is_wait, is_waited, is_waiting, side_in}}
+use Rattle.layer_traits.specs.{declared.locked.{QOut.TheVariants.Released, Side.Side}, Layers.{Conditions.{MonitorRules, CvCall, cv_rules}, CvLaw.CvPolled}}
+use Rattle.layer_traits.specs.Layers.{CvLaw.{MayCallCond, MayWait, Waiting, cv_plan_for, left_reported, left_waiting, waited, waiting_with}, QLocking.LockState}
+use Rattle.layer_traits.specs.Layers.{QLocking.{lock_after, lock_caller, wait_list_in}, QLockLaw.{Locking, LockPolled, LocksAgree, lock_kernel, lock_plan}}
+use Rattle.layer_traits.specs.{Layers.{QLockLaw.slept_for, Queues.{Kernel, buffer_sections, moves_in}}, Threads.{ListsAgree.is_at, MoveRules.MoveRules}}
+use Rattle.layer_traits.specs.{Threads.Places.{AreMoves, Stands, Threads, one_if, wait_channel_of}, Blocks.Payloads.{cv_meant, cv_told, lock_meant, lock_told}}
+use Rattle.layer_traits.specs.{Blocks.{Payloads.{outcome_told, told_by}, QueueBlocks.{homes_in, inner}}, Polling.Plans.{Follows, Table}}
+use Rattle.{layer_traits.proofs.{CallLemmas.follows_raised, CountLemmas.not_counted, PlaceLemmas.current_at}, thread_blocks.specs.Queues.is_in}
+use Rattle.condvar.specs.Waiting.{calls_wait, is_wait, is_waited, is_waiting, side_in}
 use Rattle.layer_traits.specs.declared.conditions.CvOut.TheVariants as answer
 
 -- a thread that runs is one that a machine may have

@@ -2,7 +2,7 @@
 use Rattle.{std.specs.Prelude.{Bool, true, false, List, Option, Some, None}, layer_traits.specs.declared.conditions.CvLeave.TheVariants.{Leave, Wait}}
 use Rattle.layer_traits.specs.declared.{conditions.CvOut.CvOut, locked.{QEdit.TheVariants.{Acquire, Inside, Release}, QOut.{QOut, TheVariants.Acquired}}}
 use Rattle.layer_traits.specs.declared.{locked.{QOut.TheVariants.{Queued, Did, Released}, Side.{Side, TheVariants.Receivers}}, sleeps.Outcome.Outcome}
-use Rattle.{layer_traits.specs.{Conditions.CvCall, CvLaw.Waiting, QLockLaw.Locking}, event_log.specs.declared.ids.BufId.BufId}
+use Rattle.{layer_traits.specs.Layers.{Conditions.CvCall, CvLaw.Waiting, QLockLaw.Locking}, event_log.specs.declared.ids.BufId.BufId}
 use Rattle.layer_traits.specs.declared.conditions.CvOut.TheVariants as answer
 
 -- the side of a wait; Receivers of a call that is no wait

@@ -1,7 +1,8 @@
 //! What a call on a lock with conditions says of itself. No call takes memory or waits.
 
 ghost use Rattle.std.specs.Prelude.{◌≡◌};
-ghost use Rattle.{layer_traits.specs.{Conditions.cv_rules, QLocking.lock_caller, Payloads.{cv_meant, lock_meant}}, condvar.specs.Waiting.side_in};
+ghost use Rattle.layer_traits.specs.{Layers.{Conditions.cv_rules, QLocking.lock_caller}, Blocks.Payloads.{cv_meant, lock_meant}};
+ghost use Rattle.condvar.specs.Waiting.{side_in};
 
 use event_log::Tid;
 use layer_traits::{CvEdit, CvLeave, Guarded, Parcel, QEdit, Side};

@@ -134,9 +134,9 @@ impl<G: Guarded, Q: ThreadLayer<QLockLaw<CvEdit<G>>>> ThreadLayer<CvLaw<G>> for 
 }
 
 impl<G: Guarded, Q: OwnedThreadLayer<QLockLaw<CvEdit<G>>>> OwnedThreadLayer<CvLaw<G>> for Cond<Q> {
-    ghost use Rattle.{std.specs.Prelude.{Some, refl}, event_log.specs.declared.ids.LockId.TheVariants.Buffer, layer_traits.specs.Conditions.cv_rules};
-    ghost use Rattle.layer_traits.specs.{QLockLaw.lock_kernel, QLocking.lock_after, Places.pending_by, QueueBlocks.inner, Queues.{buffer_sections, moves_in}};
-    ghost use Rattle.layer_traits.proofs.OwnedLemmas.{shown_under};
+    ghost use Rattle.{std.specs.Prelude.{Some, refl}, event_log.specs.declared.ids.LockId.TheVariants.Buffer, layer_traits.specs.Layers.Conditions.cv_rules};
+    ghost use Rattle.layer_traits.specs.{Layers.{QLockLaw.lock_kernel, QLocking.lock_after, Queues.{buffer_sections, moves_in}}, Threads.Places.pending_by};
+    ghost use Rattle.layer_traits.{specs.Blocks.QueueBlocks.inner, proofs.OwnedLemmas.shown_under};
 
     ghost block_at = { λ m b. Q.block_at m b };
 

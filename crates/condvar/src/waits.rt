@@ -1,7 +1,7 @@
 //! Who waits at which buffer. No call takes memory or waits.
 
 ghost use Rattle.std.specs.Prelude.{◌≡◌, ◌<◌, ◌&&◌, Some, None, is_some, replicate, slice_set, if◌then◌else◌};
-ghost use Rattle.{event_log.specs.declared.ids.TheConstants.THREADS, layer_traits.specs.QLockLaw.slept_for, condvar.specs.Waiting.{calls_wait, is_wait}};
+ghost use Rattle.{event_log.specs.declared.ids.TheConstants.THREADS, layer_traits.specs.Layers.QLockLaw.slept_for, condvar.specs.Waiting.{calls_wait, is_wait}};
 
 use event_log::{BufId, THREADS, Tid};
 use layer_traits::{CvEdit, CvLeave, CvOut, Outcome, QEdit, QOut};

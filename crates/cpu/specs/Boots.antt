@@ -1,8 +1,7 @@
 -- CPUs and systems at boot: their guests, and that nothing has happened.
 use Rattle.std.specs.Prelude.{◌≡◌, ℕ, ◌≤◌, ◌==◌, List, [], length, map, Option, Some, None, slice_get, if◌then◌else◌}
-use Rattle.event_log.specs.declared.{entries.Entry.Entry, ids.{CpuId.CpuId, Tid.Tid}}
-use Rattle.layer_traits.specs.{Places.{home_of}, BufferLaw.{Buffering, UnderWay}}
-use Rattle.{layer_traits.specs.BufferLaw.{buffering_at_start}, cpu.specs.{declared.guests.Guest.Guest, Guests.new_guest, Claims.listed}}
+use Rattle.{event_log.specs.declared.{entries.Entry.Entry, ids.{CpuId.CpuId, Tid.Tid}}, layer_traits.specs.{Threads.Places.home_of, Layers.BufferLaw.Buffering}}
+use Rattle.{layer_traits.specs.Layers.BufferLaw.{UnderWay, buffering_at_start}, cpu.specs.{declared.guests.Guest.Guest, Guests.new_guest, Claims.listed}}
 use Rattle.{cpu.specs.Cpus.{NamesBelow, guest_at}, boot.specs.Plan.{BootPlan, Task}}
 
 -- a CPU's guests at boot: a place for each thread; at the number of each thread at home with it, and there alone, a new guest, whose

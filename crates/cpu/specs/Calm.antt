@@ -1,7 +1,7 @@
 -- When a CPU of a system is calm, when a system is quiet, and that no trace is longer than there is room for.
 use Rattle.std.specs.Prelude.{◌≡◌, ℕ, ◌<◌, ◌≤◌, Bool, true, false, not, ◌&&◌, List, [], ◌∷◌, length, Option, Some, None, is_some, slice_get}
 use Rattle.{event_log.specs.declared.ids.{CpuId.CpuId, Tid.Tid}, layer_traits.specs.declared.steps.Reason.{Reason, TheVariants.{AllEnded, TraceFull}}}
-use Rattle.{layer_traits.specs.{declared.steps.Reason.TheVariants.StepsUsed, Places.{Threads, pending_by}}, cpu.specs.Claims.{CpuShown, Shown}}
+use Rattle.{layer_traits.specs.{declared.steps.Reason.TheVariants.StepsUsed, Threads.Places.{Threads, pending_by}}, cpu.specs.Claims.{CpuShown, Shown}}
 use Rattle.cpu.specs.Systems.{own_reason}
 
 -- whether nobody stands in a list

@@ -1,11 +1,12 @@
 -- What a system shows, and what holds of it after every list of steps.
 use Rattle.std.specs.Prelude.{◌≡◌, ◌⊎◌, ℕ, zero, suc, ◌+◌, ◌<◌, ◌≤◌, Bool, true, false, List, [], ◌∷◌, map, length, reverse, Option, Some, None, slice_get}
-use Rattle.{std.specs.{Prelude.slice_index_or, List.AllByRecursion}, event_log.specs.declared.{entries.Entry.Entry, ids.{BufId.BufId, CpuId.CpuId, Tid.Tid}}}
-use Rattle.event_log.specs.{Actions.Action, Messages.Message, Runs.{IsRun, is_closed}, Streams.IsFirstInFirstOut, Traces.IsInterleaving}
-use Rattle.{guest.specs.{declared.instructions.Instruction.Instruction, Calls.{AreProgramsCalls, HasEnded}}, layer_traits.specs.declared.calls.Call.Call}
-use Rattle.layer_traits.specs.declared.{calls.{Effect.Effect, Place.Place}, moves.WaitList.{WaitList, TheVariants.{Sleepers, Receivers, Senders}}}
-use Rattle.layer_traits.specs.{BufferEffects.contents_of, BufferLaw.Buffering, OnePlace.{StandsOnce as InOnePlace, total}, Places.{AreMoves, Stands, Step}}
-use Rattle.{layer_traits.specs.{Places.{Threads, count_in, home_of, where_is}, Observed.{IsOwnPlace, queue_place}}, thread_blocks.specs.Queues.is_in}
+use Rattle.std.specs.{Prelude.slice_index_or, List.AllByRecursion}
+use Rattle.event_log.specs.{declared.{entries.Entry.Entry, ids.{BufId.BufId, CpuId.CpuId, Tid.Tid}}, Actions.Action, Messages.Message, Runs.{IsRun, is_closed}}
+use Rattle.{event_log.specs.{Streams.IsFirstInFirstOut, Traces.IsInterleaving}, guest.specs.declared.instructions.Instruction.Instruction}
+use Rattle.{guest.specs.Calls.{AreProgramsCalls, HasEnded}, layer_traits.specs.declared.calls.{Call.Call, Effect.Effect, Place.Place}}
+use Rattle.layer_traits.specs.{declared.moves.WaitList.{WaitList, TheVariants.{Sleepers, Receivers, Senders}}, Blocks.BufferEffects.contents_of}
+use Rattle.layer_traits.specs.{Layers.BufferLaw.Buffering, Threads.{OnePlace.{StandsOnce as InOnePlace, total}, Places.{AreMoves, Stands, Step, Threads}}}
+use Rattle.{layer_traits.specs.{Threads.Places.{count_in, home_of, where_is}, Views.Observed.{IsOwnPlace, queue_place}}, thread_blocks.specs.Queues.is_in}
 use Rattle.cpu.specs.{declared.guests.Guest.Guest, Guests.{HasComeIn, is_ended}, Table.{Blocks.Name, Setups.Private}, Tables.private, Tower.Composed.named}
 use Rattle.cpu.specs.{Tower.Views.TowerName, Cpus.{IsOfHome, guest_at, of_thread, programs_of}}
 

@@ -1,9 +1,9 @@
 -- One CPU over a layer of message calls and its machine: what always holds of it, and what each of its steps leaves.
 use Rattle.std.specs.Prelude.{◌≡◌, ◌≢◌, ℕ, ◌+◌, ◌≤◌, length, Option, None, vec_capacity}
-use Rattle.layer_traits.specs.Capacities.{caps_in}
-use Rattle.{event_log.specs.declared.ids.CpuId.CpuId, layer_traits.specs.declared.{call_layers.CallLayer.Ghosts, steps.{Reason.Reason, Step.Step}}}
-use Rattle.{layer_traits.specs.{declared.steps.Step.TheVariants.Stepped, BufferLaw.MovesGrow, OwnParts.threads_in, QueueBlocks.homes_in}}
-use Rattle.cpu.specs.{declared.cpus.Cpu.Cpu, Cpus.{ActsGrow, GuestsWent, IsCpu, SeenGrows, halted_at, programs_of, reason_in}, Tables.{IsTabled, WentByTable}}
+use Rattle.layer_traits.specs.{Blocks.{Capacities.caps_in, QueueBlocks.homes_in}, declared.{call_layers.CallLayer.Ghosts, steps.{Reason.Reason, Step.Step}}}
+use Rattle.layer_traits.specs.{declared.steps.Step.TheVariants.Stepped, Layers.BufferLaw.MovesGrow, Views.OwnParts.threads_in}
+use Rattle.{event_log.specs.declared.ids.CpuId.CpuId, cpu.specs.{declared.cpus.Cpu.Cpu, Cpus.{ActsGrow, GuestsWent, IsCpu, SeenGrows, halted_at, programs_of}}}
+use Rattle.cpu.specs.{Cpus.reason_in, Tables.{IsTabled, WentByTable}}
 
 -- what always holds of the CPU
 abbrev pub IsCpuAt : {P L M : Type 0} → Ghosts P L M → M → Cpu P M → Type 0

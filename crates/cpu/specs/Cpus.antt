@@ -7,10 +7,10 @@ use Rattle.{event_log.specs.Actions.cpu_of_action, thread_blocks.specs.Queues.is
 use Rattle.{guest.specs.Instructions.{instruction_at, names_below}, layer_traits.specs.declared.calls.{Call.Call, Effect.Effect, Reply.Reply}}
 use Rattle.layer_traits.specs.declared.steps.{Reason.{Reason, TheVariants.{AllEnded, TraceFull}}, Step.{Step, TheVariants.{Stepped, Halted}}}
 use Rattle.layer_traits.specs.declared.{call_states.CallState.CallState, passes.Pass.{Pass, TheVariants.{Switch, YieldNow, Drain, MakeReady, End}}}
-use Rattle.layer_traits.specs.{Places.{Threads, home_of}, BufferLaw.{UnderWay, Calling, Passing, buffer_of, cpu_of_entry, call_state_of, reply_of}}
-use Rattle.cpu.specs.declared.{guests.{Guest.Guest, Todo.{Todo, TheVariants.{Finish, PassOn, Compute, Calls}}}, cpus.Choice.{Choice, TheVariants.Polls}}
-use Rattle.cpu.specs.{declared.cpus.Choice.TheVariants.{Passes, Computes}, Guests.{HasCome, after_pass, computed, entries_of, fresh_effect, is_begun}}
-use Rattle.cpu.specs.Guests.{is_calling, is_ended, polled, todo_of}
+use Rattle.layer_traits.specs.{Threads.Places.{Threads, home_of}, Layers.BufferLaw.{UnderWay, Calling, Passing, buffer_of, cpu_of_entry, call_state_of}}
+use Rattle.{layer_traits.specs.Layers.BufferLaw.reply_of, cpu.specs.declared.guests.{Guest.Guest, Todo.{Todo, TheVariants.{Finish, PassOn, Compute, Calls}}}}
+use Rattle.cpu.specs.{declared.cpus.Choice.{Choice, TheVariants.{Polls, Passes, Computes}}, Guests.{HasCome, after_pass, computed, entries_of, fresh_effect}}
+use Rattle.cpu.specs.Guests.{is_begun, is_calling, is_ended, polled, todo_of}
 
 -- the guest of a thread, in a table by thread
 abbrev pub guest_at : List (Option Guest) → ℕ → Option Guest

@@ -6,8 +6,8 @@ use Rattle.guest.specs.{declared.instructions.{Instruction.Instruction, Into.Int
 use Rattle.guest.specs.{State.{moved_aside, after_local, after_send, after_recv, after_close, after_closed, after_yield}, Calls.{IsProgramsCalls, HasEnded}}
 use Rattle.layer_traits.specs.declared.calls.{Call.{Call, TheVariants.{Send, Recv, Close}}, Effect.Effect, Reply.{Reply, TheVariants.{Sent, Got, Shut, Closed}}}
 use Rattle.layer_traits.specs.declared.{calls.Reply.TheVariants.NoBuffer, passes.Pass.{Pass, TheVariants.{YieldNow, End}}, call_states.CallState.CallState}
-use Rattle.{layer_traits.specs.BufferLaw.{IsEffectOf, begun_of, entry_of}, cpu.specs.declared.guests.{Guest.Guest, GuestStage.{GuestStage, TheVariants.Idle}}}
-use Rattle.cpu.specs.declared.guests.{GuestStage.TheVariants.{Begun, Done, Ended}, Todo.{Todo, TheVariants.{Finish, PassOn, Compute, Calls}}}
+use Rattle.{layer_traits.specs.Layers.BufferLaw.{IsEffectOf, begun_of, entry_of}, cpu.specs.declared.guests.{Guest.Guest, GuestStage.GuestStage}}
+use Rattle.cpu.specs.declared.guests.{GuestStage.TheVariants.{Idle, Begun, Done, Ended}, Todo.{Todo, TheVariants.{Finish, PassOn, Compute, Calls}}}
 use Rattle.event_log.specs.declared.entries.Kind.TheVariants as kind
 use Rattle.guest.specs.declared.instructions.Instruction.TheVariants as ins
 use Rattle.layer_traits.specs.declared.call_states.Stage.TheVariants as call_state_stage

@@ -2,11 +2,11 @@
 use Rattle.std.specs.Prelude.{◌≡◌, ℕ, ◌<◌, ◌≤◌, true, false, List, [], length, Some, None, slice_get, slice_index, slice_index_or}
 use Rattle.event_log.specs.declared.{entries.Kind.Kind, ids.{BufId.BufId, LockId.TheVariants.{Buffer as AtBuffer, Pending}, Tid.Tid, TheConstants.THREADS}}
 use Rattle.event_log.specs.{declared.ids.CpuId.CpuId, Actions.phase, Buffers.{IsAllowedEffect, items_of}, Messages.Message, Runs.{Group, Receives, Sends}}
-use Rattle.{event_log.specs.Runs.group_of, layer_traits.specs.{declared.{calls.Place.Place, locked.Side.Side}, Places.pending_by, Plans.is_in_section}}
-use Rattle.{thread_blocks.specs.Queues.is_in, cpu.specs.{Claims.{CpuShown, IsPlaceOf, Shown, waiters_at, buffer_at}, Cpus.halted_at as own_halted_at}}
-use Rattle.cpu.specs.{Sound.IsSetupFor, Systems.whole_of, Wakeups.Quiet.{IsLive, IsNextEffect, IsStuck}, Table.Blocks.{Buffer, OfBuffer, OfPending, front}}
-use Rattle.cpu.specs.Table.{Blocks.stands_in, Setups.{Private, Setup, home_of, stands_at, thread_at}, Steps.{Whole, block_at, cpu_numbered, halted_at}}
-use Rattle.cpu.specs.Table.Edits.{line_of, on_side}
+use Rattle.{event_log.specs.Runs.group_of, layer_traits.specs.{declared.{calls.Place.Place, locked.Side.Side}, Threads.Places.pending_by}}
+use Rattle.{layer_traits.specs.Polling.Plans.is_in_section, thread_blocks.specs.Queues.is_in, cpu.specs.Claims.{CpuShown, IsPlaceOf, Shown, waiters_at}}
+use Rattle.cpu.specs.{Claims.buffer_at, Cpus.halted_at as own_halted_at, Sound.IsSetupFor, Systems.whole_of, Wakeups.Quiet.{IsLive, IsNextEffect, IsStuck}}
+use Rattle.cpu.specs.Table.{Blocks.{Buffer, OfBuffer, OfPending, front, stands_in}, Setups.{Private, Setup, home_of, stands_at, thread_at}, Steps.Whole}
+use Rattle.cpu.specs.Table.{Steps.{block_at, cpu_numbered, halted_at}, Edits.{line_of, on_side}}
 use Rattle.layer_traits.specs.declared.calls.Place.TheVariants as place
 
 -- CPU c of the table has a private state of which this holds

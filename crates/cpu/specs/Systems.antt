@@ -1,10 +1,10 @@
 -- What always holds of a system, what its steps leave as it was, and why a CPU of it takes no step.
 use Rattle.std.specs.Prelude.{◌≡◌, ℕ, ◌+◌, ◌^◌, ◌<◌, ◌≤◌, ◌==◌, List, [], ◌∷◌, ◌++◌, length, map, Option, Some, None, slice_get, if◌then◌else◌}
-use Rattle.{std.specs.List.AllByRecursion, event_log.specs.declared.{entries.Entry.Entry, ids.{CpuId.CpuId, Tid.Tid, TheConstants.{CPUS, THREADS}}}}
-use Rattle.{event_log.specs.Actions.{Action, Rests, phase}, layer_traits.specs.declared.steps.{Reason.{Reason, TheVariants.StepsUsed}, Step.Step}}
-use Rattle.{layer_traits.specs.{declared.steps.Step.TheVariants.Stepped, Places.home_of}, cpu.specs.Table.{Setups.Setup, Steps.{Stepping, Whole, system_step}}}
-use Rattle.cpu.specs.{Table.Steps.cpu_step, Tables.IsSetupOf, Cpus.{halted_at, reason_in, step_answer}, Claims.{CpuShown, IsMoment, Shown, programs_in}}
-use Rattle.cpu.specs.{Linear.CallsGoOn}
+use Rattle.std.specs.List.{AllByRecursion}
+use Rattle.event_log.specs.{declared.{entries.Entry.Entry, ids.{CpuId.CpuId, Tid.Tid, TheConstants.{CPUS, THREADS}}}, Actions.{Action, Rests, phase}}
+use Rattle.layer_traits.specs.{declared.steps.{Reason.{Reason, TheVariants.StepsUsed}, Step.{Step, TheVariants.Stepped}}, Threads.Places.home_of}
+use Rattle.cpu.specs.{Table.{Setups.Setup, Steps.{Stepping, Whole, system_step, cpu_step}}, Tables.IsSetupOf, Cpus.{halted_at, reason_in, step_answer}}
+use Rattle.cpu.specs.{Claims.{CpuShown, IsMoment, Shown, programs_in}, Linear.CallsGoOn}
 
 -- what no step changes: capacities, homes, programs, the number of CPUs, the room of each trace, and the room for steps
 pub record SamePlan (s r : Shown) : Type 0 where

@@ -1,11 +1,11 @@
 -- A CPU's step is the step table's.
 use Rattle.std.specs.Prelude.{◌≡◌, ℕ, true, List, [], length, map, Option, Some, None}
-use Rattle.layer_traits.specs.OwnParts.{threads_in}
-use Rattle.{event_log.specs.{declared.{entries.Entry.Entry, ids.{CpuId.CpuId, LockId.LockId, Tid.Tid}}, Actions.Action}, guest.specs.State.{State, at_start}}
-use Rattle.{thread_blocks.specs.Queues.is_in, layer_traits.specs.{declared.{passes.Pass.Pass, steps.Step.Step}, Along.IsStep, Passes.IsLocalPass}}
-use Rattle.{layer_traits.specs.{Places.home_of, BufferLaw.{Buffering, UnderWay, Passing}}, cpu.specs.{declared.guests.Guest.Guest, Guests.is_ended}}
-use Rattle.cpu.specs.{Cpus.guest_at, Table.{Setups.{Setup, Private, program_of}, Steps.cpu_step}, Tower.{Views.{TowerBlock, TowerName}, Privates.private_of}}
-use Rattle.cpu.specs.Tower.{Composed.{OpensAs, named}, Positions.IsPart}
+use Rattle.layer_traits.specs.{Views.OwnParts.threads_in, declared.{passes.Pass.Pass, steps.Step.Step}, Polling.Along.IsStep, Threads.Passes.IsLocalPass}
+use Rattle.{layer_traits.specs.{Threads.Places.home_of, Layers.BufferLaw.{Buffering, UnderWay, Passing}}, event_log.specs.declared.entries.Entry.Entry}
+use Rattle.{event_log.specs.{declared.ids.{CpuId.CpuId, LockId.LockId, Tid.Tid}, Actions.Action}, guest.specs.State.{State, at_start}}
+use Rattle.{thread_blocks.specs.Queues.is_in, cpu.specs.{declared.guests.Guest.Guest, Guests.is_ended, Cpus.guest_at, Table.Setups.{Setup, Private}}}
+use Rattle.cpu.specs.{Table.{Setups.program_of, Steps.cpu_step}, Tower.{Views.{TowerBlock, TowerName}, Privates.private_of, Composed.{OpensAs, named}}}
+use Rattle.cpu.specs.Tower.Positions.{IsPart}
 
 -- the guests' states; a thread of another home stays at its start
 abbrev pub state_of : Option Guest → State

@@ -1,9 +1,8 @@
 //! One CPU over a layer of message calls. No call takes memory or waits.
 
-ghost use Rattle.layer_traits.specs.OwnParts.{threads_in};
 ghost use Rattle.std.specs.Prelude.{◌≡◌, ◌+◌, ◌<◌, true, false, ◌≤◌, [], ◌∷◌, ◌++◌, Some, None, if◌then◌else◌, length, vec_capacity};
-ghost use Rattle.layer_traits.specs.{BufferLaw.entry_of, declared.calls.Call.Call};
-ghost use Rattle.cpu.specs.{Guests.entries_of, Cpus.begins_at, Cpus.begun_count, Cpus.chosen_for, Cpus.guest_at};
+ghost use Rattle.{layer_traits.specs.{Views.OwnParts.threads_in, Layers.BufferLaw.entry_of, declared.calls.Call.Call}, cpu.specs.Guests.entries_of};
+ghost use Rattle.cpu.specs.Cpus.{begins_at, begun_count, chosen_for, guest_at};
 
 use crate::guest_tables::Guests;
 use crate::guests::{Guest, Todo};

@@ -1,8 +1,8 @@
 //! The guests of a CPU, by thread.
 
 ghost use Rattle.std.specs.{Prelude.{◌≡◌, ◌+◌, ◌^◌, ◌<◌, ◌≤◌, not, length, if◌then◌else◌, Some, None, IfSome, is_some}, List.{count_by, list_all}};
-ghost use Rattle.{layer_traits.specs.{Places.one_if, BufferLaw.answer_with, declared.calls.Call.Call}, cpu.specs.Guests.{computed, is_begun, is_ended, polled}};
-ghost use Rattle.cpu.specs.Cpus.{begun_count, fresh_at, guest_at, is_begun_guest, is_over, passed_by, stands_at, with_guest};
+ghost use Rattle.{layer_traits.specs.{Threads.Places.one_if, Layers.BufferLaw.answer_with, declared.calls.Call.Call}, cpu.specs.Guests.{computed, is_begun}};
+ghost use Rattle.cpu.specs.{Guests.{is_ended, polled}, Cpus.{begun_count, fresh_at, guest_at, is_begun_guest, is_over, passed_by, stands_at, with_guest}};
 
 use crate::guests::{Guest, GuestStage};
 use event_log::{BufId, Tid};

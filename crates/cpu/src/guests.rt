@@ -1,7 +1,7 @@
 //! A thread's guest as its CPU keeps it.
 
 ghost use Rattle.std.specs.Prelude.{◌≡◌, Option, Some, None, if◌then◌else◌};
-ghost use Rattle.layer_traits.specs.{declared.calls.{Call.Call, Effect.Effect}, BufferLaw.{answer_with, reply_with}};
+ghost use Rattle.layer_traits.specs.{declared.calls.{Call.Call, Effect.Effect}, Layers.BufferLaw.{answer_with, reply_with}};
 ghost use Rattle.cpu.specs.declared.guests.Todo.TheVariants.{Calls};
 
 use event_log::BufId;

@@ -6,10 +6,9 @@ mod opening;
 mod plans;
 mod quiet;
 
-ghost use Rattle.layer_traits.specs.{Capacities.caps_in, OwnParts.threads_in, QueueBlocks.homes_in};
-ghost use Rattle.std.specs.Prelude.{◌≡◌, ◌+◌, ◌<◌, ◌≤◌, ◌↔◌, true, false, All, IfSome, IsOk, OnErr, OnOk, Some, None, [], length, map};
-ghost use Rattle.std.specs.Prelude.{slice_index_or, replicate, take};
-ghost use Rattle.layer_traits.specs.Spins.{BeginWith};
+ghost use Rattle.std.specs.Prelude.{◌≡◌, ◌+◌, ◌<◌, ◌≤◌, ◌↔◌, true, false, All, IfSome, IsOk, OnErr, OnOk, Some, None, [], length, map, slice_index_or};
+ghost use Rattle.std.specs.Prelude.{replicate, take};
+ghost use Rattle.layer_traits.specs.{Blocks.{Capacities.caps_in, QueueBlocks.homes_in}, Views.OwnParts.threads_in, Polling.Spins.BeginWith};
 
 use crate::cpus::Cpu;
 use arrayvec::ArrayVec;
@@ -42,8 +41,8 @@ where
     I::Machine: Drop,
 {
     ghost use Rattle.std.specs.Prelude.{◌≡◌, length, map, vec_capacity};
-    ghost use Rattle.layer_traits.specs.{Capacities.caps_in, OwnParts.threads_in, QueueBlocks.homes_in};
-    ghost use Rattle.cpu.specs.{Cpus.IsCpu, Claims.Shown, Claims.cpu_shown, Claims.shown_of, Tables.IsTabled, Sound.IsReachedByTable, Systems.IsSystem};
+    ghost use Rattle.{layer_traits.specs.{Blocks.{Capacities.caps_in, QueueBlocks.homes_in}, Views.OwnParts.threads_in}, cpu.specs.{Cpus.IsCpu, Claims.Shown}};
+    ghost use Rattle.cpu.specs.{Claims.{cpu_shown, shown_of}, Tables.IsTabled, Sound.IsReachedByTable, Systems.IsSystem};
 
     ghost Value = { Shown };
 

@@ -6,18 +6,19 @@ use Rattle.event_log.specs.{declared.ids.{BufId.BufId, CpuId.CpuId, LockId.{Lock
 use Rattle.event_log.specs.{Actions.{acts_of, renamed}, Buffers.items_of, Runs.is_closed, History.IsLawful, Sections.{Section, block_after, renamed_section}}
 use Rattle.event_log.{specs.Sections.sections_in, proofs.{Foreign.sections_acts, Renaming.{legal_renamed, sections_in_renamed}, Same.same_lock_true}}
 use Rattle.{event_log.proofs.Tickets.legal_acts, layer_traits.specs.declared.{buffer_edits.BufferEdit.BufferEdit, conditions.{CvEdit.CvEdit, CvLeave.CvLeave}}}
-use Rattle.layer_traits.specs.{declared.{queue_edits.{QueueBlock.QueueBlock, QueueEdit.QueueEdit}, queues.QueueEvent.QueueEvent}, Acted.{ItemsAre, guarded}}
-use Rattle.layer_traits.specs.{BufferEffects.{MayTakeEffect, contents_of, effects_in}, BufferProtocol.{BufferLock, buffer_monitor_rules}, Conditions.CvCall}
-use Rattle.layer_traits.specs.{Conditions.cv_rules, IpcLaw.OpensSo, QLockLaw.lock_kernel, QLocking.lock_edited, OneLock.opened, QueueBlocks.StartsWell}
-use Rattle.layer_traits.specs.{QueueBlocks.above_of, QueueRules.{AreProper, queue_edited}, Queues.{QueueAllowed, buffer_sections, event_of}}
-use Rattle.layer_traits.specs.{Renaming.{renamed_edit, renamed_events, viewed, viewed_block}, Sleeping.sleep_edited, WordsProtocol.{MayCome, edit_of, sections}}
-use Rattle.layer_traits.{specs.Laws.Openings.opens_so, proofs.KernelRenaming.{homes_viewed, proper_renamed, seen_renamed, starts_viewed, viewed_there}}
-use Rattle.layer_traits.proofs.{NestedLemmas.{lawful_events, lawful_proper}, PlanRenaming.block_viewed, Seen.{sections_allowed, words_legal}}
+use Rattle.layer_traits.specs.{declared.{queue_edits.{QueueBlock.QueueBlock, QueueEdit.QueueEdit}, queues.QueueEvent.QueueEvent}, Views.Acted.ItemsAre}
+use Rattle.layer_traits.specs.{Views.{Acted.guarded, Renaming.{renamed_edit, renamed_events, viewed, viewed_block}}, Blocks.BufferEffects.MayTakeEffect}
+use Rattle.layer_traits.specs.Blocks.{BufferEffects.{contents_of, effects_in}, BufferProtocol.{BufferLock, buffer_monitor_rules}, QueueBlocks.StartsWell}
+use Rattle.layer_traits.specs.{Blocks.{QueueBlocks.above_of, QueueRules.{AreProper, queue_edited}}, Layers.{Conditions.{CvCall, cv_rules}, IpcLaw.OpensSo}}
+use Rattle.layer_traits.specs.Layers.{QLockLaw.lock_kernel, QLocking.lock_edited, Queues.{QueueAllowed, buffer_sections, event_of}, Sleeping.sleep_edited}
+use Rattle.layer_traits.specs.{Protocols.{OneLock.opened, WordsProtocol.{MayCome, edit_of, sections}}, Laws.Openings.opens_so}
+use Rattle.layer_traits.proofs.{KernelRenaming.{homes_viewed, proper_renamed, seen_renamed, starts_viewed, viewed_there}, NestedLemmas.lawful_events}
+use Rattle.layer_traits.proofs.{NestedLemmas.lawful_proper, PlanRenaming.block_viewed, Seen.{sections_allowed, words_legal}}
 use Rattle.sleep_wakeup.specs.{Laws.NestedLaws.nested_lawful, Nested.{nested_edited, nested_moves, nested_rules, state_of}}
 use Rattle.queuing_lock.specs.{declared.edits.QLockEdit.QLockEdit, Laws.NestedLaws.locks_lawful, Nested.{busy_rules, nested_lock_of}}
 use Rattle.fifo_buffer.{specs.Laws.{OwnedLaws.items_acted, Tallies.effects_lawful}, proofs.Opening.{boots_well, caps_are}}
 use Rattle.{table_machine.specs.SeatViews.TableView, cpu.specs.{Table.{Setups.{Setup, opening as table_opening}, Steps.block_at}, Tower.Composed.named}}
-use Rattle.cpu.{specs.Tower.Views.{TowerBlock, TowerName, view}, proofs.{TableCalls.opens_so as opens_as, PartsOfTable.block_read}}
+use Rattle.cpu.{specs.Tower.Views.{TowerBlock, TowerName, view}, proofs.StepTable.{TableCalls.opens_so as opens_as, PartsOfTable.block_read}}
 use Rattle.cpu_workers.specs.{Closing.{LockBlock, LockEdit, StartsSo, WordsOfTower, acts_in, blocks_read, seen_above, tower_rules}, Lawful.messages_in}
 use Rattle.cpu_workers.specs.Orders.{effects_of}
 use Rattle.sleep_wakeup.specs.Nested as sleep

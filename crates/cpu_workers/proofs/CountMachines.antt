@@ -1,8 +1,8 @@
 -- The number of an owned machine at rest: that of its actions which gave the lock on.
 use Rattle.std.{proofs.Common.{arith, ◌≡◌, ℕ, ◌%◌, ◌^◌, true, List, [], ◌∷◌, Option, Some, None, refl, sym, ap, ◌∙◌}, specs.Prelude.IsSome}
 use Rattle.event_log.specs.{declared.ids.{CpuId.CpuId, LockId.LockId}, Sections.{Section, block_after, sections_in}, Actions.{Action, Rests, gives, phase}}
-use Rattle.{layer_traits.specs.{Owned.IsObserved, Plans.is_in_section}, cpu_workers.specs.{declared.counting.AddOne.AddOne, Counts.{counting, sections_at}}}
-use Rattle.cpu_workers.proofs.Counts.{number_is}
+use Rattle.{layer_traits.specs.{Views.Owned.IsObserved, Polling.Plans.is_in_section}, cpu_workers.specs.{declared.counting.AddOne.AddOne, Counts.counting}}
+use Rattle.cpu_workers.{specs.Counts.sections_at, proofs.Counts.number_is}
 
 -- as many sections as gives
 pub gives_are_sections : {E : Type 0} (lock : LockId) (acts : List (Action E)) → sections_at lock (sections_in acts) ≡ gives lock acts

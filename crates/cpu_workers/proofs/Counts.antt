@@ -4,8 +4,8 @@ use Rattle.std.proofs.Common.{inl, inr, if◌then◌else◌, Option, None, Some,
 use Rattle.std.{proofs.Common.{zero-add, mod-eq_of_lt, arith}, specs.List.AllByRecursion}
 use Rattle.cpu_workers.proofs.{TableKeys.{Back, one_site, came_at}, OneOrder.all_within, Joining.{both_more, both_length}}
 use Rattle.cpu_workers.specs.{declared.counting.{AddOne.AddOne, TheConstants.NUMBER}, Counts.{counting, sections_at, made, HasMade, AllHaveMade}}
-use Rattle.{cpu_workers.specs.Counts.IsNumberOfFrees, layer_traits.specs.{OnePlace.{total, cpu_at}, declared.edits.Mark.Mark, OneLock.opened}}
-use Rattle.layer_traits.{specs.{WordsProtocol.{edit_of, sections}, BufferLaw.MayGoOn}, proofs.OnePlaceLemmas.{total_same, total_none}}
+use Rattle.{cpu_workers.specs.Counts.IsNumberOfFrees, layer_traits.specs.{Threads.OnePlace.{total, cpu_at}, declared.edits.Mark.Mark, Protocols.OneLock.opened}}
+use Rattle.layer_traits.{specs.{Protocols.WordsProtocol.{edit_of, sections}, Layers.BufferLaw.MayGoOn}, proofs.OnePlaceLemmas.{total_same, total_none}}
 use Rattle.table_machine.{proofs.Fresh.length_new, specs.SeatViews.{TableView, SeatView, site_of, new_seat_view, new_seat_views, Closes}}
 use Rattle.event_log.{proofs.{Foreign.own_others, Same.{same_cpu_self, same_lock_self}}, specs.declared.ids.{TheConstants.CPUS, CpuId.CpuId, LockId.LockId}}
 use Rattle.event_log.specs.{declared.events.Event.Event, History.{own_events, same_lock, AreOthers}, WordsLog.{Idle, cpu_of_event, frees, lock_phase}}

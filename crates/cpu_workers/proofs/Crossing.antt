@@ -5,24 +5,24 @@ use denote.Ref.{NamedLft}
 use denote.Hole.{as_row}
 use denote.Param.SendFields.{declared_send}
 use denote.Param.Send.{IsSend, IsSync, sendable, array_send, enum_send, enum_sync, recorded_send, recorded_sync, view_send}
-use Rattle.{std.{proofs.Crossing.crosses, specs.contracts.option.Option.the_row as option_row}, layer_traits.specs.Payloads.{buffer_meant, buffer_told}}
-use Rattle.layer_traits.specs.{Payloads.{cv_meant, cv_told, lock_told, queue_meant, queue_told}, contracts.queue_edits.QueueBlock.the_field as block_field}
-use Rattle.layer_traits.specs.contracts.queue_edits.{QueueBlock.{the_row as block_row, the_type as block_type}, QueueEdit.the_row as edit_row}
-use Rattle.layer_traits.specs.contracts.queue_edits.{QueueAnswer.the_row as queue_answer_row, BareQueueAnswer.the_row as bare_answer_row}
-use Rattle.layer_traits.specs.contracts.{calls.Call.the_row as call_row, call_states.CallState.{the_row as call_state_row, the_type as call_state_type}}
-use Rattle.layer_traits.specs.contracts.{payloads.Ghost.the_row as ghost_of_row, conditions.{CvEdit.the_row as cv_edit_row, CvLeave.the_row as cv_leave_row}}
-use Rattle.layer_traits.specs.contracts.{conditions.CvOut.the_row as cv_out_row, buffer_edits.BufferEdit.the_row as buffer_edit_row}
-use Rattle.layer_traits.specs.contracts.buffer_edits.{BareBufferEdit.the_row as bare_edit_row, BufferOut.the_row as buffer_out_row}
-use Rattle.layer_traits.specs.contracts.{buffer_edits.BareBufferOut.the_row as bare_out_row, edits.Mark.the_row as mark_row}
-use Rattle.layer_traits.specs.contracts.{buffer_blocks.BufferBlock.the_row as buffer_block_row, sleeps.Outcome.the_row as outcome_row}
-use Rattle.layer_traits.{specs.contracts.locked.QOut.the_row as lock_out_row, proofs.block_box.BlockBox.TheSendSync.the_send as box_send}
-use Rattle.layer_traits.proofs.{block_box.BlockBox.TheSendSync.the_sync as box_sync, buffer_edits.BareBufferOut.TheSendSync.the_send as bare_out_send}
-use Rattle.layer_traits.proofs.{conditions.CvOut.TheSendSync.the_send as cv_out_send, locked.QOut.TheSendSync.the_send as lock_out_send}
-use Rattle.layer_traits.proofs.{sleeps.Outcome.TheSendSync.the_send as outcome_send, payloads.Parcel.TheSendSync.the_send as parcel_send}
-use Rattle.layer_traits.proofs.{payloads.Payload.TheSendSync.the_send as payload_send, call_states.Stage.TheSendSync.the_send as stage_send}
-use Rattle.layer_traits.proofs.{calls.Effect.TheSendSync.the_send as effect_send, buffer_blocks.BufferBlock.TheSendSync.the_send as buffer_block_send}
-use Rattle.{layer_traits.proofs.buffer_blocks.BufferBlock.TheSendSync.the_sync as buffer_block_sync, queuing_lock.specs.Nested.section_meant}
-use Rattle.queuing_lock.specs.contracts.edits.{QLockEdit.the_row as lock_edit_row, QBlock.the_row as lock_block_row}
+use Rattle.{std.{proofs.Crossing.crosses, specs.contracts.option.Option.the_row as option_row}, layer_traits.specs.Blocks.Payloads.{buffer_meant, buffer_told}}
+use Rattle.layer_traits.specs.Blocks.Payloads.{cv_meant, cv_told, lock_told, queue_meant, queue_told}
+use Rattle.layer_traits.specs.contracts.queue_edits.QueueBlock.{the_field as block_field, the_row as block_row, the_type as block_type}
+use Rattle.layer_traits.specs.contracts.queue_edits.{QueueEdit.the_row as edit_row, QueueAnswer.the_row as queue_answer_row}
+use Rattle.layer_traits.specs.contracts.{queue_edits.BareQueueAnswer.the_row as bare_answer_row, calls.Call.the_row as call_row}
+use Rattle.layer_traits.specs.contracts.{call_states.CallState.{the_row as call_state_row, the_type as call_state_type}, payloads.Ghost.the_row as ghost_of_row}
+use Rattle.layer_traits.specs.contracts.conditions.{CvEdit.the_row as cv_edit_row, CvLeave.the_row as cv_leave_row, CvOut.the_row as cv_out_row}
+use Rattle.layer_traits.specs.contracts.buffer_edits.{BufferEdit.the_row as buffer_edit_row, BareBufferEdit.the_row as bare_edit_row}
+use Rattle.layer_traits.specs.contracts.buffer_edits.{BufferOut.the_row as buffer_out_row, BareBufferOut.the_row as bare_out_row}
+use Rattle.layer_traits.specs.contracts.{edits.Mark.the_row as mark_row, buffer_blocks.BufferBlock.the_row as buffer_block_row}
+use Rattle.layer_traits.specs.contracts.{sleeps.Outcome.the_row as outcome_row, locked.QOut.the_row as lock_out_row}
+use Rattle.layer_traits.proofs.block_box.BlockBox.TheSendSync.{the_send as box_send, the_sync as box_sync}
+use Rattle.layer_traits.proofs.{buffer_edits.BareBufferOut.TheSendSync.the_send as bare_out_send, conditions.CvOut.TheSendSync.the_send as cv_out_send}
+use Rattle.layer_traits.proofs.{locked.QOut.TheSendSync.the_send as lock_out_send, sleeps.Outcome.TheSendSync.the_send as outcome_send}
+use Rattle.layer_traits.proofs.payloads.{Parcel.TheSendSync.the_send as parcel_send, Payload.TheSendSync.the_send as payload_send}
+use Rattle.layer_traits.proofs.{call_states.Stage.TheSendSync.the_send as stage_send, calls.Effect.TheSendSync.the_send as effect_send}
+use Rattle.layer_traits.proofs.buffer_blocks.BufferBlock.TheSendSync.{the_send as buffer_block_send, the_sync as buffer_block_sync}
+use Rattle.queuing_lock.specs.{Nested.section_meant, contracts.edits.{QLockEdit.the_row as lock_edit_row, QBlock.the_row as lock_block_row}}
 use Rattle.{queuing_lock.proofs.edits.QBlock.TheSendSync.{the_send as lock_block_send, the_sync as lock_block_sync}, sleep_wakeup.specs.Nested.nested_meant}
 use Rattle.sleep_wakeup.specs.{Nested.nested_told, contracts.edits.{SleepEdit.the_row as sleep_edit_row, SleepBlock.the_row as sleep_block_row}}
 use Rattle.sleep_wakeup.specs.contracts.{deferred.DeferredOutcome.{the_row as deferred_row, the_type as deferred_type}, sleeper.Sleeper.the_row as sleeper_row}

@@ -1,8 +1,8 @@
 -- Loops that go over a list and put one thing for each of its elements into another, which has room for all.
 use Rattle.std.proofs.Common.{◌≡◌, ℕ, zero, suc, ◌+◌, ◌<◌, ◌≤◌, List, [], ◌∷◌, ◌++◌, length, map, drop, Some, ap, sym, ◌∙◌, subst, length-append, arith}
 use Rattle.std.{proofs.lemmas.List.length-drop, specs.Prelude.{slice_get, slice_index_or}}
-use Rattle.{cpu.proofs.InvariantAtBoot.{at_end, drop_more}, cpu_workers.{specs.Reports.Both, proofs.Joining.{both_length, both_more, no_more, room_for}}}
-use Rattle.cpu_workers.proofs.Joining.{yield_more}
+use Rattle.{cpu.proofs.WholeSystems.InvariantAtBoot.{at_end, drop_more}, cpu_workers.{specs.Reports.Both, proofs.Joining.{both_length, both_more, no_more}}}
+use Rattle.cpu_workers.proofs.Joining.{room_for, yield_more}
 
 -- How far such a loop has come: these elements are done, and for each the other list has what belongs to it.
 pub record Filling {A B : Type 0} (Fits : A → B → Type 0) (all past rest : List A) (done : List B) (capacity : ℕ) : Type 0 where

@@ -6,14 +6,15 @@ use Rattle.event_log.specs.declared.{entries.Entry.Entry, ids.{BufId.BufId, CpuI
 use Rattle.event_log.specs.{Actions.{Action, Take, Try, Give, renamed, cpu_of_action}, History.{same_cpu, own_events}, Sections.sections_in}
 use Rattle.{event_log.proofs.Foreign.own_append, layer_traits.specs.declared.locked.{QEdit.TheVariants.Inside, Side.{Side, TheVariants.{Receivers, Senders}}}}
 use Rattle.layer_traits.specs.declared.{conditions.CvEdit.TheVariants.Edit, buffer_edits.BufferEdit.{BufferEdit, TheVariants.{TryPut, TryTake}}}
-use Rattle.layer_traits.specs.{declared.queue_edits.QueueEdit.TheVariants.{Push, TakeAll, Above}, Acted.guarded, BufferBlocks.is_next, BufferEffects.effect_of}
-use Rattle.layer_traits.specs.{BufferEffects.{effect_on, opening_locks, drawn}, BufferProtocol.{BufferSection, BufferLock, buffer_rules, buffer_at as lock_at}}
-use Rattle.layer_traits.specs.{Conditions.CvCall, Protocol.section, QueueBlocks.{StartsWell, above_of, inner}, QueueRules.AreProper, Queues.buffer_at}
-use Rattle.layer_traits.{specs.{Queues.{buffer_sections, event_of}, QLocking.lock_after}, proofs.{ActedLemmas.lock_is, PlanRenaming.map-append}}
-use Rattle.cpu.specs.{Cpus.of_cpu, Table.{Setups.{Setup, opening as table_opening}, Steps.block_at}, Tower.{Composed.named, Views.{TowerBlock, TowerName}}}
-use Rattle.cpu.{specs.{Tower.Views.{name_of, view}, Wakeups.Lost.IsWorked}, proofs.{PartsOfTable.block_read, RealTime.come, Wakeups.CpusByTable.worked_fair}}
-use Rattle.cpu_workers.{specs.{Fronts.IsFront, Orders.{IsTraceOf, effects_of}}, proofs.{OneOrder.{adds, fronts_keep_order}, TableTraces.{FrontOf, front_of}}}
-use Rattle.{cpu_workers.proofs.{TableTraces.{grown, total}, ThreadsFollow.threads_follow}, fifo_buffer.specs.Laws.Tallies.effect_position}
+use Rattle.layer_traits.specs.{declared.queue_edits.QueueEdit.TheVariants.{Push, TakeAll, Above}, Views.Acted.guarded, Blocks.BufferBlocks.is_next}
+use Rattle.layer_traits.specs.Blocks.{BufferEffects.{effect_of, effect_on, opening_locks, drawn}, BufferProtocol.{BufferSection, BufferLock, buffer_rules}}
+use Rattle.layer_traits.specs.Blocks.{BufferProtocol.buffer_at as lock_at, QueueBlocks.{StartsWell, above_of, inner}, QueueRules.AreProper}
+use Rattle.layer_traits.specs.{Layers.{Conditions.CvCall, Queues.{buffer_at, buffer_sections, event_of}, QLocking.lock_after}, Protocols.Protocol.section}
+use Rattle.{layer_traits.proofs.{ActedLemmas.lock_is, PlanRenaming.map-append}, cpu.specs.{Cpus.of_cpu, Table.Setups.{Setup, opening as table_opening}}}
+use Rattle.cpu.specs.{Table.Steps.block_at, Tower.{Composed.named, Views.{TowerBlock, TowerName, name_of, view}}, Wakeups.Lost.IsWorked}
+use Rattle.{cpu.proofs.{StepTable.PartsOfTable.block_read, WholeSystems.RealTime.come, Wakeups.CpusByTable.worked_fair}, cpu_workers.specs.Fronts.IsFront}
+use Rattle.cpu_workers.{specs.Orders.{IsTraceOf, effects_of}, proofs.{OneOrder.{adds, fronts_keep_order}, TableTraces.{FrontOf, front_of, grown, total}}}
+use Rattle.{cpu_workers.proofs.ThreadsFollow.threads_follow, fifo_buffer.specs.Laws.Tallies.effect_position}
 use Rattle.layer_traits.specs.declared.queue_edits.QueueBlock.TheVariants as block
 
 -- An effect comes just where the table's block lets it.

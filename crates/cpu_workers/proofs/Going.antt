@@ -3,9 +3,10 @@ use Rattle.std.proofs.Common.{arith, ◌≡◌, List, [], ◌∷◌, ◌++◌, O
 use Rattle.std.proofs.Common.{ap, sym, ◌∙◌, subst, append_assoc}
 use Rattle.event_log.{specs.declared.{entries.Entry.Entry, ids.{CpuId.CpuId, Tid.Tid}}, proofs.Same.same_cpu_self}
 use Rattle.layer_traits.specs.declared.{calls.{Call.Call, Effect.Effect, Reply.Reply}, call_states.{CallState.CallState, Stage.{Stage, TheVariants.Idle}}}
-use Rattle.layer_traits.specs.{declared.passes.Pass.{Pass, TheVariants.End}, BufferLaw.{Answered, Called, IsEffectOf, OthersSeen, RunsOn, buffer_of}}
-use Rattle.layer_traits.specs.{BufferLaw.{call_state_of, entry_of, Calling, begun, begun_at, going, going_at, still_calling}, Places.Threads, Passes.pass_after}
-use Rattle.{cpu.{specs.{Cpus.of_cpu, Guests.entries_of}, proofs.GuestLists.cpu_same}, cpu_workers.specs.Calls.{Ends, IsOn, IsOne, KeepsOn, Returned, Went}}
+use Rattle.layer_traits.specs.{declared.passes.Pass.{Pass, TheVariants.End}, Layers.BufferLaw.{Answered, Called, IsEffectOf, OthersSeen, RunsOn, buffer_of}}
+use Rattle.layer_traits.specs.{Layers.BufferLaw.{call_state_of, entry_of, Calling, begun, begun_at, going, going_at, still_calling}, Threads.Places.Threads}
+use Rattle.{layer_traits.specs.Threads.Passes.pass_after, cpu.{specs.{Cpus.of_cpu, Guests.entries_of}, proofs.ListFacts.GuestLists.cpu_same}}
+use Rattle.cpu_workers.specs.Calls.{Ends, IsOn, IsOne, KeepsOn, Returned, Went}
 
 -- what a poll leaves of a call, before its answer is read
 pub record Half (cpu : CpuId) (t : Tid) (call : Call) (effect : Option Effect) (old new : List Entry) : Type 0 where

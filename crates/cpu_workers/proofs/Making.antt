@@ -2,9 +2,9 @@
 use Rattle.std.proofs.Common.{arith, ◌≡◌, ℕ, Bool, List, [], ◌∷◌, sym, ◌∙◌, subst}
 use Rattle.event_log.specs.{declared.{entries.{Entry.Entry, Kind.Kind}, ids.{BufId.BufId, CpuId.CpuId}}, Buffers.IsAllowedEffect, History.IsLawful}
 use Rattle.{event_log.specs.{Messages.Message, Runs.{Closes, Receives, Sends, group_of}}, layer_traits.specs.declared.calls.Call.TheVariants.{Send, Recv}}
-use Rattle.layer_traits.specs.{declared.calls.{Call.TheVariants.Close, Effect.Effect, Reply.Reply}, BufferEffects.{MayTakeEffect, entry}}
-use Rattle.{layer_traits.specs.BufferLaw.{reply_to_recv, reply_to_send}, cpu.specs.Cpus.of_cpu, cpu_workers.specs.Callers.{CallerView, CarriesNone, HasCalled}}
-use Rattle.cpu_workers.specs.Callers.{HasMade, with_call}
+use Rattle.layer_traits.specs.{declared.calls.{Call.TheVariants.Close, Effect.Effect, Reply.Reply}, Blocks.BufferEffects.{MayTakeEffect, entry}}
+use Rattle.{layer_traits.specs.Layers.BufferLaw.{reply_to_recv, reply_to_send}, cpu.specs.Cpus.of_cpu, cpu_workers.specs.Callers.{CallerView, CarriesNone}}
+use Rattle.cpu_workers.specs.Callers.{HasCalled, HasMade, with_call}
 use Rattle.event_log.specs.declared.entries.Kind.TheVariants as kind
 use Rattle.layer_traits.specs.declared.calls.Reply.TheVariants as reply
 

@@ -2,8 +2,8 @@
 use Rattle.std.proofs.{lemmas.{Option.slice_get_within, List.length-map}, Common.{◌≡◌, ℕ, List, length, map, Some, slice_get, ◌∙◌, subst}}
 use Rattle.cpu_workers.{proofs.{TableKeys.{Back, as_many}, SeatViews.{SameActs, left_at}}, specs.{Callers.CallerView, Closing.{Key, tower_rules}}}
 use Rattle.{cpu_workers.specs.{Natives.{HasLeftCalls, HaveLeftKeys}, Seating.{Block, Edit, tower_acts}}, event_log.specs.{Actions.Action, History.IsLawful}}
-use Rattle.{layer_traits.specs.{OneLock.opened, OnePlace.cpu_at, WordsProtocol.MayCome}, table_machine.specs.SeatViews.{TableView, new_seat_views, site_of}}
-use Rattle.cpu.proofs.ListReads.{shows_at, there_is}
+use Rattle.{layer_traits.specs.{Protocols.{OneLock.opened, WordsProtocol.MayCome}, Threads.OnePlace.cpu_at}, table_machine.specs.SeatViews.TableView}
+use Rattle.{table_machine.specs.SeatViews.{new_seat_views, site_of}, cpu.proofs.ListFacts.ListReads.{shows_at, there_is}}
 
 module _ {N X : Type 0} (Kept : N → N → CallerView → Type 0) (caps : List ℕ) (table_view : TableView Block) (natives : List N) (left : List X)
     (machine : X → Key) (native_of : X → N) (acts : Key → List (Action Edit)) (same : SameActs acts) where

@@ -1,10 +1,11 @@
 -- Natives and what they leave, by their places in the lists.
-use Rattle.std.proofs.{Common.{◌≡◌, ℕ, zero, suc, ◌+◌, ◌<◌, ◌≤◌, false, All, List, [], ◌∷◌, ◌++◌}}
-use Rattle.std.{proofs.Common.{length, Some, slice_get, ap, sym, ◌∙◌, subst, arith}, specs.{List.AllByRecursion, Prelude.{IfOk, Result}}}
+use Rattle.std.proofs.Common.{◌≡◌, ℕ, zero, suc, ◌+◌, ◌<◌, ◌≤◌, false, All, List, [], ◌∷◌, ◌++◌, length, Some, slice_get, ap, sym, ◌∙◌, subst, arith}
+use Rattle.std.specs.{List.AllByRecursion, Prelude.{IfOk, Result}}
 use Rattle.event_log.specs.{declared.ids.{CpuId.CpuId, TheConstants.{BUFFERS, CPUS}}, Actions.{Action, phase}, Buffers.IsCapacity}
-use Rattle.{layer_traits.specs.{OnePlace.cpu_at, Openings.AreOpenable, Plans.is_in_section}, cpu.specs.{Claims.listed, Tower.Views.TowerName}}
-use Rattle.{cpu.proofs.{ListReads.listed_length, PlanGuests.listed_more}, cpu_workers.specs.{Callers.CallerView, Natives.{HasKept, HasLeftCalls}}}
-use Rattle.cpu_workers.{specs.{Natives.{HasLeftMachine, IsNewCaller, own_homes}, Orders.IsTraceOf}, proofs.Joining.{all_at, all_by_number}}
+use Rattle.{layer_traits.specs.{Threads.OnePlace.cpu_at, Views.Openings.AreOpenable, Polling.Plans.is_in_section}, cpu.specs.Claims.listed}
+use Rattle.cpu.{specs.Tower.Views.TowerName, proofs.{ListFacts.ListReads.listed_length, WholeSystems.PlanGuests.listed_more}}
+use Rattle.cpu_workers.specs.{Callers.CallerView, Natives.{HasKept, HasLeftCalls, HasLeftMachine, IsNewCaller, own_homes}, Orders.IsTraceOf}
+use Rattle.cpu_workers.proofs.Joining.{all_at, all_by_number}
 
 -- natives at new callers are ready, if the buffers are as they need them
 pub all_ready : {N T : Type 0} (Needs : N → List ℕ → Type 0) (caller : T → CallerView) (native : T → N) (caps : List ℕ) (natives : List N) (tasks : List T)

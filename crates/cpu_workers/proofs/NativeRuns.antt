@@ -4,8 +4,8 @@ use Rattle.std.proofs.lemmas.{List.length-map, Nat.mul-le}
 use Rattle.cpu_workers.specs.{Natives.{HasRunNative, HaveLeftKeys, HaveRun, OpensWith, left_of, own_homes}, declared.workers.callers.TheConstants.MOST_CALLS}
 use Rattle.cpu_workers.{specs.{Callers.CallerView, Closing.{Key, StartsSo, acts_in, tower_rules}, Orders.IsTraceOf, Seating.Block}, proofs.TableOrder.HasCome}
 use Rattle.{cpu_workers.proofs.TableOrder.ordered, event_log.specs.declared.{entries.Entry.Entry, ids.{CpuId.CpuId, LockId.LockId, TheConstants.BUFFERS}}}
-use Rattle.{event_log.{specs.declared.ids.TheConstants.CPUS, proofs.Streams.taken_put}, layer_traits.specs.{OneLock.opened, OnePlace.cpu_at}}
-use Rattle.{table_machine.specs.SeatViews.{Closes, TableView}, cpu.{specs.Table.Setups.Setup, proofs.ListReads.{shows_at, there_is}}}
+use Rattle.{event_log.{specs.declared.ids.TheConstants.CPUS, proofs.Streams.taken_put}, layer_traits.specs.{Protocols.OneLock.opened, Threads.OnePlace.cpu_at}}
+use Rattle.{table_machine.specs.SeatViews.{Closes, TableView}, cpu.{specs.Table.Setups.Setup, proofs.ListFacts.ListReads.{shows_at, there_is}}}
 
 -- One of each.
 

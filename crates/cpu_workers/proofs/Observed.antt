@@ -1,7 +1,7 @@
 -- What the workers of a plan left is a lawful report of one words log.
 use Rattle.std.{proofs.{Common.{ℕ, ◌*◌, ◌^◌, ◌<◌, ◌≤◌, List, refl, sym, subst, arith}, lemmas.Nat.mul-le}, specs.Prelude.{◌≡◌}}
 use Rattle.{boot.specs.Plan.{BootPlan, IsPlan}, event_log.specs.declared.{entries.Entry.Entry, ids.{CpuId.CpuId, LockId.LockId, TheConstants.{CPUS, ENTRIES}}}}
-use Rattle.{event_log.specs.declared.ids.TheConstants.TRACE, layer_traits.specs.OneLock.opened, cpu.specs.Sound.setup_for}
+use Rattle.{event_log.specs.declared.ids.TheConstants.TRACE, layer_traits.specs.Protocols.OneLock.opened, cpu.specs.Sound.setup_for}
 use Rattle.cpu_workers.specs.{declared.workers.{gates.Go.Go, stops.Stop.Stop}, Closing.{shown, Key, tower_rules}, Lawful.CpuReport, Logs.HasWords}
 use Rattle.{cpu_workers.{specs.Seating.{Block, OpensPlan, HaveLeft}, proofs.Reporting.{has_seen, of_words}}, table_machine.specs.SeatViews.{TableView, Closes}}
 

@@ -6,10 +6,11 @@ use Rattle.std.specs.{List.{AllByRecursion, sum_by}, Prelude.slice_set}
 use Rattle.event_log.specs.{declared.{entries.Entry.Entry, ids.{CpuId.CpuId, LockId.TheVariants.Buffer}}, Actions.{Action, Take, Try, Give, cpu_of_action}}
 use Rattle.event_log.specs.{History.{AreOthers, IsLawful, own_events, same_cpu}, Runs.IsRun, Sections.sections_in, Traces.IsInterleaving}
 use Rattle.{event_log.proofs.Same.same_cpu_self, layer_traits.specs.declared.queue_edits.QueueEdit.TheVariants.{Push, TakeAll, Above}}
-use Rattle.layer_traits.specs.{BufferEffects.{MayTakeEffect, contents_of, drawn, effect_of, opening_locks}, BufferProtocol.BufferSection}
-use Rattle.layer_traits.specs.{BufferProtocol.buffer_at as block_at, OnePlace.cpu_at, Protocol.section, Queues.{buffer_at, buffer_sections, event_of}}
-use Rattle.{layer_traits.proofs.EffectRunLemmas.effects_are_run, fifo_buffer.specs.Laws.Tallies.effect_position, cpu.specs.{Cpus.of_cpu, Tower.Views.TowerName}}
-use Rattle.cpu.{specs.Linear.OrderGrows, proofs.{Moments.order_stays, ListReads.all_reversed, OneOrder.{filter_reversed, interleaved}}}
+use Rattle.layer_traits.specs.Blocks.{BufferEffects.{MayTakeEffect, contents_of, drawn, effect_of, opening_locks}, BufferProtocol.BufferSection}
+use Rattle.layer_traits.specs.{Blocks.BufferProtocol.buffer_at as block_at, Threads.OnePlace.cpu_at, Protocols.Protocol.section, Layers.Queues.buffer_at}
+use Rattle.layer_traits.{specs.Layers.Queues.{buffer_sections, event_of}, proofs.EffectRunLemmas.effects_are_run}
+use Rattle.{fifo_buffer.specs.Laws.Tallies.effect_position, cpu.specs.{Cpus.of_cpu, Tower.Views.TowerName, Linear.OrderGrows}}
+use Rattle.cpu.proofs.{WholeSystems.{Moments.order_stays, OneOrder.{filter_reversed, interleaved}}, ListFacts.ListReads.all_reversed}
 use Rattle.cpu_workers.specs.{Laws.OrderGoesOn, Orders.{IsTraceOf, effects_of}}
 
 -- An action adds at most one effect, of its own CPU.

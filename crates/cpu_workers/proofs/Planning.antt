@@ -1,14 +1,15 @@
 -- A worker's plan is its CPU's, and its threads follow their programs.
 use Rattle.std.proofs.Common.{◌≡◌, ◌≢◌, ℕ, zero, suc, ◌+◌, Bool, true, false, not, ◌&&◌, ◌==◌, List, [], ◌∷◌, length, reverse, Option, Some, None, is_some}
 use Rattle.std.proofs.{Common.{option_map, slice_index_or, if◌then◌else◌, refl, ap, sym, ◌∙◌, subst, arith}, lemmas.List.reverse-reverse}
-use Rattle.{std.specs.List.{AllByRecursion, list_all}, event_log.specs.{declared.{entries.Entry.Entry, ids.{CpuId.CpuId, Tid.Tid}}, Actions.Action}}
+use Rattle.std.specs.List.{AllByRecursion, list_all}
+use Rattle.event_log.specs.{declared.{entries.Entry.Entry, ids.{CpuId.CpuId, Tid.Tid}}, Actions.Action}
 use Rattle.guest.specs.{declared.instructions.Instruction.Instruction, Calls.{IsProgramsCalls, HasEnded}, State.{State, next_of}}
 use Rattle.layer_traits.specs.declared.{calls.{Call.Call, Effect.Effect}, steps.{Reason.TheVariants.{AllEnded, TraceFull, StepsUsed}, Step.Step}}
-use Rattle.{layer_traits.specs.{Along.{Outcome, IsStep}, BufferLaw.{begun_of, call_state_of}, Places.Threads}, cpu.specs.declared.guests.Guest.Guest}
-use Rattle.cpu.specs.{declared.guests.GuestStage.{GuestStage, TheVariants.{Idle, Begun, Done, Ended}}, Guests.{HasComeIn, after_effect, is_ended}}
-use Rattle.cpu.specs.{Cpus.{IsOfHome, begins, begun_count, chosen, guest_at, halted_at, is_over, of_cpu, of_thread, programs_of}, Table.Setups.{Setup, Thread}}
-use Rattle.cpu.{specs.{Table.Setups.thread_at, Tables.{IsSetupOf, private}, Tower.Views.TowerName}, proofs.ListReads.all_reversed}
-use Rattle.cpu.proofs.{OneOrder.filter_reversed, CpuStates.TabledCpu, TableRows.guest_there, GuestLists.guest_with}
+use Rattle.layer_traits.specs.{Polling.Along.{Outcome, IsStep}, Layers.BufferLaw.{begun_of, call_state_of}, Threads.Places.Threads}
+use Rattle.cpu.specs.{declared.guests.{Guest.Guest, GuestStage.{GuestStage, TheVariants.{Idle, Begun, Done, Ended}}}, Guests.{HasComeIn, after_effect}}
+use Rattle.cpu.specs.{Guests.is_ended, Cpus.{IsOfHome, begins, begun_count, chosen, guest_at, halted_at, is_over, of_cpu, of_thread, programs_of}}
+use Rattle.cpu.{specs.{Table.Setups.{Setup, Thread, thread_at}, Tables.{IsSetupOf, private}, Tower.Views.TowerName}, proofs.ListFacts.ListReads.all_reversed}
+use Rattle.cpu.proofs.{ListFacts.GuestLists.guest_with, WholeSystems.OneOrder.filter_reversed, CpuSteps.CpuStates.TabledCpu, StepTable.TableRows.guest_there}
 use Rattle.cpu_workers.specs.{Orders.{FollowsProgram, HasFollowed}, Working.IsPlanned}
 
 program_there : (guests : List (Option Guest)) (t : ℕ) (g : Guest) → guest_at guests t ≡ Some g → slice_index_or (programs_of guests) t None ≡ Some g.program

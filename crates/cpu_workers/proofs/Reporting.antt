@@ -9,11 +9,12 @@ use Rattle.cpu_workers.specs.{Closing.{Key, LockBlock, ReportsAreLawful, StartsS
 use Rattle.{cpu_workers.specs.{Reports.Within, Seating.{HasLeft, IsApart}}, event_log.specs.declared.{entries.Entry.Entry, ids.{CpuId.CpuId, LockId.LockId}}}
 use Rattle.event_log.specs.{declared.ids.LockId.TheVariants.{Pending, Buffer as AtBuffer}, Actions.{Action, cpu_of_action, phase, renamed}, History.AreOthers}
 use Rattle.event_log.{specs.Sections.sections_in, proofs.{Foreign.{own_none, phase_others}, Streams.taken_put, Renaming.{legal_renamed, others_renamed}}}
-use Rattle.{event_log.proofs.Same.same_cpu_self, layer_traits.specs.{declared.queue_edits.QueueBlock.QueueBlock, Plans.is_in_section, OneLock.opened}}
-use Rattle.{layer_traits.{specs.QueueRules.AreProper, proofs.PlanRenaming.map-append}, table_machine.specs.SeatViews.{TableView, Closes}}
-use Rattle.cpu.specs.{Claims.{buffer_at, listed}, Cpus.{of_thread, of_cpu}, Table.{Blocks.Name, Setups.{Setup, Private, at_boot, thread_at}, Steps.cpu_step}}
-use Rattle.cpu.specs.{Table.Steps.halted_at, Tower.{Composed.named, Views.{TowerName, name_of, TowerBlock}}, Wakeups.Lost.IsWorked, Sound.setup_for}
-use Rattle.{cpu.proofs.{TableQuiet.ended_at, Wakeups.CpusByTable.cpus_lose_no_wake_up}, boot.specs.Plan.BootPlan}
+use Rattle.{event_log.proofs.Same.same_cpu_self, layer_traits.specs.{declared.queue_edits.QueueBlock.QueueBlock, Polling.Plans.is_in_section}}
+use Rattle.layer_traits.{specs.{Protocols.OneLock.opened, Blocks.QueueRules.AreProper}, proofs.PlanRenaming.map-append}
+use Rattle.{table_machine.specs.SeatViews.{TableView, Closes}, cpu.specs.{Claims.{buffer_at, listed}, Cpus.{of_thread, of_cpu}, Table.Blocks.Name}}
+use Rattle.cpu.specs.{Table.{Setups.{Setup, Private, at_boot, thread_at}, Steps.{cpu_step, halted_at}}, Tower.{Composed.named, Views.{TowerName, name_of}}}
+use Rattle.cpu.{specs.{Tower.Views.TowerBlock, Wakeups.Lost.IsWorked, Sound.setup_for}, proofs.StepTable.TableQuiet.ended_at}
+use Rattle.{cpu.proofs.Wakeups.CpusByTable.cpus_lose_no_wake_up, boot.specs.Plan.BootPlan}
 use Rattle.layer_traits.specs.declared.steps.Reason.TheVariants as reason
 
 -- What a worker of a plan left is what its CPU did along what it has seen.

@@ -2,10 +2,11 @@
 use Rattle.std.proofs.Common.{◌≡◌, ◌⊎◌, inl, inr, ℕ, suc, ◌<◌, ◌≤◌, List, [], ◌∷◌, All, length, map, Some, option_map, refl, ap, sym, ◌∙◌, arith}
 use Rattle.std.{proofs.lemmas.{Bool.cases_lt, List.length-map, Option.{slice_get_past, slice_get-map}}, specs.Prelude.slice_get}
 use Rattle.event_log.specs.{declared.ids.{CpuId.CpuId, LockId.TheVariants.{Pending, Buffer as AtBuffer}}, Actions.{Action, phase}}
-use Rattle.{layer_traits.specs.{OnePlace.cpu_at, Plans.is_in_section}, cpu.specs.{Sound.after_steps, Wakeups.{Lost.IsWorked, Merged.IsRunOfTable}}}
-use Rattle.cpu.specs.Table.{Blocks.Name, Setups.{Private, Setup}, Steps.{IsReached, Whole, block_at, boots, steps, system_step, whole_at_boot}}
-use Rattle.{cpu.proofs.Wakeups.Merging.work_is_a_run, cpu_workers.{proofs.Joining.{all_head, all_tail}, specs.{declared.workers.gates.Go.Go, Lawful.AreLeft}}}
-use Rattle.cpu_workers.specs.{Lawful.{CpuReport, IsCpuReportOf, IsLawfulReport, Shown}, ReportRuns.{IsReportOfRun, ReportsAreRuns, StandsAsTold, run_by}}
+use Rattle.{layer_traits.specs.{Threads.OnePlace.cpu_at, Polling.Plans.is_in_section}, cpu.specs.{Sound.after_steps, Wakeups.Lost.IsWorked}}
+use Rattle.cpu.specs.{Wakeups.Merged.IsRunOfTable, Table.{Blocks.Name, Setups.{Private, Setup}, Steps.{IsReached, Whole, block_at, boots, steps, system_step}}}
+use Rattle.{cpu.{specs.Table.Steps.whole_at_boot, proofs.Wakeups.Merging.work_is_a_run}, cpu_workers.proofs.Joining.{all_head, all_tail}}
+use Rattle.cpu_workers.specs.{declared.workers.gates.Go.Go, Lawful.{AreLeft, CpuReport, IsCpuReportOf, IsLawfulReport, Shown}, ReportRuns.IsReportOfRun}
+use Rattle.cpu_workers.specs.ReportRuns.{ReportsAreRuns, StandsAsTold, run_by}
 
 -- two lists that read alike are one
 same_list : {X : Type 0} (xs ys : List X) → ((k : ℕ) → slice_get xs k ≡ slice_get ys k) → xs ≡ ys

@@ -5,11 +5,11 @@ use Rattle.cpu_workers.{proofs.TableKeys.{Back, one_site, as_many, seat_views_at
 use Rattle.{cpu_workers.specs.{Closing.{Key, tower_rules}, Seating.{Block, Edit, HasLeft, HaveLeft, IsReady, tower_acts}}, boot.specs.Plan.BootPlan}
 use Rattle.event_log.specs.{declared.{entries.Entry.Entry, ids.{CpuId.CpuId, LockId.LockId}}, Actions.{Action, Phase, Rests, acts_of, phase, renamed}}
 use Rattle.event_log.{specs.{History.{IsLawful, same_lock}, Sections.sections_in, WordsLog.{Idle, lock_phase}}, proofs.Renaming.phase_renamed}
-use Rattle.{event_log.proofs.ListLemmas.from_index, layer_traits.specs.{OneLock.opened, OnePlace.cpu_at, Plans.is_in_section, Renaming.renamed_edit}}
-use Rattle.{layer_traits.specs.WordsProtocol.{MayCome, edit_of}, queuing_lock.specs.Nested.edit_in as lock_call}
+use Rattle.{event_log.proofs.ListLemmas.from_index, layer_traits.specs.{Protocols.{OneLock.opened, WordsProtocol.{MayCome, edit_of}}, Threads.OnePlace.cpu_at}}
+use Rattle.{layer_traits.specs.{Polling.Plans.is_in_section, Views.Renaming.renamed_edit}, queuing_lock.specs.Nested.edit_in as lock_call}
 use Rattle.{sleep_wakeup.specs.Nested.edit_in as slept_edit, spinlock.specs.Laws.LineLaws.rests_outside, table_machine.specs.SeatViews.{TableView, IsOver}}
 use Rattle.{table_machine.specs.SeatViews.{new_seat_view, new_seat_views, site_of}, cpu.specs.Tower.{Composed.named, Views.{TowerName, name_of}}}
-use Rattle.cpu.proofs.ListReads.{shows_at, there_is}
+use Rattle.cpu.proofs.ListFacts.ListReads.{shows_at, there_is}
 
 -- a new key is one for a CPU before its first action, however the machine tells its actions and that a CPU is outside
 pub ready_at : (Opens : (LockId → Option Block) → Type 0) (table_view : TableView Block) (n : ℕ) (IsOutside : Key → Type 0) (acts : Key → List (Action Edit))

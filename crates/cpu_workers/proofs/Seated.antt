@@ -1,12 +1,13 @@
 -- A CPU that was made with its guests is one before its first step, over a machine in which nothing was done.
 use Rattle.std.{proofs.Common.{◌≡◌, ℕ, ◌≤◌, List, [], length, Option, None, ap, sym, ◌∙◌, subst}, specs.Prelude.{IfOk, Result, Ok, Err}}
 use Rattle.{boot.specs.Plan.{BootPlan, IsPlan, Task}, event_log.specs.declared.{entries.Entry.Entry, ids.{CpuId.CpuId, LockId.LockId, TheConstants.THREADS}}}
-use Rattle.{event_log.specs.Actions.Action, layer_traits.specs.{BufferLaw.{Buffering, UnderWay, buffering_at_start}, IpcLaw.OpensSo, OwnParts.threads_in}}
-use Rattle.cpu.specs.{declared.guests.Guest.Guest, Boots.{AreGuests, IsBooted, guests_for, homes_for}, Cpus.{IsCpu, guest_at, programs_of}, Sound.setup_for}
-use Rattle.cpu.specs.{Table.Setups.{Setup, Private, at_boot as boot_of, program_or}, Tables.{IsTabled, private}, Tower.Views.{TowerBlock, TowerName}}
-use Rattle.cpu.proofs.{InvariantAtBoot.boots, ListReads.shows_at, PlanGuests.by_task, SystemsAtBoot.private_boots, TableCalls.boots_tabled}
-use Rattle.{cpu.proofs.GuestLists.guest_with, cpu_workers.specs.{declared.workers.{gates.Go.Go, turns.Did.Did}, Reports.HasRun, Seating.{HasLeft, IsApart}}}
-use Rattle.cpu_workers.specs.{Seating.IsAtBoot, Working.{Charge, IsPlanned, Working}}
+use Rattle.{event_log.specs.Actions.Action, layer_traits.specs.Layers.{BufferLaw.{Buffering, UnderWay, buffering_at_start}, IpcLaw.OpensSo}}
+use Rattle.{layer_traits.specs.Views.OwnParts.threads_in, cpu.specs.{declared.guests.Guest.Guest, Boots.{AreGuests, IsBooted, guests_for, homes_for}}}
+use Rattle.cpu.specs.{Cpus.{IsCpu, guest_at, programs_of}, Sound.setup_for, Table.Setups.{Setup, Private, at_boot as boot_of, program_or}, Tables.IsTabled}
+use Rattle.cpu.{specs.{Tables.private, Tower.Views.{TowerBlock, TowerName}}, proofs.WholeSystems.{InvariantAtBoot.boots, PlanGuests.by_task}}
+use Rattle.cpu.proofs.{WholeSystems.SystemsAtBoot.private_boots, ListFacts.{ListReads.shows_at, GuestLists.guest_with}, StepTable.TableCalls.boots_tabled}
+use Rattle.cpu_workers.specs.{declared.workers.{gates.Go.Go, turns.Did.Did}, Reports.HasRun, Seating.{HasLeft, IsApart, IsAtBoot}, Working.{Charge, IsPlanned}}
+use Rattle.cpu_workers.specs.Working.{Working}
 
 module _ {homes : List CpuId} {buffers : ℕ} {number : CpuId} {guests : List (Option Guest)} {most : ℕ} {its : CpuId} {table : List (Option Guest)}
     {trace : List Entry} {limit capacity : ℕ} (are : AreGuests homes buffers number guests)

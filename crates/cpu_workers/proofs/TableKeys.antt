@@ -2,8 +2,8 @@
 use Rattle.std.proofs.Common.{◌≡◌, ℕ, zero, suc, ◌<◌, ◌≤◌, All, List, length, Some, slice_get, refl, ap, sym, ◌∙◌, subst, arith}
 use Rattle.std.proofs.lemmas.Option.{get_or_from_slice_get}
 use Rattle.table_machine.{specs.SeatViews.{TableView, SeatView, IsOf, new_seat_view, new_seat_views, Covers, IsOver, site_of}, proofs.Fresh.length_new}
-use Rattle.{cpu.proofs.{InvariantAtBoot.at_end, ListReads.there_is}, cpu_workers.{specs.{Counts.IsFresh, Reports.Both}, proofs.Joining.all_by_number}}
-use Rattle.{cpu_workers.proofs.Joining.{both_back, both_length}, atomic_table.specs.Seated.TableId, layer_traits.specs.OnePlace.cpu_at}
+use Rattle.{cpu.proofs.{WholeSystems.InvariantAtBoot.at_end, ListFacts.ListReads.there_is}, cpu_workers.specs.{Counts.IsFresh, Reports.Both}}
+use Rattle.{cpu_workers.proofs.Joining.{all_by_number, both_back, both_length}, atomic_table.specs.Seated.TableId, layer_traits.specs.Threads.OnePlace.cpu_at}
 
 pub seat_views_at : {E B : Type 0} (table_view : TableView B) (n k : ℕ) (d : SeatView E B) → slice_get (new_seat_views table_view n) k ≡ Some d → d
     ≡ new_seat_view table_view k

@@ -4,11 +4,12 @@ use Rattle.std.proofs.{Common.{◌++◌, map, refl}, lemmas.{Option.get_or_from_
 use Rattle.event_log.specs.{declared.{entries.Entry.Entry, ids.{CpuId.CpuId, LockId.{LockId, TheVariants.Buffer as AtBuffer}}}, Actions.{Action, cpu_of_action}}
 use Rattle.event_log.{specs.{Actions.{acts_of, renamed}, History.{AreOthers, own_events}, Messages.Message, WordsLog.cpu_of_event}, proofs.Foreign.own_none}
 use Rattle.event_log.proofs.{Foreign.{acts_of-append, others_acts, own_append}, Renaming.others_renamed}
-use Rattle.layer_traits.specs.{declared.queue_edits.QueueBlock.QueueBlock, BufferEffects.contents_of, OnePlace.cpu_at, Renaming.renamed_edit}
-use Rattle.{layer_traits.{specs.WordsProtocol.edit_of, proofs.PlanRenaming.map-append}, table_machine.specs.SeatViews.{TableView, Closes}}
-use Rattle.{cpu.specs.{Claims.{buffer_at, listed}, Table.Setups.Setup, Tower.Views.TowerName}, cpu_workers.specs.Closing.{Key, LockBlock, StartsSo, acts_in}}
-use Rattle.cpu_workers.specs.{Closing.{blocks_read, tower_rules, WordsOfTower}, Lawful.messages_in, Natives.left_of, Orders.{IsTraceOf, effects_of}}
-use Rattle.cpu_workers.proofs.{ClosedLog.{effects_may, messages_left}, OneOrder.{HasOrder, none_own, one_order, trace_in}}
+use Rattle.layer_traits.specs.{declared.queue_edits.QueueBlock.QueueBlock, Blocks.BufferEffects.contents_of, Threads.OnePlace.cpu_at}
+use Rattle.layer_traits.{specs.{Views.Renaming.renamed_edit, Protocols.WordsProtocol.edit_of}, proofs.PlanRenaming.map-append}
+use Rattle.{table_machine.specs.SeatViews.{TableView, Closes}, cpu.specs.{Claims.{buffer_at, listed}, Table.Setups.Setup, Tower.Views.TowerName}}
+use Rattle.cpu_workers.specs.{Closing.{Key, LockBlock, StartsSo, acts_in, blocks_read, tower_rules, WordsOfTower}, Lawful.messages_in, Natives.left_of}
+use Rattle.cpu_workers.{specs.Orders.{IsTraceOf, effects_of}, proofs.{ClosedLog.{effects_may, messages_left}, OneOrder.{HasOrder, none_own, one_order}}}
+use Rattle.cpu_workers.proofs.OneOrder.{trace_in}
 use Rattle.sleep_wakeup.specs.Nested as sleep
 use Rattle.queuing_lock.specs.Nested as lock
 

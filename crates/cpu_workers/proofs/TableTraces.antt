@@ -5,13 +5,13 @@ use Rattle.event_log.specs.{declared.{entries.Entry.Entry, ids.{CpuId.CpuId, Loc
 use Rattle.event_log.specs.{Actions.{Take, Try, Give, Phase, Rests, Waits as WaitsAt, Holds, action_in, cpu_of_action, phase}, Runs.{Group, Sends, Receives}}
 use Rattle.event_log.{specs.{Runs.Closes, Sections.sections_in}, proofs.{Same.same_cpu_self, Foreign.lawful_before}}
 use Rattle.layer_traits.specs.declared.{locked.Side.{Side, TheVariants.{Receivers, Senders}}, call_states.Stage.{Stage, TheVariants.{Idle, Acquires, Enters}}}
-use Rattle.layer_traits.specs.{declared.call_states.Stage.TheVariants.{Tries, Waits, AcquiresAgain, Signals, SignalsOwn, Releases}, Plans.at_give}
-use Rattle.{layer_traits.specs.{Plans.is_in_section, Along.{starts, others, steps}}, cpu.specs.Table.Blocks.{Block, OfBuffer, OfPending, Name, TryPut, TryTake}}
-use Rattle.cpu.specs.Table.{Blocks.{Shut, NotYet, side_of}, Steps.{AlongTable, after_reply, block_at, chosen, cpu_step, step_in}, Edits.{answer, may_try}}
-use Rattle.cpu.specs.Table.{Edits.{report_of_put, report_of_take}, Setups.{Setup, Call, Private, thread_at}, Choice.{asked, asked_at, asked_by, asked_in}}
-use Rattle.cpu.specs.Table.Choice.{Choice, Halts, Alone, Goes, after_at, after_by, after_call, after_in, choice, first_section, recorded, recorded_entry}
-use Rattle.cpu.{specs.{Table.Choice.{recorded_try, section_at, settled, slept_if, try_of, woken}, Wakeups.Order.block_of}, proofs.Wakeups.CpusByTable.along_ok}
-use Rattle.cpu.proofs.Wakeups.ReachedStates.{IsFair, IsFairLog, Ok, lock_in}
+use Rattle.layer_traits.specs.{declared.call_states.Stage.TheVariants.{Tries, Waits, AcquiresAgain, Signals, SignalsOwn, Releases}, Polling.Plans.at_give}
+use Rattle.{layer_traits.specs.Polling.{Plans.is_in_section, Along.{starts, others, steps}}, cpu.specs.Table.Blocks.{Block, OfBuffer, OfPending, Name, TryPut}}
+use Rattle.cpu.specs.Table.{Blocks.{TryTake, Shut, NotYet, side_of}, Steps.{AlongTable, after_reply, block_at, chosen, cpu_step, step_in}, Edits.answer}
+use Rattle.cpu.specs.Table.{Edits.{may_try, report_of_put, report_of_take}, Setups.{Setup, Call, Private, thread_at}, Choice.{asked, asked_at, asked_by}}
+use Rattle.cpu.specs.Table.Choice.{asked_in, Choice, Halts, Alone, Goes, after_at, after_by, after_call, after_in, choice, first_section, recorded}
+use Rattle.cpu.specs.{Table.Choice.{recorded_entry, recorded_try, section_at, settled, slept_if, try_of, woken}, Wakeups.Order.block_of}
+use Rattle.cpu.proofs.Wakeups.{CpusByTable.along_ok, ReachedStates.{IsFair, IsFairLog, Ok, lock_in}}
 
 -- how many effects a section has on this block: one or none
 abbrev pub grown : Name → Option Block → ℕ

@@ -10,7 +10,7 @@ use Rattle.guest.{specs.declared.instructions.Instruction.TheVariants.Exit, proo
 use Rattle.{thread_blocks.{specs.Queues.same_tid, proofs.Members.same_tid_true}, layer_traits.specs.declared.locked.Side.{Side, TheVariants.Receivers}}
 use Rattle.layer_traits.specs.declared.{locked.Side.TheVariants.Senders, call_states.Stage.{Stage, TheVariants.{Idle, Acquires, Enters, Tries, Waits}}}
 use Rattle.layer_traits.specs.declared.{call_states.Stage.TheVariants.{AcquiresAgain, Signals, SignalsOwn, Releases}, steps.Reason.TheVariants.AllEnded}
-use Rattle.layer_traits.specs.{declared.steps.Reason.TheVariants.TraceFull, Plans.{at_give, is_in_section}, Along.{starts, others, steps}}
+use Rattle.layer_traits.specs.{declared.steps.Reason.TheVariants.TraceFull, Polling.{Plans.{at_give, is_in_section}, Along.{starts, others, steps}}}
 use Rattle.cpu.specs.Table.{Blocks.{Block, OfBuffer, OfPending, Name, Reported, Done, WasClosed, NotYet, side_of, effect_of}, Edits.{answer, drawn_position}}
 use Rattle.cpu.specs.Table.{Edits.{may_try, report_of_put}, Setups.{Setup, Call, Private, Thread, has_none, have_ended, home_threads, new_thread, open_calls}}
 use Rattle.cpu.specs.Table.{Setups.{program_of, stands_at, thread_at, with_thread, at_boot}, Choice.{asked, asked_at, asked_by, asked_in, at_call, at_current}}

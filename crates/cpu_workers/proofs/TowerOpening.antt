@@ -1,6 +1,6 @@
 -- The tower over a lock opens as the lock does: its buffers, its homes and its queues are those that the locks hold.
 use Rattle.std.{proofs.Common.{◌≡◌, ◌≤◌, ℕ, List, length, ◌∙◌, arith}, specs.Prelude.{IsSome, Option}}
-use Rattle.layer_traits.specs.{Capacities.caps_in, BufferEffects.opening_locks, QueueBlocks.{homes_in, inner}, Renaming.viewed}
+use Rattle.layer_traits.specs.{Blocks.{Capacities.caps_in, BufferEffects.opening_locks, QueueBlocks.{homes_in, inner}}, Views.Renaming.viewed}
 use Rattle.{layer_traits.proofs.KernelRenaming.{homes_viewed, viewed_there}, event_log.specs.declared.ids.{CpuId.CpuId, LockId.{LockId, TheVariants.Pending}}}
 use Rattle.{event_log.specs.declared.ids.TheConstants.BUFFERS, fifo_buffer.{specs.FifoFits.BootsSo, proofs.Opening.{boots_well, caps_are as told_caps}}}
 use Rattle.{queuing_lock.specs.Nested.nested_lock_of, sleep_wakeup.specs.Nested.state_of, cpu.specs.Tower.Views.TowerBlock, cpu_workers.specs.Seating.Block}

@@ -2,8 +2,8 @@
 use Rattle.std.proofs.Common.{◌≡◌, ◌⊎◌, inl, inr, ℕ, ◌+◌, ◌<◌, ◌≤◌, Bool, true, false, List, [], ◌∷◌, ◌++◌, Option, refl, ap, sym, ◌∙◌, subst, arith}
 use Rattle.std.proofs.lemmas.Bool.{cases_lt}
 use Rattle.event_log.{specs.{declared.ids.CpuId.CpuId, History.AreOthers, Actions.{Action, cpu_of_action, phase}}, proofs.Foreign.phase_others}
-use Rattle.layer_traits.specs.{declared.steps.{Reason.Reason, Step.{Step, TheVariants.Stepped}}, Along.{Outcome, Along, starts, others, steps, IsStep}}
-use Rattle.{layer_traits.specs.Plans.is_in_section, cpu.specs.Table.{Blocks.Name, Setups.{Setup, Private}, Steps.{cpu_step, halted_at}}}
+use Rattle.layer_traits.specs.{declared.steps.{Reason.Reason, Step.{Step, TheVariants.Stepped}}, Polling.Along.{Outcome, Along, starts, others, steps, IsStep}}
+use Rattle.{layer_traits.specs.Polling.Plans.is_in_section, cpu.specs.Table.{Blocks.Name, Setups.{Setup, Private}, Steps.{cpu_step, halted_at}}}
 use Rattle.{cpu.{specs.Tower.{Composed.{answer_of, named}, Views.TowerName}, proofs.Tower.Polls.halts_exactly}, cpu_workers.specs.declared.workers.gates.Go.Go}
 use Rattle.cpu_workers.specs.declared.workers.{gates.Go.TheVariants.{Limit, Pass}, stops.Stop.{Stop, TheVariants.{AllEnded, TurnsUsed, TraceFull, Held}}}
 use Rattle.cpu_workers.specs.{Working.{IsPlanned, IsSame, MayStep, Charge, Turned, Working, is_inside, log}, Reports.{Counts, HasRun, IsTrueStop, MayHold}}

@@ -2,8 +2,8 @@
 use Rattle.std.specs.Prelude.{◌≡◌, ℕ, ◌≤◌, List, ◌++◌, [], ◌∷◌, length}
 use Rattle.event_log.specs.declared.{entries.{Entry.Entry, Kind.{Kind, TheVariants.{Send, Recv, Close, SendClosed, RecvClosed}}}, ids.BufId.BufId}
 use Rattle.{event_log.specs.{declared.ids.{CpuId.CpuId, Tid.Tid}, Messages.{Message, no_message}}, layer_traits.specs.declared.calls.{Call.Call, Effect.Effect}}
-use Rattle.{layer_traits.specs.{declared.calls.Reply.Reply, BufferEffects.entry, BufferLaw.{IsEffectOf, buffer_of, entry_of, reply_of}}, cpu.specs.Cpus.of_cpu}
-use Rattle.cpu_workers.specs.declared.workers.callers.TheConstants.{MOST_CALLS}
+use Rattle.layer_traits.specs.{declared.calls.Reply.Reply, Blocks.BufferEffects.entry, Layers.BufferLaw.{IsEffectOf, buffer_of, entry_of, reply_of}}
+use Rattle.{cpu.specs.Cpus.of_cpu, cpu_workers.specs.declared.workers.callers.TheConstants.MOST_CALLS}
 
 -- a caller to its users: its CPU and its thread, the capacities of the buffers, which machine it is, and the entries of its calls, oldest first
 pub record CallerView : Type 0 where

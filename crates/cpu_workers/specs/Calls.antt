@@ -1,9 +1,10 @@
 -- Message calls of native code: what a CPU polls for one thread's call, and how far the call has come.
 use Rattle.std.specs.Prelude.{◌≡◌, ◌≢◌, List, ◌++◌, [], ◌∷◌, Option, Some, None}
 use Rattle.{event_log.specs.declared.{entries.Entry.Entry, ids.{CpuId.CpuId, Tid.Tid}}, layer_traits.specs.declared.calls.{Call.Call, Effect.Effect}}
-use Rattle.layer_traits.specs.{declared.{calls.Reply.Reply, call_states.CallState.CallState, passes.Pass.TheVariants.End}, Passes.MayPass, Places.Threads}
-use Rattle.layer_traits.specs.BufferLaw.{Calling, IsEffectOf, MayPollCall, Passing, UnderWay, buffer_of, call_state_of, entry_of, going, reply_of}
-use Rattle.{cpu.specs.{Cpus.of_cpu, Guests.entries_of}, cpu_workers.specs.declared.workers.calling.Begun.{Begun, TheVariants.{Calls, Passes}}}
+use Rattle.layer_traits.specs.{declared.{calls.Reply.Reply, call_states.CallState.CallState, passes.Pass.TheVariants.End}, Threads.Passes.MayPass}
+use Rattle.layer_traits.specs.{Threads.Places.Threads, Layers.BufferLaw.{Calling, IsEffectOf, MayPollCall, Passing, UnderWay, buffer_of, call_state_of}}
+use Rattle.{layer_traits.specs.Layers.BufferLaw.{entry_of, going, reply_of}, cpu.specs.{Cpus.of_cpu, Guests.entries_of}}
+use Rattle.cpu_workers.specs.declared.workers.calling.Begun.{Begun, TheVariants.{Calls, Passes}}
 
 -- what is under way on the CPU of a thread that has begun this, or nothing
 abbrev pub under_way_of : Tid → Option Begun → Option UnderWay

@@ -4,9 +4,10 @@ use Rattle.event_log.specs.declared.{entries.Entry.Entry, events.Event.Event, id
 use Rattle.event_log.specs.{declared.ids.Tid.Tid, Actions.{Action, AreLegal, acts_of, phase, renamed}}
 use Rattle.layer_traits.specs.declared.{buffer_edits.{BufferEdit.BufferEdit, BufferOut.BufferOut}, conditions.{CvEdit.CvEdit, CvLeave.CvLeave, CvOut.CvOut}}
 use Rattle.layer_traits.specs.declared.{edits.Mark.Mark, locked.QOut.QOut, queue_edits.{QueueBlock.QueueBlock, QueueEdit.QueueEdit, QueueAnswer.QueueAnswer}}
-use Rattle.layer_traits.specs.{declared.sleeps.Outcome.Outcome, BufferBlocks.BufferState, BufferEffects.opening_locks, BufferProtocol.buffer_monitor_rules}
-use Rattle.layer_traits.specs.{Conditions.cv_rules, OneLock.opened, Places.home_of, Plans.is_in_section, Protocol.Rules, QueueBlocks.{StartsWell, homes_in}}
-use Rattle.layer_traits.specs.{QueueBlocks.inner, QueueRules.queue_rules, Renaming.{renamed_edit, viewed, viewed_block}, WordsProtocol.edit_of}
+use Rattle.layer_traits.specs.{declared.sleeps.Outcome.Outcome, Blocks.{BufferBlocks.BufferState, BufferEffects.opening_locks}}
+use Rattle.layer_traits.specs.Blocks.{BufferProtocol.buffer_monitor_rules, QueueBlocks.{StartsWell, homes_in, inner}, QueueRules.queue_rules}
+use Rattle.layer_traits.specs.{Layers.Conditions.cv_rules, Protocols.{OneLock.opened, Protocol.Rules, WordsProtocol.edit_of}, Threads.Places.home_of}
+use Rattle.layer_traits.specs.{Polling.Plans.is_in_section, Views.Renaming.{renamed_edit, viewed, viewed_block}}
 use Rattle.sleep_wakeup.specs.{declared.edits.{SleepBlock.SleepBlock, SleepEdit.SleepEdit}, Nested.{nested_moves, nested_rules, state_of}}
 use Rattle.queuing_lock.specs.{declared.edits.{QBlock.QBlock, QLockEdit.QLockEdit}, Nested.{busy_rules, nested_lock_of}}
 use Rattle.{table_machine.specs.SeatViews.{TableView, Closes, SeatView}, cpu.specs.Table.{Blocks.Block, Setups.{Setup, Private, at_boot, program_of}}}

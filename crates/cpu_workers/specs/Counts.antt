@@ -2,7 +2,7 @@
 use Rattle.std.specs.Prelude.{◌≡◌, ℕ, zero, suc, ◌+◌, ◌%◌, ◌^◌, ◌≤◌, true, List, [], ◌∷◌, slice_get, Some}
 use Rattle.event_log.specs.{Actions.{Action, Take, Try, Give}, declared.{ids.{CpuId.CpuId, LockId.LockId}, events.Event.Event}, History.{IsLawful, how_many}}
 use Rattle.event_log.specs.{History.{own_events, same_lock}, WordsLog.{cpu_of_event, frees, lock_phase, Idle}, Sections.{Section, cpu_of_section}}
-use Rattle.layer_traits.specs.{declared.edits.Mark.Mark, OneLock.opened, Protocol.Rules, WordsProtocol.{MayCome, sections}}
+use Rattle.layer_traits.specs.{declared.edits.Mark.Mark, Protocols.{OneLock.opened, Protocol.Rules, WordsProtocol.{MayCome, sections}}}
 use Rattle.{table_machine.specs.SeatViews.{TableView, SeatView, IsIn, new_seat_view}, cpu_workers.specs.declared.counting.AddOne.AddOne}
 use Rattle.{cpu_workers.specs.{declared.counting.counted.Counted.Counted, Reports.Both}, boot.specs.declared.locks.LockKind.LockKind}
 

@@ -3,11 +3,11 @@ use Rattle.std.specs.{Prelude.{◌≡◌, ℕ, ◌<◌, ◌≤◌, false, List, 
 use Rattle.event_log.specs.declared.{entries.Entry.Entry, ids.{BufId.BufId, CpuId.CpuId, LockId.{LockId, TheVariants.{Pending, Buffer as AtBuffer}}, Tid.Tid}}
 use Rattle.event_log.specs.{Actions.{Action, AreLegal, cpu_of_action, phase}, History.own_events, Messages.Message, Runs.IsRun, Streams.IsFirstInFirstOut}
 use Rattle.{event_log.specs.Traces.IsInterleaving, guest.specs.{Calls.{AreProgramsCalls, IsProgramsCalls, HasEnded}, State.State}}
-use Rattle.{layer_traits.specs.{Places.home_of, Plans.is_in_section}, cpu.specs.{Claims.{buffer_at, listed}, Cpus.{IsOfHome, of_thread}, Table.Blocks.Block}}
-use Rattle.cpu.specs.Table.{Blocks.{Buffer, Name, OfBuffer, OfPending}, Setups.{Setup, Private, at_boot, program_of}, Steps.{block_at, cpu_step, halted_at}}
-use Rattle.{cpu.specs.Wakeups.Lost.NoWakeUpIsLost, cpu_workers.specs.declared.workers.{gates.Go.{Go, TheVariants.{Limit, Pass}}, stops.Stop.Stop}}
-use Rattle.cpu_workers.specs.{declared.workers.stops.Stop.TheVariants.{AllEnded, TurnsUsed, Held}, Reports.{IsTrueStop, MayHold, MayTake, Took, TookWithin}}
-use Rattle.cpu_workers.specs.Reports.{WasHeld, PassedAtEach, AskedAtEach}
+use Rattle.{layer_traits.specs.{Threads.Places.home_of, Polling.Plans.is_in_section}, cpu.specs.{Claims.{buffer_at, listed}, Cpus.{IsOfHome, of_thread}}}
+use Rattle.cpu.specs.Table.{Blocks.{Block, Buffer, Name, OfBuffer, OfPending}, Setups.{Setup, Private, at_boot, program_of}, Steps.{block_at, cpu_step}}
+use Rattle.{cpu.specs.{Table.Steps.halted_at, Wakeups.Lost.NoWakeUpIsLost}, cpu_workers.specs.declared.workers.gates.Go.{Go, TheVariants.{Limit, Pass}}}
+use Rattle.cpu_workers.specs.{declared.workers.stops.Stop.{Stop, TheVariants.{AllEnded, TurnsUsed, Held}}, Reports.{IsTrueStop, MayHold, MayTake, Took}}
+use Rattle.cpu_workers.specs.Reports.{TookWithin, WasHeld, PassedAtEach, AskedAtEach}
 
 -- what a report tells of one CPU: its trace, oldest first, how many turns it took, and why it stopped
 pub record CpuReport : Type 0 where

@@ -1,9 +1,9 @@
 -- The report of a plan's workers beside the words log in which they acted.
 use Rattle.std.specs.Prelude.{◌≡◌, ℕ, reverse, Option}
-use Rattle.{boot.specs.Plan.BootPlan, event_log.specs.{declared.ids.{CpuId.CpuId, LockId.LockId}, History.IsLawful}, layer_traits.specs.WordsProtocol.MayCome}
-use Rattle.{cpu.specs.{Sound.setup_for, Table.Setups.Setup, Tower.Composed.named}, cpu_workers.specs.{declared.workers.gates.Go.Go, Closing.WordsOfTower}}
-use Rattle.cpu_workers.specs.{Closing.{acts_in, tower_rules}, Fronts.AreLinearizable, Lawful.{IsLawfulReport, Shown}, Orders.effects_of}
-use Rattle.cpu_workers.specs.Seating.{Block, OpensPlan}
+use Rattle.{boot.specs.Plan.BootPlan, event_log.specs.{declared.ids.{CpuId.CpuId, LockId.LockId}, History.IsLawful}}
+use Rattle.{layer_traits.specs.Protocols.WordsProtocol.MayCome, cpu.specs.{Sound.setup_for, Table.Setups.Setup, Tower.Composed.named}}
+use Rattle.cpu_workers.specs.{declared.workers.gates.Go.Go, Closing.{WordsOfTower, acts_in, tower_rules}, Fronts.AreLinearizable, Lawful.IsLawfulReport}
+use Rattle.cpu_workers.specs.{Lawful.Shown, Orders.effects_of, Seating.{Block, OpensPlan}}
 
 -- a lawful report of this words log: the list along which each CPU went by the step table is that of the log's actions, and the order of the
 -- traces is that of the effects of the log's frees; by the order of these actions the calls are linearizable

@@ -2,11 +2,12 @@
 use Rattle.std.specs.Prelude.{◌≡◌, ℕ, ◌<◌, ◌≤◌, false, List, [], map, length, reverse, slice_get, Option, Some, IsSome}
 use Rattle.event_log.specs.{declared.{entries.Entry.Entry, ids.{CpuId.CpuId, LockId.{LockId, TheVariants.Pending}}}, Actions.{Action, acts_of, phase}}
 use Rattle.event_log.specs.{History.IsLawful, Messages.Message, Runs.IsRun, Streams.IsFirstInFirstOut, Traces.IsInterleaving}
-use Rattle.layer_traits.specs.{BufferEffects.opening_locks, OnePlace.cpu_at, Plans.is_in_section, QueueBlocks.{StartsWell, homes_in, inner}, Renaming.viewed}
-use Rattle.{layer_traits.specs.WordsProtocol.{MayCome, edit_of}, queuing_lock.specs.Nested.nested_lock_of, sleep_wakeup.specs.Nested.state_of}
-use Rattle.{table_machine.specs.SeatViews.{IsOver, TableView}, cpu.specs.{Claims.{buffer_at, listed}, Tower.Views.TowerName}}
-use Rattle.cpu_workers.specs.{declared.workers.callers.TheConstants.MOST_CALLS, Callers.{CallerView, IsSameCaller}, Closing.{Key, WordsOfTower, acts_in}}
-use Rattle.cpu_workers.specs.{Closing.{blocks_read, tower_rules}, Lawful.held_at, Orders.{IsTraceOf, effects_of}, Seating.{Block, tower_acts}}
+use Rattle.layer_traits.specs.{Blocks.{BufferEffects.opening_locks, QueueBlocks.{StartsWell, homes_in, inner}}, Threads.OnePlace.cpu_at}
+use Rattle.layer_traits.specs.{Polling.Plans.is_in_section, Views.Renaming.viewed, Protocols.WordsProtocol.{MayCome, edit_of}}
+use Rattle.{queuing_lock.specs.Nested.nested_lock_of, sleep_wakeup.specs.Nested.state_of, table_machine.specs.SeatViews.{IsOver, TableView}}
+use Rattle.{cpu.specs.{Claims.{buffer_at, listed}, Tower.Views.TowerName}, cpu_workers.specs.declared.workers.callers.TheConstants.MOST_CALLS}
+use Rattle.cpu_workers.specs.{Callers.{CallerView, IsSameCaller}, Closing.{Key, WordsOfTower, acts_in, blocks_read, tower_rules}, Lawful.held_at}
+use Rattle.cpu_workers.specs.{Orders.{IsTraceOf, effects_of}, Seating.{Block, tower_acts}}
 
 -- a native has run at its caller, which is the same, and has kept what it promises of itself and of the calls
 pub record HasKept {N : Type 0} (Kept : N → N → CallerView → Type 0) (native : N) (caller : CallerView) (after : N) (last : CallerView) : Type 0 where

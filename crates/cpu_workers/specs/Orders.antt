@@ -2,8 +2,8 @@
 use Rattle.std.specs.{Prelude.{◌≡◌, ℕ, ◌≤◌, Bool, true, List, length, map, reverse, Some, None, slice_index_or}, List.AllByRecursion}
 use Rattle.event_log.specs.{declared.{entries.Entry.Entry, ids.{CpuId.CpuId, Tid.Tid}}, Actions.Action, Sections.sections_in}
 use Rattle.guest.specs.{declared.instructions.Instruction.Instruction, Calls.{IsProgramsCalls, HasEnded}, State.State}
-use Rattle.{layer_traits.specs.{Queues.{buffer_sections, event_of}, BufferEffects.{effects_in, opening_locks}, Places.home_of}, cpu.specs.Cpus.IsOfHome}
-use Rattle.{cpu.specs.{Cpus.{of_cpu, of_thread}, Table.Setups.thread_at, Tower.Views.TowerName}, cpu_workers.specs.Working.Working}
+use Rattle.layer_traits.specs.{Layers.Queues.{buffer_sections, event_of}, Blocks.BufferEffects.{effects_in, opening_locks}, Threads.Places.home_of}
+use Rattle.{cpu.specs.{Cpus.{IsOfHome, of_cpu, of_thread}, Table.Setups.thread_at, Tower.Views.TowerName}, cpu_workers.specs.Working.Working}
 
 -- the effects of the sections of these actions on buffers of these capacities, which were empty; newest first
 abbrev pub effects_of : List ℕ → List (Action TowerName) → List Entry

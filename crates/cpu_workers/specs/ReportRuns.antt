@@ -1,8 +1,8 @@
 -- What threads do, some schedule does: a report of workers is that of a run of the step table's system.
 use Rattle.std.specs.{Prelude.{◌≡◌, ℕ, ◌<◌, false, List, length, map, Some, slice_get}, List.All}
-use Rattle.{event_log.specs.{declared.ids.CpuId.CpuId, Actions.phase}, layer_traits.specs.Plans.is_in_section, cpu.specs.Sound.after_steps}
-use Rattle.cpu.specs.Table.{Setups.{Private, Setup}, Steps.{IsReached, Whole, halted_at, whole_at_boot}}
-use Rattle.cpu_workers.specs.{declared.workers.gates.Go.{Go, TheVariants.Limit}, Lawful.{AreLeft, CpuReport, IsCpuReportOf, IsLawfulReport, Shown}}
+use Rattle.{event_log.specs.{declared.ids.CpuId.CpuId, Actions.phase}, layer_traits.specs.Polling.Plans.is_in_section, cpu.specs.Sound.after_steps}
+use Rattle.{cpu.specs.Table.{Setups.{Private, Setup}, Steps.{IsReached, Whole, halted_at, whole_at_boot}}, cpu_workers.specs.declared.workers.gates.Go.Go}
+use Rattle.cpu_workers.specs.{declared.workers.gates.Go.TheVariants.Limit, Lawful.{AreLeft, CpuReport, IsCpuReportOf, IsLawfulReport, Shown}}
 use Rattle.cpu_workers.specs.Reports.{IsTrueStop}
 
 -- the step table's system after these steps from boot, one after the other, with room for just these

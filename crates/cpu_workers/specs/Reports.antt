@@ -1,7 +1,7 @@
 -- What a worker did: so many turns, and why it stopped.
 use Rattle.std.specs.Prelude.{◌≡◌, ◌⊎◌, ℕ, ◌+◌, ◌-◌, ◌^◌, ◌<◌, ◌≤◌, ◌==◌, List, [], ◌∷◌, ◌++◌, Option, Some, None, false, true, if◌then◌else◌}
 use Rattle.event_log.specs.{declared.ids.CpuId.CpuId, Actions.{Action, cpu_of_action, phase}, History.same_cpu}
-use Rattle.layer_traits.specs.{declared.steps.{Reason.Reason, Step.TheVariants.Stepped}, Along.{Outcome, Along}, Plans.is_in_section}
+use Rattle.layer_traits.specs.{declared.steps.{Reason.Reason, Step.TheVariants.Stepped}, Polling.{Along.{Outcome, Along}, Plans.is_in_section}}
 use Rattle.{cpu.specs.Table.{Setups.Setup, Steps.{cpu_step, halted_at}}, cpu_workers.specs.declared.workers.gates.Go.{Go, TheVariants.{Limit, Pass}}}
 use Rattle.cpu_workers.specs.{declared.workers.stops.Stop.{Stop, TheVariants.{AllEnded, TurnsUsed, TraceFull, Held}}, Working.{IsPlanned, IsSame, Working}}
 use Rattle.cpu_workers.specs.Working.{is_inside, log}

@@ -2,12 +2,12 @@
 use Rattle.std.specs.Prelude.{◌≡◌, ℕ, List, [], map, length, slice_get, Option, Some, IsSome, ◌<◌}
 use Rattle.{boot.specs.Plan.BootPlan, event_log.specs.declared.{entries.Entry.Entry, ids.{BufId.BufId, CpuId.CpuId, LockId.{LockId, TheVariants.Pending}}}}
 use Rattle.{event_log.specs.{Actions.{Action, AreLegal, acts_of, renamed}, Messages.Message}, layer_traits.specs.declared.queue_edits.QueueBlock.QueueBlock}
-use Rattle.layer_traits.specs.{declared.queue_edits.QueueEdit.QueueEdit, BufferEffects.opening_locks, QueueBlocks.{StartsWell, homes_in, inner}}
-use Rattle.{layer_traits.specs.{Renaming.{renamed_edit, viewed}, WordsProtocol.edit_of}, queuing_lock.specs.Nested.{edit_in as lock_call, nested_lock_of}}
-use Rattle.{sleep_wakeup.specs.Nested.{edit_in as slept_edit, state_of}, cpu.specs.{Boots.homes_for, Sound.setup_for, Table.Setups.at_boot}}
-use Rattle.{cpu.specs.Tower.Views.TowerName, table_machine.specs.SeatViews.{TableView, IsOver, site_of}, cpu_workers.specs.declared.workers.gates.Go.Go}
-use Rattle.cpu_workers.specs.{declared.workers.stops.Stop.Stop, Closing.{Key, LockBlock, LockEdit, blocks_read}, Lawful.held_at, Orders.HasFollowed}
-use Rattle.cpu_workers.specs.{Orders.IsTraceOf, Reports.HasRun, Working.{IsPlanned, Working}}
+use Rattle.layer_traits.specs.{declared.queue_edits.QueueEdit.QueueEdit, Blocks.{BufferEffects.opening_locks, QueueBlocks.{StartsWell, homes_in, inner}}}
+use Rattle.{layer_traits.specs.{Views.Renaming.{renamed_edit, viewed}, Protocols.WordsProtocol.edit_of}, queuing_lock.specs.Nested.edit_in as lock_call}
+use Rattle.{queuing_lock.specs.Nested.nested_lock_of, sleep_wakeup.specs.Nested.{edit_in as slept_edit, state_of}, cpu.specs.{Boots.homes_for, Sound.setup_for}}
+use Rattle.{cpu.specs.{Table.Setups.at_boot, Tower.Views.TowerName}, table_machine.specs.SeatViews.{TableView, IsOver, site_of}}
+use Rattle.cpu_workers.specs.{declared.workers.{gates.Go.Go, stops.Stop.Stop}, Closing.{Key, LockBlock, LockEdit, blocks_read}, Lawful.held_at}
+use Rattle.cpu_workers.specs.{Orders.{HasFollowed, IsTraceOf}, Reports.HasRun, Working.{IsPlanned, Working}}
 
 -- what a section of the tower's locks does, and what such a lock guards
 abbrev pub Edit : Type 0

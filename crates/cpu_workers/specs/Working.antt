@@ -1,7 +1,7 @@
 -- A worker: one CPU with its machine, and one turn of it.
 use Rattle.std.specs.Prelude.{◌≡◌, ℕ, Bool, List, Option, Some, None, slice_index_or}
 use Rattle.{event_log.specs.{declared.ids.{CpuId.CpuId, Tid.Tid}, Actions.{Action, phase}}, guest.specs.declared.instructions.Instruction.Instruction}
-use Rattle.{layer_traits.specs.{declared.steps.Step.{Step, TheVariants.Stepped}, Along.IsStep, Plans.is_in_section}, cpu.specs.Table.Blocks.Name}
+use Rattle.{layer_traits.specs.{declared.steps.Step.{Step, TheVariants.Stepped}, Polling.{Along.IsStep, Plans.is_in_section}}, cpu.specs.Table.Blocks.Name}
 use Rattle.cpu.specs.{Table.{Setups.{Setup, Private, program_of}, Steps.{cpu_step, halted_at}}, Tower.{Composed.{answer_of, named}, Views.TowerName}}
 
 -- what no turn changes: the home of each thread, the capacity of each buffer, the programs of the threads at home, and for how many

@@ -4,13 +4,13 @@ use Rattle.std.proofs.{Common.{sym, ◌∙◌, subst, arith}, lemmas.Bool.{and_p
 use Rattle.event_log.{specs.{declared.ids.{BufId.BufId, LockId.{LockId, TheVariants.Buffer}, Tid.Tid}, History.same_lock}, proofs.Same.same_lock_true}
 use Rattle.layer_traits.specs.declared.{buffer_edits.BufferEdit.BufferEdit, calls.Call.Call, conditions.CvLeave.TheVariants.{Leave, Wait}}
 use Rattle.layer_traits.specs.declared.locked.{QEdit.TheVariants.{Acquire, Inside, Release}, Side.{Side, TheVariants.Senders}}
-use Rattle.layer_traits.specs.{declared.call_states.CallState.CallState, BufferBlocks.{BufferState, buffer_edited, thread_of_edit, entered, is_first, line_of}}
-use Rattle.layer_traits.specs.{BufferBlocks.{put_in, shut, taken_out}, BufferEffects.{drawn, is_enter}, BufferProtocol.{BufferLock, BufferSection, buffer_at}}
-use Rattle.layer_traits.specs.{BufferProtocol.{buffer_rules, has_tried_in_vain}, BufferLaw.{buffer_of, side_of}, Places.{count_in, one_if}, Conditions.CvCall}
-use Rattle.layer_traits.{specs.{QLocking.{IsOwners, asked, lock_caller, lock_edited, owner_in}, Sleeping.joined}, proofs.CountLemmas.same_tid_sym}
-use Rattle.{layer_traits.proofs.CountLemmas.{count_behind, count_other}, thread_blocks.{specs.Queues.{same_tid, is_in, rest}, proofs.Members.same_tid_self}}
-use Rattle.{thread_blocks.proofs.{Members.same_tid_true, Distinct.out_of_rest}, fifo_buffer.specs.Stances.{Grip, Stance, CallStateFits, holds_at, line_at}}
-use Rattle.fifo_buffer.specs.Stances.{lined_at, same_side}
+use Rattle.layer_traits.specs.{declared.call_states.CallState.CallState, Blocks.BufferBlocks.{BufferState, buffer_edited, thread_of_edit, entered, is_first}}
+use Rattle.layer_traits.specs.Blocks.{BufferBlocks.{line_of, put_in, shut, taken_out}, BufferEffects.{drawn, is_enter}, BufferProtocol.BufferLock}
+use Rattle.layer_traits.specs.{Blocks.BufferProtocol.{BufferSection, buffer_at, buffer_rules, has_tried_in_vain}, Layers.BufferLaw.{buffer_of, side_of}}
+use Rattle.layer_traits.specs.Layers.{Conditions.CvCall, QLocking.{IsOwners, asked, lock_caller, lock_edited, owner_in}, Sleeping.joined}
+use Rattle.layer_traits.{specs.Threads.Places.{count_in, one_if}, proofs.CountLemmas.{same_tid_sym, count_behind, count_other}}
+use Rattle.thread_blocks.{specs.Queues.{same_tid, is_in, rest}, proofs.{Members.{same_tid_self, same_tid_true}, Distinct.out_of_rest}}
+use Rattle.fifo_buffer.specs.Stances.{Grip, Stance, CallStateFits, holds_at, line_at, lined_at, same_side}
 
 pub not_some : (t u : Tid) → same_tid u t ≡ false → Some u ≢ Some t
 not_some t u other is = let one : u ≡ t = cc in absurd (cc (other, subst (λ v. same_tid u v ≡ true) one (same_tid_self u)))

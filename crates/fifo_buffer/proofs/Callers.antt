@@ -1,8 +1,9 @@
 -- A thread that runs on a CPU and whose call takes a section poll there: its CPU's part and the log before the section poll.
 use Rattle.std.proofs.Common.{◌≡◌, ◌<◌, List, length, Option, Some}
 use Rattle.event_log.specs.declared.ids.{CpuId.CpuId, LockId.LockId, Tid.Tid, TheConstants.THREADS}
-use Rattle.layer_traits.specs.{declared.{buffer_edits.BufferOut.BufferOut, calls.Call.Call, queue_edits.QueueBlock.QueueBlock}, BufferProtocol.BufferLock}
-use Rattle.{layer_traits.specs.{CvLaw.Waiting, Places.home_of, QueueBlocks.homes_in}, fifo_buffer.specs.SectionPolls.BufferEvent}
+use Rattle.layer_traits.specs.declared.{buffer_edits.BufferOut.BufferOut, calls.Call.Call, queue_edits.QueueBlock.QueueBlock}
+use Rattle.layer_traits.specs.{Blocks.{BufferProtocol.BufferLock, QueueBlocks.homes_in}, Layers.CvLaw.Waiting, Threads.Places.home_of}
+use Rattle.fifo_buffer.specs.SectionPolls.{BufferEvent}
 
 pub record Caller : Type 1 where
   pub opening : LockId → Option (QueueBlock BufferLock)

@@ -1,14 +1,15 @@
 -- One poll of the conditions, for a call: who was woken out of its wait, who was handed the lock, and whose section went on.
 use Rattle.std.proofs.Common.{◌≡◌, ℕ, true, false, List, [], length, Option, Some, None, IsSome, is_some, slice_set, refl, ap, sym, ◌∙◌, subst, arith}
-use Rattle.{std.proofs.lemmas.List.length-set, event_log.specs.{declared.ids.{BufId.BufId, LockId.{LockId, TheVariants.Buffer}, Tid.Tid}, History.IsLawful}}
+use Rattle.std.proofs.lemmas.List.{length-set}
+use Rattle.event_log.specs.{declared.ids.{BufId.BufId, LockId.{LockId, TheVariants.Buffer}, Tid.Tid}, History.IsLawful}
 use Rattle.layer_traits.specs.declared.{buffer_edits.{BufferEdit.BufferEdit, BufferOut.BufferOut}, calls.{Call.Call, Effect.Effect}, conditions.CvOut.CvOut}
 use Rattle.layer_traits.specs.declared.{locked.QOut.{QOut, TheVariants.{Acquired, Released}}, scheds.SchedCall.SchedCall, call_states.Stage.Stage}
-use Rattle.layer_traits.specs.{declared.call_states.CallState.CallState, BufferLaw.{buffer_of, recorded, section_at}, BufferProtocol.BufferLock}
-use Rattle.layer_traits.specs.{BufferProtocol.{BufferSection, buffer_at, buffer_monitor_rules}, Conditions.{CvCall, cv_rules}, CvLaw.{CvPolled, WaitOver}}
-use Rattle.layer_traits.specs.{CvLaw.{Waiting, left_waiting, left_woken}, QLockLaw.{Handed, LockPolled, Locks, Locking, left_handed, lock_kernel, slept_for}}
-use Rattle.layer_traits.specs.{QLocking.{wait_list_in, owner_in, lock_caller}, Plans.Left, QueueBlocks.{homes_in, inner}, Queues.QueueAllowed}
-use Rattle.{layer_traits.specs.{Queues.buffer_sections, SleepLaw.Sleeping}, thread_blocks.specs.Queues.{same_tid, is_in}, fifo_buffer.specs.Stances.Holds}
-use Rattle.fifo_buffer.specs.{Stances.{InCall, CallStateFits, call_state_in, waits_at}, SectionPolls.{Begins, BufferEvent, BufferOutcome, Ended, Goes}}
+use Rattle.layer_traits.specs.{declared.call_states.CallState.CallState, Layers.{BufferLaw.{buffer_of, recorded, section_at}, Conditions.{CvCall, cv_rules}}}
+use Rattle.layer_traits.specs.Layers.{CvLaw.{CvPolled, WaitOver, Waiting, left_waiting, left_woken}, QLockLaw.{Handed, LockPolled, Locks, Locking, left_handed}}
+use Rattle.layer_traits.specs.Layers.{QLockLaw.{lock_kernel, slept_for}, QLocking.{wait_list_in, owner_in, lock_caller}, Queues.{QueueAllowed, buffer_sections}}
+use Rattle.layer_traits.specs.{Layers.SleepLaw.Sleeping, Blocks.BufferProtocol.{BufferLock, BufferSection, buffer_at, buffer_monitor_rules}}
+use Rattle.{layer_traits.specs.{Blocks.QueueBlocks.{homes_in, inner}, Polling.Plans.Left}, thread_blocks.specs.Queues.{same_tid, is_in}}
+use Rattle.fifo_buffer.specs.{Stances.{Holds, InCall, CallStateFits, call_state_in, waits_at}, SectionPolls.{Begins, BufferEvent, BufferOutcome, Ended, Goes}}
 use Rattle.fifo_buffer.{specs.SectionPolls.{SectionPolled, recorded_if}, proofs.{Callers.Caller, Events.caller_is, Polls.{lock_section_poll, other_mark}}}
 use Rattle.fifo_buffer.proofs.Polls.{own_mark}
 use Rattle.layer_traits.specs.declared.conditions.CvOut.TheVariants as answer

@@ -5,12 +5,13 @@ use Rattle.{event_log.proofs.Same.{same_cpu_self, same_lock_self}, layer_traits.
 use Rattle.layer_traits.specs.declared.{calls.{Call.TheVariants.{Send, Recv, Close}, Effect.Effect}, locked.Side.{Side, TheVariants.{Receivers, Senders}}}
 use Rattle.layer_traits.specs.declared.{queue_edits.QueueBlock.QueueBlock, queues.QueueCall.{QueueCall, TheVariants.{Push, TakeAll, OnBuffer}}}
 use Rattle.layer_traits.specs.declared.call_states.{Stage.{Stage, TheVariants.{Idle, Acquires, Enters, Tries, Waits, AcquiresAgain}}, CallState.CallState}
-use Rattle.layer_traits.specs.{BufferLaw.{buffer_of, section_at, side_of}, Conditions.{CvCall, cv_rules}, QLockLaw.lock_kernel, QLocking.IsOwners}
-use Rattle.layer_traits.specs.{QLocking.{lock_caller, owner_in}, Places.{count_in, home_of, one_if}, Protocol.section, QueueBlocks.{homes_in, inner}}
-use Rattle.layer_traits.specs.{Queues.{QueueAllowed, buffer_sections, cpu_of_queue_event, with_section}, BufferProtocol.{BufferLock, BufferSection, IsDue}}
-use Rattle.layer_traits.{specs.BufferProtocol.{buffer_at, buffer_monitor_rules, buffer_rules, is_in_line}, proofs.CountLemmas.not_counted}
-use Rattle.{layer_traits.proofs.ListsLemmas.counted_in, thread_blocks.{specs.Queues.same_tid, proofs.Members.same_tid_true}, fifo_buffer.specs.Stances.Grip}
-use Rattle.fifo_buffer.{specs.{Stances.{InCall, Stance, CallStateFits, line_at, same_side}, SectionPolls.BufferEvent}, proofs.Apart.{fits_apart, side_self}}
+use Rattle.layer_traits.specs.Layers.{BufferLaw.{buffer_of, section_at, side_of}, Conditions.{CvCall, cv_rules}, QLockLaw.lock_kernel, QLocking.IsOwners}
+use Rattle.layer_traits.specs.Layers.{QLocking.{lock_caller, owner_in}, Queues.{QueueAllowed, buffer_sections, cpu_of_queue_event, with_section}}
+use Rattle.layer_traits.specs.{Threads.Places.{count_in, home_of, one_if}, Protocols.Protocol.section, Blocks.QueueBlocks.{homes_in, inner}}
+use Rattle.layer_traits.specs.Blocks.BufferProtocol.{BufferLock, BufferSection, IsDue, buffer_at, buffer_monitor_rules, buffer_rules, is_in_line}
+use Rattle.{layer_traits.proofs.{CountLemmas.not_counted, ListsLemmas.counted_in}, thread_blocks.{specs.Queues.same_tid, proofs.Members.same_tid_true}}
+use Rattle.fifo_buffer.{specs.{Stances.{Grip, InCall, Stance, CallStateFits, line_at, same_side}, SectionPolls.BufferEvent}, proofs.Apart.fits_apart}
+use Rattle.fifo_buffer.proofs.Apart.{side_self}
 
 module _ (opening : LockId → Option (QueueBlock BufferLock)) where
   -- one event, none of whose callers is this thread

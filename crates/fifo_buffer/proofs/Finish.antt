@@ -3,12 +3,12 @@ use Rattle.std.proofs.Common.{◌≡◌, ◌≢◌, ◌⊎◌, inl, inr, Bool, t
 use Rattle.std.proofs.Common.{refl, ap, sym, ◌∙◌, subst, arith}
 use Rattle.{event_log.specs.declared.ids.{CpuId.CpuId, Tid.Tid}, layer_traits.specs.declared.buffer_edits.{BufferEdit.BufferEdit, BufferOut.BufferOut}}
 use Rattle.layer_traits.specs.declared.{calls.{Call.Call, Effect.Effect, Reply.Reply}, conditions.CvOut.CvOut, locked.QOut.QOut, scheds.SchedCall.SchedCall}
-use Rattle.layer_traits.specs.{declared.call_states.{Stage.{Stage, TheVariants.Idle}, CallState.CallState}, BufferEffects.effects_in, BufferLaw.Answered}
-use Rattle.layer_traits.specs.BufferLaw.{Called, begun_at, buffer_of, entry_of, going, recorded, enlisted, replied, reply_of, call_state_of, tried}
-use Rattle.{layer_traits.specs.{Conditions.CvCall, QLockLaw.slept_for, Places.home_of, Queues.buffer_sections}, thread_blocks.specs.Queues.same_tid}
-use Rattle.{thread_blocks.proofs.Members.same_tid_true, fifo_buffer.specs.{Stances.{InCall, CallStateFits, called_at, done_at}, SectionPolls.{After, CallsFit}}}
-use Rattle.fifo_buffer.{specs.SectionPolls.{FitsAt, NoSection, Sleeps, Stays, calling_after}, proofs.{SectionPollTaken.SectionPollTaken, Parts.effects_append}}
-use Rattle.fifo_buffer.proofs.Parts.{effects_others, effects_over}
+use Rattle.layer_traits.specs.{declared.call_states.{Stage.{Stage, TheVariants.Idle}, CallState.CallState}, Blocks.BufferEffects.effects_in}
+use Rattle.layer_traits.specs.Layers.BufferLaw.{Answered, Called, begun_at, buffer_of, entry_of, going, recorded, enlisted, replied, reply_of, call_state_of}
+use Rattle.layer_traits.specs.{Layers.{BufferLaw.tried, Conditions.CvCall, QLockLaw.slept_for, Queues.buffer_sections}, Threads.Places.home_of}
+use Rattle.{thread_blocks.{specs.Queues.same_tid, proofs.Members.same_tid_true}, fifo_buffer.specs.Stances.{InCall, CallStateFits, called_at, done_at}}
+use Rattle.fifo_buffer.{specs.SectionPolls.{After, CallsFit, FitsAt, NoSection, Sleeps, Stays, calling_after}, proofs.SectionPollTaken.SectionPollTaken}
+use Rattle.fifo_buffer.proofs.Parts.{effects_append, effects_others, effects_over}
 
 enlisted_call : (call_state : CallState) (out : BufferOut) → (enlisted call_state out).call ≡ call_state.call
 enlisted_call call_state out = grind arith

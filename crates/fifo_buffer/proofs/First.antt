@@ -2,10 +2,10 @@
 use Rattle.std.proofs.Common.{◌≡◌, ◌⊎◌, true, false, List, Option, Some, None, refl, ap, sym, subst, arith}
 use Rattle.{event_log.specs.declared.ids.{BufId.BufId, CpuId.CpuId, LockId.LockId, Tid.Tid}, layer_traits.specs.declared.buffer_edits.BufferEdit.BufferEdit}
 use Rattle.layer_traits.specs.declared.{buffer_edits.BufferOut.BufferOut, calls.Call.Call, locked.Side.TheVariants.Senders, scheds.SchedCall.SchedCall}
-use Rattle.layer_traits.specs.{declared.call_states.{Stage.{Stage, TheVariants.{Idle, Acquires}}, CallState.CallState}, BufferLaw.{Calling, MayGoOn}}
-use Rattle.layer_traits.specs.{BufferLaw.{MayPollCall, begun, going, going_at, call_state_of}, BufferProtocol.{BufferLock, BufferSection}, Conditions.CvCall}
-use Rattle.{layer_traits.specs.{CvLaw.Waiting, QLockLaw.slept_for, Places.home_of}, thread_blocks.specs.Queues.same_tid, fifo_buffer.specs.Stances.InCall}
-use Rattle.fifo_buffer.specs.{Stances.{Stance, CallStateFits, called_at}, SectionPolls.{CallsFit, FitsAt, Goes, MayPollSection, under_way_at}}
+use Rattle.layer_traits.specs.{declared.call_states.{Stage.{Stage, TheVariants.{Idle, Acquires}}, CallState.CallState}, Layers.BufferLaw.{Calling, MayGoOn}}
+use Rattle.layer_traits.specs.Layers.{BufferLaw.{MayPollCall, begun, going, going_at, call_state_of}, Conditions.CvCall, CvLaw.Waiting, QLockLaw.slept_for}
+use Rattle.{layer_traits.specs.{Blocks.BufferProtocol.{BufferLock, BufferSection}, Threads.Places.home_of}, thread_blocks.specs.Queues.same_tid}
+use Rattle.fifo_buffer.specs.{Stances.{InCall, Stance, CallStateFits, called_at}, SectionPolls.{CallsFit, FitsAt, Goes, MayPollSection, under_way_at}}
 use Rattle.layer_traits.specs.declared.scheds.SchedCall.TheVariants as sched
 
 -- within a call the call state goes on as it is

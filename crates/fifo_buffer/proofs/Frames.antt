@@ -1,7 +1,7 @@
 -- What a call of the buffers leaves as it was, from what the call of the conditions beneath leaves.
 use Rattle.std.proofs.Common.{◌≡◌, ◌≢◌, ℕ, List, Option, ap, ◌∙◌}
 use Rattle.{event_log.specs.declared.ids.{CpuId.CpuId, LockId.LockId}, layer_traits.specs.declared.queue_edits.QueueBlock.QueueBlock}
-use Rattle.{layer_traits.specs.{BufferProtocol.BufferLock, Framed.Framed}, fifo_buffer.specs.{declared.fifo.Fifo.Fifo, FifoFits.BootsSo}}
+use Rattle.{layer_traits.specs.{Blocks.BufferProtocol.BufferLock, Polling.Framed.Framed}, fifo_buffer.specs.{declared.fifo.Fifo.Fifo, FifoFits.BootsSo}}
 
 -- the call beneath was of a part of the same CPU, and the part agrees again; and so does each of another CPU
 pub framed_over : {P M : Type 0} (Part : Fifo P → M → Type 0) {Fits : P → M → Type 0} {cpu_of : P → CpuId}

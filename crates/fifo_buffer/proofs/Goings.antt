@@ -2,8 +2,8 @@
 use Rattle.std.proofs.Common.{◌≡◌, ◌≢◌, Bool, true, false, List, Option, Some}
 use Rattle.{event_log.specs.declared.ids.{CpuId.CpuId, LockId.LockId, Tid.Tid}, layer_traits.specs.declared.buffer_edits.BufferEdit.BufferEdit}
 use Rattle.layer_traits.specs.declared.{buffer_edits.BufferOut.BufferOut, calls.Call.Call, call_states.CallState.CallState, scheds.SchedCall.SchedCall}
-use Rattle.layer_traits.specs.{BufferLaw.{call_state_of, going}, BufferProtocol.{BufferLock, BufferSection}, Conditions.CvCall, CvLaw.Waiting, Places.home_of}
-use Rattle.{thread_blocks.specs.Queues.same_tid, fifo_buffer.specs.SectionPolls.{FitsAt, MayPollSection, Sizes}}
+use Rattle.layer_traits.specs.{Layers.{BufferLaw.{call_state_of, going}, Conditions.CvCall, CvLaw.Waiting}, Blocks.BufferProtocol.{BufferLock, BufferSection}}
+use Rattle.{layer_traits.specs.Threads.Places.home_of, thread_blocks.specs.Queues.same_tid, fifo_buffer.specs.SectionPolls.{FitsAt, MayPollSection, Sizes}}
 
 -- the next section of the call of t may be polled; the call's effect is that with which the poll began, and the other threads are as they were then
 pub record IsGoing (homes : List CpuId) (O : LockId → Option BufferLock) (past : List BufferSection) (c : CpuId) (t : Tid) (call : Call)

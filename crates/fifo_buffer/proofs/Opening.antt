@@ -1,9 +1,9 @@
 -- A machine that opens with an empty buffer for each capacity boots as the layer wants it.
 use Rattle.std.proofs.{Common.{◌≡◌, ℕ, ◌≤◌, List, [], length, map, Option, None, option_map, slice_get, refl, ap, sym, ◌∙◌, arith}, Math.Path.fun_ext}
-use Rattle.{std.proofs.lemmas.Option.slice_get-map, event_log.specs.declared.ids.{BufId.BufId, LockId.{LockId, TheVariants.Buffer}}}
-use Rattle.layer_traits.specs.Capacities.{caps_in}
-use Rattle.layer_traits.specs.{declared.queue_edits.QueueBlock.QueueBlock, BufferBlocks.{BufferState, empty_block}, BufferEffects.{fresh_lock, opening_locks}}
-use Rattle.layer_traits.{specs.{BufferProtocol.BufferLock, QueueBlocks.{StartsAs, inner}, Capacities.caps_from}, proofs.CapacityLemmas.caps_observed}
+use Rattle.std.proofs.lemmas.Option.{slice_get-map}
+use Rattle.{event_log.specs.declared.ids.{BufId.BufId, LockId.{LockId, TheVariants.Buffer}}, layer_traits.specs.Blocks.Capacities.{caps_in, caps_from}}
+use Rattle.layer_traits.specs.Blocks.{BufferBlocks.{BufferState, empty_block}, BufferEffects.{fresh_lock, opening_locks}, BufferProtocol.BufferLock}
+use Rattle.layer_traits.{specs.{Blocks.QueueBlocks.{StartsAs, inner}, declared.queue_edits.QueueBlock.QueueBlock}, proofs.CapacityLemmas.caps_observed}
 use Rattle.fifo_buffer.specs.FifoFits.{BootsSo}
 
 -- a lock round a block, with no owner and nobody asleep

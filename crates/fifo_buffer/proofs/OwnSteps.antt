@@ -1,18 +1,19 @@
 -- A thread's own sections: what each leaves of its stance, and its effect.
 use Rattle.std.proofs.Common.{◌≡◌, ◌<◌, ℕ, Bool, true, false, ◌&&◌, List, [], ◌∷◌, ◌++◌, Option, Some, None, option_map, if◌then◌else◌, refl, ap, sym, ◌∙◌}
-use Rattle.{std.proofs.{Common.{subst, arith, lt-ltb}, lemmas.Bool.{and_parts, and_right}, Math.Bool.and-true}, event_log.specs.declared.ids.BufId.BufId}
-use Rattle.event_log.specs.{declared.ids.{CpuId.CpuId, LockId.{LockId, TheVariants.Buffer}, Tid.Tid, TheConstants.THREADS}, History.same_lock, Messages.Message}
-use Rattle.event_log.{specs.{Messages.no_message, Runs.group_of}, proofs.{Same.{same_lock_self, same_lock_true}, BoolLemmas.none_of}}
+use Rattle.std.proofs.{Common.{subst, arith, lt-ltb}, lemmas.Bool.{and_parts, and_right}, Math.Bool.and-true}
+use Rattle.event_log.specs.{declared.ids.{BufId.BufId, CpuId.CpuId, LockId.{LockId, TheVariants.Buffer}, Tid.Tid, TheConstants.THREADS}, History.same_lock}
+use Rattle.event_log.{specs.{Messages.{Message, no_message}, Runs.group_of}, proofs.{Same.{same_lock_self, same_lock_true}, BoolLemmas.none_of}}
 use Rattle.layer_traits.specs.declared.buffer_edits.{BufferEdit.{BufferEdit, TheVariants.{Enter, TryPut, TryTake, Shut}}, BufferOut.BufferOut}
 use Rattle.layer_traits.specs.declared.{calls.{Call.{Call, TheVariants.{Send, Recv, Close}}, Effect.Effect}, conditions.CvEdit.TheVariants.{Edit, SignalFront}}
 use Rattle.layer_traits.specs.declared.{conditions.{CvLeave.TheVariants.{Leave, Wait}, CvOut.CvOut}, locked.QEdit.TheVariants.{Acquire, Inside, Release}}
 use Rattle.layer_traits.specs.declared.locked.{QOut.{QOut, TheVariants.{Did, Released}}, Side.{Side, TheVariants.{Receivers, Senders}}}
 use Rattle.layer_traits.specs.declared.call_states.Stage.{Stage, TheVariants.{Idle, Acquires, Enters, Tries, Waits, AcquiresAgain, Signals, SignalsOwn}}
-use Rattle.layer_traits.specs.{declared.call_states.Stage.TheVariants.Releases, BufferBlocks.{BufferState, effect_kind, entered, first_item, is_first, is_next}}
-use Rattle.layer_traits.specs.{BufferBlocks.{line_of, may_join, drawn_of, put_in, taken_out}, BufferEffects.{drawn, effect_of, effect_on, is_enter, drawn_in}}
-use Rattle.layer_traits.specs.{BufferLaw.{IsEffectOf, buffer_of, entry_of, section_at, side_of}, BufferProtocol.{BufferLock, BufferSection, buffer_at}}
-use Rattle.layer_traits.specs.{BufferProtocol.{buffer_rules, has_tried_in_vain}, Conditions.CvCall, QLocking.{asked, lock_edited, lock_out, asker_report}}
-use Rattle.{layer_traits.{specs.{Places.{count_in, one_if}, Protocol.section}, proofs.CountLemmas.{count_append, not_counted}}, thread_blocks.specs.Queues.rest}
+use Rattle.layer_traits.specs.{declared.call_states.Stage.TheVariants.Releases, Blocks.BufferBlocks.{BufferState, effect_kind, entered, first_item, is_first}}
+use Rattle.layer_traits.specs.Blocks.{BufferBlocks.{is_next, line_of, may_join, drawn_of, put_in, taken_out}, BufferEffects.{drawn, effect_of, effect_on}}
+use Rattle.layer_traits.specs.Blocks.{BufferEffects.{is_enter, drawn_in}, BufferProtocol.{BufferLock, BufferSection, buffer_at, buffer_rules}}
+use Rattle.layer_traits.specs.{Blocks.BufferProtocol.has_tried_in_vain, Layers.BufferLaw.{IsEffectOf, buffer_of, entry_of, section_at, side_of}}
+use Rattle.layer_traits.specs.{Layers.{Conditions.CvCall, QLocking.{asked, lock_edited, lock_out, asker_report}}, Threads.Places.{count_in, one_if}}
+use Rattle.{layer_traits.{specs.Protocols.Protocol.section, proofs.CountLemmas.{count_append, not_counted}}, thread_blocks.specs.Queues.rest}
 use Rattle.{thread_blocks.proofs.{Members.same_tid_self, Distinct.out_of_rest}, fifo_buffer.specs.{Laws.BlockSteps.kind_counts, Stances.{Grip, Holds, InCall}}}
 use Rattle.fifo_buffer.specs.Stances.{IsFreeOf, Stance, CallStateFits, done_at, recorded_by, line_at, same_side, slept_by, call_state_in, waits_by}
 use Rattle.fifo_buffer.proofs.{Within.within, Apart.{above_asked, line_shut, side_self}}

@@ -5,11 +5,11 @@ use Rattle.event_log.specs.{declared.{entries.Entry.Entry, ids.{BufId.BufId, Cpu
 use Rattle.event_log.{specs.History.{AreOthers, IsLawful, same_cpu}, proofs.{Same.same_cpu_true, Foreign.others_both}}
 use Rattle.layer_traits.specs.declared.{buffer_edits.{BufferEdit.BufferEdit, BufferOut.BufferOut}, calls.Call.Call, locked.Side.Side}
 use Rattle.layer_traits.specs.declared.{queue_edits.QueueBlock.QueueBlock, queues.QueueCall.{QueueCall, TheVariants.{Push, TakeAll, OnBuffer}}}
-use Rattle.layer_traits.specs.{declared.{scheds.SchedCall.SchedCall, call_states.CallState.CallState}, BufferEffects.{effect_of, effect_on, effects_in}}
-use Rattle.layer_traits.specs.{BufferLaw.{MovesGrow, OthersSeen, cpu_of_entry, recorded, call_state_of}, BufferProtocol.{BufferLock, BufferSection}}
-use Rattle.layer_traits.specs.{BufferProtocol.buffer_monitor_rules, Conditions.{CvCall, cv_rules}, CvLaw.Waiting, QLockLaw.{lock_kernel, slept_for}}
-use Rattle.layer_traits.specs.{Places.home_of, Protocol.section, QueueBlocks.{homes_in, inner}, Queues.{QueueAllowed, buffer_sections, cpu_of_queue_event}}
-use Rattle.layer_traits.{specs.Queues.{moves_in, with_section}, proofs.CallLemmas.{moves_append, moves_others, moves_over}}
+use Rattle.layer_traits.specs.{declared.{scheds.SchedCall.SchedCall, call_states.CallState.CallState}, Blocks.BufferEffects.{effect_of, effect_on, effects_in}}
+use Rattle.layer_traits.specs.Blocks.{BufferProtocol.{BufferLock, BufferSection, buffer_monitor_rules}, QueueBlocks.{homes_in, inner}}
+use Rattle.layer_traits.specs.Layers.{BufferLaw.{MovesGrow, OthersSeen, cpu_of_entry, recorded, call_state_of}, Conditions.{CvCall, cv_rules}, CvLaw.Waiting}
+use Rattle.layer_traits.specs.Layers.{QLockLaw.{lock_kernel, slept_for}, Queues.{QueueAllowed, buffer_sections, cpu_of_queue_event, moves_in, with_section}}
+use Rattle.layer_traits.{specs.{Threads.Places.home_of, Protocols.Protocol.section}, proofs.CallLemmas.{moves_append, moves_others, moves_over}}
 use Rattle.fifo_buffer.specs.{FifoFits.PartFits, Stances.CallStateFits, Laws.Tallies.effect_position, SectionPolls.{BufferEvent, BufferOutcome, CallsFit, Goes}}
 use Rattle.fifo_buffer.{specs.SectionPolls.{IsDeferred, Midway}, proofs.Events.keeps_fits}
 

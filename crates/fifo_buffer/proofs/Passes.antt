@@ -2,13 +2,13 @@
 use Rattle.std.proofs.Common.{◌≡◌, Bool, true, false, List, [], ◌++◌, Option, Some, None, is_some, if◌then◌else◌, ap, sym, ◌∙◌, arith}
 use Rattle.event_log.specs.{declared.ids.{CpuId.CpuId, LockId.LockId, Tid.Tid}, History.{AreOthers, IsLawful}}
 use Rattle.layer_traits.specs.declared.{buffer_edits.{BufferEdit.BufferEdit, BufferOut.BufferOut}, passes.Pass.Pass, queue_edits.QueueBlock.QueueBlock}
-use Rattle.layer_traits.specs.{declared.{scheds.SchedCall.SchedCall, call_states.CallState.CallState}, BufferEffects.effects_in, BufferLaw.{Calling, MayGoOn}}
-use Rattle.layer_traits.specs.{BufferLaw.{OthersSeen, Passing}, BufferProtocol.{BufferLock, buffer_monitor_rules}, Conditions.{CvCall, cv_rules}, CvLaw.Waiting}
-use Rattle.layer_traits.specs.{QLockLaw.lock_kernel, Passes.PassPolled, Places.Threads, QueueBlocks.{homes_in, inner}, Queues.{QueueAllowed, buffer_sections}}
-use Rattle.layer_traits.specs.{Queues.{cpu_of_queue_event, moves_in}, Scheds.{SchedPolled, events_of, pass_call}, SleepLaw.done_if}
-use Rattle.{layer_traits.proofs.{CallLemmas.pass_polled, SleepLemmas.done_same, Seen.lawful_rest}, fifo_buffer.specs.FifoFits.PartFits}
-use Rattle.fifo_buffer.{specs.SectionPolls.{BufferEvent, BufferOutcome, NoSection, under_way_at}, proofs.Parts.{effects_append, effects_others, effects_over}}
-use Rattle.fifo_buffer.proofs.Parts.{part_on}
+use Rattle.layer_traits.specs.{declared.{scheds.SchedCall.SchedCall, call_states.CallState.CallState}, Blocks.BufferEffects.effects_in}
+use Rattle.layer_traits.specs.{Blocks.{BufferProtocol.{BufferLock, buffer_monitor_rules}, QueueBlocks.{homes_in, inner}}, Layers.BufferLaw.{Calling, MayGoOn}}
+use Rattle.layer_traits.specs.Layers.{BufferLaw.{OthersSeen, Passing}, Conditions.{CvCall, cv_rules}, CvLaw.Waiting, QLockLaw.lock_kernel, Queues.QueueAllowed}
+use Rattle.layer_traits.specs.Layers.{Queues.{buffer_sections, cpu_of_queue_event, moves_in}, Scheds.{SchedPolled, events_of, pass_call}, SleepLaw.done_if}
+use Rattle.layer_traits.{specs.Threads.{Passes.PassPolled, Places.Threads}, proofs.{CallLemmas.pass_polled, SleepLemmas.done_same, Seen.lawful_rest}}
+use Rattle.fifo_buffer.{specs.{FifoFits.PartFits, SectionPolls.{BufferEvent, BufferOutcome, NoSection, under_way_at}}, proofs.Parts.effects_append}
+use Rattle.fifo_buffer.proofs.Parts.{effects_others, effects_over, part_on}
 use Rattle.layer_traits.specs.declared.scheds.SchedCall.TheVariants as sched
 
 -- its event, where it has one, is no section of a buffer

@@ -1,22 +1,24 @@
 -- One poll of the conditions, for a call at a stage: what it may be, and what it leaves.
 use Rattle.std.proofs.Common.{◌≡◌, ◌⊎◌, inl, inr, ◌<◌, ℕ, Bool, true, false, not, ◌&&◌, List, [], ◌∷◌, ◌++◌, length, Option, Some, None, IsSome, option_map}
 use Rattle.std.proofs.{Common.{option_to_list, is_some, slice_set, if◌then◌else◌, refl, ap, sym, ◌∙◌, subst, arith}, lemmas.Bool.eqb-false}
-use Rattle.{std.proofs.lemmas.List.{get_or-set_other, get_or-set_same, length-set}, event_log.specs.declared.ids.{BufId.BufId, CpuId.CpuId, LockId.LockId}}
-use Rattle.event_log.specs.{declared.ids.{LockId.TheVariants.Buffer, Tid.Tid, TheConstants.THREADS}, History.{AreForeign, IsLawful}}
-use Rattle.{event_log.proofs.BoolLemmas.none_of, layer_traits.specs.declared.{buffer_edits.{BufferEdit.BufferEdit, BufferOut.BufferOut}, calls.Call.Call}}
-use Rattle.layer_traits.specs.declared.{calls.Effect.Effect, conditions.{CvLeave.TheVariants.Wait, CvOut.CvOut}, locked.QEdit.TheVariants.{Acquire, Release}}
-use Rattle.layer_traits.specs.declared.{locked.QOut.{QOut, TheVariants.{Acquired, Queued, Did, Released}}, moves.WaitList.WaitList}
-use Rattle.layer_traits.specs.declared.{queue_edits.QueueBlock.QueueBlock, scheds.SchedCall.SchedCall, call_states.{Stage.Stage, CallState.CallState}}
-use Rattle.layer_traits.specs.{BufferEffects.effects_in, BufferLaw.{IsEffectOf, buffer_of, recorded, section_at, side_of}, BufferProtocol.BufferLock}
-use Rattle.layer_traits.specs.{BufferProtocol.{BufferSection, buffer_at, buffer_monitor_rules, buffer_rules}, Conditions.{CvCall, cv_rules}, CvLaw.MayCallCond}
-use Rattle.layer_traits.specs.{CvLaw.{MayWait, Waiting, left_waiting}, QLockLaw.{MayGo, MayLock, Locking, left_after, lock_kernel, slept_for}}
-use Rattle.layer_traits.specs.{QLocking.{wait_list_asked, wait_list_slept, lock_answer, lock_out, asker_report}, Passes.{own_slept, own_woken, passed_on}}
-use Rattle.layer_traits.specs.{Passes.queue_for, Places.{Threads, home_of}, Plans.Left, Protocol.section, QueueBlocks.{homes_in, inner}, Queues.QueueAllowed}
-use Rattle.layer_traits.specs.{Queues.{buffer_sections, event, cpu_of_queue_event, out_at}, SleepLaw.{PollResult, Does, Sends, Sleeping, Waits as WaitsStill}}
-use Rattle.{layer_traits.{specs.SleepLaw.{MayDo, left_with, must_send, seen_with}, proofs.PlaceLemmas.woken_current}, thread_blocks.specs.Queues.same_tid}
-use Rattle.fifo_buffer.specs.{Stances.{InCall, CallStateFits, asks_at, recorded_by, slept_by, call_state_in, waits_at, waits_by}, SectionPolls.After}
-use Rattle.fifo_buffer.specs.SectionPolls.{BufferEvent, BufferOutcome, Goes, IsDeferred, MayPollSection, Midway, SectionPolled, recorded_if, is_plain}
-use Rattle.fifo_buffer.proofs.{Apart.fits_apart, Callers.Caller, Events.{caller_is, due_now, keeps_fits, owner_due}, OwnSteps.{Stepped, own_step}}
+use Rattle.std.proofs.lemmas.List.{get_or-set_other, get_or-set_same, length-set}
+use Rattle.event_log.specs.{declared.ids.{BufId.BufId, CpuId.CpuId, LockId.{LockId, TheVariants.Buffer}, Tid.Tid, TheConstants.THREADS}, History.AreForeign}
+use Rattle.{event_log.{specs.History.IsLawful, proofs.BoolLemmas.none_of}, layer_traits.specs.declared.buffer_edits.BufferEdit.BufferEdit}
+use Rattle.layer_traits.specs.declared.{buffer_edits.BufferOut.BufferOut, calls.{Call.Call, Effect.Effect}, conditions.{CvLeave.TheVariants.Wait, CvOut.CvOut}}
+use Rattle.layer_traits.specs.declared.locked.{QEdit.TheVariants.{Acquire, Release}, QOut.{QOut, TheVariants.{Acquired, Queued, Did, Released}}}
+use Rattle.layer_traits.specs.declared.{moves.WaitList.WaitList, queue_edits.QueueBlock.QueueBlock, scheds.SchedCall.SchedCall, call_states.Stage.Stage}
+use Rattle.layer_traits.specs.{declared.call_states.CallState.CallState, Blocks.{BufferEffects.effects_in, BufferProtocol.{BufferLock, BufferSection}}}
+use Rattle.layer_traits.specs.Blocks.{BufferProtocol.{buffer_at, buffer_monitor_rules, buffer_rules}, QueueBlocks.{homes_in, inner}}
+use Rattle.layer_traits.specs.Layers.{BufferLaw.{IsEffectOf, buffer_of, recorded, section_at, side_of}, Conditions.{CvCall, cv_rules}, CvLaw.MayCallCond}
+use Rattle.layer_traits.specs.Layers.{CvLaw.{MayWait, Waiting, left_waiting}, QLockLaw.{MayGo, MayLock, Locking, left_after, lock_kernel, slept_for}}
+use Rattle.layer_traits.specs.Layers.{QLocking.{wait_list_asked, wait_list_slept, lock_answer, lock_out, asker_report}, Queues.{QueueAllowed, buffer_sections}}
+use Rattle.layer_traits.specs.Layers.{Queues.{event, cpu_of_queue_event, out_at}, SleepLaw.{PollResult, Does, Sends, Sleeping, Waits as WaitsStill, MayDo}}
+use Rattle.layer_traits.specs.{Layers.SleepLaw.{left_with, must_send, seen_with}, Threads.{Passes.{own_slept, own_woken, passed_on, queue_for}, Places.Threads}}
+use Rattle.layer_traits.{specs.{Threads.Places.home_of, Polling.Plans.Left, Protocols.Protocol.section}, proofs.PlaceLemmas.woken_current}
+use Rattle.{thread_blocks.specs.Queues.same_tid, fifo_buffer.specs.Stances.{InCall, CallStateFits, asks_at, recorded_by, slept_by, call_state_in, waits_at}}
+use Rattle.fifo_buffer.specs.{Stances.waits_by, SectionPolls.{After, BufferEvent, BufferOutcome, Goes, IsDeferred, MayPollSection, Midway, SectionPolled}}
+use Rattle.fifo_buffer.{specs.SectionPolls.{recorded_if, is_plain}, proofs.{Apart.fits_apart, Callers.Caller, Events.{caller_is, due_now, keeps_fits}}}
+use Rattle.fifo_buffer.proofs.{Events.owner_due, OwnSteps.{Stepped, own_step}}
 use Rattle.layer_traits.specs.declared.conditions.CvOut.TheVariants as answer
 use Rattle.layer_traits.specs.declared.queues.QueueCall.TheVariants as queue
 use Rattle.layer_traits.specs.declared.scheds.SchedCall.TheVariants as sched

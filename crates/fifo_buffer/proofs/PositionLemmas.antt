@@ -1,15 +1,16 @@
 -- A line's counter counts the threads that entered it.
 use Rattle.std.proofs.Common.{◌≡◌, ℕ, ◌+◌, ◌<◌, ◌%◌, ◌^◌, Bool, true, false, not, ◌&&◌, List, [], ◌∷◌, length, Option, Some, option_map, if◌then◌else◌, get_or}
 use Rattle.std.proofs.{Common.{refl, ap, sym, ◌∙◌, arith, lt-ltb}, lemmas.Option.{slice_get_within, slice_get-get_or}}
-use Rattle.layer_traits.specs.{Capacities.caps_in, declared.{buffer_edits.BufferEdit.BufferEdit, locked.Side.Side, queue_edits.QueueBlock.QueueBlock}}
-use Rattle.layer_traits.specs.{declared.queues.QueueCall.{QueueCall, TheVariants.{Push, TakeAll, OnBuffer}}, BufferEffects.{fresh_lock, drawn_in}}
-use Rattle.layer_traits.specs.{BufferProtocol.{BufferLock, BufferSection, IsDue, buffer_at, buffer_monitor_rules, buffer_rules}, Conditions.{CvCall, cv_rules}}
-use Rattle.layer_traits.specs.{QLockLaw.lock_kernel, QLocking.{asked, lock_caller, lock_edited}, Places.home_of, Protocol.section, QueueBlocks.StartsWell}
-use Rattle.layer_traits.specs.{QueueBlocks.{homes_in, inner}, Queues.{QueueAllowed, buffer_sections, with_section}, BufferBlocks.{BufferState, counted}}
-use Rattle.{layer_traits.specs.BufferBlocks.{entered, may_join, drawn_of, put_in, shut, taken_out}, event_log.specs.declared.ids.{BufId.BufId, CpuId.CpuId}}
-use Rattle.event_log.specs.{declared.ids.{LockId.{LockId, TheVariants.Buffer}, Tid.Tid, TheConstants.THREADS}, History.{IsLawful, same_lock}, Messages.Message}
-use Rattle.{event_log.proofs.Same.same_lock_true, thread_blocks.specs.Queues.is_in, fifo_buffer.specs.{FifoFits.BootsSo, Laws.OwnedLaws.found}}
-use Rattle.fifo_buffer.specs.{Positions.{PositionsAreCounts, enters, entries_of}, Stances.same_side, SectionPolls.BufferEvent}
+use Rattle.layer_traits.specs.Blocks.{Capacities.caps_in, BufferEffects.{fresh_lock, drawn_in}, BufferProtocol.{BufferLock, BufferSection, IsDue, buffer_at}}
+use Rattle.layer_traits.specs.Blocks.{BufferProtocol.{buffer_monitor_rules, buffer_rules}, QueueBlocks.{StartsWell, homes_in, inner}, BufferBlocks.BufferState}
+use Rattle.layer_traits.specs.{Blocks.BufferBlocks.{counted, entered, may_join, drawn_of, put_in, shut, taken_out}, declared.buffer_edits.BufferEdit.BufferEdit}
+use Rattle.layer_traits.specs.declared.{locked.Side.Side, queue_edits.QueueBlock.QueueBlock, queues.QueueCall.{QueueCall, TheVariants.{Push, TakeAll}}}
+use Rattle.layer_traits.specs.{declared.queues.QueueCall.TheVariants.OnBuffer, Layers.{Conditions.{CvCall, cv_rules}, QLockLaw.lock_kernel, QLocking.asked}}
+use Rattle.layer_traits.specs.{Layers.{QLocking.{lock_caller, lock_edited}, Queues.{QueueAllowed, buffer_sections, with_section}}, Threads.Places.home_of}
+use Rattle.{layer_traits.specs.Protocols.Protocol.section, event_log.specs.declared.ids.{BufId.BufId, CpuId.CpuId, LockId.{LockId, TheVariants.Buffer}}}
+use Rattle.event_log.{specs.{declared.ids.{Tid.Tid, TheConstants.THREADS}, History.{IsLawful, same_lock}, Messages.Message}, proofs.Same.same_lock_true}
+use Rattle.{thread_blocks.specs.Queues.is_in, fifo_buffer.specs.{FifoFits.BootsSo, Laws.OwnedLaws.found, Positions.{PositionsAreCounts, enters, entries_of}}}
+use Rattle.fifo_buffer.specs.{Stances.same_side, SectionPolls.BufferEvent}
 
 -- one more thread entered, or none
 abbrev more : Bool → ℕ → ℕ

@@ -2,11 +2,11 @@
 use Rattle.std.proofs.Common.{◌≡◌, Bool, false, List, Option, Some, None, is_some, slice_set, if◌then◌else◌, ap, ◌∙◌, arith}
 use Rattle.{event_log.specs.declared.ids.{CpuId.CpuId, LockId.LockId, Tid.Tid}, layer_traits.specs.declared.{buffer_edits.BufferOut.BufferOut, calls.Call.Call}}
 use Rattle.layer_traits.specs.declared.{moves.WaitList.WaitList, queue_edits.QueueBlock.QueueBlock, call_states.{Stage.Stage, CallState.CallState}}
-use Rattle.layer_traits.specs.{BufferLaw.{buffering, left_recorded, replied}, BufferProtocol.{BufferLock, buffer_monitor_rules}, Conditions.cv_rules}
-use Rattle.layer_traits.specs.{CvLaw.Waiting, ListsAgree.is_at, QLockLaw.{LocksAgree, lock_kernel}, QLocking.{wait_list_in, lock_after}, Places.AreMoves}
-use Rattle.layer_traits.specs.{Places.{Stands, Threads, home_of, one_if, wait_channel_of}, QueueBlocks.{homes_in, inner}, Queues.{buffer_sections, moves_in}}
-use Rattle.{layer_traits.proofs.{CountLemmas.not_counted, PlaceLemmas.current_at}, thread_blocks.specs.Queues.is_in, fifo_buffer.specs.SectionPolls.BufferEvent}
-use Rattle.fifo_buffer.specs.SectionPolls.{BufferOutcome, recorded_if}
+use Rattle.layer_traits.specs.Layers.{BufferLaw.{buffering, left_recorded, replied}, Conditions.cv_rules, CvLaw.Waiting, QLockLaw.{LocksAgree, lock_kernel}}
+use Rattle.layer_traits.specs.{Layers.{QLocking.{wait_list_in, lock_after}, Queues.{buffer_sections, moves_in}}, Blocks.BufferProtocol.BufferLock}
+use Rattle.layer_traits.specs.{Blocks.{BufferProtocol.buffer_monitor_rules, QueueBlocks.{homes_in, inner}}, Threads.{ListsAgree.is_at, Places.AreMoves}}
+use Rattle.layer_traits.{specs.Threads.Places.{Stands, Threads, home_of, one_if, wait_channel_of}, proofs.{CountLemmas.not_counted, PlaceLemmas.current_at}}
+use Rattle.{thread_blocks.specs.Queues.is_in, fifo_buffer.specs.SectionPolls.{BufferEvent, BufferOutcome, recorded_if}}
 
 -- what a section poll leaves is what its plan makes of the poll's answer
 pub recorded_left : (t : Tid) (call : Call) (call_state : CallState) (call_states now : List CallState) (stage : Stage) (cv : Waiting BufferOut)

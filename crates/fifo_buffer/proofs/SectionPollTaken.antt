@@ -1,7 +1,7 @@
 -- One section poll of a call: the log and the CPU's part before it and after it, and what it did.
 use Rattle.{std.proofs.Common.{Bool, List, Option}, event_log.specs.declared.ids.{CpuId.CpuId, LockId.LockId, Tid.Tid}}
 use Rattle.layer_traits.specs.declared.{buffer_edits.{BufferEdit.BufferEdit, BufferOut.BufferOut}, calls.Call.Call, scheds.SchedCall.SchedCall}
-use Rattle.layer_traits.specs.{declared.call_states.CallState.CallState, BufferProtocol.BufferLock, Conditions.CvCall, CvLaw.Waiting}
+use Rattle.layer_traits.specs.{declared.call_states.CallState.CallState, Blocks.BufferProtocol.BufferLock, Layers.{Conditions.CvCall, CvLaw.Waiting}}
 use Rattle.fifo_buffer.specs.SectionPolls.{BufferEvent, SectionPolled}
 
 pub record SectionPollTaken : Type 1 where

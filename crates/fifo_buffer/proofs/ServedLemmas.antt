@@ -1,14 +1,14 @@
 -- The calls of one side take effect in the order in which their threads joined its line.
 use Rattle.std.proofs.Common.{◌≡◌, ℕ, ◌<◌, Bool, true, false, ◌&&◌, List, [], ◌∷◌, ◌++◌, length, Option, Some, None, option_map, if◌then◌else◌, refl, ap, sym}
 use Rattle.std.{proofs.{Common.{◌∙◌, subst, arith, get_or, append_assoc, option_to_list}, lemmas.Option.{slice_get-get_or, same_Some}}, specs.Prelude.{◌==◌}}
-use Rattle.layer_traits.specs.{Capacities.caps_in, declared.buffer_edits.BufferEdit.{BufferEdit, TheVariants.{Enter, TryPut, TryTake, Shut}}}
-use Rattle.layer_traits.specs.declared.{queue_edits.QueueBlock.QueueBlock, conditions.CvEdit.TheVariants.{Edit, SignalFront}, locked.QEdit.TheVariants.Acquire}
-use Rattle.layer_traits.specs.declared.{locked.{QEdit.TheVariants.{Inside, Release}, Side.{Side, TheVariants.{Receivers, Senders}}}, queues.QueueCall.QueueCall}
-use Rattle.layer_traits.specs.{declared.queues.QueueCall.TheVariants.{Push, TakeAll, OnBuffer}, BufferEffects.{effect_of, effect_on, effects_in, drawn}}
-use Rattle.layer_traits.specs.{BufferEffects.fresh_lock, BufferProtocol.{BufferLock, BufferSection, IsDue, buffer_at, buffer_monitor_rules, is_in_line}}
-use Rattle.layer_traits.specs.{BufferProtocol.buffer_rules, Conditions.{CvCall, cv_rules}, QLockLaw.lock_kernel, QLocking.{asked, lock_caller, lock_edited}}
-use Rattle.layer_traits.specs.{Protocol.section, QueueBlocks.{StartsWell, inner}, Queues.{QueueAllowed, buffer_sections, with_section}}
-use Rattle.{layer_traits.specs.BufferBlocks.{BufferState, entered, is_first, is_next, line_of, may_join, shut}, event_log.specs.declared.entries.Entry.Entry}
+use Rattle.layer_traits.specs.Blocks.{Capacities.caps_in, BufferEffects.{effect_of, effect_on, effects_in, drawn, fresh_lock}, BufferProtocol.BufferLock}
+use Rattle.layer_traits.specs.Blocks.{BufferProtocol.{BufferSection, IsDue, buffer_at, buffer_monitor_rules, is_in_line, buffer_rules}, QueueBlocks.StartsWell}
+use Rattle.layer_traits.specs.Blocks.{QueueBlocks.inner, BufferBlocks.{BufferState, entered, is_first, is_next, line_of, may_join, shut}}
+use Rattle.layer_traits.specs.declared.{buffer_edits.BufferEdit.{BufferEdit, TheVariants.{Enter, TryPut, TryTake, Shut}}, queue_edits.QueueBlock.QueueBlock}
+use Rattle.layer_traits.specs.declared.{conditions.CvEdit.TheVariants.{Edit, SignalFront}, locked.{QEdit.TheVariants.{Acquire, Inside, Release}, Side.Side}}
+use Rattle.layer_traits.specs.declared.{locked.Side.TheVariants.{Receivers, Senders}, queues.QueueCall.{QueueCall, TheVariants.{Push, TakeAll, OnBuffer}}}
+use Rattle.layer_traits.specs.Layers.{Conditions.{CvCall, cv_rules}, QLockLaw.lock_kernel, QLocking.{asked, lock_caller, lock_edited}, Queues.QueueAllowed}
+use Rattle.{layer_traits.specs.{Layers.Queues.{buffer_sections, with_section}, Protocols.Protocol.section}, event_log.specs.declared.entries.Entry.Entry}
 use Rattle.event_log.specs.{declared.ids.{BufId.BufId, CpuId.CpuId, LockId.{LockId, TheVariants.Buffer}, Tid.Tid, TheConstants.THREADS}, History.IsLawful}
 use Rattle.event_log.{specs.{History.same_lock, Messages.Message, Runs.{group_of, same_group}}, proofs.Same.same_lock_true}
 use Rattle.fifo_buffer.specs.{Laws.{Tallies.effect_position, OwnedLaws.found}, FifoFits.BootsSo, Positions.enters, SectionPolls.BufferEvent}

@@ -1,12 +1,12 @@
 -- A part fits at the start.
 use Rattle.std.proofs.Common.{◌≡◌, ℕ, zero, suc, slice_index_or, List, [], ◌∷◌, length, replicate, Option, None, option_map, refl, ap, sym, ◌∙◌, subst, arith}
-use Rattle.{std.proofs.lemmas.List.length-replicate, event_log.specs.declared.ids.{BufId.BufId, CpuId.CpuId, LockId.LockId, Tid.Tid, TheConstants.THREADS}}
-use Rattle.layer_traits.specs.Capacities.{caps_in}
+use Rattle.std.proofs.lemmas.List.{length-replicate}
+use Rattle.{event_log.specs.declared.ids.{BufId.BufId, CpuId.CpuId, LockId.LockId, Tid.Tid, TheConstants.THREADS}, layer_traits.specs.Blocks.Capacities.caps_in}
+use Rattle.layer_traits.specs.Blocks.{BufferEffects.{fresh_lock, opening_locks}, BufferProtocol.{BufferLock, buffer_monitor_rules}, QueueBlocks.inner}
 use Rattle.layer_traits.specs.declared.{buffer_edits.BufferOut.BufferOut, locked.Side.Side, queue_edits.QueueBlock.QueueBlock, call_states.CallState.CallState}
-use Rattle.layer_traits.specs.{BufferEffects.{fresh_lock, opening_locks}, BufferLaw.{no_call, call_state_of}, BufferProtocol.{BufferLock, buffer_monitor_rules}}
-use Rattle.layer_traits.specs.{Conditions.cv_rules, CvLaw.{Waiting, waiting_at_start}, QLockLaw.{lock_kernel, slept_for}, QLocking.{AreAtRest, IsAtRest}}
-use Rattle.{layer_traits.specs.{Places.count_in, QueueBlocks.inner, Queues.{buffer_sections, moves_in}}, fifo_buffer.specs.FifoFits.{BootsSo, PartFits}}
-use Rattle.fifo_buffer.specs.{Stances.{IsFreeOf, CallStateFits, line_at}, SectionPolls.{BufferEvent, FitsAt}}
+use Rattle.layer_traits.specs.Layers.{BufferLaw.{no_call, call_state_of}, Conditions.cv_rules, CvLaw.{Waiting, waiting_at_start}, QLockLaw.lock_kernel}
+use Rattle.layer_traits.specs.{Layers.{QLockLaw.slept_for, QLocking.{AreAtRest, IsAtRest}, Queues.{buffer_sections, moves_in}}, Threads.Places.count_in}
+use Rattle.fifo_buffer.specs.{FifoFits.{BootsSo, PartFits}, Stances.{IsFreeOf, CallStateFits, line_at}, SectionPolls.{BufferEvent, FitsAt}}
 
 -- what a list of equal items holds anywhere
 pub same_default : {A : Type 0} (n i : ℕ) (a : A) → slice_index_or (replicate n a) i a ≡ a

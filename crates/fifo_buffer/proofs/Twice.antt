@@ -1,10 +1,11 @@
 -- Two section polls in one poll; which thread runs after a poll, and what its CPU is at.
 use Rattle.std.proofs.Common.{◌≡◌, ◌≢◌, ◌⊎◌, Bool, true, false, List, length, Option, Some, None, IsSome, is_some, slice_set, if◌then◌else◌, ap, ◌∙◌, subst}
-use Rattle.{std.proofs.{Common.arith, lemmas.{Bool.eqb-false, List.{get_or-set_other, length-set}}}, event_log.specs.declared.ids.{BufId.BufId, LockId.LockId}}
-use Rattle.{event_log.specs.declared.ids.Tid.Tid, layer_traits.specs.declared.{buffer_edits.{BufferEdit.BufferEdit, BufferOut.BufferOut}, calls.Call.Call}}
-use Rattle.layer_traits.specs.declared.{calls.Reply.Reply, conditions.CvOut.CvOut, locked.QOut.QOut, scheds.SchedCall.SchedCall, call_states.Stage.Stage}
-use Rattle.layer_traits.specs.{declared.call_states.CallState.CallState, BufferProtocol.{BufferLock, BufferSection}, Conditions.CvCall, CvLaw.Waiting}
-use Rattle.layer_traits.specs.{QLockLaw.{is_handed, slept_for}, Queues.buffer_sections, BufferLaw.{buffer_of, going, recorded, no_call, replied, call_state_of}}
+use Rattle.std.proofs.{Common.arith, lemmas.{Bool.eqb-false, List.{get_or-set_other, length-set}}}
+use Rattle.{event_log.specs.declared.ids.{BufId.BufId, LockId.LockId, Tid.Tid}, layer_traits.specs.declared.buffer_edits.BufferEdit.BufferEdit}
+use Rattle.layer_traits.specs.declared.{buffer_edits.BufferOut.BufferOut, calls.{Call.Call, Reply.Reply}, conditions.CvOut.CvOut, locked.QOut.QOut}
+use Rattle.layer_traits.specs.{declared.{scheds.SchedCall.SchedCall, call_states.{Stage.Stage, CallState.CallState}}, Blocks.BufferProtocol.BufferLock}
+use Rattle.layer_traits.specs.{Blocks.BufferProtocol.BufferSection, Layers.{Conditions.CvCall, CvLaw.Waiting, QLockLaw.{is_handed, slept_for}}}
+use Rattle.layer_traits.specs.Layers.{Queues.buffer_sections, BufferLaw.{buffer_of, going, recorded, no_call, replied, call_state_of}}
 use Rattle.{thread_blocks.specs.Queues.same_tid, fifo_buffer.specs.{Stances.{IsMark, asks_at, waits_at}, SectionPolls.{After, Ended, Goes, MayPollSection}}}
 use Rattle.fifo_buffer.{specs.SectionPolls.{Sizes, is_at_once, reply_at}, proofs.{SectionPollTaken.SectionPollTaken, First.{goes_called, going_same}}}
 

@@ -1,8 +1,8 @@
 -- A thread within its call, from what is known of it.
 use Rattle.std.proofs.Common.{◌≡◌, ℕ, true, ◌&&◌, List, Option, is_some, not}
 use Rattle.{event_log.specs.declared.ids.{BufId.BufId, LockId.{LockId, TheVariants.Buffer}, Tid.Tid}, layer_traits.specs.declared.calls.Call.Call}
-use Rattle.layer_traits.specs.{declared.{calls.Effect.Effect, call_states.Stage.Stage}, BufferLaw.{buffer_of, side_of}, BufferProtocol.BufferLock}
-use Rattle.{layer_traits.specs.BufferProtocol.{BufferSection, has_tried_in_vain}, fifo_buffer.specs.Stances.{InCall, IsLined, IsMark, Stance, asks_at}}
+use Rattle.layer_traits.specs.{declared.{calls.Effect.Effect, call_states.Stage.Stage}, Layers.BufferLaw.{buffer_of, side_of}, Blocks.BufferProtocol.BufferLock}
+use Rattle.{layer_traits.specs.Blocks.BufferProtocol.{BufferSection, has_tried_in_vain}, fifo_buffer.specs.Stances.{InCall, IsLined, IsMark, Stance, asks_at}}
 use Rattle.fifo_buffer.specs.Stances.{called_at, done_at, holds_at, lined_at, waits_at}
 
 pub within : {opening : LockId → Option BufferLock} {past : List BufferSection} {t : Tid} (call : Call) (slept waits : Option BufId) (stage : Stage)

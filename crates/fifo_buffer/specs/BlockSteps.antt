@@ -2,7 +2,7 @@
 use Rattle.std.specs.Prelude.{◌≡◌, ℕ, ◌+◌, ◌%◌, ◌^◌, Bool, nat_lt, if◌then◌else◌}
 use Rattle.event_log.specs.{declared.{entries.{Entry.Entry, Kind.{Kind, TheVariants.{Send, Recv}}}, ids.Tid.Tid}, Buffers.{IsAllowedEffect, after_effect}}
 use Rattle.{event_log.specs.Runs.{Group, Closes, group_of, same_group}, layer_traits.specs.declared.locked.Side.{Side, TheVariants.{Receivers, Senders}}}
-use Rattle.{layer_traits.specs.BufferBlocks.{BufferState, counted}, fifo_buffer.specs.Tallies.{IsNumbered, drawn_by, line_by}}
+use Rattle.{layer_traits.specs.Blocks.BufferBlocks.{BufferState, counted}, fifo_buffer.specs.Tallies.{IsNumbered, drawn_by, line_by}}
 
 -- the kind with which a side's effects are counted
 abbrev pub kind_on : Side → Kind

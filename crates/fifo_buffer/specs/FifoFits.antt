@@ -2,8 +2,8 @@
 use Rattle.std.specs.Prelude.{◌≡◌, ℕ, List, Option}
 use Rattle.{event_log.specs.declared.ids.{CpuId.CpuId, LockId.LockId, Tid.Tid}, layer_traits.specs.declared.buffer_edits.BufferEdit.BufferEdit}
 use Rattle.layer_traits.specs.declared.{buffer_edits.BufferOut.BufferOut, queue_edits.QueueBlock.QueueBlock, scheds.SchedCall.SchedCall}
-use Rattle.layer_traits.specs.{declared.call_states.CallState.CallState, BufferEffects.opening_locks, BufferProtocol.BufferLock, Conditions.CvCall}
-use Rattle.layer_traits.specs.{CvLaw.Waiting, QueueBlocks.{homes_in, inner}, Queues.buffer_sections, Capacities.caps_in}
+use Rattle.layer_traits.specs.{declared.call_states.CallState.CallState, Blocks.{BufferEffects.opening_locks, BufferProtocol.BufferLock, QueueBlocks.homes_in}}
+use Rattle.layer_traits.specs.{Blocks.{QueueBlocks.inner, Capacities.caps_in}, Layers.{Conditions.CvCall, CvLaw.Waiting, Queues.buffer_sections}}
 use Rattle.fifo_buffer.specs.SectionPolls.{BufferEvent, CallsFit, Sizes}
 
 -- the machine opened with a fresh lock round each buffer

@@ -1,11 +1,12 @@
 -- Positions in a line: what a line's counter counts.
 use Rattle.std.specs.Prelude.{◌≡◌, ℕ, ◌%◌, ◌^◌, ◌<◌, Bool, false, ◌&&◌, List, length, Option}
-use Rattle.layer_traits.specs.{Capacities.caps_in, declared.buffer_edits.BufferEdit.{BufferEdit, TheVariants.{Enter, TryPut, TryTake, Shut}}}
-use Rattle.layer_traits.specs.declared.{conditions.CvEdit.TheVariants.{Edit, SignalFront}, locked.{QEdit.TheVariants.{Acquire, Inside, Release}, Side.Side}}
-use Rattle.layer_traits.specs.{declared.queue_edits.QueueBlock.QueueBlock, BufferEffects.drawn_in, BufferProtocol.{BufferLock, BufferSection, buffer_at}}
-use Rattle.layer_traits.specs.{BufferProtocol.buffer_monitor_rules, Conditions.{CvCall, cv_rules}, QLockLaw.lock_kernel, QueueBlocks.{StartsWell, inner}}
-use Rattle.{layer_traits.specs.Queues.{QueueAllowed, buffer_sections}, event_log.specs.declared.ids.{BufId.BufId, LockId.{LockId, TheVariants.Buffer}}}
-use Rattle.{event_log.specs.History.{IsLawful, how_many, same_lock}, fifo_buffer.specs.{FifoFits.BootsSo, Stances.same_side, SectionPolls.BufferEvent}}
+use Rattle.layer_traits.specs.Blocks.{Capacities.caps_in, BufferEffects.drawn_in, BufferProtocol.{BufferLock, BufferSection, buffer_at, buffer_monitor_rules}}
+use Rattle.layer_traits.specs.{Blocks.QueueBlocks.{StartsWell, inner}, declared.buffer_edits.BufferEdit.{BufferEdit, TheVariants.{Enter, TryPut, TryTake}}}
+use Rattle.layer_traits.specs.declared.{buffer_edits.BufferEdit.TheVariants.Shut, conditions.CvEdit.TheVariants.{Edit, SignalFront}}
+use Rattle.layer_traits.specs.declared.{locked.{QEdit.TheVariants.{Acquire, Inside, Release}, Side.Side}, queue_edits.QueueBlock.QueueBlock}
+use Rattle.layer_traits.specs.Layers.{Conditions.{CvCall, cv_rules}, QLockLaw.lock_kernel, Queues.{QueueAllowed, buffer_sections}}
+use Rattle.event_log.specs.{declared.ids.{BufId.BufId, LockId.{LockId, TheVariants.Buffer}}, History.{IsLawful, how_many, same_lock}}
+use Rattle.fifo_buffer.specs.{FifoFits.BootsSo, Stances.same_side, SectionPolls.BufferEvent}
 
 -- whether a call enters this side's line
 abbrev pub enters : Side → CvCall BufferEdit → Bool

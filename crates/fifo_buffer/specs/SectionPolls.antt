@@ -5,10 +5,11 @@ use Rattle.layer_traits.specs.declared.{buffer_edits.{BareBufferOut.BareBufferOu
 use Rattle.layer_traits.specs.declared.{calls.{Effect.Effect, Reply.Reply}, conditions.CvOut.CvOut, locked.QOut.{QOut, TheVariants.{Queued, Released}}}
 use Rattle.layer_traits.specs.declared.{payloads.Parcel.Parcel, queues.QueueEvent.QueueEvent, scheds.SchedCall.{SchedCall, TheVariants.{Pass, OnBuffer}}}
 use Rattle.layer_traits.specs.declared.{sleeps.Outcome.Outcome, call_states.{Stage.{Stage, TheVariants.{Acquires, Waits, AcquiresAgain}}, CallState.CallState}}
-use Rattle.layer_traits.specs.{BufferEffects.effects_in, BufferLaw.{Calling, UnderWay, IsEffectOf, Passing, buffer_of, entry_of, recorded, replied, section_at}}
-use Rattle.layer_traits.specs.{BufferLaw.call_state_of, BufferProtocol.{BufferLock, BufferSection}, Conditions.CvCall, CvLaw.Waiting, QLockLaw.slept_for}
-use Rattle.layer_traits.specs.{Payloads.{buffer_told, cv_told, lock_told, outcome_told}, Places.home_of, Queues.buffer_sections}
-use Rattle.{thread_blocks.specs.Queues.same_tid, fifo_buffer.specs.Stances.{InCall, CallStateFits, ThreadFits, called_at, done_at, waits_at}}
+use Rattle.layer_traits.specs.Blocks.{BufferEffects.effects_in, BufferProtocol.{BufferLock, BufferSection}, Payloads.{buffer_told, cv_told, lock_told}}
+use Rattle.layer_traits.specs.{Blocks.Payloads.outcome_told, Layers.BufferLaw.{Calling, UnderWay, IsEffectOf, Passing, buffer_of, entry_of, recorded, replied}}
+use Rattle.layer_traits.specs.Layers.{BufferLaw.{section_at, call_state_of}, Conditions.CvCall, CvLaw.Waiting, QLockLaw.slept_for, Queues.buffer_sections}
+use Rattle.{layer_traits.specs.Threads.Places.home_of, thread_blocks.specs.Queues.same_tid, fifo_buffer.specs.Stances.{InCall, CallStateFits, ThreadFits}}
+use Rattle.fifo_buffer.specs.Stances.{called_at, done_at, waits_at}
 use Rattle.layer_traits.specs.declared.conditions.CvOut.TheVariants as answer
 
 -- an event of the buffers, and what a section of one answers

@@ -1,11 +1,12 @@
 -- First come, first served: the calls of one side of a buffer take effect in the order in which their threads joined its line.
 use Rattle.std.specs.Prelude.{◌≡◌, ℕ, ◌<◌, ◌==◌, ◌&&◌, List, [], ◌∷◌, ◌++◌, length, Option, Some, if◌then◌else◌}
-use Rattle.layer_traits.specs.{Capacities.caps_in, declared.{locked.Side.{Side, TheVariants.{Receivers, Senders}}, queue_edits.QueueBlock.QueueBlock}}
-use Rattle.layer_traits.specs.{BufferBlocks.line_of, BufferEffects.effects_in, BufferProtocol.{BufferLock, BufferSection, buffer_at, buffer_monitor_rules}}
-use Rattle.layer_traits.specs.{BufferProtocol.buffer_rules, Conditions.cv_rules, QLockLaw.lock_kernel, QLocking.lock_caller, QueueBlocks.{StartsWell, inner}}
-use Rattle.{layer_traits.specs.Queues.{QueueAllowed, buffer_sections}, event_log.specs.declared.{entries.Entry.Entry, ids.{BufId.BufId, LockId.LockId}}}
-use Rattle.event_log.specs.{declared.ids.{LockId.TheVariants.Buffer, Tid.Tid}, History.{IsLawful, same_lock}, Runs.{Group, Sends, Receives, group_of}}
-use Rattle.{event_log.specs.Runs.same_group, fifo_buffer.specs.{FifoFits.BootsSo, Positions.enters, SectionPolls.BufferEvent}}
+use Rattle.layer_traits.specs.Blocks.{Capacities.caps_in, BufferBlocks.line_of, BufferEffects.effects_in, BufferProtocol.{BufferLock, BufferSection, buffer_at}}
+use Rattle.layer_traits.specs.{Blocks.{BufferProtocol.{buffer_monitor_rules, buffer_rules}, QueueBlocks.{StartsWell, inner}}, declared.locked.Side.Side}
+use Rattle.layer_traits.specs.{declared.{locked.Side.TheVariants.{Receivers, Senders}, queue_edits.QueueBlock.QueueBlock}, Layers.Conditions.cv_rules}
+use Rattle.layer_traits.specs.Layers.{QLockLaw.lock_kernel, QLocking.lock_caller, Queues.{QueueAllowed, buffer_sections}}
+use Rattle.event_log.specs.{declared.{entries.Entry.Entry, ids.{BufId.BufId, LockId.{LockId, TheVariants.Buffer}, Tid.Tid}}, History.{IsLawful, same_lock}}
+use Rattle.{event_log.specs.Runs.{Group, Sends, Receives, group_of, same_group}, fifo_buffer.specs.{FifoFits.BootsSo, Positions.enters}}
+use Rattle.fifo_buffer.specs.SectionPolls.{BufferEvent}
 
 -- the threads that joined this side's line of a lock's buffer in these sections, the first in front
 abbrev pub joined : Side → LockId → List BufferSection → List Tid

@@ -5,9 +5,9 @@ use Rattle.event_log.specs.{declared.ids.{BufId.BufId, LockId.{LockId, TheVarian
 use Rattle.layer_traits.specs.declared.{calls.{Call.{Call, TheVariants.Close}, Effect.Effect}, buffer_edits.BufferOut.BufferOut, conditions.CvOut.CvOut}
 use Rattle.layer_traits.specs.declared.locked.{QOut.{QOut, TheVariants.{Acquired, Queued, Did, Released}}, Side.{Side, TheVariants.{Receivers, Senders}}}
 use Rattle.layer_traits.specs.declared.call_states.Stage.{Stage, TheVariants.{Idle, Acquires, Tries, Waits, AcquiresAgain, Signals, SignalsOwn, Releases}}
-use Rattle.layer_traits.specs.{declared.call_states.CallState.CallState, BufferBlocks.line_of, BufferEffects.drawn, BufferLaw.{buffer_of, recorded, side_of}}
-use Rattle.layer_traits.specs.{BufferProtocol.{BufferLock, BufferSection, buffer_at, has_tried_in_vain}, Places.{count_in, one_if}}
-use Rattle.thread_blocks.specs.Queues.{is_in}
+use Rattle.layer_traits.specs.{declared.call_states.CallState.CallState, Blocks.{BufferBlocks.line_of, BufferEffects.drawn, BufferProtocol.BufferLock}}
+use Rattle.layer_traits.specs.{Blocks.BufferProtocol.{BufferSection, buffer_at, has_tried_in_vain}, Layers.BufferLaw.{buffer_of, recorded, side_of}}
+use Rattle.{layer_traits.specs.Threads.Places.{count_in, one_if}, thread_blocks.specs.Queues.is_in}
 use Rattle.layer_traits.specs.declared.conditions.CvOut.TheVariants as answer
 
 -- whether two sides are one

@@ -1,8 +1,8 @@
 -- What a buffer's block tells of its effects. A close is an effect that draws its position as it comes, so nobody waits for one in line.
 use Rattle.std.specs.Prelude.{◌≡◌, ℕ, ◌+◌, ◌<◌, ◌%◌, ◌^◌, List, [], ◌∷◌, length, slice_index}
-use Rattle.event_log.specs.{declared.{entries.{Entry.Entry, Kind.Kind}, ids.{BufId.BufId, CpuId.CpuId, Tid.Tid}}, Buffers.items_of, Runs.count_of}
-use Rattle.event_log.specs.Runs.{Group, Sends, Receives, Closes, count_of_kind, group_of, is_closed}
-use Rattle.layer_traits.specs.{declared.locked.Side.{Side, TheVariants.{Receivers, Senders}}, BufferBlocks.BufferState, BufferEffects.contents_of}
+use Rattle.event_log.specs.{declared.{entries.{Entry.Entry, Kind.Kind}, ids.{BufId.BufId, CpuId.CpuId, Tid.Tid}}, Buffers.items_of, Runs.{count_of, Group}}
+use Rattle.{event_log.specs.Runs.{Sends, Receives, Closes, count_of_kind, group_of, is_closed}, layer_traits.specs.declared.locked.Side.Side}
+use Rattle.layer_traits.specs.{declared.locked.Side.TheVariants.{Receivers, Senders}, Blocks.{BufferBlocks.BufferState, BufferEffects.contents_of}}
 
 -- how many positions of a group's effects were drawn, modulo 2^64
 abbrev pub drawn_by : Group → BufferState → ℕ

@@ -1,7 +1,7 @@
 //! The blocks of buffers at boot. `empty_blocks` takes memory. It does not wait.
 
 ghost use Rattle.std.specs.Prelude.{◌≡◌, All, IfOk, map};
-ghost use Rattle.{event_log.specs.Buffers.IsCapacity, layer_traits.specs.BufferBlocks.empty_block};
+ghost use Rattle.{event_log.specs.Buffers.IsCapacity, layer_traits.specs.Blocks.BufferBlocks.empty_block};
 
 use event_log::NoMemory;
 use layer_traits::BufferBlock;

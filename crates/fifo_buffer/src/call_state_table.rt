@@ -1,8 +1,8 @@
 //! The call states of all threads. No call takes memory or waits.
 
 ghost use Rattle.std.specs.Prelude.{◌≡◌, ◌<◌, is_some, replicate, slice_set};
-ghost use Rattle.{event_log.specs.declared.ids.TheConstants.THREADS, layer_traits.specs.{BufferLaw.{going, no_call, call_state_of}, Payloads.told_by}};
-ghost use Rattle.fifo_buffer.specs.SectionPolls.{outcome_of, recorded_if};
+ghost use Rattle.{event_log.specs.declared.ids.TheConstants.THREADS, layer_traits.specs.Layers.BufferLaw.{going, no_call, call_state_of}};
+ghost use Rattle.{layer_traits.specs.Blocks.Payloads.told_by, fifo_buffer.specs.SectionPolls.{outcome_of, recorded_if}};
 
 use crate::sections::{begin, record_section};
 use event_log::{THREADS, Tid};

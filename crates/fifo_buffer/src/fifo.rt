@@ -1,11 +1,11 @@
 //! First-in first-out buffers.
 
 ghost use Rattle.std.specs.Prelude.{◌≡◌, ◌<◌, [], Bool, Some, None, IsSome, refl, slice_set, if◌then◌else◌};
-ghost use Rattle.layer_traits.specs.{Capacities.caps_in, BufferLaw.{answer_in, buffer_of, buffering, going, plan_of, replied, call_state_of}};
-ghost use Rattle.layer_traits.specs.{BufferProtocol.buffer_rules, Framed.Framed, QLocking.{lock_moves, lock_rules}, QLockLaw.{is_handed, slept_for}};
-ghost use Rattle.layer_traits.specs.{Plans.{Follows, table_of}, QueueBlocks.{homes_in, inner}, QueueRules.queue_rules, Queues.buffer_sections};
-ghost use Rattle.{event_log.specs.declared.ids.{LockId.TheVariants.Buffer, TheConstants.THREADS}, fifo_buffer.specs.SectionPolls.{MayPollSection, Sizes}};
-ghost use Rattle.fifo_buffer.specs.SectionPolls.{SectionPolled, calling_after, is_at_once, reply_at};
+ghost use Rattle.layer_traits.specs.Blocks.{Capacities.caps_in, BufferProtocol.buffer_rules, QueueBlocks.{homes_in, inner}, QueueRules.queue_rules};
+ghost use Rattle.layer_traits.specs.Layers.{BufferLaw.{answer_in, buffer_of, buffering, going, plan_of, replied, call_state_of}, QLocking.lock_moves};
+ghost use Rattle.layer_traits.specs.{Layers.{QLocking.lock_rules, QLockLaw.{is_handed, slept_for}, Queues.buffer_sections}, Polling.Framed.Framed};
+ghost use Rattle.{layer_traits.specs.Polling.Plans.{Follows, table_of}, event_log.specs.declared.ids.{LockId.TheVariants.Buffer, TheConstants.THREADS}};
+ghost use Rattle.fifo_buffer.specs.SectionPolls.{MayPollSection, Sizes, SectionPolled, calling_after, is_at_once, reply_at};
 
 use crate::call_state_table::CallStates;
 use crate::sections::{answers_at_once, reply, section};
@@ -117,9 +117,9 @@ impl<C: ThreadLayer<CvLaw<BufferEdit>>> Fifo<C> {
 
 impl<C: ThreadLayer<CvLaw<BufferEdit>>> CallLayer<BufferLaw> for Fifo<C> {
     ghost use Rattle.{std.proofs.Common.ap, event_log.specs.declared.ids.LockId.TheVariants.{Buffer, Pending}, layer_traits.proofs.ActedLemmas.moves_read};
-    ghost use Rattle.layer_traits.specs.{BufferEffects.{effects_in, opening_locks}, BufferLaw.buffering, Laws.Openings.opens_so};
-    ghost use Rattle.layer_traits.specs.{BufferProtocol.buffer_monitor_rules, Conditions.cv_rules, QLockLaw.lock_kernel, QLocking.{wait_list_in, lock_after}};
-    ghost use Rattle.{layer_traits.specs.{QueueBlocks.inner, Queues.{buffer_sections, moves_in}}, fifo_buffer.specs.FifoFits.{BootsSo, PartFits}};
+    ghost use Rattle.layer_traits.specs.Blocks.{BufferEffects.{effects_in, opening_locks}, BufferProtocol.buffer_monitor_rules, QueueBlocks.inner};
+    ghost use Rattle.layer_traits.specs.Layers.{BufferLaw.buffering, Conditions.cv_rules, QLockLaw.lock_kernel, QLocking.{wait_list_in, lock_after}};
+    ghost use Rattle.{layer_traits.specs.{Layers.Queues.{buffer_sections, moves_in}, Laws.Openings.opens_so}, fifo_buffer.specs.FifoFits.{BootsSo, PartFits}};
     ghost use Rattle.fifo_buffer.specs.{Laws.FifoLaws.{fifo_lawful, fifo_wait_lists, none_under}, SectionPolls.under_way_at};
 
     type Machine = C::Machine;
@@ -291,9 +291,9 @@ impl<C: ThreadLayer<CvLaw<BufferEdit>>> CallLayer<BufferLaw> for Fifo<C> {
 
 impl<C: OwnedThreadLayer<CvLaw<BufferEdit>>> OwnedBuffers for Fifo<C> {
     ghost use Rattle.{std.specs.Prelude.option_map, event_log.specs.{Buffers.items_of, Runs.is_closed}, layer_traits.proofs.ActedLemmas.owner_by_acts};
-    ghost use Rattle.layer_traits.{proofs.OwnedLemmas.{parts_on, read_on, view_read}, specs.BufferEffects.{contents_of, effects_in}};
-    ghost use Rattle.layer_traits.specs.{BufferProtocol.buffer_monitor_rules, Conditions.cv_rules, QLockLaw.lock_kernel, QLocking.{wait_list_in, owner_in}};
-    ghost use Rattle.layer_traits.specs.{Places.pending_by, QueueBlocks.inner, Queues.{buffer_sections, moves_in}};
+    ghost use Rattle.layer_traits.{proofs.OwnedLemmas.{parts_on, read_on, view_read}, specs.Blocks.BufferEffects.{contents_of, effects_in}};
+    ghost use Rattle.layer_traits.specs.{Blocks.{BufferProtocol.buffer_monitor_rules, QueueBlocks.inner}, Layers.{Conditions.cv_rules, QLockLaw.lock_kernel}};
+    ghost use Rattle.layer_traits.specs.{Layers.{QLocking.{wait_list_in, owner_in}, Queues.{buffer_sections, moves_in}}, Threads.Places.pending_by};
     ghost use Rattle.fifo_buffer.specs.Laws.OwnedLaws.{block_there, closed_read, effects_known, items_acted, items_read, wait_lists_read, owner_read};
     ghost use Rattle.fifo_buffer.specs.OwnedLaws.{closed_of, items_in, wait_lists_of, buffer_lock_of, owner_of};
 

@@ -1,9 +1,10 @@
 //! The sections of a message call, stage by stage. No call takes memory or waits.
 
 ghost use Rattle.std.specs.Prelude.{◌≡◌, Option, option_map};
-ghost use Rattle.layer_traits.specs.{declared.{calls.Effect.Effect, payloads.Parcel.Parcel}, BufferLaw.{first_of, going, message_of, recorded, other_side}};
-ghost use Rattle.layer_traits.specs.{BufferLaw.{enlisted, reply_by, reply_with, section_at, side_of, reported_by, tried, try_of}, Payloads.buffer_meant};
-ghost use Rattle.{layer_traits.specs.Payloads.{buffer_told, cv_meant, cv_told, lock_meant, lock_told}, fifo_buffer.specs.SectionPolls.{is_at_once, reply_at}};
+ghost use Rattle.layer_traits.specs.{declared.{calls.Effect.Effect, payloads.Parcel.Parcel}, Layers.BufferLaw.{first_of, going, message_of, recorded}};
+ghost use Rattle.layer_traits.specs.Layers.BufferLaw.{other_side, enlisted, reply_by, reply_with, section_at, side_of, reported_by, tried, try_of};
+ghost use Rattle.layer_traits.specs.Blocks.Payloads.{buffer_meant, buffer_told, cv_meant, cv_told, lock_meant, lock_told};
+ghost use Rattle.fifo_buffer.specs.SectionPolls.{is_at_once, reply_at};
 
 use event_log::{Kind, Msg, Tid};
 use layer_traits::{

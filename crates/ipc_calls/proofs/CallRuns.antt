@@ -1,10 +1,9 @@
 -- Runs of polls of a call on a buffer that is there are runs of polls of the buffers beneath.
 use Rattle.std.proofs.{Common.{◌≡◌, ℕ, ◌<◌, ◌≤◌, Bool, true, List, [], Option, Some, None, length, refl, ap, arith}, lemmas.Bool.{le-ltb, lt-ltb}}
-use Rattle.layer_traits.specs.Capacities.{caps_in}
-use Rattle.{event_log.specs.declared.ids.{CpuId.CpuId, Tid.Tid}, layer_traits.specs.declared.{call_layers.CallLayer.Ghosts, calls.{Call.Call, Reply.Reply}}}
-use Rattle.layer_traits.specs.{declared.calls.ReplyKind.{ReplyKind, TheVariants.NoBuffer as Refuses}, BufferLaw.{BufferPlan, Buffering, buffer_of, fifo_plan}}
-use Rattle.layer_traits.specs.{Framed.Framed, IpcLaw.ipc_plan, QueueBlocks.homes_in}
-use Rattle.layer_traits.{specs.{LayerPolls.{IsQuietAt, LookedAt, PolledAt, PolledOnAt}, PollRuns.{once, again, looks}}, proofs.PollRunLemmas.{Kept, kept}}
+use Rattle.layer_traits.specs.{Blocks.{Capacities.caps_in, QueueBlocks.homes_in}, declared.{call_layers.CallLayer.Ghosts, calls.{Call.Call, Reply.Reply}}}
+use Rattle.layer_traits.specs.{declared.calls.ReplyKind.{ReplyKind, TheVariants.NoBuffer as Refuses}, Layers.BufferLaw.{BufferPlan, Buffering, buffer_of}}
+use Rattle.layer_traits.specs.{Layers.{BufferLaw.fifo_plan, IpcLaw.ipc_plan}, Polling.{Framed.Framed, LayerPolls.{IsQuietAt, LookedAt, PolledAt, PolledOnAt}}}
+use Rattle.{layer_traits.{specs.Polling.PollRuns.{once, again, looks}, proofs.PollRunLemmas.{Kept, kept}}, event_log.specs.declared.ids.{CpuId.CpuId, Tid.Tid}}
 use Rattle.ipc_calls.specs.{declared.ipc.Ipc.Ipc, Parts.KeepsPlan}
 
 -- what a part of message calls tells as a layer of calls, over a part of buffers

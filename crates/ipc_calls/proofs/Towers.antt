@@ -1,8 +1,8 @@
 -- The locks of the tower at boot, as its layers read them.
 use Rattle.std.proofs.{Common.{◌≡◌, ℕ, List, map, Option, Some, None, option_map, slice_get, refl, ap, ◌∙◌}, lemmas.Option.slice_get-map}
 use Rattle.{event_log.specs.declared.ids.{BufId.BufId, LockId.{LockId, TheVariants.Buffer}}, fifo_buffer.proofs.Opening.{boots_at, resting}}
-use Rattle.layer_traits.specs.{declared.queue_edits.QueueBlock.QueueBlock, BufferBlocks.{BufferState, empty_block}, BufferEffects.opening_locks}
-use Rattle.layer_traits.{specs.{QueueBlocks.{StartsWell, inner}, Renaming.viewed}, proofs.KernelRenaming.{inner_viewed, starts_viewed}}
+use Rattle.layer_traits.specs.{declared.queue_edits.QueueBlock.QueueBlock, Blocks.{BufferBlocks.{BufferState, empty_block}, BufferEffects.opening_locks}}
+use Rattle.layer_traits.{specs.{Blocks.QueueBlocks.{StartsWell, inner}, Views.Renaming.viewed}, proofs.KernelRenaming.{inner_viewed, starts_viewed}}
 use Rattle.{queuing_lock.specs.{declared.edits.QBlock.QBlock, Nested.{nested_lock_of, unowned}}, sleep_wakeup.specs.declared.edits.SleepBlock.SleepBlock}
 use Rattle.sleep_wakeup.specs.Nested.{state_of}
 use Rattle.sleep_wakeup.specs.Nested as nested

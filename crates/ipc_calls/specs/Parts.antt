@@ -1,8 +1,8 @@
 -- What a part of message calls keeps for itself, and what it tells of where a thread stands.
 use Rattle.std.specs.{Prelude.{◌≡◌, ℕ, ◌<◌, Bool, false, ◌||◌, List, Option, Some, None, option_map, option_and_then}, Option.option_or}
 use Rattle.{event_log.specs.declared.ids.{BufId.BufId, CpuId.CpuId, Tid.Tid}, layer_traits.specs.declared.{calls.Place.Place, moves.WaitList.WaitList}}
-use Rattle.layer_traits.specs.{declared.moves.WaitList.TheVariants.{Sleepers, Receivers, Senders}, Owned.wait_list_among, Places.{Threads, is_thread}}
-use Rattle.thread_blocks.specs.Queues.{is_in}
+use Rattle.layer_traits.specs.{declared.moves.WaitList.TheVariants.{Sleepers, Receivers, Senders}, Views.Owned.wait_list_among, Threads.Places.Threads}
+use Rattle.{layer_traits.specs.Threads.Places.is_thread, thread_blocks.specs.Queues.is_in}
 use Rattle.layer_traits.specs.declared.calls.Place.TheVariants as place
 
 -- it keeps the number of its CPU, the homes of the threads, and how many buffers there are

@@ -1,7 +1,7 @@
 -- The threads of a machine, as its parts see them.
 use Rattle.std.specs.Prelude.{◌≡◌, ℕ, ◌<◌, List, Option, Some}
-use Rattle.{event_log.specs.declared.ids.{BufId.BufId, CpuId.CpuId, Tid.Tid}, layer_traits.specs.{declared.moves.WaitList.WaitList, IpcLaw.WaitListsAgree}}
-use Rattle.layer_traits.specs.{Places.{AreMoves, Stands, Step, Threads, home_of, pending_by}, Observed.IsObservedAs}
+use Rattle.{event_log.specs.declared.ids.{BufId.BufId, CpuId.CpuId, Tid.Tid}, layer_traits.specs.declared.moves.WaitList.WaitList}
+use Rattle.layer_traits.specs.{Layers.IpcLaw.WaitListsAgree, Threads.Places.{AreMoves, Stands, Step, Threads, home_of, pending_by}, Views.Observed.IsObservedAs}
 
 -- the threads of a machine as its parts see them: how they moved and in which lines they sleep, the own threads of each part's CPU, and
 -- what the machine and each part tell of pending queues and of lines, which is the truth

@@ -1,11 +1,9 @@
 //! Message calls over buffers.
 
 ghost use Rattle.std.specs.Prelude.{◌≡◌, ◌<◌, None, Some, IsSome, length, refl};
-ghost use Rattle.layer_traits.specs.Capacities.{caps_in};
-ghost use Rattle.event_log.specs.declared.ids.{CpuId.CpuId, LockId.TheVariants.Pending, Tid.Tid, TheConstants.THREADS};
-ghost use Rattle.{layer_traits.specs.{declared.calls.Place.Place, Places.{home_of, is_thread}, Observed.IsOwnPlace}, ipc_calls.specs.Parts.{IsAway, asleep_at}};
-ghost use Rattle.ipc_calls.specs.Parts.{wait_list_read, pends_read, said};
-ghost use Rattle.layer_traits.specs.{OwnParts.threads_in, QueueBlocks.homes_in};
+ghost use Rattle.layer_traits.specs.{Blocks.{Capacities.caps_in, QueueBlocks.homes_in}, declared.calls.Place.Place, Threads.Places.{home_of, is_thread}};
+ghost use Rattle.{layer_traits.specs.Views.{Observed.IsOwnPlace, OwnParts.threads_in}, event_log.specs.declared.ids.{CpuId.CpuId, LockId.TheVariants.Pending}};
+ghost use Rattle.{event_log.specs.declared.ids.{Tid.Tid, TheConstants.THREADS}, ipc_calls.specs.Parts.{IsAway, asleep_at, wait_list_read, pends_read, said}};
 
 use crate::opening::OpensBuffers;
 use arrayvec::ArrayVec;
@@ -262,8 +260,8 @@ impl<B: OwnedBuffers> Ipc<B> {
 
 impl<B: OpensBuffers> Owned for Ipc<B> {
     ghost use Rattle.{std.proofs.Common.{subst, sym}, event_log.specs.{Buffers.items_of, Runs.is_closed}, layer_traits.proofs.OwnedLemmas.read_under};
-    ghost use Rattle.{layer_traits.specs.{BufferEffects.contents_of, Places.pending_by}, ipc_calls.specs.Laws.PlaceLaws.{home_there, place_reads}};
-    ghost use Rattle.ipc_calls.specs.Parts.{IsSilentOf};
+    ghost use Rattle.{layer_traits.specs.{Blocks.BufferEffects.contents_of, Threads.Places.pending_by}, ipc_calls.specs.Laws.PlaceLaws.home_there};
+    ghost use Rattle.ipc_calls.specs.{Laws.PlaceLaws.place_reads, Parts.IsSilentOf};
 
     ghost owner = { λ m b. B.owner m b };
 

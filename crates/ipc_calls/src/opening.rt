@@ -1,7 +1,7 @@
 //! A layer of buffers that opens a machine. Only `open` takes memory. No call waits.
 
 ghost use Rattle.std.specs.Prelude.{◌≡◌, ◌<◌, ◌≤◌, [], IsSome, IfOk};
-ghost use Rattle.layer_traits.specs.Capacities.{caps_in};
+ghost use Rattle.layer_traits.specs.Blocks.Capacities.{caps_in};
 
 use event_log::{CpuId, NoMemory};
 use layer_traits::{
@@ -18,7 +18,7 @@ pub type LockEdit = QLockEdit<CvEdit<BufferEdit>, CvLeave>;
 /// A layer of buffers whose machine is opened with its buffers, and tells of its blocks.
 pub trait OpensBuffers: OwnedBuffers {
     ghost use Rattle.event_log.specs.declared.ids.{CpuId.CpuId, LockId.TheVariants.Pending, TheConstants.CPUS};
-    ghost use Rattle.layer_traits.specs.{BufferEffects.opening_locks, Openings.AreOpenable, Openings.Opened, QueueBlocks.{homes_in, inner}};
+    ghost use Rattle.layer_traits.specs.{Blocks.{BufferEffects.opening_locks, QueueBlocks.{homes_in, inner}}, Views.Openings.{AreOpenable, Opened}};
 
     /// A machine of so many CPUs, with a buffer of each of these capacities and a thread of each of
     /// these homes, and with room for `room` polls. All memory is taken here.
@@ -48,7 +48,7 @@ pub trait OpensBuffers: OwnedBuffers {
 /// Shared queues whose machine is opened with the locks of buffers, and that tell of its blocks.
 pub trait OpensQueues: OwnedLayer<QueueLaw<SleepEdit<LockEdit>>> {
     ghost use Rattle.event_log.specs.declared.ids.{CpuId.CpuId, LockId.TheVariants.Pending, TheConstants.CPUS};
-    ghost use Rattle.layer_traits.specs.{BufferEffects.opening_locks, Openings.AreOpenable, QueueBlocks.{homes_in, inner}, Renaming.viewed};
+    ghost use Rattle.layer_traits.specs.{Blocks.{BufferEffects.opening_locks, QueueBlocks.{homes_in, inner}}, Views.{Openings.AreOpenable, Renaming.viewed}};
     ghost use Rattle.{queuing_lock.specs.Nested.nested_lock_of, sleep_wakeup.specs.Nested.state_of};
 
     /// As `open` of [`OpensLocks`].
@@ -79,7 +79,7 @@ pub trait OpensQueues: OwnedLayer<QueueLaw<SleepEdit<LockEdit>>> {
 /// Schedulers whose machine is opened with the locks of buffers, and that tell of its blocks.
 pub trait OpensScheds: OwnedLayer<SchedLaw<SleepEdit<LockEdit>>> {
     ghost use Rattle.event_log.specs.declared.ids.{CpuId.CpuId, LockId.TheVariants.Pending, TheConstants.CPUS};
-    ghost use Rattle.layer_traits.specs.{BufferEffects.opening_locks, Openings.AreOpenable, QueueBlocks.{homes_in, inner}, Renaming.viewed};
+    ghost use Rattle.layer_traits.specs.{Blocks.{BufferEffects.opening_locks, QueueBlocks.{homes_in, inner}}, Views.{Openings.AreOpenable, Renaming.viewed}};
     ghost use Rattle.{queuing_lock.specs.Nested.nested_lock_of, sleep_wakeup.specs.Nested.state_of};
 
     /// As `open` of [`OpensLocks`].
@@ -111,7 +111,7 @@ pub trait OpensScheds: OwnedLayer<SchedLaw<SleepEdit<LockEdit>>> {
 /// and tells of its blocks.
 pub trait OpensLocks: OwnedThreadLayer<SleepLaw<LockEdit>> {
     ghost use Rattle.event_log.specs.declared.ids.{CpuId.CpuId, LockId.TheVariants.Pending, TheConstants.CPUS};
-    ghost use Rattle.layer_traits.specs.{BufferEffects.opening_locks, Openings.AreOpenable, QueueBlocks.homes_in, QueueBlocks.inner, Renaming.viewed};
+    ghost use Rattle.layer_traits.specs.{Blocks.{BufferEffects.opening_locks, QueueBlocks.{homes_in, inner}}, Views.{Openings.AreOpenable, Renaming.viewed}};
     ghost use Rattle.queuing_lock.specs.Nested.{nested_lock_of};
 
     /// A machine of so many CPUs, with the lock of a buffer for each of these capacities and a

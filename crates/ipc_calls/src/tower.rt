@@ -3,9 +3,9 @@
 
 ghost use Rattle.std.specs.Prelude.{◌≡◌, ◌<◌, ◌≤◌, [], None, IsSome, IfOk, length, replicate};
 ghost use Rattle.event_log.specs.declared.ids.{CpuId.CpuId, LockId.TheVariants.Pending, TheConstants.{BUFFERS, THREADS}};
-ghost use Rattle.layer_traits.specs.{BufferEffects.opening_locks, BufferLaw.no_call, OneLock.{AreDistinct, opened}, Openings.AreOpenable};
-ghost use Rattle.{layer_traits.specs.{QueueBlocks.{StartsWell, homes_in, inner}, Renaming.viewed}, queuing_lock.specs.Nested.nested_lock_of};
-ghost use Rattle.sleep_wakeup.specs.Nested.{state_of};
+ghost use Rattle.layer_traits.specs.{Blocks.{BufferEffects.opening_locks, QueueBlocks.{StartsWell, homes_in, inner}}, Layers.BufferLaw.no_call};
+ghost use Rattle.layer_traits.specs.{Protocols.OneLock.{AreDistinct, opened}, Views.{Openings.AreOpenable, Renaming.viewed}};
+ghost use Rattle.{queuing_lock.specs.Nested.nested_lock_of, sleep_wakeup.specs.Nested.state_of};
 
 use crate::ipc::Ipc;
 use crate::opening::{LockEdit, OpensBuffers, OpensLocks, OpensQueues, OpensScheds};

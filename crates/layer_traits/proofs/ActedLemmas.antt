@@ -2,10 +2,11 @@
 use Rattle.std.proofs.Common.{◌≡◌, List, Option, option_map, map, ap, sym, ◌∙◌, arith}
 use Rattle.event_log.specs.{declared.ids.{BufId.BufId, LockId.{LockId, TheVariants.Buffer}}, Sections.sections_in}
 use Rattle.layer_traits.specs.declared.{buffer_edits.BufferEdit.BufferEdit, queue_edits.QueueBlock.{QueueBlock, TheVariants.Above}}
-use Rattle.layer_traits.specs.{declared.queues.QueueEvent.QueueEvent, Acted.{BufferActs, MovesAre, guarded, owner_after}, BufferProtocol.BufferLock}
-use Rattle.layer_traits.specs.{BufferProtocol.buffer_rules, Conditions.CvCall, QLockLaw.lock_kernel, QLocking.{wait_list_in, lock_after, lock_moves}}
-use Rattle.layer_traits.specs.{QLocking.{lock_rules, owner_in}, Places.AreMoves, QueueBlocks.{StartsWell, above_of, homes_in, inner}, QueueRules.AreProper}
-use Rattle.layer_traits.{specs.Queues.{buffer_sections, event_of, moves_in}, proofs.NestedLemmas.{proper_buffer, proper_queue}}
+use Rattle.layer_traits.specs.{declared.queues.QueueEvent.QueueEvent, Views.Acted.{BufferActs, MovesAre, guarded, owner_after}}
+use Rattle.layer_traits.specs.Blocks.{BufferProtocol.{BufferLock, buffer_rules}, QueueBlocks.{StartsWell, above_of, homes_in, inner}, QueueRules.AreProper}
+use Rattle.layer_traits.specs.Layers.{Conditions.CvCall, QLockLaw.lock_kernel, QLocking.{wait_list_in, lock_after, lock_moves, lock_rules, owner_in}}
+use Rattle.layer_traits.{specs.{Layers.Queues.{buffer_sections, event_of, moves_in}, Threads.Places.AreMoves}, proofs.NestedLemmas.proper_buffer}
+use Rattle.layer_traits.proofs.NestedLemmas.{proper_queue}
 
 above_made : {B : Type 0} (above : Option B) → above_of (option_map Above above) ≡ above
 above_made above = grind arith

@@ -1,9 +1,10 @@
 -- A machine whose holder acts for every CPU sees no foreign events; and a section where every CPU rests.
 use Rattle.std.proofs.Common.{◌≡◌, ◌<◌, true, false, List, [], ◌∷◌, ◌++◌, Option, IsSome, option_map, if◌then◌else◌, refl, ap, sym, ◌∙◌, arith}
-use Rattle.{std.proofs.lemmas.Bool.eq-eqb, event_log.specs.{declared.ids.{CpuId.CpuId, LockId.LockId, TheConstants.CPUS}, History.AreForeign, Actions.Action}}
-use Rattle.event_log.specs.Actions.{Take, Try, Give, Rests, Waits, Holds, cpu_of_action, phase, takes, gives, spot_of, AreLegal, next_action, action_in}
-use Rattle.event_log.{specs.Sections.{Section, sections_in, block_after}, proofs.{Exclusion.{is_at, line_at, phase_own}, Foreign.cpu_of_action_known}}
-use Rattle.{event_log.proofs.{Line.{crowd, crowd_same, crowd_none}, Same.same_cpu_self}, layer_traits.specs.Plans.{Table, Left, Acting, at_give, reply}}
+use Rattle.std.proofs.lemmas.Bool.{eq-eqb}
+use Rattle.event_log.specs.{declared.ids.{CpuId.CpuId, LockId.LockId, TheConstants.CPUS}, History.AreForeign, Actions.{Action, Take, Try, Give, Rests, Waits}}
+use Rattle.event_log.specs.{Actions.{Holds, cpu_of_action, phase, takes, gives, spot_of, AreLegal, next_action, action_in}, Sections.{Section, sections_in}}
+use Rattle.event_log.{specs.Sections.block_after, proofs.{Exclusion.{is_at, line_at, phase_own}, Foreign.cpu_of_action_known, Line.{crowd, crowd_same}}}
+use Rattle.{event_log.proofs.{Line.crowd_none, Same.same_cpu_self}, layer_traits.specs.Polling.Plans.{Table, Left, Acting, at_give, reply}}
 
 -- no action is foreign to a holder that acts for every CPU
 pub no_foreign_acts : {N : Type 0} (ActsFor : CpuId → Type 0) → ((c : CpuId) → c.0 < CPUS → ActsFor c) → (others old : List (Action N))

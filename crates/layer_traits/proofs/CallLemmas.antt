@@ -3,11 +3,12 @@ use Rattle.std.proofs.Common.{◌≡◌, Bool, true, false, List, [], ◌∷◌,
 use Rattle.event_log.specs.{declared.ids.{BufId.BufId, CpuId.CpuId, LockId.{LockId, TheVariants.Buffer}, Tid.Tid}, History.{AreOthers, IsLawful}}
 use Rattle.{event_log.specs.Actions.Action, thread_blocks.proofs.Members.same_tid_true, layer_traits.specs.declared.queues.QueueCall.QueueCall}
 use Rattle.layer_traits.specs.declared.{queues.{QueueCall.TheVariants.{Push, TakeAll, OnBuffer}, QueueEvent.QueueEvent}, scheds.SchedAnswer.SchedAnswer}
-use Rattle.layer_traits.specs.{declared.passes.Pass.{Pass, TheVariants.Switch}, MoveRules.{WakesSleepers, edit_move, section_moves, asleep_after, asleep_by}}
-use Rattle.layer_traits.specs.{Passes.{PassPolled, pass_after, pass_steps}, Plans.{Act, Follows, Left, Now, Plan, Table, raised}, Queues.{CallAllowed, Kernel}}
-use Rattle.layer_traits.specs.{Queues.{QueueAllowed, buffer_sections, call_move, event, cpu_of_queue_event, moves_in, out_at}, Scheds.{SchedPolled, events_of}}
-use Rattle.layer_traits.specs.{Scheds.pass_call, Places.{AreMoves, MayMove, Move, Moved, Pushed, Step, Still, Threads, Took, Where, is_asleep, is_wait_channel}}
-use Rattle.layer_traits.specs.Places.{pending_by, wait_channel_of, step, cpu_of_step, where_after, where_is, where_taken, where_woken}
+use Rattle.layer_traits.specs.{declared.passes.Pass.{Pass, TheVariants.Switch}, Threads.MoveRules.{WakesSleepers, edit_move, section_moves, asleep_after}}
+use Rattle.layer_traits.specs.Threads.{MoveRules.asleep_by, Passes.{PassPolled, pass_after, pass_steps}, Places.{AreMoves, MayMove, Move, Moved, Pushed, Step}}
+use Rattle.layer_traits.specs.Threads.Places.{Still, Threads, Took, Where, is_asleep, is_wait_channel, pending_by, wait_channel_of, step, cpu_of_step}
+use Rattle.layer_traits.specs.{Threads.Places.{where_after, where_is, where_taken, where_woken}, Polling.Plans.{Act, Follows, Left, Now, Plan, Table, raised}}
+use Rattle.layer_traits.specs.Layers.Queues.{CallAllowed, Kernel, QueueAllowed, buffer_sections, call_move, event, cpu_of_queue_event, moves_in, out_at}
+use Rattle.layer_traits.specs.Layers.Scheds.{SchedPolled, events_of, pass_call}
 use Rattle.layer_traits.specs.declared.scheds.SchedCall.TheVariants as call
 
 -- Where a thread sleeps needs no home.

@@ -1,6 +1,7 @@
 -- Locks that opened with these capacities tell them.
 use Rattle.std.proofs.Common.{◌≡◌, ℕ, zero, suc, ◌+◌, ◌≤◌, List, [], ◌∷◌, length, Option, Some, None, option_map, refl, ap, ◌∙◌, arith}
-use Rattle.{std.specs.Prelude.slice_get, event_log.specs.declared.ids.LockId.{LockId, TheVariants.Buffer}, layer_traits.specs.Capacities.{caps_at, caps_from}}
+use Rattle.std.specs.Prelude.{slice_get}
+use Rattle.{event_log.specs.declared.ids.LockId.{LockId, TheVariants.Buffer}, layer_traits.specs.Blocks.Capacities.{caps_at, caps_from}}
 
 module _ {L : Type 0} (capacity : L → ℕ) (fresh : ℕ → L) (shows : (n : ℕ) → capacity (fresh n) ≡ n) (all : List ℕ) (locks : LockId → Option L)
     (opens : (n : ℕ) → locks (Buffer (record { 0 = n })) ≡ option_map fresh (slice_get all n)) where

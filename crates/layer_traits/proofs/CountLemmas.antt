@@ -1,8 +1,8 @@
 -- Threads in lists, by count.
 use Rattle.std.proofs.Common.{◌≡◌, ◌+◌, ◌<◌, true, false, List, [], ◌∷◌, ◌++◌, Option, Some, None, refl, ap, sym, ◌∙◌, arith, add_assoc, zero-add}
 use Rattle.event_log.{specs.{declared.ids.{CpuId.CpuId, Tid.Tid}, History.same_cpu}, proofs.Same.{same_cpu_self, same_cpu_true}}
-use Rattle.{thread_blocks.{specs.Queues.{same_tid, is_in, first, rest}, proofs.Members.same_tid_self}, layer_traits.specs.{Passes.as_list, Places.is_cpu}}
-use Rattle.layer_traits.specs.Places.{is_thread, one_if, count_in}
+use Rattle.{thread_blocks.{specs.Queues.{same_tid, is_in, first, rest}, proofs.Members.same_tid_self}, layer_traits.specs.Threads.Passes.as_list}
+use Rattle.layer_traits.specs.Threads.Places.{is_cpu, is_thread, one_if, count_in}
 
 pub same_tid_sym : (t u : Tid) → same_tid t u ≡ same_tid u t
 same_tid_sym t u = grind arith

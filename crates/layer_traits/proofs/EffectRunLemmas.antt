@@ -1,9 +1,10 @@
 -- Effects that may come one after the other are a run.
 use Rattle.std.proofs.Common.{◌≡◌, ℕ, ◌+◌, ◌<◌, ◌%◌, ◌^◌, ◌≤◌, Bool, ◌&&◌, ◌==◌, List, [], ◌∷◌, ◌++◌, length, reverse, if◌then◌else◌, refl, ap, sym, ◌∙◌, subst}
 use Rattle.std.proofs.{Common.{arith, count_by, add_comm}, lemmas.List.{reverse-append, Sums.{count_by-le-length, sum_by-cons, sum_by_push}}}
-use Rattle.{std.specs.Prelude.{nat_lt, slice_index}, event_log.specs.{declared.entries.{Entry.Entry, Kind.TheVariants.Close}, Buffers.IsAllowedEffect}}
-use Rattle.event_log.{specs.{Buffers.items_of, Runs.{IsNext, IsRun, after_entry, kind_eq}}, proofs.RunLemmas.{run_more, run_none}}
-use Rattle.layer_traits.specs.{BufferEffects.contents_of, EffectRuns.EffectsAreRun}
+use Rattle.std.specs.Prelude.{nat_lt, slice_index}
+use Rattle.event_log.specs.{declared.entries.{Entry.Entry, Kind.TheVariants.Close}, Buffers.{IsAllowedEffect, items_of}, Runs.{IsNext, IsRun, after_entry}}
+use Rattle.{event_log.{specs.Runs.kind_eq, proofs.RunLemmas.{run_more, run_none}}, layer_traits.specs.Blocks.BufferEffects.contents_of}
+use Rattle.layer_traits.specs.Blocks.EffectRuns.{EffectsAreRun}
 
 turned : {E : Type 0} (e : E) (es : List E) → reverse (e ∷ es) ≡ reverse es ++ e ∷ []
 turned e es = reverse-append (e ∷ []) es

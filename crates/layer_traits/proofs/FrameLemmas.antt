@@ -1,6 +1,6 @@
 -- A call that leaves the machine as it was leaves all that is framed.
 use Rattle.std.proofs.Common.{ℕ, ◌+◌, ◌≤◌, List, Option, ap, arith, refl}
-use Rattle.{event_log.specs.declared.ids.{CpuId.CpuId, LockId.LockId}, layer_traits.specs.Framed.Stays}
+use Rattle.{event_log.specs.declared.ids.{CpuId.CpuId, LockId.LockId}, layer_traits.specs.Polling.Framed.Stays}
 
 one_less : (n : ℕ) → n ≤ n + 1
 one_less n = omega arith

@@ -4,8 +4,9 @@ use Rattle.event_log.specs.declared.{ids.{CpuId.CpuId, LockId.LockId, TheConstan
 use Rattle.event_log.specs.{declared.events.Event.TheVariants.{Look, Free}, Actions.{gives, takes}, Grants.{WordFits, cpu_of_grant, grant_lock_phase}}
 use Rattle.event_log.specs.{Grants.{grant_word, tickets}, History.{AreOthers, Adds, same_cpu}, Sections.block_after, WordsLog.{IsLegalWords, Holding, Waiting}}
 use Rattle.event_log.{specs.WordsLog.{cpu_of_event, draws, frees, lock_phase}, proofs.GrantWords.{legal_grants, one_word, takes_grants, words_fit}}
-use Rattle.{event_log.proofs.Tickets.{gives_acts, takes_acts}, layer_traits.specs.{declared.edits.Mark.Mark, GrantProtocol.grant_sections, AsGrants.as_grant}}
-use Rattle.layer_traits.specs.{AsGrants.as_grants, Laws.AsGrants.{acts_as_grants, sections_as_grants, stands_as_grants, grants_agree}, WordsProtocol.sections}
+use Rattle.{event_log.proofs.Tickets.{gives_acts, takes_acts}, layer_traits.specs.{declared.edits.Mark.Mark, Protocols.GrantProtocol.grant_sections}}
+use Rattle.layer_traits.specs.{Protocols.{AsGrants.{as_grant, as_grants}, WordsProtocol.sections}, Laws.AsGrants.{acts_as_grants, sections_as_grants}}
+use Rattle.layer_traits.specs.Laws.AsGrants.{stands_as_grants, grants_agree}
 
 module _ {M : Type 0} where
   -- the events that came after these, as they are told

@@ -1,6 +1,6 @@
 -- Items and counters of a buffer's block, one more or one fewer.
 use Rattle.std.proofs.Common.{◌≡◌, ℕ, ◌+◌, ◌%◌, ◌^◌, List, [], ◌∷◌, drop, refl, arith}
-use Rattle.{event_log.specs.Messages.Message, layer_traits.specs.BufferBlocks.{counted, other_items}}
+use Rattle.{event_log.specs.Messages.Message, layer_traits.specs.Blocks.BufferBlocks.{counted, other_items}}
 
 -- a counter counts on, modulo 2^64
 pub one_more : (a n : ℕ) → a ≡ n % 2 ^ 64 → counted a ≡ (n + 1) % 2 ^ 64

@@ -7,14 +7,15 @@ use Rattle.event_log.specs.{History.{AreOthers, Grows}, Actions.{Action, renamed
 use Rattle.{event_log.proofs.Renaming.{next_action_renamed, others_renamed, sections_in_renamed}, layer_traits.specs.declared.passes.Pass.TheVariants.YieldNow}
 use Rattle.layer_traits.specs.declared.{passes.Pass.TheVariants.{Drain, MakeReady}, queue_edits.{QueueBlock.QueueBlock, QueueEdit.QueueEdit}}
 use Rattle.layer_traits.specs.declared.{queue_edits.QueueAnswer.QueueAnswer, queues.{QueueCall.QueueCall, QueueEvent.QueueEvent}}
-use Rattle.layer_traits.specs.{declared.scheds.{SchedAnswer.{SchedAnswer, TheVariants.Answer}, SchedCall.SchedCall}, MoveRules.edit_move, Passes.own_slept}
-use Rattle.layer_traits.specs.{Passes.{own_woken, pass_after, queue_for}, Places.{Threads, Moved, step, MayEdit, MayPush, home_of, pending_by}, Plans.Left}
-use Rattle.layer_traits.specs.{Plans.{Plan, Now, Act, Follows, raised, reply, table_of}, Protocol.section, QueueBlocks.{StartsAs, StartsWell, homes_in}}
-use Rattle.layer_traits.specs.{QueueBlocks.{homes_of, inner}, QueueRules.{AreProper, IsProper, queue_answer, queue_edited, queue_rules}, Queues.Kernel}
-use Rattle.layer_traits.specs.Queues.{CallAllowed, IsKnownEvent, QueueAllowed, buffer_sections, call_move, event, cpu_of_queue_event, event_of, call_at}
-use Rattle.layer_traits.specs.{Queues.{moves_in, out_at, with_section}, Renaming.{named, renamed_call, renamed_edit, renamed_event, renamed_events}}
-use Rattle.layer_traits.specs.{Renaming.{renamed_sched, viewed, viewed_block}, Scheds.{EditStays, IsLocal, SchedPolled, answer_to, events_of, left, left_by}}
-use Rattle.layer_traits.{specs.Scheds.{own_after, own_answered, queue_call, sched_plan}, proofs.PlanRenaming.{block_viewed, map-append, reply_viewed}}
+use Rattle.layer_traits.specs.{declared.scheds.{SchedAnswer.{SchedAnswer, TheVariants.Answer}, SchedCall.SchedCall}, Threads.MoveRules.edit_move}
+use Rattle.layer_traits.specs.Threads.{Passes.{own_slept, own_woken, pass_after, queue_for}, Places.{Threads, Moved, step, MayEdit, MayPush, home_of}}
+use Rattle.layer_traits.specs.{Threads.Places.pending_by, Polling.Plans.{Left, Plan, Now, Act, Follows, raised, reply, table_of}, Protocols.Protocol.section}
+use Rattle.layer_traits.specs.Blocks.{QueueBlocks.{StartsAs, StartsWell, homes_in, homes_of, inner}, QueueRules.{AreProper, IsProper, queue_answer}}
+use Rattle.layer_traits.specs.{Blocks.QueueRules.{queue_edited, queue_rules}, Layers.Queues.{Kernel, CallAllowed, IsKnownEvent, QueueAllowed, buffer_sections}}
+use Rattle.layer_traits.specs.Layers.{Queues.{call_move, event, cpu_of_queue_event, event_of, call_at, moves_in, out_at, with_section}, Scheds.EditStays}
+use Rattle.layer_traits.specs.Layers.Scheds.{IsLocal, SchedPolled, answer_to, events_of, left, left_by, own_after, own_answered, queue_call, sched_plan}
+use Rattle.layer_traits.specs.Views.Renaming.{named, renamed_call, renamed_edit, renamed_event, renamed_events, renamed_sched, viewed, viewed_block}
+use Rattle.layer_traits.proofs.PlanRenaming.{block_viewed, map-append, reply_viewed}
 use Rattle.layer_traits.specs.declared.queue_edits.QueueBlock.TheVariants as block
 use Rattle.layer_traits.specs.declared.queue_edits.QueueEdit.TheVariants as edit
 use Rattle.layer_traits.specs.declared.queue_edits.QueueAnswer.TheVariants as told

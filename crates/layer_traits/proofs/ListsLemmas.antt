@@ -1,14 +1,15 @@
 -- The waiting lists of locks and the places of threads agree after each section, so whom a section wakes sleeps.
 use Rattle.std.proofs.Common.{◌≡◌, ◌+◌, ◌<◌, Bool, true, false, ◌&&◌, List, [], ◌∷◌, Option, Some, None, option_map, if◌then◌else◌, refl, ap, ◌∙◌, arith}
-use Rattle.{std.proofs.lemmas.Bool.{and_left, and_right}, event_log.specs.{declared.ids.{LockId.LockId, Tid.Tid, TheConstants.THREADS}, History.same_lock}}
-use Rattle.event_log.{specs.{History.IsLawful, Sections.{Section, block_after}}, proofs.Same.{same_lock_self, same_lock_true}}
-use Rattle.layer_traits.specs.declared.{moves.WaitList.{WaitList, TheVariants.{Sleepers, Receivers, Senders}}, sleeps.{Outcome.Outcome, Wake.Wake}}
-use Rattle.layer_traits.specs.{declared.sleeps.Wake.TheVariants.{Nobody, FirstSleeper, Receiver, Sender}, ListsAgree.{same_list, is_at, Agrees}}
-use Rattle.layer_traits.specs.{MoveRules.{edit_move, section_moves, slept_at, asleep_after, asleep_by}, Places.{WaitChannel, At, Moved, is_thread}}
-use Rattle.layer_traits.specs.{Places.{is_wait_channel, one_if, count_in}, Sleeping.{SleepRules, SleepState, joined, wait_list_joined, left, woken}}
-use Rattle.layer_traits.specs.Sleeping.{wait_list_of, wait_list_at, answer_above, sleep_edited, sleep_answer, sleep_woke, wait_list_after, sleep_rules}
-use Rattle.layer_traits.{specs.Sleeping.{sleep_moves, NobodySleeps, IsAwake}, proofs.CountLemmas.{count_append, count_front, in_counted, is_thread_self}}
-use Rattle.{layer_traits.proofs.CountLemmas.not_counted, thread_blocks.{specs.Queues.{same_tid, is_in, first, rest, without}, proofs.Members.same_tid_true}}
+use Rattle.std.proofs.lemmas.Bool.{and_left, and_right}
+use Rattle.event_log.specs.{declared.ids.{LockId.LockId, Tid.Tid, TheConstants.THREADS}, History.{same_lock, IsLawful}, Sections.{Section, block_after}}
+use Rattle.{event_log.proofs.Same.{same_lock_self, same_lock_true}, layer_traits.specs.declared.moves.WaitList.{WaitList, TheVariants.{Sleepers, Receivers}}}
+use Rattle.layer_traits.specs.declared.{moves.WaitList.TheVariants.Senders, sleeps.{Outcome.Outcome, Wake.{Wake, TheVariants.{Nobody, FirstSleeper, Receiver}}}}
+use Rattle.layer_traits.specs.{declared.sleeps.Wake.TheVariants.Sender, Threads.{ListsAgree.{same_list, is_at, Agrees}, MoveRules.{edit_move, section_moves}}}
+use Rattle.layer_traits.specs.Threads.{MoveRules.{slept_at, asleep_after, asleep_by}, Places.{WaitChannel, At, Moved, is_thread, is_wait_channel, one_if}}
+use Rattle.layer_traits.specs.{Threads.Places.count_in, Layers.Sleeping.{SleepRules, SleepState, joined, wait_list_joined, left, woken, wait_list_of}}
+use Rattle.layer_traits.specs.Layers.Sleeping.{wait_list_at, answer_above, sleep_edited, sleep_answer, sleep_woke, wait_list_after, sleep_rules, sleep_moves}
+use Rattle.layer_traits.{specs.Layers.Sleeping.{NobodySleeps, IsAwake}, proofs.CountLemmas.{count_append, count_front, in_counted, is_thread_self, not_counted}}
+use Rattle.thread_blocks.{specs.Queues.{same_tid, is_in, first, rest, without}, proofs.Members.same_tid_true}
 
 -- Counts.
 

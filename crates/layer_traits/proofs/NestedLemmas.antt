@@ -6,13 +6,14 @@ use Rattle.event_log.specs.declared.ids.{BufId.BufId, CpuId.CpuId, LockId.{LockI
 use Rattle.event_log.specs.{History.{AreForeign, AreOthers, Grows, IsLawful, same_cpu, same_lock}, Sections.{Section, block_after, cpu_of_section}}
 use Rattle.{thread_blocks.specs.Queues.is_in, layer_traits.specs.declared.queue_edits.{QueueBlock.QueueBlock, QueueEdit.QueueEdit, QueueAnswer.QueueAnswer}}
 use Rattle.layer_traits.specs.declared.{queue_edits.QueueAnswer.TheVariants.{Done, Taken, Answer}, queues.QueueCall.{QueueCall, TheVariants.{Push, TakeAll}}}
-use Rattle.layer_traits.specs.{declared.queues.{QueueCall.TheVariants.OnBuffer, QueueEvent.QueueEvent}, MoveRules.{MoveRules, WakesSleepers, edit_move}}
-use Rattle.layer_traits.specs.{Places.{AreMoves, MayMove, MayPush, pending_after, pending_by}, Protocol.{IsKnown, Rules, StaysAllowed, section}}
-use Rattle.layer_traits.specs.{QueueBlocks.{StartsAs, StartsWell, homes_in, inner, with_queue}, QueueRules.{AreProper, IsProper, IsProperCall, SectionAllowed}}
-use Rattle.layer_traits.specs.{QueueRules.{queue_answer, queue_edited, queue_rules}, Polls.{MayPoll, Polled}, Sleeping.joined, Queues.{CallAllowed, call_move}}
-use Rattle.layer_traits.specs.Queues.{IsKnownEvent, Kernel, MayQueue, QueueAllowed, QueuePolled, StaysCallable, answer_of, buffer_sections, call_at, edit_of}
-use Rattle.layer_traits.specs.{Queues.{event, cpu_of_queue_event, event_of, kernel, lock_of, moves_in, out_at}, Laws.Openings.above_is}
-use Rattle.layer_traits.proofs.{CallLemmas.moves_lawful, CountLemmas.same_cpu_sym, PlaceLemmas.pend_where, PlanRenaming.map-append}
+use Rattle.layer_traits.specs.{declared.queues.{QueueCall.TheVariants.OnBuffer, QueueEvent.QueueEvent}, Threads.MoveRules.{MoveRules, WakesSleepers, edit_move}}
+use Rattle.layer_traits.specs.{Threads.Places.{AreMoves, MayMove, MayPush, pending_after, pending_by}, Protocols.Protocol.{IsKnown, Rules, StaysAllowed}}
+use Rattle.layer_traits.specs.{Protocols.Protocol.section, Blocks.{QueueBlocks.{StartsAs, StartsWell, homes_in, inner, with_queue}, QueueRules.AreProper}}
+use Rattle.layer_traits.specs.{Blocks.QueueRules.{IsProper, IsProperCall, SectionAllowed, queue_answer, queue_edited, queue_rules}, Polling.Polls.MayPoll}
+use Rattle.layer_traits.specs.{Polling.Polls.Polled, Layers.{Sleeping.joined, Queues.{CallAllowed, call_move, IsKnownEvent, Kernel, MayQueue, QueueAllowed}}}
+use Rattle.layer_traits.specs.Layers.Queues.{QueuePolled, StaysCallable, answer_of, buffer_sections, call_at, edit_of, event, cpu_of_queue_event, event_of}
+use Rattle.layer_traits.{specs.{Layers.Queues.{kernel, lock_of, moves_in, out_at}, Laws.Openings.above_is}, proofs.CallLemmas.moves_lawful}
+use Rattle.layer_traits.proofs.{CountLemmas.same_cpu_sym, PlaceLemmas.pend_where, PlanRenaming.map-append}
 use Rattle.layer_traits.specs.declared.queue_edits.QueueBlock.TheVariants as block
 use Rattle.layer_traits.specs.declared.queue_edits.QueueEdit.TheVariants as edit
 

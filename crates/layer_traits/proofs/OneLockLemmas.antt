@@ -6,7 +6,7 @@ use Rattle.event_log.specs.{Actions.{acts_of, gives, phase, spot_of}, History.{s
 use Rattle.event_log.{specs.WordsLog.{Idle, Waiting, Holding, cpu_of_event, left_by, lock_phase, draws, frees, is_free}, proofs.Exclusion.{is_at, near}}
 use Rattle.event_log.proofs.{Same.{same_cpu_self, same_cpu_true, same_lock_self}, Observed.{TicketOf, phase_of}, Tickets.{gives_acts, legal_acts, one_inside}}
 use Rattle.{event_log.proofs.Tickets.{phase_acts, same_rests, lock_phase_other, ticket_at}, layer_traits.specs.declared.edits.Mark.Mark}
-use Rattle.layer_traits.specs.{OneLock.{SomeoneInside, NobodyInside, HomeFits}, WordsProtocol.{edit_of, sections}}
+use Rattle.layer_traits.specs.Protocols.{OneLock.{SomeoneInside, NobodyInside, HomeFits}, WordsProtocol.{edit_of, sections}}
 
 -- the lock whose word an event acts on
 abbrev pub event_lock : {M : Type 0} → Event M → LockId

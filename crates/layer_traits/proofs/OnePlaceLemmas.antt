@@ -1,9 +1,10 @@
 -- Each thread stands in exactly one place: the sums over all CPUs, by cases on the thread's home and place.
 use Rattle.std.proofs.Common.{◌≡◌, ℕ, zero, suc, ◌+◌, ◌<◌, ◌⊎◌, inl, inr, true, false, ◌&&◌, List, Option, Some, None, is_some, refl, ap, sym, ◌∙◌, arith}
-use Rattle.{std.proofs.lemmas.Bool.{and_right, cases_eq, ne_eqb}, event_log.specs.{declared.ids.{CpuId.CpuId, Tid.Tid}, History.same_cpu}}
-use Rattle.{event_log.proofs.Same.same_cpu_self, layer_traits.specs.{OnePlace.{total, cpu_at, AllStand, OnePlace}, Places.{Step, Threads, Where, Home, Hand}}}
-use Rattle.layer_traits.specs.Places.{Pend, Asleep, home_of, is_cpu, is_thread, is_asleep, is_home, is_hand, is_pend, where_is, pending_by, one_if, count_in}
-use Rattle.layer_traits.{specs.Places.copies, proofs.PlaceLemmas.{pend_home, away_known, hand_home, pend_count}}
+use Rattle.std.proofs.lemmas.Bool.{and_right, cases_eq, ne_eqb}
+use Rattle.{event_log.{specs.{declared.ids.{CpuId.CpuId, Tid.Tid}, History.same_cpu}, proofs.Same.same_cpu_self}, layer_traits.specs.Threads.OnePlace.total}
+use Rattle.layer_traits.specs.Threads.{OnePlace.{cpu_at, AllStand, OnePlace}, Places.{Step, Threads, Where, Home, Hand, Pend, Asleep, home_of, is_cpu}}
+use Rattle.layer_traits.specs.Threads.Places.{is_thread, is_asleep, is_home, is_hand, is_pend, where_is, pending_by, one_if, count_in, copies}
+use Rattle.layer_traits.proofs.PlaceLemmas.{pend_home, away_known, hand_home, pend_count}
 
 pub total_same : (f g : ℕ → ℕ) (n : ℕ) → ((k : ℕ) → k < n → f k ≡ g k) → total f n ≡ total g n
 total_same f g zero same = refl

@@ -1,6 +1,6 @@
 -- What a layer beneath tells of its blocks, a layer tells of what it makes of them.
 use Rattle.std.proofs.{Common.{◌≡◌, Option, Some, None, option_map, refl, sym, ◌∙◌, subst, arith}, lemmas.Option.same_Some}
-use Rattle.{event_log.specs.declared.ids.CpuId.CpuId, layer_traits.specs.{Owned.{IsHeld, IsObserved}, Observed.IsObservedAs}}
+use Rattle.{event_log.specs.declared.ids.CpuId.CpuId, layer_traits.specs.Views.{Owned.{IsHeld, IsObserved}, Observed.IsObservedAs}}
 
 -- what is true under one name is true under another
 pub same_shown : {P A : Type 0} (Fits : P → Type 0) (cpu_of : P → CpuId) (IsInside : CpuId → Type 0) (here : P → Option A) (home truth other : Option A)

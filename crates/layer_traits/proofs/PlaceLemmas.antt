@@ -3,13 +3,13 @@
 use Rattle.std.proofs.Common.{◌≡◌, ◌≢◌, ℕ, zero, suc, ◌+◌, ◌<◌, Bool, true, false, ◌&&◌, List, [], ◌∷◌, ◌++◌, Option, Some, None, MatchOption, IsSome, is_some}
 use Rattle.std.proofs.{Common.{if◌then◌else◌, refl, ap, sym, ◌∙◌, arith, zero-add, slice_get}, lemmas.Bool.and_parts}
 use Rattle.event_log.{specs.{declared.ids.{CpuId.CpuId, LockId.LockId, Tid.Tid}, History.{same_cpu, AreOthers}}, proofs.Same.{same_cpu_self, same_cpu_true}}
-use Rattle.{thread_blocks.{specs.Queues.{same_tid, is_in}, proofs.Members.same_tid_true}, layer_traits.specs.{declared.moves.WaitList.WaitList, Passes.as_list}}
-use Rattle.layer_traits.specs.{Passes.{or_else, switched, took, passed_on, finished, own_slept, own_woken}, Places.{home_of, is_cpu, is_thread, WaitChannel}}
-use Rattle.layer_traits.specs.Places.{At, Where, Home, Hand, Pend, Asleep, Move, Pushed, Took, Moved, Still, Step, step, cpu_of_step, where_woken, where_taken}
-use Rattle.layer_traits.specs.Places.{where_slept, where_after, where_is, is_asleep, is_home, is_hand, is_pend, pending_after, pending_by, MayMove, AreMoves}
-use Rattle.layer_traits.{specs.Places.{Threads, one_if, count_in, copies, is_here, Stands, homed, at_boot}, proofs.CountLemmas.{same_tid_sym, same_cpu_sym}}
-use Rattle.layer_traits.proofs.CountLemmas.{is_cpu_true, is_cpu_of, is_cpu_other, is_thread_self, count_append, count_as_list, count_front, in_counted}
-use Rattle.layer_traits.proofs.CountLemmas.{not_counted}
+use Rattle.{thread_blocks.{specs.Queues.{same_tid, is_in}, proofs.Members.same_tid_true}, layer_traits.specs.declared.moves.WaitList.WaitList}
+use Rattle.layer_traits.specs.Threads.{Passes.{as_list, or_else, switched, took, passed_on, finished, own_slept, own_woken}, Places.{home_of, is_cpu}}
+use Rattle.layer_traits.specs.Threads.Places.{is_thread, WaitChannel, At, Where, Home, Hand, Pend, Asleep, Move, Pushed, Took, Moved, Still, Step, step}
+use Rattle.layer_traits.specs.Threads.Places.{cpu_of_step, where_woken, where_taken, where_slept, where_after, where_is, is_asleep, is_home, is_hand, is_pend}
+use Rattle.layer_traits.specs.Threads.Places.{pending_after, pending_by, MayMove, AreMoves, Threads, one_if, count_in, copies, is_here, Stands, homed, at_boot}
+use Rattle.layer_traits.proofs.CountLemmas.{same_tid_sym, same_cpu_sym, is_cpu_true, is_cpu_of, is_cpu_other, is_thread_self, count_append, count_as_list}
+use Rattle.layer_traits.proofs.CountLemmas.{count_front, in_counted, not_counted}
 
 -- What a move may do to a place.
 

@@ -1,8 +1,8 @@
 -- A layer that wraps its edits in those of the layer beneath: its blocks and replies are views of those there, under the layer's own names.
 use Rattle.std.proofs.Common.{◌≡◌, List, [], ◌∷◌, Option, option_map, map, refl, ap, sym, ◌∙◌, arith}
 use Rattle.event_log.specs.{declared.ids.{CpuId.CpuId, LockId.LockId}, Actions.{Action, Phase, phase, renamed}, Sections.{Section, renamed_section}}
-use Rattle.{event_log.{specs.Sections.{sections_in, block_after}, proofs.Renaming.{phase_renamed, sections_in_renamed}}, layer_traits.specs.Plans.Table}
-use Rattle.layer_traits.specs.Plans.{at_give, reply}
+use Rattle.{event_log.{specs.Sections.{sections_in, block_after}, proofs.Renaming.{phase_renamed, sections_in_renamed}}, layer_traits.specs.Polling.Plans.Table}
+use Rattle.layer_traits.specs.Polling.Plans.{at_give, reply}
 pub use Rattle.std.proofs.lemmas.List.{map-append}
 
 -- A table stands on the one beneath: its names, blocks and answers are made of those there, and edits and answers agree. M, A and Q

@@ -1,12 +1,11 @@
 -- Runs of polls: what a run keeps, and that a call that was quiet so far may be polled again.
 use Rattle.std.proofs.Common.{true, ◌≡◌, ◌≢◌, ◌⊎◌, ℕ, ◌+◌, ◌<◌, ◌≤◌, List, Option, Some, None, is_some, length, refl, ap, sym, ◌∙◌, subst, arith}
-use Rattle.{std.proofs.Math.Nat.lt_of_not-le, event_log.specs.declared.ids.{CpuId.CpuId, Tid.Tid}, layer_traits.specs.declared.calls.{Call.Call, Effect.Effect}}
-use Rattle.layer_traits.specs.Capacities.{caps_in}
-use Rattle.layer_traits.specs.declared.{calls.{Reply.Reply, ReplyKind.ReplyKind}, call_layers.CallLayer.Ghosts, call_states.{Stage.Stage, CallState.CallState}}
-use Rattle.layer_traits.specs.BufferLaw.{BufferPlan, Buffering, Calling, IsEffectOf, MayGoOn, MayPollCall, UnderWay, begun_at, begun_of, buffer_of}
-use Rattle.layer_traits.specs.{BufferLaw.{call_state_of, going, going_at, still_calling}, OwnParts.threads_in, Framed.Framed}
-use Rattle.layer_traits.specs.LayerPolls.{IsQuietAt, LookedAt, PolledAt, PolledOnAt}
-use Rattle.layer_traits.specs.PollRuns.{once, again, looks}
+use Rattle.std.proofs.Math.Nat.{lt_of_not-le}
+use Rattle.{event_log.specs.declared.ids.{CpuId.CpuId, Tid.Tid}, layer_traits.specs.declared.calls.{Call.Call, Effect.Effect, Reply.Reply, ReplyKind.ReplyKind}}
+use Rattle.layer_traits.specs.{declared.{call_layers.CallLayer.Ghosts, call_states.{Stage.Stage, CallState.CallState}}, Blocks.Capacities.caps_in}
+use Rattle.layer_traits.specs.Layers.BufferLaw.{BufferPlan, Buffering, Calling, IsEffectOf, MayGoOn, MayPollCall, UnderWay, begun_at, begun_of, buffer_of}
+use Rattle.layer_traits.specs.{Layers.BufferLaw.{call_state_of, going, going_at, still_calling}, Views.OwnParts.threads_in, Polling.Framed.Framed}
+use Rattle.layer_traits.specs.Polling.{LayerPolls.{IsQuietAt, LookedAt, PolledAt, PolledOnAt}, PollRuns.{once, again, looks}}
 
 -- a call that has begun goes on as it is
 going_begun_at : (stage : Stage) (call_state : CallState) (call : Call) → begun_at stage call_state.call ≡ Some call

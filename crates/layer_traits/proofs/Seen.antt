@@ -2,8 +2,8 @@
 use Rattle.std.proofs.Common.{◌≡◌, List, [], ◌∷◌, ◌++◌, sym, subst, append_assoc}
 use Rattle.event_log.specs.{declared.{ids.CpuId.CpuId, events.Event.{Event, TheVariants.{Draw, Look, Free}}}, History.{IsLawful, AreOthers}}
 use Rattle.event_log.{specs.{WordsLog.cpu_of_event, Sections.{Section, cpu_of_section}}, proofs.Foreign.{sections_of-append, others_sections_of}}
-use Rattle.layer_traits.specs.{declared.edits.Mark.Mark, Protocol.StaysAllowed, WordsProtocol.{MayCome, edit_of, sections}}
-pub use Rattle.{event_log.proofs.Foreign.{lawful_before as lawful_rest, lock_phase_others}, layer_traits.specs.WordsProtocol.words_legal}
+use Rattle.layer_traits.specs.{declared.edits.Mark.Mark, Protocols.{Protocol.StaysAllowed, WordsProtocol.{MayCome, edit_of, sections}}}
+pub use Rattle.{event_log.proofs.Foreign.{lawful_before as lawful_rest, lock_phase_others}, layer_traits.specs.Protocols.WordsProtocol.words_legal}
 
 pub sections-append : {E : Type 0} (more log : List (Event (Mark E))) → sections (more ++ log) ≡ sections more ++ sections log
 sections-append more log = sections_of-append edit_of more log

@@ -1,9 +1,9 @@
 -- A poll of a sleeping layer is one poll of the scheduler's call that is due.
 use Rattle.std.proofs.Common.{◌≡◌, List, ◌++◌, Option, Some, None, IsSome, is_some, option_map, refl, ap, sym, ◌∙◌, subst, arith}
 use Rattle.{event_log.specs.declared.ids.{BufId.BufId, CpuId.CpuId, Tid.Tid}, layer_traits.specs.declared.queues.QueueEvent.QueueEvent}
-use Rattle.layer_traits.specs.{declared.{scheds.SchedAnswer.{SchedAnswer, TheVariants.{Done, Answer}}, sleeps.Outcome.Outcome}, Places.Threads, Queues.Kernel}
-use Rattle.layer_traits.specs.{Queues.out_at, Scheds.{SchedPolled, own_answered}, SleepLaw.{Sleeping, SleepPolled, Waits, Does, Sends, due, done_if, left_done}}
-use Rattle.layer_traits.specs.SleepLaw.{left_reported}
+use Rattle.layer_traits.specs.{declared.{scheds.SchedAnswer.{SchedAnswer, TheVariants.{Done, Answer}}, sleeps.Outcome.Outcome}, Threads.Places.Threads}
+use Rattle.layer_traits.specs.Layers.{Queues.{Kernel, out_at}, Scheds.{SchedPolled, own_answered}, SleepLaw.{Sleeping, SleepPolled, Waits, Does, Sends, due}}
+use Rattle.layer_traits.specs.Layers.SleepLaw.{done_if, left_done, left_reported}
 
 -- an outcome is kept exactly while a thread stands in the hand
 abbrev pub HandDefers : {O : Type 0} → Option Tid → Option (Outcome O) → Type 0

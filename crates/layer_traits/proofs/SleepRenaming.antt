@@ -2,10 +2,11 @@
 -- layer's own names.
 use Rattle.std.proofs.Common.{◌≡◌, List, ◌∷◌, ◌++◌, Option, Some, refl, ap, sym, ◌∙◌, subst, arith}
 use Rattle.{event_log.specs.declared.ids.{BufId.BufId, CpuId.CpuId, Tid.Tid}, layer_traits.specs.declared.{passes.Pass.Pass, queues.QueueEvent.QueueEvent}}
-use Rattle.layer_traits.specs.{declared.sleeps.Outcome.Outcome, Passes.queue_for, Plans.{Left, raised}, Queues.{Kernel, event}, Renaming.{named, renamed_edit}}
-use Rattle.layer_traits.specs.{Renaming.{renamed_events, renamed_sched}, Scheds.sched_plan, SleepLaw.{PollResult, MayDo, SleepPolled, Sleeping, Waits, Does}}
-use Rattle.layer_traits.specs.SleepLaw.{Sends, due, left_done, left_passed, left_reported, left_with, pass_plan, seen_with, sleep_plan}
-use Rattle.layer_traits.proofs.KernelRenaming.{Wraps, answered_renamed, events_append, events_others, named_raised, out_renamed, plan_renamed}
+use Rattle.layer_traits.specs.{declared.sleeps.Outcome.Outcome, Threads.Passes.queue_for, Polling.Plans.{Left, raised}, Layers.Queues.{Kernel, event}}
+use Rattle.layer_traits.specs.Layers.{Scheds.sched_plan, SleepLaw.{PollResult, MayDo, SleepPolled, Sleeping, Waits, Does, Sends, due, left_done, left_passed}}
+use Rattle.layer_traits.specs.{Layers.SleepLaw.{left_reported, left_with, pass_plan, seen_with, sleep_plan}, Views.Renaming.{named, renamed_edit}}
+use Rattle.layer_traits.{specs.Views.Renaming.{renamed_events, renamed_sched}, proofs.KernelRenaming.{Wraps, answered_renamed, events_append, events_others}}
+use Rattle.layer_traits.proofs.KernelRenaming.{named_raised, out_renamed, plan_renamed}
 use Rattle.layer_traits.specs.declared.queues.QueueCall.TheVariants as queue
 use Rattle.layer_traits.specs.declared.scheds.SchedCall.TheVariants as call
 

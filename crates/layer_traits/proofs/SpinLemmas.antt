@@ -2,7 +2,8 @@
 use Rattle.std.proofs.Common.{◌≡◌, ℕ, zero, suc, ◌<◌, ◌%◌, false, List, ◌∷◌, ◌++◌, map, replicate, refl, ap, ◌∙◌, arith}
 use Rattle.event_log.specs.declared.{ids.{CpuId.CpuId, LockId.{LockId, TheVariants.Pending}, TheConstants.CPUS}, events.Event.{Event, TheVariants.Look}}
 use Rattle.event_log.specs.{declared.grants.GrantEvent.{GrantEvent, TheVariants.Peek}, Actions.{Action, Try, Waits, phase, renamed, spot_of}, Grants.grant_word}
-use Rattle.{event_log.{specs.Sections.sections_in, proofs.{Same.same_cpu_true, Renaming.phase_renamed}}, layer_traits.specs.{AsGrants.as_grants, Spins.Misses}}
+use Rattle.{event_log.{specs.Sections.sections_in, proofs.{Same.same_cpu_true, Renaming.phase_renamed}}, layer_traits.specs.Protocols.AsGrants.as_grants}
+use Rattle.layer_traits.specs.Polling.Spins.{Misses}
 
 -- no look is none that hit
 pub none_missed : {N : Type 0} (cpu : CpuId) (acts : List (Action N)) → Misses cpu 0 acts acts

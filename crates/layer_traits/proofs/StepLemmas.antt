@@ -1,7 +1,7 @@
 -- The steps at the front of a list that are those of a CPU, part by part.
 use Rattle.std.proofs.Common.{◌≡◌, ℕ, ◌+◌, ◌-◌, ◌≤◌, List, ◌++◌, length, take, drop, replicate, slice_range, ap, sym, ◌∙◌, subst, arith, length-drop}
 use Rattle.std.proofs.{Math.Seq.{take-add, take-length}, lemmas.List.{length-take-le, replicate-append-replicate, take_rest}}
-use Rattle.{event_log.specs.declared.ids.CpuId.CpuId, layer_traits.specs.Spins.BeginWith}
+use Rattle.{event_log.specs.declared.ids.CpuId.CpuId, layer_traits.specs.Polling.Spins.BeginWith}
 
 module _ (cpu : CpuId) (n k : ℕ) (steps : List CpuId) (begin : BeginWith cpu n steps) where
   -- so many more at the front of the rest

@@ -4,8 +4,9 @@
 
 ghost use Rattle.std.specs.Prelude.{◌≡◌, ◌≤◌, ◌++◌, ◌∷◌, [], if◌then◌else◌};
 ghost use Rattle.{event_log.specs.declared.ids.TheConstants.CAPACITY, layer_traits.specs.declared.buffer_edits.BufferEdit.TheVariants.{Enter, TryPut, TryTake}};
-ghost use Rattle.layer_traits.specs.{declared.{buffer_edits.BufferEdit.TheVariants.Shut, locked.Side.TheVariants.{Receivers, Senders}}, Payloads.buffer_told};
-ghost use Rattle.layer_traits.specs.BufferBlocks.{buffer_answer, buffer_edited, empty_block, front_ready, is_first, may_go, may_join};
+ghost use Rattle.layer_traits.specs.declared.{buffer_edits.BufferEdit.TheVariants.Shut, locked.Side.TheVariants.{Receivers, Senders}};
+ghost use Rattle.layer_traits.specs.Blocks.{Payloads.buffer_told, BufferBlocks.{buffer_answer, buffer_edited, empty_block, front_ready, is_first, may_go}};
+ghost use Rattle.layer_traits.specs.Blocks.BufferBlocks.{may_join};
 
 use crate::buffer_edits::{BareBufferEdit, BareBufferOut, BufferEdit, BufferOut};
 use crate::conditions::{Guarded, WholeGuarded};
@@ -34,7 +35,7 @@ pub struct BufferBlock {
 
 impl Model for BufferBlock {
     ghost use Rattle.std.specs.Prelude.{◌≤◌, length};
-    ghost use Rattle.{event_log.specs.declared.ids.TheConstants.CAPACITY, layer_traits.specs.BufferBlocks.BufferState};
+    ghost use Rattle.{event_log.specs.declared.ids.TheConstants.CAPACITY, layer_traits.specs.Blocks.BufferBlocks.BufferState};
 
     ghost Value = { BufferState };
 
@@ -243,7 +244,7 @@ fn leads(line: &ThreadQueue, t: Tid) -> bool
 }
 
 impl Guarded for BufferEdit {
-    ghost use Rattle.layer_traits.specs.{BufferProtocol.buffer_monitor_rules, Payloads.buffer_meant, Payloads.buffer_told};
+    ghost use Rattle.layer_traits.specs.Blocks.{BufferProtocol.buffer_monitor_rules, Payloads.{buffer_meant, buffer_told}};
 
     type Block = BufferBlock;
 

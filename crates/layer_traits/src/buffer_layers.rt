@@ -1,7 +1,7 @@
 //! The layer of buffers. No call takes memory or waits.
 
 ghost use Rattle.std.specs.Prelude.{◌<◌, length};
-ghost use Rattle.layer_traits.specs.BufferLaw.{buffer_of, fifo_plan};
+ghost use Rattle.layer_traits.specs.Layers.BufferLaw.{buffer_of, fifo_plan};
 
 use crate::call_layers::{CallLaw, CallLayer};
 

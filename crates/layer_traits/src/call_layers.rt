@@ -7,14 +7,14 @@ ghost use Rattle.std.specs.Prelude.{◌≡◌, ◌≢◌, ℕ, ◌<◌, ◌≤�
 ghost use Rattle.event_log.specs.declared.{ids.{CpuId.CpuId, Tid.Tid, BufId.BufId, LockId.LockId, TheConstants.THREADS}, entries.Entry.Entry};
 ghost use Rattle.{event_log.specs.{History.IsLawful, Actions.{Action, AreLegal, phase}, Sections.sections_in}, layer_traits.specs.declared.calls.Call.Call};
 ghost use Rattle.layer_traits.specs.declared.{calls.Reply.Reply, buffer_edits.BufferEdit.BufferEdit, moves.WaitList.WaitList, queue_edits.QueueEdit.QueueEdit};
-ghost use Rattle.layer_traits.specs.{declared.queue_edits.QueueBlock.QueueBlock, Acted.MovesAre, Capacities.caps_in, Conditions.CvCall};
-ghost use Rattle.layer_traits.specs.{OwnParts.threads_in, Places.{Step, Stands, AreMoves}, Plans.{Follows, table_of, is_in_section}, Framed.Framed};
-ghost use Rattle.layer_traits.specs.{Spins.{BeginWith, Spun, Misses}, QueueBlocks.{StartsWell, homes_in, inner}, Queues.{buffer_sections, event_of}};
-ghost use Rattle.layer_traits.specs.{QueueRules.queue_rules, Passes.{MayPass, IsLocalPass, PassPolled}, QLocking.{lock_moves, lock_rules}};
-ghost use Rattle.layer_traits.specs.{BufferProtocol.{BufferLock, buffer_rules}, BufferEffects.{MayTakeEffect, effects_in}, IpcLaw.WaitListsAgree};
-ghost use Rattle.layer_traits.specs.{IpcLaw.OpensSo, PollRuns.{Looked, Polled, PolledOn}, BufferLaw.{BufferPlan, Buffering, answer_in, reply_with}};
-ghost use Rattle.layer_traits.specs.BufferLaw.{Calling, UnderWay, MayGoOn, MayPollCall, OthersSeen, Passing};
-ghost use Rattle.layer_traits.specs.BufferLaw.{buffering_at_start, fifo_pass_plan, still_passing, call_state_of, message_of};
+ghost use Rattle.layer_traits.specs.{declared.queue_edits.QueueBlock.QueueBlock, Views.{Acted.MovesAre, OwnParts.threads_in}, Blocks.Capacities.caps_in};
+ghost use Rattle.layer_traits.specs.Blocks.{QueueBlocks.{StartsWell, homes_in, inner}, QueueRules.queue_rules, BufferProtocol.{BufferLock, buffer_rules}};
+ghost use Rattle.layer_traits.specs.{Blocks.BufferEffects.{MayTakeEffect, effects_in}, Layers.{Conditions.CvCall, Queues.{buffer_sections, event_of}}};
+ghost use Rattle.layer_traits.specs.Layers.{QLocking.{lock_moves, lock_rules}, IpcLaw.{WaitListsAgree, OpensSo}, BufferLaw.{BufferPlan, Buffering, answer_in}};
+ghost use Rattle.layer_traits.specs.Layers.BufferLaw.{reply_with, Calling, UnderWay, MayGoOn, MayPollCall, OthersSeen, Passing, buffering_at_start};
+ghost use Rattle.layer_traits.specs.{Layers.BufferLaw.{fifo_pass_plan, still_passing, call_state_of, message_of}, Threads.Places.{Step, Stands, AreMoves}};
+ghost use Rattle.layer_traits.specs.{Threads.Passes.{MayPass, IsLocalPass, PassPolled}, Polling.{Plans.{Follows, table_of, is_in_section}, Framed.Framed}};
+ghost use Rattle.layer_traits.specs.Polling.{Spins.{BeginWith, Spun, Misses}, PollRuns.{Looked, Polled, PolledOn}};
 
 use crate::calls::{Call, Effect, PollRun, Reply, ReplyKind};
 use crate::own_threads::OwnThreads;

@@ -1,7 +1,7 @@
 //! How far the message call of a thread has come. No call takes memory or waits.
 
 ghost use Rattle.std.specs.Prelude.{◌≡◌, replicate};
-ghost use Rattle.{event_log.specs.declared.ids.TheConstants.THREADS, layer_traits.specs.BufferLaw.no_call};
+ghost use Rattle.{event_log.specs.declared.ids.TheConstants.THREADS, layer_traits.specs.Layers.BufferLaw.no_call};
 
 use crate::calls::{Call, Effect};
 use crate::payloads::Ghost;

@@ -18,7 +18,7 @@ pub enum Call {
 
 impl Call {
     ghost use Rattle.std.specs.Prelude.{◌≡◌};
-    ghost use Rattle.layer_traits.specs.BufferLaw.{buffer_of};
+    ghost use Rattle.layer_traits.specs.Layers.BufferLaw.{buffer_of};
 
     /// The buffer that the call names.
     #[inline(always)]

@@ -43,7 +43,7 @@ pub enum CvOut<O> {
 /// A pure edit of the block of a lock with conditions. The block has a line for each side, and
 /// tells whether the first of a line may go on.
 pub trait Guarded: Sized + Drop {
-    ghost use Rattle.layer_traits.specs.{declared.payloads.Parcel.Parcel, Conditions.MonitorRules};
+    ghost use Rattle.layer_traits.specs.{declared.payloads.Parcel.Parcel, Layers.Conditions.MonitorRules};
 
     /// What the lock guards.
     type Block: Drop;
@@ -102,7 +102,7 @@ pub trait WholeGuarded: Guarded + Copy {
 }
 
 impl<G: Guarded> Locked for CvEdit<G> {
-    ghost use Rattle.layer_traits.specs.{Conditions.cv_rules, Payloads.cv_meant, Payloads.cv_told};
+    ghost use Rattle.layer_traits.specs.{Layers.Conditions.cv_rules, Blocks.Payloads.{cv_meant, cv_told}};
 
     type Block = G::Block;
 

@@ -3,13 +3,13 @@
 //! No call takes memory, and none waits.
 
 ghost use Rattle.std.specs.Prelude.{◌≡◌, ◌⊎◌, ◌≤◌, [], IsSome, None, length, map};
-ghost use Rattle.layer_traits.specs.{CvLaw.{Waiting, waiting_at_start, CvPolled, MayCallCond, MustStay, cv_plan, cv_pass_plan}, Conditions.cv_rules};
-ghost use Rattle.layer_traits.specs.{QLockLaw.{LockAgrees, lock_kernel, slept_for, is_handed}, QLocking.{AreAtRest, lock_after, lock_caller, lock_moves}};
-ghost use Rattle.layer_traits.specs.{QLocking.lock_rules, Owned.wait_list_under, Payloads.{cv_meant, cv_told, lock_meant, lock_told, outcome_told}};
-ghost use Rattle.layer_traits.specs.{Places.{AreMoves, pending_by}, Plans.table_of, QueueBlocks.{StartsWell, homes_in, inner}, QueueRules.AreProper};
-ghost use Rattle.layer_traits.specs.{QueueRules.queue_rules, Queues.{QueueAllowed, buffer_sections, cpu_of_queue_event, event_of, moves_in}};
-ghost use Rattle.{layer_traits.specs.{Scheds.SchedPolled, SleepLaw.done_if}, event_log.specs.declared.ids.LockId.TheVariants.{Buffer, Pending}};
-ghost use Rattle.event_log.specs.{declared.ids.TheConstants.THREADS, Sections.sections_in};
+ghost use Rattle.layer_traits.specs.Layers.{CvLaw.{Waiting, waiting_at_start, CvPolled, MayCallCond, MustStay, cv_plan, cv_pass_plan}, Conditions.cv_rules};
+ghost use Rattle.layer_traits.specs.Layers.{QLockLaw.{LockAgrees, lock_kernel, slept_for, is_handed}, QLocking.{AreAtRest, lock_after, lock_caller}};
+ghost use Rattle.layer_traits.specs.Layers.{QLocking.{lock_moves, lock_rules}, Queues.{QueueAllowed, buffer_sections, cpu_of_queue_event, event_of, moves_in}};
+ghost use Rattle.layer_traits.specs.{Layers.{Scheds.SchedPolled, SleepLaw.done_if}, Views.Owned.wait_list_under, Blocks.Payloads.{cv_meant, cv_told}};
+ghost use Rattle.layer_traits.specs.Blocks.{Payloads.{lock_meant, lock_told, outcome_told}, QueueBlocks.{StartsWell, homes_in, inner}, QueueRules.AreProper};
+ghost use Rattle.layer_traits.specs.{Blocks.QueueRules.queue_rules, Threads.Places.{AreMoves, pending_by}, Polling.Plans.table_of};
+ghost use Rattle.event_log.specs.{declared.ids.{LockId.TheVariants.{Buffer, Pending}, TheConstants.THREADS}, Sections.sections_in};
 ghost use Rattle.layer_traits.specs.declared.scheds.SchedCall.TheVariants as sched;
 
 use crate::conditions::{CvEdit, CvLeave, CvOut, Guarded};

@@ -18,7 +18,7 @@ pub struct Mark<E> {
 /// which a message or a list of threads lies. One section applies one edit. [`Edit`] is the same in
 /// one piece.
 pub trait SplitEdit: Sized + Drop {
-    ghost use Rattle.layer_traits.specs.{declared.payloads.Payload.Payload, Protocol.Rules};
+    ghost use Rattle.layer_traits.specs.{declared.payloads.Payload.Payload, Protocols.Protocol.Rules};
 
     /// What the lock guards.
     type Block: Drop;

@@ -16,8 +16,9 @@ use event_log::{CpuId, GrantEvent, LockId};
 pub trait GrantWords {
     ghost use Rattle.event_log.specs.declared.{ids.{CpuId.CpuId, LockId.LockId}, grants.GrantEvent.{GrantEvent, TheVariants.{Take, Peek, Give}}};
     ghost use Rattle.event_log.specs.{Grants.{cpu_of_grant, grant_lock_phase}, History.{Adds, IsLawful}, WordsLog.{Idle, Waiting, Holding}};
-    ghost use Rattle.{event_log.specs.Sections.block_after, layer_traits.specs.{declared.edits.Mark.Mark, GrantProtocol.{grant_sections, GrantMayCome}}};
-    ghost use Rattle.layer_traits.specs.{Protocol.{section, StaysAllowed}, WordsProtocol.mark_of, Spins.BeginWith};
+    ghost use Rattle.{event_log.specs.Sections.block_after, layer_traits.specs.{declared.edits.Mark.Mark, Protocols.GrantProtocol.grant_sections}};
+    ghost use Rattle.layer_traits.specs.Protocols.{GrantProtocol.GrantMayCome, Protocol.{section, StaysAllowed}, WordsProtocol.mark_of};
+    ghost use Rattle.layer_traits.specs.Polling.Spins.{BeginWith};
 
     /// The edits of the sections.
     type Edit: SplitEdit;

@@ -1,7 +1,7 @@
 //! The layer of message calls. No call takes memory or waits.
 
 ghost use Rattle.std.specs.Prelude.{◌≡◌, length};
-ghost use Rattle.layer_traits.specs.IpcLaw.{ipc_plan};
+ghost use Rattle.layer_traits.specs.Layers.IpcLaw.{ipc_plan};
 
 use crate::call_layers::{CallLaw, CallLayer};
 

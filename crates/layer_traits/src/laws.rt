@@ -1,7 +1,7 @@
 //! What holds of places and of effects. Each law is the contract of a function that does nothing, so
 //! that it is proved with the crate.
 
-ghost use Rattle.layer_traits.specs.{EffectRuns.EffectsAreRun, OnePlace.OnePlace};
+ghost use Rattle.layer_traits.specs.{Blocks.EffectRuns.EffectsAreRun, Threads.OnePlace.OnePlace};
 
 /// Each existing thread stands in exactly one place of the whole machine: it runs or is ready with
 /// its home, is in one CPU's hand, in one pending queue, asleep in one line, or has ended. A thread

@@ -4,8 +4,8 @@
 
 ghost use Rattle.std.specs.Prelude.{◌≡◌, ℕ, ◌<◌, ◌≤◌, length, true, false, Bool, List, [], Option, None, Some, OnSome, if◌then◌else◌};
 ghost use Rattle.event_log.specs.{declared.ids.{CpuId.CpuId, LockId.LockId, TheConstants.CPUS}, Actions.{Action, AreLegal, phase}, History.{IsLawful, Grows}};
-ghost use Rattle.layer_traits.specs.{declared.payloads.Payload.Payload, Payloads.told_by, Plans.{Plan, Table, Follows, is_in_section}, Framed.Framed};
-ghost use Rattle.layer_traits.specs.{Looks.Tries, Spins.{BeginWith, Spun, Misses}};
+ghost use Rattle.layer_traits.specs.{declared.payloads.Payload.Payload, Blocks.Payloads.told_by, Polling.Plans.{Plan, Table, Follows, is_in_section}};
+ghost use Rattle.layer_traits.specs.Polling.{Framed.Framed, Looks.Tries, Spins.{BeginWith, Spun, Misses}};
 
 use crate::payloads::Payload;
 use event_log::{CpuId, LockId};

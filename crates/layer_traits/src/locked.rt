@@ -55,7 +55,7 @@ pub enum QOut<O> {
 /// An edit inside a queuing lock. It says whom it signals; a last edit says on which side its
 /// caller waits, if it does.
 pub trait Locked: Sized + Drop {
-    ghost use Rattle.layer_traits.specs.{declared.payloads.Parcel.Parcel, QLocking.LockRules};
+    ghost use Rattle.layer_traits.specs.{declared.payloads.Parcel.Parcel, Layers.QLocking.LockRules};
 
     /// What the lock guards besides its owner and its waiting lists.
     type Block: Drop;

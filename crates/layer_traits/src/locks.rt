@@ -3,8 +3,8 @@
 //! No call takes memory, and none waits.
 
 ghost use Rattle.std.specs.Prelude.{◌≡◌, IsSome, is_some};
-ghost use Rattle.{event_log.specs.Sections.{Section, cpu_of_section, sections_in}, layer_traits.specs.{Protocol.section, Plans.{section_plan, table_of}}};
-ghost use Rattle.layer_traits.specs.Polls.{MayPoll, Polled, until_answered};
+ghost use Rattle.{event_log.specs.Sections.{Section, cpu_of_section, sections_in}, layer_traits.specs.{Protocols.Protocol.section, Polling.Plans.section_plan}};
+ghost use Rattle.layer_traits.specs.Polling.{Plans.table_of, Polls.{MayPoll, Polled, until_answered}};
 
 use crate::edits::SplitEdit;
 use crate::layers::{Law, Layer};

@@ -21,7 +21,7 @@ pub enum WaitList {
 /// Edits that move threads: the answer of each tells whether its caller went to sleep, and whom it
 /// woke.
 pub trait Moves: SplitEdit {
-    ghost use Rattle.layer_traits.specs.{declared.payloads.Payload.Payload, MoveRules.MoveRules, MoveRules.WakesSleepers};
+    ghost use Rattle.layer_traits.specs.{declared.payloads.Payload.Payload, Threads.MoveRules.{MoveRules, WakesSleepers}};
 
     /// Who calls an edit, and what its answer tells of places.
     ghost moves: { MoveRules Self Self.Out };

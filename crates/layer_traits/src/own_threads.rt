@@ -24,7 +24,7 @@ pub struct OwnThreads {
 }
 
 impl Model for OwnThreads {
-    ghost use Rattle.layer_traits.specs.Places.{Threads};
+    ghost use Rattle.layer_traits.specs.Threads.Places.{Threads};
 
     ghost Value = { Threads };
 

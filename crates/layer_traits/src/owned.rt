@@ -2,10 +2,8 @@
 //!
 //! Only `open` takes memory, and no call waits.
 
-ghost use Rattle.layer_traits.specs.OwnParts.{threads_in};
-ghost use Rattle.layer_traits.specs.Capacities.{caps_in};
-ghost use Rattle.layer_traits.specs.QueueBlocks.{homes_in};
 ghost use Rattle.std.specs.Prelude.{◌≡◌, ◌⊎◌, ◌<◌, Bool, true, [], List, Option, Some, None, IfOk, length, option_map, slice_index};
+ghost use Rattle.layer_traits.specs.{Views.OwnParts.threads_in, Blocks.{Capacities.caps_in, QueueBlocks.homes_in}};
 
 use crate::call_layers::CallLayer;
 use crate::calls::Place;
@@ -18,9 +16,10 @@ use std::alloc::Global;
 /// and whose parts tell of those in their CPU's hands, and of where a thread stands.
 pub trait Owned: CallLayer<IpcLaw> {
     ghost use Rattle.{std.specs.List.AllByRecursion, event_log.specs.{declared.ids.{BufId.BufId, CpuId.CpuId, Tid.Tid, TheConstants.CPUS}, Actions.phase}};
-    ghost use Rattle.{event_log.specs.{Buffers.items_of, Messages.Message, Runs.is_closed}, layer_traits.specs.{declared.calls.Place.Place, Acted.ItemsAre}};
-    ghost use Rattle.layer_traits.specs.{Acted.owner_after, BufferEffects.contents_of, Openings.{AreOpenable, Opened}, Places.{home_of, where_is}};
-    ghost use Rattle.layer_traits.specs.{Observed.{IsOwnPlace, IsObservedAs, ReadsPlace, queue_place}, Plans.is_in_section};
+    ghost use Rattle.{event_log.specs.{Buffers.items_of, Messages.Message, Runs.is_closed}, layer_traits.specs.declared.calls.Place.Place};
+    ghost use Rattle.layer_traits.specs.Views.{Acted.{ItemsAre, owner_after}, Openings.{AreOpenable, Opened}, Observed.{IsOwnPlace, IsObservedAs, ReadsPlace}};
+    ghost use Rattle.layer_traits.specs.{Views.Observed.queue_place, Blocks.BufferEffects.contents_of, Threads.Places.{home_of, where_is}};
+    ghost use Rattle.layer_traits.specs.Polling.Plans.{is_in_section};
 
     /// The owner of the lock of a buffer, as its last section left it.
     ghost owner: { Self.Machine → BufId → Option Tid };

@@ -3,7 +3,7 @@
 //! No call takes memory, and none waits.
 
 ghost use Rattle.std.specs.Prelude.{◌≡◌, ◌<◌, Bool, true, List, Option, IsSome, length, option_and_then, option_map, slice_index};
-ghost use Rattle.layer_traits.specs.Capacities.{caps_in};
+ghost use Rattle.layer_traits.specs.Blocks.Capacities.{caps_in};
 
 use crate::buffer_layers::BufferLaw;
 use crate::call_layers::CallLayer;
@@ -16,8 +16,9 @@ use event_log::{BufId, CAPACITY, CpuId, Msg, Tid};
 pub trait OwnedBuffers: CallLayer<BufferLaw> {
     ghost use Rattle.{std.specs.List.AllByRecursion, event_log.specs.declared.ids.{BufId.BufId, CpuId.CpuId, LockId.TheVariants.Pending, Tid.Tid}};
     ghost use Rattle.event_log.specs.{declared.ids.TheConstants.CPUS, Actions.phase, Buffers.items_of, Messages.Message, Runs.is_closed};
-    ghost use Rattle.layer_traits.specs.{declared.moves.WaitList.WaitList, Acted.{ItemsAre, owner_after}, BufferEffects.contents_of, Owned.wait_list_among};
-    ghost use Rattle.{layer_traits.specs.{Places.pending_by, Plans.is_in_section, Observed.IsObservedAs}, thread_blocks.specs.Queues.is_in};
+    ghost use Rattle.layer_traits.specs.{declared.moves.WaitList.WaitList, Views.{Acted.{ItemsAre, owner_after}, Owned.wait_list_among, Observed.IsObservedAs}};
+    ghost use Rattle.layer_traits.specs.{Blocks.BufferEffects.contents_of, Threads.Places.pending_by, Polling.Plans.is_in_section};
+    ghost use Rattle.thread_blocks.specs.Queues.{is_in};
 
     /// The owner of the lock of a buffer, as its last section left it.
     ghost owner: { Self.Machine → BufId → Option Tid };

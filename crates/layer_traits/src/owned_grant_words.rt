@@ -11,8 +11,8 @@ use std::alloc::Global;
 
 /// Words of locks with grant words that are opened with their blocks, and tell of those that are at home.
 pub trait OwnedGrantWords: GrantWords {
-    ghost use Rattle.event_log.specs.{declared.ids.CpuId.CpuId, declared.ids.LockId.LockId, declared.ids.TheConstants.CPUS, Sections.block_after};
-    ghost use Rattle.layer_traits.specs.{OneLock.AreDistinct, OneLock.opened, GrantProtocol.SomeoneHasIt, GrantProtocol.grant_sections};
+    ghost use Rattle.event_log.specs.{declared.ids.{CpuId.CpuId, LockId.LockId, TheConstants.CPUS}, Sections.block_after};
+    ghost use Rattle.layer_traits.specs.Protocols.{OneLock.{AreDistinct, opened}, GrantProtocol.{SomeoneHasIt, grant_sections}};
 
     /// The block of a lock where it is at home.
     ghost block_at: { Self → LockId → Option Self.Edit.Block };

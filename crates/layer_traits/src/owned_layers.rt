@@ -6,7 +6,7 @@
 
 ghost use Rattle.std.specs.Prelude.{◌≡◌, true, List, Option, Some, IsSome, option_and_then, option_map};
 ghost use Rattle.event_log.specs.{declared.ids.{BufId.BufId, CpuId.CpuId, LockId.{LockId, TheVariants.{Buffer, Pending}}, Tid.Tid}, Actions.phase};
-ghost use Rattle.{layer_traits.specs.{Owned.IsObserved, Plans.is_in_section, declared.moves.WaitList.WaitList}, thread_blocks.specs.Queues.is_in};
+ghost use Rattle.{layer_traits.specs.{Views.Owned.IsObserved, Polling.Plans.is_in_section, declared.moves.WaitList.WaitList}, thread_blocks.specs.Queues.is_in};
 
 use crate::layers::{Law, Layer};
 use crate::moves::WaitList;

@@ -14,7 +14,7 @@ use std::alloc::Global;
 /// at home, and whose parts tell of those in their CPU's hands.
 pub trait OwnedLocks<E: SplitEdit>: Layer<LockLaw<E>> {
     ghost use Rattle.event_log.specs.{declared.ids.{CpuId.CpuId, LockId.LockId, TheConstants.CPUS}, Actions.phase, Sections.block_after};
-    ghost use Rattle.layer_traits.specs.{OneLock.{AreDistinct, opened}, Owned.IsObserved, Plans.is_in_section};
+    ghost use Rattle.layer_traits.specs.{Protocols.OneLock.{AreDistinct, opened}, Views.Owned.IsObserved, Polling.Plans.is_in_section};
 
     /// The block of a lock where it is at home in the machine.
     ghost block_at: { Self.Machine → LockId → Option E.Block };

@@ -11,8 +11,8 @@ use std::alloc::Global;
 
 /// Words of ticket locks that are opened with their blocks, and tell of those that are at home.
 pub trait OwnedWords: Words {
-    ghost use Rattle.event_log.specs.{declared.ids.CpuId.CpuId, declared.ids.LockId.LockId, declared.ids.TheConstants.CPUS, Sections.block_after};
-    ghost use Rattle.layer_traits.specs.{OneLock.AreDistinct, OneLock.SomeoneInside, OneLock.opened, WordsProtocol.sections};
+    ghost use Rattle.event_log.specs.{declared.ids.{CpuId.CpuId, LockId.LockId, TheConstants.CPUS}, Sections.block_after};
+    ghost use Rattle.layer_traits.specs.Protocols.{OneLock.{AreDistinct, SomeoneInside, opened}, WordsProtocol.sections};
 
     /// The block of a lock where it is at home.
     ghost block_at: { Self → LockId → Option Self.Edit.Block };

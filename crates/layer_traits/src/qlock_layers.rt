@@ -3,12 +3,13 @@
 //! No call takes memory, and none waits.
 
 ghost use Rattle.std.specs.Prelude.{◌≡◌, ◌≤◌, [], IsSome, None, length, map};
-ghost use Rattle.layer_traits.specs.{QLocking.{LockState, AreAtRest, lock_after, lock_caller, lock_moves, lock_rules}, QLockLaw.{Locking, at_start}};
-ghost use Rattle.layer_traits.specs.QLockLaw.{LockAgrees, LockPolled, MayCallLock, MustWait, lock_kernel, lock_plan, slept_for, is_handed, lock_pass_plan};
-ghost use Rattle.layer_traits.specs.{Owned.wait_list_under, Payloads.{lock_meant, lock_told, outcome_told}, Places.{AreMoves, pending_by}, Plans.table_of};
-ghost use Rattle.layer_traits.specs.{QueueBlocks.{StartsWell, homes_in, inner}, QueueRules.{AreProper, queue_rules}, Queues.{QueueAllowed, buffer_sections}};
-ghost use Rattle.layer_traits.specs.{Queues.{cpu_of_queue_event, event_of, moves_in}, Scheds.SchedPolled, SleepLaw.done_if};
-ghost use Rattle.event_log.specs.{declared.ids.{LockId.TheVariants.{Buffer, Pending}, TheConstants.THREADS}, Sections.sections_in};
+ghost use Rattle.layer_traits.specs.Layers.{QLocking.{LockState, AreAtRest, lock_after, lock_caller, lock_moves, lock_rules}, QLockLaw.{Locking, at_start}};
+ghost use Rattle.layer_traits.specs.Layers.QLockLaw.{LockAgrees, LockPolled, MayCallLock, MustWait, lock_kernel, lock_plan, slept_for, is_handed};
+ghost use Rattle.layer_traits.specs.Layers.{QLockLaw.lock_pass_plan, Queues.{QueueAllowed, buffer_sections, cpu_of_queue_event, event_of, moves_in}};
+ghost use Rattle.layer_traits.specs.{Layers.{Scheds.SchedPolled, SleepLaw.done_if}, Views.Owned.wait_list_under, Blocks.Payloads.{lock_meant, lock_told}};
+ghost use Rattle.layer_traits.specs.Blocks.{Payloads.outcome_told, QueueBlocks.{StartsWell, homes_in, inner}, QueueRules.{AreProper, queue_rules}};
+ghost use Rattle.{layer_traits.specs.{Threads.Places.{AreMoves, pending_by}, Polling.Plans.table_of}, event_log.specs.declared.ids.LockId.TheVariants.Buffer};
+ghost use Rattle.event_log.specs.{declared.ids.{LockId.TheVariants.Pending, TheConstants.THREADS}, Sections.sections_in};
 ghost use Rattle.layer_traits.specs.declared.scheds.SchedCall.TheVariants as sched;
 
 use crate::layers::Law;

@@ -56,7 +56,7 @@ pub enum QueueBlock<B> {
 }
 
 impl<E: Moves> SplitEdit for QueueEdit<E> {
-    ghost use Rattle.layer_traits.specs.{QueueRules.queue_rules, Payloads.queue_meant, Payloads.queue_told};
+    ghost use Rattle.layer_traits.specs.Blocks.{QueueRules.queue_rules, Payloads.{queue_meant, queue_told}};
 
     type Block = QueueBlock<E::Block>;
 

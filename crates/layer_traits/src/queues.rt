@@ -3,10 +3,10 @@
 //! No call takes memory, and none waits.
 
 ghost use Rattle.std.specs.Prelude.{◌≡◌, IsSome, is_some, map};
-ghost use Rattle.{event_log.specs.{declared.ids.LockId.TheVariants.Buffer, Sections.{block_after, sections_in}}, layer_traits.specs.Payloads.call_meant};
-ghost use Rattle.layer_traits.specs.{Payloads.queue_told, Places.pending_by, Plans.table_of, Polls.until_answered, QueueBlocks.{StartsWell, inner}};
-ghost use Rattle.layer_traits.specs.{QueueRules.{AreProper, queue_rules}, Queues.{MayQueue, QueueAllowed, QueuePolled, buffer_sections, cpu_of_queue_event}};
-ghost use Rattle.layer_traits.specs.Queues.{event, event_of, kernel, lock_of, moves_in, queue_plan};
+ghost use Rattle.{event_log.specs.{declared.ids.LockId.TheVariants.Buffer, Sections.{block_after, sections_in}}, layer_traits.specs.Blocks.Payloads.call_meant};
+ghost use Rattle.layer_traits.specs.Blocks.{Payloads.queue_told, QueueBlocks.{StartsWell, inner}, QueueRules.{AreProper, queue_rules}};
+ghost use Rattle.layer_traits.specs.{Threads.Places.pending_by, Polling.{Plans.table_of, Polls.until_answered}, Layers.Queues.{MayQueue, QueueAllowed}};
+ghost use Rattle.layer_traits.specs.Layers.Queues.{QueuePolled, buffer_sections, cpu_of_queue_event, event, event_of, kernel, lock_of, moves_in, queue_plan};
 
 use crate::layers::{Law, Layer};
 use crate::moves::Moves;

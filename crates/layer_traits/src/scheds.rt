@@ -1,9 +1,10 @@
 //! The layer of schedulers. No call takes memory or waits.
 
 ghost use Rattle.std.specs.Prelude.{◌≡◌, ◌≢◌, ◌≤◌, true, false, length, [], IsSome, is_some, map};
-ghost use Rattle.layer_traits.specs.{Places.{at_boot, pending_by, Stands}, Payloads.{sched_meant, sched_told}, Plans.table_of, Polls.until_answered};
-ghost use Rattle.layer_traits.specs.{QueueBlocks.{StartsWell, homes_in, inner}, QueueRules.{AreProper, queue_rules}, Scheds.{BufferIsThere, IsLocal, MaySched}};
-ghost use Rattle.layer_traits.specs.{Scheds.{SchedPolled, sched_plan}, Queues.{QueueAllowed, buffer_sections, cpu_of_queue_event, event_of, kernel, moves_in}};
+ghost use Rattle.layer_traits.specs.{Threads.Places.{at_boot, pending_by, Stands}, Blocks.{Payloads.{sched_meant, sched_told}, QueueBlocks.StartsWell}};
+ghost use Rattle.layer_traits.specs.{Blocks.{QueueBlocks.{homes_in, inner}, QueueRules.{AreProper, queue_rules}}, Polling.Plans.table_of};
+ghost use Rattle.layer_traits.specs.{Polling.Polls.until_answered, Layers.Scheds.{BufferIsThere, IsLocal, MaySched, SchedPolled, sched_plan}};
+ghost use Rattle.layer_traits.specs.Layers.Queues.{QueueAllowed, buffer_sections, cpu_of_queue_event, event_of, kernel, moves_in};
 ghost use Rattle.event_log.specs.{declared.ids.{LockId.TheVariants.{Buffer, Pending}, TheConstants.THREADS}, Sections.{block_after, sections_in}};
 
 use crate::layers::{Law, Layer};

@@ -3,12 +3,13 @@
 //! No call takes memory, and none waits.
 
 ghost use Rattle.std.specs.Prelude.{◌≡◌, ◌≤◌, [], IsSome, None, length, map, false};
-ghost use Rattle.layer_traits.specs.{Sleeping.{SleepState, NobodySleeps, sleep_edited, sleep_moves, sleep_rules}, Places.{at_boot, pending_by, AreMoves}};
-ghost use Rattle.layer_traits.specs.{ListsAgree.SleepAgrees, Owned.wait_list_with, Payloads.outcome_told, Plans.table_of, Polls.until_answered};
-ghost use Rattle.layer_traits.specs.{QueueBlocks.{StartsWell, homes_in, inner}, QueueRules.{AreProper, queue_rules}, Queues.{QueueAllowed, buffer_sections}};
-ghost use Rattle.layer_traits.specs.{Queues.{cpu_of_queue_event, event_of, moves_in}, Scheds.SchedPolled, SleepLaw.{Sleeping, MayCall, MaySleep, MustSend}};
-ghost use Rattle.layer_traits.specs.SleepLaw.{SleepPolled, sleep_kernel, sleep_plan, done_if, pass_plan};
-ghost use Rattle.event_log.specs.{declared.ids.{LockId.TheVariants.{Buffer, Pending}, TheConstants.THREADS}, Sections.{block_after, sections_in}};
+ghost use Rattle.layer_traits.specs.Layers.{Sleeping.{SleepState, NobodySleeps, sleep_edited, sleep_moves, sleep_rules}, Queues.QueueAllowed};
+ghost use Rattle.layer_traits.specs.Layers.{Queues.{buffer_sections, cpu_of_queue_event, event_of, moves_in}, Scheds.SchedPolled, SleepLaw.{Sleeping, MayCall}};
+ghost use Rattle.layer_traits.specs.{Layers.SleepLaw.{MaySleep, MustSend, SleepPolled, sleep_kernel, sleep_plan, done_if, pass_plan}, Threads.Places.at_boot};
+ghost use Rattle.layer_traits.specs.{Threads.{Places.{pending_by, AreMoves}, ListsAgree.SleepAgrees}, Views.Owned.wait_list_with, Blocks.Payloads.outcome_told};
+ghost use Rattle.layer_traits.specs.{Blocks.{QueueBlocks.{StartsWell, homes_in, inner}, QueueRules.{AreProper, queue_rules}}, Polling.Plans.table_of};
+ghost use Rattle.{layer_traits.specs.Polling.Polls.until_answered, event_log.specs.declared.ids.{LockId.TheVariants.{Buffer, Pending}, TheConstants.THREADS}};
+ghost use Rattle.event_log.specs.Sections.{block_after, sections_in};
 ghost use Rattle.layer_traits.specs.declared.scheds.SchedCall.TheVariants as sched;
 
 use crate::layers::Law;

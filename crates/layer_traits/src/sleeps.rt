@@ -35,7 +35,7 @@ pub struct Outcome<O> {
 /// An edit of a sleeping layer. It says which waiting list of its lock its caller joins, if any,
 /// and who leaves one; the layer keeps the lists.
 pub trait Sleeps: Sized + Drop {
-    ghost use Rattle.layer_traits.specs.{declared.payloads.Parcel.Parcel, Sleeping.SleepRules};
+    ghost use Rattle.layer_traits.specs.{declared.payloads.Parcel.Parcel, Layers.Sleeping.SleepRules};
 
     /// What the lock guards besides its waiting lists.
     type Block: Drop;

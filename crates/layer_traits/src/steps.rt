@@ -2,7 +2,7 @@
 //!
 //! No call takes memory, and none waits.
 
-ghost use Rattle.{std.specs.Prelude.{length, IsTrue}, layer_traits.specs.Spins.BeginWith};
+ghost use Rattle.{std.specs.Prelude.{length, IsTrue}, layer_traits.specs.Polling.Spins.BeginWith};
 
 use event_log::CpuId;
 

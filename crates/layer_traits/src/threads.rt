@@ -8,8 +8,9 @@
 
 ghost use Rattle.std.specs.Prelude.{◌≡◌, ◌≢◌, ℕ, ◌<◌, ◌≤◌, length, true, false, Bool, List, [], Option, None, Some, IsSome, OnSome, is_some, if◌then◌else◌};
 ghost use Rattle.event_log.specs.{declared.ids.{CpuId.CpuId, LockId.LockId, TheConstants.CPUS}, Actions.{Action, AreLegal, phase}, History.{IsLawful, Grows}};
-ghost use Rattle.layer_traits.specs.{declared.passes.Pass.Pass, Places.Threads, Payloads.told_by, Plans.{Plan, Follows, is_in_section}, Framed.Framed};
-ghost use Rattle.layer_traits.specs.{Looks.Tries, Spins.{BeginWith, Spun, Misses}, Passes.{IsLocalPass, MayPass}, Polls.until_answered, SleepLaw.MayCall};
+ghost use Rattle.layer_traits.specs.{declared.passes.Pass.Pass, Threads.{Places.Threads, Passes.{IsLocalPass, MayPass}}, Blocks.Payloads.told_by};
+ghost use Rattle.layer_traits.specs.Polling.{Plans.{Plan, Follows, is_in_section}, Framed.Framed, Looks.Tries, Spins.{BeginWith, Spun, Misses}};
+ghost use Rattle.layer_traits.specs.{Polling.Polls.until_answered, Layers.SleepLaw.MayCall};
 
 use crate::layers::Law;
 use crate::own_threads::OwnThreads;

@@ -18,7 +18,7 @@ use std::alloc::Global;
 pub trait UsesGrantWords: Words {}
 
 impl<W: UsesGrantWords> GrantWords for W {
-    ghost use Rattle.layer_traits.specs.{AsGrants.as_grants, Laws.AsGrants.as_grants_come};
+    ghost use Rattle.layer_traits.specs.{Protocols.AsGrants.as_grants, Laws.AsGrants.as_grants_come};
 
     type Edit = W::Edit;
 
@@ -76,8 +76,8 @@ impl<W: UsesGrantWords> GrantWords for W {
 }
 
 impl<W: OwnedWords + UsesGrantWords> OwnedGrantWords for W {
-    ghost use Rattle.event_log.specs.declared.ids.TheConstants.{CPUS};
-    ghost use Rattle.layer_traits.specs.{Laws.AsGrants.home_as_grants, OneLock.AreDistinct, OneLock.opened, WordsProtocol.words_legal};
+    ghost use Rattle.{event_log.specs.declared.ids.TheConstants.CPUS, layer_traits.specs.{Laws.AsGrants.home_as_grants, Protocols.OneLock.AreDistinct}};
+    ghost use Rattle.layer_traits.specs.Protocols.{OneLock.opened, WordsProtocol.words_legal};
 
     ghost block_at = { λ w lock. W.block_at w lock };
 

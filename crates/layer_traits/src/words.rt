@@ -18,8 +18,8 @@ use event_log::{CpuId, Event, LockId};
 pub trait Words {
     ghost use Rattle.event_log.specs.{declared.{ids.{CpuId.CpuId, LockId.LockId}, events.Event.{Event, TheVariants.{Draw, Look, Free}}}, History.Adds};
     ghost use Rattle.event_log.specs.{History.IsLawful, WordsLog.{cpu_of_event, lock_phase, Idle, Waiting, Holding}, Sections.{Section, block_after}};
-    ghost use Rattle.layer_traits.specs.{declared.edits.Mark.Mark, Protocol.{section, StaysAllowed}, WordsProtocol.{mark_of, sections, MayCome}};
-    ghost use Rattle.layer_traits.specs.Spins.{BeginWith};
+    ghost use Rattle.layer_traits.specs.{declared.edits.Mark.Mark, Protocols.{Protocol.{section, StaysAllowed}, WordsProtocol.{mark_of, sections, MayCome}}};
+    ghost use Rattle.layer_traits.specs.Polling.Spins.{BeginWith};
 
     /// The edits of the sections.
     type Edit: SplitEdit;

@@ -3,7 +3,7 @@ use Rattle.std.proofs.Common.{◌≡◌, ◌≢◌, ◌∙◌, ◌<◌, [], ℕ,
 use Rattle.std.{proofs.{Common.{get_or, length, lit≤}, lemmas.{Bool.leb-true, List.{get_or-take, length-take, Sums.fails_before_first}}}, specs.Prelude.All}
 use Rattle.std.specs.{Prelude.{codes, if◌then◌else◌, nat_le, unwrap_or}, Borrow.Bor, List.{before_first, position_or_len}}
 use Rattle.clap.{specs.{Matches.first_value, Walk.{first_of, rows_of}, declared.parser.matches.Found.Found}, proofs.WalkLemmas.first_value-rows}
-use Rattle.mctower.specs.{Faults.{IsShown, value_at, option_name}, Print.{is_line_feed, shown_line}, declared.faults.ValueOption.ValueOption}
+use Rattle.mctower.specs.{Faults.{IsShown, value_at, option_name}, Print.{is_line_feed, shown_line}, declared.refusals.line_faults.ValueOption.ValueOption}
 
 abbrev pub Text : Type 0
 Text = List ℕ

@@ -1,6 +1,6 @@
 -- The help that is put out piece by piece.
 use Rattle.std.proofs.{Common.{◌≡◌, ◌∙◌, ◌++◌, ◌∷◌, [], ℕ, List, ap, codes}, lemmas.List.append-nil}
-use Rattle.mctower.specs.{Help.{help_of, topic_of}, Serve.help_text, declared.help.TheConstants.VERSION}
+use Rattle.mctower.specs.{Help.{help_of, topic_of}, Serve.help_text, declared.line.help_texts.TheConstants.VERSION}
 
 -- the pieces of the help are its text
 pub help_pieces : (name version feed help : List ℕ) (words : List (List ℕ)) → name ≡ codes "mctower " → version ≡ VERSION.now → feed ≡ 10 ∷ []

@@ -4,10 +4,10 @@ use Rattle.std.specs.Prelude.{Result, Ok, Err, IsErrAnd}
 use Rattle.{event_log.{specs.{declared.ids.CpuId.CpuId, Buffers.empty_buffers}, proofs.{Streams.taken_put, RunLemmas.op_order_from}}, boot.specs.Plan.BootPlan}
 use Rattle.cpu.specs.{Boots.{guests_for, homes_for, tables_for}, Cpus.programs_of, Claims.{CpuShown, FollowPrograms, HasOneOrder, Shown, StandsOnce, StayHome}}
 use Rattle.cpu.specs.{Claims.traces_of, Sound.{BootsByTable, IsSetupFor, RanByTable, SoundByTable, after_steps, setup_for}, Systems.{Ran, SamePlan, whole_of}}
-use Rattle.cpu.{specs.{Table.Steps.{Whole, whole_at_boot}, Observed.ObservedByTable}, proofs.{ListReads.{listed_length, map_twice}, ReachedSystems.setup_on}}
-use Rattle.{cpu.proofs.RealTime.linear_ran, mctower.specs.{Output.{IsUntouched, Output}, Plans.{IsOpened, IsSystemOf, table_run}, Running.{AreCpus, IsRunOf}}}
-use Rattle.mctower.specs.{Running.{IsPrinted, RunsPlan}, Texts.{IsOut, Writes}, declared.run_faults.Fault.{Fault, TheVariants.{NoMemory, Boot, BadCpu}}}
-use Rattle.mctower.{specs.declared.run_faults.Fault.TheVariants.{NoOrder, WriteFault}, proofs.TabledLemmas.text_of_run}
+use Rattle.cpu.{specs.{Table.Steps.{Whole, whole_at_boot}, Observed.ObservedByTable}, proofs.ListFacts.ListReads.{listed_length, map_twice}}
+use Rattle.{cpu.proofs.{StepTable.ReachedSystems.setup_on, WholeSystems.RealTime.linear_ran}, mctower.specs.{Output.{IsUntouched, Output}, Plans.IsOpened}}
+use Rattle.mctower.specs.{Plans.{IsSystemOf, table_run}, Running.{AreCpus, IsRunOf, IsPrinted, RunsPlan}, Texts.{IsOut, Writes}}
+use Rattle.mctower.{specs.declared.run.run_faults.Fault.{Fault, TheVariants.{NoMemory, Boot, BadCpu, NoOrder, WriteFault}}, proofs.TabledLemmas.text_of_run}
 use Rattle.tracer.proofs.OrderLemmas.{orders_agree}
 
 -- a system that opens with a plan's buffers, homes, guests and room for entries is the plan's

@@ -1,17 +1,18 @@
 -- The text of the traces of a plan's CPUs has a spelling, and what writing it answers.
 use Rattle.std.proofs.Common.{◌≡◌, ℕ, zero, suc, ◌*◌, ◌<◌, ◌≤◌, List, [], ◌∷◌, length, get_or, replicate, Some, refl, sym, ap, ◌∙◌, subst, arith}
 use Rattle.std.{proofs.lemmas.{List.{length-map, Sums.sum_by-cons}, Option.slice_get_within}, specs.Prelude.{slice_get, All, Result, Ok, Err, IsErrAnd}}
-use Rattle.{std.specs.List.{AllByRecursion, sum_by}, event_log.specs.declared.ids.{TheConstants.{BUFFERS, CPUS, THREADS, TRACE, ENTRIES}, CpuId.CpuId}}
-use Rattle.event_log.specs.{declared.entries.Entry.Entry, Messages.{IsMessage, Message}, Runs.IsRun, Buffers.{empty_buffers, IsCapacity}, Traces.IsInterleaving}
-use Rattle.{boot.specs.Plan.BootPlan, tracer.specs.{declared.{gathering.GatherError.GatherError, versions.Version.{Version, TheVariants.One}}, Gather.IsOrder}}
-use Rattle.tracer.specs.{Gather.{TakesFirstReady, HasNoOrder}, TraceText.{AreItemsOf, IsItemOf, IsSpellable, IsEntryOf, IsValueOf, spelling}, Versions.both}
-use Rattle.tracer.{specs.Versions.{version_from, version_of, version_of_entry, version_of_kind, version_of_message}, proofs.OrderLemmas.runs_have_order}
-use Rattle.{tracer.proofs.{OrderLemmas.run_alike, VersionLemmas.{covers_next, covers_second}}, cpu.specs.{Boots.homes_for, Cpus.IsOfHome, Calm.TracesFit}}
-use Rattle.{cpu.{specs.Claims.{CpuShown, HasOneOrder, Shown, StayHome, traces_of}, proofs.ListReads.shows_at}, mctower.specs.Output.{IsPut, IsUntouched}}
-use Rattle.mctower.specs.{Output.Output, Plans.{IsSystemOf, IsOfPlan, from_gather}, Texts.{HaveText, IsOut, Writes}, declared.run.Fault.Fault}
+use Rattle.std.specs.List.{AllByRecursion, sum_by}
+use Rattle.event_log.specs.{declared.{ids.{TheConstants.{BUFFERS, CPUS, THREADS, TRACE, ENTRIES}, CpuId.CpuId}, entries.Entry.Entry}, Messages.IsMessage}
+use Rattle.{event_log.specs.{Messages.Message, Runs.IsRun, Buffers.{empty_buffers, IsCapacity}, Traces.IsInterleaving}, boot.specs.Plan.BootPlan}
+use Rattle.tracer.specs.{declared.{gathering.GatherError.GatherError, versions.Version.{Version, TheVariants.One}}, Gather.{IsOrder, TakesFirstReady}}
+use Rattle.tracer.specs.{Gather.HasNoOrder, TraceText.{AreItemsOf, IsItemOf, IsSpellable, IsEntryOf, IsValueOf, spelling}, Versions.{both, version_from}}
+use Rattle.tracer.{specs.Versions.{version_of, version_of_entry, version_of_kind, version_of_message}, proofs.OrderLemmas.{runs_have_order, run_alike}}
+use Rattle.{tracer.proofs.VersionLemmas.{covers_next, covers_second}, cpu.specs.{Boots.homes_for, Cpus.IsOfHome, Calm.TracesFit, Claims.CpuShown}}
+use Rattle.{cpu.{specs.Claims.{HasOneOrder, Shown, StayHome, traces_of}, proofs.ListFacts.ListReads.shows_at}, mctower.specs.Output.{IsPut, IsUntouched}}
+use Rattle.mctower.specs.{Output.Output, Plans.{IsSystemOf, IsOfPlan, from_gather}, Texts.{HaveText, IsOut, Writes}, declared.run.run_faults.Fault.Fault}
 use Rattle.mctower.proofs.{ListLemmas.map_get, OrderNumbers.{order_all, run_length, run_numbers, run_values, empty_length, empty_values}}
-use Rattle.tracer.specs.declared.gathering.GatherError.TheVariants as gathering
 use Rattle.cpu_workers.proofs.OneOrder.{order_length}
+use Rattle.tracer.specs.declared.gathering.GatherError.TheVariants as gathering
 
 all_by : {X : Type 0} (P : X → Type 0) (xs : List X) → All P xs → AllByRecursion P xs
 all_by P [] all = tt

@@ -3,12 +3,12 @@ use Rattle.std.proofs.Common.{◌≡◌, ◌↔◌, ℕ, zero, suc, ◌+◌, ◌
 use Rattle.std.{proofs.lemmas.{List.{length-map, length-set}, Option.slice_get_within}, specs.Prelude.{slice_get, slice_index_or}}
 use Rattle.event_log.specs.{declared.{entries.Entry.Entry, ids.{CpuId.CpuId, LockId.TheVariants.Buffer as AtBuffer}}, Actions.phase, Buffers.after_effect}
 use Rattle.event_log.specs.{Buffers.{empty_buffers, items_of}, Messages.Message, Runs.{after_entry, contents_from}, Traces.IsInterleaving}
-use Rattle.{event_log.proofs.RunLemmas.left_from, boot.specs.Plan.BootPlan, layer_traits.specs.{declared.steps.Reason.Reason, Plans.is_in_section}}
+use Rattle.{event_log.proofs.RunLemmas.left_from, boot.specs.Plan.BootPlan, layer_traits.specs.{declared.steps.Reason.Reason, Polling.Plans.is_in_section}}
 use Rattle.cpu.specs.{Claims.{CpuShown, Shown, buffer_at, listed, traces_of}, Cpus.{halted_at as own_halted_at, reason_in}, Sound.{IsSetupFor, setup_for}}
 use Rattle.cpu.specs.{Systems.{halted_in, own_reason_in, whole_of}, Table.{Setups.{Private, Setup}, Steps.{Whole, block_at, boots_from, cpu_numbered}}}
-use Rattle.cpu.{specs.{Observed.{IsPlaceByTable, ObservedByTable}, Wakeups.Quiet.IsQuiet}, proofs.ListReads.{map_twice, shows_at, there_is}}
-use Rattle.mctower.specs.{Plans.table_run, Running.IsRunOf, State.{IsStateOf, places_in}, Texts.IsTextOf, declared.states.State.State, Tabled.IsStateOfRun}
-use Rattle.mctower.specs.Tabled.{IsTextOfRun, NothingIsPrinted, contents_at, items_held, reason_at, reason_by, traces_at}
+use Rattle.cpu.{specs.{Observed.{IsPlaceByTable, ObservedByTable}, Wakeups.Quiet.IsQuiet}, proofs.ListFacts.ListReads.{map_twice, shows_at, there_is}}
+use Rattle.mctower.specs.{Plans.table_run, Running.IsRunOf, State.{IsStateOf, places_in}, Texts.IsTextOf, declared.tell.state_lines.State.State}
+use Rattle.mctower.specs.Tabled.{IsStateOfRun, IsTextOfRun, NothingIsPrinted, contents_at, items_held, reason_at, reason_by, traces_at}
 
 -- what two functions make alike of each element
 map_alike : {X Y : Type 0} (f g : X → Y) (xs : List X) → ((k : ℕ) (x : X) → slice_get xs k ≡ Some x → f x ≡ g x) → map f xs ≡ map g xs

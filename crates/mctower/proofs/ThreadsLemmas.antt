@@ -3,13 +3,13 @@ use Rattle.std.proofs.{Common.{◌≡◌, ◌⊎◌, inl, inr, ℕ, ◌<◌, ◌
 use Rattle.std.{proofs.lemmas.Option.slice_get_within, specs.{Prelude.{Result, Ok, Err, Vec, slice_get, if◌then◌else◌}, Global.Global, List.AllByRecursion}}
 use Rattle.std.specs.Io.KnownBytes.{Appends}
 use Rattle.event_log.{specs.{declared.entries.Entry.Entry, Buffers.empty_buffers}, proofs.{Streams.taken_put, RunLemmas.op_order_from, BoolLemmas.refuted}}
-use Rattle.{layer_traits.specs.OnePlace.cpu_at, boot.specs.{declared.refusals.BootError.BootError, Plan.{BootPlan, IsPlan}}, tracer.specs.Sinks.Outs}
+use Rattle.{layer_traits.specs.Threads.OnePlace.cpu_at, boot.specs.{declared.refusals.BootError.BootError, Plan.{BootPlan, IsPlan}}, tracer.specs.Sinks.Outs}
 use Rattle.{tracer.proofs.{SinkLemmas.{all_out, outs_then}, OrderLemmas.orders_agree}, cpu.specs.{Boots.homes_for, Cpus.IsOfHome, Sound.setup_for}}
 use Rattle.cpu_workers.specs.{declared.workers.stops.Stop.Stop, Lawful.{IsLawfulReport, CpuReport, Shown, ReportsTrue, left_in}}
-use Rattle.mctower.specs.{declared.{refusals.Refusal.{Refusal, TheVariants.WriteFault}, run.Fault.Fault, serve.Done.{Done, TheVariants.Worked}}, Output.Output}
-use Rattle.mctower.specs.{Refusals.{from_fault, lacks_memory}, Serve.{OfPlan, RefusedBy, WorksPlan}, Texts.{HaveText, IsOut, IsTextOf, Writes}}
-use Rattle.mctower.{specs.Threads.{IsWorked, AlwaysOpen}, proofs.ThreadsAreRuns.printed_by_run}
-use Rattle.mctower.specs.declared.run.Fault.TheVariants as run
+use Rattle.mctower.specs.declared.{refusals.Refusal.{Refusal, TheVariants.WriteFault}, run.run_faults.Fault.Fault, serve.outcomes.Done.Done}
+use Rattle.mctower.specs.{declared.serve.outcomes.Done.TheVariants.Worked, Output.Output, Refusals.{from_fault, lacks_memory}, Serve.{OfPlan, RefusedBy}}
+use Rattle.mctower.{specs.{Serve.WorksPlan, Texts.{HaveText, IsOut, IsTextOf, Writes}, Threads.{IsWorked, AlwaysOpen}}, proofs.ThreadsAreRuns.printed_by_run}
+use Rattle.mctower.specs.declared.run.run_faults.Fault.TheVariants as run
 
 -- what is so for a plan that was read
 pub of_read : (Means : BootPlan → Result Done Refusal → Output → Type 0) (plan : BootPlan) (read : Result BootPlan BootError) (answer : Result Done Refusal)

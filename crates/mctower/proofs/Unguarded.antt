@@ -3,8 +3,9 @@
 use Rattle.std.{proofs.Common.{◌≡◌, List, refl}, specs.Prelude.{Result, Ok, Err, IsErrAnd}}
 use Rattle.{event_log.specs.declared.{ids.CpuId.CpuId, refusals.NoMemory.NoMemory as NoMemoryTold}, boot.specs.declared.refusals.BootError.BootError}
 use Rattle.{boot.specs.{declared.locks.LockKind.LockKind, Plan.{BootPlan, Fails}}, cpu.specs.{Claims.Shown, Systems.{Ran, WentOn, goes, starts, stayed, took}}}
-use Rattle.mctower.specs.{declared.{run.Fault.{Fault, TheVariants.{NoMemory, Boot, BadCpu, NoOrder, WriteFault}}, states.State.State}, Output.IsUntouched}
-use Rattle.mctower.specs.{Output.Output, Plans.from_boot, Running.{IsPrinted, IsRunOf, NoCondition, RunsOverTower, RunsPlan, RunsOn, on_lock}, State.IsStateOf}
+use Rattle.mctower.specs.declared.{run.run_faults.Fault.{Fault, TheVariants.{NoMemory, Boot, BadCpu, NoOrder, WriteFault}}, tell.state_lines.State.State}
+use Rattle.mctower.specs.{Output.{IsUntouched, Output}, Plans.from_boot, Running.{IsPrinted, IsRunOf, NoCondition, RunsOverTower, RunsPlan, RunsOn, on_lock}}
+use Rattle.mctower.specs.State.{IsStateOf}
 use Rattle.boot.specs.declared.locks.LockKind.TheVariants as kind
 use Rattle.boot.specs.declared.refusals.BootError.TheVariants as refused
 

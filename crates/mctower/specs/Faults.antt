@@ -5,9 +5,10 @@ use Rattle.clap.specs.{Kinds.IsAmong, Walk.{Row, Text, first_of}, declared.error
 use Rattle.clap.specs.declared.error.kind.ErrorKind.TheVariants.{MissingRequiredArgument, ArgumentConflict, InvalidValue, TooManyValues, DisplayHelp}
 use Rattle.{clap.specs.declared.error.kind.ErrorKind.TheVariants.{DisplayVersion, OutOfMemory}, event_log.specs.declared.ids.TheConstants.CPUS}
 use Rattle.{event_log.specs.declared.refusals.NoMemory.NoMemory, mctower.specs.{Help.{topic_of, usage_of}, Line.{faults_of, found_in, is_taken, lock_asked}}}
-use Rattle.mctower.specs.{Line.number_at, Print.shown_line, declared.{line.TheConstants.{MOST_TIMES, MOST_TURNS}, faults.NoOrder.NoOrder}}
-use Rattle.mctower.specs.declared.faults.{NoOrder.TheVariants.{AsksHelp, AsksVersion, Faulty}, LineFault.{LineFault, TheVariants.{NotText, NoCommand, Words}}}
-use Rattle.mctower.specs.declared.faults.{LineFault.TheVariants.Value, ValueOption.{ValueOption, TheVariants.{Cpus, Times, Lock, Turns}}}
+use Rattle.mctower.specs.{Line.number_at, Print.shown_line, declared.{line.TheConstants.{MOST_TIMES, MOST_TURNS}, refusals.line_faults.NoOrder.NoOrder}}
+use Rattle.mctower.specs.declared.refusals.line_faults.{NoOrder.TheVariants.{AsksHelp, AsksVersion, Faulty}, LineFault.{LineFault, TheVariants.NotText}}
+use Rattle.mctower.specs.declared.refusals.line_faults.{LineFault.TheVariants.{NoCommand, Words, Value}, ValueOption.{ValueOption, TheVariants.{Cpus, Times}}}
+use Rattle.mctower.specs.declared.refusals.line_faults.ValueOption.TheVariants.{Lock, Turns}
 
 -- ---- options with a value to be tested
 

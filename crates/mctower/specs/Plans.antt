@@ -2,8 +2,8 @@
 use Rattle.std.specs.Prelude.{◌≡◌, ℕ, List, length, map, replicate}
 use Rattle.{event_log.specs.declared.ids.CpuId.CpuId, boot.specs.{declared.refusals.BootError.BootError, Plan.{BootPlan, IsPlan}}}
 use Rattle.{tracer.specs.declared.gathering.GatherError.GatherError, cpu.specs.{Boots.{homes_for, tables_for}, Cpus.programs_of, Claims.{Shown, programs_in}}}
-use Rattle.{cpu.specs.{Sound.{after_steps, setup_for}, Table.Steps.{Whole, whole_at_boot}}, mctower.specs.declared.run_faults.Fault.Fault}
-use Rattle.mctower.specs.declared.run_faults.Fault.TheVariants.{NoMemory, Boot, NoOrder}
+use Rattle.{cpu.specs.{Sound.{after_steps, setup_for}, Table.Steps.{Whole, whole_at_boot}}, mctower.specs.declared.run.run_faults.Fault.Fault}
+use Rattle.mctower.specs.declared.run.run_faults.Fault.TheVariants.{NoMemory, Boot, NoOrder}
 use Rattle.boot.specs.declared.refusals.BootError.TheVariants as refused
 use Rattle.tracer.specs.declared.gathering.GatherError.TheVariants as gathering
 

@@ -1,10 +1,10 @@
 -- Refusals: which fault each stands for, the exit status, and the text that tells it.
 use Rattle.{std.specs.Prelude.{ℕ, List, codes}, clap.specs.Walk.Text, event_log.specs.Refusals.no_memory, mctower.specs.{Faults.fault_text, Output.IsTold}}
 use Rattle.mctower.specs.{Output.Output, PlanFaults.plan_line, declared.refusals.Refusal.{Refusal, TheVariants.{BadLine, NoMemory, BadCpu, NoThread, NoOrder}}}
-use Rattle.mctower.specs.declared.{refusals.Refusal.TheVariants.{ReadFault, WriteFault, BadSchedule, Plan}, run_faults.Fault.Fault}
-use Rattle.{mctower.specs.declared.schedule.StepsError.StepsError, cpu_workers.specs.declared.refusals.WorkerError.WorkerError}
-use Rattle.mctower.specs.declared.run_faults.Fault.TheVariants as run
-use Rattle.mctower.specs.declared.schedule.StepsError.TheVariants as steps
+use Rattle.mctower.specs.declared.{refusals.Refusal.TheVariants.{ReadFault, WriteFault, BadSchedule, Plan}, run.run_faults.Fault.Fault}
+use Rattle.{mctower.specs.declared.line.schedules.StepsError.StepsError, cpu_workers.specs.declared.refusals.WorkerError.WorkerError}
+use Rattle.mctower.specs.declared.run.run_faults.Fault.TheVariants as run
+use Rattle.mctower.specs.declared.line.schedules.StepsError.TheVariants as steps
 use Rattle.cpu_workers.specs.declared.refusals.WorkerError.TheVariants as worker
 
 -- the refusal for want of memory, of which each value is evidence: it is made from the allocator's refusal alone

@@ -3,9 +3,9 @@ use Rattle.std.specs.Prelude.{◌≡◌, ℕ, ◌<◌, true, false, List, length
 use Rattle.{event_log.specs.{declared.ids.CpuId.CpuId, Streams.IsFirstInFirstOut}, boot.specs.declared.{locks.LockKind.LockKind, refusals.BootError.BootError}}
 use Rattle.{boot.specs.Plan.BootPlan, cpu.specs.{Linear.IsLinearizable, Claims.{FollowPrograms, HasOneOrder, Shown, StandsOnce, StayHome, traces_of}}}
 use Rattle.{cpu.specs.{Sound.{IsSetupFor, SoundByTable, setup_for}, Systems.{Ran, whole_of}, Observed.ObservedByTable}, tracer.specs.Gather.on_buffer}
-use Rattle.mctower.specs.declared.{run_faults.Fault.{Fault, TheVariants.{NoMemory, Boot, BadCpu, NoOrder, WriteFault}}, run.Ran.Ran as RanOver}
-use Rattle.mctower.specs.{declared.{run.Ran.TheVariants.{Ticket, Grant}, states.State.State}, Output.{IsUntouched, Output}, Plans.{IsOpened, IsSystemOf}}
-use Rattle.mctower.specs.{Plans.table_run, State.IsStateOf, Tabled.IsTextOfRun, Texts.IsOut}
+use Rattle.mctower.specs.declared.run.{run_faults.Fault.{Fault, TheVariants.{NoMemory, Boot, BadCpu, NoOrder, WriteFault}}, Ran.Ran as RanOver}
+use Rattle.mctower.specs.{declared.{run.Ran.TheVariants.{Ticket, Grant}, tell.state_lines.State.State}, Output.{IsUntouched, Output}, Plans.IsOpened}
+use Rattle.mctower.specs.{Plans.{IsSystemOf, table_run}, State.IsStateOf, Tabled.IsTextOfRun, Texts.IsOut}
 use Rattle.boot.specs.declared.locks.LockKind.TheVariants as kind
 
 -- The system of a plan, after a schedule's steps: it was opened with room for just these and took them in their order; the plan says its

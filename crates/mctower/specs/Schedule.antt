@@ -1,8 +1,8 @@
 -- Schedules: which steps a text stands for.
 use Rattle.std.specs.Prelude.{◌≡◌, ◌==◌, ◌++◌, ℕ, Bool, List, [], ◌∷◌, length, replicate, nat_lt, nat_le, Option, Some, None, Result, Ok, Err, Vec, option_map}
 use Rattle.std.specs.{Prelude.{option_and_then, if◌then◌else◌}, List.{after_first, before_first, position_or_len, slice_split}}
-use Rattle.{event_log.specs.{Digits.number_to, declared.ids.CpuId.CpuId}, mctower.specs.declared.schedule.{Item.Item, TheConstants.MOST_STEPS}}
-use Rattle.mctower.specs.declared.schedule.StepsError.{StepsError, TheVariants.{NoMemory, BadSchedule}}
+use Rattle.{event_log.specs.{Digits.number_to, declared.ids.CpuId.CpuId}, mctower.specs.declared.line.schedules.{Item.Item, TheConstants.MOST_STEPS}}
+use Rattle.mctower.specs.declared.line.schedules.StepsError.{StepsError, TheVariants.{NoMemory, BadSchedule}}
 
 -- the byte is a comma
 abbrev pub is_comma : ℕ → Bool

@@ -3,17 +3,16 @@ use Rattle.std.specs.Prelude.{◌≡◌, ◌*◌, ◌++◌, ◌⊎◌, ℕ, Bool
 use Rattle.std.specs.{Prelude.{decimal, if◌then◌else◌, is_some, map, string_bytes, String}, Global.Global, declared.io.ErrorKind.ErrorKind}
 use Rattle.std.specs.declared.io.ErrorKind.TheVariants.{OutOfMemory, InvalidData}
 use Rattle.{clap.specs.Walk.Text, event_log.specs.{declared.ids.CpuId.CpuId, Streams.IsFirstInFirstOut}, boot.specs.declared.refusals.BootError.BootError}
-use Rattle.{boot.specs.{declared.refusals.BootError.TheVariants.BadToml, Plan.{BootPlan, plan_of}}, tracer.specs.declared.verdicts.Verdict.Verdict}
-use Rattle.{tracer.specs.{declared.checking.InputFault.InputFault, Judging.verdict_of, Verdicts.IsTraceOfRun, Gather.on_buffer}, mctower.specs.Line.Ghost}
-use Rattle.mctower.specs.{Line.{count, order_of, run, threads, check}, Output.{IsTold, IsUntouched, Output}, Refusals.{PutsRefusal, lacks_memory, lacks_thread}}
-use Rattle.mctower.specs.{Refusals.status_of_refusal, declared.refusals.Refusal.{Refusal, TheVariants.{BadLine, BadCpu, ReadFault, WriteFault, BadSchedule}}}
-use Rattle.mctower.specs.declared.{refusals.Refusal.TheVariants.Plan as BadPlan, faults.LineFault.{LineFault, TheVariants.NotText}}
-use Rattle.mctower.specs.declared.{faults.NoOrder.TheVariants.{AsksHelp, AsksVersion}, help.TheConstants.VERSION, done.Done.{Done, TheVariants.{Exit, Ran}}}
-use Rattle.mctower.specs.{declared.{done.Done.TheVariants.Worked, states.State.State}, Running.{AreCpus, IsRunOf, NoCondition}, Faults.{IsFault, IsWhy}}
-use Rattle.mctower.specs.{Help.{help_of, topic_of}, State.{IsStateOf, text_of_state}, Schedule.steps_of, Tabled.{IsStateOfRun, IsTextOfRun}, Texts.IsTextOf}
-use Rattle.{mctower.specs.Threads.{IsWorked, stop_text}, cpu.specs.Claims.{Shown, traces_of}, cpu_workers.specs.declared.workers.stops.Stop.Stop}
-use Rattle.{mctower.specs.declared.done.Done.TheVariants.BothCounted, boot.specs.declared.locks.LockKind.LockKind}
-use Rattle.cpu_workers.specs.declared.counting.counted.Counted.{Counted}
+use Rattle.boot.specs.{declared.{refusals.BootError.TheVariants.BadToml, locks.LockKind.LockKind}, Plan.{BootPlan, plan_of}}
+use Rattle.tracer.specs.{declared.{verdicts.Verdict.Verdict, checking.InputFault.InputFault}, Judging.verdict_of, Verdicts.IsTraceOfRun, Gather.on_buffer}
+use Rattle.mctower.specs.{Line.{Ghost, count, order_of, run, threads, check}, Output.{IsTold, IsUntouched, Output}, Refusals.{PutsRefusal, lacks_memory}}
+use Rattle.mctower.specs.{Refusals.{lacks_thread, status_of_refusal}, declared.refusals.Refusal.{Refusal, TheVariants.{BadLine, BadCpu, ReadFault, WriteFault}}}
+use Rattle.mctower.specs.declared.refusals.{Refusal.TheVariants.{BadSchedule, Plan as BadPlan}, line_faults.LineFault.{LineFault, TheVariants.NotText}}
+use Rattle.mctower.specs.declared.{refusals.line_faults.NoOrder.TheVariants.{AsksHelp, AsksVersion}, line.help_texts.TheConstants.VERSION}
+use Rattle.mctower.specs.{declared.{serve.outcomes.Done.{Done, TheVariants.{Exit, Ran, Worked, BothCounted}}, tell.state_lines.State.State}, Running.AreCpus}
+use Rattle.mctower.specs.{Running.{IsRunOf, NoCondition}, Faults.{IsFault, IsWhy}, Help.{help_of, topic_of}, State.{IsStateOf, text_of_state}}
+use Rattle.{mctower.specs.{Schedule.steps_of, Tabled.{IsStateOfRun, IsTextOfRun}, Texts.IsTextOf, Threads.{IsWorked, stop_text}}, cpu.specs.Claims.Shown}
+use Rattle.{cpu.specs.Claims.traces_of, cpu_workers.specs.declared.{workers.stops.Stop.Stop, counting.counted.Counted.Counted}}
 use Rattle.tracer.specs.declared.verdicts.Verdict.TheVariants as verdict
 use Rattle.tracer.specs.Reasons as reasons
 use Rattle.tracer.specs.declared.checking.InputFault.TheVariants as unjudged

@@ -1,10 +1,10 @@
 -- What a run tells, by the step table's system alone: the trace text of a plan after a schedule's steps, and its state lines.
 use Rattle.std.specs.Prelude.{◌≡◌, ◌↔◌, ℕ, true, List, [], length, map, Option, Some, None, slice_get}
 use Rattle.event_log.specs.{declared.{entries.Entry.Entry, ids.{CpuId.CpuId, LockId.TheVariants.Buffer as AtBuffer}}, Actions.phase, Messages.Message}
-use Rattle.{boot.specs.Plan.BootPlan, layer_traits.specs.{declared.{calls.Place.Place, steps.Reason.Reason}, Plans.is_in_section}, cpu.specs.Claims.buffer_at}
-use Rattle.cpu.specs.{Claims.listed, Cpus.reason_in, Sound.setup_for, Table.{Blocks.{Block, OfBuffer, OfPending}, Setups.{Private, Setup}, Steps.Whole}}
-use Rattle.{cpu.specs.{Table.Steps.{block_at, cpu_numbered, halted_at}, Observed.IsPlaceByTable, Wakeups.Quiet.IsQuiet}, mctower.specs.Plans.table_run}
-use Rattle.mctower.specs.{State.places_in, Texts.IsTextOf, declared.states.State.State}
+use Rattle.{boot.specs.Plan.BootPlan, layer_traits.specs.{declared.{calls.Place.Place, steps.Reason.Reason}, Polling.Plans.is_in_section}}
+use Rattle.cpu.specs.{Claims.{buffer_at, listed}, Cpus.reason_in, Sound.setup_for, Table.{Blocks.{Block, OfBuffer, OfPending}, Setups.{Private, Setup}}}
+use Rattle.{cpu.specs.{Table.Steps.{Whole, block_at, cpu_numbered, halted_at}, Observed.IsPlaceByTable, Wakeups.Quiet.IsQuiet}, mctower.specs.Plans.table_run}
+use Rattle.mctower.specs.{State.places_in, Texts.IsTextOf, declared.tell.state_lines.State.State}
 
 -- the traces of the table's CPUs
 abbrev pub traces_at : Whole → List (List Entry)

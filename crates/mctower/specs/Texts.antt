@@ -2,7 +2,7 @@
 use Rattle.std.specs.{Prelude.{◌≡◌, ◌≤◌, ℕ, true, false, List, length, Some, slice_get, Result, Ok, Err}, List.AllByRecursion}
 use Rattle.{event_log.specs.{declared.entries.Entry.Entry, Messages.Message, Runs.IsRun, Traces.IsInterleaving}, tracer.specs.Gather.{IsOrder, TakesFirstReady}}
 use Rattle.{tracer.specs.TraceText.IsTraceText, boot.specs.Plan.{BootPlan, IsPlan}, cpu.specs.{Boots.homes_for, Cpus.IsOfHome}}
-use Rattle.mctower.specs.{declared.run_faults.Fault.{Fault, TheVariants.{NoMemory, Boot, BadCpu, NoOrder, WriteFault}}, Output.{IsPut, IsUntouched, Output}}
+use Rattle.mctower.specs.{declared.run.run_faults.Fault.{Fault, TheVariants.{NoMemory, Boot, BadCpu, NoOrder, WriteFault}}, Output.{IsPut, IsUntouched, Output}}
 
 -- These traces have a text with what is left: they are one of each CPU of a plan with these capacities, each within its room and of threads at
 -- home with its CPU; and they have an order that keeps each of them, is a run and ends in what is left.

@@ -6,8 +6,12 @@ ghost use Rattle.{clap.specs.declared.builder.command.Command.TheViews.out-Comma
 ghost use Rattle.mctower.specs.{declared.line.LineError.TheVariants.NoMemory, Line.{Reads, check_app, count_app, count_in, number_in, number_at, lock_asked}};
 ghost use Rattle.mctower.specs.Line.{optional, order_of, program, run_app, threads_app, required_option, threads_in, run_in, order_in, Finds, Parses};
 
-use crate::help::VERSION;
-use crate::memory::told_by_clap;
+pub(crate) mod help_texts;
+pub(crate) mod no_orders;
+pub mod schedules;
+
+use crate::line::help_texts::VERSION;
+use crate::refusals::no_memory::told_by_clap;
 use boot::LockKind;
 use clap::{Arg, ArgMatches, Command};
 use event_log::{CPUS, NoMemory};

@@ -1,5 +1,5 @@
 //! The locks that a plan or a count may name, each over an owned machine. What stands on a lock has
-//! its kind from the lock's words, by its type ([`OnLock`](crate::on_lock::OnLock)). A further lock is
+//! its kind from the lock's words, by its type ([`OnLock`](crate::locks::kinds::OnLock)). A further lock is
 //! one more impl here and one there, of its words, and an arm where a lock is chosen by its kind:
 //! `over_lock` and `count_plain`.
 //!
@@ -10,9 +10,14 @@ ghost use Rattle.std.specs.Prelude.{◌≡◌, ◌*◌, ◌≤◌, IfOk};
 ghost use Rattle.event_log.specs.declared.ids.TheConstants.{CPUS};
 ghost use Rattle.boot.specs.declared.locks.LockKind.TheVariants as kind;
 
+pub mod counts;
+pub mod kinds;
+pub(crate) mod rounds;
+pub mod towers;
+
 use crate::line::MOST_TIMES;
-use crate::rounds::count_behind;
-use crate::tower::{OverTower, over_sections};
+use crate::locks::rounds::count_behind;
+use crate::locks::towers::{OverTower, over_sections};
 use boot::LockKind;
 use cpu_workers::counting::{AddOne, CountLaws, Counted};
 use event_log::NoMemory;

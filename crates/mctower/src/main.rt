@@ -17,37 +17,17 @@ ghost use Rattle.std.specs.{Prelude.{◌≡◌, IfOk, false, map, string_bytes},
 ghost use Rattle.{tracer.specs.Sinks.has_failed, mctower.specs.{Output.between, Refusals.{PutsRefusal, status_of_refusal}}};
 ghost use Rattle.mctower.specs.Serve.{EndsProcess, process_reads, words_refused};
 
-pub mod count;
-pub mod done;
-pub mod faults;
-mod help;
 pub mod line;
 pub mod locks;
-mod memory;
-mod no_orders;
-pub mod on_lock;
-mod plan_faults;
-pub mod plan_run;
-pub mod print;
-pub mod reading;
 pub mod refusals;
-mod reports;
-mod rounds;
 pub mod run;
-pub mod run_faults;
-pub mod schedule;
 pub mod serve;
-mod shown;
-pub mod states;
-pub mod texts;
-pub mod threads;
-pub mod tower;
+pub mod tell;
 
 use event_log::NoMemory;
-use faults::LineFault;
-use memory::read_refused;
+use refusals::line_faults::LineFault;
+use refusals::no_memory::read_refused;
 use refusals::{Refusal, status_of_refusal};
-use reports::write_report;
 use serve::serve;
 use std::alloc::Global;
 use std::io::{BufWriter, Read, Write};
@@ -55,6 +35,7 @@ use std::process::ExitCode;
 use std::sync::Wait;
 use std::thread::Threads;
 use std::{env, io};
+use tell::refusal_lines::write_report;
 use tracer::Sink;
 
 fn main(rt: HostRuntime) -> ExitCode {

@@ -3,7 +3,11 @@
 ghost use Rattle.std.specs.Prelude.{◌≡◌};
 ghost use Rattle.mctower.specs.Refusals.{from_worker, status_of_refusal};
 
-use crate::faults::LineFault;
+pub mod line_faults;
+pub(crate) mod no_memory;
+pub(crate) mod shown_texts;
+
+use crate::refusals::line_faults::LineFault;
 use boot::BootError;
 use cpu_workers::{NoThread, WorkerError};
 use event_log::NoMemory;

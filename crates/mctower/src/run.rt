@@ -6,9 +6,14 @@ ghost use Rattle.{event_log.specs.declared.ids.TheConstants.BUFFERS, boot.specs.
 ghost use Rattle.{cpu.specs.Claims.traces_of, mctower.specs.{Output.between, Plans.IsOfPlan, Running.RunsPlan}};
 ghost use Rattle.mctower.specs.{Running.{RunsText, on_lock}, Texts.Writes};
 
-use crate::run_faults::Fault;
-use crate::schedule::MOST_STEPS;
-use crate::texts::write_text;
+pub mod plan_runs;
+pub mod run_faults;
+pub mod system_states;
+pub mod trace_texts;
+
+use crate::line::schedules::MOST_STEPS;
+use crate::run::run_faults::Fault;
+use crate::run::trace_texts::write_text;
 use arrayvec::ArrayVec;
 use boot::{Boot, LockKind};
 use cpu::System;

@@ -6,19 +6,22 @@ ghost use Rattle.{event_log.specs.declared.ids.TheConstants.CPUS, tracer.specs.S
 ghost use Rattle.mctower.specs.{Schedule.ReadsSteps, Serve.{Checks, Counts, Ends, OfBytes, OfInput, PutsAnswer, RunsPlan, Serves}};
 ghost use Rattle.mctower.specs.Serve.{PrintsVerdict, fault_refused, reads_input, steps_asked};
 
-use crate::count::{count_plain, count_table};
-use crate::done::{Done, put_out, read_all};
-use crate::faults::NoOrder;
-use crate::help::{VERSION, help_on};
+pub mod outcomes;
+pub mod worker_runs;
+
+use crate::line::help_texts::{VERSION, help_on};
+use crate::line::no_orders::why_no_order;
+use crate::line::schedules::{MOST_STEPS, StepsError, read_steps, steps_refused};
 use crate::line::{LineError, MOST_TIMES, Order, read_line};
-use crate::memory::read_refused;
-use crate::no_orders::why_no_order;
-use crate::plan_run::run_plan;
+use crate::locks::counts::{count_plain, count_table};
+use crate::refusals::line_faults::NoOrder;
+use crate::refusals::no_memory::read_refused;
 use crate::refusals::{Refusal, status_of_refusal, worker_refused};
-use crate::reports::write_report;
-use crate::run_faults::run_refused;
-use crate::schedule::{MOST_STEPS, StepsError, read_steps, steps_refused};
-use crate::threads::{serve_threads, write_stops};
+use crate::run::plan_runs::run_plan;
+use crate::run::run_faults::run_refused;
+use crate::serve::outcomes::{Done, put_out, read_all};
+use crate::serve::worker_runs::{serve_threads, write_stops};
+use crate::tell::refusal_lines::write_report;
 use boot::{BootError, LockKind};
 use event_log::CpuId;
 use itoa::Buffer;

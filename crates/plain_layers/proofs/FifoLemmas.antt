@@ -5,19 +5,20 @@ use Rattle.std.proofs.{Common.unwrap_or, lemmas.{Bool.{eqb-true, eqb-false, lt-l
 use Rattle.std.{proofs.lemmas.Option.{slice_get-get_or, slice_get_within}, specs.Prelude.nat_lt}
 use Rattle.event_log.specs.{Runs.group_of, declared.ids.{Tid.Tid, TheConstants.{THREADS, CPUS}, BufId.BufId, CpuId.CpuId, LockId.{LockId, TheVariants.Pending}}}
 use Rattle.event_log.{specs.{declared.{ids.LockId.TheVariants.Buffer, entries.Entry.Entry}, Messages.Message, History.IsLawful}, proofs.ListLemmas.alike_at}
-use Rattle.layer_traits.specs.{Capacities.caps_in, Renaming.viewed, declared.calls.{Call.{Call, TheVariants.{Send, Recv, Close}}, Effect.Effect, Reply.Reply}}
-use Rattle.layer_traits.specs.declared.{calls.ReplyKind.ReplyKind, locked.Side.TheVariants.{Receivers, Senders}, queues.QueueCall.TheVariants.OnBuffer}
-use Rattle.layer_traits.specs.declared.{queues.QueueEvent.QueueEvent, call_states.Stage.{Stage, TheVariants.{Idle, Acquires, Enters, Tries, Waits}}}
-use Rattle.layer_traits.specs.declared.call_states.{Stage.TheVariants.{AcquiresAgain, Signals, SignalsOwn, Releases}, CallState.CallState}
-use Rattle.layer_traits.specs.declared.{moves.WaitList.WaitList, passes.Pass.{Pass, TheVariants.{Switch, YieldNow, Drain, MakeReady, End}}}
-use Rattle.layer_traits.specs.{declared.{queue_edits.QueueBlock.QueueBlock, sleeps.Outcome.Outcome}, BufferLaw.{Answered, Called, IsEffectOf, IsRefused}}
-use Rattle.layer_traits.specs.BufferLaw.{MayPollCall, answer_in, buffer_of, entry_of, going, going_at, no_call, call_state_of, reply_with, MovesGrow}
-use Rattle.layer_traits.specs.{BufferLaw.OthersSeen, Passes.{own_slept, queue_for, PassPolled}, Places.{AreMoves, Pushed, Stands, Step, step, Threads}}
-use Rattle.layer_traits.specs.{Protocol.section, Queues.{call_move, out_at, IsKnownEvent, Kernel, buffer_sections, moves_in}, Sleeping.sleep_answer}
-use Rattle.layer_traits.specs.{Sleeping.{sleep_moves, NobodySleeps, wait_list_at}, SleepLaw.{Sleeping, done_if, sleep_kernel}, QueueBlocks.{homes_in, inner}}
-use Rattle.layer_traits.{specs.Scheds.{SchedPolled, events_of, own_answered, pass_call}, proofs.PlaceLemmas.{current_at, woken_current}}
-use Rattle.{layer_traits.proofs.{CallLemmas.pass_polled, SleepLemmas.done_same, Seen.lawful_rest}, plain_layers.specs.Fifos.{shown, ask_of, attempt_of}}
-use Rattle.plain_layers.specs.Fifos.{effect_by, locked_after, reply_to, call_state_after, IsOwned, PlainLocked, entries_in, fresh_buffer, fresh_buffers}
+use Rattle.layer_traits.specs.{Blocks.{Capacities.caps_in, QueueBlocks.{homes_in, inner}}, Views.Renaming.viewed, declared.calls.Call.{Call, TheVariants.Send}}
+use Rattle.layer_traits.specs.declared.calls.{Call.TheVariants.{Recv, Close}, Effect.Effect, Reply.Reply, ReplyKind.ReplyKind}
+use Rattle.layer_traits.specs.declared.{locked.Side.TheVariants.{Receivers, Senders}, queues.{QueueCall.TheVariants.OnBuffer, QueueEvent.QueueEvent}}
+use Rattle.layer_traits.specs.declared.call_states.Stage.{Stage, TheVariants.{Idle, Acquires, Enters, Tries, Waits, AcquiresAgain, Signals, SignalsOwn}}
+use Rattle.layer_traits.specs.declared.{call_states.{Stage.TheVariants.Releases, CallState.CallState}, moves.WaitList.WaitList, passes.Pass.Pass}
+use Rattle.layer_traits.specs.declared.{passes.Pass.TheVariants.{Switch, YieldNow, Drain, MakeReady, End}, queue_edits.QueueBlock.QueueBlock}
+use Rattle.layer_traits.specs.{declared.sleeps.Outcome.Outcome, Layers.BufferLaw.{Answered, Called, IsEffectOf, IsRefused, MayPollCall, answer_in, buffer_of}}
+use Rattle.layer_traits.specs.Layers.{BufferLaw.{entry_of, going, going_at, no_call, call_state_of, reply_with, MovesGrow, OthersSeen}, Queues.call_move}
+use Rattle.layer_traits.specs.Layers.{Queues.{out_at, IsKnownEvent, Kernel, buffer_sections, moves_in}, Sleeping.{sleep_answer, sleep_moves, NobodySleeps}}
+use Rattle.layer_traits.specs.Layers.{Sleeping.wait_list_at, SleepLaw.{Sleeping, done_if, sleep_kernel}, Scheds.{SchedPolled, events_of, own_answered}}
+use Rattle.layer_traits.specs.{Layers.Scheds.pass_call, Threads.{Passes.{own_slept, queue_for, PassPolled}, Places.{AreMoves, Pushed, Stands, Step, step}}}
+use Rattle.layer_traits.{specs.{Threads.Places.Threads, Protocols.Protocol.section}, proofs.{PlaceLemmas.{current_at, woken_current}, CallLemmas.pass_polled}}
+use Rattle.{layer_traits.proofs.{SleepLemmas.done_same, Seen.lawful_rest}, plain_layers.specs.Fifos.{shown, ask_of, attempt_of, effect_by, locked_after}}
+use Rattle.plain_layers.specs.Fifos.{reply_to, call_state_after, IsOwned, PlainLocked, entries_in, fresh_buffer, fresh_buffers}
 use Rattle.plain_layers.specs.{declared.attempts.{Tried.{TheVariants.{Acted, Refused}, Tried}, Attempt.Attempt}, Attempts.{PlainState, allows, effect_at}}
 use Rattle.plain_layers.specs.{Attempts.{effect_in, wait_list_by, told, attempts}, Wholes.{IsDoneWhole, asked}, Laws.FifoTallies.{block_of, no_position}}
 use Rattle.{plain_layers.{specs.Laws.FifoTallies.{plain_tally, reported_if}, proofs.WholeLemmas.no_foreign_events}, sleep_wakeup.proofs.BootLemmas.there_inside}

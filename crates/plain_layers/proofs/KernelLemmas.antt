@@ -8,11 +8,12 @@ use Rattle.event_log.{specs.{History.same_cpu, Sections.block_after}, proofs.{Sa
 use Rattle.{thread_blocks.specs.Queues.is_in, layer_traits.specs.declared.queue_edits.QueueBlock.{QueueBlock, TheVariants.{Queue, Above}}}
 use Rattle.layer_traits.specs.declared.{queue_edits.QueueAnswer.{QueueAnswer, TheVariants.{Taken, Answer}}, payloads.Payload.Payload}
 use Rattle.layer_traits.specs.declared.{scheds.SchedCall.SchedCall, queues.QueueCall.{QueueCall, TheVariants.{Push, TakeAll, OnBuffer}}}
-use Rattle.layer_traits.specs.{declared.queues.QueueEvent.QueueEvent, MoveRules.{MoveRules, WakesSleepers, edit_move}, Payloads.{call_meant, sched_meant}}
-use Rattle.layer_traits.specs.{Places.{home_of, pending_after, pending_by}, Protocol.Rules, QueueBlocks.{StartsAs, above_of, homes_in, homes_of, inner}}
-use Rattle.layer_traits.specs.{Queues.{CallAllowed, Kernel, answer_of, buffer_sections, event, kernel, lock_of, moves_in, out_at}, Scheds.BufferIsThere}
-use Rattle.layer_traits.proofs.{Alone.block_there, CallLemmas.moves_lawful, NestedLemmas.{push_known, push_new}}
-use Rattle.plain_layers.specs.{declared.kernel.{Lists.Lists, Opening.Opening}, Kernels.{CanDo, IsDone, IsKernel, SetsBlock, SetsQueue, opening_of, pending_in}}
+use Rattle.layer_traits.specs.{declared.queues.QueueEvent.QueueEvent, Threads.{MoveRules.{MoveRules, WakesSleepers, edit_move}, Places.home_of}}
+use Rattle.layer_traits.specs.{Threads.Places.{pending_after, pending_by}, Blocks.{Payloads.{call_meant, sched_meant}, QueueBlocks.{StartsAs, above_of}}}
+use Rattle.layer_traits.specs.{Blocks.QueueBlocks.{homes_in, homes_of, inner}, Protocols.Protocol.Rules, Layers.Queues.{CallAllowed, Kernel, answer_of}}
+use Rattle.layer_traits.{specs.Layers.{Queues.{buffer_sections, event, kernel, lock_of, moves_in, out_at}, Scheds.BufferIsThere}, proofs.Alone.block_there}
+use Rattle.{layer_traits.proofs.{CallLemmas.moves_lawful, NestedLemmas.{push_known, push_new}}, plain_layers.specs.declared.kernel.Lists.Lists}
+use Rattle.plain_layers.specs.{declared.kernel.Opening.Opening, Kernels.{CanDo, IsDone, IsKernel, SetsBlock, SetsQueue, opening_of, pending_in}}
 use Rattle.shared_queue.specs.Opening.{AreQueues}
 use Rattle.layer_traits.specs.declared.scheds.SchedCall.TheVariants as sched
 

@@ -1,16 +1,16 @@
 -- Whoever asks for a queuing lock owns it once a poll answers, by the laws of the layers alone. No law on what a part keeps is needed: where the
 -- call is an Acquire, no outcome was kept before.
-use Rattle.std.proofs.Common.{◌≡◌, ◌⊎◌, inl, inr, Bool, true, false, List, ◌∷◌, ◌++◌, Option, Some, None, IsSome, option_map, if◌then◌else◌}
-use Rattle.std.proofs.Common.{refl, ap, sym, ◌∙◌, subst}
-use Rattle.{event_log.specs.declared.ids.{BufId.BufId, CpuId.CpuId, LockId.{LockId, TheVariants.Buffer}, Tid.Tid}, event_log.proofs.Same.same_lock_self}
-use Rattle.layer_traits.specs.declared.{locked.QEdit.{QEdit, TheVariants.{Acquire, Inside, Release}}, locked.QOut.{QOut, TheVariants.{Acquired, Queued}}}
-use Rattle.layer_traits.specs.declared.{locked.QOut.TheVariants.{Did, Released}, conditions.CvOut.CvOut, queue_edits.QueueBlock.QueueBlock}
+use Rattle.std.proofs.Common.{◌≡◌, ◌⊎◌, inl, inr, Bool, true, false, List, ◌∷◌, ◌++◌, Option, Some, None, IsSome, option_map, if◌then◌else◌, refl, ap, sym, ◌∙◌}
+use Rattle.std.proofs.Common.{subst}
+use Rattle.event_log.{specs.declared.ids.{BufId.BufId, CpuId.CpuId, LockId.{LockId, TheVariants.Buffer}, Tid.Tid}, proofs.Same.same_lock_self}
+use Rattle.layer_traits.specs.declared.locked.{QEdit.{QEdit, TheVariants.{Acquire, Inside, Release}}, QOut.{QOut, TheVariants.{Acquired, Queued, Did}}}
+use Rattle.layer_traits.specs.declared.{locked.QOut.TheVariants.Released, conditions.CvOut.CvOut, queue_edits.QueueBlock.QueueBlock}
 use Rattle.layer_traits.specs.declared.{queues.{QueueCall.TheVariants.OnBuffer, QueueEvent.QueueEvent}, scheds.SchedCall.SchedCall, sleeps.Outcome.Outcome}
-use Rattle.layer_traits.specs.{Conditions.{CvCall, MonitorRules, cv_rules}, CvLaw.{CvPolled, Waiting, left_waiting}}
-use Rattle.layer_traits.specs.QLocking.{LockRules, LockState, asked, asker_report, lock_after, lock_answer, lock_caller, lock_edited, lock_moves}
-use Rattle.layer_traits.specs.{QLocking.{owner_in, owner_of}, QLockLaw.{IsAcquire, LockPolled, Locking, Locks, left_after, left_locked, lock_kernel, slept_for}}
-use Rattle.layer_traits.specs.{Places.Threads, Plans.Left, QueueBlocks.{homes_in, inner}, Queues.{buffer_sections, event}, Scheds.own_answered}
-use Rattle.layer_traits.specs.SleepLaw.{PollResult, Waits, Does, Sends, MayDo, Sleeping, left_with, must_send, seen_with}
+use Rattle.layer_traits.specs.Layers.{Conditions.{CvCall, MonitorRules, cv_rules}, CvLaw.{CvPolled, Waiting, left_waiting}, QLocking.{LockRules, LockState}}
+use Rattle.layer_traits.specs.Layers.QLocking.{asked, asker_report, lock_after, lock_answer, lock_caller, lock_edited, lock_moves, owner_in, owner_of}
+use Rattle.layer_traits.specs.Layers.{QLockLaw.{IsAcquire, LockPolled, Locking, Locks, left_after, left_locked, lock_kernel, slept_for}, Queues.buffer_sections}
+use Rattle.layer_traits.specs.Layers.{Queues.event, Scheds.own_answered, SleepLaw.{PollResult, Waits, Does, Sends, MayDo, Sleeping, left_with, must_send}}
+use Rattle.layer_traits.specs.{Layers.SleepLaw.seen_with, Threads.Places.Threads, Polling.Plans.Left, Blocks.QueueBlocks.{homes_in, inner}}
 
 module _ {F R B O : Type 0} (rules : LockRules F R B O) where
   -- who asks and is told that it owns the lock owns it after that call

@@ -1,11 +1,12 @@
 -- A machine that opens with empty buffers, as one-step buffers read it and as their layer's trait shows it.
 use Rattle.std.proofs.Common.{◌≡◌, ℕ, ◌≤◌, List, length, map, Option, Some, None, option_map, slice_get, refl, ap, sym, ◌∙◌, ◌*◌, ◌/◌, lit<}
 use Rattle.std.proofs.{Math.{Nat.le-div_iff_mul-le, Path.fun_ext}, lemmas.Option.slice_get-map}
-use Rattle.{event_log.specs.declared.ids.{BufId.BufId, LockId.{LockId, TheVariants.{Pending, Buffer}}, Tid.Tid}, layer_traits.specs.Capacities.caps_in}
-use Rattle.layer_traits.specs.{declared.queue_edits.QueueBlock.{QueueBlock, TheVariants.Queue}, BufferEffects.{fresh_lock, opening_locks}, QueueBlocks.above_of}
-use Rattle.{layer_traits.{specs.{QueueBlocks.inner, Renaming.viewed}, proofs.KernelRenaming.inner_viewed}, fifo_buffer.proofs.Opening.caps_are}
-use Rattle.{sleep_wakeup.specs.{declared.edits.SleepBlock.SleepBlock, Nested.{resting, state_of}}, plain_layers.specs.declared.kernel.Opening.Opening}
-use Rattle.plain_layers.specs.{Attempts.{PlainState, empty_buffer}, Fifos.{PlainLocked, fresh_buffer, fresh_buffers, shown}, Kernels.opening_of}
+use Rattle.{event_log.specs.declared.ids.{BufId.BufId, LockId.{LockId, TheVariants.{Pending, Buffer}}, Tid.Tid}, layer_traits.specs.Blocks.Capacities.caps_in}
+use Rattle.layer_traits.specs.{Blocks.{BufferEffects.{fresh_lock, opening_locks}, QueueBlocks.{above_of, inner}}, declared.queue_edits.QueueBlock.QueueBlock}
+use Rattle.layer_traits.{specs.{declared.queue_edits.QueueBlock.TheVariants.Queue, Views.Renaming.viewed}, proofs.KernelRenaming.inner_viewed}
+use Rattle.{fifo_buffer.proofs.Opening.caps_are, sleep_wakeup.specs.{declared.edits.SleepBlock.SleepBlock, Nested.{resting, state_of}}}
+use Rattle.plain_layers.specs.{declared.kernel.Opening.Opening, Attempts.{PlainState, empty_buffer}, Fifos.{PlainLocked, fresh_buffer, fresh_buffers, shown}}
+use Rattle.plain_layers.specs.Kernels.{opening_of}
 
 -- the buffers of a machine of lists that opened with these blocks
 module _ (start : Opening (SleepBlock PlainState)) (caps : List ℕ) (buffers : List PlainState) (blocks : List (SleepBlock PlainState))

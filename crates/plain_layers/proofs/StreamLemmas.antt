@@ -1,8 +1,8 @@
 -- What one more call adds to what was sent and what was taken.
 use Rattle.std.proofs.{Common.{◌≡◌, ◌==◌, ℕ, Bool, true, false, List, [], ◌∷◌, ◌++◌, refl, ap, ◌∙◌, if◌then◌else◌}, lemmas.List.append-nil}
 use Rattle.event_log.specs.{declared.entries.{Entry.Entry, Kind.{Kind, TheVariants.{Send, Recv, Close, SendClosed, RecvClosed}}}, Messages.Message}
-use Rattle.{event_log.specs.Streams.{put_by, sent_to, taken_by, taken_from}, layer_traits.specs.BufferEffects.entry, cpu_workers.specs.Callers.CallerView}
-use Rattle.cpu_workers.specs.Callers.{HasMade, IsSameCaller}
+use Rattle.{event_log.specs.Streams.{put_by, sent_to, taken_by, taken_from}, layer_traits.specs.Blocks.BufferEffects.entry}
+use Rattle.cpu_workers.specs.Callers.{CallerView, HasMade, IsSameCaller}
 
 put_more : (k : Kind) (value : Message) (xs ys tail : List Message) → xs ≡ ys ++ tail → put_by k value xs ≡ put_by k value ys ++ tail
 put_more Send value xs ys tail same = ap (λ l. value ∷ l) same

@@ -1,8 +1,8 @@
 -- The list of blocks: the slot of a lock in it, what an edit at that slot leaves, and that a section keeps the list in agreement.
 use Rattle.std.proofs.Common.{◌≡◌, ℕ, zero, suc, ◌+◌, ◌<◌, Bool, true, false, List, [], ◌∷◌, length, get_or, drop, slice_set, if◌then◌else◌, Option, Some}
 use Rattle.std.proofs.Common.{IsSome, option_map, refl, ap, sym, ◌∙◌, subst, arith}
-use Rattle.event_log.{specs.{declared.ids.LockId.LockId, History.same_lock, Sections.Section}, proofs.Same.same_lock_self}
-use Rattle.{event_log.proofs.{Same.same_lock_true, ListLemmas.from_index}, layer_traits.{proofs.Alone.block_there, specs.{OneLock.opened, Protocol.Rules}}}
+use Rattle.event_log.{specs.{declared.ids.LockId.LockId, History.same_lock, Sections.Section}, proofs.Same.{same_lock_self, same_lock_true}}
+use Rattle.{event_log.proofs.ListLemmas.from_index, layer_traits.{proofs.Alone.block_there, specs.Protocols.{OneLock.opened, Protocol.Rules}}}
 use Rattle.plain_layers.specs.Tables.{IsSlot, IsTable}
 
 -- whether an entry that names the lock names another one too

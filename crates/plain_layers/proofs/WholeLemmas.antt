@@ -1,10 +1,10 @@
 -- The polls of a whole section: the first does it, and answers unless the woken thread is still to be sent home; the second does that.
 use Rattle.std.proofs.Common.{◌≡◌, ◌<◌, Bool, true, false, List, [], ◌∷◌, ◌++◌, Option, Some, None, IsSome, if◌then◌else◌, refl, ap, sym, ◌∙◌, subst, unwrap_or}
 use Rattle.event_log.{specs.{declared.ids.{CpuId.CpuId, Tid.Tid, TheConstants.CPUS}, History.{AreForeign, IsLawful, same_cpu}}, proofs.Same.same_cpu_self}
-use Rattle.layer_traits.specs.{declared.{queues.{QueueCall.TheVariants.{Push, OnBuffer}, QueueEvent.QueueEvent}, sleeps.Outcome.Outcome}, Passes.passed_on}
-use Rattle.layer_traits.specs.{Passes.queue_for, Places.Threads, Plans.Left, Queues.{IsKnownEvent, event, cpu_of_queue_event, out_at}, Scheds.own_answered}
-use Rattle.layer_traits.specs.SleepLaw.{PollResult, Does, MayDo, Sends, SleepPolled, Sleeping, Waits, left_with, must_send, seen_with}
-use Rattle.plain_layers.specs.Wholes.{Asked, DoneAlone, DoneSending}
+use Rattle.layer_traits.specs.declared.{queues.{QueueCall.TheVariants.{Push, OnBuffer}, QueueEvent.QueueEvent}, sleeps.Outcome.Outcome}
+use Rattle.layer_traits.specs.{Threads.{Passes.{passed_on, queue_for}, Places.Threads}, Polling.Plans.Left, Layers.Queues.{IsKnownEvent, event}}
+use Rattle.layer_traits.specs.Layers.{Queues.{cpu_of_queue_event, out_at}, Scheds.own_answered, SleepLaw.{PollResult, Does, MayDo, Sends, SleepPolled}}
+use Rattle.{layer_traits.specs.Layers.SleepLaw.{Sleeping, Waits, left_with, must_send, seen_with}, plain_layers.specs.Wholes.{Asked, DoneAlone, DoneSending}}
 
 -- who acts for every CPU sees no event of another
 pub no_foreign_events : {E : Type 0} (ActsFor : CpuId → Type 0) → ((c : CpuId) → c.0 < CPUS → ActsFor c) → (others old : List (QueueEvent E))

@@ -4,8 +4,9 @@
 use Rattle.std.specs.Prelude.{ℕ, Bool, true, false, ◌&&◌, ◌||◌, List, [], length, nat_lt, Option, Some, None, is_some, if◌then◌else◌}
 use Rattle.{event_log.specs.{declared.ids.Tid.Tid, Messages.{Message, no_message}}, thread_blocks.specs.Queues.{first, rest}}
 use Rattle.layer_traits.specs.declared.{calls.Effect.Effect, locked.Side.{Side, TheVariants.{Receivers, Senders}}, moves.WaitList.WaitList, sleeps.Wake.Wake}
-use Rattle.layer_traits.specs.{BufferBlocks.{counted, first_item, items_put, other_items}, QLocking.wait_list_for, Sleeping.{SleepRules, joined}}
-use Rattle.plain_layers.specs.declared.attempts.{Ask.{Ask, TheVariants.{Send, Receive, Close}}, Attempt.Attempt, Tried.{Tried, TheVariants.{Acted, Refused}}}
+use Rattle.layer_traits.specs.{Blocks.BufferBlocks.{counted, first_item, items_put, other_items}, Layers.{QLocking.wait_list_for, Sleeping.SleepRules}}
+use Rattle.{layer_traits.specs.Layers.Sleeping.joined, plain_layers.specs.declared.attempts.{Ask.{Ask, TheVariants.{Send, Receive, Close}}, Attempt.Attempt}}
+use Rattle.plain_layers.specs.declared.attempts.Tried.{Tried, TheVariants.{Acted, Refused}}
 use Rattle.event_log.specs.declared.entries.Kind.TheVariants as kind
 use Rattle.layer_traits.specs.declared.sleeps.Wake.TheVariants as leave
 

@@ -1,6 +1,6 @@
 -- What is read off a buffer's lock where a call is one section: its items, whether it is closed, and its waiting lists; nobody owns it.
 use Rattle.{std.specs.Prelude.{Bool, List, Option, Some, None}, event_log.specs.{declared.ids.Tid.Tid, Messages.Message}}
-use Rattle.{layer_traits.specs.{declared.moves.WaitList.WaitList, Sleeping.wait_list_at}, plain_layers.specs.Fifos.PlainLocked}
+use Rattle.{layer_traits.specs.{declared.moves.WaitList.WaitList, Layers.Sleeping.wait_list_at}, plain_layers.specs.Fifos.PlainLocked}
 
 -- the items of a lock's buffer, whether it is closed, and its waiting lists
 abbrev pub items_in : PlainLocked → List Message

@@ -4,9 +4,10 @@ use Rattle.event_log.specs.declared.{entries.Entry.Entry, ids.{BufId.BufId, CpuI
 use Rattle.{event_log.specs.{declared.ids.TheConstants.{CPUS, THREADS}, Sections.{Section, block_after}}, layer_traits.specs.declared.calls.Call.Call}
 use Rattle.layer_traits.specs.declared.{calls.{Call.TheVariants.{Send, Recv, Close}, Effect.Effect, Reply.Reply}, queue_edits.QueueBlock.QueueBlock}
 use Rattle.layer_traits.specs.declared.{moves.WaitList.WaitList, scheds.SchedCall.SchedCall, call_states.{Stage.TheVariants.{Idle, Waits}, CallState.CallState}}
-use Rattle.layer_traits.specs.{BufferLaw.{Buffering, buffering, entry_of, reply_of, call_state_of}, BufferProtocol.BufferLock, Places.Threads}
-use Rattle.layer_traits.specs.{Sleeping.{SleepState, wait_list_at, sleep_edited}, SleepLaw.Sleeping, Capacities.caps_in, QueueBlocks.inner, Renaming.viewed}
-use Rattle.plain_layers.specs.{declared.attempts.{Ask.Ask, Attempt.Attempt, Tried.Tried}, Attempts.{PlainState, attempts, effect_in, empty_buffer, told}}
+use Rattle.layer_traits.specs.Layers.{BufferLaw.{Buffering, buffering, entry_of, reply_of, call_state_of}, Sleeping.{SleepState, wait_list_at, sleep_edited}}
+use Rattle.layer_traits.specs.{Layers.SleepLaw.Sleeping, Blocks.{BufferProtocol.BufferLock, Capacities.caps_in, QueueBlocks.inner}, Threads.Places.Threads}
+use Rattle.{layer_traits.specs.Views.Renaming.viewed, plain_layers.specs.{declared.attempts.{Ask.Ask, Attempt.Attempt, Tried.Tried}, Attempts.PlainState}}
+use Rattle.plain_layers.specs.Attempts.{attempts, effect_in, empty_buffer, told}
 use Rattle.plain_layers.specs.declared.attempts.Ask.TheVariants as ask
 
 -- a buffer with the waiting lists of its lock

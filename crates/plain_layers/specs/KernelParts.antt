@@ -1,7 +1,8 @@
 -- What a CPU's one-step scheduler has of its own, and the lists that all CPUs share.
 use Rattle.std.specs.Prelude.{◌<◌, List, None}
-use Rattle.{event_log.specs.declared.ids.{CpuId.CpuId, TheConstants.CPUS}, layer_traits.specs.{MoveRules.MoveRules, Places.Threads, Protocol.Rules}}
-use Rattle.{plain_layers.specs.{declared.kernel.PlainKernel.PlainKernel, Kernels.{IsKernel, calls_in, opening_of}}, scheduler.specs.Parts.PartFits}
+use Rattle.{event_log.specs.declared.ids.{CpuId.CpuId, TheConstants.CPUS}, layer_traits.specs.Threads.{MoveRules.MoveRules, Places.Threads}}
+use Rattle.{layer_traits.specs.Protocols.Protocol.Rules, plain_layers.specs.{declared.kernel.PlainKernel.PlainKernel, Kernels.{IsKernel, calls_in, opening_of}}}
+use Rattle.scheduler.specs.Parts.{PartFits}
 
 -- the machine is sound, this is one of its CPUs, and the homes and the threads that the CPU has of its own agree with the machine
 abbrev pub HasThreads : {E B O H A : Type 0} → Rules E B O → MoveRules E O → PlainKernel E B O H A → CpuId → List CpuId → Threads → Type 0

@@ -4,9 +4,9 @@ use Rattle.event_log.specs.declared.ids.{BufId.BufId, CpuId.CpuId, LockId.{LockI
 use Rattle.{event_log.specs.{History.IsLawful, Log.{events_in, room_of}, Sections.block_after}, thread_blocks.specs.Queues.is_in}
 use Rattle.layer_traits.specs.declared.queue_edits.{QueueBlock.{QueueBlock, TheVariants.{Queue, Above}}, QueueAnswer.{QueueAnswer, TheVariants.{Done, Taken}}}
 use Rattle.layer_traits.specs.declared.{queue_edits.QueueAnswer.TheVariants.Answer, queues.QueueCall.{QueueCall, TheVariants.{Push, TakeAll, OnBuffer}}}
-use Rattle.layer_traits.specs.{declared.queues.QueueEvent.QueueEvent, MoveRules.MoveRules, Places.pending_by, Protocol.Rules, QueueBlocks.{StartsWell, inner}}
-use Rattle.{layer_traits.specs.Queues.{IsKnownEvent, QueueAllowed, buffer_sections, kernel, moves_in}, plain_layers.specs.declared.kernel.Lists.Lists}
-use Rattle.plain_layers.specs.declared.kernel.{Opening.Opening, PlainKernel.PlainKernel}
+use Rattle.layer_traits.specs.{declared.queues.QueueEvent.QueueEvent, Threads.{MoveRules.MoveRules, Places.pending_by}, Protocols.Protocol.Rules}
+use Rattle.layer_traits.specs.{Blocks.QueueBlocks.{StartsWell, inner}, Layers.Queues.{IsKnownEvent, QueueAllowed, buffer_sections, kernel, moves_in}}
+use Rattle.plain_layers.specs.declared.kernel.{Lists.Lists, Opening.Opening, PlainKernel.PlainKernel}
 
 -- the calls that were done, newest first
 abbrev pub calls_in : {E B O H A : Type 0} → PlainKernel E B O H A → List (QueueEvent E)

@@ -1,7 +1,8 @@
 -- The list of the blocks of all locks, and the list of the sections that were done, newest first.
 use Rattle.std.specs.Prelude.{◌≡◌, ℕ, zero, suc, ◌-◌, true, false, List, [], ◌∷◌, length, map, reverse, Option}
 use Rattle.event_log.specs.{declared.ids.LockId.LockId, History.{IsLawful, same_lock}, Log.{events_in, room_of}, Sections.{Section, block_after}}
-use Rattle.{layer_traits.specs.{OneLock.opened, Protocol.{IsKnown, Rules, section}}, plain_layers.specs.declared.lock_table.{LockTable.LockTable, Noted.Noted}}
+use Rattle.{layer_traits.specs.Protocols.{OneLock.opened, Protocol.{IsKnown, Rules, section}}, plain_layers.specs.declared.lock_table.LockTable.LockTable}
+use Rattle.plain_layers.specs.declared.lock_table.Noted.{Noted}
 
 -- the section that was noted
 abbrev pub section_noted : {E : Type 0} → Noted E → Section E

@@ -2,8 +2,8 @@
 -- thread's way home.
 use Rattle.std.specs.Prelude.{◌≡◌, ◌⊎◌, true, false, List, ◌∷◌, Some, None}
 use Rattle.{event_log.specs.declared.ids.{BufId.BufId, CpuId.CpuId, Tid.Tid}, layer_traits.specs.declared.queues.QueueCall.TheVariants.{Push, OnBuffer}}
-use Rattle.layer_traits.specs.{declared.{queues.QueueEvent.QueueEvent, sleeps.Outcome.Outcome}, Passes.{passed_on, queue_for}, Places.Threads, Queues.Kernel}
-use Rattle.layer_traits.specs.{Queues.{event, out_at}, Scheds.own_answered, SleepLaw.{Sleeping, must_send}}
+use Rattle.layer_traits.specs.{declared.{queues.QueueEvent.QueueEvent, sleeps.Outcome.Outcome}, Threads.{Passes.{passed_on, queue_for}, Places.Threads}}
+use Rattle.layer_traits.specs.Layers.{Queues.{Kernel, event, out_at}, Scheds.own_answered, SleepLaw.{Sleeping, must_send}}
 
 -- a machine of which one poll is one call, and not one action
 abbrev pub IsCoarse : Type 0 → Type 0 → Type 0

@@ -15,8 +15,8 @@ use std::alloc::Global;
 /// A layer of sleep and wakeup for attempts, whose machine is opened with empty buffers, and of which
 /// each poll does a whole section where it may.
 pub trait OpensAttempts: OwnedThreadLayer<SleepLaw<Attempt>> {
-    ghost use Rattle.{event_log.specs.declared.ids.{CpuId.CpuId, LockId.TheVariants.Pending, TheConstants.CPUS}, layer_traits.specs.Openings.AreOpenable};
-    ghost use Rattle.{layer_traits.specs.QueueBlocks.{homes_in, inner}, plain_layers.specs.{Fifos.fresh_buffers, Wholes.IsCoarse}};
+    ghost use Rattle.{event_log.specs.declared.ids.{CpuId.CpuId, LockId.TheVariants.Pending, TheConstants.CPUS}, layer_traits.specs.Views.Openings.AreOpenable};
+    ghost use Rattle.{layer_traits.specs.Blocks.QueueBlocks.{homes_in, inner}, plain_layers.specs.{Fifos.fresh_buffers, Wholes.IsCoarse}};
 
     /// A machine of so many CPUs, with an empty buffer of each of these capacities and a thread of
     /// each of these homes, and with room for `room` events. All memory is taken here.

@@ -1,7 +1,7 @@
 //! A message call as one section: the attempts on one buffer. No call takes memory or waits.
 
 ghost use Rattle.std.specs.Prelude.{◌≡◌, ◌≤◌, true, [], is_some};
-ghost use Rattle.{event_log.specs.declared.ids.TheConstants.CAPACITY, layer_traits.specs.{Sleeping.joined, declared.sleeps.Wake.TheVariants.Nobody}};
+ghost use Rattle.{event_log.specs.declared.ids.TheConstants.CAPACITY, layer_traits.specs.{Layers.Sleeping.joined, declared.sleeps.Wake.TheVariants.Nobody}};
 ghost use Rattle.plain_layers.specs.Attempts.{PlainState, allows, closed_after, done, effect_at, effect_in, empty_buffer, leaving, attempt_side, waiting_on};
 ghost use Rattle.plain_layers.specs.{Attempts.{waits, waking_by, wakes, attempt_woken}, declared.attempts.Ask.{Ask, TheVariants.{Close, Receive, Send}}};
 ghost use Rattle.{plain_layers.specs.declared.attempts.Tried.TheVariants.Acted, thread_blocks.specs.Queues.first};

@@ -119,7 +119,8 @@ impl<E: SplitEdit, L: Layer<LockLaw<E>>> Layer<LockLaw<E>> for Backoff<L> {
 
 impl<E: SplitEdit, L: OwnedLocks<E>> OwnedLocks<E> for Backoff<L> {
     ghost use Rattle.std.specs.Prelude.{◌<◌, refl};
-    ghost use Rattle.{event_log.specs.Sections.block_after, layer_traits.{specs.OneLock.{AreDistinct, opened}, proofs.OwnedLemmas.{parts_on, shown_on}}};
+    ghost use Rattle.{event_log.specs.Sections.block_after, layer_traits.{specs.Protocols.OneLock.{AreDistinct, opened}, proofs.OwnedLemmas.parts_on}};
+    ghost use Rattle.layer_traits.proofs.OwnedLemmas.{shown_on};
 
     ghost block_at = { λ m lock. L.block_at m lock };
 

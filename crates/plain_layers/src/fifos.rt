@@ -1,7 +1,7 @@
 //! First-in first-out buffers in one section.
 
 ghost use Rattle.std.specs.Prelude.{◌≡◌, ◌<◌, [], None, Some, false, option_map, replicate, slice_set};
-ghost use Rattle.layer_traits.specs.{Capacities.caps_in, BufferLaw.{buffer_of, no_call, reply_of, reply_with, call_state_of}};
+ghost use Rattle.layer_traits.specs.{Blocks.Capacities.caps_in, Layers.BufferLaw.{buffer_of, no_call, reply_of, reply_with, call_state_of}};
 ghost use Rattle.{event_log.specs.declared.ids.TheConstants.THREADS, plain_layers.specs.Fifos.{ask_of, attempt_of, reply_to, call_state_after}};
 
 use crate::attempts::{Ask, Attempt, Tried};
@@ -95,8 +95,9 @@ impl<S: ThreadLayer<SleepLaw<Attempt>>> CallLayer<BufferLaw> for PlainFifo<S> {
     ghost use Rattle.std.specs.Prelude.{◌/◌, IsSome, length, refl};
     ghost use Rattle.{event_log.specs.declared.ids.LockId.TheVariants.Pending, plain_layers.specs.Laws.{FifoLaws.plain_wait_lists, FifoTallies.plain_lawful}};
     ghost use Rattle.plain_layers.specs.{Attempts.attempts, Fifos.{IsOwned, Rests, entries_in, wait_lists_in, own_of, shown}};
-    ghost use Rattle.layer_traits.{proofs.KernelRenaming.{at_viewed, starts_viewed}, specs.{QueueBlocks.{homes_in, inner}, Queues.buffer_sections}};
-    ghost use Rattle.layer_traits.specs.{IpcLaw.WaitListsAgree, Places.{AreMoves, Stands}, Queues.moves_in, Renaming.viewed, SleepLaw.sleep_kernel};
+    ghost use Rattle.layer_traits.{proofs.KernelRenaming.{at_viewed, starts_viewed}, specs.Blocks.QueueBlocks.{homes_in, inner}};
+    ghost use Rattle.layer_traits.specs.{Layers.{Queues.{buffer_sections, moves_in}, IpcLaw.WaitListsAgree, SleepLaw.sleep_kernel}, Threads.Places.AreMoves};
+    ghost use Rattle.layer_traits.specs.{Threads.Places.Stands, Views.Renaming.viewed};
 
     type Machine = S::Machine;
 
@@ -215,8 +216,8 @@ impl<S: ThreadLayer<SleepLaw<Attempt>>> CallLayer<BufferLaw> for PlainFifo<S> {
 
 impl<S: OwnedThreadLayer<SleepLaw<Attempt>>> OwnedBuffers for PlainFifo<S> {
     ghost use Rattle.{std.{specs.Prelude.option_map, proofs.Common.sym}, event_log.specs.{declared.ids.LockId.TheVariants.{Buffer, Pending}, Buffers.items_of}};
-    ghost use Rattle.{event_log.specs.Runs.is_closed, layer_traits.specs.{BufferEffects.contents_of, Places.pending_by, QueueBlocks.inner}};
-    ghost use Rattle.layer_traits.specs.{Queues.{buffer_sections, moves_in}, Renaming.{viewed, viewed_block}, SleepLaw.sleep_kernel};
+    ghost use Rattle.{event_log.specs.Runs.is_closed, layer_traits.specs.{Blocks.{BufferEffects.contents_of, QueueBlocks.inner}, Threads.Places.pending_by}};
+    ghost use Rattle.layer_traits.specs.{Layers.{Queues.{buffer_sections, moves_in}, SleepLaw.sleep_kernel}, Views.Renaming.{viewed, viewed_block}};
     ghost use Rattle.{layer_traits.proofs.OwnedLemmas.{parts_on, read_on, view_read}, plain_layers.specs.{Attempts.attempts, Fifos.entries_in}};
     ghost use Rattle.plain_layers.specs.{Fifos.{wait_lists_in, locked_after, shown}, FifoOwned.{closed_of, items_in, wait_lists_of, nobody, nothing_read}};
     ghost use Rattle.plain_layers.specs.Laws.FifoOwned.{buffer_there, closed_read, entries_known, items_read, wait_lists_read, nobody_owns, there_viewed};

@@ -3,8 +3,9 @@
 
 ghost use Rattle.std.specs.Prelude.{◌≡◌, ◌+◌, ◌<◌, ◌∷◌, [], Some, IsSome, IfOk, length, option_map, replicate, slice_get};
 ghost use Rattle.{event_log.specs.declared.ids.{LockId.TheVariants.{Buffer, Pending}, TheConstants.CPUS}, thread_blocks.specs.Queues.is_in};
-ghost use Rattle.layer_traits.specs.{QueueBlocks.{homes_in, inner}, Queues.{CallAllowed, answer_of, event, kernel, lock_of}, Payloads.{call_meant, queue_told}};
-ghost use Rattle.{plain_layers.specs.Kernels.{CanDo, IsDone, IsKernel, calls_in, call_room, opening_of}, shared_queue.specs.Opening.AreQueues};
+ghost use Rattle.layer_traits.specs.{Blocks.{QueueBlocks.{homes_in, inner}, Payloads.{call_meant, queue_told}}, Layers.Queues.{CallAllowed, answer_of, event}};
+ghost use Rattle.{layer_traits.specs.Layers.Queues.{kernel, lock_of}, plain_layers.specs.Kernels.{CanDo, IsDone, IsKernel, calls_in, call_room, opening_of}};
+ghost use Rattle.shared_queue.specs.Opening.{AreQueues};
 
 use arrayvec::ArrayVec;
 use event_log::{BufId, CpuId, EventLog, NoMemory, THREADS, Tid};

@@ -2,8 +2,9 @@
 //! memory. No call waits.
 
 ghost use Rattle.std.specs.Prelude.{◌≡◌, ◌+◌, ◌<◌, ◌∷◌, [], IsSome, IfOk, option_map, if◌then◌else◌};
-ghost use Rattle.{event_log.specs.{declared.ids.{TheConstants.CPUS, LockId.LockId}, History.same_lock}, layer_traits.specs.{OneLock.opened, Protocol.section}};
-ghost use Rattle.{layer_traits.specs.Polls.Answers, plain_layers.specs.Tables.{IsSlot, IsTable, opening_in, room_in, sections_noted}};
+ghost use Rattle.{event_log.specs.{declared.ids.{TheConstants.CPUS, LockId.LockId}, History.same_lock}, layer_traits.specs.Protocols.OneLock.opened};
+ghost use Rattle.{layer_traits.specs.{Protocols.Protocol.section, Polling.Polls.Answers}, plain_layers.specs.Tables.{IsSlot, IsTable, opening_in, room_in}};
+ghost use Rattle.plain_layers.specs.Tables.{sections_noted};
 
 use event_log::{CpuId, EventLog, LockId, NoMemory};
 use layer_traits::{Payload, SplitEdit};

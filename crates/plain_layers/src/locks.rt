@@ -105,8 +105,8 @@ impl<E: SplitEdit> Layer<LockLaw<E>> for PlainLock<E> {
 
 impl<E: SplitEdit> OwnedLocks<E> for PlainLock<E> {
     ghost use Rattle.std.specs.Prelude.{◌<◌, IfOk};
-    ghost use Rattle.{layer_traits.specs.OneLock.{AreDistinct, opened}, plain_layers.specs.{Laws.ShownLaws.table_shown, Tables.{opening_in, sections_noted}}};
-    ghost use Rattle.event_log.specs.declared.ids.TheConstants.{CPUS};
+    ghost use Rattle.{layer_traits.specs.Protocols.OneLock.{AreDistinct, opened}, plain_layers.specs.{Laws.ShownLaws.table_shown, Tables.opening_in}};
+    ghost use Rattle.{plain_layers.specs.Tables.sections_noted, event_log.specs.declared.ids.TheConstants.CPUS};
 
     ghost block_at = { λ m lock. opened m.blocks.items lock };
 

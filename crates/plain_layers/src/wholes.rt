@@ -2,8 +2,8 @@
 //! memory and does not wait.
 
 ghost use Rattle.std.specs.Prelude.{◌≡◌, ◌≢◌, ◌+◌, ◌<◌, ◌≤◌, None, IsSome};
-ghost use Rattle.{event_log.specs.declared.ids.{CpuId.CpuId, LockId.TheVariants.Buffer, TheConstants.CPUS}, layer_traits.specs.Payloads.outcome_told};
-ghost use Rattle.{layer_traits.specs.SleepLaw.{MaySleep, sleep_kernel}, plain_layers.specs.Wholes.{IsDoneWhole, asked}};
+ghost use Rattle.{event_log.specs.declared.ids.{CpuId.CpuId, LockId.TheVariants.Buffer, TheConstants.CPUS}, layer_traits.specs.Blocks.Payloads.outcome_told};
+ghost use Rattle.{layer_traits.specs.Layers.SleepLaw.{MaySleep, sleep_kernel}, plain_layers.specs.Wholes.{IsDoneWhole, asked}};
 
 use event_log::BufId;
 use layer_traits::{BufferCall, Outcome, Payload, SleepLaw, Sleeps, ThreadLayer};

@@ -5,10 +5,10 @@ use Rattle.event_log.specs.declared.{ids.{CpuId.CpuId, LockId.LockId, TheConstan
 use Rattle.event_log.specs.{Grants.ticket_in, History.same_lock, WordsLog.{IsLegalWords, Idle, Waiting, Holding, draws, frees, lock_phase}}
 use Rattle.{event_log.{specs.Sections.block_after, proofs.Same.{same_lock_self, same_lock_true}}, layer_traits.proofs.OneLockLemmas.counts_elsewhere}
 use Rattle.layer_traits.proofs.OneLockLemmas.{event_lock, lock_phase_own, elsewhere, drew, missed, hit, freed, hit_finds, fresh, serves_exactly}
-use Rattle.layer_traits.{proofs.Seen.{words_legal, sections_allowed}, specs.{declared.edits.Mark.Mark, OneLock.{HomeFits, opened}, Protocol.Rules}}
-use Rattle.{layer_traits.specs.{Protocol.{StaysAllowed, section}, WordsProtocol.{MayCome, sections}}, plain_machine.proofs.TableLemmas.{cell_within, cell_put}}
-use Rattle.plain_machine.{proofs.TableLemmas.cell_other, specs.{declared.cells.Cell.Cell, Machine.{HasCell, IsSound, looked}, Table.{cell_at, with_cell}}}
-use Rattle.plain_machine.specs.Table.{worded_cell, looked_cell, given_cell, HasFresh, AreFresh}
+use Rattle.layer_traits.{proofs.Seen.{words_legal, sections_allowed}, specs.{declared.edits.Mark.Mark, Protocols.{OneLock.{HomeFits, opened}, Protocol.Rules}}}
+use Rattle.{layer_traits.specs.Protocols.{Protocol.{StaysAllowed, section}, WordsProtocol.{MayCome, sections}}, plain_machine.proofs.TableLemmas.cell_within}
+use Rattle.plain_machine.{proofs.TableLemmas.{cell_put, cell_other}, specs.{declared.cells.Cell.Cell, Machine.{HasCell, IsSound, looked}, Table.cell_at}}
+use Rattle.plain_machine.specs.Table.{with_cell, worded_cell, looked_cell, given_cell, HasFresh, AreFresh}
 
 -- a filled table has a fresh cell for each lock that opens
 opens_at : {K B : Type 0} (IsNew : K → Type 0) (blocks : List (LockId × B)) (cells : List (Option (Cell K B))) (lock : LockId)

@@ -4,7 +4,7 @@ use Rattle.std.proofs.Common.{refl, ap, sym, ◌∙◌}
 use Rattle.event_log.specs.{declared.{ids.{CpuId.CpuId, LockId.LockId, TheConstants.CPUS}, events.Event.{Event, TheVariants.Look}}, Grants.ticket_in}
 use Rattle.event_log.{specs.{History.same_lock, WordsLog.{Waiting, frees, draws, lock_phase}}, proofs.Same.same_lock_true}
 use Rattle.layer_traits.{proofs.{OneLockLemmas.{lock_phase_own, elsewhere, missed, serves_exactly}, Seen.words_legal}, specs.declared.edits.Mark.Mark}
-use Rattle.{layer_traits.specs.{OneLock.HomeFits, Protocol.Rules}, plain_machine.specs.{declared.cells.Cell.Cell, Machine.IsSound, Table.cell_at}}
+use Rattle.{layer_traits.specs.Protocols.{OneLock.HomeFits, Protocol.Rules}, plain_machine.specs.{declared.cells.Cell.Cell, Machine.IsSound, Table.cell_at}}
 
 module _ {M : Type 0} (cpu : CpuId) (lock : LockId) (ticket read : ℕ) (old : List (Event M)) where
   abbrev pub noted : ℕ → List (Event M)

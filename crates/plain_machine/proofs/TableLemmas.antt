@@ -1,8 +1,9 @@
 -- A table of cells: what a write leaves, and that a table filled with fresh cells has them all.
 use Rattle.std.proofs.Common.{◌≡◌, ℕ, ◌⊎◌, ◌<◌, ◌≤◌, false, List, [], ◌∷◌, ◌++◌, length, get_or, Option, Some, None, IsSome, ◌∙◌, All, arith}
-use Rattle.{std.proofs.lemmas.List.{get_or_past, get_or-set_same, get_or-set_other, Elements.{All-head, All-tail}}, event_log.specs.declared.ids.LockId.LockId}
-use Rattle.{event_log.{specs.{History.same_lock, Locks.lock_number}, proofs.Same.lock_number_other}, layer_traits.specs.OneLock.{AreDistinct, IsMissing}}
-use Rattle.plain_machine.specs.{declared.cells.Cell.Cell, Table.{cell_at, with_cell, given_cell, AreFresh}}
+use Rattle.std.proofs.lemmas.List.{get_or_past, get_or-set_same, get_or-set_other, Elements.{All-head, All-tail}}
+use Rattle.event_log.{specs.{declared.ids.LockId.LockId, History.same_lock, Locks.lock_number}, proofs.Same.lock_number_other}
+use Rattle.{layer_traits.specs.Protocols.OneLock.{AreDistinct, IsMissing}, plain_machine.specs.{declared.cells.Cell.Cell, Table.{cell_at, with_cell}}}
+use Rattle.plain_machine.specs.Table.{given_cell, AreFresh}
 
 module _ {K B : Type 0} (cells : List (Option (Cell K B))) (lock : LockId) where
   -- a lock that has a cell has its slot within the table

@@ -1,8 +1,9 @@
 -- What the owned machine shows, and when its table agrees with its log.
 use Rattle.std.specs.Prelude.{◌≡◌, ℕ, ◌-◌, ◌%◌, ◌^◌, ◌<◌, List, ◌∷◌, reverse, sum_by, Option, Some, IsSome}
 use Rattle.event_log.specs.{declared.{ids.{CpuId.CpuId, LockId.LockId, TheConstants.CPUS}, events.Event.Event}, History.IsLawful, Log.{events_in, room_of}}
-use Rattle.{event_log.specs.WordsLog.{draws, frees}, layer_traits.specs.{declared.edits.Mark.Mark, OneLock.HomeFits, Protocol.Rules, WordsProtocol.MayCome}}
-use Rattle.plain_machine.specs.{declared.{cells.Cell.Cell, notes.Notes.Notes}, Stored.{told, weight}, Table.cell_at}
+use Rattle.{event_log.specs.WordsLog.{draws, frees}, layer_traits.specs.{declared.edits.Mark.Mark, Protocols.{OneLock.HomeFits, Protocol.Rules}}}
+use Rattle.{layer_traits.specs.Protocols.WordsProtocol.MayCome, plain_machine.specs.{declared.{cells.Cell.Cell, notes.Notes.Notes}, Stored.{told, weight}}}
+use Rattle.plain_machine.specs.Table.{cell_at}
 use Rattle.event_log.specs.declared.events.Event.TheVariants as event
 
 -- the history that a log stores, newest first

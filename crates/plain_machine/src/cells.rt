@@ -2,7 +2,7 @@
 //! takes memory. No call waits.
 
 ghost use Rattle.std.specs.Prelude.{◌≡◌, ℕ, Bool, ◌+◌, ◌%◌, ◌^◌, ◌<◌, ◌≤◌, ◌==◌, IsSome, IfSome, IfOk, All, Some, None, option_map, if◌then◌else◌, length};
-ghost use Rattle.{event_log.specs.{Locks.lock_number, declared.ids.TheConstants.CPUS}, layer_traits.specs.OneLock.AreDistinct};
+ghost use Rattle.{event_log.specs.{Locks.lock_number, declared.ids.TheConstants.CPUS}, layer_traits.specs.Protocols.OneLock.AreDistinct};
 ghost use Rattle.plain_machine.specs.Table.{cell_at, with_cell, worded_cell, looked_cell, given_cell, AreFresh};
 
 use crate::line_words::LineWords;

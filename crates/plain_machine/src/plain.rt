@@ -26,9 +26,9 @@ pub struct Plain<E: SplitEdit, K: LineWords = LockWords> {
 pub type GrantPlain<E> = Plain<E, Granting>;
 
 impl<E: SplitEdit, K: LineWords> Plain<E, K> {
-    ghost use Rattle.event_log.specs.{Sections.block_after, declared.ids.CpuId.CpuId, declared.ids.TheConstants.CPUS};
-    ghost use Rattle.layer_traits.specs.{OneLock.AreDistinct, OneLock.SomeoneInside, OneLock.opened, WordsProtocol.sections};
-    ghost use Rattle.plain_machine.specs.{Machine.IsServed, Machine.history, Machine.room_left, Table.home_at};
+    ghost use Rattle.{event_log.specs.{Sections.block_after, declared.ids.{CpuId.CpuId, TheConstants.CPUS}}, layer_traits.specs.Protocols.OneLock.AreDistinct};
+    ghost use Rattle.{layer_traits.specs.Protocols.{OneLock.{SomeoneInside, opened}, WordsProtocol.sections}, plain_machine.specs.Machine.{IsServed, history}};
+    ghost use Rattle.plain_machine.specs.{Machine.room_left, Table.home_at};
 
     /// A machine in which each lock has its block at home and nobody has been at its words, with
     /// room for `room` events.
@@ -111,8 +111,8 @@ impl<E: SplitEdit> Plain<E, Granting> {
 }
 
 impl<E: SplitEdit, K: LineWords> Words for Plain<E, K> {
-    ghost use Rattle.{event_log.specs.declared.ids.TheConstants.CPUS, layer_traits.specs.OneLock.opened, plain_machine.specs.Machine.{IsServed, history}};
-    ghost use Rattle.plain_machine.specs.Machine.{room_left};
+    ghost use Rattle.{event_log.specs.declared.ids.TheConstants.CPUS, layer_traits.specs.Protocols.OneLock.opened, plain_machine.specs.Machine.IsServed};
+    ghost use Rattle.plain_machine.specs.Machine.{history, room_left};
 
     type Edit = E;
 
@@ -174,7 +174,7 @@ impl<E: SplitEdit, K: LineWords> Words for Plain<E, K> {
 }
 
 impl<E: SplitEdit, K: LineWords> OwnedWords for Plain<E, K> {
-    ghost use Rattle.{event_log.specs.declared.ids.TheConstants.CPUS, layer_traits.specs.OneLock.{AreDistinct, opened}};
+    ghost use Rattle.{event_log.specs.declared.ids.TheConstants.CPUS, layer_traits.specs.Protocols.OneLock.{AreDistinct, opened}};
     ghost use Rattle.plain_machine.specs.{Laws.HomeLaws.home_reads, Machine.history, Table.home_at};
 
     ghost block_at = { λ w lock. home_at w.cells.items lock };

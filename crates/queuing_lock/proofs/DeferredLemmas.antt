@@ -1,16 +1,17 @@
 -- What is kept agrees with the call under way and the hand: an outcome is kept of a call inside or of a release alone.
 use Rattle.std.proofs.Common.{◌≡◌, Bool, true, false, ◌&&◌, not, if◌then◌else◌, List, [], Option, Some, None, option_map, is_some, IsSome, refl, ap, sym, ◌∙◌}
-use Rattle.{std.proofs.Common.subst, event_log.specs.declared.ids.{BufId.BufId, CpuId.CpuId, LockId.{LockId, TheVariants.Buffer}, Tid.Tid}}
-use Rattle.{event_log.specs.Sections.block_after, layer_traits.specs.declared.locked.{QEdit.{QEdit, TheVariants.{Acquire, Inside, Release}}, QOut.QOut}}
-use Rattle.layer_traits.specs.declared.{moves.WaitList.{WaitList, TheVariants.{Sleepers, Receivers, Senders}}, queue_edits.QueueBlock.QueueBlock}
+use Rattle.std.proofs.Common.{subst}
+use Rattle.event_log.specs.{declared.ids.{BufId.BufId, CpuId.CpuId, LockId.{LockId, TheVariants.Buffer}, Tid.Tid}, Sections.block_after}
+use Rattle.layer_traits.specs.declared.{locked.{QEdit.{QEdit, TheVariants.{Acquire, Inside, Release}}, QOut.QOut}, moves.WaitList.WaitList}
+use Rattle.layer_traits.specs.declared.{moves.WaitList.TheVariants.{Sleepers, Receivers, Senders}, queue_edits.QueueBlock.QueueBlock}
 use Rattle.layer_traits.specs.declared.{queues.QueueEvent.QueueEvent, scheds.SchedCall.{SchedCall, TheVariants.{Pass, OnBuffer}}, passes.Pass.Pass as PassCall}
-use Rattle.layer_traits.specs.{declared.sleeps.Outcome.Outcome, QLocking.{AreAtRest, IsAtRest, LockRules, LockState, wait_list_asked, wait_list_slept}}
-use Rattle.layer_traits.specs.{QLocking.{lock_answer, lock_edited, lock_moves, lock_out, asker_report}, QLockLaw.{IsAcquire, lock_kernel}, Places.Threads}
-use Rattle.layer_traits.specs.{QueueBlocks.inner, Queues.buffer_sections, Renaming.{renamed_sched, viewed}, Passes.{own_slept, passed_on}, Plans.Left}
-use Rattle.layer_traits.specs.{Scheds.own_answered, SleepLaw.{PollResult, MayCall, MayDo, Sleeping, Waits, Does, Sends, left_with, must_send}}
-use Rattle.layer_traits.{specs.Sleeping.{NobodySleeps, SleepState, wait_list_at}, proofs.KernelRenaming.inner_viewed}
-use Rattle.queuing_lock.specs.{declared.edits.{QBlock.QBlock, QLockEdit.QLockEdit}, Nested.{as_section, edit_in, nested_lock_of}, Parts.DeferredFits}
-use Rattle.queuing_lock.specs.Parts.{is_queued}
+use Rattle.layer_traits.specs.{declared.sleeps.Outcome.Outcome, Layers.QLocking.{AreAtRest, IsAtRest, LockRules, LockState, wait_list_asked, wait_list_slept}}
+use Rattle.layer_traits.specs.Layers.{QLocking.{lock_answer, lock_edited, lock_moves, lock_out, asker_report}, QLockLaw.{IsAcquire, lock_kernel}}
+use Rattle.layer_traits.specs.Layers.{Queues.buffer_sections, Scheds.own_answered, SleepLaw.{PollResult, MayCall, MayDo, Sleeping, Waits, Does, Sends}}
+use Rattle.layer_traits.specs.{Layers.{SleepLaw.{left_with, must_send}, Sleeping.{NobodySleeps, SleepState, wait_list_at}}, Threads.Places.Threads}
+use Rattle.layer_traits.specs.{Threads.Passes.{own_slept, passed_on}, Blocks.QueueBlocks.inner, Views.Renaming.{renamed_sched, viewed}, Polling.Plans.Left}
+use Rattle.{layer_traits.proofs.KernelRenaming.inner_viewed, queuing_lock.specs.{declared.edits.{QBlock.QBlock, QLockEdit.QLockEdit}, Nested.as_section}}
+use Rattle.queuing_lock.specs.{Nested.{edit_in, nested_lock_of}, Parts.{DeferredFits, is_queued}}
 
 nobody_in : {B : Type 0} (line : WaitList) (o : Option (SleepState (QBlock B))) → IsAtRest (option_map nested_lock_of o) → wait_list_at line o ≡ []
 nobody_in Sleepers None rest = refl

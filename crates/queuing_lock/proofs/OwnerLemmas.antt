@@ -2,10 +2,11 @@
 use Rattle.std.proofs.Common.{◌≡◌, ◌≢◌, false, List, ◌++◌, Option, Some, None}
 use Rattle.event_log.specs.{declared.ids.{BufId.BufId, CpuId.CpuId, LockId.{LockId, TheVariants.Buffer}, Tid.Tid}, History.{AreOthers, IsLawful}}
 use Rattle.layer_traits.specs.declared.{locked.QEdit.{QEdit, TheVariants.{Acquire, Inside, Release}}, moves.WaitList.TheVariants.Sleepers}
-use Rattle.layer_traits.specs.{declared.{queue_edits.QueueBlock.QueueBlock, queues.QueueEvent.QueueEvent}, QLocking.{IsOwners, LockRules, LockState}}
-use Rattle.layer_traits.specs.{QLocking.{wait_list_in, lock_after, lock_caller, owner_in, owner_of}, QLockLaw.lock_kernel, Places.home_of, QueueBlocks.homes_in}
-use Rattle.{layer_traits.specs.{QueueBlocks.inner, Queues.{QueueAllowed, buffer_sections, cpu_of_queue_event}}, thread_blocks.specs.Queues.is_in}
-use Rattle.queuing_lock.specs.{Laws.Steady.{keeps_nothing, keeps_owned, preserved_by_others}, Steady.{HasNothing, IsPreserved, IsOwner}}
+use Rattle.layer_traits.specs.{declared.{queue_edits.QueueBlock.QueueBlock, queues.QueueEvent.QueueEvent}, Layers.QLocking.{IsOwners, LockRules, LockState}}
+use Rattle.layer_traits.specs.Layers.{QLocking.{wait_list_in, lock_after, lock_caller, owner_in, owner_of}, QLockLaw.lock_kernel, Queues.QueueAllowed}
+use Rattle.layer_traits.specs.{Layers.Queues.{buffer_sections, cpu_of_queue_event}, Threads.Places.home_of, Blocks.QueueBlocks.{homes_in, inner}}
+use Rattle.{thread_blocks.specs.Queues.is_in, queuing_lock.specs.{Laws.Steady.{keeps_nothing, keeps_owned, preserved_by_others}, Steady.HasNothing}}
+use Rattle.queuing_lock.specs.Steady.{IsPreserved, IsOwner}
 
 module _ {F R B O : Type 0} (rules : LockRules F R B O) (opening : LockId → Option (QueueBlock (LockState B))) where
   nothing_at : (t : Tid) (o : Option (LockState B)) → owner_in o ≢ Some t → is_in t (wait_list_in Sleepers o) ≡ false → HasNothing rules t o

@@ -5,15 +5,16 @@ use Rattle.event_log.specs.{declared.ids.{BufId.BufId, CpuId.CpuId, LockId.{Lock
 use Rattle.event_log.{specs.{Actions.renamed, History.IsLawful, Sections.renamed_section}, proofs.BoolLemmas.none_of}
 use Rattle.layer_traits.specs.declared.{locked.{QEdit.{QEdit, TheVariants.{Acquire, Inside, Release}}, QOut.QOut}, passes.Pass.Pass, payloads.Parcel.Parcel}
 use Rattle.layer_traits.specs.declared.{queue_edits.{QueueBlock.QueueBlock, QueueEdit.QueueEdit, QueueAnswer.QueueAnswer}, queues.QueueEvent.QueueEvent}
-use Rattle.layer_traits.specs.{declared.{scheds.SchedCall.SchedCall, moves.WaitList.TheVariants.Sleepers, sleeps.Outcome.Outcome}, ListsAgree.ListsAgree}
-use Rattle.layer_traits.specs.{ListsAgree.is_at, QLocking.{LockAllowed, LockRules, LockState, wait_list_in, lock_after, lock_caller, lock_moves, lock_rules}}
-use Rattle.layer_traits.specs.QLockLaw.{LockPolled, Locking, MayGo, MayLock, left_after, left_handed, lock_pass_plan, lock_plan, locks_passed, HasOrAwaits}
-use Rattle.layer_traits.specs.{QLockLaw.{plan_for, slept_for}, Payloads.lock_meant, Places.{AreMoves, Stands, home_of, one_if, wait_channel_of}, Plans.Follows}
-use Rattle.layer_traits.specs.{Plans.{Left, Plan, raised, table_of}, QueueBlocks.{StartsWell, homes_in, inner}, QueueRules.queue_rules, Queues.QueueAllowed}
-use Rattle.layer_traits.specs.{Queues.{buffer_sections, moves_in}, Renaming.{named, renamed_edit, renamed_events, renamed_sched, viewed}, Scheds.EditStays}
-use Rattle.layer_traits.specs.{SleepLaw.{MayCall, MaySleep, SleepPolled, Sleeping, pass_plan, sleep_plan}, Sleeping.{SleepState, sleep_moves, sleep_rules}}
-use Rattle.layer_traits.proofs.{CallLemmas.follows_raised, KernelRenaming.{follows_named, homes_viewed, stays_renamed}, CountLemmas.not_counted}
-use Rattle.layer_traits.proofs.{PlaceLemmas.current_at, SleepRenaming.{pass_plan_renamed, sleep_plan_renamed, sleeps_renamed}}
+use Rattle.layer_traits.specs.declared.{scheds.SchedCall.SchedCall, moves.WaitList.TheVariants.Sleepers, sleeps.Outcome.Outcome}
+use Rattle.layer_traits.specs.Threads.{ListsAgree.{ListsAgree, is_at}, Places.{AreMoves, Stands, home_of, one_if, wait_channel_of}}
+use Rattle.layer_traits.specs.Layers.QLocking.{LockAllowed, LockRules, LockState, wait_list_in, lock_after, lock_caller, lock_moves, lock_rules}
+use Rattle.layer_traits.specs.Layers.QLockLaw.{LockPolled, Locking, MayGo, MayLock, left_after, left_handed, lock_pass_plan, lock_plan, locks_passed}
+use Rattle.layer_traits.specs.Layers.{QLockLaw.{HasOrAwaits, plan_for, slept_for}, Queues.{QueueAllowed, buffer_sections, moves_in}, Scheds.EditStays}
+use Rattle.layer_traits.specs.Layers.{SleepLaw.{MayCall, MaySleep, SleepPolled, Sleeping, pass_plan, sleep_plan}, Sleeping.{SleepState, sleep_moves}}
+use Rattle.layer_traits.specs.{Layers.Sleeping.sleep_rules, Blocks.{Payloads.lock_meant, QueueBlocks.{StartsWell, homes_in, inner}, QueueRules.queue_rules}}
+use Rattle.layer_traits.specs.{Polling.Plans.{Follows, Left, Plan, raised, table_of}, Views.Renaming.{named, renamed_edit, renamed_events, renamed_sched}}
+use Rattle.layer_traits.{specs.Views.Renaming.viewed, proofs.{CallLemmas.follows_raised, KernelRenaming.{follows_named, homes_viewed, stays_renamed}}}
+use Rattle.layer_traits.proofs.{CountLemmas.not_counted, PlaceLemmas.current_at, SleepRenaming.{pass_plan_renamed, sleep_plan_renamed, sleeps_renamed}}
 use Rattle.queuing_lock.specs.{declared.edits.{QBlock.QBlock, QLockEdit.QLockEdit}, Nested.{as_section, busy_rules, edit_in, nested_lock_of}}
 use Rattle.queuing_lock.specs.{Parts.{DeferredFits, SleptFits, asks_again, slept_left_by}, Laws.NestedLaws.{beneath, here, inner_locks, locks_lawful}}
 use Rattle.queuing_lock.{specs.Laws.NestedLaws.{locks_lists, locks_moves_legal, locks_stand, locks_wrap}, proofs.DeferredLemmas.{DeferredIn, asks_none}}

@@ -6,15 +6,15 @@ use Rattle.event_log.{specs.History.same_cpu, proofs.{Foreign.lawful_before, Sam
 use Rattle.layer_traits.specs.declared.locked.{QEdit.{QEdit, TheVariants.{Acquire, Inside, Release}}, QOut.{QOut, TheVariants.{Acquired, Queued}}}
 use Rattle.layer_traits.specs.declared.{moves.WaitList.TheVariants.Sleepers, passes.Pass.Pass as PassCall, payloads.Parcel.Parcel}
 use Rattle.layer_traits.specs.declared.{queue_edits.QueueBlock.QueueBlock, queues.{QueueCall.TheVariants.{Push, OnBuffer}, QueueEvent.QueueEvent}}
-use Rattle.layer_traits.specs.{declared.{scheds.SchedAnswer.SchedAnswer, sleeps.Outcome.Outcome}, QLocking.{LockRules, LockState, asked, wait_list_in}}
-use Rattle.layer_traits.specs.{QLocking.{lock_after, lock_answer, lock_caller, lock_edited, lock_moves, owner_in, asker_report}, QLockLaw.HasOrAwaits}
-use Rattle.layer_traits.specs.{QLockLaw.{left_locked, locking, lock_kernel, slept_for}, Passes.queue_for, Payloads.{lock_told, outcome_told}, Places.Threads}
-use Rattle.layer_traits.specs.{Places.home_of, QueueBlocks.{homes_in, inner}, Queues.{Kernel, QueueAllowed, buffer_sections, event}, Plans.Left}
-use Rattle.layer_traits.specs.{Scheds.{SchedPolled, events_of, own_answered, queue_call}, SleepLaw.{PollResult, MayDo, SleepPolled, Sleeping, Waits, Does}}
-use Rattle.{layer_traits.specs.{SleepLaw.{Sends, left_done, left_with, must_send, seen_with}, Sleeping.joined}, thread_blocks.specs.Queues.is_in}
-use Rattle.{thread_blocks.proofs.{Distinct.pushed_in, Members.same_tid_self}, queuing_lock.specs.Parts.{DeferredFits, SleptFits, is_queued, slept_left_by}}
-use Rattle.queuing_lock.{specs.Parts.{slept_left_with, reported_with}, proofs.{DeferredLemmas.deferred_is, SleptLemmas.{slept_result, slept_more}}}
-use Rattle.queuing_lock.proofs.SleptLemmas.{slept_others}
+use Rattle.layer_traits.specs.{declared.{scheds.SchedAnswer.SchedAnswer, sleeps.Outcome.Outcome}, Layers.QLocking.{LockRules, LockState, asked, wait_list_in}}
+use Rattle.layer_traits.specs.Layers.{QLocking.{lock_after, lock_answer, lock_caller, lock_edited, lock_moves, owner_in, asker_report}, QLockLaw.HasOrAwaits}
+use Rattle.layer_traits.specs.Layers.{QLockLaw.{left_locked, locking, lock_kernel, slept_for}, Queues.{Kernel, QueueAllowed, buffer_sections, event}}
+use Rattle.layer_traits.specs.Layers.{Scheds.{SchedPolled, events_of, own_answered, queue_call}, SleepLaw.{PollResult, MayDo, SleepPolled, Sleeping, Waits}}
+use Rattle.layer_traits.specs.{Layers.{SleepLaw.{Does, Sends, left_done, left_with, must_send, seen_with}, Sleeping.joined}, Threads.Passes.queue_for}
+use Rattle.layer_traits.specs.{Threads.Places.{Threads, home_of}, Blocks.{Payloads.{lock_told, outcome_told}, QueueBlocks.{homes_in, inner}}}
+use Rattle.{layer_traits.specs.Polling.Plans.Left, thread_blocks.{specs.Queues.is_in, proofs.{Distinct.pushed_in, Members.same_tid_self}}}
+use Rattle.queuing_lock.{specs.Parts.{DeferredFits, SleptFits, is_queued, slept_left_by, slept_left_with, reported_with}, proofs.DeferredLemmas.deferred_is}
+use Rattle.queuing_lock.proofs.SleptLemmas.{slept_result, slept_more, slept_others}
 use Rattle.layer_traits.specs.declared.passes.Pass.TheVariants as pass
 use Rattle.layer_traits.specs.declared.scheds.SchedCall.TheVariants as call
 

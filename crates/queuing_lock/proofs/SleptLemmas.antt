@@ -2,10 +2,10 @@
 use Rattle.std.proofs.Common.{◌≡◌, ◌⊎◌, inl, inr, ℕ, zero, suc, List, [], ◌∷◌, ◌++◌, Option, Some, None, slice_index_or, slice_set, replicate, refl, ap, sym}
 use Rattle.std.proofs.{Common.{◌∙◌, subst}, Math.Path.transport, lemmas.Option.same_Some}
 use Rattle.event_log.specs.{declared.ids.{BufId.BufId, CpuId.CpuId, LockId.{LockId, TheVariants.Buffer}, Tid.Tid}, History.{AreOthers, IsLawful}}
-use Rattle.layer_traits.specs.{declared.{locked.{QEdit.QEdit, QOut.QOut}, queue_edits.QueueBlock.QueueBlock, queues.QueueEvent.QueueEvent}, QLocking.LockRules}
-use Rattle.layer_traits.specs.{QLocking.{LockState, lock_caller}, QLockLaw.{HasOrAwaits, lock_kernel, slept_for}, Queues.{QueueAllowed, cpu_of_queue_event}}
-use Rattle.{layer_traits.specs.SleepLaw.{PollResult, Waits, Does, Sends, seen_with}, queuing_lock.specs.Laws.Steady.{keeps_awaits, preserved_by}}
-use Rattle.queuing_lock.specs.{Laws.Steady.preserved_by_others, Parts.{SleptFits, SleptOne}}
+use Rattle.layer_traits.specs.declared.{locked.{QEdit.QEdit, QOut.QOut}, queue_edits.QueueBlock.QueueBlock, queues.QueueEvent.QueueEvent}
+use Rattle.layer_traits.specs.Layers.{QLocking.{LockRules, LockState, lock_caller}, QLockLaw.{HasOrAwaits, lock_kernel, slept_for}, Queues.QueueAllowed}
+use Rattle.layer_traits.specs.Layers.{Queues.cpu_of_queue_event, SleepLaw.{PollResult, Waits, Does, Sends, seen_with}}
+use Rattle.queuing_lock.specs.{Laws.Steady.{keeps_awaits, preserved_by, preserved_by_others}, Parts.{SleptFits, SleptOne}}
 
 -- what stands in a list in which one was set stands there because it was set, or stood there before
 pub set_reads : {A : Type 0} (xs : List (Option A)) (i j : ℕ) (v : Option A) (a : A) → slice_index_or (slice_set xs i v) j None ≡ Some a

@@ -2,8 +2,8 @@
 use Rattle.{std.specs.Prelude.{map, Option, Some, None, option_map}, event_log.specs.{declared.ids.{LockId.LockId, Tid.Tid}, Sections.renamed_section}}
 use Rattle.layer_traits.specs.declared.locked.{QEdit.{QEdit, TheVariants.{Acquire, Inside, Release}}, QOut.{QOut, TheVariants.{Acquired, Queued, Did}}}
 use Rattle.layer_traits.specs.declared.{locked.{QOut.TheVariants.Released, WakeWaiter.WakeWaiter}, payloads.Parcel.Parcel, sleeps.Wake.Wake}
-use Rattle.layer_traits.specs.{declared.sleeps.Wake.TheVariants.{Nobody, FirstSleeper, Receiver, Sender}, QLocking.{LockAllowed, LockRules, LockState}}
-use Rattle.layer_traits.specs.{QLocking.{wait_list_slept, lock_caller, asker_report}, Payloads.lock_meant, Sleeping.{SleepRules, SleepState}}
+use Rattle.layer_traits.specs.{declared.sleeps.Wake.TheVariants.{Nobody, FirstSleeper, Receiver, Sender}, Layers.QLocking.{LockAllowed, LockRules, LockState}}
+use Rattle.layer_traits.specs.{Layers.{QLocking.{wait_list_slept, lock_caller, asker_report}, Sleeping.{SleepRules, SleepState}}, Blocks.Payloads.lock_meant}
 use Rattle.queuing_lock.specs.declared.edits.{QBlock.QBlock, QLockEdit.QLockEdit}
 use Rattle.layer_traits.specs.declared.locked.WakeWaiter.TheVariants as signal
 

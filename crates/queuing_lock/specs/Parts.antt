@@ -3,9 +3,9 @@ use Rattle.std.specs.Prelude.{◌≡◌, Bool, true, false, List, Option, Some, 
 use Rattle.event_log.specs.declared.ids.{BufId.BufId, CpuId.CpuId, LockId.{LockId, TheVariants.Buffer}, Tid.Tid}
 use Rattle.layer_traits.specs.declared.locked.{QEdit.{QEdit, TheVariants.{Acquire, Inside, Release}}, QOut.{QOut, TheVariants.{Acquired, Queued, Did}}}
 use Rattle.layer_traits.specs.declared.{locked.QOut.TheVariants.Released, queue_edits.QueueBlock.QueueBlock, queues.QueueEvent.QueueEvent}
-use Rattle.layer_traits.specs.{declared.{scheds.SchedCall.{SchedCall, TheVariants.{Pass, OnBuffer}}, sleeps.Outcome.Outcome}, QLocking.{LockRules, LockState}}
-use Rattle.layer_traits.specs.{QLocking.lock_after, QLockLaw.{HasOrAwaits, IsAcquire, slept_for}, Places.home_of, QueueBlocks.{homes_in, inner}}
-use Rattle.layer_traits.specs.Queues.{buffer_sections}
+use Rattle.layer_traits.specs.{declared.{scheds.SchedCall.{SchedCall, TheVariants.{Pass, OnBuffer}}, sleeps.Outcome.Outcome}, Layers.QLocking.LockRules}
+use Rattle.layer_traits.specs.Layers.{QLocking.{LockState, lock_after}, QLockLaw.{HasOrAwaits, IsAcquire, slept_for}, Queues.buffer_sections}
+use Rattle.layer_traits.specs.{Threads.Places.home_of, Blocks.QueueBlocks.{homes_in, inner}}
 
 -- who slept for which lock after a call of t was told this: who is queued sleeps
 abbrev pub slept_left_with : {O : Type 0} → Tid → BufId → List (Option BufId) → QOut O → List (Option BufId)

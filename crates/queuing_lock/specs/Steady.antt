@@ -1,8 +1,8 @@
 -- What is true of a lock and stays so while other threads call.
 use Rattle.std.specs.Prelude.{◌≡◌, ◌≢◌, false, Option, Some, None}
 use Rattle.{event_log.specs.declared.ids.{CpuId.CpuId, LockId.LockId, Tid.Tid}, layer_traits.specs.declared.locked.QEdit.QEdit}
-use Rattle.layer_traits.specs.{declared.queue_edits.QueueBlock.QueueBlock, QLocking.{IsOwners, LockRules, LockState, lock_caller, lock_edited, owner_in}}
-use Rattle.{layer_traits.specs.{Places.home_of, QueueBlocks.homes_in}, thread_blocks.specs.Queues.is_in}
+use Rattle.layer_traits.specs.{declared.queue_edits.QueueBlock.QueueBlock, Layers.QLocking.{IsOwners, LockRules, LockState, lock_caller, lock_edited, owner_in}}
+use Rattle.{layer_traits.specs.{Threads.Places.home_of, Blocks.QueueBlocks.homes_in}, thread_blocks.specs.Queues.is_in}
 
 -- what is true of a lock stays so by each call of the owner that another thread makes
 abbrev pub Keeps : {F R B O : Type 0} → LockRules F R B O → Tid → (Option (LockState B) → Type 0) → Type 0

@@ -1,7 +1,8 @@
 //! What the calls on a queuing lock do to its block.
 
 ghost use Rattle.std.specs.Prelude.{◌≡◌};
-ghost use Rattle.{layer_traits.specs.{QLocking.wait_list_for, Payloads.lock_told}, queuing_lock.specs.Nested.{busy_rules, leaving, section_meant}};
+ghost use Rattle.{layer_traits.specs.{Layers.QLocking.wait_list_for, Blocks.Payloads.lock_told}, queuing_lock.specs.Nested.{busy_rules, leaving}};
+ghost use Rattle.queuing_lock.specs.Nested.{section_meant};
 
 use event_log::Tid;
 use layer_traits::{

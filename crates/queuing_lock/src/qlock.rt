@@ -19,10 +19,11 @@ pub struct QLock<S> {
 impl<F: Locked, S: ThreadLayer<SleepLaw<QLockEdit<F, F::Release>>>> ThreadLayer<QLockLaw<F>>
     for QLock<S> {
     ghost use Rattle.std.proofs.Common.{map, option_map, ap, ◌∙◌};
-    ghost use Rattle.{event_log.{specs.Actions.renamed, proofs.Renaming.legal_renamed}, layer_traits.specs.Renaming.{renamed_edit, renamed_events}};
-    ghost use Rattle.layer_traits.{specs.Renaming.{renamed_sched, viewed}, proofs.KernelRenaming.{known_renamed, proper_renamed, seen_renamed, starts_viewed}};
-    ghost use Rattle.queuing_lock.specs.{Laws.NestedLaws.{locks_busy, locks_lawful, locks_lists, locks_moves_legal, locks_stand, none_beneath}, Nested.edit_in};
-    ghost use Rattle.queuing_lock.specs.{Nested.nested_lock_of, Parts.{DeferredFits, SleptFits}};
+    ghost use Rattle.{event_log.{specs.Actions.renamed, proofs.Renaming.legal_renamed}, layer_traits.specs.Views.Renaming.{renamed_edit, renamed_events}};
+    ghost use Rattle.layer_traits.{specs.Views.Renaming.{renamed_sched, viewed}, proofs.KernelRenaming.{known_renamed, proper_renamed, seen_renamed}};
+    ghost use Rattle.{layer_traits.proofs.KernelRenaming.starts_viewed, queuing_lock.specs.Laws.NestedLaws.{locks_busy, locks_lawful, locks_lists}};
+    ghost use Rattle.queuing_lock.specs.{Laws.NestedLaws.{locks_moves_legal, locks_stand, none_beneath}, Nested.{edit_in, nested_lock_of}, Parts.DeferredFits};
+    ghost use Rattle.queuing_lock.specs.Parts.{SleptFits};
 
     type Machine = S::Machine;
 

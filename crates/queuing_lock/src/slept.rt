@@ -1,7 +1,7 @@
 //! Who sleeps for which lock. No call takes memory or waits.
 
 ghost use Rattle.std.specs.Prelude.{◌≡◌, ◌<◌, Some, None, is_some, replicate, slice_set, if◌then◌else◌};
-ghost use Rattle.{event_log.specs.declared.ids.TheConstants.THREADS, layer_traits.specs.QLockLaw.slept_for, queuing_lock.specs.Parts.asks_again};
+ghost use Rattle.{event_log.specs.declared.ids.TheConstants.THREADS, layer_traits.specs.Layers.QLockLaw.slept_for, queuing_lock.specs.Parts.asks_again};
 ghost use Rattle.queuing_lock.specs.Parts.{slept_left_by, reported_by};
 
 use event_log::{BufId, THREADS, Tid};

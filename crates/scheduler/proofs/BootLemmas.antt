@@ -1,7 +1,8 @@
 -- The threads at home on a CPU, home by home.
 use Rattle.std.proofs.Common.{◌≡◌, ℕ, ◌+◌, ◌<◌, ◌≤◌, min, Bool, true, false, List, [], ◌∷◌, ◌++◌, length, take, get_or, if◌then◌else◌, refl, ap, ◌∙◌, arith}
-use Rattle.{std.proofs.lemmas.{Bool.{eq-eqb, ne_eqb}, List.{take_more, length-take}}, event_log.specs.{declared.ids.{CpuId.CpuId, Tid.Tid}, History.same_cpu}}
-use Rattle.{thread_blocks.{specs.Queues.is_in, proofs.Members.tid_numbered}, layer_traits.specs.Places.homed}
+use Rattle.std.proofs.lemmas.{Bool.{eq-eqb, ne_eqb}, List.{take_more, length-take}}
+use Rattle.{event_log.specs.{declared.ids.{CpuId.CpuId, Tid.Tid}, History.same_cpu}, thread_blocks.{specs.Queues.is_in, proofs.Members.tid_numbered}}
+use Rattle.layer_traits.specs.Threads.Places.{homed}
 
 -- one home more: its thread stands last, if it is at home here
 homed_more : (c : CpuId) (n : ℕ) (homes : List CpuId) (home : CpuId)

@@ -6,15 +6,16 @@ use Rattle.event_log.specs.{declared.ids.{BufId.BufId, CpuId.CpuId, LockId.{Lock
 use Rattle.{event_log.specs.History.{Grows, IsLawful, same_cpu}, layer_traits.specs.declared.passes.Pass.TheVariants.{Switch, MakeReady, End}}
 use Rattle.layer_traits.specs.declared.{queue_edits.{QueueBlock.QueueBlock, QueueAnswer.QueueAnswer}, queues.QueueCall.{QueueCall, TheVariants.{Push, TakeAll}}}
 use Rattle.layer_traits.specs.declared.{queues.{QueueCall.TheVariants.OnBuffer, QueueEvent.QueueEvent}, scheds.SchedAnswer.TheVariants.Done}
-use Rattle.layer_traits.specs.{declared.scheds.SchedCall.SchedCall, MoveRules.{MoveRules, WakesSleepers, edit_move}, Passes.{or_else, queue_for}}
-use Rattle.layer_traits.specs.Places.{AreMoves, Where, MayEdit, MayMove, Stands, Threads, home_of, is_asleep, is_home, pending_by, step, where_is}
-use Rattle.layer_traits.specs.{Plans.answered, Protocol.{Rules, section}, QueueBlocks.{StartsWell, homes_in}, Queues.{CallAllowed, Kernel, buffer_sections}}
-use Rattle.layer_traits.specs.Queues.{MayQueue, QueueAllowed, QueuePolled, answer_of, call_move, event, cpu_of_queue_event, kernel, lock_of, moves_in, out_at}
-use Rattle.layer_traits.specs.Scheds.{BufferIsThere, EditStays, MaySched, SchedPolled, StateFor, answer_by, answer_to, events_of, own_after, own_by}
-use Rattle.layer_traits.{specs.Scheds.queue_call, proofs.CallLemmas.{moves_append, moves_lawful, moves_others, moves_over, woken_sleeps}}
-use Rattle.layer_traits.proofs.{CountLemmas.not_counted, PlaceLemmas.{away_from, away_known, current_at, current_new, hand_free, hand_at, pending_at}}
-use Rattle.layer_traits.proofs.PlaceLemmas.{stands_finished, stands_moved, stands_others, stands_pushed, stands_switched, stands_taken, home_there}
-use Rattle.scheduler.specs.{Owns.{MayFinish, MayJoin, MaySettle, MayTake, local_after}, Parts.{IsCalling, PartFits, UnderFits, sched_call, sched_under}}
+use Rattle.layer_traits.specs.{declared.scheds.SchedCall.SchedCall, Threads.{MoveRules.{MoveRules, WakesSleepers, edit_move}, Passes.{or_else, queue_for}}}
+use Rattle.layer_traits.specs.Threads.Places.{AreMoves, Where, MayEdit, MayMove, Stands, Threads, home_of, is_asleep, is_home, pending_by, step, where_is}
+use Rattle.layer_traits.specs.{Polling.Plans.answered, Protocols.Protocol.{Rules, section}, Blocks.QueueBlocks.{StartsWell, homes_in}}
+use Rattle.layer_traits.specs.Layers.Queues.{CallAllowed, Kernel, buffer_sections, MayQueue, QueueAllowed, QueuePolled, answer_of, call_move, event}
+use Rattle.layer_traits.specs.Layers.{Queues.{cpu_of_queue_event, kernel, lock_of, moves_in, out_at}, Scheds.{BufferIsThere, EditStays, MaySched, SchedPolled}}
+use Rattle.layer_traits.{specs.Layers.Scheds.{StateFor, answer_by, answer_to, events_of, own_after, own_by, queue_call}, proofs.CallLemmas.moves_append}
+use Rattle.layer_traits.proofs.{CallLemmas.{moves_lawful, moves_others, moves_over, woken_sleeps}, CountLemmas.not_counted, PlaceLemmas.{away_from, away_known}}
+use Rattle.layer_traits.proofs.PlaceLemmas.{current_at, current_new, hand_free, hand_at, pending_at, stands_finished, stands_moved, stands_others}
+use Rattle.{layer_traits.proofs.PlaceLemmas.{stands_pushed, stands_switched, stands_taken, home_there}, scheduler.specs.Owns.{MayFinish, MayJoin, MaySettle}}
+use Rattle.scheduler.specs.{Owns.{MayTake, local_after}, Parts.{IsCalling, PartFits, UnderFits, sched_call, sched_under}}
 use Rattle.layer_traits.specs.declared.queue_edits.QueueAnswer.TheVariants as told
 use Rattle.layer_traits.specs.declared.scheds.SchedCall.TheVariants as call
 

@@ -2,8 +2,8 @@
 use Rattle.std.specs.Prelude.{◌≡◌, ◌<◌, false, List, ◌++◌, Option, Some}
 use Rattle.{event_log.specs.declared.ids.{Tid.Tid, TheConstants.THREADS}, thread_blocks.specs.Queues.{is_in, AreApart}}
 use Rattle.layer_traits.specs.declared.{passes.Pass.{Pass, TheVariants.{Switch, YieldNow, Drain, MakeReady, End}}, queue_edits.QueueAnswer.QueueAnswer}
-use Rattle.layer_traits.specs.{declared.{queue_edits.QueueAnswer.TheVariants.{Done, Taken, Answer}, scheds.SchedCall.SchedCall}, MoveRules.MoveRules}
-use Rattle.layer_traits.specs.{Passes.{switched, finished}, Places.Threads}
+use Rattle.layer_traits.specs.{declared.{queue_edits.QueueAnswer.TheVariants.{Done, Taken, Answer}, scheds.SchedCall.SchedCall}, Threads.MoveRules.MoveRules}
+use Rattle.layer_traits.specs.Threads.{Passes.{switched, finished}, Places.Threads}
 use Rattle.layer_traits.specs.declared.scheds.SchedCall.TheVariants as call
 
 -- the thread that runs may end: it has not ended yet

@@ -4,8 +4,8 @@ use Rattle.std.specs.Prelude.{◌≡◌, List, Option, Some, None, IsSome}
 use Rattle.event_log.specs.declared.ids.{CpuId.CpuId, LockId.{LockId, TheVariants.Pending}, Tid.Tid}
 use Rattle.layer_traits.specs.declared.{passes.Pass.TheVariants.{YieldNow, Drain, MakeReady}, queue_edits.QueueBlock.QueueBlock, queues.QueueCall.QueueCall}
 use Rattle.layer_traits.specs.declared.{queues.{QueueCall.TheVariants.{Push, TakeAll, OnBuffer}, QueueEvent.QueueEvent}, scheds.SchedCall.SchedCall}
-use Rattle.layer_traits.specs.{MoveRules.MoveRules, Places.{Threads, Stands}, Protocol.Rules, QueueBlocks.homes_in, Queues.{kernel, moves_in}, Scheds.StateFor}
-use Rattle.layer_traits.specs.Scheds.{queue_call}
+use Rattle.layer_traits.specs.{Threads.{MoveRules.MoveRules, Places.{Threads, Stands}}, Protocols.Protocol.Rules, Blocks.QueueBlocks.homes_in}
+use Rattle.layer_traits.specs.Layers.{Queues.{kernel, moves_in}, Scheds.{StateFor, queue_call}}
 use Rattle.layer_traits.specs.declared.scheds.SchedCall.TheVariants as call
 
 -- the scheduler's call that is at the shared queues with this call: a taking is a yield where a thread runs, and else a drain

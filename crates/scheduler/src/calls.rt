@@ -3,8 +3,9 @@
 //! No call takes memory, and none waits.
 
 ghost use Rattle.std.specs.Prelude.{◌≡◌, Some, None, IfOk, IfErr};
+ghost use Rattle.layer_traits.specs.{declared.payloads.Payload.Payload, Threads.Passes.queue_for, Blocks.Payloads.{call_meant, sched_meant}};
+ghost use Rattle.layer_traits.specs.Layers.Scheds.{queue_call};
 ghost use Rattle.layer_traits.specs.declared.scheds.SchedCall.TheVariants as calls;
-ghost use Rattle.layer_traits.specs.{declared.payloads.Payload.Payload, Passes.queue_for, Payloads.call_meant, Payloads.sched_meant, Scheds.queue_call};
 
 use event_log::{CpuId, Tid};
 use layer_traits::{Moves, Pass, QueueCall, SchedCall};

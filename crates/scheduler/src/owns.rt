@@ -3,9 +3,9 @@
 //! No call takes memory, and none waits.
 
 ghost use Rattle.std.specs.Prelude.{◌≡◌, ◌≤◌, length};
-ghost use Rattle.{event_log.specs.declared.ids.TheConstants.THREADS, layer_traits.specs.{Places.{at_boot, home_of, is_cpu}, Passes.{switched, took}}};
-ghost use Rattle.layer_traits.specs.{Passes.{passed_on, finished, own_slept, own_woken}, Scheds.{own_by, answer_by}, Payloads.{queue_told, sched_told}};
-ghost use Rattle.scheduler.specs.Owns.{MayFinish, MayJoin, MaySettle, MayTake, passed_by};
+ghost use Rattle.{event_log.specs.declared.ids.TheConstants.THREADS, layer_traits.specs.Threads.{Places.{at_boot, home_of, is_cpu}, Passes.{switched, took}}};
+ghost use Rattle.layer_traits.specs.{Threads.Passes.{passed_on, finished, own_slept, own_woken}, Layers.Scheds.{own_by, answer_by}, Blocks.Payloads.queue_told};
+ghost use Rattle.{layer_traits.specs.Blocks.Payloads.sched_told, scheduler.specs.Owns.{MayFinish, MayJoin, MaySettle, MayTake, passed_by}};
 
 use event_log::{CpuId, Tid};
 use layer_traits::{BareQueueAnswer, Moves, OwnThreads, Pass, Payload, SchedAnswer, WaitList};

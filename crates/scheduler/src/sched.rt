@@ -137,8 +137,9 @@ impl<E: Moves, Q: Layer<QueueLaw<E>>> Layer<SchedLaw<E>> for Sched<Q> {
 }
 
 impl<E: Moves, Q: OwnedLayer<QueueLaw<E>>> OwnedLayer<SchedLaw<E>> for Sched<Q> {
-    ghost use Rattle.layer_traits.{proofs.OwnedLemmas.shown_under, specs.{Places.pending_by, QueueBlocks.inner, Queues.{buffer_sections, kernel, moves_in}}};
-    ghost use Rattle.{std.specs.Prelude.Some, event_log.specs.{Sections.block_after, declared.ids.LockId.TheVariants.Buffer}};
+    ghost use Rattle.layer_traits.{proofs.OwnedLemmas.shown_under, specs.{Threads.Places.pending_by, Blocks.QueueBlocks.inner, Layers.Queues.buffer_sections}};
+    ghost use Rattle.{layer_traits.specs.Layers.Queues.{kernel, moves_in}, std.specs.Prelude.Some, event_log.specs.Sections.block_after};
+    ghost use Rattle.event_log.specs.declared.ids.LockId.TheVariants.{Buffer};
 
     ghost block_at = { λ m b. Q.block_at m b };
 

@@ -1,8 +1,8 @@
 -- What a poll or a look of the locks beneath leaves, shared queues leave: they keep nothing of their own.
 use Rattle.std.proofs.Common.{◌≡◌, ℕ, Bool, true, false, List, Option, Some, None, if◌then◌else◌, sym, subst}
 use Rattle.{event_log.specs.{declared.ids.{CpuId.CpuId, LockId.LockId}, Sections.Section}, layer_traits.specs.declared.queue_edits.QueueBlock.QueueBlock}
-use Rattle.layer_traits.specs.{declared.{queue_edits.QueueEdit.QueueEdit, queues.QueueCall.QueueCall}, Framed.Framed, Protocol.section, QueueBlocks.StartsWell}
-use Rattle.layer_traits.{specs.{QueueRules.IsProperCall, Queues.{edit_of, lock_of}}, proofs.NestedLemmas.proper_of}
+use Rattle.layer_traits.specs.{declared.{queue_edits.QueueEdit.QueueEdit, queues.QueueCall.QueueCall}, Polling.Framed.Framed, Protocols.Protocol.section}
+use Rattle.layer_traits.{specs.{Blocks.{QueueBlocks.StartsWell, QueueRules.IsProperCall}, Layers.Queues.{edit_of, lock_of}}, proofs.NestedLemmas.proper_of}
 
 -- the section that a poll leaves under way is that of its call
 pub call_proper : {E : Type 0} (cpu : CpuId) (call : QueueCall E) (ends : Bool) (under : Option (Section (QueueEdit E)))

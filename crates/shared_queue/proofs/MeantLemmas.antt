@@ -1,8 +1,8 @@
 -- The section of a call that is handed on means that of the call that is meant.
 use Rattle.std.proofs.Common.{◌≡◌, refl, ◌∙◌}
 use Rattle.{event_log.specs.declared.ids.{CpuId.CpuId, LockId.LockId}, layer_traits.specs.declared.{payloads.Payload.Payload, queue_edits.QueueEdit.QueueEdit}}
-use Rattle.layer_traits.specs.{declared.queues.QueueCall.{QueueCall, TheVariants.Push}, Payloads.{call_meant, queue_meant}, Protocol.section, Queues.edit_of}
-use Rattle.layer_traits.specs.Queues.{lock_of}
+use Rattle.layer_traits.specs.{declared.queues.QueueCall.{QueueCall, TheVariants.Push}, Blocks.Payloads.{call_meant, queue_meant}, Protocols.Protocol.section}
+use Rattle.layer_traits.specs.Layers.Queues.{edit_of, lock_of}
 
 module _ {H E : Type 0} (meant : H → Payload → E) (payload : Payload) where
   -- the lock is the same, and the edit means that of the call

@@ -1,7 +1,8 @@
 -- What is read off a lock's block, a buffer's block or a queue's threads; and who tells of blocks.
 use Rattle.{std.specs.Prelude.{List, Option, Some, None}, event_log.specs.{declared.ids.{CpuId.CpuId, LockId.LockId, Tid.Tid}, History.IsLawful}}
 use Rattle.{event_log.specs.Sections.Section, layer_traits.specs.declared.queue_edits.QueueBlock.{QueueBlock, TheVariants.{Queue, Above}}}
-use Rattle.layer_traits.specs.{declared.queue_edits.QueueEdit.QueueEdit, MoveRules.MoveRules, Protocol.Rules, QueueBlocks.StartsWell, QueueRules.SectionAllowed}
+use Rattle.layer_traits.specs.{declared.queue_edits.QueueEdit.QueueEdit, Threads.MoveRules.MoveRules, Protocols.Protocol.Rules, Blocks.QueueBlocks.StartsWell}
+use Rattle.layer_traits.specs.Blocks.QueueRules.{SectionAllowed}
 
 -- the block of the layer above, where it is one
 abbrev pub above_in : {B : Type 0} → QueueBlock B → Option B

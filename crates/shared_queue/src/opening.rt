@@ -4,8 +4,8 @@
 
 ghost use Rattle.std.specs.Prelude.{◌≡◌, ◌+◌, ◌≤◌, ◌<◌, ◌++◌, IsSome, IfOk, length, slice_get, vec_len, vec_capacity};
 ghost use Rattle.event_log.specs.declared.ids.{LockId.TheVariants.{Pending, Buffer}, TheConstants.{BUFFERS, CPUS, THREADS}};
-ghost use Rattle.{layer_traits.specs.{OneLock.{AreDistinct, opened}, QueueBlocks.{StartsWell, homes_in, inner}}, shared_queue.specs.Opening.AreEmptyQueues};
-ghost use Rattle.shared_queue.specs.Opening.{AreQueues, buffers_from};
+ghost use Rattle.layer_traits.specs.{Protocols.OneLock.{AreDistinct, opened}, Blocks.QueueBlocks.{StartsWell, homes_in, inner}};
+ghost use Rattle.shared_queue.specs.Opening.{AreEmptyQueues, AreQueues, buffers_from};
 
 use event_log::{BufId, CpuId, LockId, NoMemory};
 use layer_traits::{BlockBox, QueueBlock, kept_homes};

@@ -3,7 +3,7 @@
 //! No call takes memory, and none waits.
 
 ghost use Rattle.std.specs.Prelude.{◌≡◌, refl};
-ghost use Rattle.layer_traits.specs.Queues.{lock_of, edit_of};
+ghost use Rattle.layer_traits.specs.Layers.Queues.{lock_of, edit_of};
 
 use event_log::{BufId, CpuId, LockId, Tid};
 use layer_traits::{
@@ -34,8 +34,9 @@ pub struct SharedQueues<L> {
 
 impl<E: Moves, L: Layer<LockLaw<QueueEdit<E>>>> Layer<QueueLaw<E>> for SharedQueues<L> {
     ghost use Rattle.std.{specs.Prelude.{map, option_map}, proofs.Common.{ap, ◌∙◌, subst, sym}};
-    ghost use Rattle.layer_traits.{specs.{QueueBlocks.StartsWell, QueueRules.{AreProper, IsProperCall}, Queues.event_of}, proofs.NestedLemmas.known_events};
-    ghost use Rattle.{layer_traits.proofs.NestedLemmas.{lawful_events, lawful_proper}, shared_queue.specs.Laws.SharedLaws.{none_beneath, same_busy}};
+    ghost use Rattle.layer_traits.specs.{Blocks.{QueueBlocks.StartsWell, QueueRules.{AreProper, IsProperCall}}, Layers.Queues.event_of};
+    ghost use Rattle.{layer_traits.proofs.NestedLemmas.{known_events, lawful_events, lawful_proper}, shared_queue.specs.Laws.SharedLaws.none_beneath};
+    ghost use Rattle.shared_queue.specs.Laws.SharedLaws.{same_busy};
 
     type Machine = L::Machine;
 
@@ -132,7 +133,7 @@ impl<E: Moves, L: Layer<LockLaw<QueueEdit<E>>>> Layer<QueueLaw<E>> for SharedQue
 
 impl<E: Moves, L: OwnedLocks<QueueEdit<E>>> OwnedLayer<QueueLaw<E>> for SharedQueues<L> {
     ghost use Rattle.{std.specs.Option.option_and_then, event_log.specs.{declared.ids.LockId.TheVariants.{Buffer, Pending}, Sections.block_after}};
-    ghost use Rattle.layer_traits.{proofs.OwnedLemmas.shown_under, specs.{QueueBlocks.StartsWell, QueueRules.{IsProperCall, queue_edited}}};
+    ghost use Rattle.layer_traits.{proofs.OwnedLemmas.shown_under, specs.Blocks.{QueueBlocks.StartsWell, QueueRules.{IsProperCall, queue_edited}}};
     ghost use Rattle.shared_queue.specs.{Laws.OwnedLaws.{buffer_shown, queue_shown}, OwnedLaws.{above_in, queue_in, observers}};
 
     ghost block_at = { λ m b. option_and_then above_in (L.block_at m (Buffer b)) };

@@ -3,13 +3,14 @@ use Rattle.std.proofs.Common.{arith, ◌≡◌, List, Option, Some, None, option
 use Rattle.event_log.specs.{declared.ids.{BufId.BufId, CpuId.CpuId, LockId.LockId, Tid.Tid}, History.IsLawful, Actions.{Action, renamed}}
 use Rattle.layer_traits.specs.declared.{passes.Pass.Pass, payloads.{Parcel.Parcel, Payload.Payload}, queue_edits.{QueueBlock.QueueBlock, QueueEdit.QueueEdit}}
 use Rattle.layer_traits.specs.declared.{queue_edits.QueueAnswer.QueueAnswer, queues.QueueEvent.QueueEvent, scheds.SchedAnswer.{SchedAnswer, TheVariants.Done}}
-use Rattle.layer_traits.specs.{declared.{scheds.SchedCall.SchedCall, sleeps.Outcome.Outcome}, Payloads.{outcome_told, sched_told, told_by}, Places.Stands}
-use Rattle.layer_traits.specs.{Places.Threads, Plans.{Follows, Left, Plan, table_of}, QueueBlocks.{StartsWell, homes_in, inner}, QueueRules.queue_rules}
-use Rattle.layer_traits.specs.{Queues.{QueueAllowed, moves_in}, Renaming.{renamed_edit, renamed_events, renamed_sched, viewed}, Scheds.{MaySched, SchedPolled}}
-use Rattle.layer_traits.specs.{Scheds.{left, sched_plan}, SleepLaw.{MayCall, MaySleep, SleepPolled, Sleeping, done_if, due, left_passed, left_reported}}
-use Rattle.layer_traits.specs.{SleepLaw.{pass_plan, sleep_plan}, Sleeping.{NobodySleeps, SleepRules, wait_list_at, sleep_moves, sleep_rules}}
-use Rattle.layer_traits.proofs.{CallLemmas.follows_raised, KernelRenaming.{follows_named, homes_viewed, inner_viewed, plan_renamed, polled_renamed}}
-use Rattle.{layer_traits.proofs.SleepLemmas.{HandDefers, sleep_polled}, sleep_wakeup.specs.declared.edits.{SleepBlock.SleepBlock, SleepEdit.SleepEdit}}
+use Rattle.layer_traits.specs.{declared.{scheds.SchedCall.SchedCall, sleeps.Outcome.Outcome}, Blocks.Payloads.{outcome_told, sched_told, told_by}}
+use Rattle.layer_traits.specs.{Blocks.{QueueBlocks.{StartsWell, homes_in, inner}, QueueRules.queue_rules}, Threads.Places.{Stands, Threads}}
+use Rattle.layer_traits.specs.{Polling.Plans.{Follows, Left, Plan, table_of}, Layers.{Queues.{QueueAllowed, moves_in}, Scheds.{MaySched, SchedPolled, left}}}
+use Rattle.layer_traits.specs.Layers.{Scheds.sched_plan, SleepLaw.{MayCall, MaySleep, SleepPolled, Sleeping, done_if, due, left_passed, left_reported}}
+use Rattle.layer_traits.specs.Layers.{SleepLaw.{pass_plan, sleep_plan}, Sleeping.{NobodySleeps, SleepRules, wait_list_at, sleep_moves, sleep_rules}}
+use Rattle.layer_traits.{specs.Views.Renaming.{renamed_edit, renamed_events, renamed_sched, viewed}, proofs.CallLemmas.follows_raised}
+use Rattle.layer_traits.proofs.{KernelRenaming.{follows_named, homes_viewed, inner_viewed, plan_renamed, polled_renamed}, SleepLemmas.HandDefers}
+use Rattle.{layer_traits.proofs.SleepLemmas.sleep_polled, sleep_wakeup.specs.declared.edits.{SleepBlock.SleepBlock, SleepEdit.SleepEdit}}
 use Rattle.sleep_wakeup.specs.{declared.deferred.DeferredOutcome.DeferredOutcome, Laws.NestedLaws.{beneath, here, nested_stays, nested_wraps}, Nested.edit_in}
 use Rattle.sleep_wakeup.specs.{Nested.{nested_moves, nested_rules, nested_told, state_of, states}, Parts.{Deferred, DeferredFits, answer_reported, as_edit}}
 use Rattle.sleep_wakeup.specs.Parts.{deferred_of_answer, deferred_told, done_of, parcel_reported, outcome_in, own_of, under_of}

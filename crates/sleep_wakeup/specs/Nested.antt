@@ -1,9 +1,9 @@
 -- A section's edit with the waiting lists of its lock, as an edit of what the lock guards.
 use Rattle.{std.specs.Prelude.{List, [], Option, map, option_map}, event_log.specs.{declared.ids.LockId.LockId, Sections.{Section, renamed_section}}}
 use Rattle.layer_traits.specs.declared.{moves.WaitList.TheVariants.{Sleepers, Receivers, Senders}, payloads.{Parcel.Parcel, Payload.Payload}}
-use Rattle.layer_traits.specs.{declared.sleeps.Outcome.Outcome, MoveRules.MoveRules, Payloads.outcome_told, Protocol.Rules, Sleeping.{IsAwake, NobodySleeps}}
-use Rattle.{layer_traits.specs.Sleeping.{SleepRules, SleepState, wait_list_after, sleep_answer}, sleep_wakeup.specs.declared.edits.SleepBlock.SleepBlock}
-use Rattle.{sleep_wakeup.specs.declared.edits.SleepEdit.SleepEdit, thread_blocks.specs.Queues.first}
+use Rattle.layer_traits.specs.{declared.sleeps.Outcome.Outcome, Threads.MoveRules.MoveRules, Blocks.Payloads.outcome_told, Protocols.Protocol.Rules}
+use Rattle.layer_traits.specs.Layers.Sleeping.{IsAwake, NobodySleeps, SleepRules, SleepState, wait_list_after, sleep_answer}
+use Rattle.{sleep_wakeup.specs.declared.edits.{SleepBlock.SleepBlock, SleepEdit.SleepEdit}, thread_blocks.specs.Queues.first}
 
 -- the edit of the layer above
 abbrev pub edit_in : {E : Type 0} → SleepEdit E → E

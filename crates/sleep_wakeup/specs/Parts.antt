@@ -2,7 +2,7 @@
 use Rattle.std.specs.Prelude.{◌≡◌, Bool, not, ◌&&◌, Option, Some, None, is_some, option_map, if◌then◌else◌}
 use Rattle.{event_log.specs.declared.ids.{BufId.BufId, Tid.Tid}, layer_traits.specs.declared.{passes.Pass.TheVariants.MakeReady, payloads.Parcel.Parcel}}
 use Rattle.layer_traits.specs.declared.{scheds.{SchedCall.SchedCall, SchedAnswer.{SchedAnswer, TheVariants.{Done, Answer}}}, sleeps.Outcome.Outcome}
-use Rattle.layer_traits.specs.{Payloads.outcome_told, Places.Threads, Renaming.renamed_sched, SleepLaw.Sleeping}
+use Rattle.layer_traits.specs.{Blocks.Payloads.outcome_told, Threads.Places.Threads, Views.Renaming.renamed_sched, Layers.SleepLaw.Sleeping}
 use Rattle.sleep_wakeup.specs.{declared.{edits.SleepEdit.SleepEdit, deferred.DeferredOutcome.DeferredOutcome}, Nested.edit_in}
 use Rattle.layer_traits.specs.declared.scheds.SchedCall.TheVariants as call
 

@@ -1,7 +1,7 @@
 //! The outcome of a section whose answer waits until the thread that it woke has left the hand.
 
 ghost use Rattle.std.specs.Prelude.{◌≡◌, Some, None, option_map};
-ghost use Rattle.{layer_traits.specs.{declared.scheds.SchedAnswer.TheVariants.Done, SleepLaw.due}, sleep_wakeup.specs.Parts.{answer_reported, as_edit}};
+ghost use Rattle.{layer_traits.specs.{declared.scheds.SchedAnswer.TheVariants.Done, Layers.SleepLaw.due}, sleep_wakeup.specs.Parts.{answer_reported, as_edit}};
 ghost use Rattle.sleep_wakeup.specs.Parts.{deferred_of_answer, done_of, parcel_reported};
 
 use crate::edits::SleepEdit;

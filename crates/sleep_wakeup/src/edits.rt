@@ -1,8 +1,8 @@
 //! A section's edit with the waiting lists of its lock. No call takes memory or waits.
 
 ghost use Rattle.std.specs.Prelude.{◌≡◌};
-ghost use Rattle.layer_traits.specs.{declared.moves.WaitList.TheVariants.{Sleepers, Receivers, Senders}, Owned.wait_list_with, Sleeping.{joined, left}};
-ghost use Rattle.{layer_traits.specs.Sleeping.{wait_list_joined, woken}, sleep_wakeup.specs.Nested.state_of};
+ghost use Rattle.layer_traits.specs.{declared.moves.WaitList.TheVariants.{Sleepers, Receivers, Senders}, Views.Owned.wait_list_with, Layers.Sleeping.joined};
+ghost use Rattle.{layer_traits.specs.Layers.Sleeping.{left, wait_list_joined, woken}, sleep_wakeup.specs.Nested.state_of};
 
 use event_log::{THREADS, Tid};
 use layer_traits::{Edit, Moves, Outcome, Payload, Sleeps, SplitEdit, WaitList, Wake, WholeSleeps};

@@ -1,11 +1,11 @@
 //! The layer of sections that put threads to sleep and wake them.
 
 ghost use Rattle.std.specs.Prelude.{◌≡◌, ◌<◌, IsSome, OnSome};
-ghost use Rattle.layer_traits.specs.{declared.passes.Pass.TheVariants.MakeReady, Framed.Framed, Payloads.{sched_told, told_by}, Plans.{Follows, table_of}};
-ghost use Rattle.layer_traits.specs.{Polls.until_answered, QueueBlocks.homes_in, QueueRules.queue_rules, Scheds.{MaySched, SchedPolled, sched_plan}};
-ghost use Rattle.layer_traits.specs.Queues.{kernel};
+ghost use Rattle.layer_traits.specs.{declared.passes.Pass.TheVariants.MakeReady, Polling.{Framed.Framed, Plans.{Follows, table_of}, Polls.until_answered}};
+ghost use Rattle.layer_traits.specs.{Blocks.{Payloads.{sched_told, told_by}, QueueBlocks.homes_in, QueueRules.queue_rules}, Layers.Scheds.MaySched};
+ghost use Rattle.{layer_traits.specs.Layers.{Scheds.{SchedPolled, sched_plan}, Queues.kernel}, sleep_wakeup.specs.Nested.{nested_moves, nested_rules}};
+ghost use Rattle.sleep_wakeup.specs.Nested.{nested_told};
 ghost use Rattle.layer_traits.specs.declared.scheds.SchedCall.TheVariants as call;
-ghost use Rattle.sleep_wakeup.specs.Nested.{nested_moves, nested_rules, nested_told};
 
 use crate::deferred::{DeferredOutcome, complete, complete_home, done, kept_edit, section};
 use crate::edits::{SleepEdit, wait_list_in_block};
@@ -54,11 +54,11 @@ fn send_home<E: Sleeps, S: Layer<SchedLaw<SleepEdit<E>>>>(
 
 impl<E: Sleeps, S: Layer<SchedLaw<SleepEdit<E>>>> ThreadLayer<SleepLaw<E>> for Sleeper<E, S> {
     ghost use Rattle.std.proofs.Common.{map, option_map, ap, ◌∙◌};
-    ghost use Rattle.{event_log.{specs.Actions.renamed, proofs.Renaming.legal_renamed}, layer_traits.specs.{QueueBlocks.inner, Renaming.renamed_edit}};
-    ghost use Rattle.layer_traits.{specs.{Renaming.{renamed_events, viewed}, Sleeping.NobodySleeps}, proofs.KernelRenaming.{known_renamed, proper_renamed}};
-    ghost use Rattle.{layer_traits.proofs.KernelRenaming.{seen_renamed, starts_viewed}, sleep_wakeup.specs.Laws.NestedLaws.{nested_busy, nested_idle}};
-    ghost use Rattle.sleep_wakeup.specs.{Laws.NestedLaws.{nested_lawful, nested_lists, nested_moves_legal, nested_stands}, Nested.{edit_in, state_of, states}};
-    ghost use Rattle.sleep_wakeup.specs.Parts.{DeferredFits, deferred_told, own_of, under_of};
+    ghost use Rattle.{event_log.{specs.Actions.renamed, proofs.Renaming.legal_renamed}, layer_traits.specs.Blocks.QueueBlocks.inner};
+    ghost use Rattle.layer_traits.specs.{Views.Renaming.{renamed_edit, renamed_events, viewed}, Layers.Sleeping.NobodySleeps};
+    ghost use Rattle.layer_traits.proofs.KernelRenaming.{known_renamed, proper_renamed, seen_renamed, starts_viewed};
+    ghost use Rattle.sleep_wakeup.specs.Laws.NestedLaws.{nested_busy, nested_idle, nested_lawful, nested_lists, nested_moves_legal, nested_stands};
+    ghost use Rattle.sleep_wakeup.specs.{Nested.{edit_in, state_of, states}, Parts.{DeferredFits, deferred_told, own_of, under_of}};
 
     type Machine = S::Machine;
 

@@ -1,12 +1,13 @@
 -- What one event of a machine is at the line: an action, put after foreign ones, by a CPU whose ticket tells its spot.
 use Rattle.std.proofs.Common.{◌≡◌, ℕ, ◌%◌, ◌^◌, List, [], ◌∷◌, ◌++◌, Option, Some, None, MatchOption, map, ap, sym, ◌∙◌, if◌then◌else◌, arith}
-use Rattle.{std.proofs.lemmas.List.map-append, event_log.specs.declared.{ids.{CpuId.CpuId, LockId.LockId}, events.Event.{Event, TheVariants.Draw}}}
-use Rattle.event_log.specs.{declared.grants.GrantEvent.{GrantEvent, TheVariants.Take}, Actions.{Action, Waits, Holds, cpu_of_action, phase, spot_of, act_of}}
-use Rattle.event_log.specs.{Actions.acts_of, Grants.{IsLegalGrants, cpu_of_grant, grant_lock_phase, act_of_grant, acts_of_grants}, History.{Adds, AreOthers}}
-use Rattle.event_log.specs.{History.IsLawful, Sections.Section, WordsLog.{IsLegalWords, Waiting, Holding, cpu_of_event, lock_phase, LockPhase}}
-use Rattle.event_log.proofs.{GrantWords.{grant_ticket_at, phase_grants}, Same.same_cpu_self, Tickets.{cpu_of_action_is, phase_acts, ticket_at}}
-use Rattle.{event_log.proofs.Observed.phase_of, layer_traits.{proofs.{OneLockLemmas.lock_phase_own, Seen.words_legal}, specs.declared.edits.Mark.Mark}}
-use Rattle.{layer_traits.specs.{WordsProtocol.{edit_of, MayCome}, GrantProtocol.GrantMayCome}, spinlock.specs.Laws.LineLaws.{grants_legal, line_waiting_with}}
+use Rattle.std.proofs.lemmas.List.{map-append}
+use Rattle.event_log.specs.declared.{ids.{CpuId.CpuId, LockId.LockId}, events.Event.{Event, TheVariants.Draw}, grants.GrantEvent.{GrantEvent, TheVariants.Take}}
+use Rattle.event_log.specs.{Actions.{Action, Waits, Holds, cpu_of_action, phase, spot_of, act_of, acts_of}, Grants.{IsLegalGrants, cpu_of_grant}}
+use Rattle.event_log.specs.{Grants.{grant_lock_phase, act_of_grant, acts_of_grants}, History.{Adds, AreOthers, IsLawful}, Sections.Section}
+use Rattle.event_log.{specs.WordsLog.{IsLegalWords, Waiting, Holding, cpu_of_event, lock_phase, LockPhase}, proofs.GrantWords.{grant_ticket_at, phase_grants}}
+use Rattle.event_log.proofs.{Same.same_cpu_self, Tickets.{cpu_of_action_is, phase_acts, ticket_at}, Observed.phase_of}
+use Rattle.layer_traits.{proofs.{OneLockLemmas.lock_phase_own, Seen.words_legal}, specs.{declared.edits.Mark.Mark, Protocols.WordsProtocol.{edit_of, MayCome}}}
+use Rattle.{layer_traits.specs.Protocols.GrantProtocol.GrantMayCome, spinlock.specs.Laws.LineLaws.{grants_legal, line_waiting_with}}
 
 others_mapped : {X Y : Type 0} (f : X → Y) (by : X → CpuId) (reported_by : Y → CpuId) → ((e : X) → reported_by (f e) ≡ by e) → (c : CpuId) (others : List X)
     → AreOthers by c others → AreOthers reported_by c (map f others)

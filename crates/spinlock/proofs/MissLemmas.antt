@@ -1,7 +1,7 @@
 -- Looks and peeks that all miss are tries that all miss, and a stage of a section fits after them.
 use Rattle.std.proofs.Common.{arith, ◌≡◌, ℕ, zero, suc, Bool, false, List, ◌∷◌, ◌++◌, Option, map, replicate, if◌then◌else◌, refl, ap, sym, ◌∙◌}
 use Rattle.event_log.specs.{declared.ids.{CpuId.CpuId, LockId.LockId}, Actions.{Action, Try, Waits, phase}, Sections.block_after, WordsLog.{LockPhase, Waiting}}
-use Rattle.{event_log.specs.WordsLog.Holding, layer_traits.{proofs.SpinLemmas.left_same, specs.{Protocol.Rules, Spins.Misses}}}
+use Rattle.{event_log.specs.WordsLog.Holding, layer_traits.{proofs.SpinLemmas.left_same, specs.{Protocols.Protocol.Rules, Polling.Spins.Misses}}}
 use Rattle.spinlock.{proofs.StageLemmas.stage_stays, specs.{declared.stages.TicketPhase.TicketPhase, Stages.StageFits}}
 
 -- where a look leaves its CPU waiting it missed

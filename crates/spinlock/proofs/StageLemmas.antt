@@ -5,8 +5,8 @@ use Rattle.event_log.specs.{declared.ids.{CpuId.CpuId, LockId.LockId}, History.{
 use Rattle.event_log.specs.{Sections.{cpu_of_section, block_after, sections_in}, Actions.{Action, Take, Try, Give, Phase, Rests, Waits, Holds, AreLegal}}
 use Rattle.event_log.{specs.Actions.{action_in, cpu_of_action, phase, spot_of}, proofs.{Exclusion.{one_holds, phase_own}, Foreign.{phase_others, spot_others}}}
 use Rattle.{event_log.proofs.{Foreign.{sections_in-append, others_sections_in}, Same.{same_cpu_self, same_lock_true}}, layer_traits.proofs.Seen.stays_on}
-use Rattle.layer_traits.specs.{Looks.Tries, Plans.{Follows, table_of, at_give, section_plan, answered, is_in_section}, Protocol.{Rules, StaysAllowed, section}}
-use Rattle.{layer_traits.specs.{Framed.{Framed, Stays}, Polls.Polled}, spinlock.specs.Stages.{StageFits, hit_by}}
+use Rattle.layer_traits.specs.Polling.{Looks.Tries, Plans.{Follows, table_of, at_give, section_plan, answered, is_in_section}, Framed.{Framed, Stays}}
+use Rattle.{layer_traits.specs.{Polling.Polls.Polled, Protocols.Protocol.{Rules, StaysAllowed, section}}, spinlock.specs.Stages.{StageFits, hit_by}}
 use Rattle.spinlock.specs.declared.stages.TicketPhase.{TicketPhase, TheVariants.{Out, Waiting, Holding}}
 
 cpu_differs : (a b : CpuId) → b ≢ a → same_cpu a b ≡ false

@@ -1,7 +1,7 @@
 -- How far a section has come, read against the actions at the locks.
 use Rattle.std.specs.Prelude.{◌≡◌, ◌%◌, ◌^◌, List, Option, Some, None, IsSome, if◌then◌else◌}
 use Rattle.event_log.specs.{declared.ids.{CpuId.CpuId, LockId.LockId}, Actions.{Action, Rests, Waits, Holds, phase, spot_of}, History.same_lock}
-use Rattle.{event_log.specs.Sections.{Section, block_after, sections_in}, layer_traits.specs.Protocol.{Rules, StaysAllowed, section}}
+use Rattle.{event_log.specs.Sections.{Section, block_after, sections_in}, layer_traits.specs.Protocols.Protocol.{Rules, StaysAllowed, section}}
 use Rattle.spinlock.specs.declared.stages.TicketPhase.{TicketPhase, TheVariants.{Out, Waiting, Holding}}
 
 -- the section that is under way at a stage

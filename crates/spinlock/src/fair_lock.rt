@@ -20,7 +20,7 @@ pub struct UsesGrants;
 pub trait FairLock<LockProtocol> {
     ghost use Rattle.event_log.specs.{declared.ids.{CpuId.CpuId, LockId.LockId}, Actions.{Action, Take, Try, Give, Rests, Waits, Holds, AreLegal}};
     ghost use Rattle.event_log.specs.{Actions.{cpu_of_action, phase, spot_of}, History.{Adds, IsLawful}, Sections.{block_after, sections_in}};
-    ghost use Rattle.layer_traits.specs.{Protocol.{section, StaysAllowed}, Spins.{BeginWith, Misses}};
+    ghost use Rattle.layer_traits.specs.{Protocols.Protocol.{section, StaysAllowed}, Polling.Spins.{BeginWith, Misses}};
 
     /// The edits of the sections.
     type Edit: SplitEdit;
@@ -154,8 +154,8 @@ pub trait FairLock<LockProtocol> {
 }
 
 impl<W: Words> FairLock<UsesTickets> for W {
-    ghost use Rattle.{event_log.{specs.{Actions.acts_of, WordsLog.{lock_phase, Idle}}, proofs.Tickets.legal_acts}, layer_traits.specs.WordsProtocol.edit_of};
-    ghost use Rattle.{layer_traits.proofs.Seen.words_legal, spinlock.specs.Laws.LineLaws.{acts_lawful, rests_outside}};
+    ghost use Rattle.event_log.{specs.{Actions.acts_of, WordsLog.{lock_phase, Idle}}, proofs.Tickets.legal_acts};
+    ghost use Rattle.{layer_traits.{specs.Protocols.WordsProtocol.edit_of, proofs.Seen.words_legal}, spinlock.specs.Laws.LineLaws.{acts_lawful, rests_outside}};
 
     type Edit = W::Edit;
 
@@ -220,7 +220,7 @@ impl<W: Words> FairLock<UsesTickets> for W {
 
 impl<W: GrantWords> FairLock<UsesGrants> for W {
     ghost use Rattle.event_log.{specs.{Grants.{acts_of_grants, grant_lock_phase}, WordsLog.Idle}, proofs.GrantWords.legal_grants};
-    ghost use Rattle.{layer_traits.specs.WordsProtocol.edit_of, spinlock.specs.Laws.LineLaws.{grants_legal, grants_lawful, rests_outside_grants}};
+    ghost use Rattle.{layer_traits.specs.Protocols.WordsProtocol.edit_of, spinlock.specs.Laws.LineLaws.{grants_legal, grants_lawful, rests_outside_grants}};
 
     type Edit = W::Edit;
 

@@ -13,7 +13,7 @@ use std::alloc::Global;
 /// that are at home.
 pub trait OwnedFairLock<LockProtocol>: FairLock<LockProtocol> {
     ghost use Rattle.event_log.specs.{declared.ids.{CpuId.CpuId, LockId.LockId, TheConstants.CPUS}, Sections.{block_after, sections_in}};
-    ghost use Rattle.{layer_traits.specs.OneLock.{AreDistinct, opened}, spinlock.specs.OwnedLaws.SomeoneHolds};
+    ghost use Rattle.{layer_traits.specs.Protocols.OneLock.{AreDistinct, opened}, spinlock.specs.OwnedLaws.SomeoneHolds};
 
     /// The block of a lock where it is at home.
     ghost block_at: { Self → LockId → Option Self.Edit.Block };
@@ -51,7 +51,7 @@ pub trait OwnedFairLock<LockProtocol>: FairLock<LockProtocol> {
 }
 
 impl<W: OwnedWords> OwnedFairLock<UsesTickets> for W {
-    ghost use Rattle.{event_log.specs.declared.ids.TheConstants.CPUS, layer_traits.specs.OneLock.{AreDistinct, opened}};
+    ghost use Rattle.{event_log.specs.declared.ids.TheConstants.CPUS, layer_traits.specs.Protocols.OneLock.{AreDistinct, opened}};
     ghost use Rattle.spinlock.specs.Laws.LineLaws.{words_blocks};
 
     ghost block_at = { λ m lock. W.block_at m lock };
@@ -78,7 +78,7 @@ impl<W: OwnedWords> OwnedFairLock<UsesTickets> for W {
 }
 
 impl<W: OwnedGrantWords> OwnedFairLock<UsesGrants> for W {
-    ghost use Rattle.{event_log.specs.declared.ids.TheConstants.CPUS, layer_traits.specs.OneLock.{AreDistinct, opened}};
+    ghost use Rattle.{event_log.specs.declared.ids.TheConstants.CPUS, layer_traits.specs.Protocols.OneLock.{AreDistinct, opened}};
     ghost use Rattle.spinlock.specs.Laws.LineLaws.{grants_blocks};
 
     ghost block_at = { λ m lock. W.block_at m lock };

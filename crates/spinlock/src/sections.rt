@@ -1,8 +1,8 @@
 //! A whole section at once, where no CPU has a ticket. It takes no memory and does not wait.
 
 ghost use Rattle.std.specs.Prelude.{◌≡◌, ◌≢◌, ◌+◌, ◌<◌, ◌≤◌, ◌∷◌, true, IsSome, OnSome, is_some, if◌then◌else◌};
-ghost use Rattle.event_log.specs.{declared.ids.CpuId.CpuId, Actions.Take, Actions.Try, Actions.Give, Actions.Rests, Actions.phase, Actions.next_action};
-ghost use Rattle.layer_traits.specs.{Payloads.told_by, Plans.table_of, Plans.reply, Protocol.section, Protocol.StaysAllowed, Polls.MayPoll, Polls.Answers};
+ghost use Rattle.{event_log.specs.{declared.ids.CpuId.CpuId, Actions.{Take, Try, Give, Rests, phase, next_action}}, layer_traits.specs.Blocks.Payloads.told_by};
+ghost use Rattle.layer_traits.specs.{Polling.{Plans.{table_of, reply}, Polls.{MayPoll, Answers}}, Protocols.Protocol.{section, StaysAllowed}};
 
 use event_log::{CPUS, LockId};
 use layer_traits::{Edit, LockCall, LockLayer, Payload};

@@ -68,8 +68,8 @@ fn enters<M: FairLock<LockProtocol>, LockProtocol>(
 
 impl<M: FairLock<LockProtocol>, LockProtocol> Layer<LockLaw<M::Edit>>
     for SpinLock<M, LockProtocol> {
-    ghost use Rattle.{event_log.specs.{Actions.phase, Sections.sections_in}, layer_traits.specs.Plans.is_in_section, spinlock.specs.Stages.stage_section};
-    ghost use Rattle.{spinlock.specs.{Stages.StageFits, Laws.StageLaws.{sections_known, stage_busy}}, std.specs.Prelude.{is_some, refl, true}};
+    ghost use Rattle.{event_log.specs.{Actions.phase, Sections.sections_in}, layer_traits.specs.Polling.Plans.is_in_section};
+    ghost use Rattle.{spinlock.specs.{Stages.{stage_section, StageFits}, Laws.StageLaws.{sections_known, stage_busy}}, std.specs.Prelude.{is_some, refl, true}};
     ghost use Rattle.std.proofs.Common.{ap};
 
     type Machine = M;
@@ -218,7 +218,7 @@ impl<M: FairLock<LockProtocol>, LockProtocol> Layer<LockLaw<M::Edit>>
 impl<M: OwnedFairLock<LockProtocol>, LockProtocol> OwnedLocks<M::Edit>
     for SpinLock<M, LockProtocol> {
     ghost use Rattle.std.specs.Prelude.{◌<◌, [], IfOk};
-    ghost use Rattle.{event_log.specs.declared.ids.TheConstants.CPUS, layer_traits.specs.OneLock.{AreDistinct, opened}};
+    ghost use Rattle.{event_log.specs.declared.ids.TheConstants.CPUS, layer_traits.specs.Protocols.OneLock.{AreDistinct, opened}};
     ghost use Rattle.spinlock.specs.{Laws.OwnedLaws.spin_lock_shows, Stages.held_block};
 
     ghost block_at = { λ m lock. M.block_at m lock };

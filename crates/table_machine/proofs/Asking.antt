@@ -2,11 +2,11 @@
 use Rattle.std.proofs.Common.{◌≡◌, ℕ, ◌+◌, ◌<◌, ◌≤◌, ◌%◌, ◌^◌, List, [], ◌∷◌, ◌++◌, Option, Some, IsSome, option_map, refl, ap, sym, ◌∙◌, arith, length}
 use Rattle.{atomic_table.specs.{Seated.TableId, Table.{Me, step, Allows, rest}}, event_log.specs.declared.ids.{CpuId.CpuId, LockId.LockId, TheConstants.CPUS}}
 use Rattle.event_log.specs.{declared.events.Event.Event, History.{Adds, Grows, IsLawful}, WordsLog.{cpu_of_event, lock_phase, LockPhase, Idle, Waiting}}
-use Rattle.{event_log.specs.{WordsLog.Holding, Sections.block_after}, layer_traits.specs.{declared.edits.Mark.Mark, Protocol.{Rules, StaysAllowed, section}}}
-use Rattle.{layer_traits.specs.{WordsProtocol.{MayCome, sections}, OneLock.opened}, table_machine.specs.{declared.views.{Home.Home, View.View}, Kinds.WordKind}}
-use Rattle.table_machine.specs.{Kinds.{IsWordKind, given_on}, Layout.{rank_of, word_at, word_count}, Views.{mine, IsCpu}, Rule.TableInv, Plays.{Drew, Looked}}
-use Rattle.table_machine.{specs.{Plays.Freed, SeatViews.{TableView, SeatView, IsOf, Carries, IsKey, Remembers}}, proofs.Showing.within_table}
-use Rattle.table_machine.proofs.Stepping.{draws_allowed, looks_allowed, frees_allowed}
+use Rattle.{event_log.specs.{WordsLog.Holding, Sections.block_after}, layer_traits.specs.{declared.edits.Mark.Mark, Protocols.Protocol.{Rules, StaysAllowed}}}
+use Rattle.{layer_traits.specs.Protocols.{Protocol.section, WordsProtocol.{MayCome, sections}, OneLock.opened}, table_machine.specs.declared.views.Home.Home}
+use Rattle.table_machine.specs.{declared.views.View.View, Kinds.{WordKind, IsWordKind, given_on}, Layout.{rank_of, word_at, word_count}, Views.{mine, IsCpu}}
+use Rattle.table_machine.specs.{Rule.TableInv, Plays.{Drew, Looked, Freed}, SeatViews.{TableView, SeatView, IsOf, Carries, IsKey, Remembers}}
+use Rattle.table_machine.proofs.{Showing.within_table, Stepping.{draws_allowed, looks_allowed, frees_allowed}}
 use mathlib.Core.Option.{none}
 
 abbrev pub seat_view_of : {E B : Type 0} → CpuId → TableId → Me (Home E B) (View E B) → SeatView E B

@@ -4,7 +4,7 @@ use Rattle.std.proofs.Common.{sym, ◌∙◌, subst, append-nil, lt_of_not-le}
 use Rattle.{atomic_table.{specs.{Seated.TableId, Table.{Me, step, Final, Seen}}, proofs.Lists.at_map}, event_log.specs.declared.ids.CpuId.CpuId}
 use Rattle.event_log.specs.{declared.{ids.LockId.LockId, events.Event.Event}, History.{IsLawful, own_events}, WordsLog.{cpu_of_event, lock_phase, Idle}}
 use Rattle.event_log.{specs.Sections.block_after, proofs.{Foreign.{lock_phase_others, own_none}, ListLemmas.there_is}}
-use Rattle.layer_traits.specs.{declared.edits.Mark.Mark, Protocol.Rules, WordsProtocol.{MayCome, sections}, OneLock.{opened, AreDistinct}}
+use Rattle.layer_traits.specs.{declared.edits.Mark.Mark, Protocols.{Protocol.Rules, WordsProtocol.{MayCome, sections}, OneLock.{opened, AreDistinct}}}
 use Rattle.{layer_traits.proofs.OneLockLemmas.all_home, table_machine.specs.{declared.views.{Home.Home, View.View}, Kinds.WordKind, Views.{viewed, Has}}}
 use Rattle.table_machine.specs.{Views.IsSince, Rule.{home_block, TableInv}, Plays.Met, SeatViews.{TableView, SeatView, IsKey, Gathered, Covers, IsIn, Closes}}
 use Rattle.table_machine.proofs.{Elements.{got, there_for}, Logs.{lock_phase_since, own_since, since_trans}, Finding.rank_at, Seeing.{all_end, joined}}

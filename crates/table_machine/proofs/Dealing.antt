@@ -1,9 +1,9 @@
 -- How a table begins, and how its keys are dealt.
 use Rattle.std.proofs.Common.{◌≡◌, ◌≢◌, ℕ, zero, suc, ◌+◌, ◌<◌, ◌≤◌, inl, inr, ⊎_elim, List, [], ◌∷◌, length, set, map, refl, ap, sym, ◌∙◌, arith}
 use Rattle.{atomic_table.specs.Table.{Splits, opening}, event_log.specs.declared.ids.{TheConstants.CPUS, CpuId.CpuId, LockId.LockId}}
-use Rattle.{layer_traits.specs.Protocol.Rules, table_machine.specs.{declared.views.{Home.Home, View.View}, Kinds.WordKind}}
-use Rattle.table_machine.specs.{Kinds.IsWordKind, Layout.AreFirst, Views.{viewed, mine, cpus_from, Has, Owns}, Rule.{TableInv, fresh_home}}
-use Rattle.table_machine.proofs.{Logs.ends_nil, Seeing.{all_end, all_set, each_sees, fits_at, fits_of, fits_viewed, FitsAt, owns_viewed, sees_dealt, sees_set}}
+use Rattle.{layer_traits.specs.Protocols.Protocol.Rules, table_machine.specs.{declared.views.{Home.Home, View.View}, Kinds.{WordKind, IsWordKind}}}
+use Rattle.table_machine.{specs.{Layout.AreFirst, Views.{viewed, mine, cpus_from, Has, Owns}, Rule.{TableInv, fresh_home}}, proofs.Logs.ends_nil}
+use Rattle.table_machine.proofs.Seeing.{all_end, all_set, each_sees, fits_at, fits_of, fits_viewed, FitsAt, owns_viewed, sees_dealt, sees_set}
 use Rattle.table_machine.proofs.{Showing.shows_opening, Stepping.same_log}
 use mathlib.Core.Option.{some-ne-none}
 

@@ -2,8 +2,8 @@
 use Rattle.std.proofs.Common.{get_or, ◌≡◌, ℕ, inl, inr, true, false, List, [], ◌∷◌, ◌++◌, Some, IsSome, refl, ap, sym, ◌∙◌}
 use Rattle.{atomic_table.specs.{Seated.TableId, Table.{Me, step, rest}}, event_log.specs.declared.{ids.{CpuId.CpuId, LockId.LockId}, events.Event.Event}}
 use Rattle.event_log.specs.{declared.events.Event.TheVariants.{Draw, Look, Free}, History.Adds, WordsLog.{cpu_of_event, left_by, lock_phase, LockPhase, Idle}}
-use Rattle.{event_log.specs.{WordsLog.{Waiting, Holding}, Sections.block_after}, layer_traits.specs.{declared.edits.Mark.Mark, Protocol.Rules}}
-use Rattle.layer_traits.{specs.{WordsProtocol.{sections, mark_of}, OneLock.opened}, proofs.OneLockLemmas.lock_phase_own}
+use Rattle.{event_log.specs.{WordsLog.{Waiting, Holding}, Sections.block_after}, layer_traits.specs.{declared.edits.Mark.Mark, Protocols.Protocol.Rules}}
+use Rattle.layer_traits.{specs.Protocols.{WordsProtocol.{sections, mark_of}, OneLock.opened}, proofs.OneLockLemmas.lock_phase_own}
 use Rattle.table_machine.specs.{declared.views.{Home.Home, View.View}, Kinds.WordKind, Layout.{rank_of, word_at}, Views.{mine, owner, IsCpu}, Plays.Moves}
 use Rattle.table_machine.specs.{Plays.{Hits, Misses, Drew, Looked, Freed}, SeatViews.{TableView, SeatView, IsOf, Carries, IsKey, Remembers}}
 use Rattle.table_machine.proofs.{Asking.{key_at, seat_view_of}, Finding.rank_same, Showing.next_reads}

@@ -1,9 +1,10 @@
 -- How a table is laid out, and its keys dealt.
 use Rattle.std.proofs.Common.{◌≡◌, ◌≢◌, ℕ, suc, ◌+◌, ◌-◌, ◌<◌, ◌≤◌, if◌then◌else◌, List, [], ◌∷◌, ◌++◌, length, get_or, set, drop, map, ◌^◌, ◌*◌, replicate}
 use Rattle.std.proofs.{Common.{zero-add, IsSome, ap, sym, ◌∙◌, arith, get_or-set_other, drop-cons}, lemmas.Grind.get_or-set_at}
-use Rattle.{std.proofs.lemmas.List.replicate-append-replicate, atomic_table.specs.{Seated.TableId, Table.{Me, Splits}}, event_log.specs.Locks.lock_number}
-use Rattle.event_log.{specs.declared.ids.{TheConstants.{LOCKS, CPUS}, LockId.LockId}, proofs.Same.{lock_number_same, same_lock_true}}
-use Rattle.{layer_traits.specs.{Protocol.Rules, OneLock.opened}, table_machine.specs.{declared.views.{Home.Home, View.View}, Kinds.WordKind, Layout.rank_of}}
+use Rattle.std.proofs.lemmas.List.{replicate-append-replicate}
+use Rattle.{atomic_table.specs.{Seated.TableId, Table.{Me, Splits}}, event_log.specs.{Locks.lock_number, declared.ids.TheConstants.{LOCKS, CPUS}}}
+use Rattle.{event_log.{specs.declared.ids.LockId.LockId, proofs.Same.{lock_number_same, same_lock_true}}, layer_traits.specs.Protocols.Protocol.Rules}
+use Rattle.{layer_traits.specs.Protocols.OneLock.opened, table_machine.specs.{declared.views.{Home.Home, View.View}, Kinds.WordKind, Layout.rank_of}}
 use Rattle.table_machine.specs.{Layout.{word_count, AreRanks, IsLaidOut}, Views.{viewed, mine, owner, cpus_from}, Rule.{TableInv, fresh_home}}
 use Rattle.table_machine.{specs.SeatViews.TableView, proofs.{Dealing.deals_split, Asking.table_view_of, Meeting.has_words}}
 use lib.ListN.{length-map}

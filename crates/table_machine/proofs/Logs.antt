@@ -3,7 +3,7 @@ use Rattle.std.proofs.Common.{◌≡◌, ℕ, Bool, true, false, if◌then◌els
 use Rattle.event_log.specs.{declared.{ids.{CpuId.CpuId, LockId.LockId}, events.Event.{Event, TheVariants.{Draw, Look, Free}}}, History.{same_cpu, same_lock}}
 use Rattle.event_log.specs.{History.{AreOthers, own_events}, WordsLog.{cpu_of_event, lock_phase, IsLegalWords, Holding}, Sections.block_after}
 use Rattle.event_log.proofs.{Same.same_lock_true, Foreign.{others_both, lock_phase_others, own_others}, Tickets.one_inside}
-use Rattle.{layer_traits.specs.{declared.edits.Mark.Mark, WordsProtocol.sections}, table_machine.specs.Views.{EndsWith, IsSince}}
+use Rattle.{layer_traits.specs.{declared.edits.Mark.Mark, Protocols.WordsProtocol.sections}, table_machine.specs.Views.{EndsWith, IsSince}}
 
 module _ {M : Type 0} where
   pub since_trans : (c : CpuId) (a b d : List (Event M)) → IsSince a b c → IsSince b d c → IsSince a d c

@@ -1,7 +1,7 @@
 -- What a meeting asks of the table, and what it tells.
 use Rattle.std.proofs.Common.{◌≡◌, ℕ, ◌<◌, inl, List, [], ◌∷◌, ◌++◌, length, refl, ap, sym, ◌∙◌, arith}
 use Rattle.{atomic_table.specs.{Seated.TableId, Table.{Me, step, Allows}}, event_log.specs.declared.{ids.{CpuId.CpuId, LockId.LockId}, events.Event.Event}}
-use Rattle.{event_log.specs.{History.Grows, WordsLog.{cpu_of_event, lock_phase}}, layer_traits.specs.{declared.edits.Mark.Mark, Protocol.Rules}}
+use Rattle.{event_log.specs.{History.Grows, WordsLog.{cpu_of_event, lock_phase}}, layer_traits.specs.{declared.edits.Mark.Mark, Protocols.Protocol.Rules}}
 use Rattle.table_machine.specs.{declared.views.{Home.Home, View.View}, Kinds.WordKind, Layout.{word_count, IsLaidOut}, Views.{mine, IsCpu, EndsWith, IsSince}}
 use Rattle.table_machine.{specs.{Rule.TableInv, Plays.Met, SeatViews.{SeatView, IsKey}}, proofs.{Logs.lock_phase_since, Seeing.joined, Stepping.meets_allowed}}
 use Rattle.table_machine.proofs.Asking.{key_at, seat_view_of}

@@ -1,11 +1,11 @@
 -- How the words and the slots change with a step.
-use Rattle.std.proofs.Common.{length-set, ◌≡◌, ◌≢◌, ℕ, ◌<◌, ◌≤◌, Bool, true, false, List, [], ◌∷◌, length, set}
-use Rattle.std.proofs.Common.{map, Option, Some, None, IsSome, refl, ap, ◌∙◌, arith, get_or-set_same, get_or-set_other}
-use Rattle.event_log.specs.declared.ids.{LockId.LockId, TheConstants.CPUS}
-use Rattle.event_log.{specs.{declared.events.Event.Event, History.same_lock, WordsLog.{MayFollow, draws, frees}}, proofs.Same.{same_lock_true, same_lock_self}}
-use Rattle.layer_traits.{specs.{declared.edits.Mark.Mark, OneLock.opened}, proofs.OneLockLemmas.{counts_elsewhere, event_lock, elsewhere, fresh}}
-use Rattle.table_machine.specs.{declared.views.Home.Home, Kinds.{WordKind, IsWordKind}, Layout.{AreFirst, rank_of, word_at, words_of, word_count}}
-use Rattle.table_machine.{specs.Rule.{home_block, fresh_home, ShowsLock, Shows}, proofs.Finding.{rank_same, rank_below, opened_there}}
+use Rattle.std.proofs.Common.{length-set, ◌≡◌, ◌≢◌, ℕ, ◌<◌, ◌≤◌, Bool, true, false, List, [], ◌∷◌, length, set, map, Option, Some, None, IsSome, refl, ap, ◌∙◌}
+use Rattle.std.proofs.Common.{arith, get_or-set_same, get_or-set_other}
+use Rattle.event_log.specs.{declared.{ids.{LockId.LockId, TheConstants.CPUS}, events.Event.Event}, History.same_lock, WordsLog.{MayFollow, draws, frees}}
+use Rattle.{event_log.proofs.Same.{same_lock_true, same_lock_self}, layer_traits.specs.{declared.edits.Mark.Mark, Protocols.OneLock.opened}}
+use Rattle.{layer_traits.proofs.OneLockLemmas.{counts_elsewhere, event_lock, elsewhere, fresh}, table_machine.specs.{declared.views.Home.Home, Kinds.WordKind}}
+use Rattle.table_machine.specs.{Kinds.IsWordKind, Layout.{AreFirst, rank_of, word_at, words_of, word_count}, Rule.{home_block, fresh_home, ShowsLock, Shows}}
+use Rattle.table_machine.proofs.Finding.{rank_same, rank_below, opened_there}
 use mathlib.Core.Option.{Option as Maybe, none, some}
 use lib.ListN.{get_elem?, length-map}
 

@@ -3,15 +3,15 @@ use Rattle.std.proofs.Common.{length-set, ◌≡◌, ◌≢◌, ◌≤◌, ◌==
 use Rattle.std.proofs.Common.{◌++◌, length, set, Some, IsSome, option_map, slice_index, refl, ap, sym, ◌∙◌, subst, arith, lt_of_lt_of_le, ne_eqb}
 use Rattle.atomic_table.specs.Table.{State, step, Act, keeps, takes, gives, stepped, Allows, Splits, Joins, Enters, Valid, carried_after, homes_after}
 use Rattle.{atomic_table.proofs.Lists.{set_here, set_else}, event_log.specs.declared.{ids.{TheConstants.CPUS, CpuId.CpuId, LockId.LockId}, events.Event.Event}}
-use Rattle.event_log.specs.{declared.events.Event.TheVariants.{Draw, Look, Free}, WordsLog.{IsLegalWords, cpu_of_event, draws}}
-use Rattle.event_log.specs.{WordsLog.{frees, lock_phase, Idle, Waiting, Holding}, Actions.{Holds, acts_of, gives as given_times, phase, spot_of}}
-use Rattle.event_log.{specs.Sections.block_after, proofs.{Exclusion.{is_holding, line_at}, Same.same_lock_self, Tickets.{gives_acts, legal_acts, phase_acts}}}
-use Rattle.{event_log.proofs.{Tickets.ticket_at, Observed.{TicketOf, phase_of}}, layer_traits.specs.{declared.edits.Mark.Mark, Protocol.{Rules, StaysAllowed}}}
-use Rattle.layer_traits.specs.{Protocol.section, WordsProtocol.{MayCome, edit_of, sections, mark_of}, OneLock.opened}
-use Rattle.layer_traits.proofs.{OneLockLemmas.{event_lock, lock_phase_own, drew, missed, hit, freed, hit_finds, serves_exactly}, Seen.words_legal}
-use Rattle.{layer_traits.proofs.Seen.{sections_allowed, sections-append, others_sections}, table_machine.specs.declared.views.{Home.Home, View.View}}
-use Rattle.table_machine.specs.{Kinds.{WordKind, IsWordKind, given_on}, Layout.{rank_of, word_at, words_of}, Views.{viewed, mine, Has, IsSince, Sees}}
-use Rattle.table_machine.specs.{Rule.{home_block, ShowsLock, Shows, TableInv}, Plays.{Moves, Drew, Looked, Freed, Met, Entered, Misses, Hits}}
+use Rattle.event_log.specs.{declared.events.Event.TheVariants.{Draw, Look, Free}, WordsLog.{IsLegalWords, cpu_of_event, draws, frees, lock_phase, Idle}}
+use Rattle.event_log.specs.{WordsLog.{Waiting, Holding}, Actions.{Holds, acts_of, gives as given_times, phase, spot_of}, Sections.block_after}
+use Rattle.event_log.proofs.{Exclusion.{is_holding, line_at}, Same.same_lock_self, Tickets.{gives_acts, legal_acts, phase_acts, ticket_at}, Observed.TicketOf}
+use Rattle.{event_log.proofs.Observed.phase_of, layer_traits.specs.{declared.edits.Mark.Mark, Protocols.Protocol.{Rules, StaysAllowed, section}}}
+use Rattle.layer_traits.{specs.Protocols.{WordsProtocol.{MayCome, edit_of, sections, mark_of}, OneLock.opened}, proofs.OneLockLemmas.event_lock}
+use Rattle.layer_traits.proofs.{OneLockLemmas.{lock_phase_own, drew, missed, hit, freed, hit_finds, serves_exactly}, Seen.{words_legal, sections_allowed}}
+use Rattle.{layer_traits.proofs.Seen.{sections-append, others_sections}, table_machine.specs.{declared.views.{Home.Home, View.View}, Kinds.WordKind}}
+use Rattle.table_machine.specs.{Kinds.{IsWordKind, given_on}, Layout.{rank_of, word_at, words_of}, Views.{viewed, mine, Has, IsSince, Sees}, Rule.home_block}
+use Rattle.table_machine.specs.{Rule.{ShowsLock, Shows, TableInv}, Plays.{Moves, Drew, Looked, Freed, Met, Entered, Misses, Hits}}
 use Rattle.table_machine.proofs.{Logs.{lock_phase_since, inside_keeps, ends_nil}, Finding.rank_below, Seeing.{sees_set, sees_new, sees_join, one_event}}
 use Rattle.table_machine.proofs.{Seeing.{owns_viewed, fits_viewed, joined}, Showing.{home_of, shows_step, within_table, written}}
 use mathlib.Core.Option.{Option as Maybe, none, some}

@@ -2,8 +2,8 @@
 -- Word 0 is never written. The words of a lock are 8 words, 64 bytes, from each other and from those of every other lock: a CPU that
 -- waits at one reads a cache line that no other word is on. Each lock has room for `next` and a word for each CPU, whatever its kind uses.
 use Rattle.std.specs.Prelude.{◌≡◌, ℕ, suc, ◌+◌, ◌*◌, ◌^◌, ◌<◌, ◌≤◌, if◌then◌else◌, List, [], ◌∷◌, length, map, slice_index, IsSome}
-use Rattle.{event_log.specs.{declared.ids.{LockId.LockId, TheConstants.{CPUS, LOCKS}}, History.same_lock, Locks.lock_number}, layer_traits.specs.OneLock.opened}
-use Rattle.table_machine.specs.Kinds.{first_words}
+use Rattle.event_log.specs.{declared.ids.{LockId.LockId, TheConstants.{CPUS, LOCKS}}, History.same_lock, Locks.lock_number}
+use Rattle.{layer_traits.specs.Protocols.OneLock.opened, table_machine.specs.Kinds.first_words}
 
 -- the rank of a lock: how many locks stand before it at the opening; as many as there are, where it is missing
 abbrev pub rank_of : {B : Type 0} → List (LockId × B) → LockId → ℕ

@@ -2,7 +2,7 @@
 use Rattle.std.specs.Prelude.{◌≡◌, ℕ, true, false, [], ◌∷◌, ◌++◌, ◌⊎◌, IsSome, Some}
 use Rattle.{atomic_table.specs.Table.{Step, Me}, event_log.specs.declared.{ids.LockId.LockId, events.Event.{Event, TheVariants.{Draw, Look, Free}}}}
 use Rattle.event_log.specs.{History.{IsLawful, Adds}, WordsLog.{cpu_of_event, lock_phase, Waiting, Holding}, Sections.block_after}
-use Rattle.layer_traits.specs.{declared.edits.Mark.Mark, Protocol.Rules, WordsProtocol.{MayCome, sections, mark_of}, OneLock.opened}
+use Rattle.layer_traits.specs.{declared.edits.Mark.Mark, Protocols.{Protocol.Rules, WordsProtocol.{MayCome, sections, mark_of}, OneLock.opened}}
 use Rattle.table_machine.specs.{declared.views.{View.View, Home.Home}, Kinds.WordKind, Layout.{rank_of, word_at}, Views.{viewed, mine, owner, IsCpu, Fits}}
 
 -- events of others, then this one; the whole is legal

@@ -2,8 +2,8 @@
 use Rattle.std.specs.Prelude.{◌≡◌, ℕ, ◌≤◌, List, length, IsSome, Option, Some, None}
 use Rattle.{atomic_table.specs.Table.State, event_log.specs.declared.{ids.{TheConstants.CPUS, CpuId.CpuId, LockId.LockId}, events.Event.Event}}
 use Rattle.{event_log.specs.{History.{IsLawful, AreOthers}, WordsLog.{cpu_of_event, draws, frees}}, layer_traits.specs.declared.edits.Mark.Mark}
-use Rattle.{layer_traits.specs.{Protocol.Rules, WordsProtocol.MayCome, OneLock.{HomeFits, opened}}, table_machine.specs.declared.views.{View.View, Home.Home}}
-use Rattle.table_machine.specs.{Kinds.WordKind, Layout.{rank_of, word_count, words_of}, Views.Sees}
+use Rattle.{layer_traits.specs.Protocols.{Protocol.Rules, WordsProtocol.MayCome, OneLock.{HomeFits, opened}}, table_machine.specs.declared.views.View.View}
+use Rattle.table_machine.specs.{declared.views.Home.Home, Kinds.WordKind, Layout.{rank_of, word_count, words_of}, Views.Sees}
 use mathlib.Core.Option.{Option as Maybe, none, some}
 use lib.ListN.{get_elem?}
 

@@ -2,7 +2,7 @@
 use Rattle.std.specs.Prelude.{◌≡◌, ℕ, zero, suc, ◌<◌, ◌≤◌, List, [], ◌∷◌, ◌++◌, length, slice_get, Some}
 use Rattle.{atomic_table.specs.{Seated.TableId, Table.Me}, event_log.specs.{declared.{ids.{CpuId.CpuId, LockId.LockId}, events.Event.Event}, History.IsLawful}}
 use Rattle.event_log.specs.{History.own_events, WordsLog.{cpu_of_event, LockPhase, Idle, Waiting, Holding, lock_phase}, Sections.block_after}
-use Rattle.layer_traits.specs.{declared.edits.Mark.Mark, Protocol.Rules, WordsProtocol.{MayCome, sections}, OneLock.opened}
+use Rattle.layer_traits.specs.{declared.edits.Mark.Mark, Protocols.{Protocol.Rules, WordsProtocol.{MayCome, sections}, OneLock.opened}}
 use Rattle.table_machine.specs.{declared.views.{Home.Home, View.View}, Layout.rank_of, Views.{viewed, mine, Has, EndsWith, IsSince}}
 
 -- a table to its callers: which one it is, the blocks that it opened with, and its number of CPUs

@@ -2,9 +2,9 @@
 
 ghost use Rattle.std.specs.Prelude.{◌≡◌, ℕ, List, [], IsSome, Some, MatchOption, option_map};
 ghost use Rattle.event_log.specs.{declared.events.Event.TheVariants.{Draw, Look, Free}, History.{Adds, Grows, IsLawful}, WordsLog.{cpu_of_event, lock_phase}};
-ghost use Rattle.{event_log.specs.{WordsLog.{Idle, Waiting, Holding}, Sections.block_after}, layer_traits.specs.Protocol.{section, StaysAllowed}};
-ghost use Rattle.{layer_traits.specs.{WordsProtocol.{mark_of, sections, MayCome}, OneLock.opened}, table_machine.specs.{SeatViews.IsOf, Views.viewed}};
-ghost use Rattle.table_machine.specs.Views.{EndsWith, IsCpu};
+ghost use Rattle.{event_log.specs.{WordsLog.{Idle, Waiting, Holding}, Sections.block_after}, layer_traits.specs.Protocols.Protocol.{section, StaysAllowed}};
+ghost use Rattle.{layer_traits.specs.Protocols.{WordsProtocol.{mark_of, sections, MayCome}, OneLock.opened}, table_machine.specs.SeatViews.IsOf};
+ghost use Rattle.table_machine.specs.Views.{viewed, EndsWith, IsCpu};
 
 use crate::plays::{Copies, Draws, Frees, Looks, Meets};
 use crate::rule::Token;

@@ -1,7 +1,7 @@
 //! How a table is made, and its keys dealt. `open` takes memory. It does not wait.
 
 ghost use Rattle.std.specs.Prelude.{◌≡◌, ◌+◌, ◌-◌, ◌<◌, ◌≤◌, ◌^◌, [], length, map, replicate, vec_len, vec_capacity, IfOk};
-ghost use Rattle.{event_log.specs.declared.ids.{LockId.LockId, TheConstants.{CPUS, LOCKS}}, layer_traits.specs.OneLock.AreDistinct};
+ghost use Rattle.{event_log.specs.declared.ids.{LockId.LockId, TheConstants.{CPUS, LOCKS}}, layer_traits.specs.Protocols.OneLock.AreDistinct};
 ghost use Rattle.table_machine.specs.{Layout.{AreFirst, word_count, AreRanks, IsLaidOut}, Rule.fresh_home, Views.{viewed, cpus_from}, SeatViews.new_seat_view};
 ghost use Rattle.table_machine.specs.SeatViews.{new_seat_views};
 

@@ -1,8 +1,8 @@
 //! The seat of a CPU at a shared table. No call takes memory or waits.
 
 ghost use Rattle.std.specs.Prelude.{◌≡◌, List, IsSome, Some, MatchOption, option_map};
-ghost use Rattle.{event_log.specs.{declared.ids.CpuId.CpuId, History.{Grows, IsLawful}, WordsLog.cpu_of_event}, layer_traits.specs.WordsProtocol.MayCome};
-ghost use Rattle.{layer_traits.specs.OneLock.opened, table_machine.specs.{SeatViews.IsOf, Views.{EndsWith, IsCpu}}};
+ghost use Rattle.event_log.specs.{declared.ids.CpuId.CpuId, History.{Grows, IsLawful}, WordsLog.cpu_of_event};
+ghost use Rattle.{layer_traits.specs.Protocols.{WordsProtocol.MayCome, OneLock.opened}, table_machine.specs.{SeatViews.IsOf, Views.{EndsWith, IsCpu}}};
 
 use crate::keys::Key;
 use crate::shared::Shared;
@@ -67,7 +67,7 @@ impl<'a, E: SplitEdit, K: TableWords> Seat<'a, E, K> {
 
 impl<'a, E: SplitEdit, K: TableWords> Words for Seat<'a, E, K> {
     ghost use Rattle.std.specs.Prelude.{◌≡◌, ℕ};
-    ghost use Rattle.{event_log.specs.History.IsLawful, layer_traits.specs.{WordsProtocol.{MayCome, edit_of}, OneLock.opened}};
+    ghost use Rattle.{event_log.specs.History.IsLawful, layer_traits.specs.Protocols.{WordsProtocol.{MayCome, edit_of}, OneLock.opened}};
     ghost use Rattle.table_machine.specs.SeatViews.{site_of};
 
     type Edit = E;

@@ -1,7 +1,8 @@
 //! The table that the seats of all CPUs stand at. No call takes memory or waits.
 
 ghost use Rattle.std.specs.Prelude.{◌≡◌, ◌<◌, ◌≤◌, ◌^◌, IsSome, length};
-ghost use Rattle.{event_log.specs.declared.ids.TheConstants.CPUS, layer_traits.specs.OneLock.opened, table_machine.specs.Layout.{rank_of, word_at, word_count}};
+ghost use Rattle.{event_log.specs.declared.ids.TheConstants.CPUS, layer_traits.specs.Protocols.OneLock.opened, table_machine.specs.Layout.{rank_of, word_at}};
+ghost use Rattle.table_machine.specs.Layout.{word_count};
 
 use crate::rule::Whole;
 use crate::table_words::{TableWords, TicketWords, WaiterWords};
@@ -28,7 +29,7 @@ pub type GrantShared<E> = Shared<E, WaiterWords>;
 
 impl<E: SplitEdit, K: TableWords> Model for Shared<E, K> {
     ghost use Rattle.std.specs.Prelude.{◌≡◌, ◌≤◌, [], length, vec_capacity};
-    ghost use Rattle.{layer_traits.specs.OneLock.AreDistinct, table_machine.specs.{SeatViews.TableView, Layout.IsLaidOut}};
+    ghost use Rattle.{layer_traits.specs.Protocols.OneLock.AreDistinct, table_machine.specs.{SeatViews.TableView, Layout.IsLaidOut}};
 
     ghost Value = { TableView E.Block };
 

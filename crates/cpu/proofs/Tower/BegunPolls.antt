@@ -1,15 +1,14 @@
 -- Each poll of a call is a step of the table: of one that goes on, and of one that begins, where the call begins and its caller takes its
 -- place at the lock in one step.
 use Rattle.std.proofs.Common.{◌≡◌, ◌+◌, ◌<◌, false, List, length, Some, None, option_map, refl, ap, sym, ◌∙◌, subst, arith}
-use Rattle.layer_traits.specs.OwnParts.{threads_in}
+use Rattle.layer_traits.specs.{Views.OwnParts.threads_in, declared.{calls.{Call.Call, Reply.Reply}, steps.Step.TheVariants.Stepped}}
+use Rattle.layer_traits.specs.{declared.call_states.{CallState.CallState, Stage.TheVariants.{Idle, Acquires}}, Polling.{Along.IsStep, Plans.{Left, Follows}}}
+use Rattle.layer_traits.specs.{Polling.Plans.is_in_section, Layers.BufferLaw.{Buffering, begun_at, fifo_plan, going, going_at, plan_at, call_state_of}}
 use Rattle.{event_log.specs.{declared.{entries.Entry.Entry, ids.Tid.Tid}, Actions.phase}, guest.specs.State.{State, at_start, next_of}}
-use Rattle.layer_traits.specs.declared.{calls.{Call.Call, Reply.Reply}, steps.Step.TheVariants.Stepped, call_states.CallState.CallState}
-use Rattle.layer_traits.specs.{declared.call_states.Stage.TheVariants.{Idle, Acquires}, Along.IsStep, Plans.{Left, Follows, is_in_section}, BufferLaw.Buffering}
-use Rattle.{layer_traits.specs.BufferLaw.{begun_at, fifo_plan, going, going_at, plan_at, call_state_of}, cpu.specs.Table.Setups.{Private, new_thread}}
-use Rattle.cpu.specs.{Table.{Setups.{program_of, thread_at}, Choice.{Goes, choice}, Steps.{cpu_step, halted_at}}, Tower.{Views.tower, Privates.guest_at}}
-use Rattle.cpu.specs.Tower.{Privates.{private_after, private_of, thread_of, tid}, Composed.{AsksFor, HandIsKnown, IsBeginning, IsGoing, IsLine}}
-use Rattle.cpu.{specs.Tower.Composed.{asks, named}, proofs.Tower.{Callers.{HasRoom, Site, awake, caller_in}, ChangedThread.{numbered_at, own_at, part_at}}}
-use Rattle.cpu.proofs.Tower.{SectionLines.{HasHad, from, own}, SectionLines.section_line, Plans.plans_are_lines, PolledSystem.{Polled, Way}, Polls.begins_so}
+use Rattle.cpu.specs.{Table.{Setups.{Private, new_thread, program_of, thread_at}, Choice.{Goes, choice}, Steps.{cpu_step, halted_at}}, Tower.Views.tower}
+use Rattle.cpu.specs.Tower.{Privates.{guest_at, private_after, private_of, thread_of, tid}, Composed.{AsksFor, HandIsKnown, IsBeginning, IsGoing, IsLine, asks}}
+use Rattle.cpu.{specs.Tower.Composed.named, proofs.Tower.{Callers.{HasRoom, Site, awake, caller_in}, ChangedThread.{numbered_at, own_at, part_at}}}
+use Rattle.cpu.proofs.Tower.{SectionLines.{HasHad, from, own, section_line}, Plans.plans_are_lines, PolledSystem.{Polled, Way}, Polls.begins_so}
 use Rattle.cpu.proofs.Tower.Polls.{choice_current, choice_hand, line_is_step, step_goes}
 
 -- the table's thread of a number

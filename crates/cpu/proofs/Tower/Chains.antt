@@ -5,11 +5,12 @@ use Rattle.std.proofs.lemmas.{Bool.ne_eqb, List.{get_or-set_same, get_or-set_oth
 use Rattle.{thread_blocks.{proofs.Members.same_tid_self, specs.Queues.is_in}, event_log.specs.declared.{entries.Entry.Entry, ids.{BufId.BufId, CpuId.CpuId}}}
 use Rattle.{event_log.specs.declared.ids.Tid.Tid, guest.specs.State.{State, at_start}, layer_traits.specs.declared.calls.Call.Call as TowerCall}
 use Rattle.layer_traits.specs.declared.{calls.Effect.Effect, call_states.{CallState.CallState, Stage.{Stage, TheVariants.{Acquires, Enters, Tries, Waits}}}}
-use Rattle.layer_traits.specs.{declared.call_states.Stage.TheVariants.AcquiresAgain, BufferLaw.{Buffering, fifo_plan, going, plan_at, no_call, call_state_of}}
-use Rattle.{layer_traits.specs.{BufferLaw.going_at, QLockLaw.slept_for}, cpu.specs.{Table.Setups.Setup, Tower.{Views.TowerOut, Composed.{IsLine, IsLined}}}}
-use Rattle.cpu.specs.Tower.{Composed.{Stands, FitsStage, enters, tries, asks_again}, Privates.{guest_at, private_after, private_of, thread_from, tid}}
-use Rattle.cpu.proofs.Tower.{Callers.{Caller, Runner, Site, at_next, awake, call_state_at}, ChangedThread.{changed, goes, own_at, part_at, parts, threads_at}}
-use Rattle.cpu.proofs.Tower.SectionLines.{HasHad, after, own, call_state, threads, plan, section_line, stands_as}
+use Rattle.layer_traits.specs.{declared.call_states.Stage.TheVariants.AcquiresAgain, Layers.BufferLaw.{Buffering, fifo_plan, going, plan_at, no_call}}
+use Rattle.{layer_traits.specs.Layers.{BufferLaw.{call_state_of, going_at}, QLockLaw.slept_for}, cpu.specs.{Table.Setups.Setup, Tower.Views.TowerOut}}
+use Rattle.cpu.specs.Tower.{Composed.{IsLine, IsLined, Stands, FitsStage, enters, tries, asks_again}, Privates.{guest_at, private_after, private_of}}
+use Rattle.cpu.{specs.Tower.Privates.{thread_from, tid}, proofs.Tower.{Callers.{Caller, Runner, Site, at_next, awake, call_state_at}, ChangedThread.changed}}
+use Rattle.cpu.proofs.Tower.{ChangedThread.{goes, own_at, part_at, parts, threads_at}, SectionLines.{HasHad, after, own, call_state, threads, plan}}
+use Rattle.cpu.proofs.Tower.SectionLines.{section_line, stands_as}
 
 -- the plan of a poll of this call is a line of the table
 abbrev pub LineOf : Setup → CpuId → Tid → TowerCall → Buffering → List State → List Entry → Type 0

@@ -2,9 +2,9 @@
 use Rattle.std.proofs.Common.{◌≡◌, ◌≢◌, ℕ, zero, suc, ◌+◌, ◌<◌, ◌≤◌, Bool, false, ◌&&◌, List, [], ◌∷◌, length, get_or, slice_set, Option, Some, None, is_some}
 use Rattle.std.proofs.{Common.{refl, ap, sym, ◌∙◌, arith}, lemmas.{Bool.ne_eqb, List.{get_or-set_same, get_or-set_other}}}
 use Rattle.{event_log.specs.declared.{entries.Entry.Entry, ids.{BufId.BufId, Tid.Tid}}, guest.specs.State.State, thread_blocks.specs.Queues.is_in}
-use Rattle.{thread_blocks.proofs.Members.same_tid_self, layer_traits.specs.{declared.call_states.CallState.CallState, QLockLaw.slept_for, Places.is_thread}}
-use Rattle.{layer_traits.specs.BufferLaw.{Buffering, no_call}, cpu.specs.{Table.Setups.{Private, Thread}, Tower.{Views.TowerOut, Privates.numbered}}}
-use Rattle.cpu.{specs.Tower.Privates.{private_of, thread_from, thread_of, tid}, proofs.Tower.Callers.Runner}
+use Rattle.{thread_blocks.proofs.Members.same_tid_self, layer_traits.specs.{declared.call_states.CallState.CallState, Layers.QLockLaw.slept_for}}
+use Rattle.{layer_traits.specs.{Layers.BufferLaw.{Buffering, no_call}, Threads.Places.is_thread}, cpu.specs.Table.Setups.{Private, Thread}}
+use Rattle.cpu.{specs.Tower.{Views.TowerOut, Privates.{numbered, private_of, thread_from, thread_of, tid}}, proofs.Tower.Callers.Runner}
 
 pub numbered_long : (f : ℕ → State → Thread) (n : ℕ) (guests : List State) → length (numbered f n guests) ≡ length guests
 numbered_long f n [] = refl

@@ -4,14 +4,15 @@ use Rattle.std.proofs.{Common.arith, lemmas.List.{set-get_or, get_or-set_same}}
 use Rattle.{event_log.specs.declared.ids.{LockId.TheVariants.Pending, Tid.Tid}, guest.specs.State.{State, next_of}, thread_blocks.specs.Queues.is_in}
 use Rattle.layer_traits.specs.declared.{calls.{Effect.Effect, Reply.Reply}, conditions.CvOut.CvOut, buffer_edits.{BufferEdit.BufferEdit, BufferOut.BufferOut}}
 use Rattle.layer_traits.specs.declared.call_states.{CallState.CallState, Stage.{Stage, TheVariants.{Idle, Signals, SignalsOwn, Releases}}}
-use Rattle.layer_traits.specs.{BufferProtocol.buffer_rules, BufferLaw.{BufferPlan, Buffering, buffer_of, going, left_recorded, plan_at, reply_of}}
-use Rattle.layer_traits.specs.{BufferLaw.{call_state_of, no_call, section_at as call_section}, Conditions.CvCall, CvLaw.{Waiting, cv_plan, left_waiting}}
-use Rattle.layer_traits.specs.{QLockLaw.{left_after, slept_for}, QLocking.lock_moves, Plans.{Left, Plan, raised}, SleepLaw.sleep_plan, Passes.queue_for}
-use Rattle.cpu.specs.{Guests.after_answer, Table.{Setups.{Thread, Private, program_of}, Choice.{settled, at_pending, returned_at}, Blocks.Pend}}
-use Rattle.cpu.specs.Tower.{Views.{TowerAnswer, TowerName, TowerOut}, Privates.{call_from, guest_at, guests_after, private_after, private_of, thread_from}}
-use Rattle.cpu.{specs.Tower.{Privates.trace_after, Composed.{outcome_of, Stands, has_signalled, has_signalled_own, has_released}}, proofs.Tower.Callers.Site}
-use Rattle.cpu.proofs.Tower.{Callers.call_state_at, ChangedThread.{goes, numbered_long, own_at, part_at, parts, threads_at}, SettledAnswers.{calling, goes_on}}
-use Rattle.cpu.proofs.Tower.{SettledAnswers.returns, SectionLines.react_in, Chains.{LineOf, private_here, put_same, begun_plan, had_at}}
+use Rattle.layer_traits.specs.{Blocks.BufferProtocol.buffer_rules, Layers.BufferLaw.{BufferPlan, Buffering, buffer_of, going, left_recorded, plan_at, reply_of}}
+use Rattle.layer_traits.specs.Layers.{BufferLaw.{call_state_of, no_call, section_at as call_section}, Conditions.CvCall, CvLaw.{Waiting, cv_plan, left_waiting}}
+use Rattle.layer_traits.specs.{Layers.{QLockLaw.{left_after, slept_for}, QLocking.lock_moves, SleepLaw.sleep_plan}, Polling.Plans.{Left, Plan, raised}}
+use Rattle.{layer_traits.specs.Threads.Passes.queue_for, cpu.specs.{Guests.after_answer, Table.{Setups.{Thread, Private, program_of}, Choice.settled}}}
+use Rattle.cpu.specs.{Table.{Choice.{at_pending, returned_at}, Blocks.Pend}, Tower.{Views.{TowerAnswer, TowerName, TowerOut}, Privates.{call_from, guest_at}}}
+use Rattle.cpu.specs.Tower.{Privates.{guests_after, private_after, private_of, thread_from, trace_after}, Composed.{outcome_of, Stands, has_signalled}}
+use Rattle.cpu.{specs.Tower.Composed.{has_signalled_own, has_released}, proofs.Tower.{Callers.{Site, call_state_at}, ChangedThread.{goes, numbered_long}}}
+use Rattle.cpu.proofs.Tower.{ChangedThread.{own_at, part_at, parts, threads_at}, SettledAnswers.{calling, goes_on, returns}, SectionLines.react_in}
+use Rattle.cpu.proofs.Tower.Chains.{LineOf, private_here, put_same, begun_plan, had_at}
 use Rattle.layer_traits.specs.declared.locked.QOut.TheVariants as lock
 use Rattle.layer_traits.specs.declared.conditions.CvOut.TheVariants as cv
 use Rattle.layer_traits.specs.declared.queue_edits.QueueEdit.TheVariants as queue

@@ -1,12 +1,12 @@
 -- How all threads stand to a part is kept by the passes from thread to thread, and holds at boot.
 use Rattle.std.proofs.{Common.{◌≡◌, ℕ, zero, suc, List, length, replicate, Option, Some, None, refl, sym, ◌∙◌, subst, arith}, lemmas.Bool.{cases_eq, ne_eqb}}
-use Rattle.layer_traits.specs.OwnParts.{threads_in}
-use Rattle.event_log.{specs.{declared.ids.{BufId.BufId, CpuId.CpuId, LockId.LockId, Tid.Tid, TheConstants.THREADS}, Actions.Action}, proofs.ListLemmas.alike_at}
-use Rattle.layer_traits.specs.{declared.{calls.Effect.Effect, passes.Pass.Pass, call_states.{Stage.Stage, CallState.CallState}}, Passes.pass_after}
-use Rattle.layer_traits.specs.{Places.Threads, Plans.{Left, Follows}, BufferLaw.{Buffering, buffering_at_start, fifo_pass_plan, no_call}}
-use Rattle.cpu.specs.Tower.{Views.{TowerBlock, TowerName, TowerOut, tower}, Positions.{IsPart, MayStand, inside, outside}}
-use Rattle.cpu.specs.Tower.Composed.{FitsStage, Stands, asks, was_handed, enters, tries, waits, was_woken, asks_again, was_handed_again, signals, signals_own}
-use Rattle.cpu.specs.Tower.Composed.{releases, has_signalled, has_signalled_own, has_released}
+use Rattle.layer_traits.specs.{Views.OwnParts.threads_in, declared.{calls.Effect.Effect, passes.Pass.Pass, call_states.{Stage.Stage, CallState.CallState}}}
+use Rattle.layer_traits.specs.{Threads.{Passes.pass_after, Places.Threads}, Polling.Plans.{Left, Follows}, Layers.BufferLaw.{Buffering, buffering_at_start}}
+use Rattle.{layer_traits.specs.Layers.BufferLaw.{fifo_pass_plan, no_call}, event_log.specs.declared.ids.{BufId.BufId, CpuId.CpuId, LockId.LockId, Tid.Tid}}
+use Rattle.{event_log.{specs.{declared.ids.TheConstants.THREADS, Actions.Action}, proofs.ListLemmas.alike_at}, cpu.specs.Tower.Views.{TowerBlock, TowerName}}
+use Rattle.cpu.specs.Tower.{Views.{TowerOut, tower}, Positions.{IsPart, MayStand, inside, outside}, Composed.{FitsStage, Stands, asks, was_handed, enters}}
+use Rattle.cpu.specs.Tower.Composed.{tries, waits, was_woken, asks_again, was_handed_again, signals, signals_own, releases, has_signalled, has_signalled_own}
+use Rattle.cpu.specs.Tower.Composed.{has_released}
 use Rattle.layer_traits.specs.declared.passes.Pass.TheVariants as pass
 use Rattle.layer_traits.specs.declared.call_states.Stage.TheVariants as at
 

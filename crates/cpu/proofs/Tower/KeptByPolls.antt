@@ -1,19 +1,19 @@
 -- How all threads stand to a part is kept by every poll of a call.
 use Rattle.std.proofs.Common.{◌≡◌, inr, ◌<◌, List, [], length, slice_get, slice_set, Option, Some, None, IsSome, option_map, refl, ap, sym, ◌∙◌, subst, arith}
-use Rattle.layer_traits.specs.OwnParts.{threads_in}
 use Rattle.std.proofs.lemmas.{List.{get_or-set_other, length-set}, Bool.ne_eqb}
-use Rattle.event_log.specs.{declared.ids.{BufId.BufId, CpuId.CpuId, LockId.{TheVariants.Pending, LockId}, Tid.Tid}, Actions.{Action, Phase, phase}}
-use Rattle.{event_log.specs.Sections.{block_after, sections_in}, guest.specs.State.State, layer_traits.specs.declared.calls.Call.Call as TowerCall}
-use Rattle.layer_traits.specs.{declared.{calls.{Effect.Effect, Reply.Reply}, call_states.{Stage.Stage, CallState.CallState}}, QLockLaw.slept_for, Plans.Left}
-use Rattle.layer_traits.specs.{Plans.{Plan, Acting, Follows, at_give}, Places.is_thread, Passes.queue_for, BufferLaw.{Buffering, plan_at, call_state_of}}
-use Rattle.{layer_traits.specs.BufferLaw.{fifo_plan, going_at, section_at as call_section}, cpu.specs.{Table.Setups.Setup, Tower.Views.TowerAnswer}}
-use Rattle.cpu.specs.Tower.{Views.{TowerBlock, TowerName, TowerOut, tower}, Positions.{IsPart, MayStand, inside, outside}}
-use Rattle.cpu.specs.Tower.Composed.{FitsStage, IsLined, HandIsKnown, Stands, asks, was_handed, enters, tries, waits as stands_waits, was_woken, asks_again}
-use Rattle.cpu.specs.Tower.Composed.{was_handed_again, signals, signals_own, releases, has_signalled, has_signalled_own, has_released, IsGoing, OpensAs}
-use Rattle.cpu.proofs.Tower.{Callers.{Caller, HasRoom, Site, awake, caller_in, call_state_at}, ChangedThread.{own_at, part_at}, SectionLines.{HasHad, own}}
-use Rattle.cpu.proofs.Tower.{SectionLines.{react_in, plan}, KeptBySections.{PlanPreserves, Rest, on, rest_set, section_keeps}, Chains.handed_plan}
-use Rattle.cpu.proofs.Tower.Chains.{handed_again_plan, woken_plan, had_at, handed_site, woken_site, now_call_state, handed_own, woken_own, begun_plan}
-use Rattle.cpu.proofs.Tower.{HandLines.{home_there, sends, Sends, sends_signalled, sends_signalled_own, sends_released}, Polls.{IsKindIn, kind_after}}
+use Rattle.layer_traits.specs.{Views.OwnParts.threads_in, declared.{calls.{Call.Call as TowerCall, Effect.Effect, Reply.Reply}, call_states.Stage.Stage}}
+use Rattle.layer_traits.specs.{declared.call_states.CallState.CallState, Layers.{QLockLaw.slept_for, BufferLaw.{Buffering, plan_at, call_state_of, fifo_plan}}}
+use Rattle.layer_traits.specs.{Layers.BufferLaw.{going_at, section_at as call_section}, Polling.Plans.{Left, Plan, Acting, Follows, at_give}}
+use Rattle.{layer_traits.specs.Threads.{Places.is_thread, Passes.queue_for}, event_log.specs.declared.ids.{BufId.BufId, CpuId.CpuId}}
+use Rattle.event_log.specs.{declared.ids.{LockId.{TheVariants.Pending, LockId}, Tid.Tid}, Actions.{Action, Phase, phase}, Sections.{block_after, sections_in}}
+use Rattle.{guest.specs.State.State, cpu.specs.{Table.Setups.Setup, Tower.{Views.{TowerAnswer, TowerBlock, TowerName, TowerOut, tower}, Positions.IsPart}}}
+use Rattle.cpu.specs.Tower.{Positions.{MayStand, inside, outside}, Composed.{FitsStage, IsLined, HandIsKnown, Stands, asks, was_handed, enters, tries}}
+use Rattle.cpu.specs.Tower.Composed.{waits as stands_waits, was_woken, asks_again, was_handed_again, signals, signals_own, releases, has_signalled}
+use Rattle.cpu.{specs.Tower.Composed.{has_signalled_own, has_released, IsGoing, OpensAs}, proofs.Tower.Callers.{Caller, HasRoom, Site, awake, caller_in}}
+use Rattle.cpu.proofs.Tower.{Callers.call_state_at, ChangedThread.{own_at, part_at}, SectionLines.{HasHad, own, react_in, plan}, KeptBySections.PlanPreserves}
+use Rattle.cpu.proofs.Tower.{KeptBySections.{Rest, on, rest_set, section_keeps}, Chains.{handed_plan, handed_again_plan, woken_plan, had_at, handed_site}}
+use Rattle.cpu.proofs.Tower.{Chains.{woken_site, now_call_state, handed_own, woken_own, begun_plan}, HandLines.{home_there, sends, Sends, sends_signalled}}
+use Rattle.cpu.proofs.Tower.{HandLines.{sends_signalled_own, sends_released}, Polls.{IsKindIn, kind_after}}
 use Rattle.layer_traits.specs.declared.queue_edits.QueueEdit.TheVariants as queue
 use Rattle.layer_traits.specs.declared.call_states.Stage.TheVariants as at
 

@@ -4,15 +4,15 @@ use Rattle.std.proofs.{Common.{◌∙◌, subst, arith}, lemmas.{List.{get_or-se
 use Rattle.event_log.specs.declared.ids.{BufId.BufId, CpuId.CpuId, LockId.{TheVariants.Buffer, LockId}, Tid.Tid, TheConstants.THREADS}
 use Rattle.{thread_blocks.specs.Queues.first, layer_traits.specs.declared.{calls.Effect.Effect, locked.Side.{Side, TheVariants.{Receivers, Senders}}}}
 use Rattle.layer_traits.specs.declared.{conditions.CvOut.CvOut, call_states.{Stage.Stage, CallState.CallState}, buffer_edits.BufferOut.BufferOut}
-use Rattle.layer_traits.specs.{declared.buffer_edits.BufferOut.TheVariants.NotYet, BufferBlocks.{BufferState, buffer_answer}, BufferProtocol.buffer_rules}
-use Rattle.layer_traits.specs.{QLockLaw.slept_for, QLocking.{LockState, lock_answer}, Places.is_cpu, Plans.{Left, Plan, Act}, BufferLaw.{Buffering, buffer_of}}
-use Rattle.{layer_traits.specs.BufferLaw.{first_of, no_call, call_state_of, try_of, section_at as call_section}, cpu.specs.Table.Setups.Setup}
-use Rattle.cpu.specs.Tower.{Views.{TowerAnswer, TowerBlock, TowerName, TowerOut, tower}, Privates.tid, Positions.{IsPart, MayStand, inside, outside}}
-use Rattle.cpu.specs.Tower.Composed.{FitsStage, IsKind, IsLined, IsUsed, Stands, asks, was_handed, enters, tries, waits as stands_waits, was_woken, asks_again}
-use Rattle.cpu.specs.Tower.Composed.{was_handed_again, signals, signals_own, releases, has_signalled, has_signalled_own, has_released}
-use Rattle.cpu.proofs.Tower.{ChangedThread.own_at, Callers.Site, SectionLines.{HasHad, Draws, Shuts, Tried, first_answer, try_answer, shut_effect, call_state}}
-use Rattle.cpu.proofs.Tower.SectionLines.{react, lift, waking, asked_out, did_out, signal_out, left_out, over, plan, effect_by, effected_state, left_on}
-use Rattle.cpu.proofs.Tower.SectionLines.{left_gone, reacted, waited, planned}
+use Rattle.layer_traits.specs.{declared.buffer_edits.BufferOut.TheVariants.NotYet, Blocks.BufferBlocks.{BufferState, buffer_answer}}
+use Rattle.layer_traits.specs.{Blocks.BufferProtocol.buffer_rules, Layers.{QLockLaw.slept_for, QLocking.{LockState, lock_answer}, BufferLaw.Buffering}}
+use Rattle.layer_traits.specs.{Layers.BufferLaw.{buffer_of, first_of, no_call, call_state_of, try_of, section_at as call_section}, Threads.Places.is_cpu}
+use Rattle.{layer_traits.specs.Polling.Plans.{Left, Plan, Act}, cpu.specs.{Table.Setups.Setup, Tower.Views.{TowerAnswer, TowerBlock, TowerName, TowerOut}}}
+use Rattle.cpu.specs.Tower.{Views.tower, Privates.tid, Positions.{IsPart, MayStand, inside, outside}, Composed.{FitsStage, IsKind, IsLined, IsUsed, Stands}}
+use Rattle.cpu.specs.Tower.Composed.{asks, was_handed, enters, tries, waits as stands_waits, was_woken, asks_again, was_handed_again, signals, signals_own}
+use Rattle.cpu.{specs.Tower.Composed.{releases, has_signalled, has_signalled_own, has_released}, proofs.Tower.{ChangedThread.own_at, Callers.Site}}
+use Rattle.cpu.proofs.Tower.SectionLines.{HasHad, Draws, Shuts, Tried, first_answer, try_answer, shut_effect, call_state, react, lift, waking, asked_out}
+use Rattle.cpu.proofs.Tower.SectionLines.{did_out, signal_out, left_out, over, plan, effect_by, effected_state, left_on, left_gone, reacted, waited, planned}
 use Rattle.layer_traits.specs.declared.queue_edits.QueueEdit.TheVariants as queue
 use Rattle.layer_traits.specs.declared.call_states.Stage.TheVariants as at
 use Rattle.layer_traits.specs.declared.queue_edits.QueueBlock.TheVariants as block

@@ -3,13 +3,13 @@ use Rattle.std.proofs.Common.{◌≡◌, ◌≢◌, ℕ, ◌+◌, ◌<◌, Bool,
 use Rattle.std.proofs.{Common.{refl, ap, sym, ◌∙◌, arith, inl, inr}, lemmas.{Bool.ne_eqb, List.append-nil}, Math.Bool.or-true}
 use Rattle.{event_log.specs.declared.{entries.Entry.Entry, ids.{BufId.BufId, CpuId.CpuId, LockId.TheVariants.Pending, Tid.Tid}}, guest.specs.State.State}
 use Rattle.{guest.specs.State.{after_yield, at_start, next_of}, thread_blocks.{specs.Queues.is_in, proofs.{Members.same_tid_self, Distinct.pushed_in}}}
-use Rattle.layer_traits.specs.{declared.{passes.Pass.Pass, call_states.CallState.CallState}, QLockLaw.slept_for, Passes.queue_for, Places.is_thread, Plans.Left}
-use Rattle.{layer_traits.specs.BufferLaw.{Buffering, fifo_pass_plan, no_call, call_state_of}, cpu.specs.Table.{Blocks.Pend, Setups.{Setup, Private, Thread}}}
-use Rattle.cpu.specs.{Table.{Setups.{program_of, thread_at}, Choice.{after_by, after_section, asked_by, at_pending, ends, with_guest}}, Tower.Views.TowerAnswer}
-use Rattle.cpu.specs.Tower.{Views.{TowerBlock, answer_view, tower}, Privates.{guest_at, private_of, private_passed, thread_from, thread_of, tid}}
-use Rattle.cpu.{specs.Tower.Composed.{HandIsKnown, IsKind, IsLine}, proofs.Tower.{Callers.Runner, ChangedThread.{changed, numbered_changed, numbered_same}}}
-use Rattle.cpu.proofs.Tower.{ChangedThread.{own_at, part_at, parts, threads_at}, SectionLines.react_in, HandLines.home_there, Chains.put_same}
-use Rattle.cpu.proofs.Tower.BegunPolls.{thread_here}
+use Rattle.layer_traits.specs.{declared.{passes.Pass.Pass, call_states.CallState.CallState}, Layers.{QLockLaw.slept_for, BufferLaw.{Buffering, fifo_pass_plan}}}
+use Rattle.layer_traits.specs.{Layers.BufferLaw.{no_call, call_state_of}, Threads.{Passes.queue_for, Places.is_thread}, Polling.Plans.Left}
+use Rattle.cpu.specs.Table.{Blocks.Pend, Setups.{Setup, Private, Thread, program_of, thread_at}, Choice.{after_by, after_section, asked_by, at_pending, ends}}
+use Rattle.cpu.specs.{Table.Choice.with_guest, Tower.{Views.{TowerAnswer, TowerBlock, answer_view, tower}, Privates.{guest_at, private_of, private_passed}}}
+use Rattle.cpu.{specs.Tower.{Privates.{thread_from, thread_of, tid}, Composed.{HandIsKnown, IsKind, IsLine}}, proofs.Tower.Callers.Runner}
+use Rattle.cpu.proofs.Tower.{ChangedThread.{changed, numbered_changed, numbered_same, own_at, part_at, parts, threads_at}, SectionLines.react_in}
+use Rattle.cpu.proofs.Tower.{HandLines.home_there, Chains.put_same, BegunPolls.thread_here}
 use Rattle.layer_traits.specs.declared.passes.Pass.TheVariants as pass
 use Rattle.layer_traits.specs.declared.queue_edits.QueueEdit.TheVariants as queue
 use Rattle.layer_traits.specs.declared.queue_edits.QueueAnswer.TheVariants as told

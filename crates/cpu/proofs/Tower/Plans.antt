@@ -1,11 +1,11 @@
 -- The plan of every poll of a begun call is a line of the table.
 use Rattle.std.proofs.Common.{◌≡◌, slice_get, Option, Some, IsSome, refl, subst}
 use Rattle.{event_log.specs.declared.ids.{BufId.BufId, Tid.Tid}, layer_traits.specs.declared.{calls.Effect.Effect, call_states.Stage.Stage}}
-use Rattle.{layer_traits.specs.{declared.call_states.CallState.CallState, QLockLaw.slept_for, BufferLaw.call_state_of}, cpu.specs.Tower.Views.TowerOut}
-use Rattle.cpu.specs.Tower.{Composed.{FitsStage, PlansAreLines, Stands, asks, was_handed, enters, tries, waits, was_woken, asks_again}}
-use Rattle.cpu.specs.Tower.Composed.{was_handed_again, signals, signals_own, releases, has_signalled, has_signalled_own, has_released}
-use Rattle.cpu.proofs.Tower.{Callers.{Caller, HasRoom, awake, caller_in, call_state_at}, ChangedThread.own_at, HandLines.has_signalled_line}
-use Rattle.cpu.proofs.Tower.{HandLines.{has_signalled_own_line, has_released_line}, Chains.{LineOf, site_line, handed_line, handed_again_line, woken_line}}
+use Rattle.{layer_traits.specs.{declared.call_states.CallState.CallState, Layers.{QLockLaw.slept_for, BufferLaw.call_state_of}}, cpu.specs.Tower.Views.TowerOut}
+use Rattle.cpu.specs.Tower.Composed.{FitsStage, PlansAreLines, Stands, asks, was_handed, enters, tries, waits, was_woken, asks_again, was_handed_again, signals}
+use Rattle.cpu.{specs.Tower.Composed.{signals_own, releases, has_signalled, has_signalled_own, has_released}, proofs.Tower.Callers.{Caller, HasRoom, awake}}
+use Rattle.cpu.proofs.Tower.{Callers.{caller_in, call_state_at}, ChangedThread.own_at, HandLines.{has_signalled_line, has_signalled_own_line}}
+use Rattle.cpu.proofs.Tower.{HandLines.has_released_line, Chains.{LineOf, site_line, handed_line, handed_again_line, woken_line}}
 
 module _ (caller : Caller) where
   open caller use {setup, c, t, ready, ended, slept, waits as waiting, call_states, guests, trace, call}

@@ -1,8 +1,8 @@
 -- A poll of a CPU: the system in which it is a step, the log before and after it, and the line of the table that it goes.
 use Rattle.std.proofs.Common.{◌≡◌, List, Option}
-use Rattle.{event_log.specs.{declared.ids.{CpuId.CpuId, LockId.LockId}, Actions.{Action, phase}}, layer_traits.specs.{BufferLaw.Buffering, Plans.{Left, Plan}}}
-use Rattle.cpu.specs.{Table.{Setups.{Setup, Private}, Steps.{acting, cpu_step}}, Tower.{Views.{TowerAnswer, TowerBlock, TowerName}, Composed.{IsLine, OpensAs}}}
-use Rattle.cpu.specs.Tower.Composed.{named}
+use Rattle.{event_log.specs.{declared.ids.{CpuId.CpuId, LockId.LockId}, Actions.{Action, phase}}, layer_traits.specs.Layers.BufferLaw.Buffering}
+use Rattle.{layer_traits.specs.Polling.Plans.{Left, Plan}, cpu.specs.{Table.{Setups.{Setup, Private}, Steps.{acting, cpu_step}}, Tower.Views.TowerAnswer}}
+use Rattle.cpu.specs.Tower.{Views.{TowerBlock, TowerName}, Composed.{IsLine, OpensAs, named}}
 
 -- the poll is CPU c's, in a system with this setup whose locks open with these blocks
 pub record Polled : Type 1 where

@@ -3,12 +3,13 @@ use Rattle.std.proofs.Common.{◌≡◌, Bool, true, false, List, [], ◌∷◌,
 use Rattle.event_log.specs.{declared.ids.{CpuId.CpuId, LockId.LockId, Tid.Tid}, History.same_lock, Actions.{Action, action_in, Phase, phase, renamed}}
 use Rattle.event_log.{specs.Sections.{Section, block_after, sections_in}, proofs.{Foreign.phase_others, Renaming.{next_action_renamed, others_renamed}}}
 use Rattle.{event_log.proofs.Renaming.phase_renamed, layer_traits.specs.declared.steps.{Reason.{Reason, TheVariants.TraceFull}, Step.TheVariants.Stepped}}
-use Rattle.layer_traits.specs.{declared.steps.Step.{TheVariants.Halted, Step}, Along.IsStep, Looks.Tries, Plans.{Left, Acting, Follows, at_give, is_in_section}}
-use Rattle.layer_traits.{specs.{Plans.reply, BufferLaw.Buffering}, proofs.{LookLemmas.tries_renamed, PlanRenaming.{map-append, reply_viewed}}}
-use Rattle.cpu.specs.Table.{Blocks.{Block, Name}, Edits.{edited, kernel}, Setups.{Setup, Private, opening as table_opening, thread_at, Call as TableCall}}
-use Rattle.cpu.specs.Table.{Steps.{acting, acting_on, after_reply, chosen, cpu_step, halted_at, halted_by, step_in}, Choice.{Alone, Choice, Goes, Halts, Ask}}
-use Rattle.cpu.specs.{Table.Choice.{asked, at_call, at_hand, at_ready, choice}, Tower.Views.{TowerBlock, TowerName, answer_view, name_of, tower, view}}
-use Rattle.cpu.{specs.Tower.Composed.{HaltsExactly, HandIsKnown, IsKind, named}, proofs.Tower.{PolledSystem.{Polled, Way}, SectionViews.tables_agree}}
+use Rattle.layer_traits.specs.{declared.steps.Step.{TheVariants.Halted, Step}, Polling.{Along.IsStep, Looks.Tries, Plans.{Left, Acting, Follows, at_give}}}
+use Rattle.layer_traits.{specs.{Polling.Plans.{is_in_section, reply}, Layers.BufferLaw.Buffering}, proofs.{LookLemmas.tries_renamed, PlanRenaming.map-append}}
+use Rattle.{layer_traits.proofs.PlanRenaming.reply_viewed, cpu.specs.Table.{Blocks.{Block, Name}, Edits.{edited, kernel}, Setups.{Setup, Private}}}
+use Rattle.cpu.specs.Table.{Setups.{opening as table_opening, thread_at, Call as TableCall}, Steps.{acting, acting_on, after_reply, chosen, cpu_step}}
+use Rattle.cpu.specs.Table.{Steps.{halted_at, halted_by, step_in}, Choice.{Alone, Choice, Goes, Halts, Ask, asked, at_call, at_hand, at_ready, choice}}
+use Rattle.cpu.specs.Tower.{Views.{TowerBlock, TowerName, answer_view, name_of, tower, view}, Composed.{HaltsExactly, HandIsKnown, IsKind, named}}
+use Rattle.cpu.proofs.Tower.{PolledSystem.{Polled, Way}, SectionViews.tables_agree}
 
 -- The blocks of the locks are of their kinds.
 

@@ -10,18 +10,18 @@ use Rattle.layer_traits.specs.declared.{calls.Reply.Reply, locked.{QOut.QOut, QE
 use Rattle.layer_traits.specs.declared.{conditions.{CvOut.CvOut, CvLeave.TheVariants.Wait}, buffer_edits.{BufferEdit.BufferEdit, BufferOut.BufferOut}}
 use Rattle.layer_traits.specs.declared.{buffer_edits.BufferOut.TheVariants.{Entered, NotYet, Done, WasShut}, call_states.{CallState.CallState, Stage.Stage}}
 use Rattle.layer_traits.specs.declared.call_states.Stage.TheVariants.{Idle, Acquires, Enters, Tries, Waits, AcquiresAgain, Signals, SignalsOwn, Releases}
-use Rattle.layer_traits.specs.{BufferBlocks.{BufferState, buffer_answer}, BufferProtocol.buffer_rules, BufferLaw.{BufferPlan, Buffering, buffer_of, first_of}}
-use Rattle.layer_traits.specs.BufferLaw.{going, left_recorded, no_call, call_state_of, try_of, entry_of, plan_at, reply_of, section_at as call_section}
-use Rattle.layer_traits.specs.{Conditions.CvCall, CvLaw.{Waiting, cv_plan, left_waiting}, QLockLaw.{Locking, left_after, slept_for}, QLocking.LockState}
-use Rattle.layer_traits.specs.{QLocking.{lock_answer, lock_moves, wait_list_asked, asker_report}, Places.{Threads, is_cpu}, Plans.{Left, Plan, Now, Act}}
-use Rattle.{layer_traits.specs.{Plans.raised, SleepLaw.{Sleeping, left_done, sleep_plan}}, cpu.specs.{Guests.after_answer, Table.Blocks.effect_of}}
-use Rattle.cpu.specs.Table.{Setups.{Call, Thread, Private, home_of, program_of, thread_at}, Choice.{after_section, at_buffer, recorded, returned_at}}
-use Rattle.cpu.specs.{Table.Choice.{section_at, settled, slept_if, woken}, Tower.Views.{TowerAnswer, TowerBlock, TowerName, TowerOut}}
-use Rattle.cpu.specs.Tower.{Views.{answer_view, name_of, tower, report_in}, Composed.{HandIsKnown, IsKind, IsLine, IsLined, Stands, FitsStage, asks, enters}}
-use Rattle.cpu.specs.Tower.{Composed.{tries, waits as stands_waits, asks_again, signals, signals_own, releases}, Privates.{asks_in, call_from, guest_at}}
-use Rattle.cpu.{specs.Tower.Privates.{guests_after, message_of, private_after, private_of, thread_from, trace_after, tid}, proofs.Tower.Callers.Site}
-use Rattle.cpu.proofs.Tower.{Callers.call_state_at, ChangedThread.{goes, gone, numbered_long, own_at, part_at, parts, threads_at}, SettledAnswers.asks_for}
-use Rattle.cpu.proofs.Tower.SettledAnswers.{calling, done_with, from_t, goes_on, recorded_is, put, returns}
+use Rattle.layer_traits.specs.{Blocks.{BufferBlocks.{BufferState, buffer_answer}, BufferProtocol.buffer_rules}, Layers.BufferLaw.{BufferPlan, Buffering}}
+use Rattle.layer_traits.specs.Layers.BufferLaw.{buffer_of, first_of, going, left_recorded, no_call, call_state_of, try_of, entry_of, plan_at, reply_of}
+use Rattle.layer_traits.specs.Layers.{BufferLaw.section_at as call_section, Conditions.CvCall, CvLaw.{Waiting, cv_plan, left_waiting}, QLockLaw.Locking}
+use Rattle.layer_traits.specs.Layers.{QLockLaw.{left_after, slept_for}, QLocking.{LockState, lock_answer, lock_moves, wait_list_asked, asker_report}}
+use Rattle.layer_traits.specs.{Layers.SleepLaw.{Sleeping, left_done, sleep_plan}, Threads.Places.{Threads, is_cpu}, Polling.Plans.{Left, Plan, Now, Act}}
+use Rattle.{layer_traits.specs.Polling.Plans.raised, cpu.specs.{Guests.after_answer, Table.{Blocks.effect_of, Setups.{Call, Thread, Private, home_of}}}}
+use Rattle.cpu.specs.Table.{Setups.{program_of, thread_at}, Choice.{after_section, at_buffer, recorded, returned_at, section_at, settled, slept_if, woken}}
+use Rattle.cpu.specs.Tower.{Views.{TowerAnswer, TowerBlock, TowerName, TowerOut, answer_view, name_of, tower, report_in}, Composed.{HandIsKnown, IsKind}}
+use Rattle.cpu.specs.Tower.Composed.{IsLine, IsLined, Stands, FitsStage, asks, enters, tries, waits as stands_waits, asks_again, signals, signals_own, releases}
+use Rattle.cpu.specs.Tower.Privates.{asks_in, call_from, guest_at, guests_after, message_of, private_after, private_of, thread_from, trace_after, tid}
+use Rattle.cpu.proofs.Tower.{Callers.{Site, call_state_at}, ChangedThread.{goes, gone, numbered_long, own_at, part_at, parts, threads_at}}
+use Rattle.cpu.proofs.Tower.SettledAnswers.{asks_for, calling, done_with, from_t, goes_on, recorded_is, put, returns}
 use Rattle.event_log.specs.declared.entries.Kind.TheVariants as kind
 use Rattle.layer_traits.specs.declared.queue_edits.QueueEdit.TheVariants as queue
 use Rattle.layer_traits.specs.declared.queue_edits.QueueAnswer.TheVariants as told

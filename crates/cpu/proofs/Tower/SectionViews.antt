@@ -2,8 +2,8 @@
 use Rattle.std.proofs.Common.{◌≡◌, ap, arith}
 use Rattle.{thread_blocks.proofs.Distinct.without_none, layer_traits.specs.declared.locked.{QEdit.TheVariants.{Acquire, Inside}, Side.TheVariants.Receivers}}
 use Rattle.layer_traits.specs.declared.{locked.Side.TheVariants.Senders, conditions.CvEdit.TheVariants.Edit, buffer_edits.BufferEdit.BufferEdit}
-use Rattle.{layer_traits.specs.{Conditions.CvCall, QLocking.LockState, BufferBlocks.BufferState}, cpu.specs.Table.{Blocks.{OfBuffer, Name}, Edits.answer}}
-use Rattle.cpu.specs.{Table.Edits.edited, Tower.Views.{TablesAgree, TowerBlock, TowerName, answer_view, code, name_of, tower, view}}
+use Rattle.{layer_traits.specs.{Layers.{Conditions.CvCall, QLocking.LockState}, Blocks.BufferBlocks.BufferState}, cpu.specs.Table.Blocks.{OfBuffer, Name}}
+use Rattle.cpu.specs.{Table.Edits.{answer, edited}, Tower.Views.{TablesAgree, TowerBlock, TowerName, answer_view, code, name_of, tower, view}}
 use Rattle.layer_traits.specs.declared.buffer_edits.BufferEdit.TheVariants as edit
 use Rattle.layer_traits.specs.declared.queue_edits.QueueBlock.TheVariants as block
 use Rattle.layer_traits.specs.declared.queue_edits.QueueEdit.TheVariants as queue

@@ -2,14 +2,15 @@
 -- woke, and each call stands at the stage that its visit says.
 use Rattle.std.proofs.Common.{◌≡◌, ◌+◌, ◌<◌, Bool, true, false, not, ◌&&◌, [], ◌∷◌, ◌++◌, length, Option, Some, None, is_some, nat_lt, if◌then◌else◌, refl, sym}
 use Rattle.std.proofs.{Common.{ap, ◌∙◌, subst, arith}, lemmas.Bool.{and_parts, and_from, and_left, and_right, false_from_ne_true, ltb-true, eqb-false}}
-use Rattle.{std.proofs.lemmas.List.{length-set, get_or-set_same, get_or-set_other}, event_log.specs.declared.ids.{CpuId.CpuId, Tid.Tid, BufId.BufId}}
-use Rattle.{event_log.{specs.History.same_cpu, proofs.Same.same_cpu_self}, thread_blocks.{specs.Queues.same_tid, proofs.Members.{same_tid_self, same_tid_true}}}
-use Rattle.layer_traits.specs.declared.{locked.Side.{Side, TheVariants.{Receivers, Senders}}, call_states.Stage.{Stage, TheVariants.{Idle, Enters}}}
-use Rattle.layer_traits.specs.{declared.call_states.Stage.TheVariants.{Tries, Waits, AcquiresAgain, Signals, SignalsOwn, Releases}, Places.Where}
-use Rattle.layer_traits.{specs.Places.{is_home, is_hand, is_thread, one_if, count_in}, proofs.CountLemmas.{same_tid_sym, count_append}}
-use Rattle.{layer_traits.proofs.PlaceLemmas.is_home_true, cpu.specs.Table.{Blocks.side_of, Setups.{Setup, Call, Thread, Private, new_thread, thread_at}}}
-use Rattle.cpu.specs.{Table.{Setups.{with_thread, home_of}, Choice.{slept_if, woken}}, Wakeups.Order.{Progress, Begins, HasEntered, WasRefused, Owes}}
-use Rattle.cpu.proofs.Wakeups.{Lists.refuted, PostsAndVisits.{Waiting, Visit, Outside, In, post_woken, is_local}}
+use Rattle.std.proofs.lemmas.List.{length-set, get_or-set_same, get_or-set_other}
+use Rattle.event_log.{specs.{declared.ids.{CpuId.CpuId, Tid.Tid, BufId.BufId}, History.same_cpu}, proofs.Same.same_cpu_self}
+use Rattle.{thread_blocks.{specs.Queues.same_tid, proofs.Members.{same_tid_self, same_tid_true}}, layer_traits.specs.declared.locked.Side.Side}
+use Rattle.layer_traits.specs.declared.{locked.Side.TheVariants.{Receivers, Senders}, call_states.Stage.{Stage, TheVariants.{Idle, Enters, Tries, Waits}}}
+use Rattle.layer_traits.specs.{declared.call_states.Stage.TheVariants.{AcquiresAgain, Signals, SignalsOwn, Releases}, Threads.Places.{Where, is_home, is_hand}}
+use Rattle.layer_traits.{specs.Threads.Places.{is_thread, one_if, count_in}, proofs.{CountLemmas.{same_tid_sym, count_append}, PlaceLemmas.is_home_true}}
+use Rattle.cpu.specs.Table.{Blocks.side_of, Setups.{Setup, Call, Thread, Private, new_thread, thread_at, with_thread, home_of}, Choice.{slept_if, woken}}
+use Rattle.cpu.{specs.Wakeups.Order.{Progress, Begins, HasEntered, WasRefused, Owes}, proofs.Wakeups.{Lists.refuted, PostsAndVisits.{Waiting, Visit, Outside}}}
+use Rattle.cpu.proofs.Wakeups.PostsAndVisits.{In, post_woken, is_local}
 
 -- once the other side is signalled, the own side is owed its signal
 abbrev pub owing_own : Side → Progress

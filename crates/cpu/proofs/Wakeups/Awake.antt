@@ -1,11 +1,11 @@
 -- One buffer and the progress of its owner: whoever is due to be woken is the owner itself, or will be signalled before the lock is given back.
-use Rattle.std.proofs.Common.{◌≡◌, Bool, true, false, ◌&&◌, List, [], Option, Some, None, refl, sym, ◌∙◌, subst, arith}
-use Rattle.{std.proofs.lemmas.{Bool.{and_parts, and_from, false_from_ne_true}, Option.same_Some}, event_log.specs.declared.ids.Tid.Tid}
-use Rattle.thread_blocks.{specs.Queues.{first, rest}, proofs.{Members.{same_tid_self, same_tid_true}, Distinct.taken_absent}}
-use Rattle.{layer_traits.specs.{declared.locked.Side.TheVariants.{Receivers, Senders}, Sleeping.joined, BufferBlocks.is_first}, cpu.specs.Table.Blocks.Buffer}
-use Rattle.cpu.specs.Table.{Blocks.{Name, AcqQ, Enter, TryPut, TryTake, Shut, WaitOn, SigRecv, SigSend, RelQ, front_stands_in}, Edits.{may_try}}
-use Rattle.cpu.specs.{Table.Edits.{is_due, shut, released, edited_buffer}, Wakeups.Order.{Progress, Begins, HasEntered, WasRefused}}
-use Rattle.cpu.{specs.Wakeups.Order.{Owes, progress_after, MayEdit}, proofs.Wakeups.Lists.{refuted, none_is_not, in_joined}}
+use Rattle.std.proofs.{Common.{◌≡◌, Bool, true, false, ◌&&◌, List, [], Option, Some, None, refl, sym, ◌∙◌, subst, arith}, lemmas.Bool.{and_parts, and_from}}
+use Rattle.std.proofs.lemmas.{Bool.false_from_ne_true, Option.same_Some}
+use Rattle.{event_log.specs.declared.ids.Tid.Tid, thread_blocks.{specs.Queues.{first, rest}, proofs.Members.{same_tid_self, same_tid_true}}}
+use Rattle.{thread_blocks.proofs.Distinct.taken_absent, layer_traits.specs.{declared.locked.Side.TheVariants.{Receivers, Senders}, Layers.Sleeping.joined}}
+use Rattle.{layer_traits.specs.Blocks.BufferBlocks.is_first, cpu.specs.Table.Blocks.{Buffer, Name, AcqQ, Enter, TryPut, TryTake, Shut, WaitOn, SigRecv}}
+use Rattle.cpu.specs.{Table.{Blocks.{SigSend, RelQ, front_stands_in}, Edits.{may_try, is_due, shut, released, edited_buffer}}, Wakeups.Order.{Progress, Begins}}
+use Rattle.cpu.{specs.Wakeups.Order.{HasEntered, WasRefused, Owes, progress_after, MayEdit}, proofs.Wakeups.Lists.{refuted, none_is_not, in_joined}}
 
 -- nobody is due
 abbrev pub IsCalm : Buffer → Type 0

@@ -1,17 +1,18 @@
 -- What holds after any section log in which each section may come: every buffer with every thread, and where each thread is.
 use Rattle.std.proofs.Common.{◌≡◌, Bool, true, false, ◌&&◌, List, [], ◌∷◌, length, Option, Some, None, option_map, nat_lt, if◌then◌else◌, refl, sym, ap, ◌∙◌}
-use Rattle.{std.proofs.{Common.{subst, arith}, lemmas.Bool.{and_parts, and_left, and_right, false_from_ne_true}}, event_log.specs.declared.ids.CpuId.CpuId}
-use Rattle.event_log.specs.declared.ids.{Tid.Tid, BufId.BufId, LockId.{LockId, TheVariants.{Pending, Buffer as AtBuffer}}, TheConstants.THREADS}
+use Rattle.std.proofs.{Common.{subst, arith}, lemmas.Bool.{and_parts, and_left, and_right, false_from_ne_true}}
+use Rattle.event_log.specs.declared.ids.{CpuId.CpuId, Tid.Tid, BufId.BufId, LockId.{LockId, TheVariants.{Pending, Buffer as AtBuffer}}, TheConstants.THREADS}
 use Rattle.event_log.{specs.{History.same_cpu, Sections.Section}, proofs.Same.{same_cpu_self, same_cpu_true, same_lock_self, same_lock_true}}
-use Rattle.{thread_blocks.{specs.Queues.same_tid, proofs.Members.same_tid_true}, layer_traits.specs.{declared.moves.WaitList.WaitList, Places.{Where, Home}}}
-use Rattle.layer_traits.{specs.{Places.{Hand, Pend as IsPending, is_home, is_thread, one_if, count_in}, Sleeping.joined}, proofs.CountLemmas.same_cpu_sym}
-use Rattle.cpu.specs.Table.{Blocks.{Buffer, Block, OfBuffer, OfPending, Name, Pend, TakeAll}, Edits.{edited, edited_buffer, answer_of_buffer}, Setups.Setup}
-use Rattle.cpu.specs.{Table.Setups.home_of, Wakeups.Order.{Progress, progress, progress_by, progress_after, block_of, MayEdit, MayEditBlock, IsInOrder}}
-use Rattle.cpu.proofs.Wakeups.{Lists.refuted, Awake.IsAwake, Ordered.{same_buffer, buffer_awake}, ThreadAtBuffer.{Pair, paired, marked_none, grown_list}}
-use Rattle.cpu.proofs.Wakeups.{ThreadAtBuffer.{buffer_self, buffer_true, woken_sleeps, woken_awake, other_pair, other_joined}, OwnSections.{ByCaller, may_edit}}
-use Rattle.cpu.proofs.Wakeups.{OwnSections.{own_pair, away, post_apart}, PostsAndVisits.{is_buffer, sleeps_in, sleeps_at, is_pending, is_moved, caller_in}}
-use Rattle.cpu.proofs.Wakeups.PostsAndVisits.{is_caller, waiters_of, post_woken, post_moved, post_pending, post_buffer, post, next_visit, visit_moved}
-use Rattle.cpu.proofs.Wakeups.PostsAndVisits.{visit_buffer, visit, IsCallers, MayComeBy, MayComeTo, MayComeAt, MayCome, marked}
+use Rattle.{thread_blocks.{specs.Queues.same_tid, proofs.Members.same_tid_true}, layer_traits.specs.{declared.moves.WaitList.WaitList, Threads.Places.Where}}
+use Rattle.layer_traits.specs.{Threads.Places.{Home, Hand, Pend as IsPending, is_home, is_thread, one_if, count_in}, Layers.Sleeping.joined}
+use Rattle.{layer_traits.proofs.CountLemmas.same_cpu_sym, cpu.specs.Table.{Blocks.{Buffer, Block, OfBuffer, OfPending, Name, Pend, TakeAll}, Edits.edited}}
+use Rattle.cpu.specs.{Table.{Edits.{edited_buffer, answer_of_buffer}, Setups.{Setup, home_of}}, Wakeups.Order.{Progress, progress, progress_by, progress_after}}
+use Rattle.cpu.{specs.Wakeups.Order.{block_of, MayEdit, MayEditBlock, IsInOrder}, proofs.Wakeups.{Lists.refuted, Awake.IsAwake, Ordered.same_buffer}}
+use Rattle.cpu.proofs.Wakeups.{Ordered.buffer_awake, ThreadAtBuffer.{Pair, paired, marked_none, grown_list, buffer_self, buffer_true, woken_sleeps}}
+use Rattle.cpu.proofs.Wakeups.{ThreadAtBuffer.{woken_awake, other_pair, other_joined}, OwnSections.{ByCaller, may_edit, own_pair, away, post_apart}}
+use Rattle.cpu.proofs.Wakeups.PostsAndVisits.{is_buffer, sleeps_in, sleeps_at, is_pending, is_moved, caller_in, is_caller, waiters_of, post_woken, post_moved}
+use Rattle.cpu.proofs.Wakeups.PostsAndVisits.{post_pending, post_buffer, post, next_visit, visit_moved, visit_buffer, visit, IsCallers, MayComeBy, MayComeTo}
+use Rattle.cpu.proofs.Wakeups.PostsAndVisits.{MayComeAt, MayCome, marked}
 
 -- what holds after a section log
 pub record Good (setup : Setup) (past : List (Section Name)) : Type 0 where

@@ -2,16 +2,16 @@
 use Rattle.std.proofs.Common.{◌≡◌, ℕ, ◌+◌, ◌<◌, ◌≤◌, Bool, true, false, not, ◌&&◌, List, [], ◌∷◌, ◌++◌, slice_get, Option, Some, None, option_map}
 use Rattle.std.proofs.{Common.{if◌then◌else◌, refl, sym, ap, ◌∙◌, subst, arith}, lemmas.Bool.lt-ltb}
 use Rattle.event_log.specs.declared.{ids.{CpuId.CpuId, Tid.Tid, LockId.TheVariants.Buffer as AtBuffer, TheConstants.THREADS}, entries.Entry.Entry}
-use Rattle.{event_log.specs.{History.same_cpu, Runs.{Group}, Sections.Section}, thread_blocks.specs.Queues.first}
-use Rattle.layer_traits.specs.declared.{locked.Side.{Side}, call_states.Stage.TheVariants.{Idle, Acquires, Enters, Tries}}
-use Rattle.{layer_traits.specs.{declared.call_states.Stage.TheVariants.{Signals, SignalsOwn, Releases}, BufferBlocks.may_join}, cpu.specs.Table.Blocks.Buffer}
-use Rattle.cpu.specs.Table.{Blocks.{OfBuffer, Name, RelQ, Pend, side_of, Reported, Nothing, Position, Answer, Enter}, Edits.{edited_buffer, acquired, entered}}
-use Rattle.cpu.specs.Table.{Edits.{reports, wakes, answer, answer_of_acquire, answer_of_buffer, line_of, drawn_position}, Setups.{Setup, Call, Private}}
-use Rattle.cpu.specs.Table.{Setups.{thread_at, home_of, home_threads, have_ended, stands_at}, Choice.{section_at, first_signal, second_signal, asked, Goes}}
-use Rattle.cpu.specs.Table.Choice.{choice, with_call, entry_of, effected, recorded, woken, guest_after, returned, returned_at, settled, after_section}
-use Rattle.cpu.specs.{Table.{Choice.{first_section, recorded_entry, recorded_position}, Steps.{Whole, steps_by}}, Wakeups.Alone.{IsInCall, steps_to_move}}
-use Rattle.cpu.{specs.Wakeups.Order.block_of, proofs.Wakeups.{Agreement.at_same, CpuStep.pending_there, CpuAlone.{steps_more, section_of, Stands, after_three}}}
-use Rattle.cpu.proofs.Wakeups.CpuAlone.{two_steps, here_two, three_steps, stands_after, InCall, with_new, goes_on, asks_for, after_is, settled_is, block_next}
+use Rattle.{event_log.specs.{History.same_cpu, Runs.Group, Sections.Section}, thread_blocks.specs.Queues.first, layer_traits.specs.declared.locked.Side.Side}
+use Rattle.layer_traits.specs.declared.call_states.Stage.TheVariants.{Idle, Acquires, Enters, Tries, Signals, SignalsOwn, Releases}
+use Rattle.{layer_traits.specs.Blocks.BufferBlocks.may_join, cpu.specs.Table.Blocks.{Buffer, OfBuffer, Name, RelQ, Pend, side_of, Reported, Nothing, Position}}
+use Rattle.cpu.specs.Table.{Blocks.{Answer, Enter}, Edits.{edited_buffer, acquired, entered, reports, wakes, answer, answer_of_acquire, answer_of_buffer}}
+use Rattle.cpu.specs.Table.{Edits.{line_of, drawn_position}, Setups.{Setup, Call, Private, thread_at, home_of, home_threads, have_ended, stands_at}}
+use Rattle.cpu.specs.Table.Choice.{section_at, first_signal, second_signal, asked, Goes, choice, with_call, entry_of, effected, recorded, woken, guest_after}
+use Rattle.cpu.specs.Table.{Choice.{returned, returned_at, settled, after_section, first_section, recorded_entry, recorded_position}, Steps.{Whole, steps_by}}
+use Rattle.cpu.{specs.Wakeups.{Alone.{IsInCall, steps_to_move}, Order.block_of}, proofs.Wakeups.{Agreement.at_same, CpuStep.pending_there, CpuAlone.steps_more}}
+use Rattle.cpu.proofs.Wakeups.CpuAlone.{section_of, Stands, after_three, two_steps, here_two, three_steps, stands_after, InCall, with_new, goes_on, asks_for}
+use Rattle.cpu.proofs.Wakeups.CpuAlone.{after_is, settled_is, block_next}
 
 module _ (setup : Setup) (c : CpuId) (t : Tid) where
   -- after n steps of CPU c its thread t stands in this call, which goes on; the call's buffer holds this

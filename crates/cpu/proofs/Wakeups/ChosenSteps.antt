@@ -1,9 +1,10 @@
 -- What a CPU chooses to do leaves it in agreement.
 use Rattle.std.proofs.Common.{◌≡◌, ◌+◌, ◌<◌, ◌==◌, Bool, true, false, List, [], ◌∷◌, length, Option, Some, None, is_some, if◌then◌else◌, refl, sym, ap, ◌∙◌}
-use Rattle.{std.proofs.{Common.{subst, arith}, lemmas.{Bool.and_right, List.length-set}}, event_log.specs.declared.ids.{CpuId.CpuId, Tid.Tid}}
-use Rattle.guest.specs.{declared.instructions.Instruction.{Instruction, TheVariants.{Send, Recv, Close, Yield as YieldLine, Exit}}, State.State}
-use Rattle.{thread_blocks.{specs.Queues.same_tid, proofs.Members.same_tid_true}, layer_traits.specs.declared.steps.Reason.TheVariants.{AllEnded, TraceFull}}
-use Rattle.layer_traits.{specs.{declared.call_states.Stage.TheVariants.Acquires, Places.{Where, is_thread}}, proofs.CountLemmas.same_tid_sym}
+use Rattle.std.proofs.{Common.{subst, arith}, lemmas.{Bool.and_right, List.length-set}}
+use Rattle.{event_log.specs.declared.ids.{CpuId.CpuId, Tid.Tid}, guest.specs.declared.instructions.Instruction.{Instruction, TheVariants.{Send, Recv, Close}}}
+use Rattle.{guest.specs.{declared.instructions.Instruction.TheVariants.{Yield as YieldLine, Exit}, State.State}, thread_blocks.specs.Queues.same_tid}
+use Rattle.{thread_blocks.proofs.Members.same_tid_true, layer_traits.specs.declared.steps.Reason.TheVariants.{AllEnded, TraceFull}}
+use Rattle.layer_traits.{specs.{declared.call_states.Stage.TheVariants.Acquires, Threads.Places.{Where, is_thread}}, proofs.CountLemmas.same_tid_sym}
 use Rattle.cpu.specs.Table.{Setups.{Setup, Call, Private, thread_at, stands_at, home_threads, open_calls, have_ended}, Choice.{Choice, Halts, Alone, Goes}}
 use Rattle.cpu.specs.Table.Choice.{new_call, with_call, with_guest, begins, at_instruction, at_call, at_ready, at_current, at_hand, choice}
 use Rattle.cpu.proofs.Wakeups.{Lists.refuted, PostsAndVisits.{Visit, is_local}, Agreement.{visit_of_call, is_done, Agrees, IsSettled, at_same, at_other}}

@@ -4,12 +4,12 @@ use Rattle.std.proofs.{Common.{sym, ap, ◌∙◌, subst, arith}, lemmas.Bool.ne
 use Rattle.event_log.specs.{declared.{ids.{CpuId.CpuId, Tid.Tid, BufId.BufId, LockId.TheVariants.Buffer as AtBuffer}, entries.Entry.Entry}, Sections.Section}
 use Rattle.event_log.specs.{Sections.sections_in, Actions.{Action, Take, Try, Give, Phase, Rests, Waits as WaitsAt, Holds, phase, next_action, AreFree}}
 use Rattle.event_log.proofs.{Alone.{first_action, second_action, third_action, free_again}, Exclusion.phase_own, Same.same_lock_self}
-use Rattle.{layer_traits.specs.{declared.steps.Step.TheVariants.Stepped, Plans.{is_in_section, at_give}, Along.Outcome}, cpu.specs.Table.Blocks.Buffer}
-use Rattle.cpu.specs.Table.{Blocks.{OfBuffer, Name, Answer}, Edits.{edited_buffer, answer}, Setups.{Setup, Call, Private, thread_at, home_threads, have_ended}}
-use Rattle.cpu.specs.Table.{Steps.{after_reply, acting, step_in, cpu_step, Whole, whole_after, system_step, steps_by}, Choice.{Ask, at_buffer, section_at}}
-use Rattle.cpu.specs.Table.Choice.{asked_by, asked_at, asked_in, asked, Goes, choice, with_call, returned_at, returned_by, returned_in, settled, after_call}
-use Rattle.cpu.{specs.{Table.Choice.{after_by, after_at, after_in, after_section}, Wakeups.Order.block_of}, proofs.Wakeups.Agreement.{at_same, Same, same_with}}
-use Rattle.cpu.proofs.Wakeups.Lists.{set_here}
+use Rattle.layer_traits.specs.{declared.steps.Step.TheVariants.Stepped, Polling.{Plans.{is_in_section, at_give}, Along.Outcome}}
+use Rattle.cpu.specs.Table.{Blocks.{Buffer, OfBuffer, Name, Answer}, Edits.{edited_buffer, answer}, Setups.{Setup, Call, Private, thread_at, home_threads}}
+use Rattle.cpu.specs.Table.{Setups.have_ended, Steps.{after_reply, acting, step_in, cpu_step, Whole, whole_after, system_step, steps_by}, Choice.Ask}
+use Rattle.cpu.specs.Table.Choice.{at_buffer, section_at, asked_by, asked_at, asked_in, asked, Goes, choice, with_call, returned_at, returned_by, returned_in}
+use Rattle.cpu.specs.{Table.Choice.{settled, after_call, after_by, after_at, after_in, after_section}, Wakeups.Order.block_of}
+use Rattle.cpu.proofs.Wakeups.{Agreement.{at_same, Same, same_with}, Lists.set_here}
 
 -- Steps one after the other.
 

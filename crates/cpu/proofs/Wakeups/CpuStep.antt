@@ -7,11 +7,11 @@ use Rattle.cpu.proofs.Wakeups.SectionsAgree.{section_caller, agrees_call, agrees
 use Rattle.cpu.proofs.Wakeups.PostsAndVisits.{caller_in, is_caller, post_pending, post_buffer, post, visit_moved, visit, is_local, IsCallers, MayComeBy}
 use Rattle.cpu.{proofs.Wakeups.PostsAndVisits.{MayComeTo, MayComeAt, MayCome}, specs.Table.Blocks.{Block, OfBuffer, OfPending, Name, Pend, TakeAll}}
 use Rattle.cpu.specs.Table.{Edits.{edited, answer, answer_of_buffer}, Setups.{Setup, Call, Private, thread_at, home_of, stands_at}, Steps.after_reply}
-use Rattle.cpu.specs.Table.Choice.{Ask, at_pending, at_buffer, section_at, asked_by, asked_at, asked_in, asked, with_guest, after_call, after_by}
-use Rattle.{cpu.specs.{Table.Choice.{after_at, after_in}, Wakeups.Order.block_of}, event_log.specs.declared.ids.{CpuId.CpuId, Tid.Tid, BufId.BufId}}
-use Rattle.event_log.specs.{declared.ids.LockId.{LockId, TheVariants.{Pending, Buffer as AtBuffer}}, History.{same_cpu, same_lock}, Sections.Section}
-use Rattle.{guest.specs.State.after_yield, thread_blocks.proofs.Members.{same_tid_self, same_tid_true}, layer_traits.specs.Places.{is_home, is_thread}}
-use Rattle.layer_traits.{specs.Places.count_in, proofs.PlaceLemmas.{is_hand_true, is_home_true}}
+use Rattle.cpu.specs.Table.Choice.{Ask, at_pending, at_buffer, section_at, asked_by, asked_at, asked_in, asked, with_guest, after_call, after_by, after_at}
+use Rattle.{cpu.specs.{Table.Choice.after_in, Wakeups.Order.block_of}, event_log.specs.declared.ids.{CpuId.CpuId, Tid.Tid, BufId.BufId, LockId.LockId}}
+use Rattle.event_log.specs.{declared.ids.LockId.TheVariants.{Pending, Buffer as AtBuffer}, History.{same_cpu, same_lock}, Sections.Section}
+use Rattle.{guest.specs.State.after_yield, thread_blocks.proofs.Members.{same_tid_self, same_tid_true}, layer_traits.specs.Threads.Places.{is_home, is_thread}}
+use Rattle.layer_traits.{specs.Threads.Places.count_in, proofs.PlaceLemmas.{is_hand_true, is_home_true}}
 
 -- The locks' blocks are of their kinds.
 

@@ -1,9 +1,10 @@
 -- One list of actions of which each CPU has done its part by the table: its sections may come where they stand.
 use Rattle.std.proofs.Common.{◌≡◌, ℕ, ◌<◌, ◌≤◌, ◌⊎◌, inl, inr, false, List, [], ◌∷◌, ◌++◌, if◌then◌else◌, refl, sym, ap, ◌∙◌, subst, arith}
-use Rattle.{std.proofs.lemmas.Bool.cases_lt, event_log.specs.{declared.ids.CpuId.CpuId, History.{same_cpu, own_events}, Sections.sections_in, Actions.Action}}
-use Rattle.{event_log.{specs.Actions.cpu_of_action, proofs.{Same.same_cpu_self, Foreign.lawful_before}}, layer_traits.specs.Along.{starts, others, steps}}
-use Rattle.cpu.specs.{Table.{Blocks.Name, Setups.{Setup, Private}, Steps.{cpu_step, AlongTable}}, Wakeups.Lost.{IsWorked, CpusLoseNoWakeUp}}
-use Rattle.cpu.proofs.Wakeups.{Lists.{refuted, same_head, same_tail}, Ordered.order_loses_no_wake_up, ReachedStates.{IsFair, IsFairLog, fair_good, Ok, step_ok}}
+use Rattle.std.proofs.lemmas.Bool.{cases_lt}
+use Rattle.event_log.specs.{declared.ids.CpuId.CpuId, History.{same_cpu, own_events}, Sections.sections_in, Actions.{Action, cpu_of_action}}
+use Rattle.{event_log.proofs.{Same.same_cpu_self, Foreign.lawful_before}, layer_traits.specs.Polling.Along.{starts, others, steps}, cpu.specs.Table.Blocks.Name}
+use Rattle.cpu.{specs.{Table.{Setups.{Setup, Private}, Steps.{cpu_step, AlongTable}}, Wakeups.Lost.{IsWorked, CpusLoseNoWakeUp}}, proofs.Wakeups.Lists.refuted}
+use Rattle.cpu.proofs.Wakeups.{Lists.{same_head, same_tail}, Ordered.order_loses_no_wake_up, ReachedStates.{IsFair, IsFairLog, fair_good, Ok, step_ok}}
 use Rattle.cpu.proofs.Wakeups.ReachedStates.{ok_beside, ok_at_boot}
 
 -- along a log whose sections may come a CPU agrees with the log

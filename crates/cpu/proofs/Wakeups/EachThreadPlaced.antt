@@ -3,9 +3,9 @@ use Rattle.std.proofs.Common.{◌≡◌, ℕ, zero, suc, ◌+◌, ◌<◌, Bool,
 use Rattle.std.proofs.{Common.{subst, arith}, lemmas.Bool.{and_from, and_left, and_right, false_from_ne_true, lt-ltb, ltb-true, ne_eqb}}
 use Rattle.event_log.specs.declared.ids.{CpuId.CpuId, Tid.Tid, BufId.BufId, LockId.TheVariants.{Pending, Buffer as AtBuffer}, TheConstants.THREADS}
 use Rattle.{event_log.{specs.{History.same_cpu, Sections.sections_in}, proofs.Same.same_cpu_self}, layer_traits.specs.declared.moves.WaitList.WaitList}
-use Rattle.layer_traits.specs.{ListsAgree.same_list, Passes.as_list, OnePlace.total, Places.{Where, Home, Hand, Pend as IsPending, Asleep, At, is_home}}
-use Rattle.layer_traits.{specs.Places.{is_hand, is_thread, one_if, count_in}, proofs.{CountLemmas.{count_append, count_as_list}, OnePlaceLemmas.total_at}}
-use Rattle.{layer_traits.proofs.OnePlaceLemmas.total_none, cpu.specs.Table.{Blocks.{Buffer, OfBuffer}, Setups.{Setup, Private, thread_at, home_of}}}
+use Rattle.layer_traits.specs.Threads.{ListsAgree.same_list, Passes.as_list, OnePlace.total, Places.{Where, Home, Hand, Pend as IsPending, Asleep, At, is_home}}
+use Rattle.layer_traits.{specs.Threads.Places.{is_hand, is_thread, one_if, count_in}, proofs.CountLemmas.{count_append, count_as_list}}
+use Rattle.{layer_traits.proofs.OnePlaceLemmas.{total_at, total_none}, cpu.specs.Table.{Blocks.{Buffer, OfBuffer}, Setups.{Setup, Private, thread_at, home_of}}}
 use Rattle.cpu.specs.{Table.{Steps.{Whole, cpu_numbered}, Worked.buffer_numbered}, Wakeups.{Order.block_of, Quiet.HomesExist, OnePlace.{own_queues, queues_in}}}
 use Rattle.cpu.specs.Wakeups.OnePlace.{all_of, of_cpu, of_pending, of_buffer, everyone, thread_in, thread_of, is_live, StandInOnePlace}
 use Rattle.cpu.proofs.Wakeups.{Lists.refuted, PostsAndVisits.{sleeps_in, is_pending, is_local, post, visit, marked}, ThreadAtBuffer.{sleeps_here, marked_none}}

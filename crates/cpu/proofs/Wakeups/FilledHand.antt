@@ -3,7 +3,7 @@ use Rattle.std.proofs.Common.{◌≡◌, ℕ, ◌+◌, ◌<◌, ◌==◌, Bool, 
 use Rattle.std.proofs.{Common.{if◌then◌else◌, refl, sym, ap, ◌∙◌, subst, arith}, lemmas.Bool.{eqb-true, eqb-false}}
 use Rattle.event_log.{specs.{declared.ids.{CpuId.CpuId, Tid.Tid}, History.same_cpu, Actions.{Action, phase}, Sections.sections_in}, proofs.ListLemmas.set_else}
 use Rattle.guest.specs.declared.instructions.Instruction.{Instruction, TheVariants.{Send, Recv, Close, Yield as YieldLine}}
-use Rattle.layer_traits.specs.{declared.{steps.Reason.TheVariants.{AllEnded, TraceFull}, call_states.Stage.Stage}, Plans.is_in_section}
+use Rattle.layer_traits.specs.{declared.{steps.Reason.TheVariants.{AllEnded, TraceFull}, call_states.Stage.Stage}, Polling.Plans.is_in_section}
 use Rattle.cpu.specs.Table.{Blocks.{Name, Reported}, Setups.{Setup, Call, Private, thread_at, stands_at, home_threads, open_calls, have_ended}, Choice.Choice}
 use Rattle.cpu.specs.Table.Choice.{Halts, Alone, Goes, with_call, at_instruction, at_call, at_ready, at_current, at_hand, choice, recorded, slept_if, woken}
 use Rattle.cpu.specs.Table.{Choice.{returned_in, settled}, Steps.{acting, chosen, step_in, cpu_step, Whole, system_step, IsReached, boots, steps}}

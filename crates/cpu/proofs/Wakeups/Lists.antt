@@ -1,7 +1,8 @@
 -- Lists of threads: who stands in them, and who is first.
-use Rattle.std.proofs.Common.{◌≡◌, ℕ, true, false, ◌||◌, List, [], ◌∷◌, ◌++◌, Some, None, slice_get, slice_set, ap, arith}
-use Rattle.{std.proofs.lemmas.{Bool.{or_parts, or_from}, Option.slice_get_within}, event_log.{specs.declared.ids.Tid.Tid, proofs.ListLemmas.set_there}}
-use Rattle.{thread_blocks.{specs.Queues.{same_tid, is_in, first}, proofs.Members.same_tid_true}, layer_traits.specs.{Sleeping.joined, BufferBlocks.is_first}}
+use Rattle.std.proofs.{Common.{◌≡◌, ℕ, true, false, ◌||◌, List, [], ◌∷◌, ◌++◌, Some, None, slice_get, slice_set, ap, arith}, lemmas.Bool.{or_parts, or_from}}
+use Rattle.std.proofs.lemmas.Option.{slice_get_within}
+use Rattle.{event_log.{specs.declared.ids.Tid.Tid, proofs.ListLemmas.set_there}, thread_blocks.specs.Queues.{same_tid, is_in, first}}
+use Rattle.{thread_blocks.proofs.Members.same_tid_true, layer_traits.specs.{Layers.Sleeping.joined, Blocks.BufferBlocks.is_first}}
 pub use Rattle.event_log.proofs.BoolLemmas.{refuted}
 
 pub none_is_not : {A : Type 0} {t : Tid} → None ≡ Some t → A

@@ -3,9 +3,9 @@ use Rattle.std.proofs.Common.{◌≡◌, ◌≢◌, ℕ, zero, suc, ◌+◌, ◌
 use Rattle.std.proofs.{Common.{arith, length, Some, slice_get, slice_set, zero-add}, lemmas.{Bool.{cases_eq, cases_lt, ne_eqb}, List.length-append}}
 use Rattle.std.{proofs.lemmas.List.{length-set, Elements.All-append}, specs.List.All}
 use Rattle.event_log.{specs.{declared.ids.CpuId.CpuId, History.{same_cpu, own_events}, Actions.{Action, cpu_of_action}}, proofs.Same.same_cpu_self}
-use Rattle.{event_log.proofs.ListLemmas.set_else, layer_traits.specs.{declared.steps.Step.TheVariants.Stepped, Along.{starts, others, steps}}}
+use Rattle.{event_log.proofs.ListLemmas.set_else, layer_traits.specs.{declared.steps.Step.TheVariants.Stepped, Polling.Along.{starts, others, steps}}}
 use Rattle.cpu.specs.{Sound.after_steps, Table.{Blocks.Name, Setups.{Setup, Private, at_boot}, Steps.{Whole, AlongTable, boots_from, cpu_numbered, cpu_step}}}
-use Rattle.cpu.{specs.{Table.Steps.{system_step, whole_at_boot}, Wakeups.{Lost.IsWorked, Merged.WorkIsARun}}, proofs.ReachedSystems.after_more}
+use Rattle.cpu.{specs.{Table.Steps.{system_step, whole_at_boot}, Wakeups.{Lost.IsWorked, Merged.WorkIsARun}}, proofs.StepTable.ReachedSystems.after_more}
 use Rattle.cpu.proofs.Wakeups.{Lists.{refuted, same_head, same_tail, set_here}, SystemInv.boots_length}
 
 -- ---- lists

@@ -3,7 +3,7 @@ use Rattle.std.proofs.Common.{◌≡◌, ◌≢◌, ◌≤◌, Bool, true, false
 use Rattle.std.proofs.{lemmas.{Bool.{and_parts, and_from, and_right, false_from_ne_true}, Option.same_Some}, Math.Bool.and-true}
 use Rattle.{event_log.specs.declared.ids.{CpuId.CpuId, Tid.Tid, BufId.BufId, LockId.TheVariants.Buffer as AtBuffer}, thread_blocks.specs.Queues.first}
 use Rattle.{thread_blocks.proofs.Members.same_tid_self, layer_traits.specs.declared.locked.Side.{Side, TheVariants.{Receivers, Senders}}}
-use Rattle.layer_traits.specs.{declared.moves.WaitList.WaitList, Places.{Where, Home, Asleep, At, is_thread, count_in}, BufferBlocks.may_join}
+use Rattle.layer_traits.specs.{declared.moves.WaitList.WaitList, Threads.Places.{Where, Home, Asleep, At, is_thread, count_in}, Blocks.BufferBlocks.may_join}
 use Rattle.{layer_traits.proofs.CountLemmas.{count_append, not_counted}, cpu.specs.Table.Blocks.{Buffer, Name, AcqQ, Enter, TryPut, TryTake, Shut, WaitOn}}
 use Rattle.cpu.specs.Table.{Blocks.{SigRecv, SigSend, RelQ}, Edits.{acquired, line_of, entered, waiting, released, edited_buffer, answer_of_acquire}}
 use Rattle.cpu.specs.{Table.{Edits.answer_of_buffer, Setups.Setup}, Wakeups.Order.{Progress, Begins, HasEntered, WasRefused, Owes, progress_after, MayEdit}}

@@ -4,7 +4,7 @@ use Rattle.std.proofs.Common.{◌≡◌, ℕ, zero, suc, ◌<◌, Bool, true, fa
 use Rattle.std.proofs.{Common.{if◌then◌else◌, refl, sym, ap, subst, arith}, lemmas.{Bool.and_parts, Option.slice_get_within}}
 use Rattle.event_log.specs.{declared.ids.{CpuId.CpuId, Tid.Tid, BufId.BufId, LockId.{LockId, TheVariants.{Pending, Buffer as AtBuffer}}}, History.same_lock}
 use Rattle.{event_log.specs.Sections.Section, layer_traits.specs.declared.{locked.Side.TheVariants.{Receivers, Senders}, moves.WaitList.WaitList}}
-use Rattle.{layer_traits.specs.Places.{Where, Hand, Asleep, At, is_thread}, cpu.specs.Table.{Blocks.{Buffer, Block, OfBuffer, Name}, Edits.edited}}
+use Rattle.{layer_traits.specs.Threads.Places.{Where, Hand, Asleep, At, is_thread}, cpu.specs.Table.{Blocks.{Buffer, Block, OfBuffer, Name}, Edits.edited}}
 use Rattle.cpu.{specs.{Table.{Edits.answer_of_buffer, Setups.{Setup, opening_buffer}}, Wakeups.Order.block_of}, proofs.Wakeups.PostsAndVisits.{Waiting, Visit}}
 use Rattle.cpu.proofs.Wakeups.PostsAndVisits.{Outside, is_caller, waiters_of, post_woken, post_pending, post_buffer, post, next_visit, visit_buffer, visit}
 use Rattle.cpu.proofs.Wakeups.{PostsAndVisits.{MayComeTo, MayComeAt}, BuffersAndThreads.{CallersAre, callers_are, is_the_caller}}

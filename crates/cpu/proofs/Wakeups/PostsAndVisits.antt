@@ -3,10 +3,11 @@
 use Rattle.std.proofs.Common.{◌≡◌, ℕ, Bool, true, false, ◌&&◌, ◌==◌, List, [], ◌∷◌, length, Option, Some, None, nat_lt, if◌then◌else◌}
 use Rattle.event_log.specs.declared.ids.{CpuId.CpuId, Tid.Tid, BufId.BufId, LockId.{LockId, TheVariants.{Pending, Buffer as AtBuffer}}, TheConstants.THREADS}
 use Rattle.{event_log.specs.{History.{same_cpu, same_lock}, Sections.Section}, thread_blocks.specs.Queues.same_tid}
-use Rattle.layer_traits.specs.{declared.{locked.Side.{Side, TheVariants.{Receivers, Senders}}, moves.WaitList.WaitList}, ListsAgree.is_at, Places.{Where, Home}}
-use Rattle.{layer_traits.specs.Places.{Hand, Pend as IsPending, Asleep, At, wait_channel_of, is_thread, one_if}, cpu.specs.Table.Blocks.{Buffer, Block}}
-use Rattle.cpu.specs.Table.{Blocks.{OfBuffer, Name, AcqQ, Enter, TryPut, TryTake, Shut, WaitOn, SigRecv, SigSend, RelQ, Pend, TakeAll}, Edits.answer_of_buffer}
-use Rattle.cpu.specs.{Table.Setups.{Setup, home_of}, Wakeups.Order.{Progress, Begins, HasEntered, WasRefused, Owes, MayTry, progress_after, block_of}}
+use Rattle.layer_traits.specs.{declared.{locked.Side.{Side, TheVariants.{Receivers, Senders}}, moves.WaitList.WaitList}, Threads.ListsAgree.is_at}
+use Rattle.layer_traits.specs.Threads.Places.{Where, Home, Hand, Pend as IsPending, Asleep, At, wait_channel_of, is_thread, one_if}
+use Rattle.cpu.specs.Table.Blocks.{Buffer, Block, OfBuffer, Name, AcqQ, Enter, TryPut, TryTake, Shut, WaitOn, SigRecv, SigSend, RelQ, Pend, TakeAll}
+use Rattle.cpu.specs.{Table.{Edits.answer_of_buffer, Setups.{Setup, home_of}}, Wakeups.Order.{Progress, Begins, HasEntered, WasRefused, Owes, MayTry}}
+use Rattle.cpu.specs.Wakeups.Order.{progress_after, block_of}
 use Rattle.layer_traits.specs.declared.moves.WaitList.TheVariants as wait_list
 
 -- where a thread is in its call, as its sections tell: in none, at a buffer with what it has done there as the owner of the lock, or it waits

@@ -1,10 +1,10 @@
 -- The worked runs meet the premises of the laws.
 use Rattle.std.proofs.Common.{◌≡◌, ℕ, zero, suc, ◌<◌, ◌≤◌, false, List, [], ◌∷◌, slice_get, Some, None, refl, subst, arith}
 use Rattle.event_log.specs.declared.{ids.{CpuId.CpuId, Tid.Tid, LockId.TheVariants.Pending, TheConstants.THREADS}, entries.Kind.TheVariants.Send as SendKind}
-use Rattle.{event_log.specs.{Runs.Sends, Actions.phase}, layer_traits.specs.Plans.is_in_section, cpu.specs.Table.{Blocks.OfPending, Setups.{Setup, Private}}}
-use Rattle.cpu.specs.Table.{Setups.home_of, Worked.{thread, buffer_numbered, one_sender, two_sends}, Steps.{Whole, IsReached, boots, steps, steps_by}}
-use Rattle.cpu.specs.{Table.Steps.{system_step, cpu_numbered, whole_at_boot, block_at, halted_at}, Wakeups.{Quiet.{IsQuietBy, IsQuiet}, Met.waiting_sender}}
-use Rattle.cpu.{specs.Wakeups.Met.{at_send, PremisesAreMet}, proofs.Wakeups.ReachedStates.same_private}
+use Rattle.{event_log.specs.{Runs.Sends, Actions.phase}, layer_traits.specs.Polling.Plans.is_in_section, cpu.specs.Table.{Blocks.OfPending, Setups.Setup}}
+use Rattle.cpu.specs.Table.{Setups.{Private, home_of}, Worked.{thread, buffer_numbered, one_sender, two_sends}, Steps.{Whole, IsReached, boots, steps}}
+use Rattle.cpu.specs.{Table.Steps.{steps_by, system_step, cpu_numbered, whole_at_boot, block_at, halted_at}, Wakeups.Quiet.{IsQuietBy, IsQuiet}}
+use Rattle.cpu.{specs.Wakeups.Met.{waiting_sender, at_send, PremisesAreMet}, proofs.Wakeups.ReachedStates.same_private}
 
 -- steps from a reached state
 steps_reached : (setup : Setup) (room : ℕ) (c : CpuId) → c.0 < setup.cpus → (n : ℕ) (s : Whole)

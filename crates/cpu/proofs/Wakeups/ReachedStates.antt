@@ -5,13 +5,13 @@ use Rattle.std.proofs.{lemmas.{Bool.{ne_eqb, eqb-true, eqb-false, lt-ltb, le-ltb
 use Rattle.event_log.specs.{declared.ids.{CpuId.CpuId, Tid.Tid, LockId.LockId}, History.{same_cpu, IsLawful}, Sections.sections_in, Actions.{Action, Take, Try}}
 use Rattle.event_log.{specs.Actions.{Give, Phase, Rests, Waits as WaitsAt, Holds, phase, cpu_of_action, spot_of, gives, action_in}, proofs.Same.same_cpu_true}
 use Rattle.{event_log.proofs.{Exclusion.{phase_own, phase_other}, ListLemmas.set_else}, layer_traits.specs.declared.steps.Step.TheVariants.Stepped}
-use Rattle.{layer_traits.specs.{Places.{one_if, count_in}, Plans.{is_in_section, at_give}, Along.Outcome, Passes.or_else}, cpu.specs.Table.Blocks.Name}
-use Rattle.cpu.specs.Table.{Edits.answer, Setups.{Setup, Private, new_thread, home_threads_from, at_boot}, Choice.{asked, Choice, Halts, Alone, Goes, choice}}
-use Rattle.cpu.specs.Table.Steps.{after_reply, chosen, step_in, cpu_step, Whole, cpu_numbered, boots_from, whole_at_boot, whole_after, step_at, system_step}
-use Rattle.cpu.specs.{Table.Steps.{IsReached, boots, steps}, Wakeups.{Order.block_of, Lost.{SystemsKeepOrder, SystemsLoseNoWakeUp, FreeLocksHaveNoSleepers}}}
-use Rattle.cpu.proofs.Wakeups.{Lists.refuted, Ordered.{buffer_awake, order_loses_no_wake_up}, PostsAndVisits.{post, visit, MayComeAt}, BuffersAndThreads.Good}
-use Rattle.cpu.proofs.Wakeups.{BuffersAndThreads.{good_none, good_step}, Agreement.{Agrees, IsSettled}, CpuStep.{foreign_step, give_ok}, ChosenSteps.ChoiceOk}
-use Rattle.cpu.proofs.Wakeups.ChosenSteps.{choice_ok}
+use Rattle.layer_traits.specs.{Threads.{Places.{one_if, count_in}, Passes.or_else}, Polling.{Plans.{is_in_section, at_give}, Along.Outcome}}
+use Rattle.cpu.specs.Table.{Blocks.Name, Edits.answer, Setups.{Setup, Private, new_thread, home_threads_from, at_boot}, Choice.{asked, Choice, Halts, Alone}}
+use Rattle.cpu.specs.Table.{Choice.{Goes, choice}, Steps.{after_reply, chosen, step_in, cpu_step, Whole, cpu_numbered, boots_from, whole_at_boot, whole_after}}
+use Rattle.cpu.specs.{Table.Steps.{step_at, system_step, IsReached, boots, steps}, Wakeups.{Order.block_of, Lost.{SystemsKeepOrder, SystemsLoseNoWakeUp}}}
+use Rattle.cpu.{specs.Wakeups.Lost.FreeLocksHaveNoSleepers, proofs.Wakeups.{Lists.refuted, Ordered.{buffer_awake, order_loses_no_wake_up}, PostsAndVisits.post}}
+use Rattle.cpu.proofs.Wakeups.{PostsAndVisits.{visit, MayComeAt}, BuffersAndThreads.{Good, good_none, good_step}, Agreement.{Agrees, IsSettled}}
+use Rattle.cpu.proofs.Wakeups.{CpuStep.{foreign_step, give_ok}, ChosenSteps.{ChoiceOk, choice_ok}}
 
 -- Logs of actions.
 

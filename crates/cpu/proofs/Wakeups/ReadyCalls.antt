@@ -1,17 +1,17 @@
 -- A call that is ready, on a CPU alone, returns after just so many steps.
-use Rattle.std.proofs.Common.{◌≡◌, ℕ, ◌+◌, ◌<◌, ◌≤◌, Bool, true, false, ◌&&◌, List, [], ◌∷◌, ◌++◌, length, Option, Some, None, is_some, if◌then◌else◌}
-use Rattle.std.proofs.{Common.{refl, sym, ap, ◌∙◌, subst, arith, length-append}, lemmas.Bool.{and_from, cases_lt, lt-ltb, or_right}}
+use Rattle.std.proofs.Common.{◌≡◌, ℕ, ◌+◌, ◌<◌, ◌≤◌, Bool, true, false, ◌&&◌, List, [], ◌∷◌, ◌++◌, length, Option, Some, None, is_some, if◌then◌else◌, refl}
+use Rattle.std.proofs.{Common.{sym, ap, ◌∙◌, subst, arith, length-append}, lemmas.Bool.{and_from, cases_lt, lt-ltb, or_right}}
 use Rattle.event_log.specs.declared.{ids.{CpuId.CpuId, Tid.Tid, BufId.BufId, LockId.TheVariants.Buffer as AtBuffer, TheConstants.THREADS}, entries.Kind.Kind}
 use Rattle.event_log.specs.declared.entries.{Kind.TheVariants.{Send as SendKind, Recv as RecvKind, Close as CloseKind, SendClosed, RecvClosed}, Entry.Entry}
 use Rattle.event_log.specs.{Messages.Message, Runs.{Group, Sends, Receives, Closes, group_of}, Sections.sections_in}
 use Rattle.{guest.specs.declared.instructions.Instruction.Instruction, thread_blocks.{specs.Queues.{first, rest}, proofs.Members.same_tid_self}}
 use Rattle.layer_traits.specs.declared.{locked.Side.TheVariants.{Receivers, Senders}, call_states.Stage.TheVariants.{Enters, Tries, Signals}}
-use Rattle.{layer_traits.specs.BufferBlocks.{is_first, first_item}, cpu.specs.Table.Blocks.{Buffer, OfBuffer, Reported, Done, WasClosed, DidShut, NotYet}}
-use Rattle.cpu.specs.Table.{Blocks.{front, front_stands_in, side_of}, Edits.{may_go, due_on, entered, put, taken, shut}}
-use Rattle.cpu.specs.Table.{Edits.{report_of_put, report_of_take, reports, wakes, edited_buffer, answer_of_buffer}, Setups.{Setup, Call, Private, stands_at}}
-use Rattle.cpu.specs.Table.{Setups.{home_threads, have_ended}, Steps.{Whole, IsReached, block_at, steps_by}, Choice.{Goes, new_call, with_call, at_call}}
-use Rattle.cpu.specs.{Table.Choice.{choice, first_signal, second_signal, effected, entry_of, recorded_try}, Wakeups.{Lost.Allows, Order.progress, Quiet.AreFew}}
-use Rattle.cpu.specs.Wakeups.Alone.{IsCallOn, HasEmptyLine, IsInCall, IsReady, HasReturned, CallsReturnAlone, first_waiter, steps_to_move, steps_to_return}
+use Rattle.{layer_traits.specs.Blocks.BufferBlocks.{is_first, first_item}, cpu.specs.Table.Blocks.{Buffer, OfBuffer, Reported, Done, WasClosed, DidShut}}
+use Rattle.cpu.specs.Table.{Blocks.{NotYet, front, front_stands_in, side_of}, Edits.{may_go, due_on, entered, put, taken, shut, report_of_put, report_of_take}}
+use Rattle.cpu.specs.Table.{Edits.{reports, wakes, edited_buffer, answer_of_buffer}, Setups.{Setup, Call, Private, stands_at, home_threads, have_ended}}
+use Rattle.cpu.specs.Table.{Steps.{Whole, IsReached, block_at, steps_by}, Choice.{Goes, new_call, with_call, at_call, choice, first_signal, second_signal}}
+use Rattle.cpu.specs.{Table.Choice.{effected, entry_of, recorded_try}, Wakeups.{Lost.Allows, Order.progress, Quiet.AreFew, Alone.{IsCallOn, HasEmptyLine}}}
+use Rattle.cpu.specs.Wakeups.Alone.{IsInCall, IsReady, HasReturned, CallsReturnAlone, first_waiter, steps_to_move, steps_to_return}
 use Rattle.cpu.proofs.Wakeups.{Lists.refuted, Ordered.{buffer_awake, going}, Awake.{IsCalm, Fits, IsAwake}, PostsAndVisits.{is_local, post, visit}}
 use Rattle.cpu.proofs.Wakeups.{Agreement.{Agrees, runs, known_of, within}, ReachedStates.{reached_sound, systems_keep_order, free_locks_have_no_sleepers}}
 use Rattle.cpu.proofs.Wakeups.{FilledHand.reached_filled, WithinCapacity.holds_no_more, CpuAlone.with_new, CallsAlone.{Gets, Returned, acquires, enters_line}}

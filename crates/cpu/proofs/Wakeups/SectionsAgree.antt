@@ -3,17 +3,17 @@ use Rattle.std.proofs.Common.{◌≡◌, ℕ, ◌+◌, ◌<◌, Bool, true, fals
 use Rattle.std.proofs.{Common.{sym, ap, ◌∙◌, subst, arith}, lemmas.Bool.{and_from, and_left, and_right, false_from_ne_true}}
 use Rattle.event_log.specs.{declared.{ids.{CpuId.CpuId, Tid.Tid}, entries.Entry.Entry}, History.same_cpu, Messages.Message, Runs.{Group, Sends, Receives}}
 use Rattle.{event_log.specs.Runs.Closes, guest.specs.State.State, thread_blocks.{specs.Queues.same_tid, proofs.Members.{same_tid_self, same_tid_true}}}
-use Rattle.layer_traits.specs.declared.{locked.Side.TheVariants.{Receivers, Senders}, call_states.Stage.{Stage, TheVariants.{Idle, Acquires, Enters}}}
-use Rattle.layer_traits.specs.{declared.call_states.Stage.TheVariants.{Tries, Waits, AcquiresAgain, Signals, SignalsOwn, Releases}, Places.Where}
-use Rattle.layer_traits.{specs.Places.{Pend as IsPending, is_home, is_hand, is_thread, one_if, count_in}, proofs.CountLemmas.{same_tid_sym, count_append}}
-use Rattle.cpu.specs.Table.{Blocks.{Buffer, Name, Pend, TakeAll, side_of, Reported, Done, WasClosed, NotYet, Answer}, Edits.{report_of_put, report_of_take}}
-use Rattle.cpu.specs.Table.{Edits.{answer_of_buffer, drawn_position}, Setups.{Setup, Call, Thread, Private, thread_at, with_thread, home_of, stands_at}}
-use Rattle.cpu.specs.Table.Choice.{section_at, first_section, with_call, with_guest, goes_to, recorded, recorded_entry}
-use Rattle.cpu.specs.Table.Choice.{recorded_try, entry_of, slept_if, woken, returned_at, returned_in, settled, guest_after, after_call}
+use Rattle.layer_traits.specs.declared.{locked.Side.TheVariants.{Receivers, Senders}, call_states.Stage.{Stage, TheVariants.{Idle, Acquires, Enters, Tries}}}
+use Rattle.layer_traits.specs.{declared.call_states.Stage.TheVariants.{Waits, AcquiresAgain, Signals, SignalsOwn, Releases}, Threads.Places.Where}
+use Rattle.layer_traits.{specs.Threads.Places.{Pend as IsPending, is_home, is_hand, is_thread, one_if, count_in}, proofs.CountLemmas.same_tid_sym}
+use Rattle.{layer_traits.proofs.CountLemmas.count_append, cpu.specs.Table.Blocks.{Buffer, Name, Pend, TakeAll, side_of, Reported, Done, WasClosed, NotYet}}
+use Rattle.cpu.specs.Table.{Blocks.Answer, Edits.{report_of_put, report_of_take, answer_of_buffer, drawn_position}, Setups.{Setup, Call, Thread, Private}}
+use Rattle.cpu.specs.Table.{Setups.{thread_at, with_thread, home_of, stands_at}, Choice.{section_at, first_section, with_call, with_guest, goes_to, recorded}}
+use Rattle.cpu.specs.Table.Choice.{recorded_entry, recorded_try, entry_of, slept_if, woken, returned_at, returned_in, settled, guest_after, after_call}
 use Rattle.cpu.{specs.Wakeups.Order.{Begins, HasEntered, WasRefused, Owes}, proofs.Wakeups.{Lists.refuted, PostsAndVisits.{Visit, Outside, In, is_pending}}}
 use Rattle.cpu.proofs.Wakeups.PostsAndVisits.{caller_in, is_caller, waiters_of, post_slept, post_moved, post_drained, post_pending, next_visit, visit_moved}
-use Rattle.cpu.proofs.Wakeups.{PostsAndVisits.is_local, Agreement.{visit_of_stage, visit_of_call, is_last, is_done, seat, Agrees, IsSettled}}
-use Rattle.cpu.proofs.Wakeups.Agreement.{at_same, at_other, Same, same_with, agrees_same, runs, within, agrees_slept, agrees_woken}
+use Rattle.cpu.proofs.Wakeups.{PostsAndVisits.is_local, Agreement.{visit_of_stage, visit_of_call, is_last, is_done, seat, Agrees, IsSettled, at_same, at_other}}
+use Rattle.cpu.proofs.Wakeups.Agreement.{Same, same_with, agrees_same, runs, within, agrees_slept, agrees_woken}
 
 -- A call returns once the hand is empty.
 

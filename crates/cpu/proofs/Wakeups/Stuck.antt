@@ -1,17 +1,17 @@
 -- A quiet state that a system reaches is stuck.
-use Rattle.std.proofs.Common.{◌≡◌, ◌+◌, ◌<◌, true, false, not, ◌&&◌, List, [], ◌∷◌, length, slice_get, Option, Some, None, nat_lt, refl, sym, ap, ◌∙◌}
-use Rattle.std.proofs.{Common.{subst, arith}, lemmas.Bool.{and_parts, and_from, false_from_ne_true, lt-ltb, ltb-true}}
+use Rattle.std.proofs.Common.{◌≡◌, ◌+◌, ◌<◌, true, false, not, ◌&&◌, List, [], ◌∷◌, length, slice_get, Option, Some, None, nat_lt, refl, sym, ap, ◌∙◌, subst}
+use Rattle.std.proofs.{Common.arith, lemmas.Bool.{and_parts, and_from, false_from_ne_true, lt-ltb, ltb-true}}
 use Rattle.event_log.specs.declared.ids.{CpuId.CpuId, Tid.Tid, BufId.BufId, LockId.TheVariants.{Pending, Buffer as AtBuffer}, TheConstants.THREADS}
 use Rattle.event_log.specs.{declared.entries.Kind.{Kind, TheVariants.{Recv as RecvKind, SendClosed, RecvClosed}}, Messages.{Message, no_message}, Runs.Group}
 use Rattle.event_log.{specs.{Runs.{Sends, Receives, Closes, group_of}, History.same_cpu, Sections.sections_in}, proofs.Same.same_cpu_self}
 use Rattle.{guest.specs.{declared.instructions.Instruction.Instruction, State.State}, thread_blocks.{specs.Queues.first, proofs.Members.same_tid_self}}
 use Rattle.layer_traits.specs.declared.{steps.Reason.Reason, locked.Side.{Side, TheVariants.{Receivers, Senders}}, call_states.Stage.TheVariants.AcquiresAgain}
-use Rattle.layer_traits.specs.Places.{Where, Home, Hand, Pend as IsPending, Asleep, At, is_home, is_hand, is_thread, one_if, count_in}
+use Rattle.layer_traits.specs.Threads.Places.{Where, Home, Hand, Pend as IsPending, Asleep, At, is_home, is_hand, is_thread, one_if, count_in}
 use Rattle.{layer_traits.proofs.ListsLemmas.counted_in, cpu.specs.Table.{Blocks.{Buffer, OfBuffer, side_of}, Edits.{line_of, waiting_of}, Setups.{Setup, Call}}}
-use Rattle.cpu.specs.{Table.{Setups.{Private, thread_at, home_of, stands_at}, Steps.{Whole, block_at, halted_at}}, Wakeups.Order.{progress}}
-use Rattle.cpu.specs.Wakeups.{Lost.Allows, Quiet.{HomesExist, IsQuietBy, IsQuiet, IsNextEffect, IsStuckCall, IsLive, IsStuck, QuietIsStuck}}
-use Rattle.cpu.proofs.Wakeups.{Lists.refuted, Ordered.{buffer_awake, calm_loses_nothing}, PostsAndVisits.{Waiting, Visit, Outside, list_of, sleeps_in, is_side}}
-use Rattle.cpu.proofs.Wakeups.{PostsAndVisits.{is_pending, names, goes_on, starts_here, stands, is_lined, is_local, post, visit, marked}, ThreadAtBuffer.Pair}
+use Rattle.cpu.specs.{Table.{Setups.{Private, thread_at, home_of, stands_at}, Steps.{Whole, block_at, halted_at}}, Wakeups.{Order.progress, Lost.Allows}}
+use Rattle.cpu.{specs.Wakeups.Quiet.{HomesExist, IsQuietBy, IsQuiet, IsNextEffect, IsStuckCall, IsLive, IsStuck, QuietIsStuck}, proofs.Wakeups.Lists.refuted}
+use Rattle.cpu.proofs.Wakeups.{Ordered.{buffer_awake, calm_loses_nothing}, PostsAndVisits.{Waiting, Visit, Outside, list_of, sleeps_in, is_side, is_pending}}
+use Rattle.cpu.proofs.Wakeups.{PostsAndVisits.{names, goes_on, starts_here, stands, is_lined, is_local, post, visit, marked}, ThreadAtBuffer.Pair}
 use Rattle.cpu.proofs.Wakeups.ThreadAtBuffer.{buffer_self, buffer_true, sleeps_here, marked_some, front_counted, line_count, wait_count}
 use Rattle.cpu.proofs.Wakeups.{BuffersAndThreads.Good, Placed.{IsPlaced, buffer_there}, Agreement.{visit_of_call, seat, Agrees}, EndedThreads.is_before}
 use Rattle.cpu.proofs.Wakeups.{EndedThreads.{HasLine, FitsGroup, Says}, ReachedStates.fair_good, SystemInv.{SystemInv, reached_inv, cpu_there}}

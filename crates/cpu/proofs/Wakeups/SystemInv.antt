@@ -2,13 +2,13 @@
 use Rattle.std.proofs.Common.{◌≡◌, ℕ, zero, suc, ◌+◌, ◌<◌, ◌==◌, Bool, true, false, List, [], ◌∷◌, ◌++◌, length, slice_get, slice_set, Option, Some, None, refl}
 use Rattle.std.proofs.{Common.{sym, ap, ◌∙◌, subst, arith}, lemmas.{Bool.{eqb-true, eqb-false}, List.length-set}}
 use Rattle.event_log.specs.{declared.ids.{CpuId.CpuId, Tid.Tid}, History.same_cpu, Sections.sections_in, Actions.{Action, Take, Try, Give, phase}}
-use Rattle.{layer_traits.specs.{declared.steps.Step.{Step, TheVariants.{Stepped, Halted}}, Plans.is_in_section}, cpu.specs.Table.{Blocks.Name, Setups.Setup}}
-use Rattle.cpu.specs.Table.{Setups.{Private, thread_at, at_boot}, Choice.{Choice, Halts, Alone, Goes, choice}, Steps.{chosen, step_in, cpu_step, Whole}}
-use Rattle.cpu.specs.Table.Steps.{cpu_numbered, boots_from, whole_at_boot, whole_after, roomy, answered_by, step_at, system_step, IsReached, boots, steps}
-use Rattle.cpu.proofs.Wakeups.{PostsAndVisits.{post, visit}, Placed.{Placed, placed_none, placed_at}, Agreement.{Agrees, runs, within}, ChosenSteps.ChoiceOk}
-use Rattle.cpu.proofs.Wakeups.{ChosenSteps.choice_ok, EndedThreads.{AllFine, fine_at_boot, FineChoice, fine_choice, fine_acting}, ReachedStates.{IsFairLog, Ok}}
-use Rattle.cpu.proofs.Wakeups.ReachedStates.{StepOk, step_ok, AllDo, Sound, sound_step, reached_sound, get_set, boots_at}
-use Rattle.event_log.proofs.ListLemmas.{set_else}
+use Rattle.{event_log.proofs.ListLemmas.set_else, layer_traits.specs.{declared.steps.Step.{Step, TheVariants.{Stepped, Halted}}, Polling.Plans.is_in_section}}
+use Rattle.cpu.specs.Table.{Blocks.Name, Setups.{Setup, Private, thread_at, at_boot}, Choice.{Choice, Halts, Alone, Goes, choice}, Steps.{chosen, step_in}}
+use Rattle.cpu.specs.Table.Steps.{cpu_step, Whole, cpu_numbered, boots_from, whole_at_boot, whole_after, roomy, answered_by, step_at, system_step, IsReached}
+use Rattle.cpu.{specs.Table.Steps.{boots, steps}, proofs.Wakeups.{PostsAndVisits.{post, visit}, Placed.{Placed, placed_none, placed_at}, Agreement.Agrees}}
+use Rattle.cpu.proofs.Wakeups.{Agreement.{runs, within}, ChosenSteps.{ChoiceOk, choice_ok}, EndedThreads.{AllFine, fine_at_boot, FineChoice, fine_choice}}
+use Rattle.cpu.proofs.Wakeups.{EndedThreads.fine_acting, ReachedStates.{IsFairLog, Ok, StepOk, step_ok, AllDo, Sound, sound_step, reached_sound, get_set}}
+use Rattle.cpu.proofs.Wakeups.ReachedStates.{boots_at}
 
 -- what a step of a system leaves: the same, or the state after its CPU's step
 pub data NextIs (setup : Setup) (c : CpuId) (s : Whole) : Whole → Type 0 where

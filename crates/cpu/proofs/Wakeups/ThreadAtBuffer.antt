@@ -5,15 +5,15 @@ use Rattle.std.proofs.{Common.arith, lemmas.{Bool.{eq-eqb, eqb-true, and_parts, 
 use Rattle.event_log.specs.{declared.ids.{CpuId.CpuId, Tid.Tid, BufId.BufId, LockId.TheVariants.Buffer as AtBuffer, TheConstants.THREADS}, Messages.Message}
 use Rattle.{event_log.{specs.History.same_cpu, proofs.Same.buffer_numbered}, thread_blocks.{specs.Queues.{same_tid, first, rest}, proofs.Members.same_tid_self}}
 use Rattle.{thread_blocks.proofs.Members.same_tid_true, layer_traits.specs.declared.locked.Side.{Side, TheVariants.{Receivers, Senders}}}
-use Rattle.layer_traits.specs.{declared.moves.WaitList.WaitList, ListsAgree.{is_at, same_list}, Places.{Where, Asleep, At, wait_channel_of, is_thread, one_if}}
-use Rattle.layer_traits.{specs.{Places.count_in, Sleeping.joined, BufferBlocks.may_join}, proofs.CountLemmas.{same_tid_sym, count_append, count_front}}
-use Rattle.layer_traits.proofs.{CountLemmas.{in_counted, not_counted, count_behind}, ListsLemmas.{count_without, at_wait_channel, wait_channel_here}}
-use Rattle.cpu.specs.Table.{Blocks.{Buffer, Name, AcqQ, Enter, TryPut, TryTake, Shut, WaitOn, SigRecv, SigSend, RelQ, front_stands_in}, Edits.{may_go, may_try}}
-use Rattle.cpu.specs.Table.Edits.{due_on, without_any, acquired, line_of, entered, put, taken, shut, waiting, released, edited_buffer, answer_of_buffer}
-use Rattle.cpu.specs.{Table.{Edits.{signalled, waiting_of}, Setups.{Setup, home_of}}, Wakeups.Order.{Progress, Begins, HasEntered, WasRefused, Owes}}
-use Rattle.cpu.{specs.Wakeups.Order.{progress_after, progress_signalled, MayEdit}, proofs.Wakeups.{Lists.{refuted, first_is}, PostsAndVisits.Visit}}
-use Rattle.cpu.proofs.Wakeups.PostsAndVisits.{is_buffer, sleeps_in, sleeps_at, is_inside, is_starting, is_lined, InStep, is_caller, post_by, post_woken}
-use Rattle.cpu.proofs.Wakeups.PostsAndVisits.{post_moved, visit_moved, marked, list_of}
+use Rattle.layer_traits.specs.{declared.moves.WaitList.WaitList, Threads.{ListsAgree.{is_at, same_list}, Places.{Where, Asleep, At, wait_channel_of}}}
+use Rattle.layer_traits.specs.{Threads.Places.{is_thread, one_if, count_in}, Layers.Sleeping.joined, Blocks.BufferBlocks.may_join}
+use Rattle.layer_traits.proofs.{CountLemmas.{same_tid_sym, count_append, count_front, in_counted, not_counted, count_behind}, ListsLemmas.count_without}
+use Rattle.{layer_traits.proofs.ListsLemmas.{at_wait_channel, wait_channel_here}, cpu.specs.Table.Blocks.{Buffer, Name, AcqQ, Enter, TryPut, TryTake, Shut}}
+use Rattle.cpu.specs.Table.{Blocks.{WaitOn, SigRecv, SigSend, RelQ, front_stands_in}, Edits.{may_go, may_try, due_on, without_any, acquired, line_of, entered}}
+use Rattle.cpu.specs.Table.{Edits.{put, taken, shut, waiting, released, edited_buffer, answer_of_buffer, signalled, waiting_of}, Setups.{Setup, home_of}}
+use Rattle.cpu.{specs.Wakeups.Order.{Progress, Begins, HasEntered, WasRefused, Owes, progress_after, progress_signalled, MayEdit}, proofs.Wakeups.Lists.refuted}
+use Rattle.cpu.proofs.Wakeups.{Lists.first_is, PostsAndVisits.{Visit, is_buffer, sleeps_in, sleeps_at, is_inside, is_starting, is_lined, InStep, is_caller}}
+use Rattle.cpu.proofs.Wakeups.PostsAndVisits.{post_by, post_woken, post_moved, visit_moved, marked, list_of}
 use Rattle.layer_traits.specs.declared.moves.WaitList.TheVariants as wait_list
 
 -- a thread and a buffer's lock: by who owns it, the lists of its sleepers and of those who wait to send and to receive, and the two lines

@@ -1,8 +1,9 @@
 -- A buffer never holds more than it may.
 use Rattle.std.proofs.Common.{◌≡◌, ℕ, ◌≤◌, Bool, true, ◌||◌, nat_lt, List, [], ◌∷◌, length, Some, option_map, if◌then◌else◌, arith, length-append}
-use Rattle.{std.proofs.lemmas.Bool.{and_parts, ltb-true}, event_log.specs.declared.ids.{BufId.BufId, LockId.TheVariants.Buffer as AtBuffer}}
-use Rattle.{event_log.specs.{History.same_lock, Messages.Message, Sections.Section}, layer_traits.specs.BufferBlocks.{items_put, other_items}}
-use Rattle.cpu.{specs.{Table.{Blocks.{Buffer, OfBuffer, Name}, Edits.edited, Setups.Setup}, Wakeups.Order.block_of}, proofs.Wakeups.Ordered.same_buffer}
+use Rattle.std.proofs.lemmas.Bool.{and_parts, ltb-true}
+use Rattle.event_log.specs.{declared.ids.{BufId.BufId, LockId.TheVariants.Buffer as AtBuffer}, History.same_lock, Messages.Message, Sections.Section}
+use Rattle.{layer_traits.specs.Blocks.BufferBlocks.{items_put, other_items}, cpu.specs.Table.{Blocks.{Buffer, OfBuffer, Name}, Edits.edited, Setups.Setup}}
+use Rattle.cpu.{specs.Wakeups.Order.block_of, proofs.Wakeups.Ordered.same_buffer}
 
 -- a buffer holds no more than it may
 abbrev pub Fits : Buffer → Type 0

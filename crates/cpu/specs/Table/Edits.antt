@@ -1,10 +1,10 @@
 -- What each section makes of the block that it finds, and what it answers.
 use Rattle.std.specs.Prelude.{ℕ, Bool, true, false, ◌&&◌, ◌||◌, nat_lt, List, [], ◌∷◌, ◌++◌, length, Option, Some, None, if◌then◌else◌}
 use Rattle.{event_log.specs.{declared.ids.Tid.Tid, Messages.Message}, thread_blocks.specs.Queues.without, layer_traits.specs.declared.locked.Side.Side}
-use Rattle.layer_traits.specs.{declared.locked.Side.TheVariants.{Receivers, Senders}, Plans.Table, Sleeping.joined, BufferBlocks.{may_join, is_first, counted}}
-use Rattle.{layer_traits.specs.BufferBlocks.{items_put, other_items}, cpu.specs.Table.Blocks.{Buffer, Block, OfBuffer, OfPending, Name, AcqQ, Enter, TryPut}}
-use Rattle.cpu.specs.Table.Blocks.{TryTake, Shut, WaitOn, SigRecv, SigSend, RelQ, Pend, TakeAll, Reported, Nothing, Position, Done, WasClosed, DidShut, NotYet}
-use Rattle.cpu.specs.Table.Blocks.{Drained, Answer, front, behind, front_stands_in}
+use Rattle.layer_traits.specs.{declared.locked.Side.TheVariants.{Receivers, Senders}, Polling.Plans.Table, Layers.Sleeping.joined, Blocks.BufferBlocks.may_join}
+use Rattle.{layer_traits.specs.Blocks.BufferBlocks.{is_first, counted, items_put, other_items}, cpu.specs.Table.Blocks.{Buffer, Block, OfBuffer, OfPending}}
+use Rattle.cpu.specs.Table.Blocks.{Name, AcqQ, Enter, TryPut, TryTake, Shut, WaitOn, SigRecv, SigSend, RelQ, Pend, TakeAll, Reported, Nothing, Position, Done}
+use Rattle.cpu.specs.Table.Blocks.{WasClosed, DidShut, NotYet, Drained, Answer, front, behind, front_stands_in}
 
 -- there is room for one item more
 abbrev pub has_room : Buffer → Bool

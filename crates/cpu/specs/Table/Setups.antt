@@ -3,7 +3,7 @@ use Rattle.std.specs.Prelude.{ℕ, ◌+◌, Bool, true, false, ◌&&◌, List, [
 use Rattle.event_log.specs.declared.{ids.{CpuId.CpuId, Tid.Tid, BufId.BufId, LockId.{LockId, TheVariants.{Pending, Buffer as AtBuffer}}}, entries.Entry.Entry}
 use Rattle.{event_log.specs.{History.same_cpu, Messages.Message, Runs.Group}, guest.specs.{declared.instructions.Instruction.Instruction, State.State}}
 use Rattle.{guest.specs.State.{at_start, next_of}, cpu.specs.Table.Blocks.{Buffer, Block, OfBuffer, OfPending}}
-use Rattle.layer_traits.specs.{declared.call_states.Stage.Stage, Passes.or_else}
+use Rattle.layer_traits.specs.{declared.call_states.Stage.Stage, Threads.Passes.or_else}
 
 -- how many CPUs there are, the home of each thread, its program, the capacity of each buffer, and for how many entries a CPU's trace has room
 pub record Setup : Type 0 where

@@ -1,9 +1,9 @@
 -- One step of a CPU, one step of a system, and the states that a system reaches.
 use Rattle.std.specs.Prelude.{ℕ, ◌+◌, ◌<◌, zero, suc, Bool, true, false, ◌==◌, List, [], ◌∷◌, ◌++◌, Option, Some, None, slice_get, slice_set}
 use Rattle.event_log.specs.{declared.ids.{CpuId.CpuId, LockId.LockId}, Actions.{Action, phase, next_action}, Sections.{block_after, sections_in}}
-use Rattle.layer_traits.specs.{declared.steps.{Reason.{Reason, TheVariants.StepsUsed}, Step.{Step, TheVariants.{Stepped, Halted}}}, Plans.reply}
-use Rattle.{layer_traits.specs.{Plans.is_in_section, Along.{Outcome, Along}}, cpu.specs.Table.{Blocks.{Block, Name, Answer}, Edits.kernel, Setups.Setup}}
-use Rattle.cpu.specs.Table.{Setups.{Private, at_boot, opening}, Choice.{asked, Choice, Halts, Alone, Goes, choice, after_section}}
+use Rattle.layer_traits.specs.{declared.steps.{Reason.{Reason, TheVariants.StepsUsed}, Step.{Step, TheVariants.{Stepped, Halted}}}, Polling.Plans.reply}
+use Rattle.{layer_traits.specs.Polling.{Plans.is_in_section, Along.{Outcome, Along}}, cpu.specs.Table.{Blocks.{Block, Name, Answer}, Edits.kernel}}
+use Rattle.cpu.specs.Table.{Setups.{Setup, Private, at_boot, opening}, Choice.{asked, Choice, Halts, Alone, Goes, choice, after_section}}
 
 -- A CPU's step.
 

@@ -1,13 +1,12 @@
 -- The plan of each poll is a line of the step table: it asks for the table's section, and what it makes of the section's answer is what
 -- the table makes of it.
 use Rattle.std.specs.Prelude.{◌≡◌, ◌⊎◌, ◌<◌, Bool, true, false, List, Option, Some, None, IsSome, length, map, option_map, slice_get}
-use Rattle.layer_traits.specs.OwnParts.{threads_in}
+use Rattle.layer_traits.specs.{Views.OwnParts.threads_in, declared.{calls.{Call.Call, Effect.Effect}, conditions.CvOut.CvOut, buffer_edits.BufferOut.BufferOut}}
+use Rattle.layer_traits.specs.declared.{locked.QOut.QOut, call_states.Stage.{Stage, TheVariants.{Idle, Acquires, Enters, Tries, Waits, AcquiresAgain, Signals}}}
+use Rattle.layer_traits.specs.declared.{call_states.Stage.TheVariants.{SignalsOwn, Releases}, steps.{Reason.Reason, Step.{Step, TheVariants.{Stepped, Halted}}}}
+use Rattle.layer_traits.specs.{Layers.{QLockLaw.slept_for, BufferLaw.{Buffering, fifo_plan, call_state_of}}, Polling.Plans.{Left, Plan, Act, is_in_section}}
 use Rattle.event_log.specs.declared.{entries.Entry.Entry, ids.{BufId.BufId, CpuId.CpuId, LockId.{LockId, TheVariants.{Pending, Buffer}}, Tid.Tid}}
 use Rattle.{event_log.specs.Actions.{Action, phase, renamed}, guest.specs.{declared.instructions.Instruction.Instruction, State.{State, next_of, message_from}}}
-use Rattle.layer_traits.specs.declared.{calls.{Call.Call, Effect.Effect}, conditions.CvOut.CvOut, buffer_edits.BufferOut.BufferOut, locked.QOut.QOut}
-use Rattle.layer_traits.specs.declared.call_states.Stage.{Stage, TheVariants.{Idle, Acquires, Enters, Tries, Waits, AcquiresAgain, Signals, SignalsOwn}}
-use Rattle.layer_traits.specs.declared.{call_states.Stage.TheVariants.Releases, steps.{Reason.Reason, Step.{Step, TheVariants.{Stepped, Halted}}}}
-use Rattle.layer_traits.specs.{QLockLaw.slept_for, Plans.{Left, Plan, Act, is_in_section}, BufferLaw.{Buffering, fifo_plan, call_state_of}}
 use Rattle.cpu.specs.Table.{Blocks.Name, Setups.{Setup, Private, program_of, opening as table_opening}, Choice.{asked, after_section}, Steps.cpu_step}
 use Rattle.cpu.specs.{Table.Steps.halted_at, Tower.{Views.{TowerName, TowerOut, TowerAnswer, TowerBlock, tower, name_of, view, answer_view}, Privates.guest_at}}
 use Rattle.cpu.specs.Tower.Privates.{private_after, private_of}

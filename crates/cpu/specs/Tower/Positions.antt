@@ -1,9 +1,8 @@
 -- How all threads stand to a CPU's part between its polls.
 use Rattle.std.specs.Prelude.{◌≡◌, false, Option, Some, None, length}
-use Rattle.layer_traits.specs.OwnParts.{threads_in}
-use Rattle.{event_log.specs.declared.ids.{BufId.BufId, Tid.Tid, TheConstants.THREADS}, layer_traits.specs.declared.calls.Effect.Effect}
-use Rattle.layer_traits.specs.{declared.call_states.Stage.{Stage, TheVariants.Idle}, QLockLaw.slept_for, Places.is_thread, BufferLaw.{Buffering, call_state_of}}
-use Rattle.cpu.specs.Tower.{Views.TowerOut, Composed.{Stands, FitsStage}}
+use Rattle.layer_traits.specs.{Views.OwnParts.threads_in, declared.{calls.Effect.Effect, call_states.Stage.{Stage, TheVariants.Idle}}}
+use Rattle.layer_traits.specs.{Layers.{QLockLaw.slept_for, BufferLaw.{Buffering, call_state_of}}, Threads.Places.is_thread}
+use Rattle.{event_log.specs.declared.ids.{BufId.BufId, Tid.Tid, TheConstants.THREADS}, cpu.specs.Tower.{Views.TowerOut, Composed.{Stands, FitsStage}}}
 
 -- a thread is in no call, and then it neither sleeps nor waits, or it stands in one as a begun call may
 pub data MayStand : Stage → (hand : Option Tid) → (deferred : Option TowerOut) → (slept waits : Option BufId) → (effect : Option Effect) → Type 0 where

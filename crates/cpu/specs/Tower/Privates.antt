@@ -1,14 +1,13 @@
 -- A CPU's part, its guests by thread number and its trace as the table's private state. Where the part does a woken thread's next
 -- section, or its caller's next one, only once that runs again, the table has already gone on: both do the same actions.
 use Rattle.std.specs.Prelude.{ℕ, ◌+◌, Bool, true, false, ◌&&◌, List, [], ◌∷◌, ◌++◌, Option, Some, None, is_some, option_map, slice_index_or, slice_set}
-use Rattle.layer_traits.specs.OwnParts.{threads_in}
+use Rattle.layer_traits.specs.{Views.OwnParts.threads_in, declared.{calls.{Call.Call as TowerCall, Effect.Effect, Reply.Reply}, passes.Pass.Pass}}
+use Rattle.layer_traits.specs.declared.call_states.Stage.{Stage, TheVariants.{Idle, Acquires, Enters, Tries, Waits, AcquiresAgain, Signals, SignalsOwn}}
+use Rattle.layer_traits.specs.{declared.call_states.{Stage.TheVariants.Releases, CallState.CallState}, Layers.{QLockLaw.slept_for, BufferLaw.Buffering}}
+use Rattle.layer_traits.specs.{Layers.BufferLaw.{begun_at, buffer_of, entry_of, going, call_state_of}, Threads.Places.is_thread, Polling.Plans.Left}
 use Rattle.event_log.specs.{declared.{entries.{Entry.Entry, Kind.Kind}, ids.{BufId.BufId, CpuId.CpuId, Tid.Tid}}, Messages.{Message, no_message}, Runs.Group}
 use Rattle.{event_log.specs.Runs.{Sends, Receives, Closes}, guest.specs.State.{State, at_start, next_of, after_yield}, thread_blocks.specs.Queues.is_in}
-use Rattle.layer_traits.specs.declared.{calls.{Call.Call as TowerCall, Effect.Effect, Reply.Reply}, passes.Pass.Pass, call_states.Stage.Stage}
-use Rattle.layer_traits.specs.declared.call_states.Stage.TheVariants.{Idle, Acquires, Enters, Tries, Waits, AcquiresAgain, Signals, SignalsOwn, Releases}
-use Rattle.layer_traits.specs.{declared.call_states.CallState.CallState, QLockLaw.slept_for, Places.{is_thread}, Plans.Left, BufferLaw.Buffering}
-use Rattle.{layer_traits.specs.BufferLaw.{begun_at, buffer_of, entry_of, going, call_state_of}, cpu.specs.{Guests.after_answer, Table.Setups.{Setup, Call}}}
-use Rattle.cpu.specs.Table.Setups.{Thread, Private, program_of}
+use Rattle.cpu.specs.{Guests.after_answer, Table.Setups.{Setup, Call, Thread, Private, program_of}}
 use Rattle.event_log.specs.declared.entries.Kind.TheVariants as kind
 use Rattle.layer_traits.specs.declared.calls.Call.TheVariants as asks
 use Rattle.layer_traits.specs.declared.passes.Pass.TheVariants as pass

@@ -4,10 +4,11 @@ use Rattle.{event_log.specs.{declared.{entries.Kind.Kind, ids.Tid.Tid}, Messages
 use Rattle.layer_traits.specs.declared.locked.{QEdit.TheVariants.{Inside, Release}, QOut.QOut, Side.{Side, TheVariants.{Receivers, Senders}}}
 use Rattle.layer_traits.specs.declared.conditions.{CvEdit.TheVariants.{Edit, SignalFront}, CvLeave.TheVariants.{Leave, Wait}, CvOut.CvOut}
 use Rattle.layer_traits.specs.declared.{buffer_edits.{BufferEdit.BufferEdit, BufferOut.BufferOut}, queue_edits.{QueueBlock.QueueBlock, QueueEdit.QueueEdit}}
-use Rattle.layer_traits.specs.{declared.{queue_edits.QueueAnswer.QueueAnswer, sleeps.Outcome.Outcome}, BufferBlocks.BufferState, BufferProtocol.buffer_rules}
-use Rattle.layer_traits.specs.{Conditions.CvCall, QLocking.{LockState, lock_moves, lock_rules}, Plans.{Table, table_of}, QueueRules.queue_rules}
-use Rattle.cpu.specs.Table.Blocks.{Buffer, Block, OfBuffer, OfPending, Name, AcqQ, Enter, TryPut, TryTake, Shut, WaitOn, SigRecv, SigSend, RelQ, Pend, TakeAll}
-use Rattle.cpu.specs.Table.{Blocks.{Reported, Nothing, Position, Done, WasClosed, DidShut, NotYet, Drained, Answer}, Edits.{edited, answer, reports}}
+use Rattle.layer_traits.specs.{declared.{queue_edits.QueueAnswer.QueueAnswer, sleeps.Outcome.Outcome}, Blocks.BufferBlocks.BufferState}
+use Rattle.layer_traits.specs.{Blocks.{BufferProtocol.buffer_rules, QueueRules.queue_rules}, Layers.{Conditions.CvCall, QLocking.{LockState, lock_moves}}}
+use Rattle.{layer_traits.specs.{Layers.QLocking.lock_rules, Polling.Plans.{Table, table_of}}, cpu.specs.Table.Blocks.{Buffer, Block, OfBuffer, OfPending, Name}}
+use Rattle.cpu.specs.Table.Blocks.{AcqQ, Enter, TryPut, TryTake, Shut, WaitOn, SigRecv, SigSend, RelQ, Pend, TakeAll, Reported, Nothing, Position, Done}
+use Rattle.cpu.specs.Table.{Blocks.{WasClosed, DidShut, NotYet, Drained, Answer}, Edits.{edited, answer, reports}}
 use Rattle.event_log.specs.declared.entries.Kind.TheVariants as kind
 use Rattle.layer_traits.specs.declared.locked.QOut.TheVariants as lock
 use Rattle.layer_traits.specs.declared.conditions.CvOut.TheVariants as cv

@@ -1,8 +1,9 @@
 -- Every thread has one place: it runs, is ready, is in a hand, is pending, sleeps at a lock or waits at a buffer, and only one of these.
 use Rattle.std.specs.Prelude.{◌≡◌, ℕ, zero, suc, Bool, not, ◌&&◌, nat_lt, List, [], ◌++◌, length, Option, Some, None, slice_get}
-use Rattle.{event_log.specs.declared.ids.{Tid.Tid, LockId.TheVariants.{Pending, Buffer as AtBuffer}}, layer_traits.specs.{Passes.as_list, Places.one_if}}
-use Rattle.{layer_traits.specs.Places.count_in, cpu.specs.Table.{Blocks.{Block, OfBuffer, OfPending}, Setups.{Setup, Thread, Private, new_thread, thread_at}}}
-use Rattle.cpu.specs.{Table.{Setups.home_of, Steps.{Whole, IsReached, cpu_numbered, block_at}, Worked.buffer_numbered}, Wakeups.Quiet.HomesExist}
+use Rattle.{event_log.specs.declared.ids.{Tid.Tid, LockId.TheVariants.{Pending, Buffer as AtBuffer}}, layer_traits.specs.Threads.Passes.as_list}
+use Rattle.{layer_traits.specs.Threads.Places.{one_if, count_in}, cpu.specs.Table.{Blocks.{Block, OfBuffer, OfPending}, Setups.{Setup, Thread, Private}}}
+use Rattle.cpu.specs.Table.{Setups.{new_thread, thread_at, home_of}, Steps.{Whole, IsReached, cpu_numbered, block_at}, Worked.buffer_numbered}
+use Rattle.cpu.specs.Wakeups.Quiet.{HomesExist}
 
 -- the threads that a CPU has: the current one, those that are ready, the one in its hand
 abbrev pub own_queues : Option Private → List Tid

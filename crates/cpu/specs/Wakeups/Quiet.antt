@@ -2,7 +2,7 @@
 use Rattle.std.specs.Prelude.{◌≡◌, ◌≢◌, ℕ, ◌<◌, ◌≤◌, true, false, [], length, Option, Some, None, slice_get}
 use Rattle.event_log.specs.declared.ids.{CpuId.CpuId, Tid.Tid, BufId.BufId, LockId.TheVariants.{Pending, Buffer as AtBuffer}, TheConstants.THREADS}
 use Rattle.event_log.specs.{declared.entries.Kind.Kind, Messages.Message, Runs.{Group, Sends, Receives, Closes, group_of}, Actions.phase}
-use Rattle.{layer_traits.specs.{declared.steps.Reason.Reason, Plans.is_in_section}, guest.specs.declared.instructions.Instruction.Instruction}
+use Rattle.{layer_traits.specs.{declared.steps.Reason.Reason, Polling.Plans.is_in_section}, guest.specs.declared.instructions.Instruction.Instruction}
 use Rattle.guest.specs.{declared.instructions.Instruction.TheVariants.{Set, Add, Sub, Jnz, Send, Recv, Close, Yield as YieldLine, Exit}, State.State}
 use Rattle.{guest.specs.State.message_from, cpu.specs.Table.{Blocks.{Buffer, OfBuffer, OfPending}, Setups.{Setup, Call, Private, thread_at, home_of}}}
 use Rattle.cpu.specs.{Table.{Setups.stands_at, Steps.{Whole, IsReached, block_at, halted_at}}, Wakeups.Lost.Allows}

@@ -1,9 +1,8 @@
 //! What a system tells for the question whether it is quiet, and how long its traces are. No call
 //! takes memory or waits.
 
-ghost use Rattle.layer_traits.specs.OwnParts.{threads_in};
 ghost use Rattle.std.specs.Prelude.{◌≡◌, ◌<◌, length};
-ghost use Rattle.cpu.specs.Calm.{rests};
+ghost use Rattle.{layer_traits.specs.Views.OwnParts.threads_in, cpu.specs.Calm.rests};
 
 use crate::systems::System;
 use event_log::CpuId;

@@ -1,10 +1,8 @@
 //! Systems at boot. The calls here take memory. None waits.
 
-ghost use Rattle.layer_traits.specs.OwnParts.{threads_in};
-ghost use Rattle.layer_traits.specs.Capacities.{caps_in};
-ghost use Rattle.layer_traits.specs.QueueBlocks.{homes_in};
 ghost use Rattle.std.specs.Prelude.{◌≡◌, ℕ, ◌+◌, ◌≤◌, ◌∷◌, ◌++◌, IfOk, Some, None, [], length, map, replicate, slice_get, slice_index_or, vec_capacity};
-ghost use Rattle.{event_log.specs.declared.ids.TheConstants.{CPUS, THREADS}, layer_traits.specs.{BufferLaw.{buffering_at_start, no_call}, Places.at_boot}};
+ghost use Rattle.layer_traits.specs.{Views.OwnParts.threads_in, Blocks.{Capacities.caps_in, QueueBlocks.homes_in}, Layers.BufferLaw.buffering_at_start};
+ghost use Rattle.{layer_traits.specs.{Layers.BufferLaw.no_call, Threads.Places.at_boot}, event_log.specs.declared.ids.TheConstants.{CPUS, THREADS}};
 ghost use Rattle.cpu.specs.Boots.{IsBooted, IsBootedAs};
 
 use crate::cpus::Cpu;
@@ -94,7 +92,7 @@ where
 {
     ghost use Rattle.cpu.specs.{Boots.AreTables, Claims.{FollowPrograms, HasOneOrder, MovesAgree, StandsOnce, StayHome, cpu_shown, shown_of}, Cpus.IsCpu};
     ghost use Rattle.cpu.specs.{Sound.{BootsByTable, SoundByTable}, Observed.ObservedByTable, Systems.IsSystem, Tables.IsTabled};
-    ghost use Rattle.layer_traits.specs.Openings.{AreOpenable};
+    ghost use Rattle.layer_traits.specs.Views.Openings.{AreOpenable};
 
     /// A system before its first step: buffers of these capacities, threads of these homes, and one
     /// CPU for each table of guests, each with room for `limit` entries; with room for `room` steps.

@@ -10,8 +10,8 @@ impl<I: Owned + Drop> System<I>
 where
     I::Machine: Drop,
 {
-    ghost use Rattle.{event_log.specs.declared.ids.CpuId.CpuId, layer_traits.specs.Places.{Pend, where_is}, cpu.specs.Calm.{AllQueuesEmpty, IsQuiet, calm_in}};
-    ghost use Rattle.cpu.specs.{Sound.IsSetupFor, Systems.whole_of, Table.Setups.Setup, Observed.IsStill, Wakeups.Quiet.IsQuiet as IsQuietTable};
+    ghost use Rattle.{event_log.specs.declared.ids.CpuId.CpuId, layer_traits.specs.Threads.Places.{Pend, where_is}, cpu.specs.Calm.{AllQueuesEmpty, IsQuiet}};
+    ghost use Rattle.cpu.specs.{Calm.calm_in, Sound.IsSetupFor, Systems.whole_of, Table.Setups.Setup, Observed.IsStill, Wakeups.Quiet.IsQuiet as IsQuietTable};
 
     /// Whether the system is quiet: each CPU that is not halted has no current thread, nobody ready,
     /// an empty hand and no section under way; each thread of a halted CPU has ended; and all pending

@@ -3,9 +3,9 @@
 //! No call takes memory. `work` waits for other CPUs.
 
 ghost use Rattle.std.specs.Prelude.{◌≡◌, IsSome};
-ghost use Rattle.{event_log.specs.WordsLog.{lock_phase, Idle}, layer_traits.specs.OneLock.opened, table_machine.specs.SeatViews.IsOf};
-ghost use Rattle.boot.specs.declared.locks.LockKind.TheVariants as kind;
+ghost use Rattle.{event_log.specs.WordsLog.{lock_phase, Idle}, layer_traits.specs.Protocols.OneLock.opened, table_machine.specs.SeatViews.IsOf};
 ghost use Rattle.cpu_workers.specs.Counts.{HasMade};
+ghost use Rattle.boot.specs.declared.locks.LockKind.TheVariants as kind;
 
 use crate::counting::sections::work_at;
 use crate::counting::{AddOne, CountLaws, NUMBER};

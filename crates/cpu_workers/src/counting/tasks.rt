@@ -2,7 +2,8 @@
 //! waits for them.
 
 ghost use Rattle.std.specs.Prelude.{◌≡◌, ◌≤◌, [], IsSome, IfOk, IfErr, All, length, map, vec_capacity};
-ghost use Rattle.{layer_traits.specs.OneLock.opened, cpu_workers.specs.{declared.counting.TheConstants.NUMBER, Counts.{AllHaveMade, IsFresh}, Reports.Both}};
+ghost use Rattle.{layer_traits.specs.Protocols.OneLock.opened, cpu_workers.specs.{declared.counting.TheConstants.NUMBER, Counts.{AllHaveMade, IsFresh}}};
+ghost use Rattle.cpu_workers.specs.Reports.{Both};
 
 use crate::counting::AddOne;
 use crate::counting::plan_words::PlanWords;
@@ -23,8 +24,8 @@ struct Counting<'a, K: PlanWords> {
 }
 
 impl<'a, K: PlanWords> Task for Counting<'a, K> {
-    ghost use Rattle.{std.specs.Prelude.IsSome, layer_traits.specs.OneLock.opened, cpu_workers.specs.{declared.counting.TheConstants.NUMBER, Counts.HasMade}};
-    ghost use Rattle.cpu_workers.specs.Counts.{IsFresh};
+    ghost use Rattle.{std.specs.Prelude.IsSome, layer_traits.specs.Protocols.OneLock.opened, cpu_workers.specs.declared.counting.TheConstants.NUMBER};
+    ghost use Rattle.cpu_workers.specs.Counts.{HasMade, IsFresh};
 
     type Done = Key<AddOne>;
 

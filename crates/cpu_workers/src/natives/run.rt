@@ -2,8 +2,8 @@
 //! them.
 
 ghost use Rattle.std.specs.Prelude.{◌≡◌, ◌<◌, ◌≤◌, [], All, IfOk, length, map, vec_capacity};
-ghost use Rattle.{event_log.specs.{declared.ids.TheConstants.{BUFFERS, CPUS, THREADS}, Buffers.IsCapacity}, layer_traits.specs.OneLock.opened};
-ghost use Rattle.{layer_traits.specs.Openings.AreOpenable, table_machine.specs.SeatViews.{Closes, Covers, IsOver, new_seat_views}};
+ghost use Rattle.{event_log.specs.{declared.ids.TheConstants.{BUFFERS, CPUS, THREADS}, Buffers.IsCapacity}, layer_traits.specs.Protocols.OneLock.opened};
+ghost use Rattle.{layer_traits.specs.Views.Openings.AreOpenable, table_machine.specs.SeatViews.{Closes, Covers, IsOver, new_seat_views}};
 ghost use Rattle.cpu_workers.specs.{Closing.tower_rules, Natives.{HaveLeftKeys, HaveRun, OpensWith, left_of, own_homes}};
 
 use crate::natives::Native;

@@ -1,10 +1,9 @@
 //! Natives over machines of their own sides: from before their first calls to what they leave.
 
 ghost use Rattle.std.specs.Prelude.{◌≡◌, ℕ, ◌<◌, ◌≤◌, Some, [], All, IfOk, length, slice_get, vec_capacity};
-ghost use Rattle.layer_traits.specs.{Capacities.caps_in, QueueBlocks.homes_in};
-ghost use Rattle.{event_log.specs.declared.ids.TheConstants.{BUFFERS, CPUS, THREADS}, layer_traits.specs.{BufferEffects.opening_locks, OnePlace.cpu_at}};
-ghost use Rattle.{layer_traits.specs.QueueBlocks.inner, cpu_workers.specs.{Natives.{HasLeftCalls, HasLeftMachine, IsNewCaller, OpensWith}, Reports.Both}};
-ghost use Rattle.cpu_workers.specs.Seating.{IsReady, IsUnused, tower_acts};
+ghost use Rattle.layer_traits.specs.{Blocks.{Capacities.caps_in, QueueBlocks.{homes_in, inner}, BufferEffects.opening_locks}, Threads.OnePlace.cpu_at};
+ghost use Rattle.{event_log.specs.declared.ids.TheConstants.{BUFFERS, CPUS, THREADS}, cpu_workers.specs.Natives.{HasLeftCalls, HasLeftMachine, IsNewCaller}};
+ghost use Rattle.cpu_workers.specs.{Natives.OpensWith, Reports.Both, Seating.{IsReady, IsUnused, tower_acts}};
 
 use crate::natives::Native;
 use crate::natives::tasks::NativeTask;

@@ -2,9 +2,9 @@
 //! call takes memory. `send`, `recv` and `close` wait for other CPUs.
 
 ghost use Rattle.std.specs.Prelude.{◌≡◌, ◌<◌, ◌≤◌, false, [], MatchOption, if◌then◌else◌, is_ok, length};
-ghost use Rattle.layer_traits.specs.Capacities.{caps_in};
+ghost use Rattle.{layer_traits.specs.{Blocks.Capacities.caps_in, Layers.BufferLaw.buffer_of}, event_log.specs.Messages.no_message};
+ghost use Rattle.cpu_workers.specs.Callers.{HasCalled, HasMade};
 ghost use Rattle.event_log.specs.declared.entries.Kind.TheVariants as kind;
-ghost use Rattle.{event_log.specs.Messages.no_message, layer_traits.specs.BufferLaw.buffer_of, cpu_workers.specs.Callers.{HasCalled, HasMade}};
 
 use crate::workers::calling;
 use event_log::{BufId, CpuId, Msg, Tid};
@@ -43,9 +43,9 @@ where
     I::Machine: Drop,
 {
     ghost use Rattle.std.specs.Prelude.{◌≡◌, ◌<◌, None, reverse};
-    ghost use Rattle.layer_traits.specs.{declared.call_states.Stage.TheVariants.Idle, BufferEffects.opening_locks, BufferLaw.call_state_of};
-    ghost use Rattle.layer_traits.specs.{Capacities.caps_in, QueueBlocks.inner};
-    ghost use Rattle.{cpu.specs.Cpus.of_cpu, cpu_workers.specs.Callers.{CallerView, IsCaller}};
+    ghost use Rattle.layer_traits.specs.{declared.call_states.Stage.TheVariants.Idle, Blocks.{BufferEffects.opening_locks, Capacities.caps_in}};
+    ghost use Rattle.{layer_traits.specs.{Blocks.QueueBlocks.inner, Layers.BufferLaw.call_state_of}, cpu.specs.Cpus.of_cpu};
+    ghost use Rattle.cpu_workers.specs.Callers.{CallerView, IsCaller};
 
     ghost Value = { CallerView };
 
@@ -66,8 +66,9 @@ impl<I: CallLayer<IpcLaw> + Drop> Caller<I>
 where
     I::Machine: Drop,
 {
-    ghost use Rattle.{event_log.specs.{declared.ids.TheConstants.THREADS, Actions.phase}, layer_traits.specs.{BufferEffects.opening_locks, QueueBlocks.inner}};
-    ghost use Rattle.{layer_traits.specs.Plans.is_in_section, cpu_workers.specs.{declared.workers.callers.TheConstants.MOST_CALLS, Orders.IsTraceOf}};
+    ghost use Rattle.{event_log.specs.{declared.ids.TheConstants.THREADS, Actions.phase}, layer_traits.specs.Blocks.BufferEffects.opening_locks};
+    ghost use Rattle.layer_traits.specs.{Blocks.QueueBlocks.inner, Polling.Plans.is_in_section};
+    ghost use Rattle.cpu_workers.specs.{declared.workers.callers.TheConstants.MOST_CALLS, Orders.IsTraceOf};
 
     /// The caller of a thread of this CPU before its first call, over a machine of its own side in which
     /// nothing was done, with threads of these homes and so many buffers.

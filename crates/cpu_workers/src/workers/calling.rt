@@ -2,11 +2,10 @@
 //! other CPUs.
 
 ghost use Rattle.std.specs.Prelude.{◌≡◌, ◌≢◌, ◌<◌, None, Some, IfOk, IfErr, length};
-ghost use Rattle.layer_traits.specs.{Capacities.caps_in, OwnParts.threads_in};
-ghost use Rattle.layer_traits.specs.{declared.{call_states.Stage.TheVariants.Idle, passes.Pass.TheVariants.End}, BufferLaw.{Calling, MayGoOn, MayPollCall}};
-ghost use Rattle.layer_traits.specs.{BufferLaw.{Passing, buffer_of, call_state_of}, Passes.MayPass};
-ghost use Rattle.cpu_workers.specs.{declared.workers.calling.Begun.TheVariants.Calls, Calls.{Ends, KeepsOn, MayBegin, MayPoll, Returned, under_way_of}};
-ghost use Rattle.cpu_workers.specs.Idling.{is_idle};
+ghost use Rattle.layer_traits.specs.{Blocks.Capacities.caps_in, Views.OwnParts.threads_in, declared.call_states.Stage.TheVariants.Idle};
+ghost use Rattle.layer_traits.specs.{declared.passes.Pass.TheVariants.End, Layers.BufferLaw.{Calling, MayGoOn, MayPollCall, Passing, buffer_of, call_state_of}};
+ghost use Rattle.{layer_traits.specs.Threads.Passes.MayPass, cpu_workers.specs.{declared.workers.calling.Begun.TheVariants.Calls, Calls.{Ends, KeepsOn}}};
+ghost use Rattle.cpu_workers.specs.{Calls.{MayBegin, MayPoll, Returned, under_way_of}, Idling.is_idle};
 
 use crate::pauses::{SPINS, pause};
 use event_log::Tid;

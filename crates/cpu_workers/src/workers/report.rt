@@ -1,8 +1,8 @@
 //! What the workers of a plan leave behind. No call takes memory or waits.
 
 ghost use Rattle.std.specs.Prelude.{◌≡◌, Some, All};
-ghost use Rattle.{layer_traits.specs.OneLock.opened, table_machine.specs.SeatViews.{Closes, Covers, IsOver}};
-ghost use Rattle.cpu_workers.specs.{Closing.{block_shown, tower_rules}, Lawful.messages_in};
+ghost use Rattle.{layer_traits.specs.Protocols.OneLock.opened, table_machine.specs.SeatViews.{Closes, Covers, IsOver}, cpu_workers.specs.Closing.block_shown};
+ghost use Rattle.cpu_workers.specs.{Closing.tower_rules, Lawful.messages_in};
 
 use crate::counting::plan_words::PlanWords;
 use crate::workers::stops::Stop;

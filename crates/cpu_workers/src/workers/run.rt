@@ -2,11 +2,10 @@
 //! and waits for them.
 
 ghost use Rattle.std.specs.Prelude.{◌≡◌, ◌≤◌, [], IfOk, All, length, map, vec_capacity};
-ghost use Rattle.{layer_traits.specs.OneLock.{AreDistinct, opened}, table_machine.specs.SeatViews.{Closes, Covers, IsOf, IsOver, new_seat_views}};
+ghost use Rattle.{layer_traits.specs.Protocols.OneLock.{AreDistinct, opened}, table_machine.specs.SeatViews.{Closes, Covers, IsOf, IsOver, new_seat_views}};
+ghost use Rattle.{boot.specs.Plan.IsPlan, cpu.specs.Sound.setup_for, cpu_workers.specs.{Closing.{shown, tower_rules}, Lawful.IsLawfulReport, Logs.HasWords}};
+ghost use Rattle.cpu_workers.specs.{ReportRuns.IsReportOfRun, Seating.{HaveLeft, OpensPlan}};
 ghost use Rattle.boot.specs.declared.locks.LockKind.TheVariants as kind;
-ghost use Rattle.{boot.specs.Plan.IsPlan};
-ghost use Rattle.{cpu.specs.Sound.setup_for, cpu_workers.specs.{Closing.{shown, tower_rules}, Lawful.IsLawfulReport, Logs.HasWords, ReportRuns.IsReportOfRun}};
-ghost use Rattle.cpu_workers.specs.Seating.{HaveLeft, OpensPlan};
 
 use crate::counting::plan_words::PlanWords;
 use crate::refusals::WorkerError;

@@ -46,7 +46,7 @@ impl<'a, K: TableWords> TowerSeat<'a, K> {
 
 impl<'a, K: TableWords> Words for TowerSeat<'a, K> {
     ghost use Rattle.std.specs.Prelude.{◌≡◌, ℕ};
-    ghost use Rattle.{event_log.specs.History.IsLawful, layer_traits.specs.{WordsProtocol.{MayCome, edit_of}, OneLock.opened}};
+    ghost use Rattle.{event_log.specs.History.IsLawful, layer_traits.specs.Protocols.{WordsProtocol.{MayCome, edit_of}, OneLock.opened}};
     ghost use Rattle.{table_machine.specs.SeatViews.site_of, cpu_workers.specs.Closing.tower_rules};
 
     type Edit = TowerEdit;

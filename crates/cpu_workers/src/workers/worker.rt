@@ -1,7 +1,7 @@
 //! A worker: one CPU with its machine. Only `at_boot` takes memory. No call waits.
 
 ghost use Rattle.std.specs.Prelude.{◌≡◌, ◌≢◌, ◌<◌, ◌≤◌, Some, None, IfOk, [], length, vec_capacity};
-ghost use Rattle.layer_traits.specs.{Capacities.caps_in, OwnParts.threads_in, QueueBlocks.homes_in};
+ghost use Rattle.layer_traits.specs.{Blocks.{Capacities.caps_in, QueueBlocks.homes_in}, Views.OwnParts.threads_in};
 
 use crate::workers::calling::is_idle;
 use cpu::{Cpu, Guest};
@@ -27,7 +27,7 @@ where
 {
     ghost use Rattle.std.specs.Prelude.{◌≡◌, ◌<◌, length, vec_capacity};
     ghost use Rattle.{cpu.specs.{Cpus.{IsCpu, programs_of}, Tables.{IsTabled, private}}, cpu_workers.specs.{Working.Working, Seats.IsWorker}};
-    ghost use Rattle.layer_traits.specs.{BufferEffects.opening_locks, Capacities.caps_in, OwnParts.threads_in, QueueBlocks.{homes_in, inner}};
+    ghost use Rattle.layer_traits.specs.{Blocks.{BufferEffects.opening_locks, Capacities.caps_in, QueueBlocks.{homes_in, inner}}, Views.OwnParts.threads_in};
 
     ghost Value = { Working };
 
@@ -56,7 +56,7 @@ impl<I: CallLayer<IpcLaw> + Drop> Worker<I>
 where
     I::Machine: Drop,
 {
-    ghost use Rattle.layer_traits.specs.{declared.steps.Reason.TheVariants.StepsUsed, BufferEffects.opening_locks, QueueBlocks.inner};
+    ghost use Rattle.layer_traits.specs.{declared.steps.Reason.TheVariants.StepsUsed, Blocks.{BufferEffects.opening_locks, QueueBlocks.inner}};
     ghost use Rattle.{event_log.specs.{Actions.AreLegal, declared.ids.TheConstants.THREADS}, cpu.specs.{Cpus.{IsCpu, programs_of}, Tables.{IsTabled, private}}};
     ghost use Rattle.{cpu.specs.{Boots.AreGuests, Table.{Setups.{Setup, at_boot as boot_of}, Steps.halted_at}}, cpu_workers.specs.Idling.is_idle};
     ghost use Rattle.cpu_workers.specs.{Working.{IsPlanned, IsSame, Turned, is_inside}, Orders.{HasFollowed, IsTraceOf}};

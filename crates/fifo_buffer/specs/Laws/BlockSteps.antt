@@ -3,10 +3,10 @@ use Rattle.std.proofs.Common.{◌≡◌, ℕ, ◌+◌, ◌%◌, ◌^◌, Bool, t
 use Rattle.std.proofs.lemmas.Bool.{and_parts, ltb-true}
 use Rattle.event_log.specs.declared.{entries.Kind.TheVariants.{Send, Recv, Close, SendClosed, RecvClosed}, ids.{BufId.BufId, CpuId.CpuId, Tid.Tid}}
 use Rattle.event_log.specs.{Buffers.{IsAllowedEffect, after_effect}, Messages.{Message, no_message}, Runs.{Group, Closes, Receives, Sends, group_of}}
-use Rattle.layer_traits.specs.{declared.locked.Side.{Side, TheVariants.{Receivers, Senders}}, BufferBlocks.{BufferState, effect_kind, first_item, is_first}}
-use Rattle.layer_traits.{specs.BufferBlocks.{is_next, items_put, may_go, other_items, put_in, shut, taken_out}, proofs.ItemLemmas.{drop_one, one_more}}
-use Rattle.{event_log.specs.Runs.same_group, layer_traits.specs.BufferEffects.entry, thread_blocks.{specs.Queues.rest, proofs.Members.same_tid_true}}
-use Rattle.fifo_buffer.specs.{BlockSteps.{BlockStep, kind_on, one_on}, Tallies.{IsNumbered, drawn_by, line_by}}
+use Rattle.{event_log.specs.Runs.same_group, layer_traits.specs.declared.locked.Side.{Side, TheVariants.{Receivers, Senders}}}
+use Rattle.layer_traits.specs.Blocks.BufferBlocks.{BufferState, effect_kind, first_item, is_first, is_next, items_put, may_go, other_items, put_in, shut}
+use Rattle.{layer_traits.{specs.Blocks.{BufferBlocks.taken_out, BufferEffects.entry}, proofs.ItemLemmas.{drop_one, one_more}}, thread_blocks.specs.Queues.rest}
+use Rattle.{thread_blocks.proofs.Members.same_tid_true, fifo_buffer.specs.{BlockSteps.{BlockStep, kind_on, one_on}, Tallies.{IsNumbered, drawn_by, line_by}}}
 
 -- who stands first in a line has its first number, and the others have those behind
 first_numbered : (position : Tid → ℕ) (n next : ℕ) (t : Tid) (queue : List Tid) → is_first t queue ≡ true → IsNumbered position n next queue

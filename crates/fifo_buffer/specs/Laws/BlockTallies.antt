@@ -8,10 +8,10 @@ use Rattle.event_log.specs.declared.{entries.{Kind.{TheVariants.{Send, Recv, Clo
 use Rattle.event_log.specs.{declared.ids.{CpuId.CpuId, LockId.{LockId, TheVariants.Buffer}, Tid.Tid}, Buffers.{after_effect, items_of}, Runs.{Group, Sends}}
 use Rattle.event_log.specs.{Runs.{Receives, Closes, count_of, count_of_kind, group_of, kind_eq, same_group}, Sections.{Section, block_after}, History.IsLawful}
 use Rattle.event_log.{specs.Messages.Message, proofs.RunLemmas.{count_cons, counts_here, items_none, kind_cons, kinds_here}}
-use Rattle.layer_traits.specs.{declared.locked.Side.{Side, TheVariants.{Receivers, Senders}}, BufferBlocks.{BufferState, counted, drawn_of, empty_block}}
-use Rattle.layer_traits.{specs.{BufferBlocks.entered, BufferEffects.{MayTakeEffect, contents_of}, Protocol.section}, proofs.ItemLemmas.one_more}
-use Rattle.{thread_blocks.specs.Queues.{same_tid, is_in}, fifo_buffer.specs.{BlockSteps.{BlockStep, one_on}, Tallies.{IsNumbered, Tally, by_side, drawn_by}}}
-use Rattle.fifo_buffer.specs.Tallies.{line_by}
+use Rattle.layer_traits.specs.{declared.locked.Side.{Side, TheVariants.{Receivers, Senders}}, Blocks.BufferBlocks.{BufferState, counted, drawn_of, empty_block}}
+use Rattle.layer_traits.specs.{Blocks.{BufferBlocks.entered, BufferEffects.{MayTakeEffect, contents_of}}, Protocols.Protocol.section}
+use Rattle.{layer_traits.proofs.ItemLemmas.one_more, thread_blocks.specs.Queues.{same_tid, is_in}, fifo_buffer.specs.BlockSteps.{BlockStep, one_on}}
+use Rattle.fifo_buffer.specs.Tallies.{IsNumbered, Tally, by_side, drawn_by, line_by}
 
 -- Numbers along a line.
 

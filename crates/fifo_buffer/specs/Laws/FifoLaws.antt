@@ -1,11 +1,12 @@
 -- The laws of the layer of buffers, from those of the conditions beneath.
 use Rattle.std.proofs.Common.{◌≡◌, List, length, Option, Some, None, refl, ap}
-use Rattle.layer_traits.specs.{Capacities.caps_in, declared.{buffer_edits.{BufferEdit.BufferEdit, BufferOut.BufferOut}, queue_edits.QueueBlock.QueueBlock}}
-use Rattle.layer_traits.specs.{declared.{scheds.SchedCall.SchedCall, call_states.CallState.CallState}, BufferEffects.{MayTakeEffect, effects_in, fresh_lock}}
-use Rattle.layer_traits.specs.{BufferProtocol.{BufferLock, buffer_monitor_rules}, Conditions.{CvCall, cv_rules}, CvLaw.Waiting, IpcLaw.WaitListsAgree}
-use Rattle.layer_traits.specs.{QLockLaw.{LocksAgree, lock_kernel}, QLocking.{wait_list_in, lock_after, lock_edited}, QueueBlocks.{homes_in, inner}}
-use Rattle.{layer_traits.specs.Queues.{QueueAllowed, buffer_sections, moves_in}, event_log.specs.declared.ids.{CpuId.CpuId, LockId.LockId}}
-use Rattle.{event_log.specs.{declared.ids.{LockId.TheVariants.{Pending, Buffer}, Tid.Tid}, History.IsLawful}, fifo_buffer.specs.FifoFits.{BootsSo, PartFits}}
+use Rattle.layer_traits.specs.Blocks.{Capacities.caps_in, BufferEffects.{MayTakeEffect, effects_in, fresh_lock}, BufferProtocol.BufferLock}
+use Rattle.layer_traits.specs.{Blocks.{BufferProtocol.buffer_monitor_rules, QueueBlocks.{homes_in, inner}}, declared.buffer_edits.BufferEdit.BufferEdit}
+use Rattle.layer_traits.specs.declared.{buffer_edits.BufferOut.BufferOut, queue_edits.QueueBlock.QueueBlock, scheds.SchedCall.SchedCall}
+use Rattle.layer_traits.specs.{declared.call_states.CallState.CallState, Layers.{Conditions.{CvCall, cv_rules}, CvLaw.Waiting, IpcLaw.WaitListsAgree}}
+use Rattle.layer_traits.specs.Layers.{QLockLaw.{LocksAgree, lock_kernel}, QLocking.{wait_list_in, lock_after, lock_edited}, Queues.QueueAllowed}
+use Rattle.{layer_traits.specs.Layers.Queues.{buffer_sections, moves_in}, event_log.specs.declared.ids.{CpuId.CpuId, LockId.{LockId, TheVariants.Pending}}}
+use Rattle.{event_log.specs.{declared.ids.{LockId.TheVariants.Buffer, Tid.Tid}, History.IsLawful}, fifo_buffer.specs.FifoFits.{BootsSo, PartFits}}
 use Rattle.fifo_buffer.specs.{Laws.{Tallies.effects_lawful, WaitLists.lists_agree}, SectionPolls.{BufferEvent, under_way_at}}
 use Rattle.layer_traits.specs.declared.scheds.SchedCall.TheVariants as sched
 

@@ -1,16 +1,16 @@
 -- What the conditions beneath tell of their locks, the buffers tell of their items, owners and waiting lists.
 use Rattle.std.proofs.Common.{◌≡◌, ◌<◌, List, [], ◌∷◌, ◌++◌, length, map, Option, Some, None, IsSome, option_map, option_to_list, slice_index, refl, ap, sym}
 use Rattle.std.{proofs.{Common.{◌∙◌, subst}, lemmas.Option.slice_get-get_or}, specs.List.AllByRecursion}
-use Rattle.layer_traits.specs.{Capacities.caps_in, declared.{buffer_edits.BufferEdit.BufferEdit, moves.WaitList.WaitList, queue_edits.QueueBlock.QueueBlock}}
-use Rattle.layer_traits.specs.{declared.queues.QueueCall.{QueueCall, TheVariants.{Push, TakeAll, OnBuffer}}, Acted.{BufferActs, ItemsAre}}
-use Rattle.layer_traits.specs.{BufferEffects.{contents_of, drawn, effect_of, effects_in, fresh_lock}, BufferProtocol.{BufferLock, buffer_at}}
-use Rattle.layer_traits.specs.{BufferProtocol.buffer_monitor_rules, Conditions.{CvCall, cv_rules}, QLockLaw.lock_kernel, QLocking.{wait_list_in, lock_edited}}
-use Rattle.layer_traits.specs.{QLocking.owner_in, Protocol.section, QueueBlocks.{StartsWell, above_of, inner}, QueueRules.AreProper, Queues.IsKnownEvent}
-use Rattle.layer_traits.{specs.Queues.{QueueAllowed, buffer_sections, event_of, with_section}, proofs.{Alone.block_there as stays_there, ActedLemmas.lock_is}}
-use Rattle.event_log.specs.declared.{entries.Entry.Entry, ids.{BufId.BufId, CpuId.CpuId, LockId.{LockId, TheVariants.Buffer}, TheConstants.CPUS}}
-use Rattle.{event_log.specs.{Buffers.items_of, History.IsLawful, Runs.is_closed, Sections.sections_in}, fifo_buffer.specs.FifoFits.BootsSo}
-use Rattle.fifo_buffer.specs.{Laws.Tallies.{all_tallied, effect_position}, OwnedLaws.{buffer_lock_of, closed_of, items_in, owner_of, wait_lists_of}}
-use Rattle.fifo_buffer.specs.SectionPolls.{BufferEvent}
+use Rattle.layer_traits.specs.Blocks.{Capacities.caps_in, BufferEffects.{contents_of, drawn, effect_of, effects_in, fresh_lock}, BufferProtocol.BufferLock}
+use Rattle.layer_traits.specs.Blocks.{BufferProtocol.{buffer_at, buffer_monitor_rules}, QueueBlocks.{StartsWell, above_of, inner}, QueueRules.AreProper}
+use Rattle.layer_traits.specs.declared.{buffer_edits.BufferEdit.BufferEdit, moves.WaitList.WaitList, queue_edits.QueueBlock.QueueBlock}
+use Rattle.layer_traits.specs.{declared.queues.QueueCall.{QueueCall, TheVariants.{Push, TakeAll, OnBuffer}}, Views.Acted.{BufferActs, ItemsAre}}
+use Rattle.layer_traits.specs.Layers.{Conditions.{CvCall, cv_rules}, QLockLaw.lock_kernel, QLocking.{wait_list_in, lock_edited, owner_in}, Queues.IsKnownEvent}
+use Rattle.layer_traits.specs.{Layers.Queues.{QueueAllowed, buffer_sections, event_of, with_section}, Protocols.Protocol.section}
+use Rattle.{layer_traits.proofs.{Alone.block_there as stays_there, ActedLemmas.lock_is}, event_log.specs.declared.{entries.Entry.Entry, ids.BufId.BufId}}
+use Rattle.event_log.specs.{declared.ids.{CpuId.CpuId, LockId.{LockId, TheVariants.Buffer}, TheConstants.CPUS}, Buffers.items_of, History.IsLawful}
+use Rattle.{event_log.specs.{Runs.is_closed, Sections.sections_in}, fifo_buffer.specs.{FifoFits.BootsSo, Laws.Tallies.{all_tallied, effect_position}}}
+use Rattle.fifo_buffer.specs.{OwnedLaws.{buffer_lock_of, closed_of, items_in, owner_of, wait_lists_of}, SectionPolls.BufferEvent}
 
 module _ (opening : LockId → Option (QueueBlock BufferLock)) (boots : BootsSo opening) (b : BufId) (within : b.0 < length (caps_in opening)) where
   -- a buffer of the capacities has a lock, at the start

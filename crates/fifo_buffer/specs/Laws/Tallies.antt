@@ -5,14 +5,15 @@ use Rattle.event_log.specs.{declared.ids.Tid.Tid, History.IsLawful, Messages.{Me
 use Rattle.{event_log.proofs.Same.same_lock_self, layer_traits.specs.declared.buffer_edits.BufferEdit.{BufferEdit, TheVariants.{Enter, TryPut, TryTake, Shut}}}
 use Rattle.layer_traits.specs.declared.{conditions.CvEdit.TheVariants.{Edit, SignalFront}, locked.{QEdit.TheVariants.{Acquire, Inside, Release}, Side.Side}}
 use Rattle.layer_traits.specs.declared.{locked.Side.TheVariants.{Receivers, Senders}, queues.QueueCall.{QueueCall, TheVariants.{Push, TakeAll, OnBuffer}}}
-use Rattle.layer_traits.specs.{declared.queue_edits.QueueBlock.QueueBlock, BufferBlocks.{BufferState, effect_kind, entered, first_item, is_next, line_of}}
-use Rattle.layer_traits.specs.{BufferBlocks.{may_join, put_in, shut, taken_out}, BufferEffects.{MayTakeEffect, drawn, drawn_in, effect_on}}
-use Rattle.layer_traits.specs.{BufferEffects.{effects_in, entry, fresh_lock, is_enter, opening_locks}, BufferProtocol.{BufferLock, BufferSection, IsDue}}
-use Rattle.layer_traits.specs.{BufferProtocol.{buffer_at, buffer_monitor_rules, buffer_rules, is_in_line}, Conditions.{CvCall, cv_rules}, QLocking.asked}
-use Rattle.layer_traits.specs.{QLocking.lock_edited, Queues.{QueueAllowed, buffer_sections, with_section}, QLockLaw.lock_kernel, Protocol.section}
-use Rattle.{layer_traits.specs.QueueBlocks.inner, thread_blocks.{specs.Queues.{same_tid, is_in}, proofs.Members.same_tid_self}}
-use Rattle.fifo_buffer.specs.Laws.{BlockSteps.{put_step, shut_step, take_step}, BlockTallies.{Agree, Kept, Steps, all_along, all_but, enters, kept_start}}
-use Rattle.fifo_buffer.specs.{Laws.BlockTallies.{kept_step, agreed, stays, takes}, Tallies.{IsPlaced, Tally, by_side}, SectionPolls.BufferEvent}
+use Rattle.layer_traits.specs.{declared.queue_edits.QueueBlock.QueueBlock, Blocks.BufferBlocks.{BufferState, effect_kind, entered, first_item, is_next}}
+use Rattle.layer_traits.specs.Blocks.{BufferBlocks.{line_of, may_join, put_in, shut, taken_out}, BufferEffects.{MayTakeEffect, drawn, drawn_in, effect_on}}
+use Rattle.layer_traits.specs.Blocks.{BufferEffects.{effects_in, entry, fresh_lock, is_enter, opening_locks}, BufferProtocol.{BufferLock, BufferSection, IsDue}}
+use Rattle.layer_traits.specs.{Blocks.{BufferProtocol.{buffer_at, buffer_monitor_rules, buffer_rules, is_in_line}, QueueBlocks.inner}, Layers.Conditions.CvCall}
+use Rattle.layer_traits.specs.Layers.{Conditions.cv_rules, QLocking.{asked, lock_edited}, Queues.{QueueAllowed, buffer_sections, with_section}}
+use Rattle.{layer_traits.specs.{Layers.QLockLaw.lock_kernel, Protocols.Protocol.section}, thread_blocks.specs.Queues.{same_tid, is_in}}
+use Rattle.{thread_blocks.proofs.Members.same_tid_self, fifo_buffer.specs.Laws.{BlockSteps.{put_step, shut_step, take_step}, BlockTallies.{Agree, Kept, Steps}}}
+use Rattle.fifo_buffer.specs.{Laws.BlockTallies.{all_along, all_but, enters, kept_start, kept_step, agreed, stays, takes}, Tallies.{IsPlaced, Tally, by_side}}
+use Rattle.fifo_buffer.specs.SectionPolls.{BufferEvent}
 
 placed_as : (cpu : CpuId) (d : BufId) (t : Tid) (kind : Kind) (m : Message) (op pos : ℕ) (v : Bool) (e : Entry)
     → (if v then Some (entry cpu t kind d m op pos) else None) ≡ Some e → IsPlaced cpu d e

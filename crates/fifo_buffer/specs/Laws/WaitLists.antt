@@ -1,9 +1,9 @@
 -- Only the buffers of the capacities have locks, so who sleeps at a lock sleeps at one of them.
 use Rattle.std.proofs.Common.{◌≡◌, ℕ, ◌<◌, List, [], ◌∷◌, length, Option, Some, None, option_map, slice_get, refl, ap, sym, ◌∙◌, arith}
-use Rattle.{std.proofs.lemmas.Option.slice_get_within, event_log.specs.declared.ids.{BufId.BufId, CpuId.CpuId, LockId.LockId, Tid.Tid}}
-use Rattle.event_log.specs.{declared.ids.LockId.TheVariants.{Pending, Buffer}, Sections.{Section, block_after}}
-use Rattle.layer_traits.specs.{declared.moves.WaitList.WaitList, IpcLaw.WaitListsAgree, ListsAgree.is_at}
-use Rattle.layer_traits.{specs.Places.{Asleep, At, Step, count_in, one_if, wait_channel_of, where_is}, proofs.ListsLemmas.wait_channel_here}
+use Rattle.std.proofs.lemmas.Option.{slice_get_within}
+use Rattle.event_log.specs.{declared.ids.{BufId.BufId, CpuId.CpuId, LockId.{LockId, TheVariants.{Pending, Buffer}}, Tid.Tid}, Sections.{Section, block_after}}
+use Rattle.layer_traits.specs.{declared.moves.WaitList.WaitList, Layers.IpcLaw.WaitListsAgree, Threads.{ListsAgree.is_at, Places.{Asleep, At, Step, count_in}}}
+use Rattle.layer_traits.{specs.Threads.Places.{one_if, wait_channel_of, where_is}, proofs.ListsLemmas.wait_channel_here}
 
 -- a lock that was not there at the start is not there after some sections
 none_stays : {E B : Type 0} (edited : E → B → B) (O : LockId → Option B) (lock : LockId) (past : List (Section E)) → O lock ≡ None

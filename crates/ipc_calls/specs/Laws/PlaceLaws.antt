@@ -4,11 +4,12 @@ use Rattle.std.{specs.{Prelude.{if◌then◌else◌, refl}, Option.option_or}, p
 use Rattle.std.proofs.Common.{inr, ap, subst, sym, ◌∙◌, arith}
 use Rattle.event_log.specs.{declared.ids.{BufId.BufId, CpuId.CpuId, LockId.{LockId, TheVariants.Buffer}, Tid.Tid}, History.same_cpu}
 use Rattle.{event_log.proofs.Same.same_cpu_self, layer_traits.specs.declared.moves.WaitList.{WaitList, TheVariants.{Sleepers, Receivers, Senders}}}
-use Rattle.layer_traits.specs.{IpcLaw.WaitListsAgree, ListsAgree.is_at, Owned.wait_list_among, Places.{AreMoves, Asleep, At, Hand, Home, Pend, WaitChannel}}
-use Rattle.layer_traits.specs.Places.{Step, Where, count_in, home_of, is_hand, is_here, is_home, is_pend, is_thread, one_if, pending_by, wait_channel_of}
-use Rattle.layer_traits.{specs.{Places.where_is, Observed.{IsObservedAs, ReadsPlace, queue_place}}, proofs.CountLemmas.{in_counted, is_cpu_of}}
-use Rattle.layer_traits.proofs.{ListsLemmas.{at_wait_channel, count_none, counted_in, wait_channel_here}, PlaceLemmas.{pend_count, pend_home, pend_where}}
-use Rattle.{thread_blocks.specs.Queues.is_in, ipc_calls.specs.{Parts.{IsSilentOf, asleep_at, wait_list_read, pends_read, said}, PlaceLaws.Watched}}
+use Rattle.layer_traits.specs.{Layers.IpcLaw.WaitListsAgree, Threads.{ListsAgree.is_at, Places.{AreMoves, Asleep, At, Hand, Home, Pend, WaitChannel, Step}}}
+use Rattle.layer_traits.specs.Threads.Places.{Where, count_in, home_of, is_hand, is_here, is_home, is_pend, is_thread, one_if, pending_by, wait_channel_of}
+use Rattle.layer_traits.specs.{Threads.Places.where_is, Views.{Owned.wait_list_among, Observed.{IsObservedAs, ReadsPlace, queue_place}}}
+use Rattle.layer_traits.proofs.{CountLemmas.{in_counted, is_cpu_of}, ListsLemmas.{at_wait_channel, count_none, counted_in, wait_channel_here}}
+use Rattle.{layer_traits.proofs.PlaceLemmas.{pend_count, pend_home, pend_where}, thread_blocks.specs.Queues.is_in, ipc_calls.specs.Parts.IsSilentOf}
+use Rattle.ipc_calls.specs.{Parts.{asleep_at, wait_list_read, pends_read, said}, PlaceLaws.Watched}
 
 -- who is said to stand in a queue that was told stands in one
 said_in : {P : Type 0} (t : Tid) (queue : Option (List Tid)) → said (option_map (is_in t) queue) ≡ true

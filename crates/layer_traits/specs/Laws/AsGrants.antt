@@ -5,8 +5,9 @@ use Rattle.event_log.specs.{declared.events.Event.TheVariants.{Draw, Look, Free}
 use Rattle.event_log.specs.{Actions.{gives, spot_of}, Grants.{IsLegalGrants, acts_of_grants, grant_lock_phase, grant_word}, History.{IsLawful, same_cpu}}
 use Rattle.event_log.specs.{Sections.{Section, block_after, sections_in}, WordsLog.{IsLegalWords, Idle, Holding, Waiting, lock_phase}}
 use Rattle.event_log.proofs.{Foreign.sections_acts, GrantWords.{legal_grants, takes_grants}, Tickets.{legal_acts, takes_acts}}
-use Rattle.layer_traits.specs.{declared.edits.Mark.Mark, AsGrants.{GrantsAgree, as_grants}, GrantProtocol.{GrantMayCome, SomeoneHasIt, grant_sections}}
-use Rattle.layer_traits.specs.{OneLock.SomeoneInside, WordsProtocol.{MayCome, KeepsProtocol, edit_of, sections, words_legal}}
+use Rattle.layer_traits.specs.{declared.edits.Mark.Mark, Protocols.{AsGrants.{GrantsAgree, as_grants}, GrantProtocol.{GrantMayCome, SomeoneHasIt}}}
+use Rattle.layer_traits.specs.Protocols.{GrantProtocol.grant_sections, OneLock.SomeoneInside, WordsProtocol.{MayCome, KeepsProtocol, edit_of, sections}}
+use Rattle.layer_traits.specs.Protocols.WordsProtocol.{words_legal}
 
 module _ {M : Type 0} where
   abbrev same : M → M

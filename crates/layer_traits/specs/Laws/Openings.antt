@@ -1,8 +1,8 @@
 -- A machine in which nothing was done has the blocks of its capacities and homes.
 use Rattle.std.{specs.Prelude.{◌≡◌, ◌⊎◌, ℕ, List, [], Option, Some, None, IsSome, option_map, slice_get}, proofs.Common.{inl, inr, ap, subst, sym, ◌∙◌, arith}}
 use Rattle.event_log.specs.declared.ids.{BufId.BufId, CpuId.CpuId, LockId.{LockId, TheVariants.{Pending, Buffer}}, Tid.Tid}
-use Rattle.layer_traits.specs.{declared.queue_edits.QueueBlock.{QueueBlock, TheVariants.{Queue, Above}}, BufferEffects.{fresh_lock, opening_locks}}
-use Rattle.layer_traits.specs.{BufferProtocol.BufferLock, IpcLaw.OpensSo, QueueBlocks.{StartsAs, StartsWell, above_of, homes_in, inner}}
+use Rattle.layer_traits.specs.{declared.queue_edits.QueueBlock.{QueueBlock, TheVariants.{Queue, Above}}, Blocks.BufferEffects.{fresh_lock, opening_locks}}
+use Rattle.layer_traits.specs.{Blocks.{BufferProtocol.BufferLock, QueueBlocks.{StartsAs, StartsWell, above_of, homes_in, inner}}, Layers.IpcLaw.OpensSo}
 
 module _ {B : Type 0} where
   -- a buffer's lock opens with the block that the layer above is shown

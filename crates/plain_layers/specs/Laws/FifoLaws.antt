@@ -1,9 +1,9 @@
 -- What a machine of attempts tells of who waits: the waiting lists agree with the places.
 use Rattle.std.{specs.Prelude.{◌≡◌, List, length, Option, refl}, proofs.Common.ap}
-use Rattle.layer_traits.specs.{Capacities.caps_in, Renaming.viewed, declared.{queue_edits.QueueBlock.QueueBlock, queues.QueueEvent.QueueEvent}}
-use Rattle.layer_traits.specs.{IpcLaw.WaitListsAgree, ListsAgree.ListsAgree, QueueBlocks.{homes_in, inner}, Queues.{buffer_sections, moves_in}}
-use Rattle.{layer_traits.specs.{Sleeping.{wait_list_at, sleep_edited}, SleepLaw.sleep_kernel}, plain_layers.specs.Fifos.{shown, PlainLocked, fresh_buffer}}
-use Rattle.plain_layers.specs.{Fifos.{fresh_buffers, wait_lists_in}, declared.attempts.Attempt.Attempt, Attempts.attempts}
+use Rattle.layer_traits.specs.{Blocks.{Capacities.caps_in, QueueBlocks.{homes_in, inner}}, Views.Renaming.viewed, declared.queue_edits.QueueBlock.QueueBlock}
+use Rattle.layer_traits.specs.{declared.queues.QueueEvent.QueueEvent, Layers.{IpcLaw.WaitListsAgree, Queues.{buffer_sections, moves_in}, Sleeping.wait_list_at}}
+use Rattle.{layer_traits.specs.{Layers.{Sleeping.sleep_edited, SleepLaw.sleep_kernel}, Threads.ListsAgree.ListsAgree}, plain_layers.specs.Fifos.shown}
+use Rattle.plain_layers.specs.{Fifos.{PlainLocked, fresh_buffer, fresh_buffers, wait_lists_in}, declared.attempts.Attempt.Attempt, Attempts.attempts}
 use Rattle.{event_log.specs.declared.ids.LockId.{LockId, TheVariants.{Pending, Buffer}}, fifo_buffer.specs.Laws.WaitLists.lists_agree}
 
 -- the waiting lists of the buffers agree with the places

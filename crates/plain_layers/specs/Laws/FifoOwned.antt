@@ -1,14 +1,15 @@
 -- What sleep and wakeup beneath tells of its locks, buffers in one section a call tell of their items and waiting lists.
 use Rattle.std.specs.{Prelude.{◌≡◌, ◌<◌, List, [], ◌∷◌, ◌++◌, length, Option, Some, None, IsSome, option_map, option_to_list, refl}, List.AllByRecursion}
 use Rattle.std.proofs.{Common.{ap, sym, ◌∙◌, subst}, lemmas.Option.{same_Some, slice_get-get_or}}
-use Rattle.layer_traits.specs.{Capacities.caps_in, Renaming.viewed, declared.{calls.Effect.Effect, moves.WaitList.WaitList, queue_edits.QueueBlock.QueueBlock}}
-use Rattle.layer_traits.specs.{declared.queues.{QueueCall.{QueueCall, TheVariants.{Push, TakeAll, OnBuffer}}, QueueEvent.QueueEvent}, BufferEffects.contents_of}
-use Rattle.layer_traits.specs.{BufferLaw.entry_of, QueueBlocks.{above_of, inner}, Queues.{IsKnownEvent, buffer_sections, with_section}, Sleeping.wait_list_at}
-use Rattle.{layer_traits.{specs.{Sleeping.sleep_edited, Observed.IsObservedAs}, proofs.Alone.block_there}, plain_layers.specs.Fifos.{shown, PlainLocked}}
-use Rattle.plain_layers.specs.{Fifos.{effect_by, entries_in, fresh_buffer, fresh_buffers, wait_lists_in, locked_after}, declared.attempts.Attempt.Attempt}
-use Rattle.plain_layers.specs.{Attempts.attempts, FifoOwned.{closed_of, items_in, nobody, nothing_read, wait_lists_of}, Laws.FifoTallies.plain_tally}
-use Rattle.event_log.specs.declared.{entries.Entry.Entry, ids.{BufId.BufId, CpuId.CpuId, LockId.{LockId, TheVariants.Buffer}, Tid.Tid, TheConstants.CPUS}}
-use Rattle.event_log.specs.{Buffers.items_of, History.IsLawful, Runs.is_closed, Sections.Section}
+use Rattle.layer_traits.specs.{Blocks.{Capacities.caps_in, BufferEffects.contents_of, QueueBlocks.{above_of, inner}}, Views.Renaming.viewed}
+use Rattle.layer_traits.specs.{Views.Observed.IsObservedAs, declared.{calls.Effect.Effect, moves.WaitList.WaitList, queue_edits.QueueBlock.QueueBlock}}
+use Rattle.layer_traits.specs.{declared.queues.{QueueCall.{QueueCall, TheVariants.{Push, TakeAll, OnBuffer}}, QueueEvent.QueueEvent}, Layers.BufferLaw.entry_of}
+use Rattle.layer_traits.{specs.Layers.{Queues.{IsKnownEvent, buffer_sections, with_section}, Sleeping.{wait_list_at, sleep_edited}}, proofs.Alone.block_there}
+use Rattle.plain_layers.specs.Fifos.{shown, PlainLocked, effect_by, entries_in, fresh_buffer, fresh_buffers, wait_lists_in, locked_after}
+use Rattle.plain_layers.specs.{declared.attempts.Attempt.Attempt, Attempts.attempts, FifoOwned.{closed_of, items_in, nobody, nothing_read, wait_lists_of}}
+use Rattle.{plain_layers.specs.Laws.FifoTallies.plain_tally, event_log.specs.declared.{entries.Entry.Entry, ids.{BufId.BufId, CpuId.CpuId, LockId.LockId}}}
+use Rattle.event_log.specs.{declared.ids.{LockId.TheVariants.Buffer, Tid.Tid, TheConstants.CPUS}, Buffers.items_of, History.IsLawful, Runs.is_closed}
+use Rattle.event_log.specs.Sections.{Section}
 
 -- a block that is seen is there
 pub there_viewed : {A B : Type 0} (view : A → B) (o : Option A) → IsSome (option_map view o) → IsSome o

@@ -4,10 +4,10 @@ use Rattle.std.proofs.Common.{◌≡◌, ℕ, Bool, true, false, ◌&&◌, List,
 use Rattle.std.proofs.{Common.sym, lemmas.Option.same_Some}
 use Rattle.event_log.specs.declared.{entries.Entry.Entry, ids.{BufId.BufId, CpuId.CpuId, LockId.{LockId, TheVariants.{Pending, Buffer}}, Tid.Tid}}
 use Rattle.{event_log.specs.{History.IsLawful, Runs.{Group, Sends, Receives, Closes}, Sections.Section}, layer_traits.specs.declared.calls.Effect.Effect}
-use Rattle.layer_traits.specs.{declared.locked.Side.{Side, TheVariants.{Receivers, Senders}}, BufferBlocks.{BufferState, drawn_of, entered}}
-use Rattle.{layer_traits.specs.{BufferEffects.MayTakeEffect, BufferLaw.entry_of, Protocol.section, Sleeping.sleep_edited}, thread_blocks.specs.Queues.same_tid}
-use Rattle.{thread_blocks.proofs.Members.same_tid_self, fifo_buffer.specs.Laws.{BlockSteps.{put_step, shut_step, take_step}, BlockTallies.{Agree, Kept, Steps}}}
-use Rattle.fifo_buffer.specs.{Laws.BlockTallies.{enters, kept_start, kept_step, stays, takes}, Tallies.{Tally, by_side}}
+use Rattle.layer_traits.specs.{declared.locked.Side.{Side, TheVariants.{Receivers, Senders}}, Blocks.BufferBlocks.{BufferState, drawn_of, entered}}
+use Rattle.layer_traits.specs.{Blocks.BufferEffects.MayTakeEffect, Layers.{BufferLaw.entry_of, Sleeping.sleep_edited}, Protocols.Protocol.section}
+use Rattle.{thread_blocks.{specs.Queues.same_tid, proofs.Members.same_tid_self}, fifo_buffer.specs.Laws.BlockSteps.{put_step, shut_step, take_step}}
+use Rattle.fifo_buffer.specs.{Laws.BlockTallies.{Agree, Kept, Steps, enters, kept_start, kept_step, stays, takes}, Tallies.{Tally, by_side}}
 use Rattle.plain_layers.specs.declared.attempts.{Ask.{Ask, TheVariants.{Send, Receive, Close}}, Attempt.Attempt, Tried.{Tried, TheVariants.{Acted, Refused}}}
 use Rattle.plain_layers.specs.{Attempts.{PlainState, allows, attempt_side, attempts, done, effect_at, effect_in, waits, wakes}, Fifos.{PlainLocked, entries_in}}
 use Rattle.plain_layers.specs.Fifos.{entry_at, fresh_buffer, fresh_buffers, locked_after, shown}

@@ -1,10 +1,10 @@
 -- What a machine of lists tells: all is at home, and no part ever has anything in its hands.
 use Rattle.std.{specs.Prelude.{◌≡◌, List, Option, Some, None, IsSome, option_map, slice_get}, proofs.Common.{refl, sym, ◌∙◌, subst}}
 use Rattle.event_log.specs.{declared.ids.{BufId.BufId, CpuId.CpuId, LockId.{LockId, TheVariants.{Pending, Buffer}}, Tid.Tid}, Sections.{Section, block_after}}
-use Rattle.layer_traits.specs.{declared.{queue_edits.QueueBlock.{QueueBlock, TheVariants.{Queue, Above}}, queues.QueueEvent.QueueEvent}, MoveRules.MoveRules}
-use Rattle.layer_traits.specs.{OneLock.opened, Owned.IsObserved, Places.pending_by, Protocol.Rules, QueueBlocks.{above_of, inner}, Queues.buffer_sections}
-use Rattle.{layer_traits.{specs.Queues.{kernel, moves_in}, proofs.Alone.block_there}, plain_layers.specs.declared.kernel.{Lists.Lists, Opening.Opening}}
-use Rattle.plain_layers.specs.{Kernels.{IsKernel, opening_of}, Tables.IsTable}
+use Rattle.layer_traits.specs.declared.{queue_edits.QueueBlock.{QueueBlock, TheVariants.{Queue, Above}}, queues.QueueEvent.QueueEvent}
+use Rattle.layer_traits.specs.{Threads.{MoveRules.MoveRules, Places.pending_by}, Protocols.{OneLock.opened, Protocol.Rules}, Views.Owned.IsObserved}
+use Rattle.layer_traits.{specs.{Blocks.QueueBlocks.{above_of, inner}, Layers.Queues.{buffer_sections, kernel, moves_in}}, proofs.Alone.block_there}
+use Rattle.plain_layers.specs.{declared.kernel.{Lists.Lists, Opening.Opening}, Kernels.{IsKernel, opening_of}, Tables.IsTable}
 
 -- what is there and at home is shown
 shown_at_home : {P A : Type 0} (Fits : P → Type 0) (cpu_of : P → CpuId) (IsInside : CpuId → Type 0) (home truth : Option A) → home ≡ truth → IsSome truth

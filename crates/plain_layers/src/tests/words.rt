@@ -1,7 +1,8 @@
 //! Machines of words that are refused memory.
 
 ghost use Rattle.std.specs.Prelude.{◌≡◌, ◌+◌, ◌%◌, ◌^◌, ◌<◌, ◌≤◌, [], ◌∷◌, IsSome, IfOk};
-ghost use Rattle.{event_log.specs.declared.ids.TheConstants.CPUS, layer_traits.specs.OneLock.AreDistinct, table_machine.specs.SeatViews.new_seat_views};
+ghost use Rattle.{event_log.specs.declared.ids.TheConstants.CPUS, layer_traits.specs.Protocols.OneLock.AreDistinct};
+ghost use Rattle.table_machine.specs.SeatViews.{new_seat_views};
 
 use event_log::{BufId, CpuId, LockId, NoMemory};
 use layer_traits::{Payload, SplitEdit, Words};

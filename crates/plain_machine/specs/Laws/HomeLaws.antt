@@ -1,8 +1,8 @@
 -- What the table has at home is what the sections leave, and what it has not some CPU has in its hands.
 use Rattle.std.specs.Prelude.{◌≡◌, ℕ, List, Option, Some, None, MatchOption}
 use Rattle.{event_log.specs.{declared.{events.Event.Event, ids.LockId.LockId}, Sections.block_after}, layer_traits.specs.declared.edits.Mark.Mark}
-use Rattle.{layer_traits.specs.{OneLock.{NobodyInside, SomeoneInside}, WordsProtocol.sections}, plain_machine.specs.{declared.cells.Cell.Cell, Machine.HasCell}}
-use Rattle.plain_machine.specs.Table.{home_at}
+use Rattle.{layer_traits.specs.Protocols.{OneLock.{NobodyInside, SomeoneInside}, WordsProtocol.sections}, plain_machine.specs.declared.cells.Cell.Cell}
+use Rattle.plain_machine.specs.{Machine.HasCell, Table.home_at}
 
 pub home_reads : {E B K : Type 0} (Fit : ℕ → ℕ → K → Type 0) (edited : E → B → B) (opening : LockId → Option B) (log : List (Event (Mark E)))
     (cells : List (Option (Cell K B))) (lock : LockId)

@@ -2,10 +2,10 @@
 use Rattle.std.proofs.Common.{◌≡◌, false, List, Option, Some, None, refl}
 use Rattle.{event_log.specs.declared.ids.Tid.Tid, layer_traits.specs.declared.locked.QEdit.{QEdit, TheVariants.{Acquire, Inside, Release}}}
 use Rattle.layer_traits.specs.declared.{locked.{QOut.TheVariants.Did, Side.Side, WakeWaiter.WakeWaiter}, moves.WaitList.TheVariants.{Sleepers, Receivers}}
-use Rattle.layer_traits.specs.{declared.moves.WaitList.TheVariants.Senders, QLocking.{LockRules, wait_list_for, lock_answer, lock_edited, signalled}}
-use Rattle.layer_traits.specs.{QLocking.{waiting_with, waiting_without}, Sleeping.{SleepState, left, wait_list_joined, sleep_answer, sleep_edited, woken}}
-use Rattle.queuing_lock.specs.{declared.edits.{QBlock.QBlock, QLockEdit.QLockEdit}, Nested.{busy_rules, edit_in, leaving, nested_lock_of}}
-use Rattle.thread_blocks.specs.Queues.{first, rest}
+use Rattle.layer_traits.specs.{declared.moves.WaitList.TheVariants.Senders, Layers.QLocking.{LockRules, wait_list_for, lock_answer, lock_edited, signalled}}
+use Rattle.layer_traits.specs.Layers.{QLocking.{waiting_with, waiting_without}, Sleeping.{SleepState, left, wait_list_joined, sleep_answer, sleep_edited}}
+use Rattle.{layer_traits.specs.Layers.Sleeping.woken, queuing_lock.specs.{declared.edits.{QBlock.QBlock, QLockEdit.QLockEdit}, Nested.{busy_rules, edit_in}}}
+use Rattle.{queuing_lock.specs.Nested.{leaving, nested_lock_of}, thread_blocks.specs.Queues.{first, rest}}
 use Rattle.layer_traits.specs.declared.locked.Side.TheVariants as side
 use Rattle.layer_traits.specs.declared.locked.WakeWaiter.TheVariants as signal
 

@@ -3,14 +3,14 @@ use Rattle.std.proofs.{Common.{◌≡◌, Bool, List, [], ◌∷◌, Option, Som
 use Rattle.event_log.specs.{declared.ids.{CpuId.CpuId, LockId.LockId}, History.IsLawful, Actions.{Action, phase, renamed}, Sections.{Section, block_after}}
 use Rattle.{event_log.{specs.Sections.renamed_section, proofs.Renaming.phase_renamed}, layer_traits.specs.declared.locked.{QEdit.QEdit, QOut.QOut}}
 use Rattle.layer_traits.specs.declared.{moves.WaitList.{WaitList, TheVariants.Sleepers}, queue_edits.{QueueBlock.QueueBlock, QueueEdit.QueueEdit}}
-use Rattle.layer_traits.specs.{declared.{queues.QueueEvent.QueueEvent, scheds.SchedCall.SchedCall, sleeps.Outcome.Outcome}, ListsAgree.{ListsAgree, is_at}}
-use Rattle.layer_traits.specs.{QLocking.{LockAllowed, LockRules, LockState, wait_list_in, lock_after}, QLockLaw.{LocksAgree, lock_kernel}, Places.AreMoves}
-use Rattle.layer_traits.specs.{Places.{Stands, Threads, count_in, one_if, wait_channel_of, where_is}, Plans.is_in_section, QueueBlocks.{homes_in, inner}}
-use Rattle.layer_traits.specs.{Queues.{Kernel, QueueAllowed, buffer_sections, moves_in}, Renaming.{renamed_edit, renamed_events, renamed_sched, viewed}}
-use Rattle.layer_traits.{specs.{SleepLaw.sleep_kernel, Sleeping.{SleepState, wait_list_at, sleep_edited}}, proofs.KernelRenaming.{Wraps, block_renamed}}
-use Rattle.layer_traits.proofs.KernelRenaming.{homes_viewed, inner_viewed, lawful_renamed, moves_renamed, sections_renamed}
-use Rattle.queuing_lock.specs.{declared.edits.{QBlock.QBlock, QLockEdit.QLockEdit}, Laws.Edits.{answers, edits}, Nested.{busy_rules, edit_in, nested_lock_of}}
-use Rattle.queuing_lock.specs.Nested.{locks}
+use Rattle.layer_traits.specs.{declared.{queues.QueueEvent.QueueEvent, scheds.SchedCall.SchedCall, sleeps.Outcome.Outcome}, Threads.ListsAgree.ListsAgree}
+use Rattle.layer_traits.specs.Threads.{ListsAgree.is_at, Places.{AreMoves, Stands, Threads, count_in, one_if, wait_channel_of, where_is}}
+use Rattle.layer_traits.specs.Layers.{QLocking.{LockAllowed, LockRules, LockState, wait_list_in, lock_after}, QLockLaw.{LocksAgree, lock_kernel}, Queues.Kernel}
+use Rattle.layer_traits.specs.Layers.{Queues.{QueueAllowed, buffer_sections, moves_in}, SleepLaw.sleep_kernel, Sleeping.{SleepState, wait_list_at}}
+use Rattle.layer_traits.specs.{Layers.Sleeping.sleep_edited, Polling.Plans.is_in_section, Blocks.QueueBlocks.{homes_in, inner}, Views.Renaming.renamed_edit}
+use Rattle.layer_traits.{specs.Views.Renaming.{renamed_events, renamed_sched, viewed}, proofs.KernelRenaming.{Wraps, block_renamed, homes_viewed, inner_viewed}}
+use Rattle.{layer_traits.proofs.KernelRenaming.{lawful_renamed, moves_renamed, sections_renamed}, queuing_lock.specs.declared.edits.QBlock.QBlock}
+use Rattle.queuing_lock.specs.{declared.edits.QLockEdit.QLockEdit, Laws.Edits.{answers, edits}, Nested.{busy_rules, edit_in, nested_lock_of, locks}}
 
 module _ {F R B O : Type 0} (rules : LockRules F R B O) (opening : LockId → Option (QueueBlock (SleepState (QBlock B)))) where
   -- what stands beneath

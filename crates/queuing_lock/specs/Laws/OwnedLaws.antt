@@ -1,11 +1,11 @@
 -- What the layer beneath tells of its blocks, the layer tells of their locks.
 use Rattle.{std.proofs.Common.{List, Option, Some, option_map, ap, sym}, event_log.specs.declared.ids.{BufId.BufId, CpuId.CpuId, LockId.LockId}}
 use Rattle.event_log.specs.{declared.ids.{LockId.TheVariants.Buffer, Tid.Tid}, Sections.block_after}
-use Rattle.layer_traits.specs.{declared.{queue_edits.QueueBlock.QueueBlock, queues.QueueEvent.QueueEvent}, QLocking.{LockRules, lock_after}, Owned.IsObserved}
-use Rattle.layer_traits.specs.{Places.pending_by, QueueBlocks.inner, Queues.{buffer_sections, moves_in}, Renaming.{renamed_events, viewed}, Sleeping.SleepState}
-use Rattle.layer_traits.{specs.Sleeping.sleep_edited, proofs.OwnedLemmas.{PartsOn, same_shown, shown_on, viewed_shown}}
-use Rattle.queuing_lock.specs.{declared.edits.{QBlock.QBlock, QLockEdit.QLockEdit}, Laws.NestedLaws.{beneath, here, lock_is, same_moves}, Nested.busy_rules}
-use Rattle.queuing_lock.specs.Nested.{edit_in, nested_lock_of}
+use Rattle.layer_traits.specs.{declared.{queue_edits.QueueBlock.QueueBlock, queues.QueueEvent.QueueEvent}, Layers.QLocking.{LockRules, lock_after}}
+use Rattle.layer_traits.specs.{Layers.{Queues.{buffer_sections, moves_in}, Sleeping.{SleepState, sleep_edited}}, Views.Owned.IsObserved}
+use Rattle.layer_traits.{specs.{Views.Renaming.{renamed_events, viewed}, Threads.Places.pending_by, Blocks.QueueBlocks.inner}, proofs.OwnedLemmas.PartsOn}
+use Rattle.{layer_traits.proofs.OwnedLemmas.{same_shown, shown_on, viewed_shown}, queuing_lock.specs.declared.edits.{QBlock.QBlock, QLockEdit.QLockEdit}}
+use Rattle.queuing_lock.specs.{Laws.NestedLaws.{beneath, here, lock_is, same_moves}, Nested.{busy_rules, edit_in, nested_lock_of}}
 
 module _ {P Q F R B O : Type 0} (rules : LockRules F R B O) (opening : LockId → Option (QueueBlock (SleepState (QBlock B))))
     (past : List (QueueEvent (QLockEdit F R))) (parts : PartsOn P Q) where

@@ -4,11 +4,12 @@ use Rattle.std.proofs.Common.{if◌then◌else◌, refl, ap, sym, ◌∙◌, sub
 use Rattle.event_log.specs.{declared.ids.{BufId.BufId, CpuId.CpuId, LockId.{LockId, TheVariants.Buffer}, Tid.Tid, TheConstants.THREADS}, History.AreOthers}
 use Rattle.event_log.{specs.History.{IsLawful, same_cpu, same_lock}, proofs.Same.{same_cpu_self, same_lock_true}}
 use Rattle.layer_traits.specs.declared.{locked.QEdit.{QEdit, TheVariants.{Acquire, Inside, Release}}, queue_edits.QueueBlock.QueueBlock}
-use Rattle.layer_traits.specs.{declared.queues.{QueueCall.{QueueCall, TheVariants.{Push, TakeAll, OnBuffer}}, QueueEvent.QueueEvent}, QLocking.IsOwners}
-use Rattle.layer_traits.specs.{QLocking.{LockRules, LockState, lock_after, asked, lock_caller, lock_edited, owner_in}, QLockLaw.{HasOrAwaits, lock_kernel}}
-use Rattle.layer_traits.specs.{Places.home_of, QueueBlocks.{homes_in, inner}, Queues.{CallAllowed, QueueAllowed, buffer_sections, cpu_of_queue_event}}
-use Rattle.{layer_traits.specs.{Queues.with_section, Sleeping.joined}, thread_blocks.{specs.Queues.{first, is_in, rest, same_tid}, proofs.Distinct.out_of_rest}}
-use Rattle.{thread_blocks.proofs.{Distinct.pushed_in, Members.same_tid_true}, queuing_lock.specs.Steady.{HasNothing, IsOwner, IsPreserved, Keeps}}
+use Rattle.layer_traits.specs.{declared.queues.{QueueCall.{QueueCall, TheVariants.{Push, TakeAll, OnBuffer}}, QueueEvent.QueueEvent}, Layers.QLocking.IsOwners}
+use Rattle.layer_traits.specs.Layers.{QLocking.{LockRules, LockState, lock_after, asked, lock_caller, lock_edited, owner_in}, QLockLaw.HasOrAwaits}
+use Rattle.layer_traits.specs.Layers.{QLockLaw.lock_kernel, Queues.{CallAllowed, QueueAllowed, buffer_sections, cpu_of_queue_event, with_section}}
+use Rattle.{layer_traits.specs.{Layers.Sleeping.joined, Threads.Places.home_of, Blocks.QueueBlocks.{homes_in, inner}}, thread_blocks.specs.Queues.first}
+use Rattle.thread_blocks.{specs.Queues.{is_in, rest, same_tid}, proofs.{Distinct.{out_of_rest, pushed_in}, Members.same_tid_true}}
+use Rattle.queuing_lock.specs.Steady.{HasNothing, IsOwner, IsPreserved, Keeps}
 
 module _ {F R B O : Type 0} (rules : LockRules F R B O) (opening : LockId → Option (QueueBlock (LockState B))) (kept : IsPreserved rules opening) where
   open kept use {t, P, keeps, c, at_home, lock}

@@ -1,7 +1,7 @@
 -- A scheduler's call is under way exactly where one is at the shared queues.
 use Rattle.std.{specs.Prelude.{◌≡◌, Bool, List, Option, Some, None, is_some}, proofs.Common.{refl, ap, ◌∙◌}}
 use Rattle.{event_log.specs.{declared.ids.{CpuId.CpuId, Tid.Tid}, Actions.{Action, phase}}, layer_traits.specs.declared.queues.QueueEvent.QueueEvent}
-use Rattle.{layer_traits.specs.Plans.is_in_section, scheduler.specs.Parts.sched_under}
+use Rattle.{layer_traits.specs.Polling.Plans.is_in_section, scheduler.specs.Parts.sched_under}
 
 -- a call is under way exactly where one is at the shared queues
 pub under_is_some : {E : Type 0} (under : Option (QueueEvent E)) (current : Option Tid) → is_some (sched_under under current) ≡ is_some under

@@ -1,10 +1,10 @@
 -- What the locks beneath tell of their blocks, shared queues tell of what they read off them: a buffer's block, or a queue's threads.
 use Rattle.std.{specs.{Prelude.{◌≡◌, List, Option, Some, None, IsSome, option_map, map, refl}, Option.option_and_then}, proofs.Common.{ap, sym, ◌∙◌}}
 use Rattle.event_log.specs.{declared.ids.{BufId.BufId, CpuId.CpuId, LockId.{LockId, TheVariants.{Pending, Buffer}}, Tid.Tid}, Sections.block_after}
-use Rattle.layer_traits.specs.{declared.queue_edits.QueueBlock.{QueueBlock, TheVariants.{Queue, Above}}, MoveRules.{MoveRules, WakesSleepers}, Owned.IsObserved}
-use Rattle.layer_traits.specs.{Places.pending_by, Protocol.Rules, QueueBlocks.{StartsAs, inner, with_queue}, QueueRules.queue_edited, Queues.buffer_sections}
-use Rattle.{layer_traits.{specs.Queues.{event_of, kernel, moves_in}, proofs.NestedLemmas.{buffer_block, queue_block}}, shared_queue.specs.OwnedLaws.Observers}
-use Rattle.shared_queue.specs.OwnedLaws.{above_in, queue_in}
+use Rattle.layer_traits.specs.{declared.queue_edits.QueueBlock.{QueueBlock, TheVariants.{Queue, Above}}, Threads.MoveRules.{MoveRules, WakesSleepers}}
+use Rattle.layer_traits.specs.{Threads.Places.pending_by, Views.Owned.IsObserved, Protocols.Protocol.Rules, Blocks.QueueBlocks.{StartsAs, inner, with_queue}}
+use Rattle.layer_traits.{specs.{Blocks.QueueRules.queue_edited, Layers.Queues.{buffer_sections, event_of, kernel, moves_in}}, proofs.NestedLemmas.buffer_block}
+use Rattle.{layer_traits.proofs.NestedLemmas.queue_block, shared_queue.specs.OwnedLaws.{Observers, above_in, queue_in}}
 
 -- each true value can be read
 abbrev CanRead : {A B : Type 0} → (A → Option B) → Option A → Option B → Type 0

@@ -1,17 +1,18 @@
 -- The laws of the layer, by those of the scheduler beneath.
 use Rattle.std.proofs.Common.{◌≡◌, Bool, true, List, [], ◌∷◌, ◌++◌, Option, Some, None, option_map, map, refl, ap, sym, ◌∙◌, subst, arith}
-use Rattle.{std.proofs.{Math.Path.transport, lemmas.Option.slice_get_within}, event_log.specs.declared.ids.{BufId.BufId, CpuId.CpuId, LockId.LockId}}
-use Rattle.event_log.specs.{declared.ids.{LockId.TheVariants.Buffer, Tid.Tid}, History.IsLawful, Actions.{Action, phase, renamed}, Sections.Section}
-use Rattle.event_log.{specs.Sections.{block_after, renamed_section}, proofs.Renaming.phase_renamed}
+use Rattle.std.proofs.{Math.Path.transport, lemmas.Option.slice_get_within}
+use Rattle.event_log.specs.{declared.ids.{BufId.BufId, CpuId.CpuId, LockId.{LockId, TheVariants.Buffer}, Tid.Tid}, History.IsLawful, Actions.{Action, phase}}
+use Rattle.event_log.{specs.{Actions.renamed, Sections.{Section, block_after, renamed_section}}, proofs.Renaming.phase_renamed}
 use Rattle.layer_traits.specs.declared.{queue_edits.{QueueBlock.QueueBlock, QueueEdit.QueueEdit}, queues.QueueEvent.QueueEvent, scheds.SchedCall.SchedCall}
-use Rattle.layer_traits.specs.{declared.sleeps.Outcome.Outcome, ListsAgree.{ListsAgree, is_at}, MoveRules.{WakesSleepers, asleep_by, edit_move, section_moves}}
-use Rattle.layer_traits.specs.{Places.{AreMoves, Stands, count_in, Threads, is_wait_channel, one_if, wait_channel_of, step, where_is}, Plans.is_in_section}
-use Rattle.layer_traits.specs.{Plans.table_of, QueueBlocks.{StartsWell, homes_in, inner}, Queues.{Kernel, QueueAllowed, buffer_sections, kernel, moves_in}}
-use Rattle.layer_traits.specs.{Renaming.{renamed_edit, renamed_events, viewed}, Scheds.EditStays, SleepLaw.{MaySleep, sleep_kernel}, Sleeping.IsAwake}
-use Rattle.layer_traits.specs.Sleeping.{NobodySleeps, SleepRules, SleepState, wait_list_at, sleep_answer, sleep_edited, sleep_moves, sleep_rules}
-use Rattle.layer_traits.proofs.CallLemmas.{asleep_wait_channel, moves_append, moves_lawful, moves_others, moves_over, sections_asleep, upper_lawful}
-use Rattle.layer_traits.proofs.{ListsLemmas.{lists_agree, section_wakes}, PlaceLemmas.{current_at, stands_others}, PlanRenaming.block_viewed}
-use Rattle.layer_traits.proofs.KernelRenaming.{Wraps, homes_viewed, inner_viewed, lawful_renamed, moves_renamed, sections_renamed, stays_renamed}
+use Rattle.layer_traits.specs.{declared.sleeps.Outcome.Outcome, Threads.{ListsAgree.{ListsAgree, is_at}, MoveRules.{WakesSleepers, asleep_by, edit_move}}}
+use Rattle.layer_traits.specs.Threads.{MoveRules.section_moves, Places.{AreMoves, Stands, count_in, Threads, is_wait_channel, one_if, wait_channel_of, step}}
+use Rattle.layer_traits.specs.{Threads.Places.where_is, Polling.Plans.{is_in_section, table_of}, Blocks.QueueBlocks.{StartsWell, homes_in, inner}}
+use Rattle.layer_traits.specs.Layers.{Queues.{Kernel, QueueAllowed, buffer_sections, kernel, moves_in}, Scheds.EditStays, SleepLaw.{MaySleep, sleep_kernel}}
+use Rattle.layer_traits.specs.Layers.Sleeping.{IsAwake, NobodySleeps, SleepRules, SleepState, wait_list_at, sleep_answer, sleep_edited, sleep_moves}
+use Rattle.layer_traits.{specs.{Layers.Sleeping.sleep_rules, Views.Renaming.{renamed_edit, renamed_events, viewed}}, proofs.CallLemmas.asleep_wait_channel}
+use Rattle.layer_traits.proofs.{CallLemmas.{moves_append, moves_lawful, moves_others, moves_over, sections_asleep, upper_lawful}, ListsLemmas.lists_agree}
+use Rattle.layer_traits.proofs.{ListsLemmas.section_wakes, PlaceLemmas.{current_at, stands_others}, PlanRenaming.block_viewed, KernelRenaming.Wraps}
+use Rattle.layer_traits.proofs.KernelRenaming.{homes_viewed, inner_viewed, lawful_renamed, moves_renamed, sections_renamed, stays_renamed}
 use Rattle.sleep_wakeup.specs.{declared.edits.{SleepBlock.SleepBlock, SleepEdit.SleepEdit}, Parts.{Deferred, as_edit, under_of}, Nested.NestedAllowed}
 use Rattle.sleep_wakeup.specs.Nested.{edit_in, nested_answer, nested_edited, nested_moves, nested_rules, state_of, states}
 use Rattle.layer_traits.specs.declared.scheds.SchedCall.TheVariants as call

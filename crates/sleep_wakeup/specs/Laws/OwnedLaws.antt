@@ -1,11 +1,12 @@
 -- What the scheduler beneath tells of its blocks, the layer tells of their waiting lists.
 use Rattle.std.proofs.Common.{◌≡◌, List, Option, Some, option_map, ap, sym, ◌∙◌}
 use Rattle.event_log.specs.{declared.ids.{BufId.BufId, CpuId.CpuId, LockId.{LockId, TheVariants.Buffer}, Tid.Tid}, Sections.block_after}
-use Rattle.layer_traits.specs.{declared.{queue_edits.QueueBlock.QueueBlock, queues.QueueEvent.QueueEvent}, Owned.IsObserved, Places.pending_by}
-use Rattle.layer_traits.specs.{QueueBlocks.inner, Queues.{buffer_sections, moves_in}, Renaming.{renamed_events, viewed}, Sleeping.{SleepRules, sleep_edited}}
-use Rattle.layer_traits.proofs.{KernelRenaming.{block_renamed, sections_renamed}, OwnedLemmas.{PartsOn, same_shown, shown_on, viewed_shown}}
-use Rattle.sleep_wakeup.specs.{declared.edits.{SleepBlock.SleepBlock, SleepEdit.SleepEdit}, Laws.NestedLaws.{beneath, here, nested_wraps, same_moves}}
-use Rattle.sleep_wakeup.specs.Nested.{edit_in, nested_edited, state_of}
+use Rattle.layer_traits.specs.{declared.{queue_edits.QueueBlock.QueueBlock, queues.QueueEvent.QueueEvent}, Views.{Owned.IsObserved, Renaming.renamed_events}}
+use Rattle.layer_traits.specs.{Views.Renaming.viewed, Threads.Places.pending_by, Blocks.QueueBlocks.inner, Layers.Queues.{buffer_sections, moves_in}}
+use Rattle.layer_traits.{specs.Layers.Sleeping.{SleepRules, sleep_edited}, proofs.{KernelRenaming.{block_renamed, sections_renamed}, OwnedLemmas.PartsOn}}
+use Rattle.{layer_traits.proofs.OwnedLemmas.{same_shown, shown_on, viewed_shown}, sleep_wakeup.specs.declared.edits.SleepBlock.SleepBlock}
+use Rattle.sleep_wakeup.specs.{declared.edits.SleepEdit.SleepEdit, Laws.NestedLaws.{beneath, here, nested_wraps, same_moves}, Nested.{edit_in, nested_edited}}
+use Rattle.sleep_wakeup.specs.Nested.{state_of}
 
 module _ {P Q E B O : Type 0} (rules : SleepRules E B O) (opening : LockId → Option (QueueBlock (SleepBlock B))) (past : List (QueueEvent (SleepEdit E)))
     (parts : PartsOn P Q) where

@@ -4,8 +4,9 @@ use Rattle.event_log.specs.declared.{ids.{CpuId.CpuId, LockId.LockId}, events.Ev
 use Rattle.event_log.specs.{Actions.{Rests, Waits, Holds, phase, acts_of}, Grants.{IsLegalGrants, acts_of_grants, grant_lock_phase}, History.IsLawful}
 use Rattle.event_log.specs.{Sections.{Section, block_after, sections_in}, WordsLog.{LockPhase, Idle, Waiting, Holding, lock_phase}}
 use Rattle.{event_log.proofs.{GrantWords.phase_grants, Tickets.phase_acts, Observed.{TicketOf, phase_of}}, layer_traits.specs.declared.edits.Mark.Mark}
-use Rattle.layer_traits.specs.{GrantProtocol.{GrantMayCome, SomeoneHasIt, grant_sections}, OneLock.SomeoneInside, WordsProtocol.{MayCome, edit_of, sections}}
-use Rattle.{layer_traits.proofs.{PlanLemmas.sections_acts, Seen.sections_allowed}, spinlock.specs.OwnedLaws.SomeoneHolds}
+use Rattle.layer_traits.specs.Protocols.{GrantProtocol.{GrantMayCome, SomeoneHasIt, grant_sections}, OneLock.SomeoneInside, WordsProtocol.{MayCome, edit_of}}
+use Rattle.layer_traits.{specs.Protocols.WordsProtocol.sections, proofs.{PlanLemmas.sections_acts, Seen.sections_allowed}}
+use Rattle.spinlock.specs.OwnedLaws.{SomeoneHolds}
 
 -- who rests is outside
 pub outside_of : (s : LockPhase) → phase_of s ≡ Rests → s ≡ Idle

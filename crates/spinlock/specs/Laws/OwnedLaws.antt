@@ -1,9 +1,10 @@
 -- What a machine of locks and the stages of its CPUs tell of a block is what the sections make of it.
 use Rattle.std.{specs.Prelude.{◌≡◌, Bool, true, false, List, Option, Some, None, MatchOption, if◌then◌else◌, refl}, proofs.Common.{arith, ap, sym, ◌∙◌, subst}}
-use Rattle.event_log.specs.{declared.ids.{CpuId.CpuId, LockId.LockId}, Actions.{Action, Holds, AreLegal, phase}, History.same_lock}
-use Rattle.event_log.{specs.Sections.{block_after, sections_in}, proofs.{Exclusion.{is_at, knows}, Same.{same_lock_self, same_lock_true}}}
-use Rattle.{layer_traits.specs.{Owned.{IsHeld, IsObserved}, Plans.is_in_section, Protocol.Rules}, spinlock.specs.declared.stages.TicketPhase.TicketPhase}
-use Rattle.spinlock.specs.{declared.stages.TicketPhase.TheVariants.{Out, Waiting, Holding}, OwnedLaws.SomeoneHolds, Stages.{StageFits, held_block}}
+use Rattle.event_log.specs.{declared.ids.{CpuId.CpuId, LockId.LockId}, Actions.{Action, Holds, AreLegal, phase}, History.same_lock, Sections.block_after}
+use Rattle.event_log.{specs.Sections.sections_in, proofs.{Exclusion.{is_at, knows}, Same.{same_lock_self, same_lock_true}}}
+use Rattle.layer_traits.specs.{Views.Owned.{IsHeld, IsObserved}, Polling.Plans.is_in_section, Protocols.Protocol.Rules}
+use Rattle.spinlock.specs.{declared.stages.TicketPhase.{TicketPhase, TheVariants.{Out, Waiting, Holding}}, OwnedLaws.SomeoneHolds, Stages.StageFits}
+use Rattle.spinlock.specs.Stages.{held_block}
 
 module _ {E B O : Type 0} (rules : Rules E B O) (opening : LockId → Option B) (acts : List (Action E)) (lock : LockId) where
   abbrev truth : Option B

@@ -1,8 +1,9 @@
 -- A stage tells whether a section is under way.
 use Rattle.std.proofs.Common.{◌≡◌, List, Option, is_some, ap, sym}
 use Rattle.event_log.specs.{declared.ids.{CpuId.CpuId, LockId.LockId}, Actions.{Action, AreLegal, phase}, History.IsLawful, Sections.sections_in}
-use Rattle.{event_log.proofs.Foreign.{cpus_of_actions_known, sections_in_known}, layer_traits.specs.{Plans.is_in_section, Protocol.{Rules, IsKnown}}}
-use Rattle.spinlock.specs.{Stages.{StageFits, stage_section}, declared.stages.TicketPhase.{TicketPhase, TheVariants.{Out, Waiting, Holding}}}
+use Rattle.{event_log.proofs.Foreign.{cpus_of_actions_known, sections_in_known}, layer_traits.specs.{Polling.Plans.is_in_section, Protocols.Protocol.Rules}}
+use Rattle.{layer_traits.specs.Protocols.Protocol.IsKnown, spinlock.specs.{Stages.{StageFits, stage_section}, declared.stages.TicketPhase.TicketPhase}}
+use Rattle.spinlock.specs.declared.stages.TicketPhase.TheVariants.{Out, Waiting, Holding}
 
 -- a section is under way exactly while the CPU waits at a lock or holds one
 pub stage_busy : {E B O : Type 0} (rules : Rules E B O) (opening : LockId → Option B) (acts : List (Action E)) (cpu : CpuId) (stage : TicketPhase E B)

@@ -1,4 +1,4 @@
-use Rattle.cpu.proofs.RealTime.{real_time}
+use Rattle.cpu.proofs.WholeSystems.RealTime.{real_time}
 use Rattle.cpu.proofs.laws.linear_runs_keep_real_time.Goals as goal
 
 pub returns : goal.returns

@@ -1,5 +1,5 @@
 use Rattle.std.proofs.Common.{◌≡◌, ◌<◌, length, rules}
-use Rattle.cpu.proofs.GreatestCpu.{all_below, below_too}
+use Rattle.cpu.proofs.ListFacts.GreatestCpu.{all_below, below_too}
 use Rattle.cpu.proofs.systems.are_below.Goals as goal
 
 pub returns-else-is_empty : goal.returns-else-is_empty

@@ -1,4 +1,4 @@
-use Rattle.cpu.proofs.GreatestCpu.{IsGreatest}
+use Rattle.cpu.proofs.ListFacts.GreatestCpu.{IsGreatest}
 use Rattle.cpu.proofs.systems.are_below.Given as goal
 
 -- no number so far is greater, and it is 0 or one of them

@@ -1,5 +1,5 @@
 use Rattle.std.proofs.Common.{◌≡◌, ◌≤◌, length, map, take, vec_capacity}
-use Rattle.layer_traits.specs.BufferBlocks.{empty_block}
+use Rattle.layer_traits.specs.Blocks.BufferBlocks.{empty_block}
 use Rattle.fifo_buffer.proofs.blocks.empty_blocks.Given as goal
 
 abbrev pub invariant-loop-capacity : goal.invariant-loop-capacity

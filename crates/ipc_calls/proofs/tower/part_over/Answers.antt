@@ -1,5 +1,5 @@
 use Rattle.std.proofs.Common.{◌≤◌, length, refl, ap, ◌∙◌, arith}
-use Rattle.{fifo_buffer.proofs.Opening.{boots_well, caps_are}, layer_traits.{specs.Renaming.viewed, proofs.KernelRenaming.{homes_viewed, viewed_there}}}
+use Rattle.{fifo_buffer.proofs.Opening.{boots_well, caps_are}, layer_traits.{specs.Views.Renaming.viewed, proofs.KernelRenaming.{homes_viewed, viewed_there}}}
 use Rattle.{event_log.specs.declared.ids.LockId.TheVariants.Pending, queuing_lock.specs.Nested.nested_lock_of, sleep_wakeup.specs.Nested.state_of}
 use Rattle.ipc_calls.proofs.tower.part_over.Goals as goal
 

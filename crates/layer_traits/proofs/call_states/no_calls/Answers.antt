@@ -1,6 +1,7 @@
 -- Each element is that of a thread that never called, so the table is this one element again and again.
 use Rattle.std.{specs.{Prelude.{◌≡◌, ℕ, ◌<◌, List, replicate}, Array.AllOfLen}, proofs.{Common.{sym, ◌∙◌, arith}, lemmas.List.{ext_get_or, length-replicate}}}
-use Rattle.{std.proofs.lemmas.List.get_or-replicate, layer_traits.specs.BufferLaw.no_call, event_log.specs.declared.ids.TheConstants.THREADS}
+use Rattle.std.proofs.lemmas.List.{get_or-replicate}
+use Rattle.{layer_traits.specs.Layers.BufferLaw.no_call, event_log.specs.declared.ids.TheConstants.THREADS}
 use Rattle.layer_traits.proofs.call_states.no_calls.Goals as goal
 
 each_same : {A : Type 0} (x : A) (xs : List A) (n : ℕ) → AllOfLen (λ y. y ≡ x) xs n → xs ≡ replicate n x

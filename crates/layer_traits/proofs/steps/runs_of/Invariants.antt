@@ -1,5 +1,5 @@
 use Rattle.std.proofs.Common.{◌-◌, length}
-use Rattle.layer_traits.specs.Spins.{BeginWith}
+use Rattle.layer_traits.specs.Polling.Spins.{BeginWith}
 use Rattle.layer_traits.proofs.steps.runs_of.Given as goal
 
 abbrev pub invariant-loop-own : goal.invariant-loop-own

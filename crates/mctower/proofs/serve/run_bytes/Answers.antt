@@ -2,10 +2,11 @@ use Rattle.std.proofs.{Common.{◌≡◌, Bool, List, [], Result, Ok, Err, true,
 use Rattle.std.specs.{Prelude.if◌then◌else◌, Io.KnownBytes.Appends}
 use Rattle.{event_log.{specs.declared.ids.CpuId.CpuId, proofs.BoolLemmas.refuted}, boot.specs.{declared.refusals.BootError.BootError, Plan.{BootPlan, plan_of}}}
 use Rattle.{tracer.{specs.Sinks.Outs, proofs.SinkLemmas.{all_out, outs_then}}, mctower.specs.declared.refusals.Refusal.{Refusal, TheVariants.WriteFault}}
-use Rattle.mctower.specs.declared.{refusals.Refusal.TheVariants.Plan as BadPlan, serve.Done.{Done, TheVariants.Ran}, states.State.State, run.Fault.Fault}
-use Rattle.mctower.specs.{State.IsStateOf, Running.{IsRunOf, NoCondition, RunsOn, Tells}, Output.{Output, between}, Serve.{OfPlan, RefusedBy, RunsPlan}}
-use Rattle.{mctower.{specs.{Serve.ReportsRun, Refusals.{from_fault, lacks_memory}}, proofs.TabledLemmas.state_of_run}, cpu.specs.Claims.Shown}
-use Rattle.mctower.specs.declared.run.Fault.TheVariants as run
+use Rattle.mctower.specs.declared.{refusals.Refusal.TheVariants.Plan as BadPlan, serve.outcomes.Done.{Done, TheVariants.Ran}, tell.state_lines.State.State}
+use Rattle.mctower.specs.{declared.run.run_faults.Fault.Fault, State.IsStateOf, Running.{IsRunOf, NoCondition, RunsOn, Tells}, Output.{Output, between}}
+use Rattle.mctower.{specs.{Serve.{OfPlan, RefusedBy, RunsPlan, ReportsRun}, Refusals.{from_fault, lacks_memory}}, proofs.TabledLemmas.state_of_run}
+use Rattle.cpu.specs.Claims.{Shown}
+use Rattle.mctower.specs.declared.run.run_faults.Fault.TheVariants as run
 use Rattle.mctower.proofs.serve.run_bytes.Goals as goal
 
 -- what is to be told of a run whose text was put out, and nothing more behind it

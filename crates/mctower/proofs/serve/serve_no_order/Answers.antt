@@ -1,6 +1,6 @@
 -- proofs/serve/serve_no_order/Answers.antt
-use Rattle.{std.proofs.Common.{inl, inr, map, rules, subst}, mctower.specs.{Faults.IsWhy, Output.between, Serve.Puts, declared.done.Done.TheVariants.Exit}}
-use Rattle.mctower.proofs.HelpLemmas.{help_pieces}
+use Rattle.{std.proofs.Common.{inl, inr, map, rules, subst}, mctower.specs.{Faults.IsWhy, Output.between, Serve.Puts}}
+use Rattle.mctower.{specs.declared.serve.outcomes.Done.TheVariants.Exit, proofs.HelpLemmas.help_pieces}
 use Rattle.mctower.proofs.serve.serve_no_order.Goals as goal
 
 pub returns-in-Ok-AsksHelp-clause-answers : goal.returns-in-Ok-AsksHelp-clause-answers

@@ -1,5 +1,5 @@
 use Rattle.std.proofs.Common.{drop, IsSome, ℕ, ◌+◌}
-use Rattle.{layer_traits.specs.OneLock.opened, plain_layers.specs.Tables.IsSlot}
+use Rattle.{layer_traits.specs.Protocols.OneLock.opened, plain_layers.specs.Tables.IsSlot}
 use Rattle.plain_layers.proofs.lock_table.slot_of.Given as goal
 
 abbrev pub invariant-loop-i : goal.invariant-loop-i

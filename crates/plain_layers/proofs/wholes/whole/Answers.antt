@@ -1,6 +1,6 @@
-use Rattle.{std.proofs.Common.{Option, inl, inr, refl, ap, subst}, layer_traits.specs.{declared.sleeps.Outcome.Outcome, Payloads.{outcome_told, told_by}}}
-use Rattle.{layer_traits.specs.SleepLaw.{SleepPolled, Sleeping, sleep_kernel}, plain_layers.{specs.Wholes.asked, proofs.WholeLemmas.first_answers}}
-use Rattle.plain_layers.proofs.WholeLemmas.{first_sends, second_sends, both_polls}
+use Rattle.{std.proofs.Common.{Option, inl, inr, refl, ap, subst}, layer_traits.specs.{declared.sleeps.Outcome.Outcome, Blocks.Payloads.outcome_told}}
+use Rattle.{layer_traits.specs.{Blocks.Payloads.told_by, Layers.SleepLaw.{SleepPolled, Sleeping, sleep_kernel}}, plain_layers.specs.Wholes.asked}
+use Rattle.plain_layers.proofs.WholeLemmas.{first_answers, first_sends, second_sends, both_polls}
 use Rattle.plain_layers.proofs.wholes.whole.Goals as goal
 
 -- one poll did it all

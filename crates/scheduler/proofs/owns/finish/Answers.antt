@@ -1,5 +1,5 @@
 use Rattle.std.proofs.Common.{◌≡◌, Some, ap, sym, ◌∙◌}
-use Rattle.{thread_blocks.specs.Queues.is_in, layer_traits.specs.Places.Threads}
+use Rattle.{thread_blocks.specs.Queues.is_in, layer_traits.specs.Threads.Places.Threads}
 use Rattle.scheduler.proofs.owns.finish.Goals as goal
 
 pub push-requires-clause-known : goal.push-requires-clause-known

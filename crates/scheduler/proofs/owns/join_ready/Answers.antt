@@ -1,5 +1,5 @@
 use Rattle.std.proofs.Common.{◌≡◌, Some, ap, sym, ◌∙◌}
-use Rattle.layer_traits.specs.Places.{Threads}
+use Rattle.layer_traits.specs.Threads.Places.{Threads}
 use Rattle.scheduler.proofs.owns.join_ready.Goals as goal
 
 pub push-requires-clause-known : goal.push-requires-clause-known

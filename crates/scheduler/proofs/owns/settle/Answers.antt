@@ -1,5 +1,5 @@
 use Rattle.std.proofs.Common.{◌≡◌, false, ap, ◌∙◌}
-use Rattle.{thread_blocks.specs.Queues.is_in, layer_traits.specs.Places.Threads, scheduler.proofs.owns.settle.Goals.{then-is_some, else-is_some}}
+use Rattle.{thread_blocks.specs.Queues.is_in, layer_traits.specs.Threads.Places.Threads, scheduler.proofs.owns.settle.Goals.{then-is_some, else-is_some}}
 use Rattle.scheduler.proofs.owns.settle.Goals as goal
 
 pub push-requires-clause-known : goal.push-requires-clause-known

@@ -1,5 +1,5 @@
 use Rattle.std.proofs.Common.{subst, sym, ◌∙◌}
-use Rattle.{layer_traits.specs.Payloads.queue_told, scheduler.specs.Owns.MayTake}
+use Rattle.{layer_traits.specs.Blocks.Payloads.queue_told, scheduler.specs.Owns.MayTake}
 use Rattle.scheduler.proofs.owns.take_answer.Goals as goal
 
 -- the threads that were taken lie in the payload

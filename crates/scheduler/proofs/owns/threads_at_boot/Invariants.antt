@@ -1,5 +1,5 @@
 use Rattle.std.proofs.Common.{◌≡◌, take}
-use Rattle.layer_traits.specs.Places.{homed}
+use Rattle.layer_traits.specs.Threads.Places.{homed}
 use Rattle.scheduler.proofs.owns.threads_at_boot.Given as goal
 
 abbrev pub invariant-loop-i : goal.invariant-loop-i

@@ -1,7 +1,8 @@
 use Rattle.std.proofs.{Common.{◌≡◌, ◌<◌, ◌++◌, IsSome, length, sym, subst, arith, rules, slice_get}, lemmas.Grind.common_steps}
-use Rattle.{std.specs.Vec.Iter.into_iter_items, event_log.specs.declared.ids.LockId.TheVariants.{Pending, Buffer}, layer_traits.specs.OneLock.AreDistinct}
-use Rattle.{layer_traits.specs.{OneLock.opened, QueueBlocks.{StartsWell, homes_in, inner}}, shared_queue.proofs.OpeningLemmas.{all_there, blocks_there}}
-use Rattle.shared_queue.{proofs.OpeningLemmas.{homes_read, locks_distinct, queues_there, starts_well}, specs.Opening.{AreQueues, buffers_from}}
+use Rattle.std.specs.Vec.Iter.{into_iter_items}
+use Rattle.{event_log.specs.declared.ids.LockId.TheVariants.{Pending, Buffer}, layer_traits.specs.Protocols.OneLock.{AreDistinct, opened}}
+use Rattle.{layer_traits.specs.Blocks.QueueBlocks.{StartsWell, homes_in, inner}, shared_queue.proofs.OpeningLemmas.{all_there, blocks_there, homes_read}}
+use Rattle.shared_queue.{proofs.OpeningLemmas.{locks_distinct, queues_there, starts_well}, specs.Opening.{AreQueues, buffers_from}}
 use Rattle.shared_queue.proofs.opening.queue_blocks.Goals as goal
 
 -- no lock stands twice, each opens as it must, the pending queues tell the homes, and each CPU has its queue and each buffer its block

@@ -1,4 +1,5 @@
-use Rattle.{event_log.specs.Sections.{block_after, sections_in}, layer_traits.{proofs.Alone.{three_polls, answer_there, block_there}, specs.Plans.table_of}}
+use Rattle.{event_log.specs.Sections.{block_after, sections_in}, layer_traits.proofs.Alone.{three_polls, answer_there, block_there}}
+use Rattle.layer_traits.specs.Polling.Plans.{table_of}
 use Rattle.spinlock.proofs.sections.whole.Goals as goal
 
 pub unwrap-requires : goal.unwrap-requires

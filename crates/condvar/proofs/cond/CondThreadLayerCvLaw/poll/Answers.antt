@@ -1,10 +1,10 @@
 use Rattle.std.proofs.Common.{◌≡◌, ◌<◌, ◌∙◌, List, Option, None, if◌then◌else◌, is_some, slice_set, ap, sym, true, false, Some}
-use Rattle.layer_traits.specs.{declared.{conditions.CvOut.CvOut, locked.QOut.QOut, sleeps.Outcome.Outcome}, Conditions.{CvCall, cv_rules}, CvLaw.Waiting}
-use Rattle.layer_traits.specs.{QLocking.{lock_caller, lock_moves, lock_rules}, QLockLaw.{lock_kernel, slept_for}, Payloads.{cv_meant, lock_meant}}
-use Rattle.{layer_traits.specs.{Plans.table_of, QueueRules.queue_rules}, event_log.specs.declared.ids.{BufId.BufId, TheConstants.THREADS}}
-use Rattle.{event_log.specs.declared.ids.LockId.TheVariants.Buffer, condvar.{specs.Waiting.is_wait, proofs.CondLemmas.{complete_told, current_awake}}}
-use Rattle.condvar.proofs.CondLemmas.{current_small, lock_tells, over_polled, waits_follow, waits_polled, waits_told, wake_ended, wake_kept, wake_told}
-use Rattle.condvar.proofs.cond.CondThreadLayerCvLaw.poll.{Given.Over, Goals.{After-caller_of-t, After-complete}}
+use Rattle.layer_traits.specs.{declared.{conditions.CvOut.CvOut, locked.QOut.QOut, sleeps.Outcome.Outcome}, Layers.Conditions.{CvCall, cv_rules}}
+use Rattle.layer_traits.specs.Layers.{CvLaw.Waiting, QLocking.{lock_caller, lock_moves, lock_rules}, QLockLaw.{lock_kernel, slept_for}}
+use Rattle.layer_traits.specs.{Blocks.{Payloads.{cv_meant, lock_meant}, QueueRules.queue_rules}, Polling.Plans.table_of}
+use Rattle.{event_log.specs.declared.ids.{BufId.BufId, TheConstants.THREADS, LockId.TheVariants.Buffer}, condvar.specs.Waiting.is_wait}
+use Rattle.condvar.proofs.CondLemmas.{complete_told, current_awake, current_small, lock_tells, over_polled, waits_follow, waits_polled, waits_told, wake_ended}
+use Rattle.condvar.proofs.{CondLemmas.{wake_kept, wake_told}, cond.CondThreadLayerCvLaw.poll.{Given.Over, Goals.{After-caller_of-t, After-complete}}}
 use Rattle.condvar.proofs.cond.CondThreadLayerCvLaw.poll.Goals as goal
 
 -- the caller is a thread of the machine

@@ -1,7 +1,6 @@
 use Rattle.std.proofs.Common.{refl, ◌∙◌, sym, arith}
-use Rattle.cpu.{specs.{Cpus.guests_rest, CpuSteps.SteppedAt}, proofs.{TablePasses.halted_steps, CpuRuns.one_step}}
-use Rattle.cpu.proofs.CpuOverLayer.{laws_of, layered, tabled_cpu, outset, left_alone, runs_within}
-use Rattle.cpu.proofs.cpus.Cpu.act.{Given.Over, Goals.After-go}
+use Rattle.cpu.{specs.{Cpus.guests_rest, CpuSteps.SteppedAt}, proofs.{StepTable.TablePasses.halted_steps, CpuSteps.CpuRuns.one_step}}
+use Rattle.cpu.proofs.{OverLayer.CpuOverLayer.{laws_of, layered, tabled_cpu, outset, left_alone, runs_within}, cpus.Cpu.act.{Given.Over, Goals.After-go}}
 use Rattle.cpu.proofs.cpus.Cpu.act.Goals as goal
 
 pub reason-requires : goal.reason-requires

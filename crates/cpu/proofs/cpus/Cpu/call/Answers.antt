@@ -1,8 +1,8 @@
 use Rattle.std.proofs.Common.{◌≡◌, ◌++◌, if◌then◌else◌, Option, None, refl, ap, sym, ◌∙◌, subst, arith}
-use Rattle.{layer_traits.specs.{declared.calls.Effect.Effect, BufferLaw.{answer_in, buffer_of, call_state_of}}, cpu.specs.Guests.{entries_of, polled}}
-use Rattle.cpu.{specs.Cpus.{fresh_at, guest_at, stands_at, with_guest}, proofs.{CallRuns.{call_runs, fresh_room}, CallSteps.{poll_call_states, poll_number}}}
-use Rattle.cpu.proofs.{CallSteps.{poll_within, polls_at}, CpuStates.valid_cpu, CpuOverLayer.{IsLayered, laws_of, layered}, cpus.Cpu.call.Given.Over}
-use Rattle.cpu.proofs.cpus.Cpu.call.Goals.{Start, After-note_poll-fresh}
+use Rattle.{layer_traits.specs.{declared.calls.Effect.Effect, Layers.BufferLaw.{answer_in, buffer_of, call_state_of}}, cpu.specs.Guests.{entries_of, polled}}
+use Rattle.cpu.{specs.Cpus.{fresh_at, guest_at, stands_at, with_guest}, proofs.CpuSteps.{CallRuns.{call_runs, fresh_room}, CallSteps.poll_call_states}}
+use Rattle.cpu.proofs.{CpuSteps.{CallSteps.{poll_number, poll_within, polls_at}, CpuStates.valid_cpu}, OverLayer.CpuOverLayer.{IsLayered, laws_of, layered}}
+use Rattle.cpu.proofs.cpus.Cpu.call.{Given.Over, Goals.{Start, After-note_poll-fresh}}
 use Rattle.cpu.proofs.cpus.Cpu.call.Goals as goal
 
 -- the CPU over its layers

@@ -1,10 +1,8 @@
-use Rattle.layer_traits.specs.Capacities.{caps_in}
-use Rattle.layer_traits.specs.OwnParts.{threads_in}
-use Rattle.layer_traits.specs.QueueBlocks.{homes_in}
 use Rattle.std.proofs.Common.{List, length, Option, refl, ap, sym, ◌∙◌, subst, vec_capacity}
-use Rattle.cpu.{specs.{declared.guests.Guest.Guest, Cpus.{IsCpu, guest_computes, programs_of}, Tables.{IsTabled, WentByTable}}, proofs.GuestLists.programs_with}
-use Rattle.cpu.proofs.{PassSteps.noted_compute, TablePasses.{compute_steps, compute_tabled}, CpuStates.valid_cpu, CpuOverLayer.{laws_of, layered}}
-use Rattle.{cpu.proofs.CpuOverLayer.{tabled_cpu, outset, left_alone}, layer_traits.specs.declared.steps.Step.TheVariants.Stepped}
+use Rattle.layer_traits.specs.{Blocks.{Capacities.caps_in, QueueBlocks.homes_in}, Views.OwnParts.threads_in, declared.steps.Step.TheVariants.Stepped}
+use Rattle.cpu.specs.{declared.guests.Guest.Guest, Cpus.{IsCpu, guest_computes, programs_of}, Tables.{IsTabled, WentByTable}}
+use Rattle.cpu.proofs.{ListFacts.GuestLists.programs_with, CpuSteps.{PassSteps.noted_compute, CpuStates.valid_cpu}, StepTable.TablePasses.compute_steps}
+use Rattle.cpu.proofs.{StepTable.TablePasses.compute_tabled, OverLayer.CpuOverLayer.{laws_of, layered, tabled_cpu, outset, left_alone}}
 use Rattle.cpu.proofs.cpus.Cpu.compute.Goals as goal
 
 pub returns-clause-is : goal.returns-clause-is

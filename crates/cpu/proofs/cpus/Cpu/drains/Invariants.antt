@@ -1,7 +1,6 @@
-use Rattle.layer_traits.specs.OwnParts.{threads_in}
 use Rattle.std.proofs.Common.{◌≡◌, ◌-◌, ◌<◌, None}
-use Rattle.{layer_traits.specs.declared.passes.Pass.TheVariants.Drain, cpu.specs.{declared.cpus.Choice.TheVariants.Passes, Cpus.chosen, CpuSteps.RunsAt}}
-use Rattle.cpu.specs.CpuSteps.{stops_at}
+use Rattle.{layer_traits.specs.{Views.OwnParts.threads_in, declared.passes.Pass.TheVariants.Drain}, cpu.specs.declared.cpus.Choice.TheVariants.Passes}
+use Rattle.cpu.specs.{Cpus.chosen, CpuSteps.{RunsAt, stops_at}}
 use Rattle.cpu.proofs.cpus.Cpu.drains.Given as goal
 
 -- fewer steps were taken than may be, and the CPU is to drain

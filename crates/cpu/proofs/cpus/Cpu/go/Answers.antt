@@ -1,4 +1,4 @@
-use Rattle.cpu.proofs.{CpuRuns.one_run, CpuRuns.stepped_so, CpuOverLayer.laws_of, CpuOverLayer.layered, CpuOverLayer.runs_within}
+use Rattle.cpu.proofs.{CpuSteps.CpuRuns.{one_run, stepped_so}, OverLayer.CpuOverLayer.{laws_of, layered, runs_within}}
 use Rattle.cpu.proofs.cpus.Cpu.go.Goals as goal
 
 pub choice-requires : goal.choice-requires

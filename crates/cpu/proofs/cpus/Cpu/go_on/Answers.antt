@@ -1,6 +1,6 @@
 use Rattle.std.proofs.Common.{rules, ◌≡◌, ◌+◌, ◌-◌, ◌≤◌, refl, arith}
-use Rattle.cpu.{specs.CpuSteps.RunsAt, proofs.{CpuRuns.{AgreesAt, runs_agree, runs_on, runs_room, stepped_so}, CpuOverLayer.{laws_of, layered, runs_within}}}
-use Rattle.cpu.proofs.cpus.Cpu.go_on.{Given.Over, Goals.{At-loop-taken, Then-look, After-go-taken}}
+use Rattle.cpu.{specs.CpuSteps.RunsAt, proofs.{CpuSteps.CpuRuns.{AgreesAt, runs_agree, runs_on, runs_room, stepped_so}, OverLayer.CpuOverLayer.laws_of}}
+use Rattle.cpu.proofs.{OverLayer.CpuOverLayer.{layered, runs_within}, cpus.Cpu.go_on.{Given.Over, Goals.{At-loop-taken, Then-look, After-go-taken}}}
 use Rattle.cpu.proofs.cpus.Cpu.go_on.Goals as goal
 
 pub loop-taken-init : goal.loop-taken-init

@@ -1,8 +1,7 @@
-use Rattle.{std.proofs.Common.{arith, ap, subst, refl}, event_log.specs.declared.ids.CpuId.CpuId}
-use Rattle.layer_traits.specs.Capacities.{caps_in}
-use Rattle.layer_traits.specs.{Looks.Tries, BufferLaw.Buffering, OwnParts.threads_in, QueueBlocks.homes_in}
-use Rattle.cpu.{specs.Cpus.{chosen, guests_rest}, proofs.{CpuStates.valid_cpu, CpuOverLayer.left_framed, StepsBesideGuests.{look_grows, others_same}}}
-use Rattle.cpu.proofs.{StepsBesideGuests.others_grow, PassSteps.seen_stays, TableCalls.looked_steps}
+use Rattle.{std.proofs.Common.{arith, ap, subst, refl}, event_log.specs.declared.ids.CpuId.CpuId, layer_traits.specs.Blocks.Capacities.caps_in}
+use Rattle.{layer_traits.specs.{Blocks.QueueBlocks.homes_in, Polling.Looks.Tries, Layers.BufferLaw.Buffering, Views.OwnParts.threads_in}, cpu.specs.Cpus.chosen}
+use Rattle.cpu.{specs.Cpus.guests_rest, proofs.CpuSteps.{CpuStates.valid_cpu, StepsBesideGuests.{look_grows, others_same, others_grow}, PassSteps.seen_stays}}
+use Rattle.cpu.proofs.{OverLayer.CpuOverLayer.left_framed, StepTable.TableCalls.looked_steps}
 use Rattle.cpu.proofs.cpus.Cpu.look.Goals as goal
 
 pub returns-clause-is : goal.returns-clause-is

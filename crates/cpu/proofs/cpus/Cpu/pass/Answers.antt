@@ -1,12 +1,11 @@
-use Rattle.layer_traits.specs.OwnParts.{threads_in}
 use Rattle.std.proofs.Common.{rules, ◌≡◌, true, false, ◌++◌, List, Option, Some, None, is_some, ap, sym, refl, ◌∙◌, arith}
-use Rattle.cpu.proofs.{GuestLists.programs_with, StepsBesideGuests.{follows_grow, others_same, passed_grows, others_grow}, PassSteps.{current_within, may_pass}}
-use Rattle.cpu.proofs.{PassSteps.{noted_done, noted_wait}, TableCalls.hand_preserved, TablePasses.{TabledPass, pass_steps, pass_tabled, passed_if}}
-use Rattle.cpu.proofs.{CpuStates.valid_cpu}
-use Rattle.cpu.proofs.{CpuOverLayer.{acts_for, laws_of, IsLayered, layered, left_framed, runs_home, tabled_cpu, outset}, cpus.Cpu.pass.Given.Over}
-use Rattle.cpu.{proofs.cpus.Cpu.pass.Goals.{Start, After-pass-done}, specs.Cpus.{GuestsWent, guest_passes, guests_rest, passed_by, programs_of}}
-use Rattle.{cpu.specs.declared.guests.Guest.Guest, event_log.specs.declared.{entries.Entry.Entry, ids.{CpuId.CpuId, Tid.Tid}}}
-use Rattle.layer_traits.specs.{declared.passes.Pass.Pass, Places.pending_by, QueueBlocks.homes_in}
+use Rattle.layer_traits.specs.{Views.OwnParts.threads_in, declared.passes.Pass.Pass, Threads.Places.pending_by, Blocks.QueueBlocks.homes_in}
+use Rattle.cpu.proofs.{ListFacts.GuestLists.programs_with, CpuSteps.StepsBesideGuests.{follows_grow, others_same, passed_grows, others_grow}}
+use Rattle.cpu.proofs.{CpuSteps.{PassSteps.{current_within, may_pass, noted_done, noted_wait}, CpuStates.valid_cpu}, StepTable.TableCalls.hand_preserved}
+use Rattle.cpu.proofs.{StepTable.TablePasses.{TabledPass, pass_steps, pass_tabled, passed_if}, OverLayer.CpuOverLayer.{acts_for, laws_of, IsLayered, layered}}
+use Rattle.cpu.proofs.{OverLayer.CpuOverLayer.{left_framed, runs_home, tabled_cpu, outset}, cpus.Cpu.pass.{Given.Over, Goals.{Start, After-pass-done}}}
+use Rattle.cpu.specs.{Cpus.{GuestsWent, guest_passes, guests_rest, passed_by, programs_of}, declared.guests.Guest.Guest}
+use Rattle.event_log.specs.declared.{entries.Entry.Entry, ids.{CpuId.CpuId, Tid.Tid}}
 use Rattle.cpu.proofs.cpus.Cpu.pass.Goals as goal
 
 -- the CPU over its layers

@@ -1,4 +1,4 @@
-use Rattle.cpu.proofs.CpuRuns.{stepped_so}
+use Rattle.cpu.proofs.CpuSteps.CpuRuns.{stepped_so}
 use Rattle.cpu.proofs.cpus.Cpu.passes.Goals as goal
 
 pub returns : goal.returns

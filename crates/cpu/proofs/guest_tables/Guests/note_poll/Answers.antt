@@ -1,5 +1,5 @@
 use Rattle.std.proofs.{Common.{◌≡◌, ◌<◌, None, Some, length, rules, sym, ◌∙◌, arith}, lemmas.List.get_or_default}
-use Rattle.cpu.proofs.GuestLists.{count_with, live_with}
+use Rattle.cpu.proofs.ListFacts.GuestLists.{count_with, live_with}
 use Rattle.cpu.proofs.guest_tables.Guests.note_poll.Goals as goal
 
 -- the call is polled again: its guest still stands at it

@@ -1,8 +1,8 @@
 use Rattle.std.{proofs.Common.{◌≡◌, ◌+◌, ◌<◌, ◌≤◌, ℕ, ap, sym, ◌∙◌, subst, arith}, specs.Prelude.{Option, Some, slice_get, slice_set}}
 use Rattle.{layer_traits.specs.declared.steps.Step.TheVariants.Stepped, cpu.specs.{Linear.CallsGoOn, Systems.{SteppedByTable, own_reason_in, reason_or}}}
-use Rattle.cpu.{specs.Claims.CpuShown}
-use Rattle.cpu.proofs.{CpuRuns.one_step, ListReads.{read_at, shows_at}, Moments.MachineLaws, RunsOverLayer.{WentSo, by_one, calls_one, shows}}
-use Rattle.cpu.proofs.{RunsOverLayer.went_so, SystemOverLayer.shown_by, systems.System.advance.{Given.Over, Goals.{After-index_mut-at, After-go_on-steps}}}
+use Rattle.cpu.{specs.Claims.CpuShown, proofs.{CpuSteps.CpuRuns.one_step, ListFacts.ListReads.{read_at, shows_at}, WholeSystems.Moments.MachineLaws}}
+use Rattle.cpu.proofs.{OverLayer.{RunsOverLayer.{WentSo, by_one, calls_one, shows, went_so}, SystemOverLayer.shown_by}, systems.System.advance.Given.Over}
+use Rattle.cpu.proofs.systems.System.advance.Goals.{After-index_mut-at, After-go_on-steps}
 use Rattle.cpu.proofs.systems.System.advance.Goals as goal
 
 -- the CPU that steps is the one at its number

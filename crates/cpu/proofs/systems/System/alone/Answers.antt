@@ -1,6 +1,5 @@
-use Rattle.layer_traits.specs.OwnParts.{threads_in}
-use Rattle.{std.proofs.{Common.{subst, arith}, lemmas.List.length-map}, cpu.specs.{declared.cpus.Cpu.Cpu, Claims.{Shown, cpu_shown}, Sound.ReturnsAlone}}
-use Rattle.cpu.proofs.{ListReads.there_is, ReachedSystems.alone_of}
+use Rattle.{layer_traits.specs.Views.OwnParts.threads_in, std.proofs.{Common.{subst, arith}, lemmas.List.length-map}, cpu.specs.declared.cpus.Cpu.Cpu}
+use Rattle.cpu.{specs.{Claims.{Shown, cpu_shown}, Sound.ReturnsAlone}, proofs.{ListFacts.ListReads.there_is, StepTable.ReachedSystems.alone_of}}
 use Rattle.cpu.proofs.systems.System.alone.Goals as goal
 
 pub returns : goal.returns

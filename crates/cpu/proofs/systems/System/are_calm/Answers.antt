@@ -1,6 +1,6 @@
-use Rattle.layer_traits.specs.OwnParts.{threads_in}
 use Rattle.std.proofs.{Common.{◌≡◌, true, length, ap, sym, ◌∙◌, arith}, lemmas.List.length-map}
-use Rattle.cpu.{specs.{declared.cpus.Cpu.Cpu, Calm.calm_in, Claims.{Shown, cpu_shown}}, proofs.NobodyPending.{clash, up_more}}
+use Rattle.{layer_traits.specs.Views.OwnParts.threads_in, cpu.specs.{declared.cpus.Cpu.Cpu, Calm.calm_in, Claims.{Shown, cpu_shown}}}
+use Rattle.cpu.proofs.WholeSystems.NobodyPending.{clash, up_more}
 use Rattle.cpu.proofs.systems.System.are_calm.Goals as goal
 
 pub returns-then-not-is_calm : goal.returns-then-not-is_calm

@@ -1,4 +1,4 @@
-use Rattle.{std.proofs.Common.arith, cpu.proofs.{ListReads.map_twice, InvariantAtBoot.sounds, SystemsAtBoot.starts_reached}}
+use Rattle.{std.proofs.Common.arith, cpu.proofs.{ListFacts.ListReads.map_twice, WholeSystems.{InvariantAtBoot.sounds, SystemsAtBoot.starts_reached}}}
 use Rattle.cpu.proofs.systems.System.assembled.Goals as goal
 
 pub invariant_of-system : goal.invariant_of-system

@@ -1,5 +1,5 @@
 use Rattle.std.proofs.Common.{◌≡◌, None, ap, sym, ◌∙◌, subst, option_map}
-use Rattle.{event_log.specs.Buffers.items_of, cpu.{specs.Claims.Shown, proofs.PartsTold.{acts_first, told_here, told_somewhere, up_to}}}
+use Rattle.{event_log.specs.Buffers.items_of, cpu.{specs.Claims.Shown, proofs.WholeSystems.PartsTold.{acts_first, told_here, told_somewhere, up_to}}}
 use Rattle.cpu.proofs.systems.System.buffer.Goals as goal
 
 pub buffer_in-requires-clause-acts : goal.buffer_in-requires-clause-acts

@@ -1,6 +1,6 @@
 use Rattle.std.{proofs.Common.{arith, ◌≡◌, None, length, sym, ◌∙◌, subst}, specs.Prelude.slice_index_or}
-use Rattle.layer_traits.specs.Capacities.{caps_in}
-use Rattle.cpu.{specs.Claims.{Shown, buffer_at}, proofs.{ListReads.listed_there, PartsTold.{acts_first, told_here, told_somewhere, up_to}}}
+use Rattle.{layer_traits.specs.Blocks.Capacities.caps_in, cpu.{specs.Claims.{Shown, buffer_at}, proofs.ListFacts.ListReads.listed_there}}
+use Rattle.cpu.proofs.WholeSystems.PartsTold.{acts_first, told_here, told_somewhere, up_to}
 use Rattle.cpu.proofs.systems.System.busy.Goals as goal
 
 pub busy_in-requires-clause-acts : goal.busy_in-requires-clause-acts

@@ -1,8 +1,8 @@
 use Rattle.std.{proofs.{Common.{arith, ◌≡◌, ℕ, map, Some, ap, sym, ◌∙◌, subst}, lemmas.Option.same_Some}, specs.Prelude.{Option, slice_get}}
 use Rattle.{event_log.specs.declared.ids.CpuId.CpuId, cpu.specs.{Claims.{CpuShown, Shown}, Systems.{halted_in, own_reason_in}, Cpus.step_answer}}
-use Rattle.cpu.{specs.{Table.Steps.cpu_step, Tower.Composed.named}, proofs.{ListReads.{read_at, shows_at}, TableCalls.answers_step, CpuOverLayer.laws_of}}
-use Rattle.cpu.proofs.{CpuOverLayer.{layered, IsLayered, runs_within, tabled_cpu, outset}, SystemOverLayer.shown_by}
-use Rattle.{cpu.proofs.systems.System.halted.{Given.Over, Goals.After-index-at}, layer_traits.specs.OnePlace.cpu_at}
+use Rattle.cpu.{specs.{Table.Steps.cpu_step, Tower.Composed.named}, proofs.{ListFacts.ListReads.{read_at, shows_at}, StepTable.TableCalls.answers_step}}
+use Rattle.cpu.proofs.OverLayer.{CpuOverLayer.{laws_of, layered, IsLayered, runs_within, tabled_cpu, outset}, SystemOverLayer.shown_by}
+use Rattle.{cpu.proofs.systems.System.halted.{Given.Over, Goals.After-index-at}, layer_traits.specs.Threads.OnePlace.cpu_at}
 use Rattle.cpu.proofs.systems.System.halted.Goals as goal
 
 -- the CPU that is asked is the one at its number

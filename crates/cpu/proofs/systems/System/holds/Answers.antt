@@ -1,14 +1,12 @@
 use Rattle.std.{proofs.{Common.{◌≡◌, ◌<◌, length, map, refl, ap, sym, ◌∙◌, subst, arith}, lemmas.List.length-map}, specs.Prelude.{ℕ, Some, slice_get}}
-use Rattle.layer_traits.specs.Capacities.{caps_in}
-use Rattle.event_log.{specs.{declared.ids.{CpuId.CpuId, LockId.TheVariants.Pending}, Actions.phase}, proofs.Renaming.phase_renamed}
-use Rattle.layer_traits.specs.{OnePlace.cpu_at, Places.pending_by, QueueBlocks.homes_in, Plans.is_in_section}
-use Rattle.cpu.specs.Claims.{CpuShown, IsMoment, MovesAgree, Shown}
-use Rattle.cpu.specs.{Claims.{StandsOnce, buffer_at}, Sound.{SoundByTable, IsSetupFor}, Table.{Blocks.OfPending, Setups.Setup, Steps.block_at}}
-use Rattle.cpu.{specs.{Observed.{CpuIsObserved, HasBuffer, ObservedByTable}, Tower.{Composed.named, Views.name_of}}, proofs.ListReads.{there_is, shown_at}}
-use Rattle.cpu.proofs.{ListReads.shows_at, Moments.{MachineLaws, each_has, moment}, OnePlaceEach.once_of, OneOrder.Has, ReachedSystems.{shown_in, sound_of}}
-use Rattle.cpu.proofs.{TableRows.halted_same, PlacesTold.{ended_is, place_read}, PartsTold.acts_first, PartsOfTable.{has_buffer, pending_read}}
-use Rattle.cpu.proofs.{CpuOverLayer.{laws_of, layered, tabled_cpu}, SystemOverLayer.{shown_by, observed_by}, systems.System.holds.Given.Over}
-use Rattle.{cpu.proofs.systems.System.holds.Goals.After-self}
+use Rattle.layer_traits.specs.{Blocks.{Capacities.caps_in, QueueBlocks.homes_in}, Threads.{OnePlace.cpu_at, Places.pending_by}, Polling.Plans.is_in_section}
+use Rattle.{event_log.{specs.{declared.ids.{CpuId.CpuId, LockId.TheVariants.Pending}, Actions.phase}, proofs.Renaming.phase_renamed}, cpu.specs.Claims.CpuShown}
+use Rattle.cpu.specs.{Claims.{IsMoment, MovesAgree, Shown, StandsOnce, buffer_at}, Sound.{SoundByTable, IsSetupFor}, Table.{Blocks.OfPending, Setups.Setup}}
+use Rattle.cpu.specs.{Table.Steps.block_at, Observed.{CpuIsObserved, HasBuffer, ObservedByTable}, Tower.{Composed.named, Views.name_of}}
+use Rattle.cpu.proofs.{ListFacts.ListReads.{there_is, shown_at, shows_at}, WholeSystems.{Moments.{MachineLaws, each_has, moment}, OnePlaceEach.once_of}}
+use Rattle.cpu.proofs.{WholeSystems.{OneOrder.Has, PartsTold.acts_first}, StepTable.{ReachedSystems.{shown_in, sound_of}, TableRows.halted_same}}
+use Rattle.cpu.proofs.{StepTable.{PlacesTold.{ended_is, place_read}, PartsOfTable.{has_buffer, pending_read}}, OverLayer.CpuOverLayer.{laws_of, layered}}
+use Rattle.cpu.proofs.{OverLayer.{CpuOverLayer.tabled_cpu, SystemOverLayer.{shown_by, observed_by}}, systems.System.holds.{Given.Over, Goals.After-self}}
 use Rattle.cpu.proofs.systems.System.holds.Goals as goal
 
 pub returns-clause-sound : goal.returns-clause-sound

@@ -1,6 +1,6 @@
 use Rattle.std.{proofs.Common.{arith, ◌≡◌, false, length, None, sym, ◌∙◌, subst}, specs.Prelude.slice_index_or}
-use Rattle.layer_traits.specs.Capacities.{caps_in}
-use Rattle.{event_log.specs.Runs.is_closed, cpu.{specs.Claims.Shown, proofs.{ListReads.listed_there, PartsTold.{acts_first, told_here, told_somewhere, up_to}}}}
+use Rattle.{layer_traits.specs.Blocks.Capacities.caps_in, event_log.specs.Runs.is_closed, cpu.{specs.Claims.Shown, proofs.ListFacts.ListReads.listed_there}}
+use Rattle.cpu.proofs.WholeSystems.PartsTold.{acts_first, told_here, told_somewhere, up_to}
 use Rattle.cpu.proofs.systems.System.is_closed.Goals as goal
 
 pub closed_at_home-requires-clause-acts : goal.closed_at_home-requires-clause-acts

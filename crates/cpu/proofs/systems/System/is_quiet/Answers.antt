@@ -1,4 +1,4 @@
-use Rattle.cpu.proofs.TableQuiet.{quiet_so, quiet_still, so_quiet}
+use Rattle.cpu.proofs.StepTable.TableQuiet.{quiet_so, quiet_still, so_quiet}
 use Rattle.cpu.proofs.systems.System.is_quiet.Goals as goal
 
 pub returns-clause-table : goal.returns-clause-table

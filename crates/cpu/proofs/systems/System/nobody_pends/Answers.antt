@@ -1,6 +1,6 @@
 use Rattle.std.proofs.Common.{◌≢◌, arith}
-use Rattle.{event_log.specs.declared.ids.CpuId.CpuId, layer_traits.specs.Places.{Pend, where_is}, cpu.proofs.NobodyPending.{clash, empty_of, nobody_of}}
-use Rattle.cpu.proofs.NobodyPending.{up_more}
+use Rattle.{event_log.specs.declared.ids.CpuId.CpuId, layer_traits.specs.Threads.Places.{Pend, where_is}, cpu.proofs.WholeSystems.NobodyPending.clash}
+use Rattle.cpu.proofs.WholeSystems.NobodyPending.{empty_of, nobody_of, up_more}
 use Rattle.cpu.proofs.systems.System.nobody_pends.Goals as goal
 
 pub returns-then-pends : goal.returns-then-pends

@@ -1,5 +1,5 @@
 use Rattle.std.proofs.Common.{◌≢◌, ◌<◌, ℕ}
-use Rattle.{event_log.specs.declared.ids.CpuId.CpuId, layer_traits.specs.Places.{Pend, where_is}}
+use Rattle.{event_log.specs.declared.ids.CpuId.CpuId, layer_traits.specs.Threads.Places.{Pend, where_is}}
 use Rattle.cpu.proofs.systems.System.nobody_pends.Given as goal
 
 abbrev pub invariant-loop-number : goal.invariant-loop-number

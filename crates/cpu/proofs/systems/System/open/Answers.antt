@@ -1,6 +1,6 @@
 use Rattle.std.{proofs.{Common.{arith, ◌≡◌, ℕ, List, Option, length, map, replicate, ap, sym, ◌∙◌, subst}, lemmas.List.length-map}, specs.Prelude.IfOk}
 use Rattle.{event_log.specs.declared.ids.CpuId.CpuId, cpu.specs.{declared.guests.Guest.Guest, Boots.{AreTables, guests_for, homes_for}}}
-use Rattle.cpu.proofs.{ListReads.listed_length, PlanGuests.{are_openable, are_tables, one_each}, SystemsAtBoot.planned_if}
+use Rattle.cpu.proofs.{ListFacts.ListReads.listed_length, WholeSystems.{PlanGuests.{are_openable, are_tables, one_each}, SystemsAtBoot.planned_if}}
 use Rattle.cpu.proofs.systems.System.open.Goals as goal
 
 pub with_tables-requires-clause-openable : goal.with_tables-requires-clause-openable

@@ -1,4 +1,4 @@
-use Rattle.cpu.proofs.NobodyPending.{pending_is, place_pends}
+use Rattle.cpu.proofs.WholeSystems.NobodyPending.{pending_is, place_pends}
 use Rattle.cpu.proofs.systems.System.pends.Goals as goal
 
 pub returns-in_default : goal.returns-in_default

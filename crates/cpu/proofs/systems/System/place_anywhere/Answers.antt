@@ -1,6 +1,6 @@
-use Rattle.layer_traits.specs.QueueBlocks.{homes_in}
 use Rattle.std.proofs.Common.{arith, ◌∙◌}
-use Rattle.cpu.proofs.{ListReads.{shows_at, there_is}, PartsTold.{acts_first, item_at, wait_channel_here, up_to, up_to_end}, SystemOverLayer.shown_by}
+use Rattle.{layer_traits.specs.Blocks.QueueBlocks.homes_in, cpu.proofs.{ListFacts.ListReads.{shows_at, there_is}, WholeSystems.PartsTold.{acts_first, item_at}}}
+use Rattle.cpu.proofs.{WholeSystems.PartsTold.{wait_channel_here, up_to, up_to_end}, OverLayer.SystemOverLayer.shown_by}
 use Rattle.cpu.proofs.systems.System.place_anywhere.Goals as goal
 
 pub returns-in-Some : goal.returns-in-Some

@@ -1,5 +1,5 @@
 use Rattle.std.proofs.Common.{◌≡◌, Option, Some, None, IfSome, refl, arith, ◌∙◌}
-use Rattle.cpu.proofs.{ListReads.shows_at, PartsTold.item_at, SystemOverLayer.shown_by}
+use Rattle.cpu.proofs.{ListFacts.ListReads.shows_at, WholeSystems.PartsTold.item_at, OverLayer.SystemOverLayer.shown_by}
 use Rattle.cpu.proofs.systems.System.place_at_home.Goals as goal
 
 by_some : {X : Type 0} (P : X → Type 0) (o : Option X) → ((x : X) → o ≡ Some x → P x) → IfSome o P

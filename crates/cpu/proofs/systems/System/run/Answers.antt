@@ -1,6 +1,6 @@
 use Rattle.std.proofs.{Common.{List, length, ap, ◌∙◌, subst, arith, length-drop}, lemmas.List.{take_all, take_rest}}
-use Rattle.{event_log.specs.declared.ids.CpuId.CpuId, cpu.proofs.{RealTime.linear_ran, Schedules.{Leads, leads_nowhere, leads_on, taken_on}}}
-use Rattle.cpu.specs.{Systems.Ran}
+use Rattle.{event_log.specs.declared.ids.CpuId.CpuId, cpu.proofs.{WholeSystems.RealTime.linear_ran, StepTable.Schedules.{Leads, leads_nowhere, leads_on}}}
+use Rattle.cpu.{proofs.StepTable.Schedules.taken_on, specs.Systems.Ran}
 use Rattle.cpu.proofs.systems.System.run.Goals as goal
 
 pub loop-at-init : goal.loop-at-init

@@ -1,5 +1,5 @@
 use Rattle.std.proofs.Common.{◌≤◌, ◌-◌, length, take}
-use Rattle.cpu.proofs.Schedules.{Leads}
+use Rattle.cpu.proofs.StepTable.Schedules.{Leads}
 use Rattle.cpu.proofs.systems.System.run.Given as goal
 
 abbrev pub invariant-loop-at : goal.invariant-loop-at

@@ -1,8 +1,8 @@
 use Rattle.std.{proofs.Common.{◌≡◌, ◌+◌, ◌≤◌, ℕ, map, replicate, Some, None, ap, ◌∙◌, arith}, specs.Prelude.slice_get}
-use Rattle.{event_log.specs.Actions.AreLegal, layer_traits.specs.OnePlace.cpu_at, cpu.specs.{Claims.Shown, Systems.own_reason}}
-use Rattle.cpu.proofs.{InvariantOverSteps.Holds, ListReads.read_at, Moments.MachineLaws, Schedules.{Leads, leads_nowhere}, SpinsOverLayer.spins_keep}
-use Rattle.cpu.proofs.{SpinsOverLayer.spins_lead, ReachedSystems.shown_in, SystemOverLayer.{observed_by, shown_by, works_by}, systems.System.spins.Given.Over}
-use Rattle.cpu.proofs.systems.System.spins.Goals.{After-index-at, After-spin-looks}
+use Rattle.{event_log.specs.Actions.AreLegal, layer_traits.specs.Threads.OnePlace.cpu_at, cpu.specs.{Claims.Shown, Systems.own_reason}}
+use Rattle.cpu.proofs.{WholeSystems.{InvariantOverSteps.Holds, Moments.MachineLaws}, ListFacts.ListReads.read_at, StepTable.Schedules.{Leads, leads_nowhere}}
+use Rattle.cpu.proofs.{StepTable.ReachedSystems.shown_in, OverLayer.{SpinsOverLayer.{spins_keep, spins_lead}, SystemOverLayer.{observed_by, shown_by}}}
+use Rattle.cpu.proofs.{OverLayer.SystemOverLayer.works_by, systems.System.spins.{Given.Over, Goals.{After-index-at, After-spin-looks}}}
 use Rattle.cpu.proofs.systems.System.spins.Goals as goal
 
 -- the CPU that looks is the one at its number

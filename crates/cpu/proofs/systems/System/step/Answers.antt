@@ -1,5 +1,5 @@
 use Rattle.std.proofs.Common.{Some, ap, refl, sym, ◌∙◌, arith}
-use Rattle.cpu.proofs.{Moments.calls_stay, TableHalts.{halted_same, reasons_step}}
+use Rattle.cpu.proofs.{WholeSystems.Moments.calls_stay, StepTable.TableHalts.{halted_same, reasons_step}}
 use Rattle.cpu.proofs.systems.System.step.Goals as goal
 
 pub returns-in-Some-clause-halts : goal.returns-in-Some-clause-halts

@@ -1,6 +1,6 @@
 use Rattle.std.proofs.Common.{◌+◌, Option, is_some, length, replicate, ap, sym, ◌∙◌, arith}
-use Rattle.{layer_traits.specs.declared.steps.Reason.Reason, cpu.proofs.{Schedules.{Leads, leads_alone, leads_resting}, systems.System.stretch.Given.Over}}
-use Rattle.cpu.proofs.systems.System.stretch.Goals.{After-spins, Then-is_some}
+use Rattle.{layer_traits.specs.declared.steps.Reason.Reason, cpu.proofs.StepTable.Schedules.{Leads, leads_alone, leads_resting}}
+use Rattle.cpu.proofs.systems.System.stretch.{Given.Over, Goals.{After-spins, Then-is_some}}
 use Rattle.cpu.proofs.systems.System.stretch.Goals as goal
 
 -- no step is taken

@@ -1,4 +1,4 @@
-use Rattle.{std.proofs.Common.{arith, ap}, cpu.{specs.Claims.Shown, proofs.{ListReads.{read_at, shown_index}, SystemOverLayer.shown_by}}}
+use Rattle.{std.proofs.Common.{arith, ap}, cpu.{specs.Claims.Shown, proofs.{ListFacts.ListReads.{read_at, shown_index}, OverLayer.SystemOverLayer.shown_by}}}
 use Rattle.cpu.proofs.systems.System.trace.Goals as goal
 
 pub returns : goal.returns

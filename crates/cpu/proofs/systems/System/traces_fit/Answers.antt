@@ -1,5 +1,5 @@
 use Rattle.std.proofs.Common.{◌≤◌, length, subst, arith}
-use Rattle.cpu.{specs.{Calm.TracesFit, Claims.{CpuShown, Shown}}, proofs.{ListReads.shown_at, SystemOverLayer.shown_by}}
+use Rattle.cpu.{specs.{Calm.TracesFit, Claims.{CpuShown, Shown}}, proofs.{ListFacts.ListReads.shown_at, OverLayer.SystemOverLayer.shown_by}}
 use Rattle.cpu.proofs.systems.System.traces_fit.Goals as goal
 
 pub returns : goal.returns

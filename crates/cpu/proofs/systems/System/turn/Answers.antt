@@ -1,5 +1,5 @@
 use Rattle.std.{proofs.{Common.{◌≡◌, ◌+◌, ◌-◌, drop, arith}, lemmas.List.length-take}, specs.Prelude.slice_index_or}
-use Rattle.cpu.proofs.Schedules.{leads_alone, leads_nowhere, turn_taken}
+use Rattle.cpu.proofs.StepTable.Schedules.{leads_alone, leads_nowhere, turn_taken}
 use Rattle.cpu.proofs.systems.System.turn.Goals as goal
 
 pub loop-taken-init : goal.loop-taken-init

@@ -1,5 +1,5 @@
 use Rattle.std.proofs.Common.{◌≤◌, ◌-◌, replicate}
-use Rattle.cpu.proofs.Schedules.{Leads}
+use Rattle.cpu.proofs.StepTable.Schedules.{Leads}
 use Rattle.cpu.proofs.systems.System.turn.Given as goal
 
 abbrev pub invariant-loop-taken : goal.invariant-loop-taken

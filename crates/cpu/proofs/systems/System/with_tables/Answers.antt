@@ -1,11 +1,10 @@
-use Rattle.layer_traits.specs.Capacities.{caps_in}
-use Rattle.layer_traits.specs.OwnParts.{threads_in}
-use Rattle.layer_traits.specs.QueueBlocks.{homes_in}
-use Rattle.std.proofs.{Common.{◌≡◌, ◌<◌, ℕ, [], List, Option, length, map, refl, ap, sym, ◌∙◌, subst, arith}, lemmas.List.length-map}
-use Rattle.{std.{proofs.lemmas.Option.{slice_get-get_or, slice_get_within}, specs.Prelude.slice_index_or}, layer_traits.specs.OnePlace.cpu_at}
+use Rattle.std.proofs.{Common.{◌≡◌, ◌<◌, ℕ, [], List, Option, length, map, refl, ap, sym, ◌∙◌, subst, arith}, lemmas.{List.length-map, Option.slice_get-get_or}}
+use Rattle.std.{proofs.lemmas.Option.slice_get_within, specs.Prelude.slice_index_or}
+use Rattle.layer_traits.specs.{Blocks.{Capacities.caps_in, QueueBlocks.homes_in}, Views.OwnParts.threads_in, Threads.OnePlace.cpu_at}
 use Rattle.cpu.specs.{declared.{cpus.Cpu.Cpu, guests.Guest.Guest}, Boots.AreGuests, Claims.{cpu_shown, shown_of}, Sound.BootsByTable, Tables.IsTabled}
-use Rattle.cpu.{specs.{Tables.private, Tower.Composed.named}, proofs.{ListReads.shown_at, SystemsAtBoot.{IsNew, starts_by_table}, TableCalls.boots_tabled}}
-use Rattle.{cpu.proofs.InvariantAtBoot.{all_one, boots_as, opens, shows_all}, event_log.specs.{declared.ids.CpuId.CpuId, Actions.Action}}
+use Rattle.cpu.{specs.{Tables.private, Tower.Composed.named}, proofs.{ListFacts.ListReads.shown_at, WholeSystems.SystemsAtBoot.{IsNew, starts_by_table}}}
+use Rattle.cpu.proofs.{WholeSystems.InvariantAtBoot.{all_one, boots_as, opens, shows_all}, StepTable.TableCalls.boots_tabled}
+use Rattle.event_log.specs.{declared.ids.CpuId.CpuId, Actions.Action}
 use Rattle.cpu.proofs.systems.System.with_tables.Goals as goal
 
 pub assembled-requires : goal.assembled-requires

@@ -1,7 +1,7 @@
 use Rattle.std.proofs.{Common.{◌≡◌, ◌∷◌, ◌<◌, [], Some, drop, length, map, ap, ◌∙◌, subst, arith, vec_capacity}, lemmas.List.length-append}
-use Rattle.{std.specs.Prelude.{slice_get, slice_index_or}, cpu.specs.{declared.cpus.Cpu.Cpu, Boots.IsBootedAs}}
-use Rattle.layer_traits.specs.Capacities.{caps_in}
-use Rattle.cpu.proofs.InvariantAtBoot.{at_end, drop_more, first_left}
+use Rattle.std.specs.Prelude.{slice_get, slice_index_or}
+use Rattle.cpu.{specs.{declared.cpus.Cpu.Cpu, Boots.IsBootedAs}, proofs.WholeSystems.InvariantAtBoot.{at_end, drop_more, first_left}}
+use Rattle.layer_traits.specs.Blocks.Capacities.{caps_in}
 use Rattle.cpu.proofs.systems.opening.cpus_at_boot.Goals as goal
 
 pub loop-number-preserved : goal.loop-number-preserved

@@ -1,6 +1,5 @@
 use Rattle.std.{proofs.Common.{◌≡◌, ◌≤◌, ℕ, [], Some, drop, length, map, vec_capacity}, specs.Prelude.{slice_get, slice_index_or}}
-use Rattle.layer_traits.specs.Capacities.{caps_in}
-use Rattle.cpu.specs.{declared.cpus.Cpu.Cpu, Boots.IsBootedAs}
+use Rattle.{layer_traits.specs.Blocks.Capacities.caps_in, cpu.specs.{declared.cpus.Cpu.Cpu, Boots.IsBootedAs}}
 use Rattle.cpu.proofs.systems.opening.cpus_at_boot.Given as goal
 
 abbrev pub invariant-loop-number : goal.invariant-loop-number

@@ -1,5 +1,5 @@
 use Rattle.std.proofs.Common.{arith, ◌∙◌}
-use Rattle.cpu.proofs.PlanGuests.{guest_away, guest_home}
+use Rattle.cpu.proofs.WholeSystems.PlanGuests.{guest_away, guest_home}
 use Rattle.cpu.proofs.systems.plans.guest_at.Goals as goal
 
 pub returns-then-home-number : goal.returns-then-home-number

@@ -1,5 +1,5 @@
 use Rattle.std.proofs.Common.{◌<◌, length, ◌∙◌, arith}
-use Rattle.cpu.proofs.PlanGuests.{homes_more}
+use Rattle.cpu.proofs.WholeSystems.PlanGuests.{homes_more}
 use Rattle.cpu.proofs.systems.plans.homes_of.Goals as goal
 
 pub loop-t-preserved : goal.loop-t-preserved

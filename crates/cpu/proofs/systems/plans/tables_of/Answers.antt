@@ -1,5 +1,5 @@
 use Rattle.std.proofs.{Common.{◌∷◌, [], length, ap, ◌∙◌, arith}, lemmas.List.length-append}
-use Rattle.cpu.proofs.PlanGuests.{tables_more}
+use Rattle.cpu.proofs.WholeSystems.PlanGuests.{tables_more}
 use Rattle.cpu.proofs.systems.plans.tables_of.Goals as goal
 
 pub loop-number-preserved : goal.loop-number-preserved

@@ -1,6 +1,6 @@
 use Rattle.std.proofs.Common.{◌≡◌, ◌+◌, is_some, true, false, ap, subst, ◌∙◌}
-use Rattle.{layer_traits.{proofs.ToldLemmas.told_some, specs.{Payloads.told_by, Protocol.section}}, cpu_workers.{specs.Counts.made, proofs.Counts.poll_waits}}
-use Rattle.cpu_workers.proofs.Counts.{poll_answers, goes_on}
+use Rattle.{layer_traits.{proofs.ToldLemmas.told_some, specs.{Blocks.Payloads.told_by, Protocols.Protocol.section}}, cpu_workers.specs.Counts.made}
+use Rattle.cpu_workers.proofs.Counts.{poll_waits, poll_answers, goes_on}
 use Rattle.cpu_workers.proofs.counting.sections.add_one.Goals as goal
 
 pub returns-then-is_some-clause-made : goal.returns-then-is_some-clause-made

@@ -1,5 +1,5 @@
 use Rattle.std.proofs.Common.{◌≡◌}
-use Rattle.{event_log.specs.declared.ids.CpuId.CpuId, layer_traits.specs.{Protocol.section, BufferLaw.MayGoOn}, cpu_workers.specs.Counts.made}
+use Rattle.{event_log.specs.declared.ids.CpuId.CpuId, layer_traits.specs.{Protocols.Protocol.section, Layers.BufferLaw.MayGoOn}, cpu_workers.specs.Counts.made}
 use Rattle.cpu_workers.proofs.counting.sections.add_one.Given as goal
 
 abbrev pub invariant-loop : goal.invariant-loop

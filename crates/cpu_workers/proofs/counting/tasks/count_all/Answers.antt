@@ -1,6 +1,6 @@
 use denote.Param.Send.{sendable}
 use Rattle.std.proofs.{Crossing.crosses, Common.{◌≡◌, IsSome, length, map, ap, subst, sym, ◌∙◌, arith}}
-use Rattle.{layer_traits.specs.OneLock.opened, cpu_workers.specs.{declared.counting.TheConstants.NUMBER, Counts.{HasMade, IsFresh}}}
+use Rattle.{layer_traits.specs.Protocols.OneLock.opened, cpu_workers.specs.{declared.counting.TheConstants.NUMBER, Counts.{HasMade, IsFresh}}}
 use Rattle.{cpu_workers.proofs.{CountCrossing.counting_send, Joining.{both_all, both_length, both_map, both_then}}, table_machine.proofs.Crossing.key_send}
 use Rattle.cpu_workers.proofs.counting.tasks.count_all.Goals as goal
 

@@ -1,7 +1,7 @@
 use Rattle.std.proofs.Common.{◌≡◌, length, refl, sym, ◌∙◌, subst}
-use Rattle.{event_log.specs.{Actions.acts_of, WordsLog.{Idle, lock_phase}}, layer_traits.specs.{OneLock.opened, OnePlace.cpu_at, WordsProtocol.edit_of}}
-use Rattle.cpu_workers.{specs.Natives.{HaveLeftKeys, OpensWith}, proofs.{Crossing.{tower_seat_send, turn_send}, NativeKeys.have_left, SeatViews.ready_at}}
-use Rattle.cpu_workers.proofs.TableKeys.{as_many, left_fit, seat_views_are_of}
+use Rattle.{event_log.specs.{Actions.acts_of, WordsLog.{Idle, lock_phase}}, layer_traits.specs.Protocols.{OneLock.opened, WordsProtocol.edit_of}}
+use Rattle.{layer_traits.specs.Threads.OnePlace.cpu_at, cpu_workers.{specs.Natives.{HaveLeftKeys, OpensWith}, proofs.Crossing.{tower_seat_send, turn_send}}}
+use Rattle.cpu_workers.proofs.{NativeKeys.have_left, SeatViews.ready_at, TableKeys.{as_many, left_fit, seat_views_are_of}}
 use denote.Param.Send.{param_send, arg_send}
 use Rattle.cpu_workers.proofs.natives.run.call_tickets.Lts as lts
 use Rattle.cpu_workers.proofs.natives.run.call_tickets.Goals as goal

@@ -1,6 +1,6 @@
 use Rattle.std.proofs.Common.{◌≡◌, ◌<◌, suc, ◌+◌, List, length, ap, ◌∙◌, arith}
-use Rattle.{event_log.specs.declared.ids.{CpuId.CpuId, TheConstants.CPUS}, layer_traits.specs.OnePlace.cpu_at, cpu.proofs.ListReads.listed_length}
-use Rattle.cpu_workers.proofs.NativeLists.{homes_more}
+use Rattle.{event_log.specs.declared.ids.{CpuId.CpuId, TheConstants.CPUS}, layer_traits.specs.Threads.OnePlace.cpu_at}
+use Rattle.{cpu.proofs.ListFacts.ListReads.listed_length, cpu_workers.proofs.NativeLists.homes_more}
 use Rattle.cpu_workers.proofs.natives.run.native_homes.Goals as goal
 
 pub push-requires : goal.push-requires

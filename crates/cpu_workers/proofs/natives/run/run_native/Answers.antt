@@ -1,6 +1,6 @@
 use Rattle.std.proofs.Common.{◌≡◌, List, length, ap, sym, ◌∙◌, subst, arith}
-use Rattle.{event_log.specs.declared.ids.CpuId.CpuId, layer_traits.specs.{OneLock.opened, OnePlace.cpu_at, Openings.AreOpenable}}
-use Rattle.{table_machine.specs.SeatViews.new_seat_views, cpu.proofs.ListReads.listed_length, cpu_workers.specs.Natives.{HaveRun, OpensWith, left_of}}
+use Rattle.{event_log.specs.declared.ids.CpuId.CpuId, layer_traits.specs.{Protocols.OneLock.opened, Threads.OnePlace.cpu_at, Views.Openings.AreOpenable}}
+use Rattle.{table_machine.specs.SeatViews.new_seat_views, cpu.proofs.ListFacts.ListReads.listed_length, cpu_workers.specs.Natives.{HaveRun, OpensWith, left_of}}
 use Rattle.cpu_workers.{specs.Natives.own_homes, proofs.{NativeKeys.natives_back, NativeLists.are_openable, NativeRuns.have_run, TableKeys.all_covered}}
 use Rattle.cpu_workers.proofs.TableKeys.{all_over}
 use Rattle.cpu_workers.proofs.natives.run.run_native.Goals as goal

@@ -1,4 +1,4 @@
-use Rattle.{layer_traits.specs.OneLock.opened, cpu_workers.{specs.Natives.OpensWith, proofs.SeatViews.ok_with}}
+use Rattle.{layer_traits.specs.Protocols.OneLock.opened, cpu_workers.{specs.Natives.OpensWith, proofs.SeatViews.ok_with}}
 use Rattle.cpu_workers.proofs.natives.run.table_for.Goals as goal
 
 pub returns-clause-opens : goal.returns-clause-opens

@@ -1,6 +1,6 @@
 use Rattle.std.proofs.Common.{◌≡◌, ap, ◌∙◌, subst, arith}
-use Rattle.{event_log.specs.declared.ids.CpuId.CpuId, layer_traits.specs.OnePlace.cpu_at, cpu_workers.proofs.Joining.{both_length, both_back, both_kept}}
-use Rattle.cpu_workers.proofs.NativeLists.{all_ready, calls_so}
+use Rattle.{event_log.specs.declared.ids.CpuId.CpuId, layer_traits.specs.Threads.OnePlace.cpu_at, cpu_workers.proofs.Joining.{both_length, both_back}}
+use Rattle.cpu_workers.proofs.{Joining.both_kept, NativeLists.{all_ready, calls_so}}
 use Rattle.cpu_workers.proofs.natives.seating.call_each.Goals as goal
 
 pub run_all-requires-after_bounds : goal.run_all-requires-after_bounds

@@ -1,5 +1,5 @@
 use Rattle.std.{proofs.Common.{◌≡◌, Some, drop, length, vec_capacity}, specs.Prelude.slice_get}
-use Rattle.{layer_traits.specs.OnePlace.cpu_at, cpu_workers.{specs.Natives.IsNewCaller, proofs.Filling.Numbered}}
+use Rattle.{layer_traits.specs.Threads.OnePlace.cpu_at, cpu_workers.{specs.Natives.IsNewCaller, proofs.Filling.Numbered}}
 use Rattle.cpu_workers.proofs.natives.seating.tasks_over.Given as goal
 
 abbrev pub invariant-loop-number : goal.invariant-loop-number

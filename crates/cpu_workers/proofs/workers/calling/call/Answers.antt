@@ -1,5 +1,5 @@
 use Rattle.std.proofs.Common.{refl, ◌∙◌, sym, subst}
-use Rattle.{event_log.specs.declared.ids.CpuId.CpuId, layer_traits.specs.BufferLaw.call_state_of, cpu_workers.{specs.Calls.IsOn, proofs.Going.not_begun}}
+use Rattle.{event_log.specs.declared.ids.CpuId.CpuId, layer_traits.specs.Layers.BufferLaw.call_state_of, cpu_workers.{specs.Calls.IsOn, proofs.Going.not_begun}}
 use Rattle.cpu_workers.proofs.workers.calling.call.Goals as goal
 
 pub loop-init : goal.loop-init

@@ -1,5 +1,5 @@
 use Rattle.std.proofs.Common.{◌≡◌}
-use Rattle.{layer_traits.specs.{OwnParts.threads_in, BufferLaw.call_state_of}, cpu_workers.specs.Calls.{IsOn, MayPoll, under_way_of}}
+use Rattle.{layer_traits.specs.{Views.OwnParts.threads_in, Layers.BufferLaw.call_state_of}, cpu_workers.specs.Calls.{IsOn, MayPoll, under_way_of}}
 use Rattle.cpu_workers.proofs.workers.calling.call.Given as goal
 
 abbrev pub invariant-loop : goal.invariant-loop

@@ -1,5 +1,5 @@
 use Rattle.std.proofs.Common.{◌≡◌, is_some, true, false, rules, ◌∙◌}
-use Rattle.{layer_traits.specs.OwnParts.threads_in, cpu_workers.proofs.Going.{answers_run, calls_on, done_rests, ends, goes, idles, runs_on, sleeps}}
+use Rattle.{layer_traits.specs.Views.OwnParts.threads_in, cpu_workers.proofs.Going.{answers_run, calls_on, done_rests, ends, goes, idles, runs_on, sleeps}}
 use Rattle.cpu_workers.proofs.workers.calling.poll_call.Goals as goal
 
 pub returns-in-Some-clause-ends : goal.returns-in-Some-clause-ends

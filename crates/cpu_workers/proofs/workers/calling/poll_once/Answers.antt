@@ -1,5 +1,5 @@
 use Rattle.std.proofs.Common.{ap, subst, sym, ◌∙◌}
-use Rattle.{layer_traits.specs.{BufferLaw.Buffering, OwnParts.threads_in}, cpu_workers.{specs.Calls.MayPoll, proofs.Going.keeps_on}}
+use Rattle.{layer_traits.specs.{Layers.BufferLaw.Buffering, Views.OwnParts.threads_in}, cpu_workers.{specs.Calls.MayPoll, proofs.Going.keeps_on}}
 use Rattle.cpu_workers.proofs.workers.calling.poll_once.Goals as goal
 
 -- a look leaves what is under way, and the call

@@ -1,5 +1,5 @@
 use Rattle.std.proofs.Common.{◌≡◌, drop}
-use Rattle.layer_traits.specs.OneLock.{opened}
+use Rattle.layer_traits.specs.Protocols.OneLock.{opened}
 use Rattle.cpu_workers.proofs.workers.report.items_at.Given as goal
 
 abbrev pub invariant-loop-i : goal.invariant-loop-i

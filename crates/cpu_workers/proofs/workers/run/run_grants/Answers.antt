@@ -1,6 +1,6 @@
 use Rattle.std.proofs.Common.{◌≡◌, refl, sym, ◌∙◌, subst, arith}
-use Rattle.{event_log.specs.{Grants.{acts_of_grants, grant_lock_phase}, WordsLog.Idle}, layer_traits.specs.{OneLock.opened, OnePlace.cpu_at}}
-use Rattle.layer_traits.{specs.{WordsProtocol.edit_of, AsGrants.as_grants, Laws.AsGrants.acts_as_grants}, proofs.Seen.words_legal}
+use Rattle.{event_log.specs.{Grants.{acts_of_grants, grant_lock_phase}, WordsLog.Idle}, layer_traits.specs.Protocols.{OneLock.opened, WordsProtocol.edit_of}}
+use Rattle.layer_traits.{specs.{Protocols.AsGrants.as_grants, Threads.OnePlace.cpu_at, Laws.AsGrants.acts_as_grants}, proofs.Seen.words_legal}
 use Rattle.cpu_workers.{specs.{Closing.tower_rules, Seating.{HaveLeft, OpensPlan}}, proofs.{Crossing.{tower_seat_send, turn_send}, SeatViews.have_left}}
 use Rattle.cpu_workers.proofs.{SeatViews.ready_at, TableKeys.{left_fit, seat_views_are_of}}
 use denote.Param.Send.{param_send, arg_send}

@@ -1,5 +1,5 @@
 use Rattle.std.proofs.Common.{◌≡◌, refl, sym, ◌∙◌, subst, arith}
-use Rattle.{event_log.specs.{Actions.acts_of, WordsLog.{Idle, lock_phase}}, layer_traits.specs.{OnePlace.cpu_at, WordsProtocol.edit_of}}
+use Rattle.{event_log.specs.{Actions.acts_of, WordsLog.{Idle, lock_phase}}, layer_traits.specs.{Threads.OnePlace.cpu_at, Protocols.WordsProtocol.edit_of}}
 use Rattle.cpu_workers.{specs.Seating.{HaveLeft, OpensPlan}, proofs.{Crossing.{tower_seat_send, turn_send}, SeatViews.{have_left, ready_at}}}
 use Rattle.cpu_workers.proofs.TableKeys.{left_fit, seat_views_are_of}
 use denote.Param.Send.{param_send, arg_send}

@@ -1,6 +1,7 @@
 use Rattle.std.proofs.Common.{◌<◌, ℕ, List, sym, ap, ◌∙◌, subst}
-use Rattle.{event_log.specs.declared.ids.CpuId.CpuId, layer_traits.specs.{BufferEffects.opening_locks, OneLock.{AreDistinct, opened}, Openings.AreOpenable}}
-use Rattle.{cpu.proofs.PlanGuests.are_openable, cpu_workers.{specs.Seating.OpensPlan, proofs.SeatViews.ok_with}}
+use Rattle.{event_log.specs.declared.ids.CpuId.CpuId, layer_traits.specs.{Blocks.BufferEffects.opening_locks, Protocols.OneLock.{AreDistinct, opened}}}
+use Rattle.{layer_traits.specs.Views.Openings.AreOpenable, cpu.proofs.WholeSystems.PlanGuests.are_openable, cpu_workers.specs.Seating.OpensPlan}
+use Rattle.cpu_workers.proofs.SeatViews.{ok_with}
 use Rattle.cpu_workers.proofs.workers.run.table_of.Goals as goal
 
 pub tower_blocks-requires : goal.tower_blocks-requires

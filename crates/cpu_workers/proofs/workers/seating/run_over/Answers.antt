@@ -1,5 +1,5 @@
 use Rattle.std.{proofs.{lemmas.Option.slice_get_within, Crossing.crosses, Common.{◌≡◌, ℕ, Some, refl, ap, arith}}, specs.Prelude.slice_get}
-use Rattle.{cpu.specs.Boots.homes_for, layer_traits.specs.{OnePlace.cpu_at, QueueBlocks.StartsWell}, fifo_buffer.specs.FifoFits.BootsSo}
+use Rattle.{cpu.specs.Boots.homes_for, layer_traits.specs.{Threads.OnePlace.cpu_at, Blocks.QueueBlocks.StartsWell}, fifo_buffer.specs.FifoFits.BootsSo}
 use Rattle.cpu_workers.{specs.Seating.tower_acts, proofs.{Crossing.{fifo_send, tower_sleeper_send}, NativeLists.ok_so, TowerOpening.opens_tower}}
 use Rattle.cpu_workers.proofs.TowerOpening.{seen_from_top}
 use denote.Param.Send.{sendable}

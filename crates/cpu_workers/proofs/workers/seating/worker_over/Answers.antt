@@ -1,6 +1,6 @@
 use Rattle.std.proofs.Common.{List, Option, length, ap, sym, ◌∙◌, subst}
-use Rattle.{event_log.specs.declared.ids.CpuId.CpuId, cpu.{specs.{declared.guests.Guest.Guest, Boots.{AreGuests, homes_for}}, proofs.PlanGuests.are_guests}}
-use Rattle.cpu_workers.proofs.Seated.{at_boot_if, planned_by}
+use Rattle.{event_log.specs.declared.ids.CpuId.CpuId, cpu.specs.{declared.guests.Guest.Guest, Boots.{AreGuests, homes_for}}}
+use Rattle.{cpu.proofs.WholeSystems.PlanGuests.are_guests, cpu_workers.proofs.Seated.{at_boot_if, planned_by}}
 use Rattle.cpu_workers.proofs.workers.seating.worker_over.Goals as goal
 
 -- nothing was done in the machine

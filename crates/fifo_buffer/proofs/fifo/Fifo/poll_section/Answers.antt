@@ -1,10 +1,10 @@
 use Rattle.std.proofs.{Common.{◌≡◌, ◌∙◌, ap, arith, inl, inr, sym}, lemmas.List.get_or-set_same}
-use Rattle.{event_log.specs.declared.ids.LockId.TheVariants.Buffer, layer_traits.specs.BufferLaw.{buffer_of, going, left_recorded, plan_beneath, no_call}}
-use Rattle.layer_traits.specs.{BufferLaw.{section_at, call_state_of}, BufferProtocol.{buffer_monitor_rules, buffer_rules}, Conditions.cv_rules}
-use Rattle.layer_traits.specs.{QLocking.{lock_caller, lock_moves, lock_rules}, Payloads.told_by, Plans.table_of, QueueBlocks.homes_in, QueueRules.queue_rules}
-use Rattle.{layer_traits.proofs.{CallLemmas.follows_raised, ToldLemmas.told_some}, fifo_buffer.specs.SectionPolls.{outcome_of, recorded_if}}
-use Rattle.fifo_buffer.proofs.{Callers.Caller, Recorded.{recorded_left, runs_awake, runs_home}, Events.caller_is, Polls.may_poll_section}
-use Rattle.fifo_buffer.proofs.ConditionPolls.{polled_section}
+use Rattle.{event_log.specs.declared.ids.LockId.TheVariants.Buffer, layer_traits.specs.Layers.BufferLaw.{buffer_of, going, left_recorded, plan_beneath}}
+use Rattle.layer_traits.specs.Layers.{BufferLaw.{no_call, section_at, call_state_of}, Conditions.cv_rules, QLocking.{lock_caller, lock_moves, lock_rules}}
+use Rattle.layer_traits.specs.Blocks.{BufferProtocol.{buffer_monitor_rules, buffer_rules}, Payloads.told_by, QueueBlocks.homes_in, QueueRules.queue_rules}
+use Rattle.{layer_traits.{specs.Polling.Plans.table_of, proofs.{CallLemmas.follows_raised, ToldLemmas.told_some}}, fifo_buffer.specs.SectionPolls.outcome_of}
+use Rattle.fifo_buffer.{specs.SectionPolls.recorded_if, proofs.{Callers.Caller, Recorded.{recorded_left, runs_awake, runs_home}, Events.caller_is}}
+use Rattle.fifo_buffer.proofs.{Polls.may_poll_section, ConditionPolls.polled_section}
 use Rattle.layer_traits.specs.declared.moves.WaitList.TheVariants as wait_list
 use Rattle.fifo_buffer.proofs.fifo.Fifo.poll_section.Goals as goal
 

@@ -1,6 +1,6 @@
 use Rattle.std.proofs.Common.{◌++◌, is_some, refl}
 use Rattle.fifo_buffer.proofs.{Frames.framed_over, Passes.{lawful_before, part_passed, pass_done, pass_events, pass_grown, pass_moved, pass_seen, passed_own}}
-use Rattle.{fifo_buffer.specs.SectionPolls.BufferOutcome, layer_traits.specs.{QueueBlocks.homes_in, SleepLaw.done_if}}
+use Rattle.{fifo_buffer.specs.SectionPolls.BufferOutcome, layer_traits.specs.{Blocks.QueueBlocks.homes_in, Layers.SleepLaw.done_if}}
 use Rattle.fifo_buffer.proofs.fifo.FifoCallLayerBufferLaw.pass.Goals as goal
 
 pub returns-clause-seen : goal.returns-clause-seen

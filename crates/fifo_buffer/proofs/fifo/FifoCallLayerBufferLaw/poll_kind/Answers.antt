@@ -1,20 +1,20 @@
 use Rattle.std.proofs.Common.{rules, ◌≡◌, ◌≢◌, ◌∙◌, List, ap, sym, subst, refl, true, false, Option, Some, inl, inr, ◌⊎◌, None, if◌then◌else◌, IsSome}
-use Rattle.std.proofs.Common.{slice_set}
-use Rattle.{std.proofs.Common.arith, event_log.specs.declared.ids.{CpuId.CpuId, LockId.TheVariants.Buffer, Tid.Tid}}
-use Rattle.layer_traits.specs.{declared.{calls.Reply.Reply, call_states.{Stage.Stage, CallState.CallState}}, BufferLaw.{Buffering, answer_in, buffer_of}}
-use Rattle.layer_traits.specs.{BufferLaw.{buffering, fifo_plan, going, plan_of, replied, call_state_of}, BufferProtocol.buffer_rules, Framed.Framed}
-use Rattle.layer_traits.specs.{QLockLaw.{is_handed, slept_for}, QLocking.{lock_moves, lock_rules}, Places.home_of, Plans.{Follows, Left, table_of}}
-use Rattle.{layer_traits.specs.{QueueRules.queue_rules, QueueBlocks.{homes_in, inner}, Queues.buffer_sections}, thread_blocks.specs.Queues.same_tid}
-use Rattle.fifo_buffer.proofs.Frames.{framed_over}
-use Rattle.fifo_buffer.specs.declared.fifo.{Fifo.Fifo, SectionPoll.SectionPoll}
-use Rattle.fifo_buffer.specs.{SectionPolls.{FitsAt, MayPollSection, SectionPolled, is_at_once}, Laws.OwnedLaws.block_there, Stances.called_at}
-use Rattle.fifo_buffer.proofs.{Chains.{follows_for, one_follows, two_follows}, Finish.{called_by, finish, others_after}, First.{acquires_at, first_may}}
-use Rattle.fifo_buffer.proofs.{First.goes_called, Recorded.runs_home, Parts.{moves_grown, other_part}, SectionPollTaken.{SectionPollTaken, taken}}
-use Rattle.fifo_buffer.proofs.Twice.{apart_call_state, ended_of, next_going, completes_as, exit_free, marks_of, later_effect, next_may, other_call_state}
-use Rattle.fifo_buffer.proofs.{Twice.{sizes_of, why, why_slept}, fifo.FifoCallLayerBufferLaw.poll_kind.{Given.Over, Goals.{Start, After-complete, in-Idle}}}
-use Rattle.fifo_buffer.proofs.fifo.FifoCallLayerBufferLaw.poll_kind.Goals.{in-Enters, in-Tries, in-Waits, in-AcquiresAgain, in-Signals, in-SignalsOwn}
-use Rattle.fifo_buffer.proofs.fifo.FifoCallLayerBufferLaw.poll_kind.Goals.{in-Releases, else-first-via-then-first+then-polled+else-polled-2}
+use Rattle.std.proofs.Common.{slice_set, arith}
+use Rattle.{event_log.specs.declared.ids.{CpuId.CpuId, LockId.TheVariants.Buffer, Tid.Tid}, layer_traits.specs.declared.calls.Reply.Reply}
+use Rattle.layer_traits.specs.{declared.call_states.{Stage.Stage, CallState.CallState}, Layers.BufferLaw.{Buffering, answer_in, buffer_of, buffering}}
+use Rattle.layer_traits.specs.Layers.{BufferLaw.{fifo_plan, going, plan_of, replied, call_state_of}, QLockLaw.{is_handed, slept_for}, QLocking.lock_moves}
+use Rattle.layer_traits.specs.{Layers.{QLocking.lock_rules, Queues.buffer_sections}, Blocks.{BufferProtocol.buffer_rules, QueueRules.queue_rules}}
+use Rattle.layer_traits.specs.{Blocks.QueueBlocks.{homes_in, inner}, Polling.{Framed.Framed, Plans.{Follows, Left, table_of}}, Threads.Places.home_of}
+use Rattle.{thread_blocks.specs.Queues.same_tid, fifo_buffer.proofs.{Frames.framed_over, Chains.{follows_for, one_follows, two_follows}, Finish.called_by}}
+use Rattle.fifo_buffer.proofs.{Finish.{finish, others_after}, First.{acquires_at, first_may, goes_called}, Recorded.runs_home, Parts.{moves_grown, other_part}}
+use Rattle.fifo_buffer.proofs.{SectionPollTaken.{SectionPollTaken, taken}, Twice.{apart_call_state, ended_of, next_going, completes_as, exit_free, marks_of}}
+use Rattle.fifo_buffer.proofs.{Twice.{later_effect, next_may, other_call_state, sizes_of, why, why_slept}, fifo.FifoCallLayerBufferLaw.poll_kind.Given.Over}
+use Rattle.fifo_buffer.proofs.fifo.FifoCallLayerBufferLaw.poll_kind.Goals.{Start, After-complete, in-Idle, in-Enters, in-Tries, in-Waits, in-AcquiresAgain}
+use Rattle.fifo_buffer.proofs.fifo.FifoCallLayerBufferLaw.poll_kind.Goals.{in-Signals, in-SignalsOwn, in-Releases}
+use Rattle.fifo_buffer.proofs.fifo.FifoCallLayerBufferLaw.poll_kind.Goals.{else-first-via-then-first+then-polled+else-polled-2}
 use Rattle.fifo_buffer.proofs.fifo.FifoCallLayerBufferLaw.poll_kind.Goals.{else-first-via-then-first+else-polled, else-first-via-else-first}
+use Rattle.fifo_buffer.specs.{declared.fifo.{Fifo.Fifo, SectionPoll.SectionPoll}, SectionPolls.{FitsAt, MayPollSection, SectionPolled, is_at_once}}
+use Rattle.fifo_buffer.specs.{Laws.OwnedLaws.block_there, Stances.called_at}
 use Rattle.fifo_buffer.proofs.fifo.FifoCallLayerBufferLaw.poll_kind.Goals as goal
 
 -- what is known when the poll begins

@@ -1,9 +1,9 @@
 use Rattle.std.proofs.Common.{◌≡◌, List, IsSome, if◌then◌else◌}
-use Rattle.{event_log.specs.{declared.ids.LockId.TheVariants.Buffer, Actions.Action}, layer_traits.specs.BufferLaw.{buffer_of, Buffering, buffering}}
-use Rattle.layer_traits.specs.{BufferLaw.{call_state_of, fifo_plan, going, plan_of}, BufferProtocol.buffer_rules, Conditions.CvCall}
-use Rattle.layer_traits.specs.{declared.{buffer_edits.BufferEdit.BufferEdit, calls.Reply.Reply, queue_edits.QueueEdit.QueueEdit}, Plans.{Follows, Left}}
-use Rattle.layer_traits.specs.{Plans.table_of, QLocking.{lock_moves, lock_rules}, QueueBlocks.{homes_in, inner}, QueueRules.queue_rules, Queues.buffer_sections}
-use Rattle.fifo_buffer.proofs.Goings.{AfterFirst, AtFirst, IsGoing}
+use Rattle.{event_log.specs.{declared.ids.LockId.TheVariants.Buffer, Actions.Action}, layer_traits.specs.Layers.BufferLaw.{buffer_of, Buffering, buffering}}
+use Rattle.layer_traits.specs.Layers.{BufferLaw.{call_state_of, fifo_plan, going, plan_of}, Conditions.CvCall, QLocking.{lock_moves, lock_rules}}
+use Rattle.layer_traits.specs.{Layers.Queues.buffer_sections, Blocks.{BufferProtocol.buffer_rules, QueueBlocks.{homes_in, inner}, QueueRules.queue_rules}}
+use Rattle.layer_traits.specs.{declared.{buffer_edits.BufferEdit.BufferEdit, calls.Reply.Reply, queue_edits.QueueEdit.QueueEdit}, Polling.Plans.{Follows, Left}}
+use Rattle.{layer_traits.specs.Polling.Plans.table_of, fifo_buffer.proofs.Goings.{AfterFirst, AtFirst, IsGoing}}
 use Rattle.fifo_buffer.proofs.fifo.FifoCallLayerBufferLaw.poll_kind.Given as goal
 
 -- a section after which the poll goes on does nothing to the machine, and what the next section follows of its own plan is the poll's plan

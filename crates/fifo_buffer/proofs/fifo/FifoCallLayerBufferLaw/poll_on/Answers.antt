@@ -1,10 +1,11 @@
 use mathlib.Core.Bool.{beq}
 use Rattle.std.proofs.Common.{◌≡◌, ◌≢◌, ◌∙◌, ◌+◌, ◌<◌, ◌≤◌, ℕ, Bool, true, false, not, ap, sym, subst, List, Option, None, is_some, arith, rules}
-use Rattle.{event_log.specs.declared.ids.{CpuId.CpuId, Tid.Tid}, layer_traits.specs.{declared.calls.{Call.Call, Reply.Reply}, BufferLaw.BufferPlan}}
-use Rattle.layer_traits.{specs.{BufferLaw.{Buffering, fifo_plan}, LayerPolls.{IsQuietAt, LookedAt, PolledAt, PolledOnAt}}, proofs.PollRunLemmas.MayPoll}
-use Rattle.layer_traits.proofs.PollRunLemmas.{SoFar, kept, left, may_poll, nothing_yet, quiet_yet, one_look, one_more, quiet_after_look, quiet_after_poll}
-use Rattle.fifo_buffer.{specs.declared.fifo.Fifo.Fifo, proofs.fifo.FifoCallLayerBufferLaw.poll_on.{Given.Over, Invariants.tells, Goals.{Start, Then-look}}}
-use Rattle.fifo_buffer.proofs.fifo.FifoCallLayerBufferLaw.poll_on.Goals.{After-poll_kind-reply, Else-is_some-had}
+use Rattle.{event_log.specs.declared.ids.{CpuId.CpuId, Tid.Tid}, layer_traits.specs.{declared.calls.{Call.Call, Reply.Reply}, Layers.BufferLaw.BufferPlan}}
+use Rattle.layer_traits.specs.{Layers.BufferLaw.{Buffering, fifo_plan}, Polling.LayerPolls.{IsQuietAt, LookedAt, PolledAt, PolledOnAt}}
+use Rattle.layer_traits.proofs.PollRunLemmas.{MayPoll, SoFar, kept, left, may_poll, nothing_yet, quiet_yet, one_look, one_more, quiet_after_look}
+use Rattle.{layer_traits.proofs.PollRunLemmas.quiet_after_poll, fifo_buffer.specs.declared.fifo.Fifo.Fifo}
+use Rattle.fifo_buffer.proofs.fifo.FifoCallLayerBufferLaw.poll_on.{Given.Over, Invariants.tells, Goals.{Start, Then-look, After-poll_kind-reply}}
+use Rattle.fifo_buffer.proofs.fifo.FifoCallLayerBufferLaw.poll_on.Goals.{Else-is_some-had}
 use Rattle.fifo_buffer.proofs.fifo.FifoCallLayerBufferLaw.poll_on.Goals as goal
 
 abbrev plan : ℕ → List CpuId → CpuId → Tid → Call → Buffering → BufferPlan Reply

@@ -1,10 +1,10 @@
 use Rattle.std.proofs.Common.{◌≡◌, [], ◌-◌, ◌<◌, IsSome}
-use Rattle.layer_traits.specs.Capacities.{caps_in}
-use Rattle.{event_log.specs.declared.ids.LockId.TheVariants.{Buffer, Pending}, layer_traits.specs.declared.call_layers.CallLayer.Ghosts}
-use Rattle.layer_traits.specs.{BufferEffects.{effects_in, opening_locks}, BufferLaw.{buffering, fifo_plan}, BufferProtocol.buffer_monitor_rules}
-use Rattle.layer_traits.specs.{Conditions.cv_rules, QLockLaw.lock_kernel, QLocking.{lock_after, wait_list_in}, QueueBlocks.{homes_in, inner}}
-use Rattle.{layer_traits.{specs.Queues.{buffer_sections, moves_in}, proofs.PollRunLemmas.SoFar}, fifo_buffer.specs.{declared.fifo.Fifo.Fifo, FifoFits.BootsSo}}
-use Rattle.fifo_buffer.{specs.{FifoFits.{PartFits}, SectionPolls.under_way_at}, proofs.fifo.FifoCallLayerBufferLaw.poll_on.Given.Over}
+use Rattle.layer_traits.specs.Blocks.{Capacities.caps_in, BufferEffects.{effects_in, opening_locks}, BufferProtocol.buffer_monitor_rules, QueueBlocks.homes_in}
+use Rattle.layer_traits.specs.{Blocks.QueueBlocks.inner, declared.call_layers.CallLayer.Ghosts, Layers.{BufferLaw.{buffering, fifo_plan}, Conditions.cv_rules}}
+use Rattle.layer_traits.specs.Layers.{QLockLaw.lock_kernel, QLocking.{lock_after, wait_list_in}, Queues.{buffer_sections, moves_in}}
+use Rattle.{layer_traits.proofs.PollRunLemmas.SoFar, event_log.specs.declared.ids.LockId.TheVariants.{Buffer, Pending}}
+use Rattle.fifo_buffer.specs.{declared.fifo.Fifo.Fifo, FifoFits.{BootsSo, PartFits}, SectionPolls.under_way_at}
+use Rattle.fifo_buffer.proofs.fifo.FifoCallLayerBufferLaw.poll_on.Given.{Over}
 use Rattle.fifo_buffer.proofs.fifo.FifoCallLayerBufferLaw.poll_on.Given as goal
 
 -- what a part of buffers tells as a layer of calls

@@ -1,5 +1,5 @@
 use Rattle.std.proofs.Common.{◌<◌, sym}
-use Rattle.{layer_traits.specs.PollRuns.once, ipc_calls.proofs.CallRuns.{ran_over, refused}}
+use Rattle.{layer_traits.specs.Polling.PollRuns.once, ipc_calls.proofs.CallRuns.{ran_over, refused}}
 use Rattle.ipc_calls.proofs.ipc.IpcCallLayerIpcLaw.poll_on.Goals as goal
 
 -- a number that is no buffer's is refused

@@ -1,6 +1,7 @@
 use Rattle.std.proofs.{Common.{◌≡◌, false, length, Some, inr, refl, ap, sym, ◌∙◌, subst}, lemmas.Option.same_Some}
-use Rattle.layer_traits.specs.{Capacities.caps_in, Places.{Asleep, At, Pend, home_of, where_is}, Observed.queue_place, QueueBlocks.homes_in}
-use Rattle.{event_log.specs.declared.ids.LockId.TheVariants.Buffer, ipc_calls.specs.{Laws.PlaceLaws.{sleeps_there, read_pends, read_sleeps}, Parts.pends_read}}
+use Rattle.layer_traits.specs.{Blocks.{Capacities.caps_in, QueueBlocks.homes_in}, Threads.Places.{Asleep, At, Pend, home_of, where_is}}
+use Rattle.{layer_traits.specs.Views.Observed.queue_place, event_log.specs.declared.ids.LockId.TheVariants.Buffer, ipc_calls.specs.Laws.PlaceLaws.sleeps_there}
+use Rattle.ipc_calls.specs.{Laws.PlaceLaws.{read_pends, read_sleeps}, Parts.pends_read}
 use Rattle.ipc_calls.proofs.ipc.IpcOwned.place_at.Goals as goal
 
 -- the queue that is read is that of the thread's home

@@ -1,6 +1,7 @@
 use Rattle.std.proofs.{Common.{◌≤◌, length, refl, rules, ◌∙◌, arith}, lemmas.Result.IfOk-weaker}
-use Rattle.{event_log.specs.declared.ids.LockId.TheVariants.Pending, fifo_buffer.proofs.Opening.{boots_well, caps_are}, layer_traits.specs.Renaming.viewed}
-use Rattle.{layer_traits.proofs.KernelRenaming.{homes_viewed, viewed_there}, queuing_lock.specs.Nested.nested_lock_of, ipc_calls.proofs.Opened.both_ok}
+use Rattle.{event_log.specs.declared.ids.LockId.TheVariants.Pending, fifo_buffer.proofs.Opening.{boots_well, caps_are}}
+use Rattle.{layer_traits.{specs.Views.Renaming.viewed, proofs.KernelRenaming.{homes_viewed, viewed_there}}, queuing_lock.specs.Nested.nested_lock_of}
+use Rattle.ipc_calls.proofs.Opened.{both_ok}
 use Rattle.ipc_calls.proofs.tower.FifoCondQLockOpensBuffers.open.Goals as goal
 
 -- the machine has the capacities and homes of the plan, nothing was done in it, its locks are those of the capacities that it tells,

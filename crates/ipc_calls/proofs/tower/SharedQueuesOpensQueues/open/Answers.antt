@@ -1,5 +1,5 @@
 use Rattle.std.proofs.{Common.{◌≡◌, ap, ◌∙◌}, lemmas.Result.IfOk-weaker}
-use Rattle.{layer_traits.specs.{OneLock.opened, QueueBlocks.inner, Renaming.viewed}, queuing_lock.specs.Nested.nested_lock_of}
+use Rattle.{layer_traits.specs.{Protocols.OneLock.opened, Blocks.QueueBlocks.inner, Views.Renaming.viewed}, queuing_lock.specs.Nested.nested_lock_of}
 use Rattle.sleep_wakeup.specs.Nested.{state_of}
 use Rattle.ipc_calls.proofs.tower.SharedQueuesOpensQueues.open.Goals as goal
 

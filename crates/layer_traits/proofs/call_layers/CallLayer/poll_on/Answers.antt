@@ -1,4 +1,4 @@
-use Rattle.layer_traits.specs.PollRuns.{once}
+use Rattle.layer_traits.specs.Polling.PollRuns.{once}
 use Rattle.layer_traits.proofs.call_layers.CallLayer.poll_on.Goals as goal
 
 pub returns-clause-polled_on : goal.returns-clause-polled_on

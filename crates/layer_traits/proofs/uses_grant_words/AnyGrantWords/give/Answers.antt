@@ -1,6 +1,7 @@
 use Rattle.std.proofs.Common.{◌≡◌, Some, option_map, sym, subst, ◌∙◌}
 use Rattle.{event_log.specs.{declared.events.Event.TheVariants.Free, Sections.block_after}, layer_traits.proofs.GrantLemmas.adds_mapped}
-use Rattle.layer_traits.specs.{Laws.AsGrants.{sections_as_grants, stands_as_grants}, Protocol.{StaysAllowed, section}, WordsProtocol.{mark_of, words_legal}}
+use Rattle.layer_traits.specs.{Laws.AsGrants.{sections_as_grants, stands_as_grants}, Protocols.{Protocol.{StaysAllowed, section}, WordsProtocol.mark_of}}
+use Rattle.layer_traits.specs.Protocols.WordsProtocol.{words_legal}
 use Rattle.layer_traits.proofs.uses_grant_words.AnyGrantWords.give.Goals as goal
 
 pub free-requires-clause-inside : goal.free-requires-clause-inside

@@ -1,6 +1,6 @@
 use Rattle.std.proofs.Common.{◌%◌, ◌++◌, sym, ◌∙◌}
 use Rattle.{event_log.specs.{declared.{events.Event.TheVariants.Look, ids.TheConstants.CPUS}, Grants.grant_word}, layer_traits.proofs.GrantLemmas.adds_mapped}
-use Rattle.layer_traits.{proofs.GrantLemmas.hits_as_grants, specs.{AsGrants.as_grants, Laws.AsGrants.stands_as_grants, WordsProtocol.words_legal}}
+use Rattle.layer_traits.{proofs.GrantLemmas.hits_as_grants, specs.{Protocols.{AsGrants.as_grants, WordsProtocol.words_legal}, Laws.AsGrants.stands_as_grants}}
 use Rattle.layer_traits.proofs.uses_grant_words.AnyGrantWords.peek.Goals as goal
 
 pub look-requires-clause-waiting : goal.look-requires-clause-waiting

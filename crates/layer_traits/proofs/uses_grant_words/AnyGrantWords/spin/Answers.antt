@@ -1,6 +1,6 @@
 use Rattle.std.proofs.Common.{◌%◌, ◌++◌, replicate, ap, sym, ◌∙◌}
 use Rattle.{event_log.specs.{declared.{ids.TheConstants.CPUS, events.Event.TheVariants.Look}, Grants.grant_word}, layer_traits.proofs.SpinLemmas.peeked}
-use Rattle.layer_traits.specs.{AsGrants.as_grants, Laws.AsGrants.stands_as_grants, WordsProtocol.words_legal}
+use Rattle.layer_traits.specs.{Protocols.{AsGrants.as_grants, WordsProtocol.words_legal}, Laws.AsGrants.stands_as_grants}
 use Rattle.layer_traits.proofs.uses_grant_words.AnyGrantWords.spin.Goals as goal
 
 pub spin-requires-clause-waiting : goal.spin-requires-clause-waiting

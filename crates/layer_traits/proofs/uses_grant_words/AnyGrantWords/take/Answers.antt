@@ -1,6 +1,6 @@
 use Rattle.std.proofs.Common.{sym, ◌∙◌}
 use Rattle.{event_log.specs.declared.events.Event.TheVariants.Draw, layer_traits.{proofs.GrantLemmas.adds_mapped, specs.Laws.AsGrants.stands_as_grants}}
-use Rattle.layer_traits.specs.WordsProtocol.{words_legal}
+use Rattle.layer_traits.specs.Protocols.WordsProtocol.{words_legal}
 use Rattle.layer_traits.proofs.uses_grant_words.AnyGrantWords.take.Goals as goal
 
 pub draw-requires-clause-outside : goal.draw-requires-clause-outside

@@ -1,6 +1,6 @@
 use Rattle.std.proofs.{Common.{◌≡◌, ◌≢◌, ◌∙◌, List, None, ap, length, subst, sym}, lemmas.List.length-replicate}
 use Rattle.{event_log.specs.declared.ids.{Tid.Tid, TheConstants.THREADS}, layer_traits.specs.declared.call_states.{CallState.CallState, Stage.TheVariants.Idle}}
-use Rattle.layer_traits.{specs.{BufferLaw.{call_state_of, no_call}, SleepLaw.{Sleeping, sleep_kernel}}, proofs.KernelRenaming.homes_viewed}
+use Rattle.layer_traits.{specs.Layers.{BufferLaw.{call_state_of, no_call}, SleepLaw.{Sleeping, sleep_kernel}}, proofs.KernelRenaming.homes_viewed}
 use Rattle.plain_layers.{specs.{declared.attempts.Tried.Tried, Attempts.attempts, Fifos.shown}, proofs.FifoLemmas.{no_events, nobody_waits, no_call_waits}}
 use Rattle.plain_layers.proofs.fifos.PlainFifoCallLayerBufferLaw.part.Goals as goal
 

@@ -1,8 +1,8 @@
 use Rattle.std.proofs.Common.{ℕ, ◌+◌, ◌/◌, ◌≤◌, ap, arith, subst, sym, ◌∙◌}
-use Rattle.layer_traits.proofs.KernelRenaming.{at_viewed}
-use Rattle.{event_log.specs.declared.ids.CpuId.CpuId, layer_traits.specs.{BufferLaw.OthersSeen, Passes.PassPolled, QueueBlocks.{homes_in, inner}}}
-use Rattle.{layer_traits.specs.{Queues.{buffer_sections, moves_in}, Renaming.viewed, SleepLaw.sleep_kernel}, plain_layers.specs.Attempts.attempts}
-use Rattle.plain_layers.{specs.Fifos.{IsOwned, entries_in, shown}, proofs.FifoLemmas.{nothing_under, owned_after, passed_seen, passed_moves}}
+use Rattle.layer_traits.{proofs.KernelRenaming.at_viewed, specs.Layers.{BufferLaw.OthersSeen, Queues.{buffer_sections, moves_in}, SleepLaw.sleep_kernel}}
+use Rattle.layer_traits.specs.{Threads.Passes.PassPolled, Blocks.QueueBlocks.{homes_in, inner}, Views.Renaming.viewed}
+use Rattle.{event_log.specs.declared.ids.CpuId.CpuId, plain_layers.specs.{Attempts.attempts, Fifos.{IsOwned, entries_in, shown}}}
+use Rattle.plain_layers.proofs.FifoLemmas.{nothing_under, owned_after, passed_seen, passed_moves}
 use Rattle.plain_layers.proofs.fifos.PlainFifoCallLayerBufferLaw.pass.Goals as goal
 
 half_of_one : (n k : ℕ) → n ≤ k + 1 → n / 2 ≤ k / 2 + 1

@@ -1,11 +1,11 @@
 use Rattle.std.proofs.Common.{◌≡◌, ◌≢◌, ◌<◌, ◌≤◌, ◌+◌, ◌/◌, ℕ, ap, arith, rules, List, Option, None, length, option_map, slice_set, subst, sym, ◌∙◌}
-use Rattle.{std.proofs.Math.ListN.length-set, event_log.specs.declared.ids.{CpuId.CpuId, Tid.Tid, TheConstants.THREADS}, layer_traits.specs.BufferLaw.Called}
-use Rattle.layer_traits.specs.Capacities.{caps_in}
-use Rattle.layer_traits.specs.{BufferLaw.{IsRefused, MovesGrow, answer_in, call_state_of, reply_with}, QueueBlocks.{homes_in, inner}, Queues.buffer_sections}
-use Rattle.layer_traits.specs.{Queues.moves_in, Renaming.viewed, SleepLaw.sleep_kernel, declared.calls.{Effect.Effect}}
+use Rattle.std.proofs.Math.ListN.{length-set}
+use Rattle.{event_log.specs.declared.ids.{CpuId.CpuId, Tid.Tid, TheConstants.THREADS}, layer_traits.specs.Layers.BufferLaw.{Called, IsRefused, MovesGrow}}
+use Rattle.layer_traits.specs.Layers.{BufferLaw.{answer_in, call_state_of, reply_with}, Queues.{buffer_sections, moves_in}, SleepLaw.sleep_kernel}
+use Rattle.layer_traits.specs.{Blocks.{Capacities.caps_in, QueueBlocks.{homes_in, inner}}, Views.Renaming.viewed, declared.calls.Effect.Effect}
 use Rattle.{layer_traits.specs.declared.call_states.{Stage.TheVariants.Idle, CallState.CallState}, plain_layers.specs.Attempts.{attempts, effect_in}}
-use Rattle.plain_layers.{specs.Fifos.{IsOwned, entries_in, reply_to, call_state_after, shown}, proofs.FifoLemmas.{buffer_there, done_called}}
-use Rattle.plain_layers.proofs.FifoLemmas.{done_deferred, done_moves, done_refused, done_sleeps, owned_after, reply_left, reply_none, runs_small, set_waits}
+use Rattle.plain_layers.{specs.Fifos.{IsOwned, entries_in, reply_to, call_state_after, shown}, proofs.FifoLemmas.{buffer_there, done_called, done_deferred}}
+use Rattle.plain_layers.proofs.FifoLemmas.{done_moves, done_refused, done_sleeps, owned_after, reply_left, reply_none, runs_small, set_waits}
 use Rattle.plain_layers.proofs.fifos.PlainFifoCallLayerBufferLaw.poll_kind.{Given.Over, Goals.After-from}
 use Rattle.plain_layers.proofs.fifos.PlainFifoCallLayerBufferLaw.poll_kind.Goals as goal
 

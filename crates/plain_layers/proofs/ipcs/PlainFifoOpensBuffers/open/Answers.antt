@@ -1,7 +1,7 @@
 use Rattle.std.proofs.{Common.{◌≡◌, ◌∙◌, [], ◌<◌, ◌≤◌, ◌*◌, IsSome, length, refl, rules, arith}, lemmas.Result.IfOk-weaker}
-use Rattle.{event_log.specs.declared.ids.{CpuId.CpuId, LockId.TheVariants.Pending, TheConstants.CPUS}, layer_traits.specs.QueueBlocks.{homes_in, inner}}
-use Rattle.layer_traits.proofs.KernelRenaming.{homes_viewed}
-use Rattle.plain_layers.{specs.Fifos.{fresh_buffers, shown}, proofs.{OpeningLemmas.both_ok, PlainOpenings.{boots_shown, caps_observed, fresh_read, half_room}}}
+use Rattle.{event_log.specs.declared.ids.{CpuId.CpuId, LockId.TheVariants.Pending, TheConstants.CPUS}, layer_traits.specs.Blocks.QueueBlocks.{homes_in, inner}}
+use Rattle.{layer_traits.proofs.KernelRenaming.homes_viewed, plain_layers.{specs.Fifos.{fresh_buffers, shown}, proofs.OpeningLemmas.both_ok}}
+use Rattle.plain_layers.proofs.PlainOpenings.{boots_shown, caps_observed, fresh_read, half_room}
 use Rattle.plain_layers.proofs.ipcs.PlainFifoOpensBuffers.open.Goals as goal
 
 -- the machine has the capacities and homes of the plan, nothing was done in it, its locks are those of the capacities that it tells,

@@ -1,6 +1,7 @@
 use Rattle.std.proofs.Common.{◌≡◌, ◌∷◌, IsSome, ap, reverse, subst, sym, ◌∙◌}
-use Rattle.{event_log.specs.Log.events_in, layer_traits.specs.{Payloads.{call_meant, queue_told}, Queues.event}, plain_layers.proofs.KernelLemmas.can_do}
-use Rattle.plain_layers.{proofs.KernelLemmas.{can_handed, grown, kernel_after, kernel_answers, lock_handed}, specs.Kernels.{IsKernel, calls_in, opening_of}}
+use Rattle.{event_log.specs.Log.events_in, layer_traits.specs.{Blocks.Payloads.{call_meant, queue_told}, Layers.Queues.event}}
+use Rattle.plain_layers.{proofs.KernelLemmas.{can_do, can_handed, grown, kernel_after, kernel_answers, lock_handed}, specs.Kernels.{IsKernel, calls_in}}
+use Rattle.plain_layers.specs.Kernels.{opening_of}
 use Rattle.plain_layers.proofs.kernel.PlainKernel.done.Goals as goal
 
 pub do_call-answer-requires : goal.do_call-answer-requires

@@ -1,5 +1,5 @@
-use Rattle.{std.proofs.Common.{IsSome, arith, subst, sym}, layer_traits.specs.OneLock.opened, plain_layers.specs.Tables.{IsSlot, opening_in, sections_noted}}
-use Rattle.plain_layers.proofs.TableLemmas.{block_is_there, slot_reads, slot_within}
+use Rattle.{std.proofs.Common.{IsSome, arith, subst, sym}, layer_traits.specs.Protocols.OneLock.opened, plain_layers.specs.Tables.{IsSlot, opening_in}}
+use Rattle.plain_layers.{specs.Tables.sections_noted, proofs.TableLemmas.{block_is_there, slot_reads, slot_within}}
 use Rattle.plain_layers.proofs.lock_table.LockTable.block.Goals as goal
 
 pub slot_of-slot-requires : goal.slot_of-slot-requires

@@ -1,6 +1,6 @@
 use Rattle.std.proofs.Common.{ap, refl, sym, subst₂, ◌∙◌}
-use Rattle.layer_traits.{specs.{Places.{Stands, at_boot}, Queues.{kernel, moves_in}, QueueBlocks.homes_in}, proofs.PlaceLemmas.stands_boot}
-use Rattle.plain_layers.specs.Kernels.{opening_of}
+use Rattle.layer_traits.specs.{Threads.Places.{Stands, at_boot}, Layers.Queues.{kernel, moves_in}, Blocks.QueueBlocks.homes_in}
+use Rattle.{layer_traits.proofs.PlaceLemmas.stands_boot, plain_layers.specs.Kernels.opening_of}
 use Rattle.plain_layers.proofs.scheds.PlainSchedLayerSchedLaw.part.Goals as goal
 
 pub returns-clause-fits : goal.returns-clause-fits

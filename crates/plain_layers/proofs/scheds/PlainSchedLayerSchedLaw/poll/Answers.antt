@@ -1,13 +1,13 @@
 use Rattle.std.proofs.{Common.{◌≡◌, ◌+◌, ◌≤◌, ℕ, arith, false, [], Some, None, IsSome, ap, sym, ◌∙◌, subst, subst₂, refl, ◌<◌}, lemmas.Bool.ne_eqb}
 use Rattle.event_log.{specs.{History.{IsLawful, same_cpu}, declared.ids.{CpuId.CpuId, TheConstants.CPUS}}, proofs.Same.cpu_numbered}
 use Rattle.layer_traits.specs.declared.{queue_edits.QueueAnswer.QueueAnswer, queues.QueueCall.QueueCall, scheds.SchedAnswer.TheVariants.Done}
-use Rattle.layer_traits.specs.{declared.scheds.SchedCall.SchedCall, Payloads.{call_meant, queue_told, sched_meant}, QueueBlocks.homes_in, Queues.Kernel}
-use Rattle.layer_traits.{specs.{Queues.{QueueAllowed, QueuePolled, event, kernel}, Scheds.{SchedPolled, own_by, queue_call}}, proofs.FrameLemmas.untouched}
-use Rattle.scheduler.{specs.{Owns.local_after, Parts.PartFits}, proofs.StepLemmas.{call_may, done_fits, done_polled, finish_ok, local_fits, local_polled}}
-use Rattle.{scheduler.proofs.StepLemmas.{lock_is_there, may_take, other_fits}, plain_layers.proofs.KernelLemmas.{lock_handed, there_meant}}
-use Rattle.plain_layers.proofs.scheds.PlainSchedLayerSchedLaw.poll.{Given.Over, Goals.{Start, In-Err, In-Ok, After-pass_locally, After-done-answer}}
-use Rattle.plain_layers.{proofs.scheds.PlainSchedLayerSchedLaw.poll.Goals.After-take_answer, specs.Kernels.{HasKernel, IsKernel, call_room, calls_in, no_site}}
-use Rattle.plain_layers.specs.Kernels.{opening_of}
+use Rattle.layer_traits.specs.{declared.scheds.SchedCall.SchedCall, Blocks.{Payloads.{call_meant, queue_told, sched_meant}, QueueBlocks.homes_in}}
+use Rattle.layer_traits.specs.Layers.{Queues.{Kernel, QueueAllowed, QueuePolled, event, kernel}, Scheds.{SchedPolled, own_by, queue_call}}
+use Rattle.{layer_traits.proofs.FrameLemmas.untouched, scheduler.{specs.{Owns.local_after, Parts.PartFits}, proofs.StepLemmas.{call_may, done_fits}}}
+use Rattle.scheduler.proofs.StepLemmas.{done_polled, finish_ok, local_fits, local_polled, lock_is_there, may_take, other_fits}
+use Rattle.plain_layers.proofs.{KernelLemmas.{lock_handed, there_meant}, scheds.PlainSchedLayerSchedLaw.poll.{Given.Over, Goals.{Start, In-Err, In-Ok}}}
+use Rattle.plain_layers.{proofs.scheds.PlainSchedLayerSchedLaw.poll.Goals.{After-pass_locally, After-done-answer, After-take_answer}, specs.Kernels.HasKernel}
+use Rattle.plain_layers.specs.Kernels.{IsKernel, call_room, calls_in, no_site, opening_of}
 use Rattle.plain_layers.proofs.scheds.PlainSchedLayerSchedLaw.poll.Goals as goal
 
 less : (n k : ℕ) → n ≡ k + 1 → n ≤ k + 1

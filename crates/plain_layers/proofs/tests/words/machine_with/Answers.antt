@@ -1,5 +1,5 @@
 use Rattle.std.proofs.Common.{◌≡◌, ℕ, List, [], ◌∷◌, Option, Some, None, IsSome, Result, Ok, Err, IfOk, if◌then◌else◌, refl, ap, sym, ◌∙◌, subst}
-use Rattle.{event_log.{specs.declared.ids.LockId.LockId, proofs.Same.same_lock_self}, layer_traits.specs.OneLock.opened}
+use Rattle.{event_log.{specs.declared.ids.LockId.LockId, proofs.Same.same_lock_self}, layer_traits.specs.Protocols.OneLock.opened}
 use Rattle.plain_layers.proofs.tests.words.machine_with.Goals as goal
 
 exists_in : {W F : Type 0} (r : Result W F) (opening : W → LockId → Option ℕ) (items : List (LockId × ℕ)) (lock : LockId) (n : ℕ) → items ≡ (lock, n) ∷ []

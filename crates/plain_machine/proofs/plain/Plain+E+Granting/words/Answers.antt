@@ -1,5 +1,5 @@
 use Rattle.std.proofs.Common.{◌%◌, ◌^◌, ap, sym, ◌∙◌}
-use Rattle.layer_traits.{specs.{OneLock.opened, WordsProtocol.words_legal}, proofs.GrantLemmas.{tickets_as_grants, words_as_grants}}
+use Rattle.layer_traits.{specs.Protocols.{OneLock.opened, WordsProtocol.words_legal}, proofs.GrantLemmas.{tickets_as_grants, words_as_grants}}
 use Rattle.plain_machine.{specs.Machine.history, proofs.MachineLemmas.shown_words}
 use Rattle.plain_machine.proofs.plain.Plain+E+Granting.words.Goals as goal
 

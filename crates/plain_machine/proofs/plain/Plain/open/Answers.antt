@@ -1,4 +1,4 @@
-use Rattle.{std.proofs.Common.ap, layer_traits.specs.OneLock.opened, plain_machine.proofs.MachineLemmas.fresh_sound}
+use Rattle.{std.proofs.Common.ap, layer_traits.specs.Protocols.OneLock.opened, plain_machine.proofs.MachineLemmas.fresh_sound}
 use Rattle.plain_machine.proofs.plain.Plain.open.Goals as goal
 
 pub fill-requires-clause-within : goal.fill-requires-clause-within

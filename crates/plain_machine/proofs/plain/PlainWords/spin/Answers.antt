@@ -1,6 +1,6 @@
 use Rattle.std.proofs.Common.{◌%◌, ◌^◌, ap, refl, ◌∙◌}
-use Rattle.{event_log.specs.WordsLog.{frees, lock_phase}, layer_traits.specs.OneLock.opened, plain_machine.{specs.Machine.history, proofs.SpinLemmas.grown_by}}
-use Rattle.plain_machine.proofs.SpinLemmas.{misses_by, spun_sound, waits_on}
+use Rattle.{event_log.specs.WordsLog.{frees, lock_phase}, layer_traits.specs.Protocols.OneLock.opened, plain_machine.specs.Machine.history}
+use Rattle.plain_machine.proofs.SpinLemmas.{grown_by, misses_by, spun_sound, waits_on}
 use Rattle.plain_machine.proofs.plain.PlainWords.spin.Goals as goal
 
 pub returns-clause-still : goal.returns-clause-still

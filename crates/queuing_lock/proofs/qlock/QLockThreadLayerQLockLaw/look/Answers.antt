@@ -1,7 +1,7 @@
 use Rattle.{std.proofs.{Common.{List, Option, option_map, sym, subst}, Math.Path.transport}, event_log.specs.declared.ids.{BufId.BufId, CpuId.CpuId}}
-use Rattle.layer_traits.{specs.Renaming.{renamed_edit, renamed_events, renamed_sched, viewed}, proofs.{KernelRenaming.grows_renamed, LookLemmas.tries_renamed}}
-use Rattle.{layer_traits.proofs.FrameLemmas.viewed_stays, queuing_lock.specs.{Laws.NestedLaws.locks_lawful, Nested.{edit_in, nested_lock_of}}}
-use Rattle.queuing_lock.{specs.Parts.{DeferredFits, SleptFits}, proofs.SleptLemmas.slept_goes}
+use Rattle.layer_traits.{specs.Views.Renaming.{renamed_edit, renamed_events, renamed_sched, viewed}, proofs.KernelRenaming.grows_renamed}
+use Rattle.{layer_traits.proofs.{LookLemmas.tries_renamed, FrameLemmas.viewed_stays}, queuing_lock.specs.{Laws.NestedLaws.locks_lawful, Nested.edit_in}}
+use Rattle.queuing_lock.{specs.{Nested.nested_lock_of, Parts.{DeferredFits, SleptFits}}, proofs.SleptLemmas.slept_goes}
 use Rattle.queuing_lock.proofs.qlock.QLockThreadLayerQLockLaw.look.Goals as goal
 
 pub returns-clause-framed : goal.returns-clause-framed

@@ -1,5 +1,5 @@
 use Rattle.std.proofs.Common.{ap, sym, ◌∙◌}
-use Rattle.{event_log.specs.declared.ids.{LockId.TheVariants.Pending, TheConstants.THREADS}, layer_traits.specs.Renaming.{renamed_events, viewed}}
+use Rattle.{event_log.specs.declared.ids.{LockId.TheVariants.Pending, TheConstants.THREADS}, layer_traits.specs.Views.Renaming.{renamed_events, viewed}}
 use Rattle.{layer_traits.proofs.KernelRenaming.{homes_viewed, there_viewed}, queuing_lock.specs.{Laws.NestedLaws.nothing_seen, Nested.edit_in}}
 use Rattle.queuing_lock.{specs.Nested.nested_lock_of, proofs.{DeferredLemmas.{fresh_deferred, nobody_beneath}, SleptLemmas.slept_none}}
 use Rattle.queuing_lock.proofs.qlock.QLockThreadLayerQLockLaw.part.Goals as goal

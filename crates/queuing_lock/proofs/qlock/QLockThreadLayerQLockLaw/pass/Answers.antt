@@ -1,8 +1,8 @@
 use Rattle.{std.proofs.{Common.{List, Option, option_map, sym, subst}, Math.Path.transport}, event_log.specs.declared.ids.{BufId.BufId, CpuId.CpuId}}
-use Rattle.layer_traits.{specs.{Passes.MayPass, Renaming.{renamed_events, renamed_sched, viewed}, SleepLaw.done_if}, proofs.FrameLemmas.viewed_stays}
-use Rattle.{layer_traits.proofs.KernelRenaming.polled_renamed, queuing_lock.specs.{Laws.NestedLaws.{locks_wrap, locks_lawful}, Nested.edit_in}}
-use Rattle.queuing_lock.{specs.{Nested.nested_lock_of, Parts.{DeferredFits, SleptFits}}, proofs.{DeferredLemmas.deferred_passed, PartLemmas.locks_pass_follow}}
-use Rattle.queuing_lock.proofs.{PartLemmas.under_is, PollLemmas.slept_passed}
+use Rattle.layer_traits.specs.{Threads.Passes.MayPass, Views.Renaming.{renamed_events, renamed_sched, viewed}, Layers.SleepLaw.done_if}
+use Rattle.{layer_traits.proofs.{FrameLemmas.viewed_stays, KernelRenaming.polled_renamed}, queuing_lock.specs.Laws.NestedLaws.{locks_wrap, locks_lawful}}
+use Rattle.queuing_lock.{specs.{Nested.{edit_in, nested_lock_of}, Parts.{DeferredFits, SleptFits}}, proofs.DeferredLemmas.deferred_passed}
+use Rattle.queuing_lock.proofs.{PartLemmas.{locks_pass_follow, under_is}, PollLemmas.slept_passed}
 use Rattle.queuing_lock.proofs.qlock.QLockThreadLayerQLockLaw.pass.Goals as goal
 use Rattle.layer_traits.specs.declared.scheds.SchedCall.TheVariants as call
 

@@ -1,10 +1,11 @@
 use Rattle.std.proofs.Common.{◌≡◌, refl, false, Option, Some, None, ◌≢◌, if◌then◌else◌, List, ◌<◌, is_some, option_map, slice_set, ap, sym, ◌∙◌, subst}
-use Rattle.{std.proofs.Math.Path.transport, event_log.specs.{declared.ids.{BufId.BufId, CpuId.CpuId, TheConstants.THREADS}, History.IsLawful}}
-use Rattle.layer_traits.specs.{declared.{locked.QOut.QOut, sleeps.Outcome.Outcome}, QLocking.lock_caller, QLockLaw.{left_after, locking, slept_for}}
-use Rattle.layer_traits.specs.{Payloads.{lock_meant, lock_told, outcome_told}, Plans.Left, Queues.QueueAllowed, Renaming.{renamed_events, renamed_sched}}
-use Rattle.{layer_traits.{specs.{Renaming.viewed, SleepLaw.Sleeping}, proofs.FrameLemmas.{untouched, viewed_stays}}, queuing_lock.specs.Laws.NestedLaws.beneath}
-use Rattle.queuing_lock.{specs.{Nested.{as_section, edit_in, nested_lock_of}, Parts.{DeferredFits, SleptFits, slept_left_by}}, proofs.PartLemmas.Before}
-use Rattle.queuing_lock.proofs.PartLemmas.{caller_small, handed, deferred_after, locks, locks_follow, none, others_after, owed, slept_after, slept_asks}
+use Rattle.std.proofs.Math.Path.{transport}
+use Rattle.{event_log.specs.{declared.ids.{BufId.BufId, CpuId.CpuId, TheConstants.THREADS}, History.IsLawful}, layer_traits.specs.declared.locked.QOut.QOut}
+use Rattle.layer_traits.specs.{declared.sleeps.Outcome.Outcome, Layers.{QLocking.lock_caller, QLockLaw.{left_after, locking, slept_for}, Queues.QueueAllowed}}
+use Rattle.layer_traits.specs.{Layers.SleepLaw.Sleeping, Blocks.Payloads.{lock_meant, lock_told, outcome_told}, Polling.Plans.Left}
+use Rattle.layer_traits.{specs.Views.Renaming.{renamed_events, renamed_sched, viewed}, proofs.FrameLemmas.{untouched, viewed_stays}}
+use Rattle.queuing_lock.specs.{Laws.NestedLaws.beneath, Nested.{as_section, edit_in, nested_lock_of}, Parts.{DeferredFits, SleptFits, slept_left_by}}
+use Rattle.queuing_lock.proofs.PartLemmas.{Before, caller_small, handed, deferred_after, locks, locks_follow, none, others_after, owed, slept_after, slept_asks}
 use Rattle.queuing_lock.proofs.{PartLemmas.{slept_reported, under_is}, PollLemmas.{reported_is, reported_told, slept_told}, SleptLemmas.slept_less}
 use Rattle.queuing_lock.proofs.qlock.QLockThreadLayerQLockLaw.poll.{Given.Over, Goals.{Start, After-poll, After-complete}}
 use Rattle.layer_traits.specs.declared.scheds.SchedCall.TheVariants as call

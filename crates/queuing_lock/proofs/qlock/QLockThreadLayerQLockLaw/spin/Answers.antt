@@ -1,4 +1,4 @@
-use Rattle.{std.proofs.{Common.{ap, sym}, Math.Path.transport}, layer_traits.specs.Renaming.{renamed_edit, renamed_events, viewed}}
+use Rattle.{std.proofs.{Common.{ap, sym}, Math.Path.transport}, layer_traits.specs.Views.Renaming.{renamed_edit, renamed_events, viewed}}
 use Rattle.{layer_traits.proofs.SpinLemmas.misses_renamed, queuing_lock.specs.{Nested.{edit_in, nested_lock_of}, Parts.SleptFits}}
 use Rattle.queuing_lock.proofs.qlock.QLockThreadLayerQLockLaw.spin.Goals as goal
 

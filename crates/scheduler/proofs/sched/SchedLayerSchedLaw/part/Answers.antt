@@ -1,6 +1,6 @@
 use Rattle.std.proofs.Common.{ap, sym, subst, subst₂, ◌∙◌}
-use Rattle.layer_traits.{specs.{Places.{Stands, at_boot}, Queues.{kernel, moves_in}, QueueBlocks.homes_in}, proofs.PlaceLemmas.stands_boot}
-use Rattle.scheduler.specs.Parts.{UnderFits}
+use Rattle.layer_traits.specs.{Threads.Places.{Stands, at_boot}, Layers.Queues.{kernel, moves_in}, Blocks.QueueBlocks.homes_in}
+use Rattle.{layer_traits.proofs.PlaceLemmas.stands_boot, scheduler.specs.Parts.UnderFits}
 use Rattle.scheduler.proofs.sched.SchedLayerSchedLaw.part.Goals as goal
 
 pub returns-clause-fits : goal.returns-clause-fits

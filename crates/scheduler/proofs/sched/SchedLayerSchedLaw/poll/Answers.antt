@@ -1,10 +1,11 @@
 use Rattle.std.proofs.{Common.{◌≡◌, ◌≢◌, List, Option, false, Some, None, refl, ap, sym, ◌∙◌, subst}, lemmas.Bool.ne_eqb}
 use Rattle.event_log.{specs.{History.{IsLawful, same_cpu}, declared.ids.CpuId.CpuId}, proofs.Same.cpu_numbered}
-use Rattle.layer_traits.specs.{declared.{queue_edits.QueueAnswer.QueueAnswer, queues.QueueCall.QueueCall, scheds.SchedCall.SchedCall}, Payloads.call_meant}
-use Rattle.layer_traits.specs.{Payloads.{queue_told, sched_meant, told_by}, Places.Threads, QueueBlocks.{StartsWell, homes_in}, Queues.{QueueAllowed, kernel}}
-use Rattle.{layer_traits.{specs.Scheds.{own_by, queue_call}, proofs.FrameLemmas.untouched}, scheduler.specs.{Owns.local_after, Parts.PartFits}}
-use Rattle.scheduler.proofs.StepLemmas.{call_may, done_fits, finish_ok, local_fits, local_polled, may_take, other_fits, waiting_fits}
-use Rattle.scheduler.proofs.sched.SchedLayerSchedLaw.poll.{Given.Over, Goals.{Start, In-Err, In-Ok, After-pass_locally, After-poll}}
+use Rattle.layer_traits.specs.declared.{queue_edits.QueueAnswer.QueueAnswer, queues.QueueCall.QueueCall, scheds.SchedCall.SchedCall}
+use Rattle.layer_traits.specs.{Blocks.{Payloads.{call_meant, queue_told, sched_meant, told_by}, QueueBlocks.{StartsWell, homes_in}}, Threads.Places.Threads}
+use Rattle.layer_traits.{specs.Layers.{Queues.{QueueAllowed, kernel}, Scheds.{own_by, queue_call}}, proofs.FrameLemmas.untouched}
+use Rattle.scheduler.{specs.{Owns.local_after, Parts.PartFits}, proofs.StepLemmas.{call_may, done_fits, finish_ok, local_fits, local_polled, may_take}}
+use Rattle.scheduler.proofs.{StepLemmas.{other_fits, waiting_fits}, sched.SchedLayerSchedLaw.poll.{Given.Over, Goals.{Start, In-Err, In-Ok}}}
+use Rattle.scheduler.proofs.sched.SchedLayerSchedLaw.poll.Goals.{After-pass_locally, After-poll}
 use Rattle.scheduler.proofs.sched.SchedLayerSchedLaw.poll.Goals as goal
 
 -- what the part knows of the machine when the poll begins

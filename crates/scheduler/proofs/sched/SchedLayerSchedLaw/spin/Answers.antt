@@ -1,5 +1,5 @@
-use Rattle.{std.proofs.{Common.{subst, sym}, Math.Path.transport}, event_log.specs.declared.ids.CpuId.CpuId, layer_traits.specs.Spins.{BeginWith, Misses}}
-use Rattle.scheduler.specs.Parts.{PartFits}
+use Rattle.{std.proofs.{Common.{subst, sym}, Math.Path.transport}, event_log.specs.declared.ids.CpuId.CpuId, layer_traits.specs.Polling.Spins.BeginWith}
+use Rattle.{layer_traits.specs.Polling.Spins.Misses, scheduler.specs.Parts.PartFits}
 use Rattle.scheduler.proofs.sched.SchedLayerSchedLaw.spin.Goals as goal
 
 pub returns-clause-few : goal.returns-clause-few

@@ -1,4 +1,4 @@
-use Rattle.{std.proofs.Common.{subst, sym}, layer_traits.{proofs.NestedLemmas.event_grows, specs.{QueueBlocks.StartsWell, QueueRules.IsProperCall}}}
+use Rattle.{std.proofs.Common.{subst, sym}, layer_traits.{proofs.NestedLemmas.event_grows, specs.Blocks.{QueueBlocks.StartsWell, QueueRules.IsProperCall}}}
 use Rattle.shared_queue.proofs.FrameLemmas.{raised}
 use Rattle.shared_queue.proofs.shared.SharedQueuesLayerQueueLaw.look.Goals as goal
 

@@ -1,7 +1,7 @@
 use Rattle.std.proofs.Common.{◌≡◌, None, Some, if◌then◌else◌, is_some, sym, subst}
-use Rattle.layer_traits.{proofs.NestedLemmas.{may_section, polled_event}, specs.{Payloads.{call_meant, queue_told, told_by}, Polls.{MayPoll, Polled}}}
-use Rattle.{layer_traits.specs.{QueueBlocks.StartsWell, QueueRules.{SectionAllowed, queue_rules}}, shared_queue.proofs.FrameLemmas.{call_proper, raised}}
-use Rattle.shared_queue.proofs.MeantLemmas.{meant_section}
+use Rattle.layer_traits.{proofs.NestedLemmas.{may_section, polled_event}, specs.Blocks.{Payloads.{call_meant, queue_told, told_by}, QueueBlocks.StartsWell}}
+use Rattle.{layer_traits.specs.{Blocks.QueueRules.{SectionAllowed, queue_rules}, Polling.Polls.{MayPoll, Polled}}, shared_queue.proofs.FrameLemmas.call_proper}
+use Rattle.shared_queue.proofs.{FrameLemmas.raised, MeantLemmas.meant_section}
 use Rattle.shared_queue.proofs.shared.SharedQueuesLayerQueueLaw.poll.Goals as goal
 
 -- a call that may be polled is a section that may

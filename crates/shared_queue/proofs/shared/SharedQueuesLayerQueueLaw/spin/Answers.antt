@@ -1,4 +1,4 @@
-use Rattle.{std.proofs.Common.{ap, map, subst, sym}, layer_traits.specs.{QueueBlocks.StartsWell, Queues.event_of}}
+use Rattle.{std.proofs.Common.{ap, map, subst, sym}, layer_traits.specs.{Blocks.QueueBlocks.StartsWell, Layers.Queues.event_of}}
 use Rattle.shared_queue.proofs.shared.SharedQueuesLayerQueueLaw.spin.Goals as goal
 
 pub returns-clause-spun : goal.returns-clause-spun

@@ -1,4 +1,5 @@
-use Rattle.{layer_traits.{specs.Renaming.renamed_edit, proofs.{KernelRenaming.grows_renamed, LookLemmas.tries_renamed}}, sleep_wakeup.specs.Nested.edit_in}
+use Rattle.layer_traits.{specs.Views.Renaming.renamed_edit, proofs.{KernelRenaming.grows_renamed, LookLemmas.tries_renamed}}
+use Rattle.sleep_wakeup.specs.Nested.{edit_in}
 use Rattle.sleep_wakeup.proofs.sleeper.SleeperThreadLayerSleepLaw.look.Goals as goal
 
 pub returns-clause-seen : goal.returns-clause-seen

@@ -1,6 +1,6 @@
 use Rattle.std.proofs.Common.{option_map, ◌∙◌}
-use Rattle.{layer_traits.specs.Payloads.{sched_told, told_by}, sleep_wakeup.{specs.{Nested.nested_told, Parts.deferred_told}, proofs.PollLemmas.done_told}}
-use Rattle.sleep_wakeup.proofs.PollLemmas.{nested_pass_follows, nested_passed}
+use Rattle.{layer_traits.specs.Blocks.Payloads.{sched_told, told_by}, sleep_wakeup.specs.{Nested.nested_told, Parts.deferred_told}}
+use Rattle.sleep_wakeup.proofs.PollLemmas.{done_told, nested_pass_follows, nested_passed}
 use Rattle.sleep_wakeup.proofs.sleeper.SleeperThreadLayerSleepLaw.pass.Goals as goal
 
 pub returns-clause-seen : goal.returns-clause-seen

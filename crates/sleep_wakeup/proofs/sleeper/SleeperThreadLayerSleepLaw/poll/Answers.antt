@@ -1,8 +1,9 @@
 use Rattle.std.proofs.Common.{◌≡◌, Option, Some, None, refl, option_map, ap, subst, sym, ◌∙◌}
 use Rattle.{event_log.specs.declared.ids.{BufId.BufId, Tid.Tid}, layer_traits.specs.declared.{payloads.Payload.Payload, scheds.SchedAnswer.SchedAnswer}}
-use Rattle.layer_traits.specs.{declared.{scheds.SchedCall.SchedCall, sleeps.Outcome.Outcome}, Payloads.{sched_meant, sched_told, told_by}, Places.Threads}
-use Rattle.layer_traits.specs.{Plans.Left, QueueBlocks.homes_in, Renaming.{renamed_events, viewed}, Scheds.{MaySched, SchedPolled, sched_plan}}
-use Rattle.layer_traits.specs.{Scheds.left as sched_left, SleepLaw.{MaySleep, SleepPolled, Sleeping, due, left_reported, sleep_plan}, Sleeping.sleep_moves}
+use Rattle.layer_traits.specs.{declared.{scheds.SchedCall.SchedCall, sleeps.Outcome.Outcome}, Blocks.Payloads.{sched_meant, sched_told, told_by}}
+use Rattle.layer_traits.specs.{Blocks.QueueBlocks.homes_in, Threads.Places.Threads, Polling.Plans.Left, Views.Renaming.{renamed_events, viewed}}
+use Rattle.layer_traits.specs.Layers.{Scheds.{MaySched, SchedPolled, sched_plan, left as sched_left}, SleepLaw.{MaySleep, SleepPolled, Sleeping, due}}
+use Rattle.layer_traits.specs.Layers.{SleepLaw.{left_reported, sleep_plan}, Sleeping.sleep_moves}
 use Rattle.sleep_wakeup.specs.{declared.{deferred.DeferredOutcome.DeferredOutcome, edits.SleepEdit.SleepEdit}, Laws.NestedLaws.{beneath, here}, Nested.edit_in}
 use Rattle.sleep_wakeup.specs.{Nested.{nested_meant, nested_moves, nested_told, state_of}, Parts.{Deferred, DeferredFits, as_edit, deferred_told, outcome_in}}
 use Rattle.sleep_wakeup.{specs.Parts.own_of, proofs.PollLemmas.{FollowsBeneath, FollowsHere, hand_defers, nested_may, nested_sleep_follows, nested_sleeps}}

@@ -1,5 +1,5 @@
-use Rattle.{std.proofs.Common.{ap, subst, sym}, layer_traits.specs.{QueueBlocks.inner, Renaming.{renamed_edit, renamed_events, viewed}, Sleeping.NobodySleeps}}
-use Rattle.{layer_traits.proofs.SpinLemmas.misses_renamed, sleep_wakeup.specs.Nested.{edit_in, state_of, states}}
+use Rattle.{std.proofs.Common.{ap, subst, sym}, layer_traits.specs.{Blocks.QueueBlocks.inner, Views.Renaming.{renamed_edit, renamed_events, viewed}}}
+use Rattle.{layer_traits.{specs.Layers.Sleeping.NobodySleeps, proofs.SpinLemmas.misses_renamed}, sleep_wakeup.specs.Nested.{edit_in, state_of, states}}
 use Rattle.sleep_wakeup.proofs.sleeper.SleeperThreadLayerSleepLaw.spin.Goals as goal
 
 pub returns-clause-spun : goal.returns-clause-spun

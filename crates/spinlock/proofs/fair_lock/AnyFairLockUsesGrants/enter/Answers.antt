@@ -1,5 +1,5 @@
 use Rattle.std.proofs.Common.{◌+◌, ◌%◌, ◌^◌, ◌==◌, refl}
-use Rattle.{event_log.proofs.GrantWords.phase_grants, layer_traits.specs.WordsProtocol.edit_of, spinlock.proofs.LineLemmas.{grant_adds, line_enters}}
+use Rattle.{event_log.proofs.GrantWords.phase_grants, layer_traits.specs.Protocols.WordsProtocol.edit_of, spinlock.proofs.LineLemmas.{grant_adds, line_enters}}
 use Rattle.spinlock.proofs.LineLemmas.{waits_by_grant}
 use Rattle.spinlock.proofs.fair_lock.AnyFairLockUsesGrants.enter.Goals as goal
 

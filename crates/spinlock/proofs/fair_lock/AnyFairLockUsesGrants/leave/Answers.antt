@@ -1,5 +1,5 @@
 use Rattle.std.proofs.Common.{sym, ◌∙◌}
-use Rattle.{event_log.{specs.Grants.grant_lock_phase, proofs.GrantWords.phase_grants}, layer_traits.specs.WordsProtocol.edit_of}
+use Rattle.{event_log.{specs.Grants.grant_lock_phase, proofs.GrantWords.phase_grants}, layer_traits.specs.Protocols.WordsProtocol.edit_of}
 use Rattle.spinlock.{specs.Laws.LineLaws.inside_of, proofs.LineLemmas.grant_adds}
 use Rattle.spinlock.proofs.fair_lock.AnyFairLockUsesGrants.leave.Goals as goal
 

@@ -1,6 +1,7 @@
 use Rattle.std.proofs.Common.{◌+◌, ◌%◌, ◌^◌, ◌==◌, if◌then◌else◌, refl, ap}
 use Rattle.event_log.specs.{declared.grants.GrantEvent.TheVariants.Peek, Grants.{act_of_grant, grant_lock_phase}, WordsLog.{Holding, Waiting}}
-use Rattle.{event_log.proofs.Same.same_cpu_self, layer_traits.specs.WordsProtocol.edit_of, spinlock.proofs.{LineLemmas.waits_by_grant, MissLemmas.all_missed}}
+use Rattle.{event_log.proofs.Same.same_cpu_self, layer_traits.specs.Protocols.WordsProtocol.edit_of, spinlock.proofs.LineLemmas.waits_by_grant}
+use Rattle.spinlock.proofs.MissLemmas.{all_missed}
 use Rattle.spinlock.proofs.fair_lock.AnyFairLockUsesGrants.spin.Goals as goal
 
 pub spin-requires-clause-waiting : goal.spin-requires-clause-waiting

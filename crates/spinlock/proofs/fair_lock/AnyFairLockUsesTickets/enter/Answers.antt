@@ -1,6 +1,6 @@
 use Rattle.std.proofs.Common.{◌==◌, ap, sym}
-use Rattle.{event_log.{specs.Sections.block_after, proofs.Tickets.phase_acts}, layer_traits.{proofs.PlanLemmas.sections_acts, specs.WordsProtocol.edit_of}}
-use Rattle.spinlock.proofs.LineLemmas.{event_adds, line_enters, waits_by_ticket}
+use Rattle.{event_log.{specs.Sections.block_after, proofs.Tickets.phase_acts}, layer_traits.proofs.PlanLemmas.sections_acts}
+use Rattle.{layer_traits.specs.Protocols.WordsProtocol.edit_of, spinlock.proofs.LineLemmas.{event_adds, line_enters, waits_by_ticket}}
 use Rattle.spinlock.proofs.fair_lock.AnyFairLockUsesTickets.enter.Goals as goal
 
 pub look-requires-clause-waiting : goal.look-requires-clause-waiting

@@ -1,6 +1,6 @@
 use Rattle.std.proofs.Common.{sym, ◌∙◌}
-use Rattle.{event_log.{specs.WordsLog.lock_phase, proofs.Tickets.phase_acts}, layer_traits.{proofs.PlanLemmas.sections_acts, specs.WordsProtocol.edit_of}}
-use Rattle.spinlock.{specs.Laws.LineLaws.inside_of, proofs.LineLemmas.event_adds}
+use Rattle.{event_log.{specs.WordsLog.lock_phase, proofs.Tickets.phase_acts}, layer_traits.proofs.PlanLemmas.sections_acts}
+use Rattle.{layer_traits.specs.Protocols.WordsProtocol.edit_of, spinlock.{specs.Laws.LineLaws.inside_of, proofs.LineLemmas.event_adds}}
 use Rattle.spinlock.proofs.fair_lock.AnyFairLockUsesTickets.leave.Goals as goal
 
 pub free-requires-clause-inside : goal.free-requires-clause-inside

@@ -1,6 +1,6 @@
 use Rattle.std.proofs.Common.{◌==◌, refl}
 use Rattle.{event_log.specs.{declared.events.Event.TheVariants.Look, Actions.act_of, WordsLog.lock_phase}, layer_traits.proofs.OneLockLemmas.lock_phase_own}
-use Rattle.{layer_traits.specs.WordsProtocol.edit_of, spinlock.proofs.{LineLemmas.waits_by_ticket, MissLemmas.all_missed}}
+use Rattle.{layer_traits.specs.Protocols.WordsProtocol.edit_of, spinlock.proofs.{LineLemmas.waits_by_ticket, MissLemmas.all_missed}}
 use Rattle.spinlock.proofs.fair_lock.AnyFairLockUsesTickets.spin.Goals as goal
 
 pub spin-requires-clause-waiting : goal.spin-requires-clause-waiting

@@ -1,5 +1,5 @@
 use Rattle.std.proofs.Common.{ap, sym, ◌∙◌}
-use Rattle.{layer_traits.{proofs.SpinLemmas.{left_same, none_missed}, specs.Plans.is_in_section}, spinlock.proofs.MissLemmas.spun_fits}
+use Rattle.{layer_traits.{proofs.SpinLemmas.{left_same, none_missed}, specs.Polling.Plans.is_in_section}, spinlock.proofs.MissLemmas.spun_fits}
 use Rattle.spinlock.proofs.spin_lock.SpinLockLayerLockLawEdit.spin.Goals as goal
 
 -- tries that all missed leave each stage where it was

@@ -1,6 +1,6 @@
 use Rattle.std.proofs.Common.{◌≡◌, ◌+◌, ℕ, ap, subst, sym, ◌∙◌}
-use Rattle.{event_log.specs.{Grants.grant_lock_phase, WordsLog.{IsLegalWords, Idle, lock_phase}}, layer_traits.specs.GrantProtocol.grant_sections}
-use Rattle.layer_traits.{specs.{OneLock.opened, AsGrants.as_grants, Laws.AsGrants.{sections_as_grants, stands_as_grants}}, proofs.Seen.words_legal}
+use Rattle.{event_log.specs.{Grants.grant_lock_phase, WordsLog.{IsLegalWords, Idle, lock_phase}}, layer_traits.specs.Protocols.GrantProtocol.grant_sections}
+use Rattle.layer_traits.{specs.{Protocols.{OneLock.opened, AsGrants.as_grants}, Laws.AsGrants.{sections_as_grants, stands_as_grants}}, proofs.Seen.words_legal}
 use Rattle.{table_machine.specs.SeatViews.SeatView, cpu_workers.specs.{Counts.{counting, HasMade, made}, declared.counting.AddOne.AddOne}}
 use Rattle.cpu_workers.{specs.declared.counting.TheConstants.NUMBER, proofs.Counts.has_made}
 use Rattle.cpu_workers.proofs.counting.plan_words.WaiterWordsPlanWords.work.Goals as goal

@@ -1,6 +1,6 @@
 use Rattle.std.proofs.Common.{List, map, reverse, ap, sym, ◌∙◌}
-use Rattle.{event_log.specs.{declared.{entries.Entry.Entry, ids.CpuId.CpuId}, Actions.phase, Sections.sections_in}, layer_traits.specs.BufferEffects.effects_in}
-use Rattle.{layer_traits.specs.{Plans.is_in_section, Queues.{buffer_sections, event_of}}, cpu.specs.Cpus.of_cpu}
+use Rattle.event_log.specs.{declared.{entries.Entry.Entry, ids.CpuId.CpuId}, Actions.phase, Sections.sections_in}
+use Rattle.{layer_traits.specs.{Blocks.BufferEffects.effects_in, Polling.Plans.is_in_section, Layers.Queues.{buffer_sections, event_of}}, cpu.specs.Cpus.of_cpu}
 use Rattle.cpu_workers.proofs.workers.callers.Caller.into_machine.Goals as goal
 
 pub returns-clause-trace : goal.returns-clause-trace

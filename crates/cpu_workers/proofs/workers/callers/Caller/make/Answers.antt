@@ -1,6 +1,6 @@
 use Rattle.std.proofs.{Common.{◌∷◌, [], List, length, reverse, ap, ◌∙◌, subst, arith}, lemmas.List.reverse-append}
-use Rattle.{layer_traits.specs.{Capacities.caps_in, BufferLaw.{buffer_of, entry_of}}, event_log.specs.declared.{entries.Entry.Entry, ids.CpuId.CpuId}}
-use Rattle.{cpu.specs.Cpus.of_cpu, cpu_workers.{specs.Calls.Returned, proofs.Making.newest_carries}}
+use Rattle.{layer_traits.specs.{Blocks.Capacities.caps_in, Layers.BufferLaw.{buffer_of, entry_of}}, event_log.specs.declared.entries.Entry.Entry}
+use Rattle.{event_log.specs.declared.ids.CpuId.CpuId, cpu.specs.Cpus.of_cpu, cpu_workers.{specs.Calls.Returned, proofs.Making.newest_carries}}
 use Rattle.cpu_workers.proofs.workers.callers.Caller.make.Goals as goal
 
 pub invariant_of-self : goal.invariant_of-self

@@ -1,6 +1,6 @@
 use Rattle.std.proofs.{Common.{refl, ap, ◌∙◌, arith}, lemmas.List.get_or-replicate}
-use Rattle.{event_log.specs.declared.ids.TheConstants.THREADS, layer_traits.specs.{declared.call_states.CallState.CallState, BufferLaw.call_state_of}}
-use Rattle.layer_traits.specs.BufferLaw.{Buffering, no_call}
+use Rattle.{event_log.specs.declared.ids.TheConstants.THREADS, layer_traits.specs.{declared.call_states.CallState.CallState, Layers.BufferLaw.call_state_of}}
+use Rattle.layer_traits.specs.Layers.BufferLaw.{Buffering, no_call}
 use Rattle.cpu_workers.proofs.workers.callers.Caller.new.Goals as goal
 
 pub invariant_of-result : goal.invariant_of-result

@@ -1,7 +1,7 @@
 use Rattle.std.proofs.Common.{◌≡◌, sym, ◌∙◌, subst}
-use Rattle.{layer_traits.specs.{Capacities.caps_in, OwnParts.threads_in, QueueBlocks.homes_in}, cpu.{specs.Table.Steps.halted_at, proofs.CpuStates.valid_cpu}}
-use Rattle.cpu.proofs.{PassSteps.current_within, CpuOverLayer.{laws_of, layered, runs_home, tabled_cpu}, TableRows.halted_same}
-use Rattle.cpu_workers.{specs.Working.{IsPlanned, Working}, proofs.Planning.{own_reason, planned}}
+use Rattle.{layer_traits.specs.{Blocks.{Capacities.caps_in, QueueBlocks.homes_in}, Views.OwnParts.threads_in}, cpu.specs.Table.Steps.halted_at}
+use Rattle.cpu.proofs.{CpuSteps.{CpuStates.valid_cpu, PassSteps.current_within}, OverLayer.CpuOverLayer.{laws_of, layered, runs_home, tabled_cpu}}
+use Rattle.{cpu.proofs.StepTable.TableRows.halted_same, cpu_workers.{specs.Working.{IsPlanned, Working}, proofs.Planning.{own_reason, planned}}}
 use Rattle.cpu_workers.proofs.workers.worker.Worker.halted.Goals as goal
 
 pub halted-requires : goal.halted-requires

@@ -1,6 +1,6 @@
 use Rattle.std.proofs.Common.{ap, sym, ◌∙◌}
-use Rattle.{event_log.{specs.{declared.ids.CpuId.CpuId, Actions.phase}, proofs.Renaming.phase_renamed}, layer_traits.specs.Plans.is_in_section}
-use Rattle.{cpu.specs.Tower.Views.name_of}
+use Rattle.{event_log.{specs.{declared.ids.CpuId.CpuId, Actions.phase}, proofs.Renaming.phase_renamed}, layer_traits.specs.Polling.Plans.is_in_section}
+use Rattle.cpu.specs.Tower.Views.{name_of}
 use Rattle.cpu_workers.proofs.workers.worker.Worker.is_busy.Goals as goal
 
 pub returns : goal.returns

@@ -1,6 +1,6 @@
 use Rattle.std.proofs.Common.{ap, ◌∙◌, map, reverse}
-use Rattle.{event_log.specs.Sections.sections_in, layer_traits.specs.{BufferEffects.effects_in, Queues.{buffer_sections, event_of}}}
-use Rattle.{cpu.{specs.Cpus.of_cpu, proofs.CpuOverLayer.{laws_of, layered, tabled_cpu}}, cpu_workers.proofs.Planning.has_followed}
+use Rattle.{event_log.specs.Sections.sections_in, layer_traits.specs.{Blocks.BufferEffects.effects_in, Layers.Queues.{buffer_sections, event_of}}}
+use Rattle.{cpu.{specs.Cpus.of_cpu, proofs.OverLayer.CpuOverLayer.{laws_of, layered, tabled_cpu}}, cpu_workers.proofs.Planning.has_followed}
 use Rattle.cpu_workers.proofs.workers.worker.Worker.keeps.Goals as goal
 
 pub returns : goal.returns

@@ -1,5 +1,5 @@
 use Rattle.std.proofs.Common.{sym, ◌∙◌, subst}
-use Rattle.{layer_traits.specs.{Capacities.caps_in, QueueBlocks.homes_in}, event_log.specs.declared.ids.CpuId.CpuId, cpu.specs.Table.Steps.cpu_step}
+use Rattle.{layer_traits.specs.Blocks.{Capacities.caps_in, QueueBlocks.homes_in}, event_log.specs.declared.ids.CpuId.CpuId, cpu.specs.Table.Steps.cpu_step}
 use Rattle.{cpu.specs.{Tables.private, Tower.Composed.named}, cpu_workers.proofs.Planning.{planned, step_behind}}
 use Rattle.cpu_workers.proofs.workers.worker.Worker.step.Goals as goal
 

@@ -1,0 +1,99 @@
+-- A system over a layer of message calls, after steps of one of its CPUs, one behind the other.
+use Rattle.std.proofs.{lemmas.{Bool.ne_eqb, List.replicate-append-replicate, Option.{same_Some, slice_get-map, slice_get_within}}, Common.{◌≡◌, ℕ, ◌+◌, ◌<◌}}
+use Rattle.std.proofs.Common.{◌≤◌, List, [], ◌∷◌, ◌++◌, map, replicate, reverse, Some, None, slice_set, refl, ap, sym, ◌∙◌, subst, arith}
+use Rattle.std.specs.Prelude.{slice_get, Option, option_map}
+use Rattle.{event_log.specs.declared.ids.{BufId.BufId, CpuId.CpuId, Tid.Tid}, layer_traits.specs.Threads.OnePlace.cpu_at}
+use Rattle.{layer_traits.specs.declared.{call_layers.CallLayer.Ghosts, steps.Step.TheVariants.Stepped}, cpu.specs.{declared.cpus.Cpu.Cpu, Claims.CpuShown}}
+use Rattle.cpu.specs.{Claims.Shown, CpuSteps.{RunsAt, SteppedAt}, Cpus.{GuestsWent, SeenGrows}, Linear.{CallsGoOn, OrderGrows}, Systems.SteppedByTable}
+use Rattle.cpu.{specs.Systems.reason_of, proofs.WholeSystems.{InvariantOverSteps.Holds, Moments.{MachineLaws, moment, order_grows}}}
+use Rattle.cpu.proofs.{ListFacts.ListReads.{set_again, set_else, set_there, set_twice, shows_at}, StepTable.{ReachedSystems.shown_in, Schedules.Leads}}
+use Rattle.cpu.proofs.{StepTable.Schedules.{leads_live, leads_nowhere}, OverLayer.SystemOverLayer.{by_table, observed_by, plan_preserved, shown_by, went_on}}
+use Rattle.cpu.proofs.OverLayer.SystemOverLayer.{works_by}
+
+module _ {P L M : Type 0} (I : Ghosts P L M) (laws : MachineLaws I) (owner : M → BufId → Option Tid) (threads room k : ℕ) (c : CpuId) (same : k ≡ c.0) where
+  -- a system with this machine and these CPUs, after so many steps
+  abbrev pub shows : M → List (Cpu P M) → ℕ → Shown
+  shows o cpus done = shown_in (observed_by I owner o) (map (shown_by I) cpus) room done
+
+  -- CPU c, at number k, took a step
+  module _ (m n : M) (cpus : List (Cpu P M)) (taken : ℕ) (x y : Cpu P M) (is : Holds (works_by I owner threads) m cpus room taken)
+      (at : slice_get cpus k ≡ Some x) (live : taken < room) (step : SteppedAt I m x n y) where
+    acts : I.ActsFor n (I.cpu_of y.part)
+    acts = laws.own_cpu y.part n step.fits
+
+    keeps_one : Holds (works_by I owner threads) n (slice_set cpus k y) room (taken + 1)
+    keeps_one =
+        went_on I owner threads m n cpus room taken k c x y is at same step.leaves live (laws.legal n (I.cpu_of y.part) acts) step.steps step.fits step.is
+        step.table (laws.known n (I.cpu_of y.part) acts)
+
+    pub by_one : I.IsStepwise → SteppedByTable c (shows m cpus taken) (shows n (slice_set cpus k y) (taken + 1)) Stepped
+    by_one = by_table I owner threads m n cpus room taken k c x y is at same step.leaves live (laws.legal n (I.cpu_of y.part) acts) step.steps
+
+    -- the order goes on by at most one call, of this CPU
+    pub grows_one : OrderGrows c (reverse (I.seen m)) (reverse (I.seen n))
+    grows_one =
+        let number : x.number ≡ c = (is.each k x at).number_is ∙ ap (λ (j : ℕ). cpu_at j) same in
+        order_grows (λ d. I.ActsFor m d) c (I.seen m) (I.seen n) is.acts_for (laws.known n (I.cpu_of y.part) acts)
+        (subst (λ (d : CpuId). SeenGrows (λ a. I.ActsFor m a) d (I.seen m) (I.seen n)) number step.leaves.seen)
+
+    -- the calls go on
+    pub calls_one : CallsGoOn c (shows m cpus taken) (shows n (slice_set cpus k y) (taken + 1))
+    calls_one = record {
+      order = grows_one;
+      own = λ p q at_p at_q.
+          let number : x.number ≡ c = (is.each k x at).number_is ∙ ap (λ (j : ℕ). cpu_at j) same in
+          let was : shown_by I x ≡ p = same_Some (shown_by I x) p (sym (subst (λ (j : ℕ). slice_get (map (shown_by I) cpus) j ≡ Some (shown_by I x)) same
+          (shows_at (shown_by I) cpus k x at)) ∙ at_p) in
+          let there : slice_get (slice_set cpus k y) k ≡ Some y = set_there cpus k y (slice_get_within cpus k x at) in
+          let now : shown_by I y ≡ q =
+          same_Some (shown_by I y) q (sym (subst (λ (j : ℕ). slice_get (map (shown_by I) (slice_set cpus k y)) j ≡ Some (shown_by I y)) same
+          (shows_at (shown_by I) (slice_set cpus k y) k y there)) ∙ at_q) in
+          subst (λ (d : CpuId). GuestsWent d p.guests p.trace q.guests q.trace) number
+          (subst (λ (z : CpuShown). GuestsWent x.number p.guests p.trace z.guests z.trace) now
+          (subst (λ (z : CpuShown). GuestsWent x.number z.guests z.trace y.guests.items y.trace.items) was step.leaves.guests));
+      others = λ j other.
+          slice_get-map (shown_by I) (slice_set cpus k y) j
+          ∙ ap (λ o. option_map (shown_by I) o) (set_else cpus k j y (λ e. other (e ∙ same)))
+          ∙ sym (slice_get-map (shown_by I) cpus j);
+    }
+
+    leads_one : (s : Shown) (schedule : List CpuId) → Leads I.IsStepwise s schedule (shows m cpus taken)
+        → Leads I.IsStepwise s (schedule ++ c ∷ []) (shows n (slice_set cpus k y) (taken + 1))
+    leads_one s schedule before =
+        let there = subst (λ (j : ℕ). slice_get (map (shown_by I) cpus) j ≡ Some (shown_by I x)) same (shows_at (shown_by I) cpus k x at) in
+        let none : reason_of c (shows m cpus taken) ≡ None = grind (arith, ne_eqb, there, step.live) in
+        leads_live I.IsStepwise s (shows m cpus taken) (shows n (slice_set cpus k y) (taken + 1)) schedule c before
+        (plan_preserved I owner threads m n cpus room taken (taken + 1) k x y at step.leaves) none refl calls_one
+        (moment I laws owner threads n (slice_set cpus k y) room (taken + 1) keeps_one) by_one
+
+  -- it took so many, which are steps of a schedule, and all holds as before
+  pub record WentSo (m : M) (cpus : List (Cpu P M)) (taken steps : ℕ) (n : M) (y : Cpu P M) : Type 0 where
+    pub keeps : Holds (works_by I owner threads) n (slice_set cpus k y) room (taken + steps)
+    pub leads : Leads I.IsStepwise (shows m cpus taken) (replicate steps c) (shows n (slice_set cpus k y) (taken + steps))
+
+  pub went_so : {m : M} {x : Cpu P M} {steps : ℕ} {n : M} {y : Cpu P M} (cpus : List (Cpu P M)) (taken : ℕ) → Holds (works_by I owner threads) m cpus room taken
+      → slice_get cpus k ≡ Some x → RunsAt I m x steps n y → taken + steps ≤ room → WentSo m cpus taken steps n y
+  went_so {m} {x} cpus taken is at RunsAt.none space =
+      let same : slice_set cpus k x ≡ cpus = set_again cpus k x at in
+      let sum : taken ≡ taken + 0 = omega arith in
+      record {
+        keeps = subst (λ (l : List (Cpu P M)). Holds (works_by I owner threads) m l room (taken + 0)) (sym same)
+            (subst (λ (done : ℕ). Holds (works_by I owner threads) m cpus room done) sum is);
+        leads = subst (λ (l : List (Cpu P M)). Leads I.IsStepwise (shows m cpus taken) [] (shows m l (taken + 0))) (sym same)
+            (subst (λ (done : ℕ). Leads I.IsStepwise (shows m cpus taken) [] (shows m cpus done)) sum (leads_nowhere I.IsStepwise (shows m cpus taken)));
+      }
+  went_so {m} {x} cpus taken is at (RunsAt.more {k = steps} {n = n} {o = o} {q = q} {r = r} runs step) space =
+      let before = went_so cpus taken is at runs (omega (arith, space)) in
+      let live : taken + steps < room = omega (arith, space) in
+      let amid = slice_set cpus k q in
+      let there : slice_get amid k ≡ Some q = set_there cpus k q (slice_get_within cpus k x at) in
+      let sum : (taken + steps) + 1 ≡ taken + (steps + 1) = omega arith in
+      let twice : slice_set amid k r ≡ slice_set cpus k r = set_twice cpus k q r in
+      record {
+        keeps = subst (λ (l : List (Cpu P M)). Holds (works_by I owner threads) o l room (taken + (steps + 1))) twice
+            (rw (← sum) (keeps_one n o amid (taken + steps) q r before.keeps there live step));
+        leads = subst (λ (l : List (Cpu P M)). Leads I.IsStepwise (shows m cpus taken) (replicate (steps + 1) c) (shows o l (taken + (steps + 1)))) twice
+            (subst (λ (done : ℕ). Leads I.IsStepwise (shows m cpus taken) (replicate (steps + 1) c) (shows o (slice_set amid k r) done)) sum
+            (rw (← replicate-append-replicate steps 1 c)
+            (leads_one n o amid (taken + steps) q r before.keeps there live step (shows m cpus taken) (replicate steps c) before.leads)));
+      }

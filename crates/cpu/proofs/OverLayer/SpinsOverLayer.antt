@@ -1,0 +1,129 @@
+-- A system over a layer of message calls, after looks of one of its CPUs that all missed.
+use Rattle.std.proofs.Common.{◌≡◌, ◌≢◌, ℕ, zero, suc, ◌+◌, ◌<◌, ◌≤◌, false, List, [], ◌∷◌, ◌++◌, length, map, replicate, reverse, Option, Some, None, refl, ap}
+use Rattle.std.{proofs.{Common.{sym, ◌∙◌, subst, arith}, lemmas.{Bool.ne_eqb, Option.slice_get_within}}, specs.Prelude.slice_get}
+use Rattle.layer_traits.specs.{Blocks.{Capacities.caps_in, QueueBlocks.homes_in}, declared.call_layers.CallLayer.Ghosts, Threads.OnePlace.cpu_at}
+use Rattle.{layer_traits.specs.Polling.Spins.{Misses, Spun}, event_log.specs.declared.{entries.Entry.Entry, ids.{BufId.BufId, CpuId.CpuId, LockId.LockId}}}
+use Rattle.event_log.{specs.{declared.ids.Tid.Tid, Actions.{Action, Try, AreLegal, cpu_of_action, phase}, History.AreOthers}, proofs.Foreign.phase_others}
+use Rattle.{event_log.proofs.Renaming.legal_renamed, cpu.specs.{declared.cpus.Cpu.Cpu, Claims.{IsMoment, Shown}, Systems.own_reason, Tower.Composed.named}}
+use Rattle.cpu.{specs.Tower.Views.{TowerName, name_of}, proofs.WholeSystems.{InvariantOverSteps.Holds, Moments.{MachineLaws, moment}}}
+use Rattle.cpu.proofs.{ListFacts.ListReads.shows_at, StepTable.{MissedLooks.misses_lead, ReachedSystems.shown_in, Schedules.{Leads, leads_nowhere}}}
+use Rattle.cpu.proofs.{StepTable.Schedules.reached_alone, OverLayer.SystemOverLayer.{observed_by, shown_by, works_by}}
+
+-- tries under the table's names
+named_misses : (looks : ℕ) (c : CpuId) (lock : LockId) (past : List (Action TowerName))
+    → named (replicate looks (Try c lock false) ++ past) ≡ replicate looks (Try c lock false) ++ named past
+named_misses zero c lock past = refl
+named_misses (suc looks) c lock past = ap (λ l. Try c lock false ∷ l) (named_misses looks c lock past)
+
+-- tries of a CPU are none of another's
+misses_of : (N : Type 0) (looks : ℕ) (c d : CpuId) (lock : LockId) → c.0 ≢ d.0 → AreOthers {E = Action N} cpu_of_action d (replicate looks (Try c lock false))
+misses_of N zero c d lock other = tt
+misses_of N (suc looks) c d lock other = (ne_eqb c.0 d.0 other, misses_of N looks c d lock other)
+
+module _ {P L M : Type 0} (I : Ghosts P L M) (laws : MachineLaws I) (owner : M → BufId → Option Tid) (threads : ℕ) (m n : M) (cpus : List (Cpu P M))
+    (room taken : ℕ) where
+  -- the system with one of the machines, after so many steps
+  abbrev shows : M → ℕ → Shown
+  shows o done = shown_in (observed_by I owner o) (map (shown_by I) cpus) room done
+
+  -- CPU c, at number k, has a section under way, and so many looks of its part x took the machine from m to n
+  module _ (k looks : ℕ) (c : CpuId) (x : Cpu P M) (is : Holds (works_by I owner threads) m cpus room taken) (at : slice_get cpus k ≡ Some x) (same : k ≡ c.0)
+      (spun : Spun I.Fits I.opening I.site I.seen I.room I.ActsFor I.MayHold looks m n)
+      (tries : I.IsStepwise → Misses (I.cpu_of x.part) looks (I.acts m) (I.acts n)) (still : looks ≡ 0 → n ≡ m) (live : own_reason (shown_by I x) ≡ None)
+      (space : taken + looks ≤ room) (legal : AreLegal (I.acts n)) where
+    number : I.cpu_of x.part ≡ c
+    number = (is.each k x at).holds.1 ∙ (is.each k x at).number_is ∙ ap (λ (j : ℕ). cpu_at j) same
+
+    before : IsMoment (shows m taken)
+    before = moment I laws owner threads m cpus room taken is
+
+    -- no call takes effect
+    after : IsMoment (shows n (taken + looks))
+    after =
+        let one = before.one_order in
+        record {
+          one_order = record {
+            keeps = rw spun.seen one.keeps;
+            run = rw (spun.opening, spun.seen) one.run;
+            fifo = rw (spun.opening, spun.seen) one.fifo;
+            closed = rw (spun.opening, spun.seen) one.closed;
+            few = let few = one.few in let same = ap (λ (l : List Entry). length (reverse l)) spun.seen in omega (arith, few, same);
+          };
+          follow = before.follow;
+          stay = rw spun.opening before.stay;
+        }
+
+    -- the looks are steps of the schedule
+    pub spins_lead : Leads I.IsStepwise (shows m taken) (replicate looks c) (shows n (taken + looks))
+    spins_lead = go looks refl
+      where
+        go : (some : ℕ) → looks ≡ some → Leads I.IsStepwise (shows m taken) (replicate some c) (shows n (taken + looks))
+        go zero none =
+            let stays : taken + looks ≡ taken = omega (arith, none) in
+            subst (λ (done : ℕ). Leads I.IsStepwise (shows m taken) [] (shows n done)) (sym stays)
+            (subst (λ (o : M). Leads I.IsStepwise (shows m taken) [] (shows o taken)) (sym (still none)) (leads_nowhere I.IsStepwise (shows m taken)))
+        go (suc more) is_more =
+            misses_lead I.IsStepwise c (shows m taken) (shown_by I x)
+            (subst (λ (j : ℕ). slice_get (map (shown_by I) cpus) j ≡ Some (shown_by I x)) same (shows_at (shown_by I) cpus k x at)) live more
+            (shows n (taken + looks))
+            (record { caps = ap caps_in spun.opening; homes = ap homes_in spun.opening; programs = refl; count = refl; limits = refl; room = refl })
+            (record {
+              cpus = refl;
+              room = refl;
+              taken = ap (λ (j : ℕ). taken + j) is_more;
+              used = space;
+              tries = λ step. (
+                (tries step).lock,
+                ap named (tries step).grows ∙ named_misses looks (I.cpu_of x.part) (tries step).lock (I.acts m)
+                    ∙ (λ i. replicate (is_more i) (Try (number i) (tries step).lock false) ++ named (I.acts m)),
+              );
+              legal = legal_renamed name_of (I.acts n) legal;
+              order = ap (λ (l : List Entry). reverse l) spun.seen;
+              before = before;
+              now = after;
+            })
+
+    -- and all holds as before
+    pub spins_keep : Holds (works_by I owner threads) n cpus room (taken + looks)
+    spins_keep = record {
+      each = λ j z there.
+          let before = is.each j z there in
+          record {
+            number_is = before.number_is;
+            holds = (
+              spun.fits z.part before.holds.0,
+              before.holds.1,
+              rw (spun.opening, spun.seen) before.holds.2,
+              λ step. rw spun.opening (before.holds.3 step),
+            );
+          };
+      some = is.some;
+      most = is.most;
+      crowd = rw spun.opening is.crowd;
+      acts_for = λ d exists. spun.acts d (is.acts_for d exists);
+      known = rw spun.seen is.known;
+      within = rw spun.opening is.within;
+      rest = λ step d past exists.
+          let missed = tries step in
+          let apart : (I.cpu_of x.part).0 ≢ d.0 =
+          λ e. let own : (I.cpu_of x.part).0 ≡ c.0 = ap (λ (b : CpuId). b.0) number in omega (arith, e, own, same, past, inside) in
+          ap (λ l. phase d l) missed.grows
+          ∙ phase_others d (replicate looks (Try (I.cpu_of x.part) missed.lock false)) (I.acts m)
+          (misses_of TowerName looks (I.cpu_of x.part) d missed.lock apart)
+          ∙ is.rest step d past exists;
+      holders = λ d past exists holds. is.holders d past exists (spun.holders d holds);
+      short = let short = is.short in let seen = ap (λ l. length l) spun.seen in omega (arith, short, seen);
+      used = space;
+      small = is.small;
+      enough = let enough = is.enough in let left = spun.room in omega (arith, enough, left);
+      sound = (
+        is.sound.0 ∙ ap (λ (l : List CpuId). length l) (sym (ap homes_in spun.opening)),
+        λ step. reached_alone I.IsStepwise c looks (shows m taken) (shows n (taken + looks)) inside_shown spins_lead step (is.sound.1 step),
+      );
+    }
+      where
+        inside : k < length cpus
+        inside = slice_get_within cpus k x at
+
+        inside_shown : c.0 < length (map (shown_by I) cpus)
+        inside_shown = rw (← same) (slice_get_within (map (shown_by I) cpus) k (shown_by I x) (shows_at (shown_by I) cpus k x at))

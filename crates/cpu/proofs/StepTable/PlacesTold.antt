@@ -1,0 +1,99 @@
+-- The place that a system tells of a thread is where the thread stands in the table's own lists.
+use Rattle.std.proofs.{Common.{◌≡◌, ℕ, ◌<◌, true, List, length, Option, Some, ap, sym, ◌∙◌, subst, arith}, lemmas.{Bool.and_parts, List.length-map}}
+use Rattle.std.{proofs.lemmas.Option.same_Some, specs.Prelude.{slice_get, slice_index_or}}
+use Rattle.layer_traits.specs.{Views.{OwnParts.threads_in, Observed.{IsOwnPlace, queue_place}}, declared.{calls.Place.Place, moves.WaitList.WaitList}}
+use Rattle.layer_traits.specs.{declared.moves.WaitList.TheVariants.{Sleepers, Receivers, Senders}, Layers.{BufferLaw.Buffering, IpcLaw.WaitListsAgree}}
+use Rattle.layer_traits.specs.Threads.{OnePlace.cpu_at, Passes.or_else, Places.{Asleep, At, Pend, Stands, Step, Threads, Where, home_of, is_pend, one_if}}
+use Rattle.layer_traits.{specs.Threads.Places.{pending_by, where_is}, proofs.{CountLemmas.{in_counted, is_cpu_true}, ListsLemmas.wait_channel_here}}
+use Rattle.{layer_traits.proofs.{ListsLemmas.counted_in, PlaceLemmas.{pend_count, pend_home}}, event_log.specs.declared.{entries.Entry.Entry, ids.BufId.BufId}}
+use Rattle.event_log.{specs.declared.ids.{CpuId.CpuId, LockId.TheVariants.Buffer as AtBuffer, Tid.Tid}, proofs.Same.same_cpu_self}
+use Rattle.{thread_blocks.specs.Queues.is_in, cpu.specs.{declared.guests.Guest.Guest, Claims.{Waiters, CpuShown, IsPlaceOf, MovesAgree, Shown, waiters_at}}}
+use Rattle.cpu.specs.{Claims.{waiters_by, listed, no_waiters}, Systems.whole_of, Table.Setups.{Private, Setup, Thread, thread_at, home_of as table_home}}
+use Rattle.cpu.specs.{Tables.{private, state_of, states}, Observed.{CpuHas, CpuIsObserved, HasBuffer, IsPlaceByTable}}
+use Rattle.cpu.proofs.{ListFacts.ListReads.{listed_there, shows_at, there_is}, Tower.BegunPolls.thread_here}
+use Rattle.event_log.specs.declared.ids.LockId.TheVariants as lock
+use Rattle.layer_traits.specs.declared.calls.Place.TheVariants as place
+
+-- a thread has ended in the table exactly where its part has it among those that have ended
+pub ended_is : (own : Buffering) (guests : List (Option Guest)) (trace : List Entry) (t : Tid) → t.0 < length guests
+    → (thread_at (private own guests trace) t).ended ≡ is_in t (threads_in own).ended
+ended_is own guests trace t within =
+    ap (λ (x : Thread). x.ended) (thread_here own (states guests) trace t (omega (arith, within, length-map guests state_of)))
+
+-- a thread that has ended with a CPU is at home with it
+ended_home : (homes : List CpuId) (c : CpuId) (moves : List Step) (own : Threads) → Stands homes c moves own → (t : Tid) → is_in t own.ended ≡ true
+    → home_of homes t ≡ Some c
+ended_home homes c moves own stands t is = grind (arith, is_cpu_true, and_parts, in_counted)
+
+module _ (s : Shown) (agree : MovesAgree s) (lines : BufId → WaitList → List Tid) (waiters : s.waiters ≡ listed (waiters_by lines) 0 (length s.caps))
+    (lists : WaitListsAgree (length s.caps) s.homes s.moves lines) (setup : Setup)
+    (cpus : (k : ℕ) (p : CpuShown) → slice_get s.cpus k ≡ Some p → CpuIsObserved setup s k p)
+    (buffers : (b : ℕ) → b < length s.caps → HasBuffer setup s b) (homes : setup.homes ≡ s.homes) where
+  -- who sleeps at a line of a buffer stands on the buffer's list of that line
+  asleep : (t : Tid) (b : BufId) (line : WaitList) → where_is s.homes s.moves t ≡ Asleep (At (AtBuffer b) line)
+      → (b.0 < length s.caps) × (is_in t (lines b line) ≡ true)
+  asleep t b line here = grind (arith, wait_channel_here, counted_in)
+
+  waiters_of : (b : ℕ) → b < length s.caps → waiters_at s b ≡ waiters_by lines b
+  waiters_of b within = ap (λ (l : List Waiters). slice_index_or l b no_waiters) waiters
+      ∙ listed_there (waiters_by lines) (length s.caps) b no_waiters within
+
+  -- what holds of the private state of a CPU that is shown holds of that CPU in the table
+  cpu_has : (c : CpuId) (k : ℕ) (p : CpuShown) (Has : Private → Type 0) → c ≡ cpu_at k → slice_get s.cpus k ≡ Some p → Has p.private
+      → CpuHas (whole_of s) c Has
+  cpu_has c k p Has same there has = (
+    p.private,
+    ap (λ (d : CpuId). slice_get (whole_of s).cpus d.0) same ∙ shows_at (λ (q : CpuShown). q.private) s.cpus k p there,
+    has,
+  )
+
+  -- a thread that a CPU has of its own
+  own_so : (k : ℕ) (p : CpuShown) (t : Tid) (at : Place) → t.0 < length s.homes → slice_get s.cpus k ≡ Some p → IsOwnPlace (cpu_at k) p.own t at
+      → IsPlaceByTable setup (whole_of s) t at
+  own_so k p t (place.Running c) known there is = cpu_has c k p (λ q. q.current ≡ Some t) is.0 there ((cpus k p there).current ∙ is.1)
+  own_so k p t (place.Ready c) known there is =
+      cpu_has c k p (λ q. is_in t q.ready ≡ true) is.0 there (ap (λ (l : List Tid). is_in t l) (cpus k p there).ready ∙ is.1)
+  own_so k p t (place.Hand c) known there is = cpu_has c k p (λ q. q.hand ≡ Some t) is.0 there ((cpus k p there).hand ∙ is.1)
+  own_so k p t place.Ended known there is =
+      let home = ap (λ (l : List CpuId). or_else (record { 0 = 0 }) (slice_get l t.0)) homes
+      ∙ ap (λ (o : Option CpuId). or_else (record { 0 = 0 }) o) (ended_home s.homes (cpu_at k) s.moves p.own (agree.stands k p there) t is) in
+      cpu_has (table_home setup t) k p (λ q. (thread_at q t).ended ≡ true) home there ((cpus k p there).ended t known ∙ is)
+  own_so k p t at known there is = absurd is
+
+  -- a thread that stands in a queue
+  queue_so : (t : Tid) (w : Where) (at : Place) → where_is s.homes s.moves t ≡ w → queue_place w ≡ Some at → IsPlaceByTable setup (whole_of s) t at
+  queue_so t (Pend c) at here is =
+      let within = agree.within t c (pend_home s.homes s.moves t c agree.lawful here) in
+      let there = there_is s.cpus c.0 within in
+      let one : one_if (is_pend c (where_is s.homes s.moves t)) ≡ 1 = ap (λ w. one_if (is_pend c w)) here ∙ ap one_if (same_cpu_self c) in
+      let count = pend_count s.homes s.moves agree.lawful c t in
+      subst (λ (x : Place). IsPlaceByTable setup (whole_of s) t x) (same_Some (place.Pending c) at is)
+      (pending_by s.moves c, (cpus c.0 there.0 there.1).pending, counted_in t (pending_by s.moves c) (omega (arith, one, count)))
+  queue_so t (Asleep (At (lock.Buffer b) Sleepers)) at here is =
+      let lies = asleep t b Sleepers here in
+      let has = buffers b.0 lies.0 in
+      subst (λ (x : Place). IsPlaceByTable setup (whole_of s) t x) (same_Some (place.LockSleeper b) at is) (
+        has.buffer,
+        has.there,
+        ap (λ (l : List Tid). is_in t l) (sym has.told.sleepers) ∙ ap (λ (x : Waiters). is_in t x.sleepers) (waiters_of b.0 lies.0) ∙ lies.1,
+      )
+  queue_so t (Asleep (At (lock.Buffer b) Receivers)) at here is =
+      let lies = asleep t b Receivers here in
+      let has = buffers b.0 lies.0 in
+      subst (λ (x : Place). IsPlaceByTable setup (whole_of s) t x) (same_Some (place.WaitRecv b) at is) (
+        has.buffer,
+        has.there,
+        ap (λ (l : List Tid). is_in t l) (sym has.told.receivers) ∙ ap (λ (x : Waiters). is_in t x.receivers) (waiters_of b.0 lies.0) ∙ lies.1,
+      )
+  queue_so t (Asleep (At (lock.Buffer b) Senders)) at here is =
+      let lies = asleep t b Senders here in
+      let has = buffers b.0 lies.0 in
+      subst (λ (x : Place). IsPlaceByTable setup (whole_of s) t x) (same_Some (place.WaitSend b) at is) (
+        has.buffer,
+        has.there,
+        ap (λ (l : List Tid). is_in t l) (sym has.told.senders) ∙ ap (λ (x : Waiters). is_in t x.senders) (waiters_of b.0 lies.0) ∙ lies.1,
+      )
+  queue_so t w at here is = absurd (cc is)
+
+  pub place_read : (t : Tid) (at : Place) → t.0 < length s.homes → IsPlaceOf s t at → IsPlaceByTable setup (whole_of s) t at
+  place_read t at known either = grind (arith, own_so, queue_so)

@@ -1,0 +1,116 @@
+-- Schedules: what the steps of a list of CPUs lead to, one behind the other.
+use Rattle.std.proofs.Common.{◌≡◌, ℕ, zero, suc, ◌+◌, ◌-◌, ◌<◌, List, [], ◌∷◌, ◌++◌, length, replicate, take, drop, Option, Some, None, true, is_some, refl, ap}
+use Rattle.std.proofs.{Common.{sym, ◌∙◌, subst, append_assoc, arith}, Math.Seq.take-add, lemmas.List.{append-nil, replicate-append-replicate, take_rest}}
+use Rattle.std.specs.Prelude.{slice_index_or}
+use Rattle.{event_log.specs.declared.ids.CpuId.CpuId, layer_traits.specs.declared.steps.{Reason.Reason, Step.{Step, TheVariants.{Halted, Stepped}}}}
+use Rattle.{layer_traits.specs.Polling.Spins.BeginWith, cpu.specs.{Claims.{IsMoment, Shown}, Linear.CallsGoOn, Sound.{IsReachedByTable, RanByTable}}}
+use Rattle.cpu.specs.{Sound.after_steps, Systems.{Ran, SamePlan, SteppedByTable, HaltsByTable, WentOn, goes, halted_in, reason_of, starts, stayed, took}}
+use Rattle.cpu.{specs.{Systems.whole_of, Table.{Setups.Setup, Steps.{IsReached, Whole, steps, system_step}}}, proofs.StepTable.ReachedSystems.after_more}
+use Rattle.cpu.proofs.StepTable.{ReachedSystems.{goes_on, setup_on}, TableHalts.reasons_step}
+
+-- the steps of these CPUs lead from s to r
+pub record Leads (IsStepwise : Type 0) (s : Shown) (schedule : List CpuId) (r : Shown) : Type 0 where
+  pub plan : SamePlan s r
+  pub ran : Ran IsStepwise s schedule r
+  pub table : IsStepwise → RanByTable s schedule r
+
+-- no step leads to where a system is
+pub leads_nowhere : (IsStepwise : Type 0) (s : Shown) → Leads IsStepwise s [] s
+leads_nowhere IsStepwise s = record {
+  plan = record { caps = refl; homes = refl; programs = refl; count = refl; limits = refl; room = refl };
+  ran = starts;
+  table = λ step setup for. refl;
+}
+
+-- a step more, taken or not
+pub leads_more : (IsStepwise : Type 0) (s r t : Shown) (schedule : List CpuId) (c : CpuId) (answer : Step) → Leads IsStepwise s schedule r → SamePlan r t
+    → WentOn IsStepwise c r t → (IsStepwise → SteppedByTable c r t answer) → Leads IsStepwise s (schedule ++ c ∷ []) t
+leads_more IsStepwise s r t schedule c answer leads same went by = record {
+  plan = grind (arith, leads.plan, same);
+  ran = goes c t leads.ran went;
+  table = λ step setup for.
+      grind (arith, goes_on, after_more);
+}
+
+-- a step more that is taken
+pub leads_live : (IsStepwise : Type 0) (s r t : Shown) (schedule : List CpuId) (c : CpuId) → Leads IsStepwise s schedule r → SamePlan r t → reason_of c r ≡ None
+    → t.taken ≡ r.taken + 1 → CallsGoOn c r t → IsMoment t → (IsStepwise → SteppedByTable c r t Stepped)
+    → Leads IsStepwise s (schedule ++ c ∷ []) t
+leads_live IsStepwise s r t schedule c leads same live taken grows now by =
+    leads_more IsStepwise s r t schedule c Stepped leads same (took live taken grows now by) by
+
+-- a step that is not taken
+pub leads_halted : (IsStepwise : Type 0) (c : CpuId) (s : Shown) → c.0 < length s.cpus → is_some (reason_of c s) ≡ true
+    → (IsStepwise → HaltsByTable c s (halted_in c s)) → Leads IsStepwise s (c ∷ []) s
+leads_halted IsStepwise c s within some halts = go (reason_of c s) refl some
+  where
+    go : (r : Option Reason) → reason_of c s ≡ r → is_some r ≡ true → Leads IsStepwise s (c ∷ []) s
+    go None is some = absurd (cc some)
+    go (Some reason) is some =
+        let nowhere = leads_nowhere IsStepwise s in
+        leads_more IsStepwise s s s [] c (Halted reason) nowhere nowhere.plan (stayed reason is refl)
+        (λ step. reasons_step c s within (halts step) reason is)
+
+ran_on : (IsStepwise : Type 0) (s r t : Shown) (first second : List CpuId) → Ran IsStepwise s first r → Ran IsStepwise r second t
+    → Ran IsStepwise s (first ++ second) t
+ran_on IsStepwise s r _ first _ ran starts = subst (λ (l : List CpuId). Ran IsStepwise s l r) (sym (append-nil first)) ran
+ran_on IsStepwise s r _ first _ ran (goes {steps = second} {s = u} c t more went) =
+    rw (← append_assoc first second (c ∷ [])) (goes c t (ran_on IsStepwise s r u first second ran more) went)
+
+after_both : (setup : Setup) (first second : List CpuId) (s : Whole) → after_steps setup (first ++ second) s
+    ≡ after_steps setup second (after_steps setup first s)
+after_both setup [] second s = refl
+after_both setup (c ∷ first) second s = after_both setup first second (system_step setup c s).next
+
+-- one schedule behind the other
+pub leads_on : (IsStepwise : Type 0) (s r t : Shown) (first second : List CpuId) → Leads IsStepwise s first r → Leads IsStepwise r second t
+    → Leads IsStepwise s (first ++ second) t
+leads_on IsStepwise s r t first second one two = record {
+  plan = grind (arith, one.plan, two.plan);
+  ran = ran_on IsStepwise s r t first second one.ran two.ran;
+  table = λ step setup for.
+      grind (arith, goes_on, after_both);
+}
+
+-- the front of what is left of a schedule stands behind what was taken of it
+pub taken_on : (all : List CpuId) (at more : ℕ) → take at all ++ take more (take (length all - at) (drop at all)) ≡ take (at + more) all
+taken_on all at more = ap (λ (l : List CpuId). take at all ++ take more l) (take_rest all at) ∙ sym (take-add at more all)
+
+-- more steps of one CPU behind those of it
+pub leads_alone : (IsStepwise : Type 0) (s r t : Shown) (c : CpuId) (m n : ℕ) → Leads IsStepwise s (replicate m c) r → Leads IsStepwise r (replicate n c) t
+    → Leads IsStepwise s (replicate (m + n) c) t
+leads_alone IsStepwise s r t c m n one two = rw (← replicate-append-replicate m n c) (leads_on IsStepwise s r t (replicate m c) (replicate n c) one two)
+
+-- steps that are not taken
+pub leads_resting : (IsStepwise : Type 0) (c : CpuId) (s : Shown) (asked : ℕ) → c.0 < length s.cpus → is_some (reason_of c s) ≡ true
+    → (IsStepwise → HaltsByTable c s (halted_in c s)) → Leads IsStepwise s (replicate asked c) s
+leads_resting IsStepwise c s zero within some halts = leads_nowhere IsStepwise s
+leads_resting IsStepwise c s (suc asked) within some halts =
+    leads_on IsStepwise s s s (c ∷ []) (replicate asked c) (leads_halted IsStepwise c s within some halts)
+    (leads_resting IsStepwise c s asked within some halts)
+
+-- a step, and those behind it of the same CPU
+pub turn_taken : (all : List CpuId) (d : CpuId) (more : ℕ) → 0 < length all
+    → BeginWith (slice_index_or all 0 d) more (take (length all - 1) (drop 1 all))
+    → replicate (more + 1) (slice_index_or all 0 d) ≡ take (more + 1) all
+turn_taken [] d more some begins = absurd (omega (arith, some))
+turn_taken (c ∷ rest) d more some begins =
+    let behind : take more rest ≡ replicate more c = ap (λ (l : List CpuId). take more l) (sym (take_rest (c ∷ rest) 1)) ∙ begins.first in
+    let count : suc more ≡ more + 1 = omega arith in
+    grind (arith, count, behind)
+
+-- What the table reaches.
+
+reached_far : (setup : Setup) (room : ℕ) (c : CpuId) (looks : ℕ) (s : Whole) → IsReached setup room s → c.0 < setup.cpus
+    → IsReached setup room (after_steps setup (replicate looks c) s)
+reached_far setup room c zero s reached within = reached
+reached_far setup room c (suc looks) s reached within = reached_far setup room c looks (system_step setup c s).next (steps c reached within) within
+
+-- after so many steps of one CPU a system is reached as before them
+pub reached_alone : (IsStepwise : Type 0) (c : CpuId) (looks : ℕ) (s r : Shown) → c.0 < length s.cpus → Leads IsStepwise s (replicate looks c) r → IsStepwise
+    → IsReachedByTable s → IsReachedByTable r
+reached_alone IsStepwise c looks s r within leads step reached setup is =
+    let before = setup_on setup (grind (arith, leads.plan)) is in
+    subst (λ (n : ℕ). IsReached setup n (whole_of r)) (sym leads.plan.room)
+    (subst (λ (w : Whole). IsReached setup s.room w) (sym (leads.table step setup before.goes))
+    (reached_far setup s.room c looks (whole_of s) (reached setup before) (omega (arith, before.count, within))))

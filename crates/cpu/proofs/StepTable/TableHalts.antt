@@ -1,0 +1,29 @@
+-- A CPU of a system that takes no step: the table's system takes none, and answers the same.
+use Rattle.std.proofs.Common.{◌≡◌, ◌<◌, ◌==◌, Bool, List, length, Option, Some, None, if◌then◌else◌, sym, ◌∙◌, arith}
+use Rattle.{event_log.specs.{declared.ids.CpuId.CpuId, Actions.{Action, phase}}, layer_traits.specs.declared.steps.Reason.{Reason, TheVariants.StepsUsed}}
+use Rattle.{layer_traits.specs.{declared.steps.Step.TheVariants.Halted, Polling.Plans.is_in_section}, cpu.specs.{Claims.{CpuShown, Shown}, Cpus.reason_in}}
+use Rattle.cpu.specs.{Cpus.step_answer, Systems.{HaltsByTable, SteppedByTable, halted_in, reason_of, reason_or}, Table.{Blocks.Name, Setups.{Setup, Private}}}
+use Rattle.cpu.{specs.Table.Steps.{cpu_step, halted_at}, proofs.{ListFacts.ListReads.{shows_at, there_is}, Tower.Polls.halts_exactly}}
+
+-- what a step of the table answers, by the CPU's own reason
+pub answers_so : (setup : Setup) (c : CpuId) (p : Private) (log : List (Action Name)) (inside : Bool) (halted : Option Reason)
+    → inside ≡ is_in_section (phase c log) → halted_at setup c p ≡ halted → (cpu_step setup c p log).answer ≡ step_answer (reason_in inside halted)
+answers_so setup c p log inside halted busy same = grind (arith, halts_exactly)
+
+-- why a CPU takes no step: its own reason, or the room for steps is used
+abbrev pub reason_by : Option Reason → Bool → Option Reason
+reason_by None full = if full then Some StepsUsed else None
+reason_by (Some reason) full = Some reason
+
+or_by : (own : Option Reason) (s : Shown) → reason_or own s ≡ reason_by own (s.taken == s.room)
+or_by own s = grind arith
+
+-- a system with a reason to take no step of a CPU does as the table
+pub reasons_step : (c : CpuId) (s : Shown) → c.0 < length s.cpus → HaltsByTable c s (halted_in c s) → (reason : Reason) → reason_of c s ≡ Some reason
+    → SteppedByTable c s s (Halted reason)
+reasons_step c s within halts reason why setup goes =
+    let p = there_is s.cpus c.0 within in
+    grind (arith, shows_at (λ (q : CpuShown). q.private) s.cpus c.0 p.0 p.1, halts setup goes p.0 p.1, sym (or_by (halted_in c s) s) ∙ why)
+
+pub halted_same : (a b : Reason) → Halted a ≡ Halted b → a ≡ b
+halted_same a b is = cc is

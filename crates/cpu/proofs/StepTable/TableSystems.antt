@@ -1,0 +1,73 @@
+-- A step of a system that is taken is the step table's.
+use Rattle.std.proofs.{Common.{◌≡◌, ◌≢◌, ℕ, ◌+◌, ◌<◌, List, [], ◌∷◌, ◌++◌, map, Some, refl, ap, ◌∙◌, subst, slice_set, arith}, lemmas.Bool.ne_eqb}
+use Rattle.std.{proofs.lemmas.List.map-set, specs.{Prelude.slice_get, List.AllByRecursion}}
+use Rattle.event_log.specs.{declared.ids.{CpuId.CpuId, TheConstants.CPUS}, Actions.{Action, Take, Try, Give, AreLegal, cpu_of_action}, History.AreForeign}
+use Rattle.event_log.{specs.History.IsLawful, proofs.{Foreign.cpus_of_actions_known, Same.same_cpu_self}}
+use Rattle.{layer_traits.specs.{declared.steps.Step.TheVariants.Stepped, Polling.Along.IsStep}, cpu.specs.Table.{Blocks.Name, Setups.{Setup, Private}}}
+use Rattle.cpu.specs.{Table.Steps.{Stepping, Whole, cpu_step, system_step}, Tower.{Composed.named, Views.TowerName}, Claims.CpuShown}
+use Rattle.cpu.proofs.ListFacts.ListReads.{all_left, all_right, shows_at}
+
+-- where the holder acts for each CPU that there may be, no action is foreign
+none_else : {N : Type 0} (ActsFor : CpuId → Type 0) (others : List (Action N)) → ((c : CpuId) → c.0 < CPUS → ActsFor c)
+    → AllByRecursion (λ a. (cpu_of_action a).0 < CPUS) others → AreForeign ActsFor cpu_of_action others → others ≡ []
+none_else ActsFor [] all known foreign = refl
+none_else ActsFor (a ∷ others) all known foreign =
+    absurd (cc ((foreign (cpu_of_action a) (all (cpu_of_action a) known.0)).0, same_cpu_self (cpu_of_action a)))
+
+-- who acts is a CPU that there may be, by whatever name
+renamed_known : (acts : List (Action TowerName)) → IsLawful (λ before a. (cpu_of_action a).0 < CPUS) acts
+    → AllByRecursion (λ a. (cpu_of_action a).0 < CPUS) (named acts)
+renamed_known [] lawful = tt
+renamed_known (Take cpu lock ∷ past) lawful = (lawful.0, renamed_known past lawful.1)
+renamed_known (Try cpu lock hit ∷ past) lawful = (lawful.0, renamed_known past lawful.1)
+renamed_known (Give cpu lock name ∷ past) lawful = (lawful.0, renamed_known past lawful.1)
+
+abbrev whole : List Private → List (Action Name) → ℕ → ℕ → Whole
+whole cpus log room taken = record { cpus = cpus; log = log; room = room; taken = taken }
+
+-- a system after a step
+abbrev left : List Private → List (Action Name) → ℕ → ℕ → Stepping
+left cpus log room taken = record { next = record { cpus = cpus; log = log; room = room; taken = taken }; answer = Stepped }
+
+-- a CPU's step by the table is the system's
+table_step : (ActsFor : CpuId → Type 0) (setup : Setup) (c : CpuId) (cpus : List Private) (log log2 : List (Action Name)) (room taken : ℕ) (p q : Private)
+    → slice_get cpus c.0 ≡ Some p → IsStep ActsFor (cpu_step setup c) p q log log2 Stepped → ((d : CpuId) → d.0 < CPUS → ActsFor d)
+    → AllByRecursion (λ a. (cpu_of_action a).0 < CPUS) log2 → taken ≢ room
+    → left (slice_set cpus c.0 q) log2 room (taken + 1) ≡ system_step setup c (record { cpus = cpus; log = log; room = room; taken = taken })
+table_step ActsFor setup c cpus log log2 room taken p q at step all known live =
+    grind (arith, next, grows, step_is)
+  where
+    none : step.others ≡ []
+    none = none_else ActsFor step.others all
+        (all_left (λ (a : Action Name). (cpu_of_action a).0 < CPUS) step.others log
+        (all_right (λ (a : Action Name). (cpu_of_action a).0 < CPUS) (cpu_step setup c p (step.others ++ log)).acts (step.others ++ log)
+        (subst (λ (l : List (Action Name)). AllByRecursion (λ a. (cpu_of_action a).0 < CPUS) l) step.grows known)))
+        step.foreign
+
+    next : q ≡ (cpu_step setup c p log).next
+    next = step.next ∙ ap (λ (l : List (Action Name)). (cpu_step setup c p (l ++ log)).next) none
+
+    grows : log2 ≡ (cpu_step setup c p log).acts ++ log
+    grows = step.grows ∙ ap (λ (l : List (Action Name)). (cpu_step setup c p (l ++ log)).acts ++ (l ++ log)) none
+
+    step_is : system_step setup c (whole cpus log room taken)
+        ≡ left (slice_set cpus c.0 (cpu_step setup c p log).next) ((cpu_step setup c p log).acts ++ log) room (taken + 1)
+    step_is = grind (arith, ne_eqb, none)
+
+-- a step of one CPU among those that are shown
+pub shown_step : {X : Type 0} (shown : X → CpuShown) (ActsFor : CpuId → Type 0) (setup : Setup) (c : CpuId) (xs : List X) (k : ℕ) (x y : X)
+    (acts acts2 : List (Action TowerName)) (room taken : ℕ) → slice_get xs k ≡ Some x → k ≡ c.0
+    → IsStep ActsFor (cpu_step setup c) (shown x).private (shown y).private (named acts) (named acts2) Stepped → ((d : CpuId) → d.0 < CPUS → ActsFor d)
+    → AreLegal acts2 → taken ≢ room
+    → left (map (λ p. p.private) (map shown (slice_set xs k y))) (named acts2) room (taken + 1)
+    ≡ system_step setup c (record { cpus = map (λ p. p.private) (map shown xs); log = named acts; room = room; taken = taken })
+shown_step shown ActsFor setup c xs k x y acts acts2 room taken at same step all legal live =
+    let there : slice_get (map (λ (p : CpuShown). p.private) (map shown xs)) c.0 ≡ Some (shown x).private =
+    rw (← same) (shows_at (λ (p : CpuShown). p.private) (map shown xs) k (shown x) (shows_at shown xs k x at)) in
+    let written = ap (λ (l : List CpuShown). map (λ (p : CpuShown). p.private) l) (map-set shown xs k y)
+    ∙ map-set (λ (p : CpuShown). p.private) (map shown xs) k (shown y)
+    ∙ ap (λ (j : ℕ). slice_set (map (λ (p : CpuShown). p.private) (map shown xs)) j (shown y).private) same in
+    ap (λ (l : List Private). left l (named acts2) room (taken + 1)) written
+    ∙ table_step ActsFor setup c (map (λ (p : CpuShown). p.private) (map shown xs)) (named acts) (named acts2) room taken (shown x).private
+    (shown y).private there
+    step all (renamed_known acts2 (cpus_of_actions_known acts2 legal)) live

@@ -1,0 +1,116 @@
+-- What always holds of a system says that its calls have one order, that each thread follows its program, and that entries stay at home.
+use Rattle.std.proofs.Common.{◌≡◌, ◌⊎◌, ℕ, zero, suc, ◌<◌, ◌==◌, ◌&&◌, Bool, true, false, nat_lt, List, [], ◌∷◌, ◌++◌, length, map, reverse, Option, Some, refl}
+use Rattle.std.proofs.{Common.{ap, sym, ◌∙◌, subst, arith, slice_set}, lemmas.{Bool.{cases_eq, cases_lt, eq-eqb, ne_eqb}, List.{append-nil, reverse-append}}}
+use Rattle.std.proofs.lemmas.List.{reverse-reverse, length-map, length-set, get_or_past, get_or-set_same, get_or-set_other, Elements.filter-append}
+use Rattle.std.{proofs.lemmas.Option.slice_get-get_or, specs.{Prelude.{filter, slice_get, slice_index_or}, List.AllByRecursion}}
+use Rattle.event_log.specs.{declared.{entries.{Entry.Entry, Kind.TheVariants.Close}, ids.{CpuId.CpuId, Tid.Tid}}, Runs.{is_closed, kind_eq}}
+use Rattle.{event_log.specs.Traces.IsInterleaving, thread_blocks.specs.Queues.is_in, guest.specs.{Calls.{IsProgramsCalls, HasEnded}, State.State}}
+use Rattle.layer_traits.specs.{declared.{calls.{Call.Call, Effect.Effect}, call_states.CallState.CallState}, Layers.BufferLaw.{UnderWay, begun_of}}
+use Rattle.layer_traits.{specs.{Layers.BufferLaw.call_state_of, Threads.{OnePlace.cpu_at, Places.{Stands, Step}}}, proofs.EffectRunLemmas.count_reversed}
+use Rattle.cpu.specs.{declared.guests.{Guest.Guest, GuestStage.{GuestStage, TheVariants.{Idle, Begun, Done, Ended}}}, Guests.{HasComeIn, is_ended}, Cpus.IsCpu}
+use Rattle.cpu.{specs.{Cpus.{IsOfHome, guest_at, of_cpu, of_thread}, Claims.{CpuShown, Keeps, listed}}, proofs.ListFacts.ListReads.{all_reversed, listed_there}}
+use Rattle.cpu.proofs.ListFacts.ListReads.{there_is}
+
+-- what a test picks of a list turned round
+pub filter_reversed : {X : Type 0} (p : X → Bool) (xs : List X) → filter p (reverse xs) ≡ reverse (filter p xs)
+filter_reversed p [] = refl
+filter_reversed p (x ∷ xs) =
+    ap (λ l. filter p l) (reverse-append (x ∷ []) xs) ∙ filter-append p (reverse xs) (x ∷ []) ∙ ap (λ l. l ++ filter p (x ∷ [])) (filter_reversed p xs)
+    ∙ go (p x) refl
+  where
+    go : (b : Bool) → p x ≡ b → reverse (filter p xs) ++ filter p (x ∷ []) ≡ reverse (filter p (x ∷ xs))
+    go true is = rw is (sym (reverse-append (x ∷ []) (filter p xs)))
+    go false is = rw is (append-nil (reverse (filter p xs)))
+
+-- What is closed.
+
+-- a buffer is told to be closed where the effects have closed it, in their order
+pub closed_by_order : (seen : List Entry) (n b : ℕ) → b < n → slice_index_or (listed (is_closed seen) 0 n) b false ≡ is_closed (reverse seen) b
+closed_by_order seen n b within
+    = listed_there (is_closed seen) n b false within ∙ sym (ap (nat_lt 0) (count_reversed (λ (e : Entry). (e.buffer.0 == b) && kind_eq e.kind Close) seen))
+
+-- The interleaving.
+
+-- a CPU's entries after one more
+cpu_first : (e : Entry) (es : List Entry) → of_cpu (cpu_at e.cpu.0) (e ∷ es) ≡ e ∷ of_cpu (cpu_at e.cpu.0) es
+cpu_first e es = let same : (e.cpu.0 == e.cpu.0) ≡ true = eq-eqb e.cpu.0 e.cpu.0 refl in rw same refl
+
+-- entries of which each CPU's trace has its own, in their order, are an order of the traces
+pub interleaved : (es : List Entry) (traces : List (List Entry)) → ((k : ℕ) → k < length traces → slice_index_or traces k [] ≡ of_cpu (cpu_at k) es)
+    → AllByRecursion (λ e. e.cpu.0 < length traces) es → IsInterleaving traces es
+interleaved [] traces each known = grind (arith, cases_lt, get_or_past)
+interleaved (e ∷ es) traces each known = (
+  e.cpu.0,
+  of_cpu (cpu_at e.cpu.0) es,
+  slice_get-get_or traces e.cpu.0 [] known.0 ∙ ap (λ (l : List Entry). Some l) (each e.cpu.0 known.0 ∙ cpu_first e es),
+  interleaved es (slice_set traces e.cpu.0 (of_cpu (cpu_at e.cpu.0) es)) (λ k within. go k (omega (arith, within, same)) (cases_eq k e.cpu.0))
+      (subst (λ (n : ℕ). AllByRecursion (λ x. x.cpu.0 < n) es) (sym same) known.1),
+)
+  where
+    same : length (slice_set traces e.cpu.0 (of_cpu (cpu_at e.cpu.0) es)) ≡ length traces
+    same = length-set traces e.cpu.0 (of_cpu (cpu_at e.cpu.0) es)
+
+    go : (k : ℕ) → k < length traces → (k ≡ e.cpu.0) ⊎ (k ≡ e.cpu.0 → ⊥)
+        → slice_index_or (slice_set traces e.cpu.0 (of_cpu (cpu_at e.cpu.0) es)) k [] ≡ of_cpu (cpu_at k) es
+    go k within either = grind (arith, get_or-set_same, get_or-set_other, ne_eqb)
+
+-- What is shown of each CPU.
+
+-- a CPU that is shown so is one of which what always holds is true
+pub record Has (homes : List CpuId) (buffers : ℕ) (seen : List Entry) (moves : List Step) (k : ℕ) (p : CpuShown) : Type 0 where
+  pub call_states : List CallState
+  pub under_way : Option UnderWay
+  pub capacity : ℕ
+  pub is : IsCpu homes buffers seen p.own call_states under_way (cpu_at k) p.guests p.trace p.limit capacity
+  pub stands : Stands homes (cpu_at k) moves p.own
+
+-- a guest keeps to its program
+keeps_by : (g : Guest) (told_ended : Bool) (es : List Entry) (begun : Option Call) (effect : Option Effect)
+    → HasComeIn g.stage g.program g.thread es begun effect → (told_ended ≡ true → is_ended g.stage ≡ true) → Keeps g told_ended (reverse es)
+keeps_by g told_ended es begun effect follows over = go g.stage refl follows
+  where
+    turned : (s : State) → IsProgramsCalls g.program es s → IsProgramsCalls g.program (reverse (reverse es)) s
+    turned s calls = subst (λ (l : List Entry). IsProgramsCalls g.program l s) (sym (reverse-reverse es)) calls
+
+    runs_on : (stage : GuestStage) → g.stage ≡ stage → is_ended stage ≡ false → is_ended g.stage ≡ true → HasEnded g.program g.thread
+    runs_on stage at lives ends = let same : is_ended g.stage ≡ is_ended stage = ap is_ended at in absurd (cc (same, lives, ends))
+
+    stood : (begun2 : Option Call) × (effect2 : Option Effect) × HasComeIn g.stage g.program g.thread (reverse (reverse es)) begun2 effect2
+    stood = (begun, effect, subst (λ (l : List Entry). HasComeIn g.stage g.program g.thread l begun effect) (sym (reverse-reverse es)) follows)
+
+    go : (stage : GuestStage) → g.stage ≡ stage → HasComeIn stage g.program g.thread es begun effect → Keeps g told_ended (reverse es)
+    go Idle at f = record { calls = (g.thread, turned g.thread f.1); ends = runs_on Idle at refl; stands = stood; over = over }
+    go Begun at f = record { calls = (g.thread, turned g.thread f.4); ends = runs_on Begun at refl; stands = stood; over = over }
+    go Done at f = record { calls = (_, turned _ f.6); ends = runs_on Done at refl; stands = stood; over = over }
+    go Ended at f = record { calls = (g.thread, turned g.thread f.1); ends = λ ends. f.2; stands = stood; over = over }
+
+module _ (homes : List CpuId) (buffers : ℕ) (seen : List Entry) (moves : List Step) where
+  pub follow_programs : (k : ℕ) (p : CpuShown) → Has homes buffers seen moves k p → (t : Tid) (g : Guest) → guest_at p.guests t.0 ≡ Some g
+      → Keeps g (is_in t p.own.ended) (of_thread t.0 p.trace)
+  follow_programs k p has t g at =
+      let same = ap (λ (l : List Entry). of_thread t.0 l) has.is.kept ∙ filter_reversed (λ (e : Entry). e.thread.0 == t.0) (of_cpu (cpu_at k) seen) in
+      subst (λ (l : List Entry). Keeps g (is_in t p.own.ended) l) (sym same)
+      (keeps_by g (is_in t p.own.ended) (of_thread t.0 (of_cpu (cpu_at k) seen)) (begun_of (call_state_of has.call_states t))
+      (call_state_of has.call_states t).effect (has.is.follow t g at).1
+      (λ ended. has.is.over t ended g at))
+
+  pub stay_home : (k : ℕ) (p : CpuShown) → Has homes buffers seen moves k p → AllByRecursion (IsOfHome homes (cpu_at k)) p.trace
+  stay_home k p has = grind (arith, all_reversed)
+
+  -- the effects, oldest first, are an order of the traces
+  pub traces_interleaved : (cpus : List CpuShown) → ((k : ℕ) (p : CpuShown) → slice_get cpus k ≡ Some p → Has homes buffers seen moves k p)
+      → AllByRecursion (λ e. e.cpu.0 < length cpus) seen → IsInterleaving (map (λ p. p.trace) cpus) (reverse seen)
+  traces_interleaved cpus each known =
+      let count : length (map (λ (p : CpuShown). p.trace) cpus) ≡ length cpus = length-map cpus (λ (p : CpuShown). p.trace) in
+      interleaved (reverse seen) (map (λ (p : CpuShown). p.trace) cpus) (λ k within. trace_at k (omega (arith, count, within)))
+      (subst (λ (n : ℕ). AllByRecursion (λ x. x.cpu.0 < n) (reverse seen)) (sym count) (all_reversed (λ (x : Entry). x.cpu.0 < length cpus) seen known))
+    where
+      trace_at : (k : ℕ) → k < length cpus → slice_index_or (map (λ (p : CpuShown). p.trace) cpus) k [] ≡ of_cpu (cpu_at k) (reverse seen)
+      trace_at k within =
+          let there = there_is cpus k within in
+          trace_of cpus k there.0 there.1 ∙ (each k there.0 there.1).is.kept ∙ sym (filter_reversed (λ (e : Entry). e.cpu.0 == k) seen)
+        where
+          trace_of : (ps : List CpuShown) (j : ℕ) (p : CpuShown) → slice_get ps j ≡ Some p → slice_index_or (map (λ (q : CpuShown). q.trace) ps) j [] ≡ p.trace
+          trace_of [] j p at = absurd cc
+          trace_of (q ∷ ps) zero p at = let same : q ≡ p = cc in ap (λ (x : CpuShown). x.trace) same
+          trace_of (q ∷ ps) (suc j) p at = trace_of ps j p at

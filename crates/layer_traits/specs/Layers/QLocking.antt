@@ -1,0 +1,189 @@
+-- A lock with an owner: what its calls make of the owner and of the waiting lists; and the owner as a function of the history.
+use Rattle.std.specs.Prelude.{◌≡◌, ◌≢◌, List, [], Option, Some, None, is_some, if◌then◌else◌}
+use Rattle.{event_log.specs.{declared.ids.{LockId.LockId, Tid.Tid}, Sections.{Section, block_after}}, layer_traits.specs.declared.locked.QEdit.QEdit}
+use Rattle.layer_traits.specs.declared.locked.{QEdit.TheVariants.{Acquire, Inside, Release}, QOut.{QOut, TheVariants.{Acquired, Queued, Did, Released}}}
+use Rattle.layer_traits.specs.declared.locked.{Side.{Side, TheVariants.{Receivers, Senders}}, WakeWaiter.{WakeWaiter, TheVariants.{Nobody, Receiver, Sender}}}
+use Rattle.layer_traits.specs.{declared.{moves.WaitList.WaitList, sleeps.Outcome.Outcome}, Threads.MoveRules.MoveRules, Protocols.Protocol.Rules}
+use Rattle.{layer_traits.specs.Layers.Sleeping.joined, thread_blocks.specs.Queues.{is_in, first, rest, without}}
+use Rattle.layer_traits.specs.declared.moves.WaitList.TheVariants as wait_list
+
+-- a lock: its owner, and its waiting lists, each with its first in front
+pub record LockState (B : Type 0) : Type 0 where
+  pub owner : Option Tid
+  pub sleepers : List Tid
+  pub receivers : List Tid
+  pub senders : List Tid
+  pub above : B
+
+-- the owner of a lock, if there is such a lock
+abbrev pub owner_in : {B : Type 0} → Option (LockState B) → Option Tid
+owner_in None = None
+owner_in (Some state) = state.owner
+
+-- what the edits inside a lock mean: their callers, the blocks above that they leave and their answers; whom an edit signals and on
+-- which side the caller of a last edit waits, as the answer tells; and after which sections which CPU may do a call
+pub record LockRules (F R B O : Type 0) : Type 1 where
+  pub caller : F → Tid
+  pub edited : F → B → B
+  pub answer : F → B → O
+  pub signals : O → WakeWaiter
+  pub last_caller : R → Tid
+  pub last_edited : R → B → B
+  pub last_answer : R → B → O
+  pub waits : O → Option Side
+  pub allowed : (LockId → Option (LockState B)) → List (Section (QEdit F R)) → Section (QEdit F R) → Type 0
+
+-- the list of this side, where a caller waits on that side
+abbrev pub waiting_with : Side → Option Side → Tid → List Tid → List Tid
+waiting_with Receivers (Some Receivers) t queue = joined t queue
+waiting_with Senders (Some Senders) t queue = joined t queue
+waiting_with Receivers (Some Senders) t queue = queue
+waiting_with Senders (Some Receivers) t queue = queue
+waiting_with Receivers None t queue = queue
+waiting_with Senders None t queue = queue
+
+-- the list of this side after a signal
+abbrev pub waiting_without : Side → WakeWaiter → List Tid → List Tid
+waiting_without Receivers (Receiver u) queue = without u queue
+waiting_without Senders (Sender u) queue = without u queue
+waiting_without Receivers Nobody queue = queue
+waiting_without Receivers (Sender u) queue = queue
+waiting_without Senders Nobody queue = queue
+waiting_without Senders (Receiver u) queue = queue
+
+-- whom a signal wakes, of these receivers and senders
+abbrev pub signalled : WakeWaiter → List Tid → List Tid → Option Tid
+signalled Nobody receivers senders = None
+signalled (Receiver u) receivers senders = if is_in u receivers then Some u else None
+signalled (Sender u) receivers senders = if is_in u senders then Some u else None
+
+-- the lock that this thread asked for, where this was its owner: it owns it, or sleeps for it
+abbrev pub asked : {B : Type 0} → Tid → Option Tid → LockState B → LockState B
+asked t None state = record {
+  owner = Some t;
+  sleepers = state.sleepers;
+  receivers = state.receivers;
+  senders = state.senders;
+  above = state.above;
+}
+asked t (Some owner) state = record {
+  owner = Some owner;
+  sleepers = joined t state.sleepers;
+  receivers = state.receivers;
+  senders = state.senders;
+  above = state.above;
+}
+
+-- what it is told
+abbrev pub asker_report : {O : Type 0} → Option Tid → QOut O
+asker_report None = Acquired
+asker_report (Some owner) = Queued
+
+-- which list it joins
+abbrev pub wait_list_asked : Option Tid → Option WaitList
+wait_list_asked None = None
+wait_list_asked (Some owner) = Some wait_list.Sleepers
+
+-- the list of those that wait on a side
+abbrev pub wait_list_for : Option Side → Option WaitList
+wait_list_for None = None
+wait_list_for (Some Receivers) = Some wait_list.Receivers
+wait_list_for (Some Senders) = Some wait_list.Senders
+
+module _ {F R B O : Type 0} (rules : LockRules F R B O) where
+  -- the thread that calls
+  abbrev pub lock_caller : QEdit F R → Tid
+  lock_caller (Acquire t) = t
+  lock_caller (Inside f) = rules.caller f
+  lock_caller (Release r) = rules.last_caller r
+
+  -- the lock after a call. A Release does in one event its last edit, names the next owner, and lets its caller wait
+  abbrev pub lock_edited : QEdit F R → LockState B → LockState B
+  lock_edited (Acquire t) state = asked t state.owner state
+  lock_edited (Inside f) state = record {
+    owner = state.owner;
+    sleepers = state.sleepers;
+    receivers = waiting_without Receivers (rules.signals (rules.answer f state.above)) state.receivers;
+    senders = waiting_without Senders (rules.signals (rules.answer f state.above)) state.senders;
+    above = rules.edited f state.above;
+  }
+  lock_edited (Release r) state = record {
+    owner = first state.sleepers;
+    sleepers = rest state.sleepers;
+    receivers = waiting_with Receivers (rules.waits (rules.last_answer r state.above)) (rules.last_caller r) state.receivers;
+    senders = waiting_with Senders (rules.waits (rules.last_answer r state.above)) (rules.last_caller r) state.senders;
+    above = rules.last_edited r state.above;
+  }
+
+  -- which list the caller joins
+  abbrev pub lock_slept : QEdit F R → LockState B → Option WaitList
+  lock_slept (Acquire t) state = wait_list_asked state.owner
+  lock_slept (Inside f) state = None
+  lock_slept (Release r) state = wait_list_for (rules.waits (rules.last_answer r state.above))
+
+  -- whom a call wakes
+  abbrev pub lock_woke : QEdit F R → LockState B → Option Tid
+  lock_woke (Acquire t) state = None
+  lock_woke (Inside f) state = signalled (rules.signals (rules.answer f state.above)) state.receivers state.senders
+  lock_woke (Release r) state = first state.sleepers
+
+  -- what a call is told
+  abbrev pub lock_out : QEdit F R → LockState B → QOut O
+  lock_out (Acquire t) state = asker_report state.owner
+  lock_out (Inside f) state = Did (rules.answer f state.above)
+  lock_out (Release r) state = Released (rules.last_answer r state.above)
+
+  -- what a call answers
+  abbrev pub lock_answer : QEdit F R → LockState B → Outcome (QOut O)
+  lock_answer e state = record { out = lock_out e state; slept = is_some (lock_slept e state); woke = lock_woke e state }
+
+  -- which list a caller joined that was told this
+  abbrev pub wait_list_slept : QOut O → Option WaitList
+  wait_list_slept Acquired = None
+  wait_list_slept Queued = Some wait_list.Sleepers
+  wait_list_slept (Did out) = None
+  wait_list_slept (Released out) = wait_list_for (rules.waits out)
+
+  -- a lock after these calls
+  abbrev pub lock_after : (LockId → Option (LockState B)) → LockId → List (Section (QEdit F R)) → Option (LockState B)
+  lock_after opening lock past = block_after lock_edited opening lock past
+
+  -- a call is the owner's, but for an Acquire, which is not
+  abbrev pub IsOwners : QEdit F R → Option Tid → Type 0
+  IsOwners (Acquire t) owner = owner ≢ Some t
+  IsOwners (Inside f) owner = owner ≡ Some (rules.caller f)
+  IsOwners (Release r) owner = owner ≡ Some (rules.last_caller r)
+
+  -- the owner of a lock: a function of the history alone, so there is at most one
+  abbrev pub owner_of : (LockId → Option (LockState B)) → List (Section (QEdit F R)) → LockId → Option Tid
+  owner_of opening past lock = owner_in (lock_after opening lock past)
+
+-- a call keeps the protocol: it is the owner's, and the edits above allow it
+pub record LockAllowed {F R B O : Type 0} (rules : LockRules F R B O) (opening : LockId → Option (LockState B)) (past : List (Section (QEdit F R)))
+    (s : Section (QEdit F R)) : Type 0 where
+  pub owners : IsOwners rules s.edit (owner_of rules opening past s.lock)
+  pub granted : rules.allowed opening past s
+
+-- what the calls on a queuing lock mean
+abbrev pub lock_rules : {F R B O : Type 0} → LockRules F R B O → Rules (QEdit F R) (LockState B) (Outcome (QOut O))
+lock_rules rules = record { edited = lock_edited rules; answer = lock_answer rules; allowed = LockAllowed rules }
+
+-- how they move threads
+abbrev pub lock_moves : {F R B O : Type 0} → LockRules F R B O → MoveRules (QEdit F R) (Outcome (QOut O))
+lock_moves rules = record { caller = lock_caller rules; slept = λ outcome. wait_list_slept rules outcome.out; woke = λ outcome. outcome.woke }
+
+-- the list of this line of a lock; empty where there is no such lock
+abbrev pub wait_list_in : {B : Type 0} → WaitList → Option (LockState B) → List Tid
+wait_list_in l None = []
+wait_list_in wait_list.Sleepers (Some state) = state.sleepers
+wait_list_in wait_list.Receivers (Some state) = state.receivers
+wait_list_in wait_list.Senders (Some state) = state.senders
+
+-- a lock has no owner, and nobody sleeps or waits there
+abbrev pub IsAtRest : {B : Type 0} → Option (LockState B) → Type 0
+IsAtRest None = Unit {0}
+IsAtRest (Some state) = (state.owner ≡ None) × (state.sleepers ≡ []) × (state.receivers ≡ []) × (state.senders ≡ [])
+
+-- so it is with each lock
+abbrev pub AreAtRest : {B : Type 0} → (LockId → Option (LockState B)) → Type 0
+AreAtRest opening = (lock : LockId) → IsAtRest (opening lock)

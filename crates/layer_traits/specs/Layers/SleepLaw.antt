@@ -1,0 +1,111 @@
+-- What one poll of a sleeping layer adds to the history, and what it leaves of the part's own state.
+use Rattle.std.specs.Prelude.{◌≡◌, Bool, not, ◌&&◌, List, ◌∷◌, ◌++◌, Option, Some, None, IsSome, option_map, is_some, if◌then◌else◌}
+use Rattle.event_log.specs.{declared.ids.{BufId.BufId, CpuId.CpuId, LockId.LockId, Tid.Tid}, History.AreForeign}
+use Rattle.layer_traits.specs.declared.{queue_edits.{QueueBlock.QueueBlock, QueueEdit.QueueEdit, QueueAnswer.QueueAnswer}, queues.QueueCall.TheVariants.Push}
+use Rattle.layer_traits.specs.declared.{queues.{QueueCall.TheVariants.OnBuffer, QueueEvent.QueueEvent}, passes.Pass.{Pass, TheVariants.MakeReady}}
+use Rattle.layer_traits.specs.declared.{sleeps.Outcome.Outcome, scheds.{SchedAnswer.{SchedAnswer, TheVariants.{Done, Answer}}, SchedCall.SchedCall}}
+use Rattle.layer_traits.specs.{Threads.{MoveRules.MoveRules, Passes.{queue_for, passed_on}, Places.Threads}, Polling.Plans.{Left, Plan, raised}}
+use Rattle.layer_traits.specs.Layers.{Queues.{Kernel, kernel, event, cpu_of_queue_event, out_at}, Scheds.{EditStays, own_answered, sched_plan}}
+use Rattle.layer_traits.specs.Layers.Sleeping.{SleepRules, SleepState, sleep_rules, sleep_moves}
+use Rattle.layer_traits.specs.declared.scheds.SchedCall.TheVariants as call
+
+-- all that says what the sections of a sleeping layer mean
+abbrev pub sleep_kernel : {E B O : Type 0} → SleepRules E B O → (LockId → Option (QueueBlock (SleepState B))) → Kernel E (SleepState B) (Outcome O)
+sleep_kernel rules opening = kernel (sleep_rules rules) (sleep_moves rules) opening
+
+-- a part's own state: its threads, and the outcome of a section that answers once the thread which it woke has left the hand
+pub record Sleeping (O : Type 0) : Type 0 where
+  pub threads : Threads
+  pub deferred : Option (Outcome O)
+
+-- a section may begin: its caller runs here, nobody is in the CPU's hand, and it is allowed and stays so
+pub record MaySleep {E B O : Type 0} (k : Kernel E B O) (c : CpuId) (past : List (QueueEvent E)) (own : Threads) (b : BufId) (e : E) : Type 0 where
+  pub current : own.current ≡ Some (k.moves.caller e)
+  pub hand : own.hand ≡ None
+  pub stays : EditStays k c past (call.OnBuffer b e)
+
+-- a call may be polled: the first poll owes this duty, and after that it is the same call
+abbrev pub MayCall : {S : Type 0} → Option S → S → Type 0 → Type 0
+MayCall None s duty = duty
+MayCall (Some under_way) s duty = under_way ≡ s
+
+-- what a poll of a section did: nothing that others see, the section itself, or to send the thread that the section woke to its home
+pub data PollResult (O : Type 0) : Type 0 where
+  Waits : PollResult O
+  Does : (outcome : Outcome O) → PollResult O
+  Sends : (t : Tid) → PollResult O
+
+-- the caller goes on, and a thread in the hand has to be sent home first
+abbrev pub must_send : {O : Type 0} → Outcome O → Threads → Bool
+must_send outcome own = not outcome.slept && is_some own.hand
+
+-- what a section leaves where it was done with this outcome, and the threads are now these
+abbrev pub left_done : {O : Type 0} → Outcome O → Threads → Left (Sleeping O) (Outcome O)
+left_done outcome threads =
+    if must_send outcome threads
+    then record { own = record { threads = threads; deferred = Some outcome }; answer = None }
+    else record { own = record { threads = threads; deferred = None }; answer = Some outcome }
+
+module _ {E B O : Type 0} (k : Kernel E B (Outcome O)) (c : CpuId) (b : BufId) (e : E) where
+  -- a poll result may be done after this past: a section where none has been done yet, with its outcome there; a thread is sent home from
+  -- the hand once its section is done
+  abbrev pub MayDo : PollResult O → List (QueueEvent E) → Sleeping O → Type 0
+  MayDo Waits past own = Unit {0}
+  MayDo (Does outcome) past own = (own.deferred ≡ None) × (out_at k past b e ≡ Some outcome)
+  MayDo (Sends t) past own = IsSome own.deferred × (own.threads.hand ≡ Some t)
+
+  -- the history with a poll result
+  abbrev pub seen_with : PollResult O → List (QueueEvent E) → List (QueueEvent E)
+  seen_with Waits past = past
+  seen_with (Does outcome) past = event c (OnBuffer b e) ∷ past
+  seen_with (Sends t) past = event c (Push (queue_for k.homes c t) t) ∷ past
+
+  -- what a poll result leaves
+  abbrev pub left_with : PollResult O → Sleeping O → Left (Sleeping O) (Outcome O)
+  left_with Waits own = record { own = own; answer = None }
+  left_with (Does outcome) own = left_done outcome (own_answered k.moves k.homes c (Some outcome) own.threads)
+  left_with (Sends t) own = record { own = record { threads = passed_on own.threads; deferred = None }; answer = own.deferred }
+
+-- a poll of a section: foreign events come first, then at most one poll result, which leaves what was got
+pub record SleepPolled {E B O : Type 0} (k : Kernel E B (Outcome O)) (ActsFor : CpuId → Type 0) (c : CpuId) (b : BufId) (e : E)
+    (old new : List (QueueEvent E)) (own : Sleeping O) (got : Left (Sleeping O) (Outcome O)) : Type 0 where
+  pub others : List (QueueEvent E)
+  pub foreign : AreForeign ActsFor cpu_of_queue_event others
+  pub poll_result : PollResult O
+  pub may : MayDo k c b e poll_result (others ++ old) own
+  pub is : new ≡ seen_with k c b e poll_result (others ++ old)
+  pub leaves : got ≡ left_with k c b e poll_result own
+
+-- the call on the scheduler that is due: the hand tells which
+abbrev pub due : {E : Type 0} → Option Tid → BufId → E → SchedCall E
+due None b e = call.OnBuffer b e
+due (Some t) b e = call.Pass (MakeReady t)
+
+-- what the scheduler's answer leaves, where this is kept and the threads are now these
+abbrev pub left_reported : {O : Type 0} → Option (Outcome O) → Threads → Option (SchedAnswer (Outcome O)) → Left (Sleeping O) (Outcome O)
+left_reported deferred threads None = record { own = record { threads = threads; deferred = deferred }; answer = None }
+left_reported deferred threads (Some Done) = record { own = record { threads = threads; deferred = None }; answer = deferred }
+left_reported deferred threads (Some (Answer outcome)) = left_done outcome threads
+
+-- the plan of a section's poll: that of the call which is due on the scheduler
+abbrev pub sleep_plan : {E O : Type 0} → MoveRules E (Outcome O) → List CpuId → CpuId → BufId → E → Sleeping O
+    → Plan (QueueEdit E) (QueueAnswer (Outcome O)) (Sleeping O) (Outcome O)
+sleep_plan mv homes c b e own = raised (λ l. left_reported own.deferred l.own l.answer) (sched_plan mv homes c (due own.threads.hand b e) own.threads)
+
+-- the scheduler's answer to a call that is passed on
+abbrev pub done_if : {O : Type 0} → Option (Unit {0}) → Option (SchedAnswer O)
+done_if result = option_map (λ u. Done) result
+
+-- what a call that is passed on leaves
+abbrev pub left_passed : {O A : Type 0} → Option (Outcome O) → Left Threads A → Left (Sleeping O) (Unit {0})
+left_passed deferred l = record { own = record { threads = l.own; deferred = deferred }; answer = option_map (λ a. tt) l.answer }
+
+-- the plan of a call that is passed on
+abbrev pub pass_plan : {E O : Type 0} → MoveRules E (Outcome O) → List CpuId → CpuId → Pass → Sleeping O
+    → Plan (QueueEdit E) (QueueAnswer (Outcome O)) (Sleeping O) (Unit {0})
+pass_plan mv homes c p own = raised (left_passed own.deferred) (sched_plan mv homes c (call.Pass p) own.threads)
+
+-- why the poll of a whole machine answers nothing: the section was done in it, and the thread that it woke is now to be sent home
+pub record MustSend {O : Type 0} (old new : Sleeping O) : Type 0 where
+  pub before : old.deferred ≡ None
+  pub after : IsSome new.deferred

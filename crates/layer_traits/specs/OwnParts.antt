@@ -1,6 +1,0 @@
--- What a part of a layer of calls tells of its own state.
-use Rattle.layer_traits.specs.{BufferLaw.Buffering, Places.Threads}
-
--- its threads
-abbrev pub threads_in : Buffering → Threads
-threads_in own = own.cv.lock.sleep.threads

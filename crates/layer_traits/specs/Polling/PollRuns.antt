@@ -1,0 +1,55 @@
+-- Runs of polls: what one poll of a call did, what one look of its section at its lock did, and polls and looks of one call one after the other.
+use Rattle.std.specs.Prelude.{◌≡◌, ℕ, ◌+◌, ◌<◌, ◌≤◌, Bool, true, false, List, Option, Some, None, length}
+use Rattle.event_log.specs.{declared.{entries.Entry.Entry, ids.{CpuId.CpuId, LockId.LockId, Tid.Tid}}, Actions.Action}
+use Rattle.layer_traits.specs.declared.{calls.{Call.Call, Reply.Reply, ReplyKind.ReplyKind}, buffer_edits.BufferEdit.BufferEdit}
+use Rattle.layer_traits.specs.{declared.queue_edits.{QueueEdit.QueueEdit, QueueBlock.QueueBlock}, Layers.BufferLaw.{BufferPlan, Buffering, Called, IsRefused}}
+use Rattle.layer_traits.specs.Layers.BufferLaw.{MovesGrow, OthersSeen, RunsOn, UnderWay, answer_in, buffer_of, call_state_of, going, still_calling}
+use Rattle.layer_traits.specs.{Layers.{Conditions.CvCall, IpcLaw.NothingDone, QLocking.{lock_moves, lock_rules}}, Views.OwnParts.threads_in}
+use Rattle.layer_traits.specs.Blocks.{BufferProtocol.{BufferLock, buffer_rules}, QueueBlocks.homes_in, Capacities.caps_in, QueueRules.queue_rules}
+use Rattle.layer_traits.specs.{Polling.{Framed.Framed, Looks.Tries, Plans.{Follows, table_of}}, Threads.Places.Step}
+
+module _ {P M : Type 0} (Fits : P → M → Type 0) (cpu_of : P → CpuId) (opening_of : M → LockId → Option (QueueBlock BufferLock)) (site_of : M → List ℕ)
+    (room_of : M → ℕ) (ActsFor MayHold : M → CpuId → Type 0) (own_of : P → Buffering)
+    (is_inside : P → Bool) (under_way_of : P → Option UnderWay) (seen_of : M → List Entry)
+    (moves_of : M → List Step) (acts_of : M → List (Action (QueueEdit (CvCall BufferEdit)))) (IsWhole IsStepwise : Type 0)
+    (plan : ℕ → List CpuId → CpuId → Tid → Call → Buffering → BufferPlan Reply) where
+  -- a look took the part p and the machine m to q and n, and told whether it looked: all that a look promises
+  pub record Looked (told : Bool) (p : P) (m : M) (q : P) (n : M) : Type 0 where
+    pub still : told ≡ false → (q ≡ p) × (n ≡ m)
+    pub waits : told ≡ true → is_inside p ≡ true
+    pub framed : Framed Fits cpu_of opening_of site_of room_of ActsFor MayHold p q m n
+    pub own : own_of q ≡ own_of p
+    pub inside : is_inside q ≡ is_inside p
+    pub under_way : under_way_of q ≡ under_way_of p
+    pub seen : OthersSeen (ActsFor m) (seen_of m) (seen_of n)
+    pub moves : MovesGrow (ActsFor m) (cpu_of p) (moves_of m) (moves_of n)
+    pub tries : IsStepwise → told ≡ true → Tries (ActsFor m) (cpu_of p) (acts_of m) (acts_of n)
+
+  module _ (t : Tid) (call : Call) where
+    -- a poll of the call took the part p and the machine m to q and n, with this answer: all that a poll promises
+    pub record Polled (p : P) (m : M) (q : P) (n : M) (answer : Option Reply) : Type 0 where
+      pub nothing : length (caps_in (opening_of m)) ≤ (buffer_of call).0 → NothingDone m n p q answer
+      pub called : (buffer_of call).0 < length (caps_in (opening_of m))
+          → Called (ActsFor m) (cpu_of p) t call (own_of p).call_states (own_of q).call_states (seen_of m) (seen_of n) answer
+      pub runs : (buffer_of call).0 < length (caps_in (opening_of m)) → RunsOn t (threads_in (own_of p)) (threads_in (own_of q)) answer
+      pub under_way : (buffer_of call).0 < length (caps_in (opening_of m))
+          → under_way_of q ≡ still_calling t (threads_in (own_of q)).current answer
+      pub moves : MovesGrow (ActsFor m) (cpu_of p) (moves_of m) (moves_of n)
+      pub prompt : IsWhole → answer ≡ None → IsRefused call (caps_in (opening_of m)) (seen_of n) × ((threads_in (own_of q)).current ≡ None)
+      pub framed : Framed Fits cpu_of opening_of site_of room_of ActsFor MayHold p q m n
+      pub follows : IsStepwise → Follows (ActsFor m) (table_of (queue_rules (lock_rules buffer_rules) (lock_moves buffer_rules))) (opening_of m) (cpu_of p)
+          (plan (length (caps_in (opening_of m))) (homes_in (opening_of m)) (cpu_of p) t call (own_of p)) (acts_of m) (acts_of n)
+          (record { own = own_of q; answer = answer })
+
+    -- the call that began in the part p has not ended in q, its thread runs, and it has had no effect since
+    pub record IsQuiet (p q : P) : Type 0 where
+      pub runs : (threads_in (own_of q)).current ≡ Some t
+      pub effect : (call_state_of (own_of q).call_states t).effect ≡ (going (call_state_of (own_of p).call_states t) call).effect
+
+    -- so many polls of the call and looks of its section, a poll first, took the part p and the machine m to this part and machine, and the last told this
+    -- kind: after each but the last the call was quiet
+    pub data PolledOn (p : P) (m : M) : (actions : ℕ) → P → M → (told : Option ReplyKind) → Type 0 where
+      once : {q : P} {n : M} {told : Option ReplyKind} → Polled p m q n (answer_in (own_of q).call_states t told) → PolledOn p m 1 q n told
+      again : {k : ℕ} {q r : P} {n o : M} {told : Option ReplyKind} → PolledOn p m k q n None → IsQuiet p q
+          → Polled q n r o (answer_in (own_of r).call_states t told) → PolledOn p m (k + 1) r o told
+      looks : {k : ℕ} {q r : P} {n o : M} → PolledOn p m k q n None → IsQuiet p q → Looked true q n r o → PolledOn p m (k + 1) r o None

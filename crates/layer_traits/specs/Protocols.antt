@@ -1,0 +1,6 @@
+-- Which CPU may come to a lock after which sections, and what its words' logs say of that.
+pub mod Protocol
+pub mod WordsProtocol
+pub mod GrantProtocol
+pub mod OneLock
+pub mod AsGrants

@@ -1,0 +1,41 @@
+-- The waiting lists of the locks agree with the places of the threads, by count: a thread stands once in the list of the line at
+-- which it sleeps, and in no other.
+use Rattle.std.specs.Prelude.{◌≡◌, Bool, true, false, ◌&&◌, List, Option, Some, None}
+use Rattle.event_log.specs.{declared.ids.{CpuId.CpuId, LockId.LockId, Tid.Tid}, History.same_lock, Sections.block_after}
+use Rattle.layer_traits.specs.declared.{moves.WaitList.{WaitList, TheVariants.{Sleepers, Receivers, Senders}}, queue_edits.QueueBlock.QueueBlock}
+use Rattle.layer_traits.specs.{declared.queues.QueueEvent.QueueEvent, Threads.Places.{At, Stands, Threads, WaitChannel, one_if, count_in, wait_channel_of}}
+use Rattle.layer_traits.specs.{Threads.Places.where_is, Blocks.QueueBlocks.{inner, homes_in}, Layers.{Queues.{buffer_sections, moves_in}, Sleeping.SleepRules}}
+use Rattle.layer_traits.specs.Layers.{Sleeping.{SleepState, wait_list_at, sleep_edited}, SleepLaw.sleep_kernel}
+
+-- whether two lines are one
+abbrev pub same_list : WaitList → WaitList → Bool
+same_list Sleepers Sleepers = true
+same_list Receivers Receivers = true
+same_list Senders Senders = true
+same_list Sleepers Receivers = false
+same_list Sleepers Senders = false
+same_list Receivers Sleepers = false
+same_list Receivers Senders = false
+same_list Senders Sleepers = false
+same_list Senders Receivers = false
+
+-- whether this is the wait channel at which a thread sleeps, if it sleeps
+abbrev pub is_at : LockId → WaitList → Option WaitChannel → Bool
+is_at lock line None = false
+is_at lock line (Some (At other at)) = same_lock other lock && same_list at line
+
+-- the lists of one lock agree with the wait channels in which threads sleep
+abbrev pub Agrees : LockId → (WaitList → List Tid) → (Tid → Option WaitChannel) → Type 0
+Agrees lock lines asleep = (line : WaitList) (t : Tid) → count_in t (lines line) ≡ one_if (is_at lock line (asleep t))
+
+-- the lists of each lock agree with the places of the threads
+abbrev pub ListsAgree : {E B O : Type 0} → SleepRules E B O → (LockId → Option (QueueBlock (SleepState B))) → List (QueueEvent E) → Type 0
+ListsAgree rules opening seen = (lock : LockId) →
+    Agrees lock (λ line. wait_list_at line (block_after (sleep_edited rules) (inner opening) lock (buffer_sections seen)))
+    (λ t. wait_channel_of (where_is (homes_in opening) (moves_in (sleep_kernel rules opening) seen) t))
+
+-- a part's threads stand at its CPU, each once and no other, and the lists of each lock agree with the places
+pub record SleepAgrees {E B O : Type 0} (rules : SleepRules E B O) (opening : LockId → Option (QueueBlock (SleepState B))) (c : CpuId)
+    (seen : List (QueueEvent E)) (own : Threads) : Type 0 where
+  pub stands : Stands (homes_in opening) c (moves_in (sleep_kernel rules opening) seen) own
+  pub lists : ListsAgree rules opening seen

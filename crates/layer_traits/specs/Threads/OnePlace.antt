@@ -1,0 +1,47 @@
+-- Each thread stands in exactly one place: over all CPUs, how often a thread runs or is ready, is in a hand, is pending, sleeps or has ended.
+use Rattle.std.specs.Prelude.{◌≡◌, ℕ, zero, suc, ◌+◌, ◌<◌, List, Some, is_some}
+use Rattle.{event_log.specs.declared.ids.{CpuId.CpuId, Tid.Tid}, layer_traits.specs.Threads.Places.{Step, Threads, Stands, AreMoves, home_of, is_thread}}
+use Rattle.layer_traits.specs.Threads.Places.{is_asleep, where_is, pending_by, one_if, count_in}
+
+-- the sum of f over the numbers below n
+abbrev pub total : (ℕ → ℕ) → ℕ → ℕ
+total f zero = 0
+total f (suc n) = total f n + f n
+
+-- the CPU of this number
+abbrev pub cpu_at : ℕ → CpuId
+cpu_at k = record { 0 = k }
+
+-- how often a thread runs or is ready with one of n CPUs
+abbrev pub running : (ℕ → Threads) → ℕ → Tid → ℕ
+running own n t = total (λ k. one_if (is_thread t (own k).current) + count_in t (own k).ready) n
+
+-- how often a thread is in the hand of one of n CPUs
+abbrev pub held : (ℕ → Threads) → ℕ → Tid → ℕ
+held own n t = total (λ k. one_if (is_thread t (own k).hand)) n
+
+-- how often a thread stands in the pending queue of one of n CPUs
+abbrev pub pending : List Step → ℕ → Tid → ℕ
+pending moves n t = total (λ k. count_in t (pending_by moves (cpu_at k))) n
+
+-- how often a thread has ended with one of n CPUs
+abbrev pub over : (ℕ → Threads) → ℕ → Tid → ℕ
+over own n t = total (λ k. count_in t (own k).ended) n
+
+-- all of a machine agrees with the places: each home is one of its n CPUs, the moves are allowed, what each CPU has of its own agrees
+-- with the places, and a thread stands among the sleepers as often as its place says
+pub record AllStand (homes : List CpuId) (n : ℕ) (moves : List Step) (own : ℕ → Threads) (sleeping : Tid → ℕ) : Type 0 where
+  pub homes_within : (t : Tid) (home : CpuId) → home_of homes t ≡ Some home → home.0 < n
+  pub moves_are : AreMoves homes moves
+  pub stand : (k : ℕ) → k < n → Stands homes (cpu_at k) moves (own k)
+  pub sleep : (t : Tid) → sleeping t ≡ one_if (is_asleep (where_is homes moves t))
+
+-- a thread that exists stands once among all places, and one that does not stands nowhere
+abbrev pub StandsOnce : List CpuId → ℕ → List Step → (ℕ → Threads) → (Tid → ℕ) → Tid → Type 0
+StandsOnce homes n moves own sleeping t =
+    running own n t + held own n t + pending moves n t + sleeping t + over own n t ≡ one_if (is_some (home_of homes t))
+
+-- where all of a machine agrees with the places, each thread stands in exactly one of them
+abbrev pub OnePlace : Type 0
+OnePlace = (homes : List CpuId) (n : ℕ) (moves : List Step) (own : ℕ → Threads) (sleeping : Tid → ℕ)
+    → AllStand homes n moves own sleeping → (t : Tid) → StandsOnce homes n moves own sleeping t

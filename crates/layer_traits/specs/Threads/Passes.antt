@@ -1,0 +1,94 @@
+-- Passes: the calls by which a CPU passes from thread to thread. What they do to a CPU's own threads and to the places, where each
+-- may come, and what one poll of a pass means.
+use Rattle.std.specs.Prelude.{◌≡◌, ◌≢◌, List, [], ◌∷◌, ◌++◌, Option, Some, None, IsSome, is_some, if◌then◌else◌}
+use Rattle.{event_log.specs.{declared.ids.{CpuId.CpuId, Tid.Tid}, History.AreForeign}, thread_blocks.specs.Queues.{first, rest}}
+use Rattle.layer_traits.specs.declared.{moves.WaitList.WaitList, passes.Pass.{Pass, TheVariants.{Switch, YieldNow, Drain, MakeReady, End}}}
+use Rattle.layer_traits.specs.Threads.Places.{Threads, Step, Pushed, Took, step, cpu_of_step, home_of, is_cpu, pending_by}
+
+-- the home, or this CPU where there is none
+abbrev pub or_else : CpuId → Option CpuId → CpuId
+or_else c None = c
+or_else c (Some home) = home
+
+-- the CPU whose pending queue is for a thread: the thread's home
+abbrev pub queue_for : List CpuId → CpuId → Tid → CpuId
+queue_for homes c t = or_else c (home_of homes t)
+
+-- the list of one thread or of none
+abbrev pub as_list : Option Tid → List Tid
+as_list None = []
+as_list (Some t) = t ∷ []
+
+-- the front of the ready threads runs
+abbrev pub switched : Threads → Threads
+switched own = record { current = first own.ready; hand = own.hand; ready = rest own.ready; ended = own.ended }
+
+-- who was pending joins the ready threads, and behind them the thread that ran
+abbrev pub took : List Tid → Threads → Threads
+took queue own = record { current = None; hand = own.hand; ready = (own.ready ++ queue) ++ as_list own.current; ended = own.ended }
+
+-- the hand has passed its thread on
+abbrev pub passed_on : Threads → Threads
+passed_on own = record { current = own.current; hand = None; ready = own.ready; ended = own.ended }
+
+-- the thread that ran has ended
+abbrev pub finished : Threads → Threads
+finished own = record { current = None; hand = own.hand; ready = own.ready; ended = own.ended ++ as_list own.current }
+
+-- the thread that ran has gone to sleep, if it did
+abbrev pub own_slept : Option WaitList → Threads → Threads
+own_slept None own = own
+own_slept (Some line) own = record { current = None; hand = own.hand; ready = own.ready; ended = own.ended }
+
+-- a thread that this CPU woke is ready where this CPU is its home, and else in hand
+abbrev pub own_woken : List CpuId → CpuId → Option Tid → Threads → Threads
+own_woken homes c None own = own
+own_woken homes c (Some u) own = record {
+  current = own.current;
+  hand = if is_cpu c (home_of homes u) then own.hand else Some u;
+  ready = if is_cpu c (home_of homes u) then own.ready ++ u ∷ [] else own.ready;
+  ended = own.ended;
+}
+
+-- what a CPU has of its own after a pass, where this was its pending queue
+abbrev pub pass_after : Pass → List Tid → Threads → Threads
+pass_after Switch queue own = switched own
+pass_after YieldNow queue own = took queue own
+pass_after Drain queue own = took queue own
+pass_after (MakeReady t) queue own = passed_on own
+pass_after End queue own = finished own
+
+-- a pass may come: a switch where nobody runs and somebody is ready, a drain where nobody runs and nobody is ready, a yield and an
+-- end where a thread runs, and none of them while a woken thread is in hand: that one is made ready first
+abbrev pub MayPass : Pass → Threads → Type 0
+MayPass Switch own = (own.current ≡ None) × (own.hand ≡ None) × (own.ready ≢ [])
+MayPass YieldNow own = IsSome own.current × (own.hand ≡ None)
+MayPass Drain own = (own.current ≡ None) × (own.hand ≡ None) × (own.ready ≡ [])
+MayPass (MakeReady t) own = own.hand ≡ Some t
+MayPass End own = IsSome own.current × (own.hand ≡ None)
+
+-- the steps of a pass, where it is done
+abbrev pub pass_steps : List CpuId → CpuId → Pass → List Step
+pass_steps homes c Switch = []
+pass_steps homes c YieldNow = step c (Took c) ∷ []
+pass_steps homes c Drain = step c (Took c) ∷ []
+pass_steps homes c (MakeReady t) = step c (Pushed (queue_for homes c t) t) ∷ []
+pass_steps homes c End = []
+
+-- a pass that touches nothing shared
+abbrev pub IsLocalPass : Pass → Type 0
+IsLocalPass Switch = Unit {0}
+IsLocalPass YieldNow = ⊥
+IsLocalPass Drain = ⊥
+IsLocalPass (MakeReady t) = ⊥
+IsLocalPass End = Unit {0}
+
+-- a poll of a pass: foreign steps come first, then the pass's own exactly where the poll answers; the CPU's own threads change with
+-- it and only then; and a pass that touches nothing shared answers at once
+pub record PassPolled (homes : List CpuId) (ActsFor : CpuId → Type 0) (c : CpuId) (call : Pass) {A : Type 0} (result : Option A) (old new : List Step)
+    (own own' : Threads) : Type 0 where
+  pub others : List Step
+  pub foreign : AreForeign ActsFor cpu_of_step others
+  pub is : new ≡ (if is_some result then pass_steps homes c call ++ (others ++ old) else others ++ old)
+  pub after : own' ≡ (if is_some result then pass_after call (pending_by (others ++ old) c) own else own)
+  pub at_once : IsLocalPass call → IsSome result

@@ -1,6 +1,0 @@
-use Rattle.std.proofs.Common.{◌≡◌}
-use Rattle.cpu.specs.{Claims.listed, Systems.halted_in}
-use Rattle.mctower.proofs.reading.halted_of.Given as goal
-
-abbrev pub invariant-loop-cpu : goal.invariant-loop-cpu
-invariant-loop-cpu g l = l.halted.items ≡ listed (λ c. halted_in (record { 0 = c }) l.system) 0 l.cpu

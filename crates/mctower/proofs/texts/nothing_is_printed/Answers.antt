@@ -1,5 +1,0 @@
-use Rattle.mctower.proofs.TabledLemmas.{nothing_printed}
-use Rattle.mctower.proofs.texts.nothing_is_printed.Goals as goal
-
-pub returns : goal.returns
-returns c = nothing_printed

@@ -1,5 +1,0 @@
-use Rattle.mctower.proofs.ThreadsAreRuns.{runs_have_one_text as law}
-use Rattle.mctower.proofs.texts.runs_have_one_text.Goals as goal
-
-pub returns : goal.returns
-returns c = law

@@ -1,0 +1,7 @@
+//! What the program tells: lines and texts that go out. No call takes memory or waits, unless the
+//! sink's writer does.
+
+pub mod pieces;
+pub(crate) mod plan_lines;
+pub(crate) mod refusal_lines;
+pub mod state_lines;
