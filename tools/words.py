@@ -13,7 +13,7 @@ import sys
 from pathlib import Path
 
 ROOT = Path(__file__).resolve().parent.parent
-# A line a name that has two senses: why, or by which name one of them would be told apart.
+# A line a name that has two senses, and why.
 LIST = ROOT / "tools/words.txt"
 DEFINITION = re.compile(r"( *)((?:(?:unfoldable|abbrev|pub|record|data) )+)(?!(?:use|mod) )([^\s(:{]+)")
 CASE = re.compile(r" +([^\s(:{]+) :")

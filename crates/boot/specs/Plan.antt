@@ -70,16 +70,16 @@ unfoldable pub tables_at : Option Data → Result (List Members) BootError
 tables_at d = wanted Threads (list_at as_table d) >>= λ tables. ranged Threads (some_to THREADS tables)
 
 -- a program's fault in the words of the plan
-abbrev pub of_thread : {A : Type 0} → ℕ → Result A GuestError → Result A BootError
-of_thread t (Ok x) = Ok x
-of_thread t (Err (At line fault)) = Err (Guest (record { 0 = t }) line fault)
-of_thread t (Err (GuestNoMemory refused)) = Err (NoMemory refused)
+abbrev pub fault_of_thread : {A : Type 0} → ℕ → Result A GuestError → Result A BootError
+fault_of_thread t (Ok x) = Ok x
+fault_of_thread t (Err (At line fault)) = Err (Guest (record { 0 = t }) line fault)
+fault_of_thread t (Err (GuestNoMemory refused)) = Err (NoMemory refused)
 
 -- a thread's program, which names only buffers that the plan has
 unfoldable pub program_at : ℕ → ℕ → Option Data → Result (List Instruction) BootError
 program_at buffers t d =
     wanted (Program (record { 0 = t })) (list_at as_str d)
-    >>= λ lines. of_thread t (program_in lines)
+    >>= λ lines. fault_of_thread t (program_in lines)
     >>= λ program. ranged (Program (record { 0 = t })) (some_if (list_all (names_below buffers) program) program)
 
 -- a thread's table
@@ -123,11 +123,11 @@ Gives view (Ok x) ghost_of = ghost_of ≡ Ok (view x)
 Gives view (Err e) ghost_of = Fails e ghost_of
 
 -- the home of a thread, and its program
-abbrev pub home_of : BootPlan → ℕ → ℕ
-home_of plan t = slice_index (map (λ task. task.home) plan.tasks) t
+abbrev pub plan_home_of : BootPlan → ℕ → ℕ
+plan_home_of plan t = slice_index (map (λ task. task.home) plan.tasks) t
 
-abbrev pub program_of : BootPlan → ℕ → List Instruction
-program_of plan t = slice_index_or (map (λ task. task.program) plan.tasks) t []
+abbrev pub plan_program_of : BootPlan → ℕ → List Instruction
+plan_program_of plan t = slice_index_or (map (λ task. task.program) plan.tasks) t []
 
 -- a thread of so many CPUs and buffers: one of the CPUs is its home, and its program names only these buffers
 pub record IsTask (cpus buffers : ℕ) (task : Task) : Type 0 where

@@ -2,9 +2,9 @@
 use Rattle.{std.specs.Prelude.{List, map}, boot.specs.{declared.tasks.Task.Task as TaskInside, Plan.Task}}
 
 -- a thread
-abbrev pub task_of : TaskInside → Task
-task_of t = record { home = t.home.0; program = t.program }
+abbrev pub plan_task_of : TaskInside → Task
+plan_task_of t = record { home = t.home.0; program = t.program }
 
 -- the threads
 abbrev pub tasks_of : List TaskInside → List Task
-tasks_of tasks = map task_of tasks
+tasks_of tasks = map plan_task_of tasks

@@ -50,7 +50,7 @@ impl Model for Boot {
 
 impl Boot {
     ghost use Rattle.std.specs.Prelude.{◌≡◌, ◌<◌, length, IfOk};
-    ghost use Rattle.{toml.specs.View.table_view, boot.specs.Plan.{plan_of, plan_in, home_of, program_of, IsPlan, Gives}};
+    ghost use Rattle.{toml.specs.View.table_view, boot.specs.Plan.{plan_of, plan_in, plan_home_of, plan_program_of, IsPlan, Gives}};
 
     /// Reads a plan from its text.
     ///
@@ -141,7 +141,7 @@ impl Boot {
     /// Requires: the plan has a thread of this number.
     pub fn home(&self, thread: Tid) -> CpuId
         requires { thread.0 < length self.now.tasks }
-        ensures home { result.0 ≡ home_of self.now thread.0 }
+        ensures home { result.0 ≡ plan_home_of self.now thread.0 }
         ensures exists { result.0 < self.now.cpus }
     {
         self.tasks[usize::from(thread.0)].home
@@ -152,7 +152,7 @@ impl Boot {
     /// Requires: the plan has a thread of this number.
     pub fn program(&self, thread: Tid) -> &Program
         requires { thread.0 < length self.now.tasks }
-        ensures program { result.now ≡ program_of self.now thread.0 }
+        ensures program { result.now ≡ plan_program_of self.now thread.0 }
         ensures within { IsPlan self.now }
     {
         &self.tasks[usize::from(thread.0)].program

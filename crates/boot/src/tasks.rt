@@ -2,7 +2,7 @@
 
 ghost use Rattle.std.specs.Prelude.{◌≡◌, ◌<◌, ◌≤◌, map, length, codes, All, IfOk, IsTrue};
 ghost use Rattle.{event_log.specs.{declared.ids.TheConstants.THREADS, Reading.read_from}, toml.specs.{Data.get_member, View.table_view}};
-ghost use Rattle.{guest.specs.Instructions.{IsProgram, names_below}, boot.specs.{Plan.{program_at, task_at, tables_at, IsTask, Gives}, Seen.task_of}};
+ghost use Rattle.{guest.specs.Instructions.{IsProgram, names_below}, boot.specs.{Plan.{program_at, task_at, tables_at, IsTask, Gives}, Seen.plan_task_of}};
 ghost use Rattle.boot.specs.Seen.{tasks_of};
 
 use crate::numbers::number_at;
@@ -63,8 +63,8 @@ fn task_at(
     buffers: usize,
 ) -> Result<Task, BootError>
     requires { 1 ≤ cpus }
-    ensures task { Gives task_of result (task_at cpus buffers thread.0 (table_view table.now)) }
-    ensures within { IfOk result (λ task. IsTask cpus buffers (task_of task)) }
+    ensures task { Gives plan_task_of result (task_at cpus buffers thread.0 (table_view table.now)) }
+    ensures within { IfOk result (λ task. IsTask cpus buffers (plan_task_of task)) }
 {
     let home = number_at(table, "cpu", PlanKey::Cpu(thread), 0, u64::from(cpus) - 1)?;
     let program = program_at(alloc, table, thread, buffers)?;

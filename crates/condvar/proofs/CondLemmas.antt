@@ -6,11 +6,11 @@ use Rattle.layer_traits.specs.declared.{conditions.{CvLeave.TheVariants.Wait, Cv
 use Rattle.layer_traits.specs.declared.{queue_edits.{QueueBlock.QueueBlock, QueueEdit.QueueEdit, QueueAnswer.QueueAnswer}, queues.QueueEvent.QueueEvent}
 use Rattle.layer_traits.specs.declared.{scheds.SchedCall.SchedCall, sleeps.Outcome.Outcome, locked.{QEdit.TheVariants.Release, QOut.QOut}}
 use Rattle.layer_traits.specs.{declared.locked.{QOut.TheVariants.Released, Side.Side}, Layers.{Conditions.{MonitorRules, CvCall, cv_rules}, CvLaw.CvPolled}}
-use Rattle.layer_traits.specs.Layers.{CvLaw.{MayCallCond, MayWait, Waiting, cv_plan_for, left_reported, left_waiting, waited, waiting_with}, QLocking.LockState}
-use Rattle.layer_traits.specs.Layers.{QLocking.{lock_after, lock_caller, wait_list_in}, QLockLaw.{Locking, LockPolled, LocksAgree, lock_kernel, lock_plan}}
-use Rattle.layer_traits.specs.{Layers.{QLockLaw.slept_for, Queues.{Kernel, buffer_sections, moves_in}}, Threads.{ListsAgree.is_at, MoveRules.MoveRules}}
-use Rattle.layer_traits.specs.{Threads.Places.{AreMoves, Stands, Threads, one_if, wait_channel_of}, Blocks.Payloads.{cv_meant, cv_told, lock_meant, lock_told}}
-use Rattle.layer_traits.specs.{Blocks.{Payloads.{outcome_told, told_by}, QueueBlocks.{homes_in, inner}}, Polling.Plans.{Follows, Table}}
+use Rattle.layer_traits.specs.Layers.CvLaw.{MayCallCond, MayWait, Waiting, cv_plan_for, waiting_reported, left_waiting, waited, waiting_with}
+use Rattle.layer_traits.specs.Layers.{QLocking.{LockState, lock_after, lock_caller, wait_list_in}, QLockLaw.{Locking, LockPolled, LocksAgree, lock_kernel}}
+use Rattle.layer_traits.specs.{Layers.{QLockLaw.{lock_plan, slept_for}, Queues.{Kernel, buffer_sections, moves_in}}, Threads.ListsAgree.is_at}
+use Rattle.layer_traits.specs.{Threads.{MoveRules.MoveRules, Places.{AreMoves, Stands, Threads, one_if, wait_channel_of}}, Blocks.Payloads.{cv_meant, cv_told}}
+use Rattle.layer_traits.specs.{Blocks.{Payloads.{lock_meant, lock_told, outcome_told, told_by}, QueueBlocks.{homes_in, inner}}, Polling.Plans.{Follows, Table}}
 use Rattle.{layer_traits.proofs.{CallLemmas.follows_raised, CountLemmas.not_counted, PlaceLemmas.current_at}, thread_blocks.specs.Queues.is_in}
 use Rattle.condvar.specs.Waiting.{calls_wait, is_wait, is_waited, is_waiting, side_in}
 use Rattle.layer_traits.specs.declared.conditions.CvOut.TheVariants as answer
@@ -92,7 +92,7 @@ complete_told told parcel answer result same =
 left_by_out : {O : Type 0} (t : Tid) (b : BufId) (waits now : List (Option BufId)) (lock : Locking (CvOut O)) (out : QOut (CvOut O))
     (outcome : Outcome (QOut (CvOut O))) (result : Option (Outcome (QOut (CvOut O))))
     → now ≡ (if is_waiting out then slice_set waits t.0 (Some b) else waits) → result ≡ (if is_waiting out then None else Some outcome)
-    → waiting_with lock now result ≡ left_reported t b waits lock out outcome
+    → waiting_with lock now result ≡ waiting_reported t b waits lock out outcome
 left_by_out t b waits now lock (Released (answer.Waited side)) outcome result same told = rw (same, told) refl
 left_by_out t b waits now lock other outcome result same told = rw (same, told) refl
 

@@ -5,7 +5,7 @@ use Rattle.event_log.specs.{declared.{entries.Entry.Entry, ids.{BufId.BufId, Cpu
 use Rattle.{event_log.specs.{Streams.IsFirstInFirstOut, Traces.IsInterleaving}, guest.specs.declared.instructions.Instruction.Instruction}
 use Rattle.{guest.specs.Calls.{AreProgramsCalls, HasEnded}, layer_traits.specs.declared.calls.{Call.Call, Effect.Effect, Place.Place}}
 use Rattle.layer_traits.specs.{declared.moves.WaitList.{WaitList, TheVariants.{Sleepers, Receivers, Senders}}, Blocks.BufferEffects.contents_of}
-use Rattle.layer_traits.specs.{Layers.BufferLaw.Buffering, Threads.{OnePlace.{StandsOnce as InOnePlace, total}, Places.{AreMoves, Stands, Step, Threads}}}
+use Rattle.layer_traits.specs.{Layers.BufferLaw.Buffering, Threads.{OnePlace.{InOnePlace, total}, Places.{AreMoves, Stands, Step, Threads}}}
 use Rattle.{layer_traits.specs.{Threads.Places.{count_in, home_of, where_is}, Views.Observed.{IsOwnPlace, queue_place}}, thread_blocks.specs.Queues.is_in}
 use Rattle.cpu.specs.{declared.guests.Guest.Guest, Guests.{HasComeIn, is_ended}, Table.{Blocks.Name, Setups.Private}, Tables.private, Tower.Composed.named}
 use Rattle.cpu.specs.{Tower.Views.TowerName, Cpus.{IsOfHome, guest_at, of_thread, programs_of}}

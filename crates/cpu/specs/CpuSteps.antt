@@ -2,8 +2,8 @@
 use Rattle.std.specs.Prelude.{◌≡◌, ◌≢◌, ℕ, ◌+◌, ◌≤◌, length, Option, None, vec_capacity}
 use Rattle.layer_traits.specs.{Blocks.{Capacities.caps_in, QueueBlocks.homes_in}, declared.{call_layers.CallLayer.Ghosts, steps.{Reason.Reason, Step.Step}}}
 use Rattle.layer_traits.specs.{declared.steps.Step.TheVariants.Stepped, Layers.BufferLaw.MovesGrow, Views.OwnParts.threads_in}
-use Rattle.{event_log.specs.declared.ids.CpuId.CpuId, cpu.specs.{declared.cpus.Cpu.Cpu, Cpus.{ActsGrow, GuestsWent, IsCpu, SeenGrows, halted_at, programs_of}}}
-use Rattle.cpu.specs.{Cpus.reason_in, Tables.{IsTabled, WentByTable}}
+use Rattle.{event_log.specs.declared.ids.CpuId.CpuId, cpu.specs.{declared.cpus.Cpu.Cpu, Cpus.{ActsGrow, GuestsWent, IsCpu, SeenGrows, cpu_halted_at}}}
+use Rattle.cpu.specs.{Cpus.{programs_of, reason_in}, Tables.{IsTabled, WentByTable}}
 
 -- what always holds of the CPU
 abbrev pub IsCpuAt : {P L M : Type 0} → Ghosts P L M → M → Cpu P M → Type 0
@@ -17,7 +17,7 @@ IsTabledAt I m p = IsTabled (homes_in (I.opening m)) (caps_in (I.opening m)) p.n
 
 -- why the CPU takes no step
 abbrev pub stops_at : {P L M : Type 0} → Ghosts P L M → Cpu P M → Option Reason
-stops_at I p = reason_in (I.is_inside p.part) (halted_at (threads_in (I.own p.part)) p.guests.items p.trace.items p.limit)
+stops_at I p = reason_in (I.is_inside p.part) (cpu_halted_at (threads_in (I.own p.part)) p.guests.items p.trace.items p.limit)
 
 -- the CPU and its machine went on from the first two to the last two by one step of the table, which gives this answer
 abbrev pub WentAt : {P L M : Type 0} → Ghosts P L M → M → Cpu P M → M → Cpu P M → Step → Type 0

@@ -62,13 +62,13 @@ abbrev pub chosen : Threads → List (Option Guest) → Choice
 chosen own guests = chosen_at own.current own.hand own.ready guests
 
 -- a guest stands at this message call
-abbrev pub stands_at : Option Guest → Call → Type 0
-stands_at None call = ⊥
-stands_at (Some g) call = todo_of g ≡ Calls call
+abbrev pub stands_at_call : Option Guest → Call → Type 0
+stands_at_call None call = ⊥
+stands_at_call (Some g) call = todo_of g ≡ Calls call
 
 -- the guest of this thread, if it is one, stands at this call
 abbrev pub IsKept : Option Tid → Call → List (Option Guest) → Type 0
-IsKept by call guests = (t : Tid) → by ≡ Some t → stands_at (guest_at guests t.0) call
+IsKept by call guests = (t : Tid) → by ≡ Some t → stands_at_call (guest_at guests t.0) call
 
 -- what is under way while a choice is being done
 abbrev pub under_way_of : Choice → Option UnderWay
@@ -95,17 +95,17 @@ abbrev pub begins_at : Option Guest → Bool
 begins_at None = false
 begins_at (Some g) = not (is_calling g.stage)
 
-abbrev pub begins : Choice → List (Option Guest) → Bool
-begins (Polls t c) guests = begins_at (guest_at guests t.0)
-begins (Passes pass) guests = false
-begins (Computes t) guests = false
+abbrev pub begins_call : Choice → List (Option Guest) → Bool
+begins_call (Polls t c) guests = begins_at (guest_at guests t.0)
+begins_call (Passes pass) guests = false
+begins_call (Computes t) guests = false
 
 -- why a CPU with no section under way is halted: all its threads have ended, or the trace has no room for the call that would begin
-abbrev pub halted_at : Threads → List (Option Guest) → List Entry → ℕ → Option Reason
-halted_at own guests trace limit =
+abbrev pub cpu_halted_at : Threads → List (Option Guest) → List Entry → ℕ → Option Reason
+cpu_halted_at own guests trace limit =
     if not (is_some own.hand) && list_all is_over guests
     then Some AllEnded
-    else (if begins (chosen own guests) guests && (length trace + begun_count guests == limit) then Some TraceFull else None)
+    else (if begins_call (chosen own guests) guests && (length trace + begun_count guests == limit) then Some TraceFull else None)
 
 -- a section that is under way goes on
 abbrev pub reason_in : Bool → Option Reason → Option Reason

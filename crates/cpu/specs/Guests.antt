@@ -41,13 +41,13 @@ abbrev pub passed : Guest → Guest
 passed g = record g { thread = after_yield (next_of g.program g.thread) g.thread }
 
 -- a guest that has ended
-abbrev pub ended : Guest → Guest
-ended g = record g { stage = Ended }
+abbrev pub guest_ended : Guest → Guest
+guest_ended g = record g { stage = Ended }
 
 -- the guest of the thread that runs, after a pass is done
 abbrev pub after_pass : Pass → Guest → Guest
 after_pass YieldNow g = passed g
-after_pass End g = ended g
+after_pass End g = guest_ended g
 after_pass other g = g
 
 -- the effect that came in a poll, after which the thread's call state has this one: a call whose effect has come has no other
@@ -89,11 +89,11 @@ after_received kind.RecvClosed into k message s = moved_aside s k
 after_received other into k message s = moved_into s into message
 
 -- the private state that an effect will leave once its call replies
-abbrev pub after_effect : Instruction → Effect → State → State
-after_effect (ins.Send b from k) f s = after_sent f.kind k s
-after_effect (ins.Recv b into k) f s = after_received f.kind into k f.value s
-after_effect (ins.Close b) f s = moved_on s
-after_effect other f s = s
+abbrev pub state_after_effect : Instruction → Effect → State → State
+state_after_effect (ins.Send b from k) f s = after_sent f.kind k s
+state_after_effect (ins.Recv b into k) f s = after_received f.kind into k f.value s
+state_after_effect (ins.Close b) f s = moved_on s
+state_after_effect other f s = s
 
 -- a guest has come by its entries to where it stands, by its stage: before its effect they lead to its state; after it, to the state
 -- after the effect
@@ -102,7 +102,7 @@ HasComeIn Idle program s es begun effect = (begun ≡ None) × IsProgramsCalls p
 HasComeIn Begun program s es begun effect = (c : Call) × (todo_at s (next_of program s) ≡ Calls c) × (begun ≡ Some c)
     × (effect ≡ None) × IsProgramsCalls program es s
 HasComeIn Done program s es begun effect = (c : Call) × (f : Effect) × (todo_at s (next_of program s) ≡ Calls c) × (begun ≡ Some c)
-    × (effect ≡ Some f) × IsEffectOf c f × IsProgramsCalls program es (after_effect (next_of program s) f s)
+    × (effect ≡ Some f) × IsEffectOf c f × IsProgramsCalls program es (state_after_effect (next_of program s) f s)
 HasComeIn Ended program s es begun effect = (begun ≡ None) × IsProgramsCalls program es s × HasEnded program s
 
 -- a call state in no call is between calls

@@ -21,8 +21,8 @@ pub record CallsGoOn (c : CpuId) (old new : Shown) : Type 0 where
 -- returned is in the order, and of each thread at most one more, which it is inside
 pub data IsLinearizable (old : Shown) : List CpuId → Shown → Type 0 where
   begins : IsLinearizable old [] old
-  rests : {steps : List CpuId} {s : Shown} (c : CpuId) → IsLinearizable old steps s → IsLinearizable old (steps ++ c ∷ []) s
-  takes : {steps : List CpuId} {s : Shown} (c : CpuId) (r : Shown) → IsLinearizable old steps s → CallsGoOn c s r → IsMoment r
+  takes_none : {steps : List CpuId} {s : Shown} (c : CpuId) → IsLinearizable old steps s → IsLinearizable old (steps ++ c ∷ []) s
+  takes_step : {steps : List CpuId} {s : Shown} (c : CpuId) (r : Shown) → IsLinearizable old steps s → CallsGoOn c s r → IsMoment r
       → IsLinearizable old (steps ++ c ∷ []) r
 
 -- call a comes before call b

@@ -4,9 +4,9 @@ use Rattle.event_log.specs.declared.{entries.Kind.Kind, ids.{BufId.BufId, LockId
 use Rattle.event_log.specs.{declared.ids.CpuId.CpuId, Actions.phase, Buffers.{IsAllowedEffect, items_of}, Messages.Message, Runs.{Group, Receives, Sends}}
 use Rattle.{event_log.specs.Runs.group_of, layer_traits.specs.{declared.{calls.Place.Place, locked.Side.Side}, Threads.Places.pending_by}}
 use Rattle.{layer_traits.specs.Polling.Plans.is_in_section, thread_blocks.specs.Queues.is_in, cpu.specs.Claims.{CpuShown, IsPlaceOf, Shown, waiters_at}}
-use Rattle.cpu.specs.{Claims.buffer_at, Cpus.halted_at as own_halted_at, Sound.IsSetupFor, Systems.whole_of, Wakeups.Quiet.{IsLive, IsNextEffect, IsStuck}}
-use Rattle.cpu.specs.Table.{Blocks.{Buffer, OfBuffer, OfPending, front, stands_in}, Setups.{Private, Setup, home_of, stands_at, thread_at}, Steps.Whole}
-use Rattle.cpu.specs.Table.{Steps.{block_at, cpu_numbered, halted_at}, Edits.{line_of, on_side}}
+use Rattle.cpu.specs.{Claims.buffer_at, Cpus.cpu_halted_at, Sound.IsSetupFor, Systems.whole_of, Wakeups.Quiet.{IsLive, IsNextEffect, IsStuck}}
+use Rattle.cpu.specs.Table.{Blocks.{Buffer, OfBuffer, OfPending, front, stands_in}, Setups.{Private, Setup, home_cpu, stands_at, thread_at}, Steps.Whole}
+use Rattle.cpu.specs.Table.{Steps.{block_at, cpu_numbered, halted_at}, Edits.{line_on, on_side}}
 use Rattle.layer_traits.specs.declared.calls.Place.TheVariants as place
 
 -- CPU c of the table has a private state of which this holds
@@ -27,13 +27,13 @@ IsPlaceByTable setup w t (place.Hand c) = CpuHas w c (λ p. p.hand ≡ Some t)
 IsPlaceByTable setup w t (place.LockSleeper b) = BlockHas setup w b (λ k. stands_in t k.sleepers ≡ true)
 IsPlaceByTable setup w t (place.WaitRecv b) = BlockHas setup w b (λ k. stands_in t k.waiting_receivers ≡ true)
 IsPlaceByTable setup w t (place.WaitSend b) = BlockHas setup w b (λ k. stands_in t k.waiting_senders ≡ true)
-IsPlaceByTable setup w t place.Ended = CpuHas w (home_of setup t) (λ p. (thread_at p t).ended ≡ true)
+IsPlaceByTable setup w t place.Ended = CpuHas w (home_cpu setup t) (λ p. (thread_at p t).ended ≡ true)
 
 -- CPU k is told as it is: whether it has a section under way, why it is halted, its threads, its trace, which threads have ended, and who
 -- is pending for it
 pub record CpuIsObserved (setup : Setup) (s : Shown) (k : ℕ) (p : CpuShown) : Type 0 where
   pub inside : is_in_section (phase (cpu_numbered k) s.log) ≡ p.busy
-  pub halted : halted_at setup (cpu_numbered k) p.private ≡ own_halted_at p.own p.guests p.trace p.limit
+  pub halted : halted_at setup (cpu_numbered k) p.private ≡ cpu_halted_at p.own p.guests p.trace p.limit
   pub current : p.private.current ≡ p.own.current
   pub ready : p.private.ready ≡ p.own.ready
   pub hand : p.private.hand ≡ p.own.hand
@@ -57,8 +57,8 @@ AllowsNow s b e m = IsAllowedEffect e (slice_index_or s.closed b false) (slice_i
 
 -- no wake-up is lost at buffer b, of what the system tells: while nobody owns its lock, the first of neither line waits although the buffer
 -- allows an effect of its call
-pub record IsAwake (s : Shown) (b : ℕ) (k : Buffer) : Type 0 where
-  pub on : (side : Side) → slice_index_or s.owners b None ≡ None → (t : Tid) (m : Message) → front (line_of side k) ≡ Some t
+pub record IsAwakeAt (s : Shown) (b : ℕ) (k : Buffer) : Type 0 where
+  pub on : (side : Side) → slice_index_or s.owners b None ≡ None → (t : Tid) (m : Message) → front (line_on side k) ≡ Some t
       → stands_in t (on_side side (waiters_at s b).receivers (waiters_at s b).senders) ≡ true
       → (e : Kind) → group_of e ≡ on_side side Receives Sends → AllowsNow s b e m → ⊥
 
@@ -67,7 +67,7 @@ pub record HasBuffer (setup : Setup) (s : Shown) (b : ℕ) : Type 0 where
   pub buffer : Buffer
   pub there : block_at setup (AtBuffer (buffer_at b)) s.log ≡ Some (OfBuffer buffer)
   pub told : BufferIsObserved s b buffer
-  pub awake : IsAwake s b buffer
+  pub awake : IsAwakeAt s b buffer
 
 -- each CPU is told as it is, and so is each buffer and the place of each thread; there is a CPU, and there are no more threads than a
 -- machine may have

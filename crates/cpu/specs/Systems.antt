@@ -3,7 +3,7 @@ use Rattle.std.specs.Prelude.{◌≡◌, ℕ, ◌+◌, ◌^◌, ◌<◌, ◌≤�
 use Rattle.std.specs.List.{AllByRecursion}
 use Rattle.event_log.specs.{declared.{entries.Entry.Entry, ids.{CpuId.CpuId, Tid.Tid, TheConstants.{CPUS, THREADS}}}, Actions.{Action, Rests, phase}}
 use Rattle.layer_traits.specs.{declared.steps.{Reason.{Reason, TheVariants.StepsUsed}, Step.{Step, TheVariants.Stepped}}, Threads.Places.home_of}
-use Rattle.cpu.specs.{Table.{Setups.Setup, Steps.{Stepping, Whole, system_step, cpu_step}}, Tables.IsSetupOf, Cpus.{halted_at, reason_in, step_answer}}
+use Rattle.cpu.specs.{Table.{Setups.Setup, Steps.{Stepping, Whole, system_step, cpu_step}}, Tables.IsSetupOf, Cpus.{cpu_halted_at, reason_in, step_answer}}
 use Rattle.cpu.specs.{Claims.{CpuShown, IsMoment, Shown, programs_in}, Linear.CallsGoOn}
 
 -- what no step changes: capacities, homes, programs, the number of CPUs, the room of each trace, and the room for steps
@@ -17,7 +17,7 @@ pub record SamePlan (s r : Shown) : Type 0 where
 
 -- a CPU's own reason to take no step: none while it has a section under way
 abbrev pub own_reason : CpuShown → Option Reason
-own_reason p = reason_in p.busy (halted_at p.own p.guests p.trace p.limit)
+own_reason p = reason_in p.busy (cpu_halted_at p.own p.guests p.trace p.limit)
 
 abbrev pub own_reason_in : Option CpuShown → Option Reason
 own_reason_in None = None
@@ -87,7 +87,7 @@ pub data WentOn (IsStepwise : Type 0) (c : CpuId) (old new : Shown) : Type 0 whe
 
 -- what the steps of these CPUs do, one after the other
 pub data Ran (IsStepwise : Type 0) (start : Shown) : List CpuId → Shown → Type 0 where
-  starts : Ran IsStepwise start [] start
+  took_none : Ran IsStepwise start [] start
   goes : {steps : List CpuId} {s : Shown} (c : CpuId) (r : Shown) → Ran IsStepwise start steps s → WentOn IsStepwise c s r
       → Ran IsStepwise start (steps ++ c ∷ []) r
 

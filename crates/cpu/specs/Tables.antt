@@ -8,16 +8,16 @@ use Rattle.cpu.specs.{Table.{Setups.program_of, Steps.cpu_step}, Tower.{Views.{T
 use Rattle.cpu.specs.Tower.Positions.{IsPart}
 
 -- the guests' states; a thread of another home stays at its start
-abbrev pub state_of : Option Guest → State
-state_of None = at_start
-state_of (Some g) = g.thread
+abbrev pub guest_state_of : Option Guest → State
+guest_state_of None = at_start
+guest_state_of (Some g) = g.thread
 
-abbrev pub states : List (Option Guest) → List State
-states guests = map state_of guests
+abbrev pub guest_states : List (Option Guest) → List State
+guest_states guests = map guest_state_of guests
 
 -- a CPU as the table's private state
 abbrev pub private : Buffering → List (Option Guest) → List Entry → Private
-private own guests trace = private_of own (states guests) trace
+private own guests trace = private_of own (guest_states guests) trace
 
 -- a setup of a machine with these homes and capacities, for a CPU with these guests and this limit of its trace; the programs of other
 -- homes are free

@@ -39,7 +39,7 @@ pub struct Cpu<I: CallLayer<IpcLaw>> {
 impl<I: CallLayer<IpcLaw>> Cpu<I> {
     ghost use Rattle.layer_traits.specs.declared.{steps.{Reason.Reason, Step.TheVariants.{Halted, Stepped}}, passes.Pass.TheVariants.Drain};
     ghost use Rattle.cpu.specs.{declared.cpus.Choice.TheVariants.{Polls, Passes, Computes}, CpuSteps.{IsCpuAt, IsTabledAt, Leaves, RunsAt, WentAt, stops_at}};
-    ghost use Rattle.cpu.specs.{CpuSteps.SteppedAt, Cpus.{chosen, halted_at, step_answer}};
+    ghost use Rattle.cpu.specs.{CpuSteps.SteppedAt, Cpus.{chosen, cpu_halted_at, step_answer}};
 
     /// What the CPU does next, where it is not halted.
     #[inline(always)]
@@ -71,7 +71,7 @@ impl<I: CallLayer<IpcLaw>> Cpu<I> {
     #[inline(always)]
     pub fn halted(&self) -> Option<Reason>
         requires { (t : _) → (threads_in (I.own self.now.part)).current ≡ Some t → t.0 < length self.now.guests.items }
-        ensures { result ≡ halted_at (threads_in (I.own self.now.part)) self.now.guests.items self.now.trace.items self.now.limit }
+        ensures { result ≡ cpu_halted_at (threads_in (I.own self.now.part)) self.now.guests.items self.now.trace.items self.now.limit }
     {
         if self.guests.are_over() && self.part.hand().is_none() {
             return Some(Reason::AllEnded);

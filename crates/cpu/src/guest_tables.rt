@@ -2,7 +2,7 @@
 
 ghost use Rattle.std.specs.{Prelude.{◌≡◌, ◌+◌, ◌^◌, ◌<◌, ◌≤◌, not, length, if◌then◌else◌, Some, None, IfSome, is_some}, List.{count_by, list_all}};
 ghost use Rattle.{layer_traits.specs.{Threads.Places.one_if, Layers.BufferLaw.answer_with, declared.calls.Call.Call}, cpu.specs.Guests.{computed, is_begun}};
-ghost use Rattle.cpu.specs.{Guests.{is_ended, polled}, Cpus.{begun_count, fresh_at, guest_at, is_begun_guest, is_over, passed_by, stands_at, with_guest}};
+ghost use Rattle.cpu.specs.{Guests.{is_ended, polled}, Cpus.{begun_count, fresh_at, guest_at, is_begun_guest, is_over, passed_by, stands_at_call, with_guest}};
 
 use crate::guests::{Guest, GuestStage};
 use event_log::{BufId, Tid};
@@ -99,7 +99,7 @@ impl Guests {
     #[inline(always)]
     pub(crate) fn call_of(&mut self, thread: Tid, asked: Ghost<Call>) -> &Call
         requires within { thread.0 < length self.old.items }
-        requires asked { stands_at (guest_at self.old.items thread.0) asked }
+        requires asked { stands_at_call (guest_at self.old.items thread.0) asked }
         ensures call { result.now ≡ asked }
         ensures* same { sem 𝓛 (Rests the_row self.entry (λ left. left ≡ self.old)) }
     {
@@ -115,7 +115,7 @@ impl Guests {
     /// is kept. So nobody reads its program.
     #[inline(always)]
     pub(crate) fn kept_for(&self, thread: Tid) -> Option<Ghost<Call>>
-        ensures { IfSome result (λ call. stands_at (guest_at self.now.items thread.0) call) }
+        ensures { IfSome result (λ call. stands_at_call (guest_at self.now.items thread.0) call) }
     {
         if self.kept_by == Some(thread) {
             Some(Ghost::of(&self.kept))
@@ -202,7 +202,7 @@ impl Guests {
 /// Makes the message call at which this guest stands, if it stands at one.
 #[inline(always)]
 fn keep_call(guest: &Option<Guest>, kept: &mut Call)
-    ensures { (call : Call) → stands_at guest.now call → kept.new ≡ call }
+    ensures { (call : Call) → stands_at_call guest.now call → kept.new ≡ call }
 {
     if let Some(guest) = guest {
         guest.make_call(kept);

@@ -73,7 +73,7 @@ pub struct Guest {
 }
 
 impl Guest {
-    ghost use Rattle.cpu.specs.Guests.{todo_of, new_guest, computed, passed, ended, after_pass, fresh_effect, polled, is_calling};
+    ghost use Rattle.cpu.specs.Guests.{todo_of, new_guest, computed, passed, guest_ended, after_pass, fresh_effect, polled, is_calling};
 
     /// A guest before its first instruction.
     pub(crate) fn new(program: Program) -> Guest
@@ -166,7 +166,7 @@ impl Guest {
     /// Ends the guest.
     #[inline(always)]
     fn end(&mut self)
-        ensures { self.new ≡ ended self.old }
+        ensures { self.new ≡ guest_ended self.old }
     {
         self.stage = GuestStage::Ended;
     }

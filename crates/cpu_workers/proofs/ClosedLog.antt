@@ -76,12 +76,12 @@ module _ (setup : Setup) (table_view : TableView (QueueBlock LockBlock)) (so : S
   acts_words = acts_of edit_of log
 
   abbrev acts_slept : List (Action (QueueEdit (QLockEdit (CvEdit BufferEdit) CvLeave)))
-  acts_slept = map (renamed (renamed_edit sleep.edit_in)) acts_words
+  acts_slept = map (renamed (renamed_edit sleep.slept_edit)) acts_words
 
   -- The actions are legal.
   pub acts_legal : AreLegal acts
   acts_legal =
-      legal_renamed (renamed_edit lock.edit_in) acts_slept (legal_renamed (renamed_edit sleep.edit_in) acts_words
+      legal_renamed (renamed_edit lock.lock_call) acts_slept (legal_renamed (renamed_edit sleep.slept_edit) acts_words
       (legal_acts edit_of log (words_legal (tower_rules.allowed opening) log legal)))
 
   -- The calls of the layers above are allowed.
@@ -90,25 +90,25 @@ module _ (setup : Setup) (table_view : TableView (QueueBlock LockBlock)) (so : S
       (sections_allowed (tower_rules.allowed opening) log legal)
 
   abbrev events : List (QueueEvent (CvCall BufferEdit))
-  events = renamed_events lock.edit_in (renamed_events sleep.edit_in (map event_of (sections_in acts_words)))
+  events = renamed_events lock.lock_call (renamed_events sleep.slept_edit (map event_of (sections_in acts_words)))
 
   lawful_calls : IsLawful (QueueAllowed (lock_kernel (cv_rules buffer_monitor_rules) above)) events
   lawful_calls =
-      locks_lawful (cv_rules buffer_monitor_rules) (viewed state_of opening) (renamed_events sleep.edit_in (map event_of (sections_in acts_words)))
+      locks_lawful (cv_rules buffer_monitor_rules) (viewed state_of opening) (renamed_events sleep.slept_edit (map event_of (sections_in acts_words)))
       (nested_lawful (busy_rules (cv_rules buffer_monitor_rules)) opening (map event_of (sections_in acts_words))
       (lawful_events (nested_rules (busy_rules (cv_rules buffer_monitor_rules))) (nested_moves (busy_rules (cv_rules buffer_monitor_rules))) opening
       (sections_in acts_words) lawful_words))
 
   events_are : events ≡ map event_of (sections_in acts)
-  events_are = ap (renamed_events lock.edit_in) (seen_renamed sleep.edit_in acts_words) ∙ seen_renamed lock.edit_in acts_slept
+  events_are = ap (renamed_events lock.lock_call) (seen_renamed sleep.slept_edit acts_words) ∙ seen_renamed lock.lock_call acts_slept
 
-  pub proper : AreProper (sections_in acts)
-  proper = proper_renamed lock.edit_in acts_slept (proper_renamed sleep.edit_in acts_words
+  pub sections_proper : AreProper (sections_in acts)
+  sections_proper = proper_renamed lock.lock_call acts_slept (proper_renamed sleep.slept_edit acts_words
       (lawful_proper (nested_rules (busy_rules (cv_rules buffer_monitor_rules))) (nested_moves (busy_rules (cv_rules buffer_monitor_rules))) opening
       (sections_in acts_words) lawful_words))
 
-  pub starts : StartsWell above
-  starts = starts_viewed nested_lock_of (viewed state_of opening) (starts_viewed state_of opening so.starts)
+  pub opening_starts : StartsWell above
+  opening_starts = starts_viewed nested_lock_of (viewed state_of opening) (starts_viewed state_of opening so.starts)
 
   -- Each effect may come after those before it.
   pub effects_may : IsLawful (MayTakeEffect setup.caps) (effects_of setup.caps acts)
@@ -121,20 +121,20 @@ module _ (setup : Setup) (table_view : TableView (QueueBlock LockBlock)) (so : S
   left_above : (at : LockId) → guarded above acts at ≡ seen_above (λ l. block_after tower_rules.edited opening l (sections log)) at
   left_above at =
       ap (λ l. block_after (queue_edited (lock_edited (cv_rules buffer_monitor_rules))) above at l)
-      (sections_in_renamed (renamed_edit lock.edit_in) acts_slept
-      ∙ ap (map (renamed_section (renamed_edit lock.edit_in)))
-      (sections_in_renamed (renamed_edit sleep.edit_in) acts_words
-      ∙ ap (map (renamed_section (renamed_edit sleep.edit_in))) (sections_acts edit_of log)))
-      ∙ block_seen (sleep_edited (busy_rules (cv_rules buffer_monitor_rules))) (lock_edited (cv_rules buffer_monitor_rules)) lock.edit_in nested_lock_of
-      (locked.edits (cv_rules buffer_monitor_rules)) (viewed state_of opening) at (map (renamed_section (renamed_edit sleep.edit_in)) (sections log))
+      (sections_in_renamed (renamed_edit lock.lock_call) acts_slept
+      ∙ ap (map (renamed_section (renamed_edit lock.lock_call)))
+      (sections_in_renamed (renamed_edit sleep.slept_edit) acts_words
+      ∙ ap (map (renamed_section (renamed_edit sleep.slept_edit))) (sections_acts edit_of log)))
+      ∙ block_seen (sleep_edited (busy_rules (cv_rules buffer_monitor_rules))) (lock_edited (cv_rules buffer_monitor_rules)) lock.lock_call nested_lock_of
+      (locked.edits (cv_rules buffer_monitor_rules)) (viewed state_of opening) at (map (renamed_section (renamed_edit sleep.slept_edit)) (sections log))
       ∙ ap (option_map (viewed_block nested_lock_of))
       (block_seen (nested_edited (busy_rules (cv_rules buffer_monitor_rules))) (sleep_edited (busy_rules
-      (cv_rules buffer_monitor_rules))) sleep.edit_in state_of
+      (cv_rules buffer_monitor_rules))) sleep.slept_edit state_of
       (λ d a. refl) opening at (sections log))
 
   opens : (c : CpuId) → c.0 < setup.cpus → OpensSo setup.caps setup.homes c above
   opens c within =
-      opens_so setup.caps setup.homes c above starts
+      opens_so setup.caps setup.homes c above opening_starts
       (homes_viewed nested_lock_of (viewed state_of opening) ∙ homes_viewed state_of opening ∙ so.homes)
       (viewed_there nested_lock_of (viewed state_of opening) (Pending c) (viewed_there state_of opening (Pending c) (so.queues c within))) so.locks
 
@@ -178,7 +178,7 @@ module _ (setup : Setup) (table_view : TableView (QueueBlock LockBlock)) (so : S
         (λ i. ItemsAre above acts b (items_of (contents_of (caps_same i) (effects_in (so.locks i) (buffer_sections (events_are i)))) b.0)
         (slice_index (caps_same i) b.0) (is_closed (effects_in (so.locks i) (buffer_sections (events_are i))) b.0))
         (items_acted above (boots_well above setup.caps so.locks few) b (subst (λ (l : List ℕ). b.0 < length l) (sym caps_same) within)
-        events acts starts proper events_are lawful_calls)
+        events acts opening_starts sections_proper events_are lawful_calls)
 
     messages_read : (o : Option TowerBlock) (held : BufferLock) → above_of o ≡ Some held → messages_in (option_map view o) ≡ held.above.items
     messages_read o held is = grind arith

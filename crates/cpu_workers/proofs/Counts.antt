@@ -6,7 +6,7 @@ use Rattle.cpu_workers.proofs.{TableKeys.{Back, one_site, came_at}, OneOrder.all
 use Rattle.cpu_workers.specs.{declared.counting.{AddOne.AddOne, TheConstants.NUMBER}, Counts.{counting, sections_at, made, HasMade, AllHaveMade}}
 use Rattle.{cpu_workers.specs.Counts.IsNumberOfFrees, layer_traits.specs.{Threads.OnePlace.{total, cpu_at}, declared.edits.Mark.Mark, Protocols.OneLock.opened}}
 use Rattle.layer_traits.{specs.{Protocols.WordsProtocol.{edit_of, sections}, Layers.BufferLaw.MayGoOn}, proofs.OnePlaceLemmas.{total_same, total_none}}
-use Rattle.table_machine.{proofs.Fresh.length_new, specs.SeatViews.{TableView, SeatView, site_of, new_seat_view, new_seat_views, Closes}}
+use Rattle.table_machine.{proofs.Fresh.length_new, specs.SeatViews.{TableView, SeatView, site_of, new_seat_view, new_seat_views, ClosesTable}}
 use Rattle.event_log.{proofs.{Foreign.own_others, Same.{same_cpu_self, same_lock_self}}, specs.declared.ids.{TheConstants.CPUS, CpuId.CpuId, LockId.LockId}}
 use Rattle.event_log.specs.{declared.events.Event.Event, History.{own_events, same_lock, AreOthers}, WordsLog.{Idle, cpu_of_event, frees, lock_phase}}
 use Rattle.event_log.specs.Sections.{Section, block_after, cpu_of_section, sections_of}
@@ -93,7 +93,7 @@ small_product : (a b most : ℕ) → a * most < 2 ^ 64 → b ≤ most → a * b 
 small_product a b most small few = grind arith
 
 module _ (times : ℕ) (table_view : TableView ℕ) (came : List (SeatView AddOne ℕ)) (blocks : List (LockId × ℕ))
-    (all : AllHaveMade NUMBER (new_seat_views table_view table_view.cpus) came times) (closes : Closes counting table_view came blocks) where
+    (all : AllHaveMade NUMBER (new_seat_views table_view table_view.cpus) came times) (closes : ClosesTable counting table_view came blocks) where
   -- the Frees of the log of the closed table: each CPU of the table has so many
   frees_are : frees NUMBER closes.log ≡ times * table_view.cpus
   frees_are =

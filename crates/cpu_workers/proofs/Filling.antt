@@ -50,8 +50,8 @@ both_same (x ∷ xs) ys same = grind (arith, both_same xs)
 
 -- Loops by number, which take their elements from the front of a list.
 
-pub within : {n count many long : ℕ} → n < count → count ≡ many → many ≡ long → n < long
-within below same long = omega (arith, below, same, long)
+pub is_below : {n count many long : ℕ} → n < count → count ≡ many → many ≡ long → n < long
+is_below below same long = omega (arith, below, same, long)
 
 module _ {X : Type 0} (all : List X) (n : ℕ) {left : List X} (is : left ≡ drop n all) (below : n < length all) where
   -- while not all was taken, something is left

@@ -8,13 +8,13 @@ use Rattle.{event_log.proofs.Foreign.own_append, layer_traits.specs.declared.loc
 use Rattle.layer_traits.specs.declared.{conditions.CvEdit.TheVariants.Edit, buffer_edits.BufferEdit.{BufferEdit, TheVariants.{TryPut, TryTake}}}
 use Rattle.layer_traits.specs.{declared.queue_edits.QueueEdit.TheVariants.{Push, TakeAll, Above}, Views.Acted.guarded, Blocks.BufferBlocks.is_next}
 use Rattle.layer_traits.specs.Blocks.{BufferEffects.{effect_of, effect_on, opening_locks, drawn}, BufferProtocol.{BufferSection, BufferLock, buffer_rules}}
-use Rattle.layer_traits.specs.Blocks.{BufferProtocol.buffer_at as lock_at, QueueBlocks.{StartsWell, above_of, inner}, QueueRules.AreProper}
-use Rattle.layer_traits.specs.{Layers.{Conditions.CvCall, Queues.{buffer_at, buffer_sections, event_of}, QLocking.lock_after}, Protocols.Protocol.section}
+use Rattle.layer_traits.specs.Blocks.{BufferProtocol.buffer_lock_at, QueueBlocks.{StartsWell, above_of, inner}, QueueRules.AreProper}
+use Rattle.layer_traits.specs.{Layers.{Conditions.CvCall, Queues.{buffer_guarded, buffer_sections, event_of}, QLocking.lock_after}, Protocols.Protocol.section}
 use Rattle.{layer_traits.proofs.{ActedLemmas.lock_is, PlanRenaming.map-append}, cpu.specs.{Cpus.of_cpu, Table.Setups.{Setup, opening as table_opening}}}
 use Rattle.cpu.specs.{Table.Steps.block_at, Tower.{Composed.named, Views.{TowerBlock, TowerName, name_of, view}}, Wakeups.Lost.IsWorked}
-use Rattle.{cpu.proofs.{StepTable.PartsOfTable.block_read, WholeSystems.RealTime.come, Wakeups.CpusByTable.worked_fair}, cpu_workers.specs.Fronts.IsFront}
-use Rattle.cpu_workers.{specs.Orders.{IsTraceOf, effects_of}, proofs.{OneOrder.{adds, fronts_keep_order}, TableTraces.{FrontOf, front_of, grown, total}}}
-use Rattle.{cpu_workers.proofs.ThreadsFollow.threads_follow, fifo_buffer.specs.Laws.Tallies.effect_position}
+use Rattle.cpu.proofs.{StepTable.PartsOfTable.block_read, WholeSystems.RealTime.comes_before_more, Wakeups.CpusByTable.worked_fair}
+use Rattle.cpu_workers.{specs.{Fronts.IsFront, Orders.{IsTraceOf, effects_of}}, proofs.{OneOrder.{act_adds, fronts_keep_order}, TableTraces.FrontOf}}
+use Rattle.{cpu_workers.proofs.{TableTraces.{front_of, grown, total}, ThreadsFollow.threads_follow}, fifo_buffer.specs.Laws.Tallies.effect_position}
 use Rattle.layer_traits.specs.declared.queue_edits.QueueBlock.TheVariants as block
 
 -- An effect comes just where the table's block lets it.
@@ -36,7 +36,7 @@ module _ (setup : Setup) (opening : LockId → Option TowerBlock) (starts : Star
   -- the effect of a section comes where the table's block lets it, since that is the view of the layers' block
   give_grown : (cpu : CpuId) (lock : LockId) (call : CvCall BufferEdit) (past : List (Action TowerName))
       → AreProper (sections_in (Give cpu lock (Above call) ∷ past))
-      → length (option_to_list (effect_of (opening_locks setup.caps) (sections_before past) (section cpu (AtBuffer (buffer_at lock)) call)))
+      → length (option_to_list (effect_of (opening_locks setup.caps) (sections_before past) (section cpu (AtBuffer (buffer_guarded lock)) call)))
       ≡ grown (name_of (Above call)) (block_at setup lock (named past))
   give_grown cpu (Pending d) call past proper = absurd (cc proper.0)
   give_grown cpu (AtBuffer b) call past proper =
@@ -56,19 +56,20 @@ module _ (setup : Setup) (opening : LockId → Option TowerBlock) (starts : Star
         (grind arith)
 
     -- a CPU has as many effects in a list as the table's trace has entries
-    pub counted : (acts : List (Action TowerName)) → AreProper (sections_in acts) → length (of_cpu c (effects_of setup.caps acts)) ≡ total setup c (named acts)
-    counted [] proper = refl
-    counted (Take cpu lock ∷ past) proper = grind (arith, counted past proper)
-    counted (Try cpu lock hit ∷ past) proper = grind (arith, counted past proper)
-    counted (Give cpu lock (Push t) ∷ past) proper = grind (arith, counted past proper.1)
-    counted (Give cpu lock TakeAll ∷ past) proper = grind (arith, counted past proper.1)
-    counted (Give cpu lock (Above call) ∷ past) proper =
-        let b = buffer_at lock in
+    pub effects_so : (acts : List (Action TowerName)) → AreProper (sections_in acts)
+        → length (of_cpu c (effects_of setup.caps acts)) ≡ total setup c (named acts)
+    effects_so [] proper = refl
+    effects_so (Take cpu lock ∷ past) proper = grind (arith, effects_so past proper)
+    effects_so (Try cpu lock hit ∷ past) proper = grind (arith, effects_so past proper)
+    effects_so (Give cpu lock (Push t) ∷ past) proper = grind (arith, effects_so past proper.1)
+    effects_so (Give cpu lock TakeAll ∷ past) proper = grind (arith, effects_so past proper.1)
+    effects_so (Give cpu lock (Above call) ∷ past) proper =
+        let b = buffer_guarded lock in
         let effect = effect_of (opening_locks setup.caps) (sections_before past) (section cpu (AtBuffer b) call) in
         let its = λ (e : Entry) (at : effect ≡ Some e). (effect_position cpu b call (λ side t. drawn (opening_locks setup.caps) (AtBuffer b) side t
-        (sections_before past)) (lock_at (opening_locks setup.caps) (sections_before past) (AtBuffer b)) e at).0 in
+        (sections_before past)) (buffer_lock_at (opening_locks setup.caps) (sections_before past) (AtBuffer b)) e at).0 in
         with_effect effect cpu (effects_of setup.caps past) its
-        ∙ (λ i. if same_cpu cpu c then give_grown cpu lock call past proper i + counted past proper.1 i else counted past proper.1 i)
+        ∙ (λ i. if same_cpu cpu c then give_grown cpu lock call past proper i + effects_so past proper.1 i else effects_so past proper.1 i)
 
 -- A front of the list.
 
@@ -94,7 +95,7 @@ effects_since_front : (caps : List ℕ) (later earlier : List (Action TowerName)
     → (more : List Entry) × (effects_of caps (later ++ earlier) ≡ more ++ effects_of caps earlier)
 effects_since_front caps [] earlier = ([], refl)
 effects_since_front caps (a ∷ later) earlier =
-    let one = adds caps a (later ++ earlier) in
+    let one = act_adds caps a (later ++ earlier) in
     let before = effects_since_front caps later earlier in (
       option_to_list one.effect ++ before.0,
       one.is ∙ ap (λ l. option_to_list one.effect ++ l) before.1 ∙ sym (append_assoc (option_to_list one.effect) before.0 (effects_of caps earlier)),
@@ -148,5 +149,5 @@ module _ (setup : Setup) (acts : List (Action TowerName)) (worked : IsWorked set
               (there.counted ∙ sym (many c later earlier is));
           follow = λ c below t. let there = front c below in threads_follow setup c there.count there.last (named earlier) there.along t;
           goes_on = on;
-          before = come (reverse (effects_of setup.caps earlier)) (reverse (effects_of setup.caps (later ++ earlier))) on.more on.is;
+          before = comes_before_more (reverse (effects_of setup.caps earlier)) (reverse (effects_of setup.caps (later ++ earlier))) on.more on.is;
         }

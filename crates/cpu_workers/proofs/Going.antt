@@ -6,7 +6,7 @@ use Rattle.layer_traits.specs.declared.{calls.{Call.Call, Effect.Effect, Reply.R
 use Rattle.layer_traits.specs.{declared.passes.Pass.{Pass, TheVariants.End}, Layers.BufferLaw.{Answered, Called, IsEffectOf, OthersSeen, RunsOn, buffer_of}}
 use Rattle.layer_traits.specs.{Layers.BufferLaw.{call_state_of, entry_of, Calling, begun, begun_at, going, going_at, still_calling}, Threads.Places.Threads}
 use Rattle.{layer_traits.specs.Threads.Passes.pass_after, cpu.{specs.{Cpus.of_cpu, Guests.entries_of}, proofs.ListFacts.GuestLists.cpu_same}}
-use Rattle.cpu_workers.specs.Calls.{Ends, IsOn, IsOne, KeepsOn, Returned, Went}
+use Rattle.cpu_workers.specs.Calls.{EndsCall, IsOn, IsOne, KeepsOn, Returned, Went}
 
 -- what a poll leaves of a call, before its answer is read
 pub record Half (cpu : CpuId) (t : Tid) (call : Call) (effect : Option Effect) (old new : List Entry) : Type 0 where
@@ -109,19 +109,20 @@ module _ (cpu : CpuId) (t : Tid) (call : Call) where
 
 module _ (ActsFor : CpuId → Type 0) (cpu : CpuId) (acts : ActsFor cpu) {t : Tid} {call : Call} {call_states left : List CallState} {now new : List Entry}
     {answer : Option Reply} where
-  pub goes : answer ≡ None → Called ActsFor cpu t call call_states left now new answer → KeepsOn cpu t call call_states left now new
-  goes none called old on =
+  pub called_on : answer ≡ None → Called ActsFor cpu t call call_states left now new answer → KeepsOn cpu t call call_states left now new
+  called_on none called old on =
       still_on cpu t call (call_state_of left t) old new (subst (λ a. Answered call (call_state_of left t) a) none called.answers)
       (polled ActsFor cpu acts t call call_states left old now new answer called on)
 
-  pub ends : {reply : Reply} → answer ≡ Some reply → Called ActsFor cpu t call call_states left now new answer → Ends cpu t call reply call_states now new
-  ends {reply} some called old on =
+  pub call_ends : {reply : Reply} → answer ≡ Some reply → Called ActsFor cpu t call call_states left now new answer
+      → EndsCall cpu t call reply call_states now new
+  call_ends {reply} some called old on =
       returned cpu t call (call_state_of left t) reply old new (subst (λ a. Answered call (call_state_of left t) a) some called.answers)
       (polled ActsFor cpu acts t call call_states left old now new answer called on)
 
   -- the call is over
-  pub idles : {reply : Reply} → answer ≡ Some reply → Called ActsFor cpu t call call_states left now new answer → (call_state_of left t).stage ≡ Idle
-  idles some called = (subst (λ a. Answered call (call_state_of left t) a) some called.answers).0
+  pub ended_idles : {reply : Reply} → answer ≡ Some reply → Called ActsFor cpu t call call_states left now new answer → (call_state_of left t).stage ≡ Idle
+  ended_idles some called = (subst (λ a. Answered call (call_state_of left t) a) some called.answers).0
 
 -- who runs after a poll is the thread of the call
 pub runs_on : {A : Type 0} (t : Tid) (own left : Threads) (answer : Option A) → RunsOn t own left answer → is_some left.current ≡ true
@@ -135,8 +136,9 @@ calls_on t current answer none runs = grind arith
 pub done_rests : (t : Tid) (current : Option Tid) (answer : Option Reply) (reply : Reply) → answer ≡ Some reply → still_calling t current answer ≡ None
 done_rests t current answer reply some = grind arith
 
-pub sleeps : (t : Tid) (current : Option Tid) (answer : Option Reply) → answer ≡ None → is_some current ≡ false → still_calling t current answer ≡ None
-sleeps t current answer none nobody = grind arith
+pub asleep_calls_no_more : (t : Tid) (current : Option Tid) (answer : Option Reply) → answer ≡ None → is_some current ≡ false
+    → still_calling t current answer ≡ None
+asleep_calls_no_more t current answer none nobody = grind arith
 
 -- one poll of a pass that ends no thread leaves who has ended
 pub ended_on : {A : Type 0} (pass : Pass) (queue : List Tid) (own left : Threads) (answer : Option A) → pass ≢ End

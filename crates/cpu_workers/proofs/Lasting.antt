@@ -1,12 +1,12 @@
 -- What holds of workers that run at one table.
 use Rattle.std.proofs.Common.{arith, ◌≡◌, true, List, Option, Some, sym, subst}
 use Rattle.{event_log.specs.{declared.ids.{CpuId.CpuId, Tid.Tid}, Actions.Action}, cpu.specs.Table.{Blocks.Name, Setups.{Setup, Private, have_ended}}}
-use Rattle.cpu.specs.{Table.{Setups.home_threads, Choice.at_current, Steps.{AlongTable, halted_at, halted_by}}, Wakeups.Lost.Ran}
+use Rattle.cpu.specs.{Table.{Setups.home_threads, Choice.at_current, Steps.{AlongTable, halted_at, halted_by}}, Wakeups.Lost.RanItsPart}
 use Rattle.{cpu.proofs.Wakeups.CpusByTable.cpus_lose_no_wake_up, cpu_workers.specs.declared.workers.stops.Stop.TheVariants.{AllEnded, TurnsUsed, TraceFull}}
 use Rattle.cpu_workers.{specs.{declared.workers.stops.Stop.TheVariants.Held, Laws.{HasWorked, StopsAreTrue, WorkersLoseNoWakeUp}}, proofs.Turning.along_others}
 use Rattle.layer_traits.specs.declared.steps.Reason.TheVariants as reason
 
-has_ran : (setup : Setup) (c : CpuId) (log : List (Action Name)) → HasWorked setup c log → Ran setup c log
+has_ran : (setup : Setup) (c : CpuId) (log : List (Action Name)) → HasWorked setup c log → RanItsPart setup c log
 has_ran setup c log worked = record {
   count = worked.took.count;
   last = worked.last;

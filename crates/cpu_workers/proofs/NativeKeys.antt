@@ -1,11 +1,11 @@
 -- Natives at one table of words: what each leaves there, and that the table may be closed.
 use Rattle.std.proofs.{lemmas.{Option.slice_get_within, List.length-map}, Common.{◌≡◌, ℕ, List, length, map, Some, slice_get, ◌∙◌, subst}}
 use Rattle.cpu_workers.{proofs.{TableKeys.{Back, as_many}, SeatViews.{SameActs, left_at}}, specs.{Callers.CallerView, Closing.{Key, tower_rules}}}
-use Rattle.{cpu_workers.specs.{Natives.{HasLeftCalls, HaveLeftKeys}, Seating.{Block, Edit, tower_acts}}, event_log.specs.{Actions.Action, History.IsLawful}}
+use Rattle.{cpu_workers.specs.{Natives.{HasLeftCalls, HaveLeftKeys}, Seating.{AnyBlock, Edit, tower_acts}}, event_log.specs.{Actions.Action, History.IsLawful}}
 use Rattle.{layer_traits.specs.{Protocols.{OneLock.opened, WordsProtocol.MayCome}, Threads.OnePlace.cpu_at}, table_machine.specs.SeatViews.TableView}
 use Rattle.{table_machine.specs.SeatViews.{new_seat_views, site_of}, cpu.proofs.ListFacts.ListReads.{shows_at, there_is}}
 
-module _ {N X : Type 0} (Kept : N → N → CallerView → Type 0) (caps : List ℕ) (table_view : TableView Block) (natives : List N) (left : List X)
+module _ {N X : Type 0} (Kept : N → N → CallerView → Type 0) (caps : List ℕ) (table_view : TableView AnyBlock) (natives : List N) (left : List X)
     (machine : X → Key) (native_of : X → N) (acts : Key → List (Action Edit)) (same : SameActs acts) where
   -- the natives at the seats of a new table have left this
   pub have_left : (seats : List Key) → seats ≡ new_seat_views table_view (length natives) → length left ≡ length seats
@@ -34,7 +34,8 @@ module _ {N X : Type 0} (Kept : N → N → CallerView → Type 0) (caps : List 
       }
 
 -- So their keys are those of all CPUs, and over.
-pub natives_back : {N : Type 0} {Kept : N → N → CallerView → Type 0} {caps : List ℕ} {table_view : TableView Block} {natives after : List N} {keys : List Key}
+pub natives_back : {N : Type 0} {Kept : N → N → CallerView → Type 0} {caps : List ℕ} {table_view : TableView AnyBlock} {natives after : List N}
+    {keys : List Key}
     → HaveLeftKeys Kept caps table_view natives after keys → Back table_view (length natives) keys
 natives_back {natives = natives} have = record {
   count = have.keys_count;

@@ -1,11 +1,12 @@
 -- Natives that came back from one table have run.
 use Rattle.std.proofs.Common.{◌≡◌, ℕ, zero, suc, ◌*◌, ◌^◌, ◌<◌, ◌≤◌, List, [], ◌∷◌, length, map, Some, slice_get, refl, ap, ◌∙◌, subst, arith}
 use Rattle.std.proofs.lemmas.{List.length-map, Nat.mul-le}
-use Rattle.cpu_workers.specs.{Natives.{HasRunNative, HaveLeftKeys, HaveRun, OpensWith, left_of, own_homes}, declared.workers.callers.TheConstants.MOST_CALLS}
-use Rattle.cpu_workers.{specs.{Callers.CallerView, Closing.{Key, StartsSo, acts_in, tower_rules}, Orders.IsTraceOf, Seating.Block}, proofs.TableOrder.HasCome}
-use Rattle.{cpu_workers.proofs.TableOrder.ordered, event_log.specs.declared.{entries.Entry.Entry, ids.{CpuId.CpuId, LockId.LockId, TheConstants.BUFFERS}}}
-use Rattle.{event_log.{specs.declared.ids.TheConstants.CPUS, proofs.Streams.taken_put}, layer_traits.specs.{Protocols.OneLock.opened, Threads.OnePlace.cpu_at}}
-use Rattle.{table_machine.specs.SeatViews.{Closes, TableView}, cpu.{specs.Table.Setups.Setup, proofs.ListFacts.ListReads.{shows_at, there_is}}}
+use Rattle.cpu_workers.specs.{Natives.{HasRunNative, HaveLeftKeys, HaveRun, OpensWith, left_among, own_homes}, declared.workers.callers.TheConstants.MOST_CALLS}
+use Rattle.cpu_workers.specs.{Callers.CallerView, Closing.{Key, StartsSo, acts_in, tower_rules}, Orders.IsTraceOf, Seating.AnyBlock}
+use Rattle.{cpu_workers.proofs.TableOrder.{HasCome, traces_ordered}, event_log.specs.declared.{entries.Entry.Entry, ids.{CpuId.CpuId, LockId.LockId}}}
+use Rattle.{event_log.{specs.declared.ids.TheConstants.{BUFFERS, CPUS}, proofs.Streams.taken_put}, layer_traits.specs.Protocols.OneLock.opened}
+use Rattle.{layer_traits.specs.Threads.OnePlace.cpu_at, table_machine.specs.SeatViews.{ClosesTable, TableView}, cpu.specs.Table.Setups.Setup}
+use Rattle.cpu.proofs.ListFacts.ListReads.{shows_at, there_is}
 
 -- One of each.
 
@@ -32,10 +33,10 @@ chosen P (z ∷ xs) some = joined (chosen (λ j. P (suc j)) xs (λ j x at. some 
 
 -- The run.
 
-module _ {N : Type 0} (Kept : N → N → CallerView → Type 0) (caps : List ℕ) (natives after : List N) (table_view : TableView Block) (keys : List Key)
-    (blocks : List (LockId × Block)) (some : 0 < length natives) (few : length natives ≤ CPUS) (buffers : length caps ≤ BUFFERS)
+module _ {N : Type 0} (Kept : N → N → CallerView → Type 0) (caps : List ℕ) (natives after : List N) (table_view : TableView AnyBlock) (keys : List Key)
+    (blocks : List (LockId × AnyBlock)) (some : 0 < length natives) (few : length natives ≤ CPUS) (buffers : length caps ≤ BUFFERS)
     (cpus : table_view.cpus ≡ length natives) (opens : OpensWith (length natives) caps (own_homes (length natives)) (opened table_view.start))
-    (have : HaveLeftKeys Kept caps table_view natives after keys) (closes : Closes tower_rules table_view keys blocks) where
+    (have : HaveLeftKeys Kept caps table_view natives after keys) (closes : ClosesTable tower_rules table_view keys blocks) where
   -- the table's setup: as many CPUs as natives, and room for all their calls
   abbrev setup : Setup
   setup = record { cpus = length natives; homes = own_homes (length natives); programs = []; caps = caps; trace_room = MOST_CALLS }
@@ -100,9 +101,9 @@ module _ {N : Type 0} (Kept : N → N → CallerView → Type 0) (caps : List �
         room = stands.short;
       }
 
-  pub have_run : HaveRun Kept caps natives after (left_of (length caps) blocks)
+  pub have_run : HaveRun Kept caps natives after (left_among (length caps) blocks)
   have_run =
-      let all = ordered setup table_view starts keys blocks closes calls (length-map callers.list (λ v. v.calls) ∙ callers.count) come in
+      let all = traces_ordered setup table_view starts keys blocks closes calls (length-map callers.list (λ v. v.calls) ∙ callers.count) come in
       record {
         callers = callers.list;
         nobody_else = callers.count;
@@ -111,6 +112,6 @@ module _ {N : Type 0} (Kept : N → N → CallerView → Type 0) (caps : List �
         order = all.order;
         keeps = all.keeps;
         run = all.run;
-        fifo = taken_put caps all.order (left_of (length caps) blocks) all.run;
+        fifo = taken_put caps all.order (left_among (length caps) blocks) all.run;
         by_words = record { opening = opened table_view.start; opens = opens; words = closes.log; legal = closes.legal; order_is = all.is };
       }

@@ -3,16 +3,17 @@ use Rattle.std.{proofs.{Common.{ℕ, ◌*◌, ◌^◌, ◌<◌, ◌≤◌, List,
 use Rattle.{boot.specs.Plan.{BootPlan, IsPlan}, event_log.specs.declared.{entries.Entry.Entry, ids.{CpuId.CpuId, LockId.LockId, TheConstants.{CPUS, ENTRIES}}}}
 use Rattle.{event_log.specs.declared.ids.TheConstants.TRACE, layer_traits.specs.Protocols.OneLock.opened, cpu.specs.Sound.setup_for}
 use Rattle.cpu_workers.specs.{declared.workers.{gates.Go.Go, stops.Stop.Stop}, Closing.{shown, Key, tower_rules}, Lawful.CpuReport, Logs.HasWords}
-use Rattle.{cpu_workers.{specs.Seating.{Block, OpensPlan, HaveLeft}, proofs.Reporting.{has_seen, of_words}}, table_machine.specs.SeatViews.{TableView, Closes}}
+use Rattle.{cpu_workers.{specs.Seating.{AnyBlock, OpensPlan, HaveLeft}, proofs.Reporting.{has_seen, of_words}}, table_machine.specs.SeatViews.TableView}
+use Rattle.table_machine.specs.SeatViews.{ClosesTable}
 
 few_entries : (plan : BootPlan) → IsPlan plan → plan.cpus * plan.trace < 2 ^ 64
 few_entries plan is = let most : plan.cpus * plan.trace ≤ ENTRIES = mul-le plan.cpus plan.trace CPUS TRACE is.most_cpus is.most_trace in omega (arith, most)
 
 -- the workers of a plan ran at its table, which was closed
-pub words_so : {plan : BootPlan} {May : CpuId → Go → ℕ → Type 0} {turns : ℕ} {table_view : TableView Block} {keys : List Key}
-    {traces shown_traces : List (List Entry)} {taken shown_taken : List ℕ} {stops shown_stops : List Stop} {blocks : List (LockId × Block)}
+pub words_so : {plan : BootPlan} {May : CpuId → Go → ℕ → Type 0} {turns : ℕ} {table_view : TableView AnyBlock} {keys : List Key}
+    {traces shown_traces : List (List Entry)} {taken shown_taken : List ℕ} {stops shown_stops : List Stop} {blocks : List (LockId × AnyBlock)}
     → IsPlan plan → table_view.cpus ≡ plan.cpus → OpensPlan plan (opened table_view.start)
-    → HaveLeft plan May turns table_view keys traces taken stops → Closes tower_rules table_view keys blocks
+    → HaveLeft plan May turns table_view keys traces taken stops → ClosesTable tower_rules table_view keys blocks
     → shown_traces ≡ traces → shown_taken ≡ taken → shown_stops ≡ stops → HasWords plan May turns (shown shown_traces shown_taken shown_stops blocks)
 words_so {plan} {May} {turns} {table_view} {keys} {traces} {taken = taken} {stops = stops} {blocks = blocks} is cpus opens left closes traces_are taken_are
     stops_are =

@@ -7,10 +7,10 @@ use Rattle.event_log.specs.{declared.{entries.Entry.Entry, ids.{CpuId.CpuId, Loc
 use Rattle.event_log.specs.{History.{AreOthers, IsLawful, own_events, same_cpu}, Runs.IsRun, Sections.sections_in, Traces.IsInterleaving}
 use Rattle.{event_log.proofs.Same.same_cpu_self, layer_traits.specs.declared.queue_edits.QueueEdit.TheVariants.{Push, TakeAll, Above}}
 use Rattle.layer_traits.specs.Blocks.{BufferEffects.{MayTakeEffect, contents_of, drawn, effect_of, opening_locks}, BufferProtocol.BufferSection}
-use Rattle.layer_traits.specs.{Blocks.BufferProtocol.buffer_at as block_at, Threads.OnePlace.cpu_at, Protocols.Protocol.section, Layers.Queues.buffer_at}
+use Rattle.layer_traits.specs.{Blocks.BufferProtocol.buffer_lock_at, Threads.OnePlace.cpu_at, Protocols.Protocol.section, Layers.Queues.buffer_guarded}
 use Rattle.layer_traits.{specs.Layers.Queues.{buffer_sections, event_of}, proofs.EffectRunLemmas.effects_are_run}
 use Rattle.{fifo_buffer.specs.Laws.Tallies.effect_position, cpu.specs.{Cpus.of_cpu, Tower.Views.TowerName, Linear.OrderGrows}}
-use Rattle.cpu.proofs.{WholeSystems.{Moments.order_stays, OneOrder.{filter_reversed, interleaved}}, ListFacts.ListReads.all_reversed}
+use Rattle.cpu.proofs.{WholeSystems.{Moments.order_stays, OneOrder.{filter_reversed, order_interleaves}}, ListFacts.ListReads.all_reversed}
 use Rattle.cpu_workers.specs.{Laws.OrderGoesOn, Orders.{IsTraceOf, effects_of}}
 
 -- An action adds at most one effect, of its own CPU.
@@ -24,25 +24,25 @@ module _ (caps : List ℕ) where
   adds_none : (a : Action TowerName) (past : List (Action TowerName)) → effects_of caps (a ∷ past) ≡ effects_of caps past → Adds caps a past
   adds_none a past same = record { effect = None; is = same; its = λ e at. absurd (cc at) }
 
-  pub adds : (a : Action TowerName) (past : List (Action TowerName)) → Adds caps a past
-  adds (Take cpu lock) past = adds_none (Take cpu lock) past refl
-  adds (Try cpu lock hit) past = adds_none (Try cpu lock hit) past refl
-  adds (Give cpu lock (Push t)) past = adds_none (Give cpu lock (Push t)) past refl
-  adds (Give cpu lock TakeAll) past = adds_none (Give cpu lock TakeAll) past refl
-  adds (Give cpu lock (Above call)) past =
+  pub act_adds : (a : Action TowerName) (past : List (Action TowerName)) → Adds caps a past
+  act_adds (Take cpu lock) past = adds_none (Take cpu lock) past refl
+  act_adds (Try cpu lock hit) past = adds_none (Try cpu lock hit) past refl
+  act_adds (Give cpu lock (Push t)) past = adds_none (Give cpu lock (Push t)) past refl
+  act_adds (Give cpu lock TakeAll) past = adds_none (Give cpu lock TakeAll) past refl
+  act_adds (Give cpu lock (Above call)) past =
       let before : List BufferSection = buffer_sections (map event_of (sections_in past)) in
-      let b = buffer_at lock in
+      let b = buffer_guarded lock in
       record {
         effect = effect_of (opening_locks caps) before (section cpu (Buffer b) call);
         is = refl;
         its = λ e at. (effect_position cpu b call (λ side t. drawn (opening_locks caps) (Buffer b) side t before)
-            (block_at (opening_locks caps) before (Buffer b)) e at).0;
+            (buffer_lock_at (opening_locks caps) before (Buffer b)) e at).0;
       }
 
   -- so the order of the effects goes on
   pub order_goes_on : (a : Action TowerName) (past : List (Action TowerName))
       → OrderGrows (cpu_of_action a) (reverse (effects_of caps past)) (reverse (effects_of caps (a ∷ past)))
-  order_goes_on a past = let one = adds a past in go one.effect one.is one.its
+  order_goes_on a past = let one = act_adds a past in go one.effect one.is one.its
     where
       go : (o : Option Entry) → effects_of caps (a ∷ past) ≡ option_to_list o ++ effects_of caps past → ((e : Entry) → o ≡ Some e → e.cpu ≡ cpu_of_action a)
           → OrderGrows (cpu_of_action a) (reverse (effects_of caps past)) (reverse (effects_of caps (a ∷ past)))
@@ -64,7 +64,7 @@ module _ (caps : List ℕ) where
       → of_cpu c (effects_of caps (more ++ past)) ≡ of_cpu c (effects_of caps past)
   effects_since c [] past others = refl
   effects_since c (a ∷ more) past others =
-      let one = adds a (more ++ past) in
+      let one = act_adds a (more ++ past) in
       ap (of_cpu c) one.is
       ∙ of_others c one.effect (effects_of caps (more ++ past))
       (λ e at. subst (λ (d : CpuId). same_cpu d c ≡ false) (sym (one.its e at)) others.0)
@@ -79,7 +79,7 @@ module _ (caps : List ℕ) where
   fronts_keep_order [] earlier = record { more = []; is = sym (append-nil (reverse (effects_of caps earlier))); own = λ c others. refl }
   fronts_keep_order (a ∷ later) earlier =
       let before = fronts_keep_order later earlier in
-      let one = adds a (later ++ earlier) in
+      let one = act_adds a (later ++ earlier) in
       record {
         more = before.more ++ option_to_list one.effect;
         is = ap (λ (es : List Entry). reverse es) one.is ∙ behind one.effect (effects_of caps (later ++ earlier))
@@ -105,7 +105,7 @@ module _ (caps : List ℕ) where
       → AllByRecursion (λ e. e.cpu.0 < n) (effects_of caps log)
   effects_known n [] known = tt
   effects_known n (a ∷ past) known =
-      let one = adds a past in
+      let one = act_adds a past in
       subst (λ (es : List Entry). AllByRecursion (λ e. e.cpu.0 < n) es) (sym one.is)
       (all_of n one.effect (effects_of caps past) (λ e at. subst (λ (d : CpuId). d.0 < n) (sym (one.its e at)) known.0) (effects_known n past known.1))
     where
@@ -157,7 +157,7 @@ pub one_order : (caps : List ℕ) (log : List (Action TowerName)) (traces : List
     → length traces * limit < 2 ^ 64 → HasOrder caps traces (effects_of caps log) (contents_of caps (effects_of caps log))
 one_order caps log traces limit lawful rest each room small =
     let es = effects_of caps log in
-    let keeps = interleaved (reverse es) traces (λ k within. each k within ∙ sym (filter_reversed (λ (e : Entry). e.cpu.0 == k) es))
+    let keeps = order_interleaves (reverse es) traces (λ k within. each k within ∙ sym (filter_reversed (λ (e : Entry). e.cpu.0 == k) es))
     (all_reversed (λ (e : Entry). e.cpu.0 < length traces) es (effects_known caps (length traces) log (all_within cpu_of_action (length traces) log rest))) in
     record {
       order = reverse es;

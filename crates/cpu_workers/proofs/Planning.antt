@@ -6,8 +6,8 @@ use Rattle.event_log.specs.{declared.{entries.Entry.Entry, ids.{CpuId.CpuId, Tid
 use Rattle.guest.specs.{declared.instructions.Instruction.Instruction, Calls.{IsProgramsCalls, HasEnded}, State.{State, next_of}}
 use Rattle.layer_traits.specs.declared.{calls.{Call.Call, Effect.Effect}, steps.{Reason.TheVariants.{AllEnded, TraceFull, StepsUsed}, Step.Step}}
 use Rattle.layer_traits.specs.{Polling.Along.{Outcome, IsStep}, Layers.BufferLaw.{begun_of, call_state_of}, Threads.Places.Threads}
-use Rattle.cpu.specs.{declared.guests.{Guest.Guest, GuestStage.{GuestStage, TheVariants.{Idle, Begun, Done, Ended}}}, Guests.{HasComeIn, after_effect}}
-use Rattle.cpu.specs.{Guests.is_ended, Cpus.{IsOfHome, begins, begun_count, chosen, guest_at, halted_at, is_over, of_cpu, of_thread, programs_of}}
+use Rattle.cpu.specs.{declared.guests.{Guest.Guest, GuestStage.{GuestStage, TheVariants.{Idle, Begun, Done, Ended}}}, Guests.{HasComeIn, state_after_effect}}
+use Rattle.cpu.specs.{Guests.is_ended, Cpus.{IsOfHome, begins_call, begun_count, chosen, guest_at, cpu_halted_at, is_over, of_cpu, of_thread, programs_of}}
 use Rattle.cpu.{specs.{Table.Setups.{Setup, Thread, thread_at}, Tables.{IsSetupOf, private}, Tower.Views.TowerName}, proofs.ListFacts.ListReads.all_reversed}
 use Rattle.cpu.proofs.{ListFacts.GuestLists.guest_with, WholeSystems.OneOrder.filter_reversed, CpuSteps.CpuStates.TabledCpu, StepTable.TableRows.guest_there}
 use Rattle.cpu_workers.specs.{Orders.{FollowsProgram, HasFollowed}, Working.IsPlanned}
@@ -18,9 +18,9 @@ program_there (o ∷ guests) zero g at = ap (λ x. option_map (λ (y : Guest). y
 program_there (o ∷ guests) (suc t) g at = program_there guests t g at
 
 -- the step table of a plan is that of the CPU whose plan it is
-pub planned : (setup : Setup) (homes : List CpuId) (caps : List ℕ) (guests : List (Option Guest)) (limit : ℕ)
+pub table_planned : (setup : Setup) (homes : List CpuId) (caps : List ℕ) (guests : List (Option Guest)) (limit : ℕ)
     → IsPlanned setup (record { homes = homes; caps = caps; programs = programs_of guests; limit = limit }) → IsSetupOf setup homes caps guests limit
-planned setup homes caps guests limit of = record {
+table_planned setup homes caps guests limit of = record {
   homes_are = of.homes_are;
   caps_are = of.caps_are;
   room_is = of.room_is;
@@ -28,9 +28,9 @@ planned setup homes caps guests limit of = record {
 }
 
 -- a CPU has no reason of a system's
-pub own_reason : (own : Threads) (guests : List (Option Guest)) (trace : List Entry) (limit : ℕ) → halted_at own guests trace limit ≢ Some StepsUsed
+pub own_reason : (own : Threads) (guests : List (Option Guest)) (trace : List Entry) (limit : ℕ) → cpu_halted_at own guests trace limit ≢ Some StepsUsed
 own_reason own guests trace limit is =
-    go (not (is_some own.hand) && list_all is_over guests) (begins (chosen own guests) guests && (length trace + begun_count guests == limit)) is
+    go (not (is_some own.hand) && list_all is_over guests) (begins_call (chosen own guests) guests && (length trace + begun_count guests == limit)) is
   where
     go : (a b : Bool) → (if a then Some AllEnded else (if b then Some TraceFull else None)) ≡ Some StepsUsed → ⊥
     go true b same = absurd (cc same)
@@ -65,7 +65,7 @@ follows_by g es begun effect over ends come = go g.stage refl come
     go Idle at f = record { state = g.thread; calls = turned g.thread f.1; ends = runs_on Idle g.thread at refl }
     go Begun at f = record { state = g.thread; calls = turned g.thread f.4; ends = runs_on Begun g.thread at refl }
     go Done at f =
-        let s = after_effect (next_of g.program g.thread) f.1 g.thread in
+        let s = state_after_effect (next_of g.program g.thread) f.1 g.thread in
         record { state = s; calls = turned s f.6; ends = runs_on Done s at refl }
     go Ended at f = record { state = g.thread; calls = turned g.thread f.1; ends = λ is. f.2 }
 

@@ -1,18 +1,19 @@
 -- From the workers that came back and the closed table to the lawful report.
 use Rattle.std.{proofs.Common.{◌≡◌, ℕ, ◌+◌, ◌<◌, true, false, List, ◌++◌, length, Some, refl, ap, sym, ◌∙◌, subst, arith}, specs.Prelude.Option}
-use Rattle.cpu_workers.proofs.{TableOrder.{goes_on, ordered, rest, Goes}, Turning.{took_of, within_others}, ClosedLog.{acts_legal, buffers_left, queues_left}}
-use Rattle.cpu_workers.proofs.{ClosedLog.{buffer_opens, proper, starts}, Lasting.all_ended, OneOrder.{HasOrder, trace_in}, Fronts.{counted, is_front}}
-use Rattle.cpu_workers.{proofs.{Fronts.proper_before, TableTraces.total}, specs.declared.workers.{gates.Go.{Go, TheVariants.Limit}, stops.Stop.Stop}}
-use Rattle.cpu_workers.specs.Lawful.{AreLeft, HasGone, IsLawfulReport, IsCpuReportOf, IsReport, CpuReport, Shown, ReportsTrue, left_in, held_at}
-use Rattle.cpu_workers.specs.{Logs.IsReportOfWords, Orders.{FollowsProgram, effects_of, IsTraceOf}, Working.Charge, Closing.{HasSeen, HaveCome, IsReported}}
-use Rattle.cpu_workers.specs.{Closing.{Key, LockBlock, ReportsAreLawful, StartsSo, acts_in, tower_rules, seen_above}, Reports.{IsTrueStop, TookWithin, WentBy}}
-use Rattle.{cpu_workers.specs.{Reports.Within, Seating.{HasLeft, IsApart}}, event_log.specs.declared.{entries.Entry.Entry, ids.{CpuId.CpuId, LockId.LockId}}}
-use Rattle.event_log.specs.{declared.ids.LockId.TheVariants.{Pending, Buffer as AtBuffer}, Actions.{Action, cpu_of_action, phase, renamed}, History.AreOthers}
+use Rattle.cpu_workers.proofs.{TableOrder.{goes_on, traces_ordered, other_cpus_rest, Goes}, Turning.{took_of, within_others}, ClosedLog.acts_legal}
+use Rattle.cpu_workers.proofs.{ClosedLog.{buffers_left, queues_left, buffer_opens, sections_proper, opening_starts}, Lasting.all_ended, OneOrder.HasOrder}
+use Rattle.cpu_workers.{proofs.{OneOrder.trace_in, Fronts.{effects_so, is_front, proper_before}, TableTraces.total}, specs.declared.workers.gates.Go.Go}
+use Rattle.cpu_workers.specs.{declared.workers.{gates.Go.TheVariants.Limit, stops.Stop.Stop}, Lawful.{AreLeft, HasGone, IsLawfulReport, IsCpuReportOf}}
+use Rattle.cpu_workers.specs.{Lawful.{IsReport, CpuReport, ShownReport, ReportsTrue, left_in, held_at}, Logs.IsReportOfWords, Orders.FollowsProgram}
+use Rattle.cpu_workers.specs.{Orders.{effects_of, IsTraceOf}, Working.Charge, Closing.{HasSeen, HaveCome, IsReported, Key, LockBlock, ReportsAreLawful}}
+use Rattle.cpu_workers.specs.{Closing.{StartsSo, acts_in, tower_rules, seen_above}, Reports.{IsTrueStop, TookWithin, WentBy, Within}, Seating.HasLeft}
+use Rattle.{cpu_workers.specs.Seating.IsApart, event_log.specs.declared.{entries.Entry.Entry, ids.{CpuId.CpuId, LockId.{LockId, TheVariants.Pending}}}}
+use Rattle.event_log.specs.{declared.ids.LockId.TheVariants.Buffer as AtBuffer, Actions.{Action, cpu_of_action, phase, renamed}, History.AreOthers}
 use Rattle.event_log.{specs.Sections.sections_in, proofs.{Foreign.{own_none, phase_others}, Streams.taken_put, Renaming.{legal_renamed, others_renamed}}}
 use Rattle.{event_log.proofs.Same.same_cpu_self, layer_traits.specs.{declared.queue_edits.QueueBlock.QueueBlock, Polling.Plans.is_in_section}}
 use Rattle.layer_traits.{specs.{Protocols.OneLock.opened, Blocks.QueueRules.AreProper}, proofs.PlanRenaming.map-append}
-use Rattle.{table_machine.specs.SeatViews.{TableView, Closes}, cpu.specs.{Claims.{buffer_at, listed}, Cpus.{of_thread, of_cpu}, Table.Blocks.Name}}
-use Rattle.cpu.specs.{Table.{Setups.{Setup, Private, at_boot, thread_at}, Steps.{cpu_step, halted_at}}, Tower.{Composed.named, Views.{TowerName, name_of}}}
+use Rattle.{table_machine.specs.SeatViews.{TableView, ClosesTable}, cpu.specs.{Claims.{buffer_at, listed}, Cpus.{of_thread, of_cpu}, Table.Blocks.Name}}
+use Rattle.cpu.specs.{Table.{Setups.{Setup, Private, boot_of, thread_at}, Steps.{cpu_step, halted_at}}, Tower.{Composed.named, Views.{TowerName, name_of}}}
 use Rattle.cpu.{specs.{Tower.Views.TowerBlock, Wakeups.Lost.IsWorked, Sound.setup_for}, proofs.StepTable.TableQuiet.ended_at}
 use Rattle.{cpu.proofs.Wakeups.CpusByTable.cpus_lose_no_wake_up, boot.specs.Plan.BootPlan}
 use Rattle.layer_traits.specs.declared.steps.Reason.TheVariants as reason
@@ -27,7 +28,7 @@ module _ {plan : BootPlan} {May : CpuId → Go → ℕ → Type 0} {turns : ℕ}
   same = left.ran.same.cpu ∙ left.at_boot.cpu_is
 
   -- how it went, from boot on
-  went : WentBy setup (May c) turns (record left.first { cpu = c; private = at_boot setup c }) left.last line.taken line.stop
+  went : WentBy setup (May c) turns (record left.first { cpu = c; private = boot_of setup c }) left.last line.taken line.stop
   went = subst (λ (p : Private). WentBy setup (May c) turns (record left.first { cpu = c; private = p }) left.last line.taken line.stop) left.at_boot.boots
       (subst (λ (d : CpuId). WentBy setup (May d) turns (record left.first { cpu = d }) left.last line.taken line.stop) left.at_boot.cpu_is
       (left.ran.went setup left.at_boot.planned))
@@ -76,14 +77,14 @@ module _ {plan : BootPlan} {May : CpuId → Go → ℕ → Type 0} {turns : ℕ}
 -- The report.
 
 module _ (setup : Setup) (May : CpuId → Go → ℕ → Type 0) (turns : ℕ) (table_view : TableView (QueueBlock LockBlock)) (keys : List Key)
-    (blocks : List (LockId × QueueBlock LockBlock)) (r : Shown) (it : IsReported setup May turns table_view keys blocks r) where
+    (blocks : List (LockId × QueueBlock LockBlock)) (r : ShownReport) (it : IsReported setup May turns table_view keys blocks r) where
   abbrev so : StartsSo setup table_view
   so = it.starts
 
   abbrev come : HaveCome setup May turns keys r
   come = it.come
 
-  abbrev closes : Closes tower_rules table_view keys blocks
+  abbrev closes : ClosesTable tower_rules table_view keys blocks
   closes = it.closes
 
   abbrev acts : List (Action TowerName)
@@ -120,11 +121,11 @@ module _ (setup : Setup) (May : CpuId → Go → ℕ → Type 0) (turns : ℕ) (
       theirs : AreOthers cpu_of_action c (named goes.more)
       theirs = renamed_others c goes.more goes.others
 
-      on : {Goes : ℕ → Type 0} → TookWithin (cpu_step setup c) c Goes (at_boot setup c) seen.last (named past) line.taken
-          → TookWithin (cpu_step setup c) c Goes (at_boot setup c) seen.last (named acts) line.taken
+      on : {Goes : ℕ → Type 0} → TookWithin (cpu_step setup c) c Goes (boot_of setup c) seen.last (named past) line.taken
+          → TookWithin (cpu_step setup c) c Goes (boot_of setup c) seen.last (named acts) line.taken
       on {Goes} took = record {
         count = took.count;
-        steps = subst (λ (l : List (Action Name)). Within (cpu_step setup c) c Goes (at_boot setup c) took.count seen.last l) (sym log_is)
+        steps = subst (λ (l : List (Action Name)). Within (cpu_step setup c) c Goes (boot_of setup c) took.count seen.last l) (sym log_is)
             (within_others (named goes.more) theirs took.steps);
         counted = took.counted;
       }
@@ -145,7 +146,7 @@ module _ (setup : Setup) (May : CpuId → Go → ℕ → Type 0) (turns : ℕ) (
   worked = record {
     ran = λ c within. let one = gone c within in record { count = one.2.took.count; last = one.2.last; steps = one.2.took.steps };
     rest = λ c beyond. own_none cpu_of_action c (named acts)
-        (renamed_others c acts (rest setup table_view so keys blocks closes c beyond));
+        (renamed_others c acts (other_cpus_rest setup table_view so keys blocks closes c beyond));
   }
 
   -- What is told of a CPU.
@@ -176,7 +177,7 @@ module _ (setup : Setup) (May : CpuId → Go → ℕ → Type 0) (turns : ℕ) (
   in_order : HasOrder setup.caps r.traces (effects_of setup.caps acts) (left_in (length setup.caps) r)
   in_order =
       subst (λ f. HasOrder setup.caps r.traces (effects_of setup.caps acts) (listed (λ b. held_at f (buffer_at b)) 0 (length setup.caps))) (sym it.told)
-      (ordered setup table_view so keys blocks closes r.traces come.traces (λ c within. let one = come.each c within in record {
+      (traces_ordered setup table_view so keys blocks closes r.traces come.traces (λ c within. let one = come.each c within in record {
         key = one.0;
         trace = one.1.trace;
         key_at = one.2;
@@ -225,8 +226,9 @@ module _ (setup : Setup) (May : CpuId → Go → ℕ → Type 0) (turns : ℕ) (
   many : (c : CpuId) (later earlier : List (Action TowerName)) → acts ≡ later ++ earlier
       → length (of_cpu c (effects_of setup.caps earlier)) ≡ total setup c (named earlier)
   many c later earlier is =
-      counted setup above (starts setup table_view so closes.log closes.legal) so.locks (buffer_opens setup table_view so closes.log closes.legal) c earlier
-      (proper_before later earlier (subst (λ l. AreProper (sections_in l)) is (proper setup table_view so closes.log closes.legal)))
+      effects_so setup above (opening_starts setup table_view so closes.log closes.legal) so.locks
+      (buffer_opens setup table_view so closes.log closes.legal) c earlier
+      (proper_before later earlier (subst (λ l. AreProper (sections_in l)) is (sections_proper setup table_view so closes.log closes.legal)))
 
   -- and it is that of the closed table's words log, by whose actions the calls are linearizable
   pub of_words : IsReportOfWords setup May turns closes.log r

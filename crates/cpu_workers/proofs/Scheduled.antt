@@ -3,9 +3,9 @@ use Rattle.std.proofs.Common.{◌≡◌, ◌⊎◌, inl, inr, ℕ, suc, ◌<◌,
 use Rattle.std.{proofs.lemmas.{Bool.cases_lt, List.length-map, Option.{slice_get_past, slice_get-map}}, specs.Prelude.slice_get}
 use Rattle.event_log.specs.{declared.ids.{CpuId.CpuId, LockId.TheVariants.{Pending, Buffer as AtBuffer}}, Actions.{Action, phase}}
 use Rattle.{layer_traits.specs.{Threads.OnePlace.cpu_at, Polling.Plans.is_in_section}, cpu.specs.{Sound.after_steps, Wakeups.Lost.IsWorked}}
-use Rattle.cpu.specs.{Wakeups.Merged.IsRunOfTable, Table.{Blocks.Name, Setups.{Private, Setup}, Steps.{IsReached, Whole, block_at, boots, steps, system_step}}}
-use Rattle.{cpu.{specs.Table.Steps.whole_at_boot, proofs.Wakeups.Merging.work_is_a_run}, cpu_workers.proofs.Joining.{all_head, all_tail}}
-use Rattle.cpu_workers.specs.{declared.workers.gates.Go.Go, Lawful.{AreLeft, CpuReport, IsCpuReportOf, IsLawfulReport, Shown}, ReportRuns.IsReportOfRun}
+use Rattle.cpu.specs.{Wakeups.Merged.IsRunOfTable, Table.{Blocks.Name, Setups.{Private, Setup}, Steps.{IsReached, Whole, block_at, boots, steps_once}}}
+use Rattle.{cpu.{specs.Table.Steps.{system_step, whole_at_boot}, proofs.Wakeups.Merging.work_is_a_run}, cpu_workers.proofs.Joining.{all_head, all_tail}}
+use Rattle.cpu_workers.specs.{declared.workers.gates.Go.Go, Lawful.{AreLeft, CpuReport, IsCpuReportOf, IsLawfulReport, ShownReport}, ReportRuns.IsReportOfRun}
 use Rattle.cpu_workers.specs.ReportRuns.{ReportsAreRuns, StandsAsTold, run_by}
 
 -- two lists that read alike are one
@@ -24,9 +24,9 @@ reached_after : (setup : Setup) (room : ℕ) (schedule : List CpuId) (s : Whole)
 reached_after setup room [] s known reached = reached
 reached_after setup room (c ∷ schedule) s known reached =
     reached_after setup room schedule (system_step setup c s).next (all_tail (λ d. d.0 < setup.cpus) (c ∷ schedule) schedule c refl known)
-    (steps c reached (all_head (λ d. d.0 < setup.cpus) (c ∷ schedule) schedule c refl known))
+    (steps_once c reached (all_head (λ d. d.0 < setup.cpus) (c ∷ schedule) schedule c refl known))
 
-module _ (setup : Setup) (May : CpuId → Go → ℕ → Type 0) (turns : ℕ) (r : Shown) (lawful : IsLawfulReport setup May turns r) where
+module _ (setup : Setup) (May : CpuId → Go → ℕ → Type 0) (turns : ℕ) (r : ShownReport) (lawful : IsLawfulReport setup May turns r) where
   abbrev worked : IsWorked setup lawful.log
   worked = record {
     ran = λ c below. let one = lawful.gone c below in record { count = one.2.took.count; last = one.2.last; steps = one.2.took.steps };

@@ -2,23 +2,24 @@
 use Rattle.std.proofs.Common.{arith, ◌≡◌, ℕ, ◌+◌, ◌<◌, ◌≤◌, true, false, List, [], length, map, drop, get_or, Option, Some, None, refl, ap, sym, ◌∙◌, subst}
 use Rattle.std.{proofs.lemmas.List.{length-map, drop_all}, specs.Prelude.{IfOk, Result, Ok, Err, slice_get}}
 use Rattle.cpu_workers.{proofs.TableKeys.{Back, one_site, as_many, seat_views_at}, specs.declared.workers.{seating.Left.Left, gates.Go.Go, stops.Stop.Stop}}
-use Rattle.{cpu_workers.specs.{Closing.{Key, tower_rules}, Seating.{Block, Edit, HasLeft, HaveLeft, IsReady, tower_acts}}, boot.specs.Plan.BootPlan}
+use Rattle.{cpu_workers.specs.{Closing.{Key, tower_rules}, Seating.{AnyBlock, Edit, HasLeft, HaveLeft, IsReadySeat, tower_acts}}, boot.specs.Plan.BootPlan}
 use Rattle.event_log.specs.{declared.{entries.Entry.Entry, ids.{CpuId.CpuId, LockId.LockId}}, Actions.{Action, Phase, Rests, acts_of, phase, renamed}}
 use Rattle.event_log.{specs.{History.{IsLawful, same_lock}, Sections.sections_in, WordsLog.{Idle, lock_phase}}, proofs.Renaming.phase_renamed}
 use Rattle.{event_log.proofs.ListLemmas.from_index, layer_traits.specs.{Protocols.{OneLock.opened, WordsProtocol.{MayCome, edit_of}}, Threads.OnePlace.cpu_at}}
-use Rattle.{layer_traits.specs.{Polling.Plans.is_in_section, Views.Renaming.renamed_edit}, queuing_lock.specs.Nested.edit_in as lock_call}
-use Rattle.{sleep_wakeup.specs.Nested.edit_in as slept_edit, spinlock.specs.Laws.LineLaws.rests_outside, table_machine.specs.SeatViews.{TableView, IsOver}}
+use Rattle.{layer_traits.specs.{Polling.Plans.is_in_section, Views.Renaming.renamed_edit}, queuing_lock.specs.Nested.lock_call}
+use Rattle.{sleep_wakeup.specs.Nested.slept_edit, spinlock.specs.Laws.LineLaws.rests_outside, table_machine.specs.SeatViews.{TableView, IsOver}}
 use Rattle.{table_machine.specs.SeatViews.{new_seat_view, new_seat_views, site_of}, cpu.specs.Tower.{Composed.named, Views.{TowerName, name_of}}}
 use Rattle.cpu.proofs.ListFacts.ListReads.{shows_at, there_is}
 
 -- a new key is one for a CPU before its first action, however the machine tells its actions and that a CPU is outside
-pub ready_at : (Opens : (LockId → Option Block) → Type 0) (table_view : TableView Block) (n : ℕ) (IsOutside : Key → Type 0) (acts : Key → List (Action Edit))
+pub ready_at : (Opens : (LockId → Option AnyBlock) → Type 0) (table_view : TableView AnyBlock) (n : ℕ) (IsOutside : Key → Type 0)
+    (acts : Key → List (Action Edit))
     {seats : List Key} → seats ≡ new_seat_views table_view n → (k : ℕ) (key : Key) → slice_get seats k ≡ Some key → IsOutside (new_seat_view table_view k)
     → acts (new_seat_view table_view k) ≡ [] → Opens (opened table_view.start)
-    → IsReady ((cpu_at k ≡ key.cpu) × IsLawful (MayCome (tower_rules.allowed (opened key.start))) key.seen) (IsOutside key)
+    → IsReadySeat ((cpu_at k ≡ key.cpu) × IsLawful (MayCome (tower_rules.allowed (opened key.start))) key.seen) (IsOutside key)
     (sections_in (acts key) ≡ []) (acts key ≡ []) (Opens (opened key.start))
 ready_at Opens table_view n IsOutside acts new k key at outside none opens =
-    subst (λ (x : Key). IsReady ((cpu_at k ≡ x.cpu) × IsLawful (MayCome (tower_rules.allowed (opened x.start))) x.seen) (IsOutside x)
+    subst (λ (x : Key). IsReadySeat ((cpu_at k ≡ x.cpu) × IsLawful (MayCome (tower_rules.allowed (opened x.start))) x.seen) (IsOutside x)
     (sections_in (acts x) ≡ []) (acts x ≡ []) (Opens (opened x.start)))
     (sym (seat_views_at table_view n k key (subst (λ (l : List Key). slice_get l k ≡ Some key) new at)))
     (record { acts = (refl, tt); rests = outside; unseen = ap sections_in none; idle = none; opens = opens })
@@ -47,7 +48,7 @@ stopped {c = c} {acts = acts} left =
 abbrev pub SameActs : (Key → List (Action Edit)) → Type 0
 SameActs acts = (key : Key) → IsLawful (MayCome (tower_rules.allowed (opened key.start))) key.seen → acts key ≡ acts_of edit_of key.seen
 
-module _ {X : Type 0} (table_view : TableView Block) (left : List X) (machine : X → Key) (acts : Key → List (Action Edit)) (same : SameActs acts) where
+module _ {X : Type 0} (table_view : TableView AnyBlock) (left : List X) (machine : X → Key) (acts : Key → List (Action Edit)) (same : SameActs acts) where
   -- what was left at this seat of a new table: its key is the CPU's, and it is over where the CPU's sections are
   pub left_at : (n : ℕ) (seats : List Key) → seats ≡ new_seat_views table_view n → length left ≡ length seats
       → ((k : ℕ) (x : X) (m : Key) → slice_get left k ≡ Some x → slice_get seats k ≡ Some m → site_of (machine x).table ≡ site_of m.table)
@@ -73,7 +74,8 @@ module _ {X : Type 0} (table_view : TableView Block) (left : List X) (machine : 
         },
       )
 
-module _ (plan : BootPlan) (May : CpuId → Go → ℕ → Type 0) (turns : ℕ) (table_view : TableView Block) (left : List (Left Key)) (acts : Key → List (Action Edit))
+module _ (plan : BootPlan) (May : CpuId → Go → ℕ → Type 0) (turns : ℕ) (table_view : TableView AnyBlock) (left : List (Left Key))
+    (acts : Key → List (Action Edit))
     (same : SameActs acts) where
   -- the workers at the seats of a new table have left this
   pub have_left : (seats : List Key) → seats ≡ new_seat_views table_view plan.cpus → length left ≡ length seats
@@ -110,7 +112,8 @@ module _ (plan : BootPlan) (May : CpuId → Go → ℕ → Type 0) (turns : ℕ)
       }
 
 -- So their keys are those of all CPUs, and over.
-pub workers_back : {plan : BootPlan} {May : CpuId → Go → ℕ → Type 0} {turns : ℕ} {table_view : TableView Block} {keys : List Key} {traces : List (List Entry)}
+pub workers_back : {plan : BootPlan} {May : CpuId → Go → ℕ → Type 0} {turns : ℕ} {table_view : TableView AnyBlock} {keys : List Key}
+    {traces : List (List Entry)}
     {taken : List ℕ} {stops : List Stop} → HaveLeft plan May turns table_view keys traces taken stops → Back table_view plan.cpus keys
 workers_back have = record {
   count = have.count;

@@ -3,8 +3,8 @@ use Rattle.std.{proofs.Common.{◌≡◌, ℕ, ◌≤◌, List, [], length, Opti
 use Rattle.{boot.specs.Plan.{BootPlan, IsPlan, Task}, event_log.specs.declared.{entries.Entry.Entry, ids.{CpuId.CpuId, LockId.LockId, TheConstants.THREADS}}}
 use Rattle.{event_log.specs.Actions.Action, layer_traits.specs.Layers.{BufferLaw.{Buffering, UnderWay, buffering_at_start}, IpcLaw.OpensSo}}
 use Rattle.{layer_traits.specs.Views.OwnParts.threads_in, cpu.specs.{declared.guests.Guest.Guest, Boots.{AreGuests, IsBooted, guests_for, homes_for}}}
-use Rattle.cpu.specs.{Cpus.{IsCpu, guest_at, programs_of}, Sound.setup_for, Table.Setups.{Setup, Private, at_boot as boot_of, program_or}, Tables.IsTabled}
-use Rattle.cpu.{specs.{Tables.private, Tower.Views.{TowerBlock, TowerName}}, proofs.WholeSystems.{InvariantAtBoot.boots, PlanGuests.by_task}}
+use Rattle.cpu.specs.{Cpus.{IsCpu, guest_at, programs_of}, Sound.setup_for, Table.Setups.{Setup, Private, boot_of, program_or}, Tables.IsTabled}
+use Rattle.cpu.{specs.{Tables.private, Tower.Views.{TowerBlock, TowerName}}, proofs.WholeSystems.{InvariantAtBoot.cpu_boots, PlanGuests.by_task}}
 use Rattle.cpu.proofs.{WholeSystems.SystemsAtBoot.private_boots, ListFacts.{ListReads.shows_at, GuestLists.guest_with}, StepTable.TableCalls.boots_tabled}
 use Rattle.cpu_workers.specs.{declared.workers.{gates.Go.Go, turns.Did.Did}, Reports.HasRun, Seating.{HasLeft, IsApart, IsAtBoot}, Working.{Charge, IsPlanned}}
 use Rattle.cpu_workers.specs.Working.{Working}
@@ -17,7 +17,7 @@ module _ {homes : List CpuId} {buffers : ℕ} {number : CpuId} {guests : List (O
       → under_way ≡ None → IsCpu its_homes count seen (threads_in own) own.call_states under_way its table trace limit capacity
   boots_over few same counted none own_is nothing =
       rw (same, counted, none, own_is, nothing, made.number_is, made.guests_are, made.nothing, made.limit_is)
-      (boots homes buffers number guests most capacity are few made.reserved)
+      (cpu_boots homes buffers number guests most capacity are few made.reserved)
 
   pub tabled_over : {its_homes : List CpuId} {caps : List ℕ} {own : Buffering} {under_way : Option UnderWay} {opening : LockId → Option TowerBlock}
       → its_homes ≡ homes → own ≡ buffering_at_start homes number → under_way ≡ None → OpensSo caps homes number opening

@@ -6,8 +6,8 @@ use Rattle.event_log.{specs.{Actions.{acts_of, renamed}, History.{AreOthers, own
 use Rattle.event_log.proofs.{Foreign.{acts_of-append, others_acts, own_append}, Renaming.others_renamed}
 use Rattle.layer_traits.specs.{declared.queue_edits.QueueBlock.QueueBlock, Blocks.BufferEffects.contents_of, Threads.OnePlace.cpu_at}
 use Rattle.layer_traits.{specs.{Views.Renaming.renamed_edit, Protocols.WordsProtocol.edit_of}, proofs.PlanRenaming.map-append}
-use Rattle.{table_machine.specs.SeatViews.{TableView, Closes}, cpu.specs.{Claims.{buffer_at, listed}, Table.Setups.Setup, Tower.Views.TowerName}}
-use Rattle.cpu_workers.specs.{Closing.{Key, LockBlock, StartsSo, acts_in, blocks_read, tower_rules, WordsOfTower}, Lawful.messages_in, Natives.left_of}
+use Rattle.{table_machine.specs.SeatViews.{TableView, ClosesTable}, cpu.specs.{Claims.{buffer_at, listed}, Table.Setups.Setup, Tower.Views.TowerName}}
+use Rattle.cpu_workers.specs.{Closing.{Key, LockBlock, StartsSo, acts_in, blocks_read, tower_rules, WordsOfTower}, Lawful.messages_in, Natives.left_among}
 use Rattle.cpu_workers.{specs.Orders.{IsTraceOf, effects_of}, proofs.{ClosedLog.{effects_may, messages_left}, OneOrder.{HasOrder, none_own, one_order}}}
 use Rattle.cpu_workers.proofs.OneOrder.{trace_in}
 use Rattle.sleep_wakeup.specs.Nested as sleep
@@ -18,16 +18,16 @@ use Rattle.queuing_lock.specs.Nested as lock
 -- the actions of a longer log
 acts_append : (more past : WordsOfTower) → acts_in (more ++ past) ≡ acts_in more ++ acts_in past
 acts_append more past =
-    ap (λ l. map (renamed (renamed_edit lock.edit_in)) (map (renamed (renamed_edit sleep.edit_in)) l)) (acts_of-append edit_of more past)
-    ∙ ap (map (renamed (renamed_edit lock.edit_in))) (map-append (renamed (renamed_edit sleep.edit_in)) (acts_of edit_of more) (acts_of edit_of past))
-    ∙ map-append (renamed (renamed_edit lock.edit_in)) (map (renamed (renamed_edit sleep.edit_in)) (acts_of edit_of more))
-    (map (renamed (renamed_edit sleep.edit_in)) (acts_of edit_of past))
+    ap (λ l. map (renamed (renamed_edit lock.lock_call)) (map (renamed (renamed_edit sleep.slept_edit)) l)) (acts_of-append edit_of more past)
+    ∙ ap (map (renamed (renamed_edit lock.lock_call))) (map-append (renamed (renamed_edit sleep.slept_edit)) (acts_of edit_of more) (acts_of edit_of past))
+    ∙ map-append (renamed (renamed_edit lock.lock_call)) (map (renamed (renamed_edit sleep.slept_edit)) (acts_of edit_of more))
+    (map (renamed (renamed_edit sleep.slept_edit)) (acts_of edit_of past))
 
 -- and whose they are
 acts_others : (c : CpuId) (more : WordsOfTower) → AreOthers cpu_of_event c more → AreOthers cpu_of_action c (acts_in more)
 acts_others c more others =
-    others_renamed (renamed_edit lock.edit_in) c (map (renamed (renamed_edit sleep.edit_in)) (acts_of edit_of more))
-    (others_renamed (renamed_edit sleep.edit_in) c (acts_of edit_of more) (others_acts edit_of c more others))
+    others_renamed (renamed_edit lock.lock_call) c (map (renamed (renamed_edit sleep.slept_edit)) (acts_of edit_of more))
+    (others_renamed (renamed_edit sleep.slept_edit) c (acts_of edit_of more) (others_acts edit_of c more others))
 
 -- a list that went on from another and has no more of this CPU's events
 no_more_own : {E : Type 0} (by : E → CpuId) (c : CpuId) (log more past : List E) → log ≡ more ++ past → own_events by c log ≡ own_events by c past
@@ -77,7 +77,7 @@ pub record Goes (acts past : List (Action TowerName)) (c : CpuId) : Type 0 where
   pub others : AreOthers cpu_of_action c more
 
 module _ (setup : Setup) (table_view : TableView (QueueBlock LockBlock)) (so : StartsSo setup table_view) (keys : List Key)
-    (blocks : List (LockId × QueueBlock LockBlock)) (closes : Closes tower_rules table_view keys blocks) where
+    (blocks : List (LockId × QueueBlock LockBlock)) (closes : ClosesTable tower_rules table_view keys blocks) where
   abbrev pub acts : List (Action TowerName)
   acts = acts_in closes.log
 
@@ -94,10 +94,10 @@ module _ (setup : Setup) (table_view : TableView (QueueBlock LockBlock)) (so : S
       }
 
   -- and no other CPU acts
-  pub rest : (c : CpuId) → setup.cpus ≤ c.0 → AreOthers cpu_of_action c acts
-  rest c beyond = let past = so.cpus in acts_others c closes.log (none_own cpu_of_event c closes.log (closes.rest c (omega (arith, beyond, past))))
+  pub other_cpus_rest : (c : CpuId) → setup.cpus ≤ c.0 → AreOthers cpu_of_action c acts
+  other_cpus_rest c beyond = let past = so.cpus in acts_others c closes.log (none_own cpu_of_event c closes.log (closes.rest c (omega (arith, beyond, past))))
 
-  contents_are : contents_of setup.caps (effects_of setup.caps acts) ≡ left_of (length setup.caps) blocks
+  contents_are : contents_of setup.caps (effects_of setup.caps acts) ≡ left_among (length setup.caps) blocks
   contents_are =
       listed_so [] (λ b. messages_in (blocks_read blocks (AtBuffer (buffer_at b)))) (length setup.caps) 0
       (contents_of setup.caps (effects_of setup.caps acts))
@@ -107,13 +107,13 @@ module _ (setup : Setup) (table_view : TableView (QueueBlock LockBlock)) (so : S
       ∙ ap (λ k. messages_in (blocks_read blocks (AtBuffer (buffer_at k)))) zero_plus)
 
   -- the traces have one order, that of the effects of the list, which is a run and ends in what is left
-  pub ordered : (traces : List (List Entry)) → length traces ≡ setup.cpus → ((c : CpuId) → c.0 < setup.cpus → HasCome setup keys traces c)
-      → HasOrder setup.caps traces (effects_of setup.caps acts) (left_of (length setup.caps) blocks)
-  ordered traces count each =
+  pub traces_ordered : (traces : List (List Entry)) → length traces ≡ setup.cpus → ((c : CpuId) → c.0 < setup.cpus → HasCome setup keys traces c)
+      → HasOrder setup.caps traces (effects_of setup.caps acts) (left_among (length setup.caps) blocks)
+  traces_ordered traces count each =
       let few = so.small in
       subst (λ (l : List (List Message)). HasOrder setup.caps traces (effects_of setup.caps acts) l) contents_are
       (one_order setup.caps acts traces setup.trace_room (effects_may setup table_view so closes.log closes.legal)
-      (λ c beyond. own_none cpu_of_action c acts (rest c (omega (arith, beyond, count))))
+      (λ c beyond. own_none cpu_of_action c acts (other_cpus_rest c (omega (arith, beyond, count))))
       (λ k within. let one = each (cpu_at k) (omega (arith, within, count)) in
       let goes = goes_on (cpu_at k) one.key one.key_at one.cpu_is in
       get_or_from_slice_get traces k one.trace [] one.trace_at

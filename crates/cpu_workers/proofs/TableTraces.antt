@@ -7,10 +7,10 @@ use Rattle.event_log.{specs.{Runs.Closes, Sections.sections_in}, proofs.{Same.sa
 use Rattle.layer_traits.specs.declared.{locked.Side.{Side, TheVariants.{Receivers, Senders}}, call_states.Stage.{Stage, TheVariants.{Idle, Acquires, Enters}}}
 use Rattle.layer_traits.specs.{declared.call_states.Stage.TheVariants.{Tries, Waits, AcquiresAgain, Signals, SignalsOwn, Releases}, Polling.Plans.at_give}
 use Rattle.{layer_traits.specs.Polling.{Plans.is_in_section, Along.{starts, others, steps}}, cpu.specs.Table.Blocks.{Block, OfBuffer, OfPending, Name, TryPut}}
-use Rattle.cpu.specs.Table.{Blocks.{TryTake, Shut, NotYet, side_of}, Steps.{AlongTable, after_reply, block_at, chosen, cpu_step, step_in}, Edits.answer}
-use Rattle.cpu.specs.Table.{Edits.{may_try, report_of_put, report_of_take}, Setups.{Setup, Call, Private, thread_at}, Choice.{asked, asked_at, asked_by}}
-use Rattle.cpu.specs.Table.Choice.{asked_in, Choice, Halts, Alone, Goes, after_at, after_by, after_call, after_in, choice, first_section, recorded}
-use Rattle.cpu.specs.{Table.Choice.{recorded_entry, recorded_try, section_at, settled, slept_if, try_of, woken}, Wakeups.Order.block_of}
+use Rattle.cpu.specs.Table.{Blocks.{TryTake, Shut, NotYet, side_of_group}, Steps.{AlongTable, after_reply, block_at, chosen_step, cpu_step, step_in}}
+use Rattle.cpu.specs.Table.{Edits.{answer, may_try, report_of_put, report_of_take}, Setups.{Setup, Call, Private, thread_at}, Choice.{asked, asked_at}}
+use Rattle.cpu.specs.Table.Choice.{asked_by, asked_in, Choice, Halts, Alone, Goes, after_at, after_by, after_call, after_in, choice, first_section, with_told}
+use Rattle.cpu.specs.{Table.Choice.{recorded_entry, recorded_try, section_due, settled, slept_if, try_due, woken}, Wakeups.Order.block_of}
 use Rattle.cpu.proofs.Wakeups.{CpusByTable.along_ok, ReachedStates.{IsFair, IsFairLog, Ok, lock_in}}
 
 -- how many effects a section has on this block: one or none
@@ -62,7 +62,7 @@ module _ (setup : Setup) (c : CpuId) where
   take_grew p t call false items op = stays p.trace p.trace refl
 
   try_grew : (p : Private) (t : Tid) (call : Call) (side : Side) (x : Block)
-      → Grew p.trace (recorded_try c p t call (answer (try_of t call side) x).told).trace (grown (try_of t call side) (Some x))
+      → Grew p.trace (recorded_try c p t call (answer (try_due t call side) x).told).trace (grown (try_due t call side) (Some x))
   try_grew p t call Senders (OfBuffer k) = put_grew p t call (may_try Senders t k) k.closed k.effects call.message
   try_grew p t call Receivers (OfBuffer k) = take_grew p t call (may_try Receivers t k) k.items k.effects
   try_grew p t call Senders (OfPending threads) = stays p.trace p.trace refl
@@ -78,13 +78,13 @@ module _ (setup : Setup) (c : CpuId) where
   entry_grew p t call Closes (OfPending threads) = stays p.trace p.trace refl
 
   signals_none : (t : Tid) (call : Call) (x : Block)
-      → (grown (section_at t call Signals) (Some x) ≡ 0) × (grown (section_at t call SignalsOwn) (Some x) ≡ 0)
+      → (grown (section_due t call Signals) (Some x) ≡ 0) × (grown (section_due t call SignalsOwn) (Some x) ≡ 0)
   signals_none t call x = grind arith
 
   section_grew : (p : Private) (t : Tid) (call : Call) (stage : Stage) (x : Block)
-      → Grew p.trace (recorded c p t call stage (answer (section_at t call stage) x).told).trace (grown (section_at t call stage) (Some x))
+      → Grew p.trace (with_told c p t call stage (answer (section_due t call stage) x).told).trace (grown (section_due t call stage) (Some x))
   section_grew p t call Enters x = entry_grew p t call call.asks x
-  section_grew p t call Tries x = try_grew p t call (side_of call.asks) x
+  section_grew p t call Tries x = try_grew p t call (side_of_group call.asks) x
   section_grew p t call Signals x = subst (λ n. Grew p.trace p.trace n) (sym (signals_none t call x).0) (stays p.trace p.trace refl)
   section_grew p t call SignalsOwn x = subst (λ n. Grew p.trace p.trace n) (sym (signals_none t call x).1) (stays p.trace p.trace refl)
   section_grew p t call Acquires x = stays p.trace p.trace refl
@@ -96,11 +96,11 @@ module _ (setup : Setup) (c : CpuId) where
   -- What a section leaves.
 
   call_grew : (p : Private) (t : Tid) (call : Call) (x : Block)
-      → Grew p.trace (after_call setup c p t call (answer (section_at t call call.stage) x)).trace (grown (section_at t call call.stage) (Some x))
+      → Grew p.trace (after_call setup c p t call (answer (section_due t call call.stage) x)).trace (grown (section_due t call call.stage) (Some x))
   call_grew p t call x =
       let told = section_grew p t call call.stage x in
-      let a = answer (section_at t call call.stage) x in
-      let q = recorded c p t call call.stage a.told in
+      let a = answer (section_due t call call.stage) x in
+      let q = with_told c p t call call.stage a.told in
       record {
         more = told.more;
         is = settled_trace (woken setup c a.woke (slept_if a.slept q)) ∙ woken_trace a.woke (slept_if a.slept q) ∙ slept_trace a.slept q ∙ told.is;
@@ -166,10 +166,11 @@ module _ (setup : Setup) (c : CpuId) where
   step_grew p log ok = by_section (is_in_section (phase c log)) refl
     where
       by_choice : is_in_section (phase c log) ≡ false → (what : Choice) → KeepsTrace p what
-          → Grew p.trace (chosen setup c p what log).next.trace (made (chosen setup c p what log).acts log)
+          → Grew p.trace (chosen_step setup c p what log).next.trace (made (chosen_step setup c p what log).acts log)
       by_choice rests (Halts reason) same = stays p.trace p.trace refl
       by_choice rests (Alone q) same = stays p.trace q.trace same
-      by_choice rests (Goes q) same = subst (λ (old : List Entry). Grew old (chosen setup c p (Goes q) log).next.trace (made (chosen setup c p (Goes q)
+      by_choice rests (Goes q) same =
+          subst (λ (old : List Entry). Grew old (chosen_step setup c p (Goes q) log).next.trace (made (chosen_step setup c p (Goes q)
           log).acts log)) same (acting_grew q log (λ lock at. nowhere (phase c log) lock rests at) (phase c log) refl)
 
       by_section : (inside : Bool) → is_in_section (phase c log) ≡ inside

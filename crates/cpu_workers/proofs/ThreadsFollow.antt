@@ -4,21 +4,20 @@ use Rattle.std.proofs.{Common.{option_map, if◌then◌else◌, slice_index_or, 
 use Rattle.std.proofs.lemmas.List.{Elements.filter-append, append-nil, get_or_past, reverse-append, set_past}
 use Rattle.event_log.specs.{declared.{entries.Entry.Entry, ids.{BufId.BufId, CpuId.CpuId, Tid.Tid}}, Actions.{Action, Phase, Rests, Waits as WaitsAt, Holds}}
 use Rattle.event_log.specs.{Actions.phase, Messages.{Message, no_message}, Runs.{Group, Sends, Receives, Closes}, Sections.sections_in}
-use Rattle.guest.specs.{State.{State, message_from, next_of, after_local}, Calls.{IsProgramsCalls, starts as starts_program, sends, receives, closes, offers}}
-use Rattle.guest.specs.{Calls.asks as asks_closed, declared.instructions.Instruction.{Instruction, TheVariants.{Set, Add, Sub, Jnz, Send, Recv, Close, Yield}}}
-use Rattle.guest.{specs.declared.instructions.Instruction.TheVariants.Exit, proofs.CallsLemmas.{calls-local, calls-yield}}
-use Rattle.{thread_blocks.{specs.Queues.same_tid, proofs.Members.same_tid_true}, layer_traits.specs.declared.locked.Side.{Side, TheVariants.Receivers}}
-use Rattle.layer_traits.specs.declared.{locked.Side.TheVariants.Senders, call_states.Stage.{Stage, TheVariants.{Idle, Acquires, Enters, Tries, Waits}}}
-use Rattle.layer_traits.specs.declared.{call_states.Stage.TheVariants.{AcquiresAgain, Signals, SignalsOwn, Releases}, steps.Reason.TheVariants.AllEnded}
-use Rattle.layer_traits.specs.{declared.steps.Reason.TheVariants.TraceFull, Polling.{Plans.{at_give, is_in_section}, Along.{starts, others, steps}}}
-use Rattle.cpu.specs.Table.{Blocks.{Block, OfBuffer, OfPending, Name, Reported, Done, WasClosed, NotYet, side_of, effect_of}, Edits.{answer, drawn_position}}
-use Rattle.cpu.specs.Table.{Edits.{may_try, report_of_put}, Setups.{Setup, Call, Private, Thread, has_none, have_ended, home_threads, new_thread, open_calls}}
-use Rattle.cpu.specs.Table.{Setups.{program_of, stands_at, thread_at, with_thread, at_boot}, Choice.{asked, asked_at, asked_by, asked_in, at_call, at_current}}
-use Rattle.cpu.specs.Table.Choice.{at_hand, at_instruction, at_ready, Choice, Halts, Alone, Goes, after_at, after_by, after_call, after_in, begins, choice}
-use Rattle.cpu.specs.Table.Choice.{effected, first_section, guest_after, new_call, with_call, with_guest, recorded, recorded_entry, recorded_try, returned_at}
-use Rattle.cpu.specs.Table.{Choice.{returned_by, returned_in, section_at, settled, slept_if, try_of, woken}, Steps.{AlongTable, acting, after_reply, chosen}}
-use Rattle.cpu.{specs.{Table.Steps.{cpu_step, step_in}, Cpus.of_thread, Wakeups.Order.block_of}, proofs.Wakeups.Agreement.{at_other, at_same}}
-use Rattle.{cpu.proofs.Wakeups.ReachedStates.all_new, cpu_workers.specs.Fronts.come_to}
+use Rattle.guest.specs.{State.{State, message_from, next_of, after_local}, Calls.{IsProgramsCalls, made_none, sends, receives, closes, offers, asks_in_vain}}
+use Rattle.guest.specs.declared.instructions.Instruction.{Instruction, TheVariants.{Set, Add, Sub, Jnz, Send, Recv, Close, Yield, Exit}}
+use Rattle.{guest.proofs.CallsLemmas.{calls-local, calls-yield}, thread_blocks.{specs.Queues.same_tid, proofs.Members.same_tid_true}}
+use Rattle.layer_traits.specs.declared.{locked.Side.{Side, TheVariants.{Receivers, Senders}}, call_states.Stage.{Stage, TheVariants.{Idle, Acquires, Enters}}}
+use Rattle.layer_traits.specs.declared.call_states.Stage.TheVariants.{Tries, Waits, AcquiresAgain, Signals, SignalsOwn, Releases}
+use Rattle.layer_traits.specs.{declared.steps.Reason.TheVariants.{AllEnded, TraceFull}, Polling.{Plans.{at_give, is_in_section}, Along.{starts, others, steps}}}
+use Rattle.cpu.specs.Table.{Blocks.{Block, OfBuffer, OfPending, Name, Reported, Done, WasClosed, NotYet, side_of_group, kind_for}, Edits.answer}
+use Rattle.cpu.specs.Table.{Edits.{drawn_position, may_try, report_of_put}, Setups.{Setup, Call, Private, Thread, has_none, have_ended, home_threads}}
+use Rattle.cpu.specs.Table.{Setups.{new_thread, open_calls, program_of, stands_at, thread_at, with_thread, boot_of}, Choice.{asked, asked_at, asked_by}}
+use Rattle.cpu.specs.Table.Choice.{asked_in, at_call, at_current, at_hand, at_instruction, at_ready, Choice, Halts, Alone, Goes, after_at, after_by, after_call}
+use Rattle.cpu.specs.Table.Choice.{after_in, begin_or_halt, choice, effected, first_section, guest_after, new_call, with_call, with_state, with_told}
+use Rattle.cpu.specs.Table.Choice.{recorded_entry, recorded_try, returned_at, returned_by, returned_in, section_due, settled, slept_if, try_due, woken}
+use Rattle.cpu.specs.{Table.Steps.{AlongTable, acting, after_reply, chosen_step, cpu_step, step_in}, Cpus.of_thread, Wakeups.Order.block_of}
+use Rattle.{cpu.proofs.Wakeups.{Agreement.{at_other, at_same}, ReachedStates.all_new}, cpu_workers.specs.Fronts.come_to}
 
 -- What a call has to do with its program.
 
@@ -73,24 +72,24 @@ Stood program s es (Some call) = Inside program s es call call.effect
 -- an effect is one more of the program's calls
 effect_more : (program : List Instruction) (s : State) (es : List Entry) (i : Instruction) (group : Group) (buffer : BufId) (message m : Message)
     (closed : Bool) (e : Entry) → next_of program s ≡ i → Asks i s group buffer message → (closed ≡ true → IsLined group) → (group ≡ Sends → m ≡ message)
-    → IsProgramsCalls program es s → e.kind ≡ effect_of group closed → e.buffer ≡ buffer → e.value ≡ m
+    → IsProgramsCalls program es s → e.kind ≡ kind_for group closed → e.buffer ≡ buffer → e.value ≡ m
     → IsProgramsCalls program (e ∷ es) (guest_after group closed i m s)
 effect_more program s es (Send b from k) group buffer message m false e at asks lined sent calls kind on value =
     subst (λ (g : Group). IsProgramsCalls program (e ∷ es) (guest_after g false (Send b from k) m s)) (sym asks.0)
-    (sends b from k e calls at (kind ∙ ap (λ g. effect_of g false) asks.0) (on ∙ asks.1) (value ∙ sent asks.0 ∙ asks.2))
+    (sends b from k e calls at (kind ∙ ap (λ g. kind_for g false) asks.0) (on ∙ asks.1) (value ∙ sent asks.0 ∙ asks.2))
 effect_more program s es (Send b from k) group buffer message m true e at asks lined sent calls kind on value =
     subst (λ (g : Group). IsProgramsCalls program (e ∷ es) (guest_after g true (Send b from k) m s)) (sym asks.0)
-    (offers b from k e calls at (kind ∙ ap (λ g. effect_of g true) asks.0) (on ∙ asks.1) (value ∙ sent asks.0 ∙ asks.2))
+    (offers b from k e calls at (kind ∙ ap (λ g. kind_for g true) asks.0) (on ∙ asks.1) (value ∙ sent asks.0 ∙ asks.2))
 effect_more program s es (Recv b into k) group buffer message m false e at asks lined sent calls kind on value =
     subst (λ (g : Group). IsProgramsCalls program (e ∷ es) (guest_after g false (Recv b into k) m s)) (sym asks.0)
     (subst (λ (n : Message). IsProgramsCalls program (e ∷ es) (guest_after Receives false (Recv b into k) n s)) value
-    (receives b into k e calls at (kind ∙ ap (λ g. effect_of g false) asks.0) (on ∙ asks.1)))
+    (receives b into k e calls at (kind ∙ ap (λ g. kind_for g false) asks.0) (on ∙ asks.1)))
 effect_more program s es (Recv b into k) group buffer message m true e at asks lined sent calls kind on value =
     subst (λ (g : Group). IsProgramsCalls program (e ∷ es) (guest_after g true (Recv b into k) m s)) (sym asks.0)
-    (asks_closed b into k e calls at (kind ∙ ap (λ g. effect_of g true) asks.0) (on ∙ asks.1))
+    (asks_in_vain b into k e calls at (kind ∙ ap (λ g. kind_for g true) asks.0) (on ∙ asks.1))
 effect_more program s es (Close b) group buffer message m false e at asks lined sent calls kind on value =
     subst (λ (g : Group). IsProgramsCalls program (e ∷ es) (guest_after g false (Close b) m s)) (sym asks.0)
-    (closes b e calls at (kind ∙ ap (λ g. effect_of g false) asks.0) (on ∙ asks.1))
+    (closes b e calls at (kind ∙ ap (λ g. kind_for g false) asks.0) (on ∙ asks.1))
 effect_more program s es (Close b) group buffer message m true e at asks lined sent calls kind on value =
     absurd (subst IsLined asks.0 (lined refl))
 effect_more program s es other group buffer message m closed e at asks lined sent calls kind on value = absurd asks
@@ -129,7 +128,7 @@ module _ (setup : Setup) where
   -- one that is in no call has gone on by itself
   set_guest : (p : Private) (t : Tid) (guest : State) → (thread_at p t).call ≡ None → Follow p
       → (IsProgramsCalls (program_of setup t) (entries_in p t) (thread_at p t).guest → IsProgramsCalls (program_of setup t) (entries_in p t) guest)
-      → Follow (with_guest p t guest)
+      → Follow (with_state p t guest)
   set_guest p t guest outside follow more =
       set_thread p t _ follow (subst (λ o. Stood (program_of setup t) guest (entries_in p t) o) (sym outside)
       (more (subst (λ o. Stood (program_of setup t) (thread_at p t).guest (entries_in p t) o) outside (follow t))))
@@ -163,11 +162,11 @@ module _ (setup : Setup) where
   put_message lets closed of op put m is = grind arith
 
   -- what a send tells that it has put is its message
-  sent_message : (t : Tid) (call : Call) (side : Side) → side_of call.asks ≡ side → (x : Block) (op : ℕ) (m : Message)
-      → (answer (try_of t call side) x).told ≡ Done op m → call.asks ≡ Sends → m ≡ call.message
+  sent_message : (t : Tid) (call : Call) (side : Side) → side_of_group call.asks ≡ side → (x : Block) (op : ℕ) (m : Message)
+      → (answer (try_due t call side) x).told ≡ Done op m → call.asks ≡ Sends → m ≡ call.message
   sent_message t call Senders is (OfBuffer k) op m told sent = put_message (may_try Senders t k) k.closed k.effects op call.message m told
   sent_message t call Senders is (OfPending threads) op m told sent = absurd (cc told)
-  sent_message t call Receivers is x op m told sent = absurd (cc (sym (ap side_of sent) ∙ is))
+  sent_message t call Receivers is x op m told sent = absurd (cc (sym (ap side_of_group sent) ∙ is))
 
   -- A thread inside a call.
 
@@ -247,11 +246,11 @@ module _ (setup : Setup) where
       entry_follows at Receives is (OfPending threads) = follow
       entry_follows at Closes is (OfPending threads) = follow
 
-      section_follows : (stage : Stage) → call.stage ≡ stage → (x : Block) → Follow (recorded c p t call stage (answer (section_at t call stage) x).told)
+      section_follows : (stage : Stage) → call.stage ≡ stage → (x : Block) → Follow (with_told c p t call stage (answer (section_due t call stage) x).told)
       section_follows Acquires at x = goes call.position Enters (λ early. tt) (late_at at)
       section_follows Enters at x = entry_follows at call.asks refl x
       section_follows Tries at x =
-          let side = side_of call.asks in try_follows at (answer (try_of t call side) x).told (sent_message t call side refl x)
+          let side = side_of_group call.asks in try_follows at (answer (try_due t call side) x).told (sent_message t call side refl x)
       section_follows Waits at x = goes call.position AcquiresAgain (early_at at) (late_at at)
       section_follows AcquiresAgain at x = goes call.position Tries (early_at at) (late_at at)
       section_follows Signals at x = goes call.position SignalsOwn (early_at at) (λ late. tt)
@@ -287,10 +286,10 @@ module _ (setup : Setup) where
 
   module _ (c : CpuId) (p : Private) (follow : Follow p) where
     call_follows : (t : Tid) (call : Call) → (thread_at p t).call ≡ Some call → (x : Block)
-        → Follow (after_call setup c p t call (answer (section_at t call call.stage) x))
+        → Follow (after_call setup c p t call (answer (section_due t call call.stage) x))
     call_follows t call inside x =
-        let a = answer (section_at t call call.stage) x in
-        let q = recorded c p t call call.stage a.told in
+        let a = answer (section_due t call call.stage) x in
+        let q = with_told c p t call call.stage a.told in
         settled_follows (woken setup c a.woke (slept_if a.slept q))
         (woken_follows c a.woke (slept_if a.slept q) (slept_follows a.slept q (section_follows p t call inside follow c call.stage refl x)))
 
@@ -328,7 +327,7 @@ module _ (setup : Setup) where
   choice_follows c p follow = by_hand p.hand
     where
       begun : (t : Tid) (call : Call) → Opened (program_of setup t) (thread_at p t).guest (entries_in p t) call → call.effect ≡ None
-          → FollowChosen (begins setup c p t call)
+          → FollowChosen (begin_or_halt setup c p t call)
       begun t call opened fresh = by_room ((length p.trace + open_calls p (home_threads setup c)) == setup.trace_room)
         where
           by_room : (full : Bool) → FollowChosen (if full then Halts TraceFull else Goes (with_call p t (Some call)))
@@ -337,7 +336,7 @@ module _ (setup : Setup) where
               (subst (λ o. Inside (program_of setup t) (thread_at p t).guest (entries_in p t) call o) (sym fresh) opened)
 
       computes : (t : Tid) (i : Instruction) → (thread_at p t).call ≡ None → stands_at setup p t ≡ i
-          → Follow (with_guest p t (after_local i (thread_at p t).guest))
+          → Follow (with_state p t (after_local i (thread_at p t).guest))
       computes t i outside at = set_guest p t _ outside follow (λ calls.
           subst (λ line. IsProgramsCalls (program_of setup t) (entries_in p t) (after_local line (thread_at p t).guest)) at
           (calls-local (program_of setup t) (entries_in p t) (thread_at p t).guest calls))
@@ -387,7 +386,7 @@ module _ (setup : Setup) where
       acted : (q : Private) → Follow q → Follow (acting setup c q log).next
       acted q now = acting_follows c q now (phase c log) (block_of setup (asked setup c q).lock (sections_in log))
 
-      by_choice : (what : Choice) → FollowChosen what → Follow (chosen setup c p what log).next
+      by_choice : (what : Choice) → FollowChosen what → Follow (chosen_step setup c p what log).next
       by_choice (Halts reason) is = follow
       by_choice (Alone q) is = is
       by_choice (Goes q) is = acted q is
@@ -396,8 +395,8 @@ module _ (setup : Setup) where
       by_section true = acted p follow
       by_section false = by_choice (choice setup c p) (choice_follows c p follow)
 
-  boot_follows : (c : CpuId) → Follow (at_boot setup c)
-  boot_follows c t = subst (λ (x : Thread). Stood (program_of setup t) x.guest [] x.call) (sym (all_new setup.homes t.0)) starts_program
+  boot_follows : (c : CpuId) → Follow (boot_of setup c)
+  boot_follows c t = subst (λ (x : Thread). Stood (program_of setup t) x.guest [] x.call) (sym (all_new setup.homes t.0)) made_none
 
   along_follows : (c : CpuId) (n : ℕ) (p : Private) (log : List (Action Name)) → AlongTable setup c n p log → Follow p
   along_follows c n p log starts = boot_follows c

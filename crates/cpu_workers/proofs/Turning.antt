@@ -4,15 +4,15 @@ use Rattle.std.proofs.lemmas.Bool.{cases_lt}
 use Rattle.event_log.{specs.{declared.ids.CpuId.CpuId, History.AreOthers, Actions.{Action, cpu_of_action, phase}}, proofs.Foreign.phase_others}
 use Rattle.layer_traits.specs.{declared.steps.{Reason.Reason, Step.{Step, TheVariants.Stepped}}, Polling.Along.{Outcome, Along, starts, others, steps, IsStep}}
 use Rattle.{layer_traits.specs.Polling.Plans.is_in_section, cpu.specs.Table.{Blocks.Name, Setups.{Setup, Private}, Steps.{cpu_step, halted_at}}}
-use Rattle.{cpu.{specs.Tower.{Composed.{answer_of, named}, Views.TowerName}, proofs.Tower.Polls.halts_exactly}, cpu_workers.specs.declared.workers.gates.Go.Go}
-use Rattle.cpu_workers.specs.declared.workers.{gates.Go.TheVariants.{Limit, Pass}, stops.Stop.{Stop, TheVariants.{AllEnded, TurnsUsed, TraceFull, Held}}}
-use Rattle.cpu_workers.specs.{Working.{IsPlanned, IsSame, MayStep, Charge, Turned, Working, is_inside, log}, Reports.{Counts, HasRun, IsTrueStop, MayHold}}
-use Rattle.cpu_workers.specs.Reports.{Took, TookWithin, Within, another, below, counted_on, most, MayTake, none_taken, one_taken, PassedAtEach, AskedAtEach}
-use Rattle.cpu_workers.specs.Reports.{WasHeld}
+use Rattle.cpu.{specs.Tower.{Composed.{busy_step_answer, named}, Views.TowerName}, proofs.Tower.Polls.halts_exactly}
+use Rattle.cpu_workers.specs.declared.workers.{gates.Go.{Go, TheVariants.{Limit, Pass}}, stops.Stop.{Stop, TheVariants.{AllEnded, TurnsUsed, TraceFull, Held}}}
+use Rattle.cpu_workers.specs.{Working.{IsPlanned, IsSame, MayStep, Charge, Turned, Working, is_inside, log}, Reports.{CountsTurns, HasRun, IsTrueStop, MayHold}}
+use Rattle.cpu_workers.specs.Reports.{Walked, TookWithin, Within, another, below, counted_on, most, MayTakeTurn, none_taken, one_taken, PassedAtEach}
+use Rattle.cpu_workers.specs.Reports.{AskedAtEach, WasHeld}
 
 -- Numbers of turns.
 
-counts_more : (shown count : ℕ) → Counts shown count → Counts (counted_on shown) (count + 1)
+counts_more : (shown count : ℕ) → CountsTurns shown count → CountsTurns (counted_on shown) (count + 1)
 counts_more shown count counts =
     let least = counts.least in
     let exact = counts.exact in
@@ -25,7 +25,7 @@ taken_after : (taken k : ℕ) → k ≤ taken → k ≤ counted_on taken
 taken_after taken k least = grind (arith, least)
 
 -- a turn that is shown to be below a number of 64 bits was taken below it
-below_shown : (turns shown : ℕ) → turns ≤ most → shown < turns → (count : ℕ) → Counts shown count → below turns count
+below_shown : (turns shown : ℕ) → turns ≤ most → shown < turns → (count : ℕ) → CountsTurns shown count → below turns count
 below_shown turns shown small short count counts =
     let same : count ≡ shown = counts.exact (omega (arith, small, short)) in omega (arith, same, short)
 
@@ -58,7 +58,7 @@ module _ {P N : Type 0} {table : P → List (Action N) → Outcome P N} {cpu : C
   steps_of (one_taken way may stepped) = steps (steps_of way) stepped
 
   pub took_of : {May : ℕ → Type 0} {last : P} {past : List (Action N)} {shown : ℕ} → TookWithin table cpu May first last past shown
-      → Took table cpu first last past shown
+      → Walked table cpu first last past shown
   took_of took = record { count = took.count; steps = steps_of took.steps; counted = took.counted }
 
   -- a way of no more than so many steps took each of them below that many
@@ -71,7 +71,7 @@ module _ {P N : Type 0} {table : P → List (Action N) → Outcome P N} {cpu : C
   -- one step of the table more, inside a section or where it is allowed
   took_one : {May : ℕ → Type 0} {p q : P} {old new : List (Action N)} {answer : Step} {shown : ℕ} → TookWithin table cpu May first p old shown
       → (went : IsStep (λ c. c ≡ cpu) table p q old new answer) → (table p (went.others ++ old)).answer ≡ Stepped
-      → (is_in_section (phase cpu old) ≡ true) ⊎ ((count : ℕ) → Counts shown count → May count) → TookWithin table cpu May first q new (counted_on shown)
+      → (is_in_section (phase cpu old) ≡ true) ⊎ ((count : ℕ) → CountsTurns shown count → May count) → TookWithin table cpu May first q new (counted_on shown)
   took_one {May} {p} {q} {old} {new} {shown = shown} took went stepped may = record {
     count = took.count + 1;
     steps = subst (λ (x : P). Within table cpu May first (took.count + 1) x new) (sym went.next)
@@ -80,7 +80,7 @@ module _ {P N : Type 0} {table : P → List (Action N) → Outcome P N} {cpu : C
     counted = counts_more shown took.count took.counted;
   }
     where
-      go : (is_in_section (phase cpu old) ≡ true) ⊎ ((count : ℕ) → Counts shown count → May count)
+      go : (is_in_section (phase cpu old) ≡ true) ⊎ ((count : ℕ) → CountsTurns shown count → May count)
           → (is_in_section (phase cpu (went.others ++ old)) ≡ true) ⊎ May took.count
       go (inl inside) = inl (ap is_in_section (phase_others cpu went.others old (went.foreign cpu refl)) ∙ inside)
       go (inr allowed) = inr (allowed took.count took.counted)
@@ -90,7 +90,7 @@ module _ {P N : Type 0} {table : P → List (Action N) → Outcome P N} {cpu : C
 -- by a table of its plan it took so many turns, between two sections only where it might; if the gate holds it, none after that but to end a
 -- section; and the gate was asked at each turn, and let whoever it does not hold pass
 pub record Goes (setup : Setup) (May : Go → ℕ → Type 0) (turns : ℕ) (start now : Working) (taken : ℕ) (held : Bool) : Type 0 where
-  pub within : TookWithin (cpu_step setup start.cpu) start.cpu (MayTake turns (May Pass)) start.private now.private (log now) taken
+  pub within : TookWithin (cpu_step setup start.cpu) start.cpu (MayTakeTurn turns (May Pass)) start.private now.private (log now) taken
   pub was_held : held ≡ true → WasHeld (cpu_step setup start.cpu) start.cpu (May Limit) start.private now.private (log now) taken
   pub asked : AskedAtEach May taken
   pub passed : held ≡ false → PassedAtEach (May Pass) taken
@@ -104,7 +104,8 @@ pub ran_none : (May : CpuId → Go → ℕ → Type 0) (turns : ℕ) (w : Workin
 ran_none May turns w fresh = record {
   same = record { cpu = refl; plan = refl; site = refl };
   goes = λ setup of. record {
-    within = subst (λ (l : List (Action TowerName)). TookWithin (cpu_step setup w.cpu) w.cpu (MayTake turns (May w.cpu Pass)) w.private w.private (named l) 0)
+    within =
+        subst (λ (l : List (Action TowerName)). TookWithin (cpu_step setup w.cpu) w.cpu (MayTakeTurn turns (May w.cpu Pass)) w.private w.private (named l) 0)
         (sym fresh) (record { count = 0; steps = none_taken; counted = record { least = omega arith; exact = λ few. refl } });
     was_held = λ is. absurd (cc is);
     asked = λ k before. absurd (omega (arith, before));
@@ -146,10 +147,10 @@ record Turn (setup : Setup) (cpu : CpuId) (now next : Working) (Free : Type 0) :
 
 -- the table's step is taken, whatever other CPUs did before it
 goes_on : (setup : Setup) (c : CpuId) (p : Private) (past more : List (Action Name)) → AreOthers cpu_of_action c more
-    → answer_of (is_in_section (phase c past)) (halted_at setup c p) ≡ Stepped → (cpu_step setup c p (more ++ past)).answer ≡ Stepped
+    → busy_step_answer (is_in_section (phase c past)) (halted_at setup c p) ≡ Stepped → (cpu_step setup c p (more ++ past)).answer ≡ Stepped
 goes_on setup c p past more theirs goes =
     halts_exactly setup c p (more ++ past)
-    ∙ (ap (λ f. answer_of (is_in_section f) (halted_at setup c p)) (phase_others c more past theirs) ∙ goes)
+    ∙ (ap (λ f. busy_step_answer (is_in_section f) (halted_at setup c p)) (phase_others c more past theirs) ∙ goes)
 
 -- the gate was asked, and holds the worker now or does not
 module _ {May : CpuId → Go → ℕ → Type 0} {turns : ℕ} {start now : Working} {taken : ℕ} {held : Bool} (ran : Ran May turns start now taken held) (new : Bool)
@@ -211,7 +212,7 @@ module _ {May : CpuId → Go → ℕ → Type 0} {turns : ℕ} {start now : Work
 
       allowed : (new ≡ false → (k : ℕ) → k ≤ taken → May start.cpu Pass k)
           → (is_in_section (phase start.cpu (log now)) ≡ true) ⊎ ((new ≡ false) × (taken < turns))
-          → (is_in_section (phase start.cpu (log now)) ≡ true) ⊎ ((count : ℕ) → Counts taken count → MayTake turns (May start.cpu Pass) count)
+          → (is_in_section (phase start.cpu (log now)) ≡ true) ⊎ ((count : ℕ) → CountsTurns taken count → MayTakeTurn turns (May start.cpu Pass) count)
       allowed all (inl within) = inl within
       allowed all (inr free) = inr (λ count counts. (below_shown turns taken small free.1 count counts, (taken, counts, all free.0)))
 

@@ -25,8 +25,8 @@ pub record IsCaller (PartFits Roomy Nothing Rests Opens : Type 0) (cpu : CpuId) 
   pub few : made ≤ MOST_CALLS
 
 -- a caller after one more entry
-abbrev pub with_call : CallerView → Entry → CallerView
-with_call caller e =
+abbrev pub with_entry : CallerView → Entry → CallerView
+with_entry caller e =
     record { cpu = caller.cpu; thread = caller.thread; caps = caller.caps; site = caller.site; calls = caller.calls ++ e ∷ [] }
 
 -- an effect without a message of its own carries none
@@ -43,13 +43,13 @@ pub record HasCalled (old new : CallerView) (call : Call) (reply : Reply) : Type
   pub is : IsEffectOf call effect
   pub carries : CarriesNone effect.kind effect.value
   pub replies : reply ≡ reply_of call effect
-  pub grows : new ≡ with_call old (entry_of old.cpu old.thread (buffer_of call) effect)
+  pub grows : new ≡ with_entry old (entry_of old.cpu old.thread (buffer_of call) effect)
 
 -- the caller has one entry more, of this kind on this buffer with this message
-pub record HasMade (old new : CallerView) (kind : Kind) (b : BufId) (value : Message) : Type 0 where
+pub record HasMadeCall (old new : CallerView) (kind : Kind) (b : BufId) (value : Message) : Type 0 where
   pub op : ℕ
   pub pos : ℕ
-  pub grows : new ≡ with_call old (entry old.cpu old.thread kind b value op pos)
+  pub grows : new ≡ with_entry old (entry old.cpu old.thread kind b value op pos)
 
 -- it is the same caller, which may have made more calls
 pub record IsSameCaller (old new : CallerView) : Type 0 where

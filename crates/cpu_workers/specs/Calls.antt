@@ -7,10 +7,10 @@ use Rattle.{layer_traits.specs.Layers.BufferLaw.{entry_of, going, reply_of}, cpu
 use Rattle.cpu_workers.specs.declared.workers.calling.Begun.{Begun, TheVariants.{Calls, Passes}}
 
 -- what is under way on the CPU of a thread that has begun this, or nothing
-abbrev pub under_way_of : Tid → Option Begun → Option UnderWay
-under_way_of t None = None
-under_way_of t (Some Calls) = Some (Calling t)
-under_way_of t (Some (Passes pass)) = Some (Passing pass)
+abbrev pub begun_under_way : Tid → Option Begun → Option UnderWay
+begun_under_way t None = None
+begun_under_way t (Some Calls) = Some (Calling t)
+begun_under_way t (Some (Passes pass)) = Some (Passing pass)
 
 -- the CPU with these threads may begin this: the call where its thread runs, a pass where it may come, unless it would end the thread that runs
 abbrev pub MayBegin : Tid → Threads → Begun → Type 0
@@ -18,9 +18,9 @@ MayBegin t own Calls = own.current ≡ Some t
 MayBegin t own (Passes pass) = MayPass pass own × (pass ≢ End)
 
 -- the same of a CPU that has begun this, or nothing
-abbrev pub MayPoll : Tid → Threads → Option Begun → Type 0
-MayPoll t own None = Unit {0}
-MayPoll t own (Some begun) = MayBegin t own begun
+abbrev pub MayPollBegun : Tid → Threads → Option Begun → Type 0
+MayPollBegun t own None = Unit {0}
+MayPollBegun t own (Some begun) = MayBegin t own begun
 
 -- an effect that came is one of the call
 abbrev pub IsOne : Call → Option Effect → Type 0
@@ -52,5 +52,5 @@ KeepsOn cpu t call before after seen new
     = (old : List Entry) → IsOn cpu t call (call_state_of before t) old seen → IsOn cpu t call (call_state_of after t) old new
 
 -- however far the call had come, it has returned with a poll that saw these entries
-abbrev pub Ends : CpuId → Tid → Call → Reply → List CallState → List Entry → List Entry → Type 0
-Ends cpu t call reply before seen new = (old : List Entry) → IsOn cpu t call (call_state_of before t) old seen → Returned cpu t call reply old new
+abbrev pub EndsCall : CpuId → Tid → Call → Reply → List CallState → List Entry → List Entry → Type 0
+EndsCall cpu t call reply before seen new = (old : List Entry) → IsOn cpu t call (call_state_of before t) old seen → Returned cpu t call reply old new

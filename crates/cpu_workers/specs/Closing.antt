@@ -10,11 +10,11 @@ use Rattle.layer_traits.specs.{Layers.Conditions.cv_rules, Protocols.{OneLock.op
 use Rattle.layer_traits.specs.{Polling.Plans.is_in_section, Views.Renaming.{renamed_edit, viewed, viewed_block}}
 use Rattle.sleep_wakeup.specs.{declared.edits.{SleepBlock.SleepBlock, SleepEdit.SleepEdit}, Nested.{nested_moves, nested_rules, state_of}}
 use Rattle.queuing_lock.specs.{declared.edits.{QBlock.QBlock, QLockEdit.QLockEdit}, Nested.{busy_rules, nested_lock_of}}
-use Rattle.{table_machine.specs.SeatViews.{TableView, Closes, SeatView}, cpu.specs.Table.{Blocks.Block, Setups.{Setup, Private, at_boot, program_of}}}
+use Rattle.{table_machine.specs.SeatViews.{TableView, ClosesTable, SeatView}, cpu.specs.Table.{Blocks.Block, Setups.{Setup, Private, boot_of, program_of}}}
 use Rattle.cpu.specs.{Table.{Setups.thread_at, Steps.{cpu_step, halted_at}}, Cpus.{IsOfHome, of_thread}, Tower.{Composed.named, Views.{TowerBlock, TowerName}}}
 use Rattle.{cpu.specs.Tower.Views.view, cpu_workers.specs.declared.workers.{gates.Go.{Go, TheVariants.{Limit, Pass}}, stops.Stop.{Stop, TheVariants.Held}}}
-use Rattle.cpu_workers.specs.{declared.workers.stops.Stop.TheVariants.TurnsUsed, Lawful.{IsLawfulReport, IsCpuReportOf, CpuReport, Shown}}
-use Rattle.cpu_workers.specs.{Orders.{FollowsProgram, IsTraceOf}, Reports.{IsTrueStop, MayTake, Took, TookWithin, WasHeld, PassedAtEach, AskedAtEach}}
+use Rattle.cpu_workers.specs.{declared.workers.stops.Stop.TheVariants.TurnsUsed, Lawful.{IsLawfulReport, IsCpuReportOf, CpuReport, ShownReport}}
+use Rattle.cpu_workers.specs.{Orders.{FollowsProgram, IsTraceOf}, Reports.{IsTrueStop, MayTakeTurn, Walked, TookWithin, WasHeld, PassedAtEach, AskedAtEach}}
 use Rattle.sleep_wakeup.specs.Nested as sleep
 use Rattle.queuing_lock.specs.Nested as lock
 
@@ -42,7 +42,7 @@ tower_rules = queue_rules (nested_rules (busy_rules (cv_rules buffer_monitor_rul
 
 -- the actions of a words log, by the names of the layers above
 abbrev pub acts_in : WordsOfTower → List (Action TowerName)
-acts_in log = map (renamed (renamed_edit lock.edit_in)) (map (renamed (renamed_edit sleep.edit_in)) (acts_of edit_of log))
+acts_in log = map (renamed (renamed_edit lock.lock_call)) (map (renamed (renamed_edit sleep.slept_edit)) (acts_of edit_of log))
 
 -- opening blocks, as the layers above see them
 abbrev pub seen_above : (LockId → Option (QueueBlock LockBlock)) → LockId → Option TowerBlock
@@ -76,9 +76,9 @@ pub record StartsSo (setup : Setup) (table_view : TableView (QueueBlock LockBloc
 -- home, and each thread at home followed its program
 pub record HasSeen (setup : Setup) (May : Go → ℕ → Type 0) (turns : ℕ) (c : CpuId) (acts : List (Action TowerName)) (line : CpuReport) : Type 0 where
   pub last : Private
-  pub took : Took (cpu_step setup c) c (at_boot setup c) last (named acts) line.taken
-  pub within : TookWithin (cpu_step setup c) c (MayTake turns (May Pass)) (at_boot setup c) last (named acts) line.taken
-  pub held : line.stop ≡ Held → WasHeld (cpu_step setup c) c (May Limit) (at_boot setup c) last (named acts) line.taken
+  pub took : Walked (cpu_step setup c) c (boot_of setup c) last (named acts) line.taken
+  pub within : TookWithin (cpu_step setup c) c (MayTakeTurn turns (May Pass)) (boot_of setup c) last (named acts) line.taken
+  pub held : line.stop ≡ Held → WasHeld (cpu_step setup c) c (May Limit) (boot_of setup c) last (named acts) line.taken
   pub asked : AskedAtEach May line.taken
   pub used : line.stop ≡ TurnsUsed → PassedAtEach (May Pass) line.taken
   pub rests : is_in_section (phase c (named acts)) ≡ false
@@ -92,7 +92,7 @@ pub record HasSeen (setup : Setup) (May : Go → ℕ → Type 0) (turns : ℕ) (
       → FollowsProgram (program_of setup t) (of_thread t.0 line.trace) (thread_at last t).ended
 
 -- the report has a line for each worker that came back with the key of its CPU, and no more lines
-pub record HaveCome (setup : Setup) (May : CpuId → Go → ℕ → Type 0) (turns : ℕ) (keys : List Key) (r : Shown) : Type 0 where
+pub record HaveCome (setup : Setup) (May : CpuId → Go → ℕ → Type 0) (turns : ℕ) (keys : List Key) (r : ShownReport) : Type 0 where
   pub traces : length r.traces ≡ setup.cpus
   pub taken : length r.taken ≡ setup.cpus
   pub stops : length r.stops ≡ setup.cpus
@@ -100,18 +100,18 @@ pub record HaveCome (setup : Setup) (May : CpuId → Go → ℕ → Type 0) (tur
       × HasSeen setup (May c) turns c (acts_in key.seen) line
 
 -- a report of the closed table, whose blocks are those that `close` gave
-abbrev pub shown : List (List Entry) → List ℕ → List Stop → List (LockId × QueueBlock LockBlock) → Shown
+abbrev pub shown : List (List Entry) → List ℕ → List Stop → List (LockId × QueueBlock LockBlock) → ShownReport
 shown traces taken stops blocks = record { traces = traces; taken = taken; stops = stops; blocks = blocks_read blocks }
 
 -- the workers of a table came back, the table was closed with their keys and gave these blocks, and this is the report
 pub record IsReported (setup : Setup) (May : CpuId → Go → ℕ → Type 0) (turns : ℕ) (table_view : TableView (QueueBlock LockBlock)) (keys : List Key)
-    (blocks : List (LockId × QueueBlock LockBlock)) (r : Shown) : Type 0 where
+    (blocks : List (LockId × QueueBlock LockBlock)) (r : ShownReport) : Type 0 where
   pub starts : StartsSo setup table_view
   pub come : HaveCome setup May turns keys r
-  pub closes : Closes tower_rules table_view keys blocks
+  pub closes : ClosesTable tower_rules table_view keys blocks
   pub told : r.blocks ≡ blocks_read blocks
 
 -- such a report is lawful, whatever this gate may answer
 abbrev pub ReportsAreLawful : (CpuId → Go → ℕ → Type 0) → Type 0
 ReportsAreLawful May = (setup : Setup) (turns : ℕ) (table_view : TableView (QueueBlock LockBlock)) (keys : List Key)
-    (blocks : List (LockId × QueueBlock LockBlock)) (r : Shown) → IsReported setup May turns table_view keys blocks r → IsLawfulReport setup May turns r
+    (blocks : List (LockId × QueueBlock LockBlock)) (r : ShownReport) → IsReported setup May turns table_view keys blocks r → IsLawfulReport setup May turns r

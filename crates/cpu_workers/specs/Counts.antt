@@ -19,14 +19,14 @@ abbrev pub made : {E : Type 0} → CpuId → LockId → List (Section E) → ℕ
 made cpu lock past = sections_at lock (own_events cpu_of_section cpu past)
 
 -- the actions after a whole section of the CPU of this number: it took a place, entered and gave the lock on
-abbrev pub after_section : LockId → ℕ → List (Action AddOne) → List (Action AddOne)
-after_section lock number past =
+abbrev pub actions_after_section : LockId → ℕ → List (Action AddOne) → List (Action AddOne)
+actions_after_section lock number past =
     Give (record { 0 = number }) lock (record {}) ∷ Try (record { 0 = number }) lock true ∷ Take (record { 0 = number }) lock ∷ past
 
 -- the actions after a round: a whole section of each of so many CPUs, from CPU 0 on
 abbrev pub after_round : LockId → ℕ → List (Action AddOne) → List (Action AddOne)
 after_round lock zero past = past
-after_round lock (suc before) past = after_section lock before (after_round lock before past)
+after_round lock (suc before) past = actions_after_section lock before (after_round lock before past)
 
 -- the actions after so many rounds of so many CPUs
 abbrev pub after_rounds : LockId → ℕ → ℕ → List (Action AddOne) → List (Action AddOne)

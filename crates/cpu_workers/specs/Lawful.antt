@@ -4,9 +4,9 @@ use Rattle.event_log.specs.declared.{entries.Entry.Entry, ids.{BufId.BufId, CpuI
 use Rattle.event_log.specs.{Actions.{Action, AreLegal, cpu_of_action, phase}, History.own_events, Messages.Message, Runs.IsRun, Streams.IsFirstInFirstOut}
 use Rattle.{event_log.specs.Traces.IsInterleaving, guest.specs.{Calls.{AreProgramsCalls, IsProgramsCalls, HasEnded}, State.State}}
 use Rattle.{layer_traits.specs.{Threads.Places.home_of, Polling.Plans.is_in_section}, cpu.specs.{Claims.{buffer_at, listed}, Cpus.{IsOfHome, of_thread}}}
-use Rattle.cpu.specs.Table.{Blocks.{Block, Buffer, Name, OfBuffer, OfPending}, Setups.{Setup, Private, at_boot, program_of}, Steps.{block_at, cpu_step}}
+use Rattle.cpu.specs.Table.{Blocks.{Block, Buffer, Name, OfBuffer, OfPending}, Setups.{Setup, Private, boot_of, program_of}, Steps.{block_at, cpu_step}}
 use Rattle.{cpu.specs.{Table.Steps.halted_at, Wakeups.Lost.NoWakeUpIsLost}, cpu_workers.specs.declared.workers.gates.Go.{Go, TheVariants.{Limit, Pass}}}
-use Rattle.cpu_workers.specs.{declared.workers.stops.Stop.{Stop, TheVariants.{AllEnded, TurnsUsed, Held}}, Reports.{IsTrueStop, MayHold, MayTake, Took}}
+use Rattle.cpu_workers.specs.{declared.workers.stops.Stop.{Stop, TheVariants.{AllEnded, TurnsUsed, Held}}, Reports.{IsTrueStop, MayHold, MayTakeTurn, Walked}}
 use Rattle.cpu_workers.specs.Reports.{TookWithin, WasHeld, PassedAtEach, AskedAtEach}
 
 -- what a report tells of one CPU: its trace, oldest first, how many turns it took, and why it stopped
@@ -16,14 +16,14 @@ pub record CpuReport : Type 0 where
   pub stop : Stop
 
 -- a report as plain data: the traces, the turns taken and the stops of all CPUs, and the block of each lock, as the step table has blocks
-pub record Shown : Type 0 where
+pub record ShownReport : Type 0 where
   pub traces : List (List Entry)
   pub taken : List ℕ
   pub stops : List Stop
   pub blocks : LockId → Option Block
 
 -- the report has this line at the CPU's number
-pub record IsCpuReportOf (r : Shown) (c : CpuId) (line : CpuReport) : Type 0 where
+pub record IsCpuReportOf (r : ShownReport) (c : CpuId) (line : CpuReport) : Type 0 where
   pub trace : slice_get r.traces c.0 ≡ Some line.trace
   pub taken : slice_get r.taken c.0 ≡ Some line.taken
   pub stop : slice_get r.stops c.0 ≡ Some line.stop
@@ -39,7 +39,7 @@ abbrev pub held_at : (LockId → Option Block) → BufId → List Message
 held_at blocks b = messages_in (blocks (AtBuffer b))
 
 -- what is left in the first n buffers
-abbrev pub left_in : ℕ → Shown → List (List Message)
+abbrev pub left_in : ℕ → ShownReport → List (List Message)
 left_in n r = listed (λ b. held_at r.blocks (buffer_at b)) 0 n
 
 -- the program of a thread has ended behind these entries, oldest first
@@ -62,7 +62,7 @@ pub record ReportsTrue (setup : Setup) (May : Go → ℕ → Type 0) (turns : �
 -- a report of workers: its lists have one element for each CPU; its traces have one order that keeps each of them, is a run of first-in first-out
 -- buffers and ends in what the blocks hold: for each buffer, what was put is what was taken, in that order, and then what its block holds; and
 -- what it tells of each CPU is true
-pub record IsReport (setup : Setup) (May : CpuId → Go → ℕ → Type 0) (turns : ℕ) (r : Shown) : Type 0 where
+pub record IsReport (setup : Setup) (May : CpuId → Go → ℕ → Type 0) (turns : ℕ) (r : ShownReport) : Type 0 where
   pub traces_count : length r.traces ≡ setup.cpus
   pub taken_count : length r.taken ≡ setup.cpus
   pub stops_count : length r.stops ≡ setup.cpus
@@ -80,22 +80,22 @@ pub record IsReport (setup : Setup) (May : CpuId → Go → ℕ → Type 0) (tur
 pub record HasGone (setup : Setup) (May : Go → ℕ → Type 0) (turns : ℕ) (c : CpuId) (log : List (Action Name)) (line : CpuReport) : Type 0 where
   pub last : Private
   pub trace_is : line.trace ≡ last.trace
-  pub took : Took (cpu_step setup c) c (at_boot setup c) last log line.taken
-  pub within : TookWithin (cpu_step setup c) c (MayTake turns (May Pass)) (at_boot setup c) last log line.taken
-  pub held : line.stop ≡ Held → WasHeld (cpu_step setup c) c (May Limit) (at_boot setup c) last log line.taken
+  pub took : Walked (cpu_step setup c) c (boot_of setup c) last log line.taken
+  pub within : TookWithin (cpu_step setup c) c (MayTakeTurn turns (May Pass)) (boot_of setup c) last log line.taken
+  pub held : line.stop ≡ Held → WasHeld (cpu_step setup c) c (May Limit) (boot_of setup c) last log line.taken
   pub asked : AskedAtEach May line.taken
   pub used : line.stop ≡ TurnsUsed → PassedAtEach (May Pass) line.taken
   pub rests : is_in_section (phase c log) ≡ false
   pub stop_is : IsTrueStop (halted_at setup c last) (May Limit) turns line.taken line.stop
 
 -- the blocks are what the sections of these actions leave
-pub record AreLeft (setup : Setup) (log : List (Action Name)) (r : Shown) : Type 0 where
+pub record AreLeft (setup : Setup) (log : List (Action Name)) (r : ShownReport) : Type 0 where
   pub buffers : (b : BufId) → r.blocks (AtBuffer b) ≡ block_at setup (AtBuffer b) log
   pub queues : (c : CpuId) → c.0 < setup.cpus → r.blocks (Pending c) ≡ block_at setup (Pending c) log
 
 -- a lawful report: there is one legal list of actions along which each CPU went by the step table, and which has no others' actions; the blocks
 -- are what it leaves; and no wake-up is lost in them
-pub record IsLawfulReport (setup : Setup) (May : CpuId → Go → ℕ → Type 0) (turns : ℕ) (r : Shown) : Type 0 where
+pub record IsLawfulReport (setup : Setup) (May : CpuId → Go → ℕ → Type 0) (turns : ℕ) (r : ShownReport) : Type 0 where
   pub report : IsReport setup May turns r
   pub log : List (Action Name)
   pub legal : AreLegal log

@@ -1,16 +1,16 @@
 -- What holds of workers that run at one table.
 use Rattle.std.specs.Prelude.{◌≡◌, ℕ, ◌≤◌, ◌<◌, Bool, true, List, [], ◌∷◌, ◌++◌, reverse, None}
 use Rattle.event_log.specs.{declared.{entries.Entry.Entry, ids.CpuId.CpuId}, History.{AreOthers, own_events}, Actions.{Action, cpu_of_action}}
-use Rattle.cpu.specs.{Table.{Blocks.Name, Setups.{Setup, Private, at_boot, have_ended, home_threads}, Steps.{cpu_step, halted_at}}, Wakeups.Lost.LosesNoWakeUp}
+use Rattle.cpu.specs.{Table.{Blocks.Name, Setups.{Setup, Private, boot_of, have_ended, home_threads}, Steps.{cpu_step, halted_at}}, Wakeups.Lost.LosesNoWakeUp}
 use Rattle.{cpu.specs.{Cpus.of_cpu, Linear.OrderGrows, Tower.Views.TowerName}, cpu_workers.specs.declared.workers.stops.Stop.{Stop, TheVariants.AllEnded}}
-use Rattle.cpu_workers.specs.{declared.workers.stops.Stop.TheVariants.{TurnsUsed, Held}, Orders.effects_of, Reports.{IsTrueStop, Took}}
+use Rattle.cpu_workers.specs.{declared.workers.stops.Stop.TheVariants.{TurnsUsed, Held}, Orders.effects_of, Reports.{IsTrueStop, Walked}}
 
 -- a worker's CPU has come from boot by the step table along what it has seen, and the list goes on from that with other CPUs' actions
 pub record HasWorked (setup : Setup) (c : CpuId) (log : List (Action Name)) : Type 0 where
   pub last : Private
   pub seen : List (Action Name)
   pub shown : ℕ
-  pub took : Took (cpu_step setup c) c (at_boot setup c) last seen shown
+  pub took : Walked (cpu_step setup c) c (boot_of setup c) last seen shown
   pub more : List (Action Name)
   pub is : log ≡ more ++ seen
   pub others : AreOthers cpu_of_action c more

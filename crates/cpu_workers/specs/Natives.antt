@@ -7,7 +7,7 @@ use Rattle.layer_traits.specs.{Polling.Plans.is_in_section, Views.Renaming.viewe
 use Rattle.{queuing_lock.specs.Nested.nested_lock_of, sleep_wakeup.specs.Nested.state_of, table_machine.specs.SeatViews.{IsOver, TableView}}
 use Rattle.{cpu.specs.{Claims.{buffer_at, listed}, Tower.Views.TowerName}, cpu_workers.specs.declared.workers.callers.TheConstants.MOST_CALLS}
 use Rattle.cpu_workers.specs.{Callers.{CallerView, IsSameCaller}, Closing.{Key, WordsOfTower, acts_in, blocks_read, tower_rules}, Lawful.held_at}
-use Rattle.cpu_workers.specs.{Orders.{IsTraceOf, effects_of}, Seating.{Block, tower_acts}}
+use Rattle.cpu_workers.specs.{Orders.{IsTraceOf, effects_of}, Seating.{AnyBlock, tower_acts}}
 
 -- a native has run at its caller, which is the same, and has kept what it promises of itself and of the calls
 pub record HasKept {N : Type 0} (Kept : N → N → CallerView → Type 0) (native : N) (caller : CallerView) (after : N) (last : CallerView) : Type 0 where
@@ -44,15 +44,15 @@ pub record HasLeftCalls {N : Type 0} (Kept : N → N → CallerView → Type 0) 
 
 -- the locks of the tower open for so many CPUs: an empty queue for each, with the home of each thread, and an empty buffer of each capacity
 -- under a free lock
-pub record OpensWith (cpus : ℕ) (caps : List ℕ) (homes : List CpuId) (opening : LockId → Option Block) : Type 0 where
+pub record OpensWith (cpus : ℕ) (caps : List ℕ) (homes : List CpuId) (opening : LockId → Option AnyBlock) : Type 0 where
   pub starts : StartsWell opening
   pub homes_are : homes_in opening ≡ homes
   pub queues : (c : CpuId) → c.0 < cpus → IsSome (opening (Pending c))
   pub locks : inner (viewed nested_lock_of (viewed state_of opening)) ≡ opening_locks caps
 
 -- what is left in the first n buffers among these blocks
-abbrev pub left_of : ℕ → List (LockId × Block) → List (List Message)
-left_of n blocks = listed (λ b. held_at (blocks_read blocks) (buffer_at b)) 0 n
+abbrev pub left_among : ℕ → List (LockId × AnyBlock) → List (List Message)
+left_among n blocks = listed (λ b. held_at (blocks_read blocks) (buffer_at b)) 0 n
 
 -- what one native has done, where they stood in these lists, at the CPU and as the thread of its number
 pub record HasRunNative {N : Type 0} (Kept : N → N → CallerView → Type 0) (caps : List ℕ) (k : ℕ) (native after : N) (caller : CallerView) : Type 0 where
@@ -67,7 +67,7 @@ own_homes n = listed cpu_at 0 n
 
 -- this order is that of the effects of the frees in one words log, which is legal over the locks as they open for so many CPUs
 pub record IsOrderOfWords (cpus : ℕ) (caps : List ℕ) (homes : List CpuId) (order : List Entry) : Type 0 where
-  pub opening : LockId → Option Block
+  pub opening : LockId → Option AnyBlock
   pub opens : OpensWith cpus caps homes opening
   pub words : WordsOfTower
   pub legal : IsLawful (MayCome (tower_rules.allowed opening)) words
@@ -90,14 +90,14 @@ pub record HaveRun {N : Type 0} (Kept : N → N → CallerView → Type 0) (caps
   pub by_words : IsOrderOfWords (length natives) caps (own_homes (length natives)) order
 
 -- the native of a CPU has run at this table, and left its key, which is outside all locks
-pub record HasLeftKey {N : Type 0} (Kept : N → N → CallerView → Type 0) (caps : List ℕ) (table_view : TableView Block) (c : CpuId) (native after : N)
+pub record HasLeftKey {N : Type 0} (Kept : N → N → CallerView → Type 0) (caps : List ℕ) (table_view : TableView AnyBlock) (c : CpuId) (native after : N)
     (key : Key) : Type 0 where
   pub cpu_is : key.cpu ≡ c
   pub over : IsOver table_view key
   pub calls : HasLeftCalls Kept caps c native after (tower_acts (acts_of edit_of key.seen))
 
 -- all have, one for each CPU
-pub record HaveLeftKeys {N : Type 0} (Kept : N → N → CallerView → Type 0) (caps : List ℕ) (table_view : TableView Block) (natives after : List N)
+pub record HaveLeftKeys {N : Type 0} (Kept : N → N → CallerView → Type 0) (caps : List ℕ) (table_view : TableView AnyBlock) (natives after : List N)
     (keys : List Key) : Type 0 where
   pub count : length after ≡ length natives
   pub keys_count : length keys ≡ length natives

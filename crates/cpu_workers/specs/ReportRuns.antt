@@ -2,7 +2,7 @@
 use Rattle.std.specs.{Prelude.{◌≡◌, ℕ, ◌<◌, false, List, length, map, Some, slice_get}, List.All}
 use Rattle.{event_log.specs.{declared.ids.CpuId.CpuId, Actions.phase}, layer_traits.specs.Polling.Plans.is_in_section, cpu.specs.Sound.after_steps}
 use Rattle.{cpu.specs.Table.{Setups.{Private, Setup}, Steps.{IsReached, Whole, halted_at, whole_at_boot}}, cpu_workers.specs.declared.workers.gates.Go.Go}
-use Rattle.cpu_workers.specs.{declared.workers.gates.Go.TheVariants.Limit, Lawful.{AreLeft, CpuReport, IsCpuReportOf, IsLawfulReport, Shown}}
+use Rattle.cpu_workers.specs.{declared.workers.gates.Go.TheVariants.Limit, Lawful.{AreLeft, CpuReport, IsCpuReportOf, IsLawfulReport, ShownReport}}
 use Rattle.cpu_workers.specs.Reports.{IsTrueStop}
 
 -- the step table's system after these steps from boot, one after the other, with room for just these
@@ -19,7 +19,7 @@ pub record StandsAsTold (setup : Setup) (May : Go → ℕ → Type 0) (turns : �
 
 -- a report of a run: under some schedule of the setup's CPUs, each of whose steps is taken, the step table's system has the report's traces, its CPUs
 -- stand as the report tells, and the report's blocks are what the run leaves
-pub record IsReportOfRun (setup : Setup) (May : CpuId → Go → ℕ → Type 0) (turns : ℕ) (r : Shown) : Type 0 where
+pub record IsReportOfRun (setup : Setup) (May : CpuId → Go → ℕ → Type 0) (turns : ℕ) (r : ShownReport) : Type 0 where
   pub schedule : List CpuId
   pub known : All (λ c. c.0 < setup.cpus) schedule
   pub taken : (run_by setup schedule).taken ≡ length schedule
@@ -31,4 +31,4 @@ pub record IsReportOfRun (setup : Setup) (May : CpuId → Go → ℕ → Type 0)
 
 -- each lawful report is one of a run, whatever this gate may answer
 abbrev pub ReportsAreRuns : (CpuId → Go → ℕ → Type 0) → Type 0
-ReportsAreRuns May = (setup : Setup) (turns : ℕ) (r : Shown) → IsLawfulReport setup May turns r → IsReportOfRun setup May turns r
+ReportsAreRuns May = (setup : Setup) (turns : ℕ) (r : ShownReport) → IsLawfulReport setup May turns r → IsReportOfRun setup May turns r

@@ -16,15 +16,15 @@ abbrev pub counted_on : ℕ → ℕ
 counted_on shown = if shown == most then shown else shown + 1
 
 -- so many turns are shown where there were so many: at the most there may have been more
-pub record Counts (shown count : ℕ) : Type 0 where
+pub record CountsTurns (shown count : ℕ) : Type 0 where
   pub least : shown ≤ count
   pub exact : shown < most → count ≡ shown
 
 -- a CPU went along a list of actions by a table of steps from its first state to its last, in as many steps as are shown
-pub record Took {P N : Type 0} (table : P → List (Action N) → Outcome P N) (cpu : CpuId) (first last : P) (log : List (Action N)) (shown : ℕ) : Type 0 where
+pub record Walked {P N : Type 0} (table : P → List (Action N) → Outcome P N) (cpu : CpuId) (first last : P) (log : List (Action N)) (shown : ℕ) : Type 0 where
   pub count : ℕ
   pub steps : Along table cpu first count last log
-  pub counted : Counts shown count
+  pub counted : CountsTurns shown count
 
 -- the way of a CPU along a list of actions, as `Along`, on which each step between two of its sections is taken only where so many steps
 -- allow one more
@@ -41,7 +41,7 @@ pub record TookWithin {P N : Type 0} (table : P → List (Action N) → Outcome 
     (log : List (Action N)) (shown : ℕ) : Type 0 where
   pub count : ℕ
   pub steps : Within table cpu May first count last log
-  pub counted : Counts shown count
+  pub counted : CountsTurns shown count
 
 -- fewer steps than these were taken
 abbrev pub below : ℕ → ℕ → Type 0
@@ -49,7 +49,7 @@ below turns count = count < turns
 
 -- the gate was asked at each turn up to the one after so many, with the number of turns taken, and may have let the CPU pass each time
 abbrev pub WasAsked : (ℕ → Type 0) → ℕ → Type 0
-WasAsked MayPass count = (shown : ℕ) × Counts shown count × ((k : ℕ) → k ≤ shown → MayPass k)
+WasAsked MayPass count = (shown : ℕ) × CountsTurns shown count × ((k : ℕ) → k ≤ shown → MayPass k)
 
 -- a CPU was held: after so many turns the gate may have answered `Limit`, and from there on the CPU took none but to end its section
 pub record WasHeld {P N : Type 0} (table : P → List (Action N) → Outcome P N) (cpu : CpuId) (May : ℕ → Type 0) (first last : P)
@@ -58,7 +58,7 @@ pub record WasHeld {P N : Type 0} (table : P → List (Action N) → Outcome P N
   pub before : turn ≤ taken
   pub may : May turn
   pub count : ℕ
-  pub counted : Counts turn count
+  pub counted : CountsTurns turn count
   pub within : TookWithin table cpu (below count) first last log taken
 
 -- the gate may have answered `Limit` at some turn that was asked for
@@ -83,15 +83,15 @@ IsTrueStop halted May turns taken Held = (halted ≡ None) × MayHold May taken
 
 -- after so many turns a worker may take one more between two sections: fewer than `turns` were taken, and the gate was asked at each turn so
 -- far, and just then, and may have let it pass each time
-abbrev pub MayTake : ℕ → (ℕ → Type 0) → ℕ → Type 0
-MayTake turns MayPass count = below turns count × WasAsked MayPass count
+abbrev pub MayTakeTurn : ℕ → (ℕ → Type 0) → ℕ → Type 0
+MayTakeTurn turns MayPass count = below turns count × WasAsked MayPass count
 
 -- a worker has run by the step table: between two sections it took a turn only below so many and where the gate, which was asked at each turn
 -- so far with the number of turns taken, may have let it pass each time; if it was held, it took none after a `Limit` but to end its section; the
 -- gate was asked before each turn, also inside a section, until it answered `Limit`; and where all turns are used, it let the worker pass at each
 pub record WentBy (setup : Setup) (May : Go → ℕ → Type 0) (turns : ℕ) (old new : Working) (taken : ℕ) (stop : Stop) : Type 0 where
-  pub took : Took (cpu_step setup old.cpu) old.cpu old.private new.private (log new) taken
-  pub within : TookWithin (cpu_step setup old.cpu) old.cpu (MayTake turns (May Pass)) old.private new.private (log new) taken
+  pub took : Walked (cpu_step setup old.cpu) old.cpu old.private new.private (log new) taken
+  pub within : TookWithin (cpu_step setup old.cpu) old.cpu (MayTakeTurn turns (May Pass)) old.private new.private (log new) taken
   pub held : stop ≡ Held → WasHeld (cpu_step setup old.cpu) old.cpu (May Limit) old.private new.private (log new) taken
   pub asked : AskedAtEach May taken
   pub used : stop ≡ TurnsUsed → PassedAtEach (May Pass) taken

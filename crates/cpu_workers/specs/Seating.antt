@@ -3,9 +3,9 @@ use Rattle.std.specs.Prelude.{◌≡◌, ℕ, List, [], map, length, slice_get, 
 use Rattle.{boot.specs.Plan.BootPlan, event_log.specs.declared.{entries.Entry.Entry, ids.{BufId.BufId, CpuId.CpuId, LockId.{LockId, TheVariants.Pending}}}}
 use Rattle.{event_log.specs.{Actions.{Action, AreLegal, acts_of, renamed}, Messages.Message}, layer_traits.specs.declared.queue_edits.QueueBlock.QueueBlock}
 use Rattle.layer_traits.specs.{declared.queue_edits.QueueEdit.QueueEdit, Blocks.{BufferEffects.opening_locks, QueueBlocks.{StartsWell, homes_in, inner}}}
-use Rattle.{layer_traits.specs.{Views.Renaming.{renamed_edit, viewed}, Protocols.WordsProtocol.edit_of}, queuing_lock.specs.Nested.edit_in as lock_call}
-use Rattle.{queuing_lock.specs.Nested.nested_lock_of, sleep_wakeup.specs.Nested.{edit_in as slept_edit, state_of}, cpu.specs.{Boots.homes_for, Sound.setup_for}}
-use Rattle.{cpu.specs.{Table.Setups.at_boot, Tower.Views.TowerName}, table_machine.specs.SeatViews.{TableView, IsOver, site_of}}
+use Rattle.{layer_traits.specs.{Views.Renaming.{renamed_edit, viewed}, Protocols.WordsProtocol.edit_of}, queuing_lock.specs.Nested.lock_call}
+use Rattle.{queuing_lock.specs.Nested.nested_lock_of, sleep_wakeup.specs.Nested.{slept_edit, state_of}, cpu.specs.{Boots.homes_for, Sound.setup_for}}
+use Rattle.{cpu.specs.{Table.Setups.boot_of, Tower.Views.TowerName}, table_machine.specs.SeatViews.{TableView, IsOver, site_of}}
 use Rattle.cpu_workers.specs.{declared.workers.{gates.Go.Go, stops.Stop.Stop}, Closing.{Key, LockBlock, LockEdit, blocks_read}, Lawful.held_at}
 use Rattle.cpu_workers.specs.{Orders.{HasFollowed, IsTraceOf}, Reports.HasRun, Working.{IsPlanned, Working}}
 
@@ -13,8 +13,8 @@ use Rattle.cpu_workers.specs.{Orders.{HasFollowed, IsTraceOf}, Reports.HasRun, W
 abbrev pub Edit : Type 0
 Edit = QueueEdit LockEdit
 
-abbrev pub Block : Type 0
-Block = QueueBlock LockBlock
+abbrev pub AnyBlock : Type 0
+AnyBlock = QueueBlock LockBlock
 
 -- the actions of the tower's locks, by the names of the layers' calls
 abbrev pub tower_acts : List (Action Edit) → List (Action TowerName)
@@ -22,7 +22,7 @@ tower_acts acts = map (renamed (renamed_edit lock_call)) (map (renamed (renamed_
 
 -- the locks of the tower open as a plan says: an empty queue for each CPU, with the home of each thread, and an empty buffer of each
 -- capacity under a free lock
-pub record OpensPlan (plan : BootPlan) (opening : LockId → Option Block) : Type 0 where
+pub record OpensPlan (plan : BootPlan) (opening : LockId → Option AnyBlock) : Type 0 where
   pub starts : StartsWell opening
   pub homes : homes_in opening ≡ homes_for plan
   pub queues : (c : CpuId) → c.0 < plan.cpus → IsSome (opening (Pending c))
@@ -30,7 +30,7 @@ pub record OpensPlan (plan : BootPlan) (opening : LockId → Option Block) : Typ
 
 -- a machine for one CPU's worker before its first turn: it acts for the CPU, no section of which is under way, has seen no section and no
 -- action, and its locks open so
-pub record IsReady (Acts Rests Unseen Idle Opens : Type 0) : Type 0 where
+pub record IsReadySeat (Acts Rests Unseen Idle Opens : Type 0) : Type 0 where
   pub acts : Acts
   pub rests : Rests
   pub unseen : Unseen
@@ -51,7 +51,7 @@ pub record IsUnused (Fresh Homes Caps Unseen Idle Opens : Type 0) : Type 0 where
 pub record IsAtBoot (plan : BootPlan) (c : CpuId) (w : Working) : Type 0 where
   pub cpu_is : w.cpu ≡ c
   pub planned : IsPlanned (setup_for plan) w.plan
-  pub boots : w.private ≡ at_boot (setup_for plan) c
+  pub boots : w.private ≡ boot_of (setup_for plan) c
   pub fresh : w.acts ≡ []
 
 -- the worker's trace and what its machine has seen, apart from it, and what it keeps
@@ -73,14 +73,15 @@ pub record HasLeft (plan : BootPlan) (May : CpuId → Go → ℕ → Type 0) (tu
   pub apart : IsApart last acts site trace
 
 -- the worker of a CPU left its key of this table, which is outside all locks, and the rest
-pub record LeftKey (plan : BootPlan) (May : CpuId → Go → ℕ → Type 0) (turns : ℕ) (table_view : TableView Block) (c : CpuId) (key : Key)
+pub record LeftKey (plan : BootPlan) (May : CpuId → Go → ℕ → Type 0) (turns : ℕ) (table_view : TableView AnyBlock) (c : CpuId) (key : Key)
     (trace : List Entry) (taken : ℕ) (stop : Stop) : Type 0 where
   pub cpu_is : key.cpu ≡ c
   pub over : IsOver table_view key
   pub left : HasLeft plan May turns c (tower_acts (acts_of edit_of key.seen)) (site_of key.table) trace taken stop
 
 -- the workers of all CPUs have left what stands in these lists, by CPU
-pub record HaveLeft (plan : BootPlan) (May : CpuId → Go → ℕ → Type 0) (turns : ℕ) (table_view : TableView Block) (keys : List Key) (traces : List (List Entry))
+pub record HaveLeft (plan : BootPlan) (May : CpuId → Go → ℕ → Type 0) (turns : ℕ) (table_view : TableView AnyBlock) (keys : List Key)
+    (traces : List (List Entry))
     (taken : List ℕ) (stops : List Stop) : Type 0 where
   pub count : length keys ≡ plan.cpus
   pub traces_count : length traces ≡ plan.cpus
@@ -91,5 +92,5 @@ pub record HaveLeft (plan : BootPlan) (May : CpuId → Go → ℕ → Type 0) (t
       × LeftKey plan May turns table_view c key trace n stop
 
 -- the items of a buffer among these blocks, as a report tells them
-abbrev pub items_of_block : List (LockId × Block) → BufId → List Message
+abbrev pub items_of_block : List (LockId × AnyBlock) → BufId → List Message
 items_of_block blocks b = held_at (blocks_read blocks) b

@@ -2,7 +2,7 @@
 use Rattle.std.specs.Prelude.{◌≡◌, ℕ, Bool, List, Option, Some, None, slice_index_or}
 use Rattle.{event_log.specs.{declared.ids.{CpuId.CpuId, Tid.Tid}, Actions.{Action, phase}}, guest.specs.declared.instructions.Instruction.Instruction}
 use Rattle.{layer_traits.specs.{declared.steps.Step.{Step, TheVariants.Stepped}, Polling.{Along.IsStep, Plans.is_in_section}}, cpu.specs.Table.Blocks.Name}
-use Rattle.cpu.specs.{Table.{Setups.{Setup, Private, program_of}, Steps.{cpu_step, halted_at}}, Tower.{Composed.{answer_of, named}, Views.TowerName}}
+use Rattle.cpu.specs.{Table.{Setups.{Setup, Private, program_of}, Steps.{cpu_step, halted_at}}, Tower.{Composed.{busy_step_answer, named}, Views.TowerName}}
 
 -- what no turn changes: the home of each thread, the capacity of each buffer, the programs of the threads at home, and for how many
 -- entries the trace has room
@@ -49,4 +49,4 @@ Turned old new answer = (setup : Setup) → IsPlanned setup old.plan
 
 -- the step table takes a step of the worker's CPU, whatever other CPUs do before it: a section of it is under way, or it is not halted
 abbrev pub MayStep : Setup → Working → Type 0
-MayStep setup w = answer_of (is_inside w) (halted_at setup w.cpu w.private) ≡ Stepped
+MayStep setup w = busy_step_answer (is_inside w) (halted_at setup w.cpu w.private) ≡ Stepped

@@ -1,9 +1,9 @@
 -- A CPU that waits at a lock keeps its spot, and the lock is not given on past that spot: so few sections come before its own.
 use Rattle.std.proofs.Common.{◌≡◌, ℕ, ◌+◌, ◌<◌, Bool, true, false, List, [], ◌∷◌, ◌++◌, refl, sym, subst, arith, zero-add}
-use Rattle.event_log.specs.{declared.ids.{CpuId.CpuId, LockId.LockId, TheConstants.CPUS}, History.{same_cpu, own_events}, Laws.OnlyTries}
-use Rattle.event_log.specs.Actions.{Action, Take, phase, cpu_of_action, spot_of, takes, gives, MayAct, AreLegal}
-use Rattle.event_log.proofs.{Same.{same_cpu_self, same_cpu_true, same_lock_self}, Exclusion.{is_at, at_either, phase_own, phase_other, spot_other, near}}
-use Rattle.event_log.proofs.{Foreign.lawful_before, OneFree.{left_own, own_not, own_tries, own_yes}}
+use Rattle.event_log.specs.{declared.ids.{CpuId.CpuId, LockId.LockId, TheConstants.CPUS}, History.{same_cpu, own_events}, Laws.OnlyTries, Actions.Action}
+use Rattle.event_log.{specs.Actions.{Take, phase, cpu_of_action, spot_of, takes, gives, MayAct, AreLegal}, proofs.Same.{same_cpu_self, same_cpu_true}}
+use Rattle.event_log.proofs.{Same.same_lock_self, Exclusion.{is_at, at_either, phase_own, phase_other, spot_other, spot_is_near}, Foreign.lawful_before}
+use Rattle.event_log.proofs.OneFree.{left_own, own_not, own_tries, own_yes}
 
 gives_of_both : {N : Type 0} (lock : LockId) (newer older : List (Action N)) → gives lock (newer ++ older) ≡ gives lock newer + gives lock older
 gives_of_both lock [] older = sym (zero-add (gives lock older))
@@ -44,8 +44,8 @@ few_pass past between cpu lock legal tries =
     let now = stands_still past between cpu lock legal tries in
     let legal_then : AreLegal taken = lawful_before MayAct between taken legal in
     let at_first = stands_still past [] cpu lock legal_then tt in
-    let was = near taken legal_then cpu lock at_first.stands in
-    let is = near (between ++ taken) legal cpu lock now.stands in
+    let was = spot_is_near taken legal_then cpu lock at_first.stands in
+    let is = spot_is_near (between ++ taken) legal cpu lock now.stands in
     let sum : gives lock (between ++ taken) ≡ gives lock between + gives lock past = gives_of_both lock between taken in
     let before : gives lock taken ≡ gives lock past = refl in
     omega (arith, was.1, is.0, sum, before, now.is, at_first.is)

@@ -1,7 +1,7 @@
 -- A legal list of actions keeps the line at each lock, so two CPUs never hold one lock.
 use Rattle.std.proofs.{Common.{◌≡◌, ◌+◌, ◌<◌, ◌≤◌, Bool, true, false, List, [], ◌∷◌, if◌then◌else◌, refl, ap, ◌∙◌, arith}, lemmas.Bool.eqb-true}
 use Rattle.event_log.specs.{declared.ids.{CpuId.CpuId, LockId.LockId, TheConstants.CPUS}, History.{same_cpu, same_lock}, Actions.{Action, Take, Try, Give}}
-use Rattle.event_log.specs.Actions.{Phase, Rests, Waits, Holds, phase, left_in, cpu_of_action, spot_of, takes, gives, MayAct, AreLegal}
+use Rattle.event_log.specs.Actions.{Phase, Rests, Waits, Holds, phase, phase_after, cpu_of_action, spot_of, takes, gives, MayAct, AreLegal}
 use Rattle.event_log.proofs.{Same.{same_cpu_self, same_lock_self, same_lock_true}, Line.{Line, crowd_none, crowd_within, line_stays, line_joined, line_left}}
 
 -- whether a CPU in this phase stands at the lock
@@ -23,10 +23,10 @@ LineAt lock actions =
 
 -- an action changes no other CPU's phase and spot
 pub phase_other : {N : Type 0} (a : Action N) (past : List (Action N)) (c : CpuId) → same_cpu (cpu_of_action a) c ≡ false → phase c (a ∷ past) ≡ phase c past
-phase_other a past c other = ap (λ b. if b then left_in a else phase c past) other
+phase_other a past c other = ap (λ b. if b then phase_after a else phase c past) other
 
-pub phase_own : {N : Type 0} (a : Action N) (past : List (Action N)) → phase (cpu_of_action a) (a ∷ past) ≡ left_in a
-phase_own a past = ap (λ b. if b then left_in a else phase (cpu_of_action a) past) (same_cpu_self (cpu_of_action a))
+pub phase_own : {N : Type 0} (a : Action N) (past : List (Action N)) → phase (cpu_of_action a) (a ∷ past) ≡ phase_after a
+phase_own a past = ap (λ b. if b then phase_after a else phase (cpu_of_action a) past) (same_cpu_self (cpu_of_action a))
 
 pub spot_other : {N : Type 0} (a : Action N) (past : List (Action N)) (c : CpuId) → same_cpu (cpu_of_action a) c ≡ false → spot_of c (a ∷ past) ≡ spot_of c past
 spot_other a past c other = grind arith
@@ -93,13 +93,13 @@ one_holds actions legal a b lock first second =
     grind (arith, line.apart a b, line.inside a, line.inside b, line.first a, line.first b, same_lock_self)
 
 -- a CPU that waits at a lock or holds it has a spot among those not yet served, of which there are at most CPUS
-pub near : {N : Type 0} (actions : List (Action N)) → AreLegal actions → (c : CpuId) (lock : LockId)
+pub spot_is_near : {N : Type 0} (actions : List (Action N)) → AreLegal actions → (c : CpuId) (lock : LockId)
     → is_at lock (phase c actions) ≡ true → (gives lock actions ≤ spot_of c actions) × (spot_of c actions < gives lock actions + CPUS)
-near actions legal c lock there =
+spot_is_near actions legal c lock there =
     let line = line_at lock actions legal in
     let waiting : spot_of c actions < takes lock actions = line.behind c there in
     (line.ahead c there, omega (arith, line.balance, waiting, crowd_within (λ c. is_at lock (phase c actions)) CPUS))
 
 -- each CPU that acted is a CPU of the machine
-pub knows : {N : Type 0} (actions : List (Action N)) → AreLegal actions → (c : CpuId) (lock : LockId) → is_at lock (phase c actions) ≡ true → c.0 < CPUS
-knows actions legal c lock there = (line_at lock actions legal).known c there
+pub cpu_is_known : {N : Type 0} (actions : List (Action N)) → AreLegal actions → (c : CpuId) (lock : LockId) → is_at lock (phase c actions) ≡ true → c.0 < CPUS
+cpu_is_known actions legal c lock there = (line_at lock actions legal).known c there

@@ -3,7 +3,7 @@ use Rattle.std.proofs.Common.{arith, ◌≡◌, ◌<◌, false, List, [], ◌∷
 use Rattle.event_log.specs.{declared.{ids.{CpuId.CpuId, TheConstants.CPUS}, events.Event.Event}, History.{same_cpu, own_events, IsLawful, AreOthers}}
 use Rattle.event_log.specs.{WordsLog.{cpu_of_event, lock_phase}, Actions.{Action, Take, Try, Give, phase, cpu_of_action, spot_of, MayAct}}
 use Rattle.event_log.{specs.{Actions.{AreLegal, act_of, acts_of}, Sections.{cpu_of_section, sections_of, sections_in}}, proofs.Same.same_lock_self}
-use Rattle.event_log.proofs.{Exclusion.{is_at, phase_other, spot_other, knows}, Tickets.{lock_phase_other, cpu_of_action_is}}
+use Rattle.event_log.proofs.{Exclusion.{is_at, phase_other, spot_other, cpu_is_known}, Tickets.{lock_phase_other, cpu_of_action_is}}
 
 -- Any relation and any event.
 
@@ -49,8 +49,8 @@ spot_others c (a ∷ others) past foreign = spot_other a (others ++ past) c fore
 -- who acts is a CPU of the machine
 pub cpu_of_action_known : {N : Type 0} (a : Action N) (past : List (Action N)) → MayAct past a → AreLegal past → (cpu_of_action a).0 < CPUS
 cpu_of_action_known (Take cpu lock) past may legal = may.0
-cpu_of_action_known (Try cpu lock hit) past may legal = knows past legal cpu lock (ap (is_at lock) may.0 ∙ same_lock_self lock)
-cpu_of_action_known (Give cpu lock name) past may legal = knows past legal cpu lock (ap (is_at lock) may ∙ same_lock_self lock)
+cpu_of_action_known (Try cpu lock hit) past may legal = cpu_is_known past legal cpu lock (ap (is_at lock) may.0 ∙ same_lock_self lock)
+cpu_of_action_known (Give cpu lock name) past may legal = cpu_is_known past legal cpu lock (ap (is_at lock) may ∙ same_lock_self lock)
 
 pub cpus_of_actions_known : {N : Type 0} (actions : List (Action N)) → AreLegal actions → IsLawful (λ before a. (cpu_of_action a).0 < CPUS) actions
 cpus_of_actions_known [] legal = tt

@@ -1,11 +1,11 @@
 -- A legal log of grant words is a legal list of actions: what a word holds says exactly whether its waiter is served.
 use Rattle.std.proofs.Common.{◌≡◌, ℕ, ◌+◌, ◌%◌, ◌^◌, ◌<◌, ◌≤◌, ◌⊎◌, inl, inr, List, [], ◌∷◌, ◌==◌, if◌then◌else◌, refl, ap, sym, subst, ◌∙◌, arith}
-use Rattle.{std.proofs.lemmas.Bool.{eqb-true, eqb-false, cond_both, cases_Bool, Decides.nat_tests}, event_log.specs.declared.ids.{CpuId.CpuId, LockId.LockId}}
-use Rattle.event_log.specs.{declared.{ids.TheConstants.CPUS, grants.GrantEvent.{GrantEvent, TheVariants.{Take, Peek, Give}}}, History.same_lock}
-use Rattle.event_log.specs.{WordsLog.Holding, Grants.{tickets, grant_lock_phase, ticket_in, after_give, grant_word, MayFollowGrants, IsLegalGrants}}
-use Rattle.event_log.specs.{Grants.{act_of_grant, acts_of_grants, WordFits}, Actions.{phase, spot_of, takes, gives, MayAct, AreLegal}}
-use Rattle.event_log.proofs.{Same.{same_cpu_true, same_lock_self, same_lock_true}, Exclusion.{is_at, line_at, one_holds, near}, Observed.{phase_of, TicketOf}}
-use Rattle.event_log.proofs.Observed.{eqb_same}
+use Rattle.std.proofs.lemmas.Bool.{eqb-true, eqb-false, cond_both, cases_Bool, Decides.nat_tests}
+use Rattle.event_log.specs.declared.{ids.{CpuId.CpuId, LockId.LockId, TheConstants.CPUS}, grants.GrantEvent.{GrantEvent, TheVariants.{Take, Peek, Give}}}
+use Rattle.event_log.specs.{History.same_lock, WordsLog.Holding, Grants.{tickets, grant_lock_phase, ticket_in, after_give, grant_word, MayFollowGrants}}
+use Rattle.event_log.specs.{Grants.{IsLegalGrants, act_of_grant, acts_of_grants, WordFits}, Actions.{phase, spot_of, takes, gives, MayAct, AreLegal}}
+use Rattle.event_log.proofs.{Same.{same_cpu_true, same_lock_self, same_lock_true}, Exclusion.{is_at, line_at, one_holds, spot_is_near}, Observed.phase_of}
+use Rattle.event_log.proofs.Observed.{TicketOf, eqb_same}
 
 -- the lock phase of a CPU tells its phase
 pub phase_grants : {M N : Type 0} (name : M → N) (c : CpuId) (log : List (GrantEvent M)) → phase c (acts_of_grants name log) ≡ phase_of (grant_lock_phase c log)
@@ -108,7 +108,7 @@ legal_grant : {M N : Type 0} (name : M → N) (e : GrantEvent M) (past : List (G
 legal_grant name (Take cpu lock ticket) past may legal acts = (may.0, phase_grants name cpu past ∙ ap phase_of may.1)
 legal_grant name (Peek cpu lock ticket read) past may legal acts =
     let waits = phase_grants name cpu past ∙ ap phase_of may.0 in
-    let close = near (acts_of_grants name past) acts cpu lock (ap (is_at lock) waits ∙ same_lock_self lock) in
+    let close = spot_is_near (acts_of_grants name past) acts cpu lock (ap (is_at lock) waits ∙ same_lock_self lock) in
     let has = subst (λ s. TicketOf s (spot_of cpu (acts_of_grants name past))) may.0 (grant_ticket_at name past legal cpu) in
     let fits = words_fit name lock (ticket % CPUS) (omega arith) past legal acts in
     (waits, ap (λ r. r == (ticket + 1) % 2 ^ 64) may.1 ∙ served_exactly _ _ ticket _ _ close.0 close.1 has refl fits)

@@ -1,7 +1,7 @@
 -- While a CPU waits at a lock or holds it, no other CPU gives the lock on twice: to come back it would have to pass.
 use Rattle.std.proofs.Common.{◌≡◌, ℕ, ◌<◌, ◌≤◌, Bool, true, false, List, [], ◌∷◌, ◌++◌, if◌then◌else◌, refl, ap, sym, subst, ◌∙◌, arith}
 use Rattle.event_log.specs.{declared.{ids.{CpuId.CpuId, LockId.LockId}, events.Event.{Event, TheVariants.Draw}}, History.{same_cpu, own_events}}
-use Rattle.event_log.specs.{WordsLog.{cpu_of_event, frees, IsLegalWords}, Actions.{Action, Take, Try, Give, phase, left_in, cpu_of_action, spot_of, takes}}
+use Rattle.event_log.specs.{WordsLog.{cpu_of_event, frees, IsLegalWords}, Actions.{Action, Take, Try, Give, phase, phase_after, cpu_of_action, spot_of, takes}}
 use Rattle.event_log.{specs.{Actions.{gives, MayAct, AreLegal, acts_of}, Laws.{OnlyTries, OnlyLooks}}, proofs.Same.{same_cpu_self, same_cpu_true}}
 use Rattle.event_log.proofs.{Same.{same_lock_self, same_lock_true}, Exclusion.{is_at, at_either, phase_own, phase_other, spot_other, line_at}}
 use Rattle.event_log.proofs.{Tickets.{cpu_of_action_is, gives_acts, legal_acts}, Foreign.acts_of-append}
@@ -14,8 +14,8 @@ pub own_not : {E : Type 0} (by : E → CpuId) (c : CpuId) (e : E) (past : List E
 own_not by c e past other = ap (λ b. if b then e ∷ own_events by c past else own_events by c past) other
 
 -- an action leaves its own CPU as it says
-pub left_own : {N : Type 0} (a : Action N) (log : List (Action N)) (c : CpuId) → cpu_of_action a ≡ c → phase c (a ∷ log) ≡ left_in a
-left_own a log c by = subst (λ d. phase d (a ∷ log) ≡ left_in a) by (phase_own a log)
+pub left_own : {N : Type 0} (a : Action N) (log : List (Action N)) (c : CpuId) → cpu_of_action a ≡ c → phase c (a ∷ log) ≡ phase_after a
+left_own a log c by = subst (λ d. phase d (a ∷ log) ≡ phase_after a) by (phase_own a log)
 
 module _ {N : Type 0} (lock : LockId) (cpu other : CpuId) (first : ℕ) (differ : same_cpu cpu other ≡ false) where
   -- the first CPU still has its spot, and the other one, if it has given the lock on, stands behind it

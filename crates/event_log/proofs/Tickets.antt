@@ -3,7 +3,7 @@ use Rattle.std.proofs.Common.{◌≡◌, ℕ, ◌+◌, ◌%◌, ◌^◌, ◌<◌
 use Rattle.event_log.specs.declared.{ids.{CpuId.CpuId, LockId.LockId, TheConstants.CPUS}, events.Event.{Event, TheVariants.{Draw, Look, Free}}}
 use Rattle.event_log.specs.{History.same_cpu, WordsLog.{cpu_of_event, draws, frees, Holding, left_by, lock_phase, MayFollow, IsLegalWords}, Actions.phase}
 use Rattle.event_log.{specs.Actions.{cpu_of_action, spot_of, takes, gives, MayAct, AreLegal, act_of, acts_of}, proofs.Same.{same_cpu_true, same_lock_self}}
-use Rattle.event_log.proofs.{Exclusion.{is_at, one_holds, near}, Observed.eqb_same}
+use Rattle.event_log.proofs.{Exclusion.{is_at, one_holds, spot_is_near}, Observed.eqb_same}
 pub use Rattle.event_log.proofs.Observed.{phase_of, TicketOf}
 
 pub cpu_of_action_is : {M N : Type 0} (name : M → N) (e : Event M) → cpu_of_action (act_of name e) ≡ cpu_of_event e
@@ -54,7 +54,7 @@ legal_act : {M N : Type 0} (name : M → N) (e : Event M) (past : List (Event M)
 legal_act name (Draw cpu lock ticket) past may legal acts = (may.0, phase_acts name cpu past ∙ ap phase_of may.1)
 legal_act name (Look cpu lock ticket read) past may legal acts =
     let waits = phase_acts name cpu past ∙ ap phase_of may.0 in
-    let close = near (acts_of name past) acts cpu lock (ap (is_at lock) waits ∙ same_lock_self lock) in
+    let close = spot_is_near (acts_of name past) acts cpu lock (ap (is_at lock) waits ∙ same_lock_self lock) in
     let has = subst (λ s. TicketOf s (spot_of cpu (acts_of name past))) may.0 (ticket_at name past legal cpu) in
     (waits, grind (arith, same_rests, gives_acts name lock past))
 legal_act name (Free cpu lock mark) past may legal acts = phase_acts name cpu past ∙ ap phase_of may.1

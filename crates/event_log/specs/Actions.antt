@@ -17,10 +17,10 @@ cpu_of_action (Try cpu lock hit) = cpu
 cpu_of_action (Give cpu lock name) = cpu
 
 -- the lock that it acts on
-abbrev pub lock_of : {N : Type 0} → Action N → LockId
-lock_of (Take cpu lock) = lock
-lock_of (Try cpu lock hit) = lock
-lock_of (Give cpu lock name) = lock
+abbrev pub lock_of_action : {N : Type 0} → Action N → LockId
+lock_of_action (Take cpu lock) = lock
+lock_of_action (Try cpu lock hit) = lock
+lock_of_action (Give cpu lock name) = lock
 
 -- whether it takes a spot in the line of this lock
 abbrev pub is_take : {N : Type 0} → LockId → Action N → Bool
@@ -49,15 +49,15 @@ pub data Phase : Type 0 where
   Holds : (lock : LockId) → Phase
 
 -- what an action leaves its CPU to do
-abbrev pub left_in : {N : Type 0} → Action N → Phase
-left_in (Take cpu lock) = Waits lock
-left_in (Try cpu lock hit) = if hit then Holds lock else Waits lock
-left_in (Give cpu lock name) = Rests
+abbrev pub phase_after : {N : Type 0} → Action N → Phase
+phase_after (Take cpu lock) = Waits lock
+phase_after (Try cpu lock hit) = if hit then Holds lock else Waits lock
+phase_after (Give cpu lock name) = Rests
 
 -- what a CPU does: its newest action tells
 abbrev pub phase : {N : Type 0} → CpuId → List (Action N) → Phase
 phase cpu [] = Rests
-phase cpu (a ∷ past) = if same_cpu (cpu_of_action a) cpu then left_in a else phase cpu past
+phase cpu (a ∷ past) = if same_cpu (cpu_of_action a) cpu then phase_after a else phase cpu past
 
 -- the spot in line that a CPU took last: how many spots of that lock had been taken before
 abbrev pub spot_of : {N : Type 0} → CpuId → List (Action N) → ℕ

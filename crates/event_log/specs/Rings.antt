@@ -10,11 +10,11 @@ abbrev pub window : {A : Type 0} → ℕ → ℕ → List A → List A
 window k n slots = take n (rotate_left k slots)
 
 -- the item at the front
-abbrev pub first : {A : Type 0} → List A → Option A
-first [] = None
-first (item ∷ items) = Some item
+abbrev pub front_item : {A : Type 0} → List A → Option A
+front_item [] = None
+front_item (item ∷ items) = Some item
 
 -- the items behind the first
-abbrev pub rest : {A : Type 0} → List A → List A
-rest [] = []
-rest (item ∷ items) = items
+abbrev pub items_behind : {A : Type 0} → List A → List A
+items_behind [] = []
+items_behind (item ∷ items) = items

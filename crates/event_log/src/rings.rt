@@ -2,7 +2,7 @@
 //! or waits.
 
 ghost use Rattle.std.specs.Prelude.{◌≡◌, ◌+◌, ◌<◌, ◌≤◌, ◌++◌, ◌∷◌, [], length};
-ghost use Rattle.event_log.specs.{declared.ids.TheConstants.CAPACITY, Rings.{first, rest}};
+ghost use Rattle.event_log.specs.{declared.ids.TheConstants.CAPACITY, Rings.{front_item, items_behind}};
 
 use crate::cells::{Cells, Ticks};
 use crate::ids::CAPACITY;
@@ -66,8 +66,8 @@ impl<T: Copy + Drop> Ring<T> {
 
     /// Takes the item at the front; `None` where the queue is empty. At most two ticks.
     pub fn take_in<L: Ledger>(&mut self, ticks: &mut Ticks<L>) -> Option<T>
-        ensures first { result ≡ first self.old }
-        ensures rest { self.new ≡ rest self.old }
+        ensures first { result ≡ front_item self.old }
+        ensures rest { self.new ≡ items_behind self.old }
         ensures ticks { ticks.new ≤ ticks.old + 2 }
     {
         if self.len == 0 {
@@ -90,8 +90,8 @@ impl<T: Copy + Drop> Ring<T> {
 
     /// Takes the item at the front; `None` where the queue is empty.
     pub fn take(&mut self) -> Option<T>
-        ensures first { result ≡ first self.old }
-        ensures rest { self.new ≡ rest self.old }
+        ensures first { result ≡ front_item self.old }
+        ensures rest { self.new ≡ items_behind self.old }
     {
         take_from::<T, Brand>(self, Blank::new(1))
     }
@@ -136,8 +136,8 @@ fn take_from<T: Copy + Drop, L: Ledger>(ring: &mut Ring<T>, blank: Blank) -> Opt
     requires name { blank.name ≡ L.name }
     requires parts { blank.parts ≡ L.parts }
     requires one { blank.parts ≡ 1 }
-    ensures first { result ≡ first ring.old }
-    ensures rest { ring.new ≡ rest ring.old }
+    ensures first { result ≡ front_item ring.old }
+    ensures rest { ring.new ≡ items_behind ring.old }
 {
     let mut ticks = Ticks::<L>::fresh(blank);
     ring.take_in(&mut ticks)

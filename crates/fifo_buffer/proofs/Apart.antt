@@ -6,8 +6,8 @@ use Rattle.layer_traits.specs.declared.{buffer_edits.BufferEdit.BufferEdit, call
 use Rattle.layer_traits.specs.declared.locked.{QEdit.TheVariants.{Acquire, Inside, Release}, Side.{Side, TheVariants.Senders}}
 use Rattle.layer_traits.specs.{declared.call_states.CallState.CallState, Blocks.BufferBlocks.{BufferState, buffer_edited, thread_of_edit, entered, is_first}}
 use Rattle.layer_traits.specs.Blocks.{BufferBlocks.{line_of, put_in, shut, taken_out}, BufferEffects.{drawn, is_enter}, BufferProtocol.BufferLock}
-use Rattle.layer_traits.specs.{Blocks.BufferProtocol.{BufferSection, buffer_at, buffer_rules, has_tried_in_vain}, Layers.BufferLaw.{buffer_of, side_of}}
-use Rattle.layer_traits.specs.Layers.{Conditions.CvCall, QLocking.{IsOwners, asked, lock_caller, lock_edited, owner_in}, Sleeping.joined}
+use Rattle.layer_traits.specs.{Blocks.BufferProtocol.{BufferSection, buffer_lock_at, buffer_rules, has_tried_in_vain}, Layers.BufferLaw.{buffer_of, side_of}}
+use Rattle.layer_traits.specs.Layers.{Conditions.CvCall, QLocking.{IsOwners, lock_asked_by, lock_caller, lock_edited, owner_in}, Sleeping.joined}
 use Rattle.layer_traits.{specs.Threads.Places.{count_in, one_if}, proofs.CountLemmas.{same_tid_sym, count_behind, count_other}}
 use Rattle.thread_blocks.{specs.Queues.{same_tid, is_in, rest}, proofs.{Members.{same_tid_self, same_tid_true}, Distinct.out_of_rest}}
 use Rattle.fifo_buffer.specs.Stances.{Grip, Stance, CallStateFits, holds_at, line_at, lined_at, same_side}
@@ -31,11 +31,11 @@ side_self side = grind arith
 
 -- a grip on a lock, over one section there
 free_asked : (t u : Tid) (owner : Option Tid) (lock : BufferLock) → same_tid u t ≡ false → owner ≢ Some t → is_in t lock.sleepers ≡ false
-    → ((asked u owner lock).owner ≢ Some t) × (is_in t (asked u owner lock).sleepers ≡ false)
+    → ((lock_asked_by u owner lock).owner ≢ Some t) × (is_in t (lock_asked_by u owner lock).sleepers ≡ false)
 free_asked t u owner lock other free out = grind (arith, not_some, in_joined)
 
 held_asked : (t u : Tid) (owner : Option Tid) (lock : BufferLock) → same_tid u t ≡ false → owner ≡ Some t → is_in t lock.sleepers ≡ false
-    → ((asked u owner lock).owner ≡ Some t) × (is_in t (asked u owner lock).sleepers ≡ false)
+    → ((lock_asked_by u owner lock).owner ≡ Some t) × (is_in t (lock_asked_by u owner lock).sleepers ≡ false)
 held_asked t u owner lock other held out = grind (arith, in_joined)
 
 grip_edit : (t : Tid) (e : CvCall BufferEdit) (lock : BufferLock) (holds asks : Bool) → same_tid (lock_caller buffer_rules e) t ≡ false
@@ -75,7 +75,7 @@ pub line_edit : (t : Tid) (ed : BufferEdit) (side : Side) (x : BufferState) → 
 line_edit t ed side x other = grind (arith, line_entered, line_put, and_parts, line_taken, line_shut)
 
 -- an Acquire changes nothing above
-pub above_asked : (u : Tid) (owner : Option Tid) (lock : BufferLock) → (asked u owner lock).above ≡ lock.above
+pub above_asked : (u : Tid) (owner : Option Tid) (lock : BufferLock) → (lock_asked_by u owner lock).above ≡ lock.above
 above_asked u owner lock = grind arith
 
 pub line_apart : (t : Tid) (e : CvCall BufferEdit) (x : Option BufferLock) (side : Side) → same_tid (lock_caller buffer_rules e) t ≡ false
@@ -97,27 +97,28 @@ module _ (opening : LockId → Option BufferLock) (past : List BufferSection) (s
 
   -- what a predicate of the lock keeps over the section, the lock after it keeps
   pub at_after : (lock : LockId) (P : Option BufferLock → Type 0)
-      → (lock ≡ s.lock → P (buffer_at opening past s.lock) → P (option_map (lock_edited buffer_rules s.edit) (buffer_at opening past s.lock)))
-      → P (buffer_at opening past lock) → P (buffer_at opening (s ∷ past) lock)
+      → (lock ≡ s.lock → P (buffer_lock_at opening past s.lock) → P (option_map (lock_edited buffer_rules s.edit) (buffer_lock_at opening past s.lock)))
+      → P (buffer_lock_at opening past lock) → P (buffer_lock_at opening (s ∷ past) lock)
   at_after lock P over now = go (same_lock lock s.lock) refl
     where
       go : (b : Bool) → same_lock lock s.lock ≡ b
-          → P (if b then option_map (lock_edited buffer_rules s.edit) (buffer_at opening past lock) else buffer_at opening past lock)
+          → P (if b then option_map (lock_edited buffer_rules s.edit) (buffer_lock_at opening past lock) else buffer_lock_at opening past lock)
       go true is =
           let one : lock ≡ s.lock = same_lock_true lock s.lock is in
-          subst (λ l. P (option_map (lock_edited buffer_rules s.edit) (buffer_at opening past l))) (sym one)
-          (over one (subst (λ l. P (buffer_at opening past l)) one now))
+          subst (λ l. P (option_map (lock_edited buffer_rules s.edit) (buffer_lock_at opening past l))) (sym one)
+          (over one (subst (λ l. P (buffer_lock_at opening past l)) one now))
       go false is = now
 
-  module _ (other : same_tid (lock_caller buffer_rules s.edit) t ≡ false) (owns : IsOwners buffer_rules s.edit (owner_in (buffer_at opening past s.lock))) where
+  module _ (other : same_tid (lock_caller buffer_rules s.edit) t ≡ false)
+      (owns : IsOwners buffer_rules s.edit (owner_in (buffer_lock_at opening past s.lock))) where
     pub stance_apart : (b : BufId) (side : Side) (holds asks lined : Bool) (position : ℕ) → Stance opening past t b side holds asks lined position
         → Stance opening (s ∷ past) t b side holds asks lined position
     stance_apart b side holds asks lined position stance = record {
       grip = λ lock. at_after lock (Grip t (holds && same_lock lock (Buffer b)) (asks && same_lock lock (Buffer b)))
-          (λ one. grip_apart t s.edit (buffer_at opening past s.lock) (holds && same_lock lock (Buffer b))
+          (λ one. grip_apart t s.edit (buffer_lock_at opening past s.lock) (holds && same_lock lock (Buffer b))
           (asks && same_lock lock (Buffer b)) other owns) (stance.grip lock);
       line = λ lock at. at_after lock (λ x. count_in t (line_at at x) ≡ one_if (lined && (same_lock lock (Buffer b) && same_side at side)))
-          (λ one is. line_apart t s.edit (buffer_at opening past s.lock) at other ∙ is) (stance.line lock at);
+          (λ one is. line_apart t s.edit (buffer_lock_at opening past s.lock) at other ∙ is) (stance.line lock at);
       drawn_is = λ is. stance.drawn_is is ∙ sym (drawn_apart (Buffer b) side other);
     }
 

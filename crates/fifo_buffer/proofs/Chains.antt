@@ -5,7 +5,7 @@ use Rattle.layer_traits.specs.declared.{buffer_edits.{BufferEdit.BufferEdit, Buf
 use Rattle.layer_traits.specs.declared.{locked.QOut.QOut, queue_edits.{QueueEdit.QueueEdit, QueueAnswer.QueueAnswer}, call_states.Stage.Stage}
 use Rattle.layer_traits.specs.declared.call_states.Stage.TheVariants.{Idle, Acquires, Enters, Tries, Waits, AcquiresAgain, Signals, SignalsOwn, Releases}
 use Rattle.layer_traits.specs.{declared.call_states.CallState.CallState, Layers.BufferLaw.{Buffering, BufferPlan, buffer_of, chained, recorded, plan_at}}
-use Rattle.layer_traits.specs.Layers.{BufferLaw.{plan_beneath, plan_of, section_at, call_state_of}, Conditions.CvCall, CvLaw.Waiting, QLockLaw.slept_for}
+use Rattle.layer_traits.specs.Layers.{BufferLaw.{plan_beneath, stage_plan, section_at, call_state_of}, Conditions.CvCall, CvLaw.Waiting, QLockLaw.slept_for}
 use Rattle.layer_traits.specs.{Layers.{QLocking.lock_moves, Scheds.sched_plan, SleepLaw.due}, Blocks.BufferProtocol.buffer_rules, Polling.Plans.{Follows, Left}}
 use Rattle.{layer_traits.specs.Polling.Plans.{Plan, Now, Act, Table, raised}, fifo_buffer.specs.{Stances.{called_at, waits_at}, SectionPolls.BufferOutcome}}
 use Rattle.fifo_buffer.{specs.SectionPolls.is_at_once, proofs.Events.caller_is}
@@ -48,7 +48,7 @@ module _ {B : Type 0} (ActsFor : CpuId → Type 0) (table : Table (QueueEdit (Cv
       (got : Left Buffering Reply)
       → called_at stage ≡ true
       → slept_for own.cv.lock.slept t ≡ None → slept_for own.cv.waits t ≡ None
-      → Follows ActsFor table opening cpu (plan_of homes cpu t call stage call_state own) old new got → Follows ActsFor table opening cpu
+      → Follows ActsFor table opening cpu (stage_plan homes cpu t call stage call_state own) old new got → Follows ActsFor table opening cpu
       (plan_at homes cpu t call stage call_state own) old new got
   one_follows Idle call_state own old new got called slept waits follows = grind arith
   one_follows Acquires call_state own old new got called slept waits follows = grind (arith, chained_act, beneath_acts)
@@ -78,8 +78,8 @@ module _ {B : Type 0} (ActsFor : CpuId → Type 0) (table : Table (QueueEdit (Cv
       → (waits_at stage ≡ true → is_some (slept_for own.cv.waits t) ≡ true)
       → (waits_at stage ≡ false → (slept_for own.cv.waits t ≡ None) × (is_some (slept_for own.cv.lock.slept t) ≡ true))
       → slept_for one.own.cv.lock.slept t ≡ None → slept_for one.own.cv.waits t ≡ None
-      → Follows ActsFor table opening cpu (plan_of homes cpu t call stage call_state own) old mid one
-      → Follows ActsFor table opening cpu (plan_of homes cpu t call (call_state_of one.own.call_states t).stage
+      → Follows ActsFor table opening cpu (stage_plan homes cpu t call stage call_state own) old mid one
+      → Follows ActsFor table opening cpu (stage_plan homes cpu t call (call_state_of one.own.call_states t).stage
       (call_state_of one.own.call_states t) one.own) mid new two
       → Follows ActsFor table opening cpu (plan_at homes cpu t call stage call_state own) old new two
   two_follows Acquires call_state own old mid new one two handed out once is waits slept free freed first second = grind (arith, some_of, two_chain)

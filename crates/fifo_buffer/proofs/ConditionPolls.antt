@@ -7,11 +7,11 @@ use Rattle.layer_traits.specs.declared.{locked.QOut.{QOut, TheVariants.{Acquired
 use Rattle.layer_traits.specs.{declared.call_states.CallState.CallState, Layers.{BufferLaw.{buffer_of, recorded, section_at}, Conditions.{CvCall, cv_rules}}}
 use Rattle.layer_traits.specs.Layers.{CvLaw.{CvPolled, WaitOver, Waiting, left_waiting, left_woken}, QLockLaw.{Handed, LockPolled, Locks, Locking, left_handed}}
 use Rattle.layer_traits.specs.Layers.{QLockLaw.{lock_kernel, slept_for}, QLocking.{wait_list_in, owner_in, lock_caller}, Queues.{QueueAllowed, buffer_sections}}
-use Rattle.layer_traits.specs.{Layers.SleepLaw.Sleeping, Blocks.BufferProtocol.{BufferLock, BufferSection, buffer_at, buffer_monitor_rules}}
+use Rattle.layer_traits.specs.{Layers.SleepLaw.Sleeping, Blocks.BufferProtocol.{BufferLock, BufferSection, buffer_lock_at, buffer_monitor_rules}}
 use Rattle.{layer_traits.specs.{Blocks.QueueBlocks.{homes_in, inner}, Polling.Plans.Left}, thread_blocks.specs.Queues.{same_tid, is_in}}
-use Rattle.fifo_buffer.specs.{Stances.{Holds, InCall, CallStateFits, call_state_in, waits_at}, SectionPolls.{Begins, BufferEvent, BufferOutcome, Ended, Goes}}
-use Rattle.fifo_buffer.{specs.SectionPolls.{SectionPolled, recorded_if}, proofs.{Callers.Caller, Events.caller_is, Polls.{lock_section_poll, other_mark}}}
-use Rattle.fifo_buffer.proofs.Polls.{own_mark}
+use Rattle.fifo_buffer.specs.{Stances.{HoldsLock, InCall, CallStateFits, call_state_in, waits_at}, SectionPolls.{SectionBegins, BufferEvent, BufferOutcome}}
+use Rattle.fifo_buffer.{specs.SectionPolls.{Ended, SectionGoes, SectionPolled, recorded_if}, proofs.{Callers.Caller, Events.caller_is, Polls.lock_section_poll}}
+use Rattle.fifo_buffer.proofs.Polls.{other_mark, own_mark}
 use Rattle.layer_traits.specs.declared.conditions.CvOut.TheVariants as answer
 use Rattle.layer_traits.specs.declared.moves.WaitList.TheVariants as line
 
@@ -26,7 +26,7 @@ waited_on O past t call at slept stage position effect now = grind arith
 
 handed_on : (O : LockId → Option BufferLock) (past : List BufferSection) (t : Tid) (call : Call) (at : BufId) (stage : Stage) (position : ℕ)
     (effect : Option Effect)
-    → Holds t (buffer_at O past (Buffer (buffer_of call))) → InCall O past t call (Some at) None stage position effect
+    → HoldsLock t (buffer_lock_at O past (Buffer (buffer_of call))) → InCall O past t call (Some at) None stage position effect
     → CallStateFits O past t (recorded (call_state_in stage call position effect) stage Acquired).call None None (recorded
     (call_state_in stage call position effect) stage Acquired)
     × ((recorded (call_state_in stage call position effect) stage Acquired).effect ≡ effect) × (waits_at stage ≡ false)
@@ -64,7 +64,7 @@ module _ (caller : Caller) (new : List BufferEvent) where
   }
 
   over_section_poll : (stage : Stage) (position : ℕ) (effect : Option Effect) (at : BufId) → slept_for own.waits t ≡ Some at
-      → Begins (inner opening) (buffer_sections old) t call (call_state_in stage call position effect) own
+      → SectionBegins (inner opening) (buffer_sections old) t call (call_state_in stage call position effect) own
       → (got : Left (Waiting BufferOut) BufferOutcome) (under_way : Option (SchedCall (CvCall BufferEdit))) (u : Tid) → u ≡ t
       → (o : WaitOver buffer_monitor_rules (inner opening) (buffer_of call) (section_at t call stage) old own under_way got)
       → got ≡ left_woken u o.side own.waits own.lock
@@ -99,11 +99,11 @@ module _ (caller : Caller) (new : List BufferEvent) where
       (λ w. sym (ap is_some waits_is))))
 
   handed_polled : (stage : Stage) (position : ℕ) (effect : Option Effect) (at : BufId) → slept_for own.lock.slept t ≡ Some at → slept_for own.waits t ≡ None
-      → Begins (inner opening) (buffer_sections old) t call (call_state_in stage call position effect) own
+      → SectionBegins (inner opening) (buffer_sections old) t call (call_state_in stage call position effect) own
       → (got : Left (Waiting BufferOut) BufferOutcome) (l : Left (Locking (CvOut BufferOut)) BufferOutcome)
       (under_way : Option (SchedCall (CvCall BufferEdit))) (u : Tid) → u ≡ t
-      → owner_in (buffer_at (inner opening) (buffer_sections old) (Buffer (buffer_of call))) ≡ Some t
-      → is_in t (wait_list_in line.Sleepers (buffer_at (inner opening) (buffer_sections old) (Buffer (buffer_of call)))) ≡ false
+      → owner_in (buffer_lock_at (inner opening) (buffer_sections old) (Buffer (buffer_of call))) ≡ Some t
+      → is_in t (wait_list_in line.Sleepers (buffer_lock_at (inner opening) (buffer_sections old) (Buffer (buffer_of call)))) ≡ false
       → under_way ≡ None → l ≡ left_handed u own.lock.slept own.lock.sleep → got ≡ left_waiting u (buffer_of call) own.waits l.own l.answer
       → SectionPolled (homes_in opening) ActsFor (inner opening) c t call (call_state_in stage call position effect) old old own got.own under_way
       (is_some got.answer)
@@ -114,7 +114,7 @@ module _ (caller : Caller) (new : List BufferEvent) where
       let fits : InCall (inner opening) (buffer_sections old) t call (Some at) None stage position effect
       = subst (λ w. InCall (inner opening) (buffer_sections old) t call (Some at) w stage position effect) waits_none some_slept in
       let on = handed_on (inner opening) (buffer_sections old) t call at stage position effect
-      (held (buffer_at (inner opening) (buffer_sections old) (Buffer (buffer_of call))) owns awake) fits in
+      (held (buffer_lock_at (inner opening) (buffer_sections old) (Buffer (buffer_of call))) owns awake) fits in
       let later : CallState = recorded (call_state_in stage call position effect) stage Acquired in
       let left : Waiting BufferOut = record { lock = record { sleep = own.lock.sleep; slept = slice_set own.lock.slept t.0 None }; waits = own.waits } in
       let is : got ≡ record { own = left; answer = Some (record { out = Acquired; slept = false; woke = None }) }
@@ -143,14 +143,14 @@ module _ (caller : Caller) (new : List BufferEvent) where
       wrong : waits_at stage ≡ true → waits_at stage ≡ false → ⊥
       wrong w out = absurd cc
 
-      held : (x : Option BufferLock) → owner_in x ≡ Some t → is_in t (wait_list_in line.Sleepers x) ≡ false → Holds t x
+      held : (x : Option BufferLock) → owner_in x ≡ Some t → is_in t (wait_list_in line.Sleepers x) ≡ false → HoldsLock t x
       held x owns awake = grind arith
 
   -- a poll of the conditions is a section poll of the call
   polled_in : (stage : Stage) (position : ℕ) (effect : Option Effect) (before under_way : Option (SchedCall (CvCall BufferEdit)))
-      → Goes (inner opening) (buffer_sections old) t call (call_state_in stage call position effect) own before
+      → SectionGoes (inner opening) (buffer_sections old) t call (call_state_in stage call position effect) own before
       → IsLawful (QueueAllowed (lock_kernel (cv_rules buffer_monitor_rules) opening)) new
-      → is_in t (wait_list_in line.Sleepers (buffer_at (inner opening) (buffer_sections old) (Buffer (buffer_of call)))) ≡ false
+      → is_in t (wait_list_in line.Sleepers (buffer_lock_at (inner opening) (buffer_sections old) (Buffer (buffer_of call)))) ≡ false
       → (waits slept : Option BufId) → slept_for own.waits t ≡ waits → slept_for own.lock.slept t ≡ slept → (got : Left (Waiting BufferOut) BufferOutcome)
       → CvPolled buffer_monitor_rules (lock_kernel (cv_rules buffer_monitor_rules) opening) ActsFor c (buffer_of call)
       (section_at t call stage) waits old new own under_way got
@@ -199,9 +199,9 @@ module _ (caller : Caller) (new : List BufferEvent) where
       (lock_caller (cv_rules buffer_monitor_rules) (section_at t call stage)) (caller_is t call stage) sleep.leaves locks.ends locks.leaves polled.leaves
 
   pub polled_section : (call_state : CallState) (before under_way : Option (SchedCall (CvCall BufferEdit))) → call_state.call ≡ Some call
-      → Goes (inner opening) (buffer_sections old) t call call_state own before
+      → SectionGoes (inner opening) (buffer_sections old) t call call_state own before
       → IsLawful (QueueAllowed (lock_kernel (cv_rules buffer_monitor_rules) opening)) new
-      → is_in t (wait_list_in line.Sleepers (buffer_at (inner opening) (buffer_sections old) (Buffer (buffer_of call)))) ≡ false
+      → is_in t (wait_list_in line.Sleepers (buffer_lock_at (inner opening) (buffer_sections old) (Buffer (buffer_of call)))) ≡ false
       → (u : Tid) → u ≡ t → (got : Left (Waiting BufferOut) BufferOutcome)
       → CvPolled buffer_monitor_rules (lock_kernel (cv_rules buffer_monitor_rules) opening) ActsFor c (buffer_of call) (section_at t call call_state.stage)
       (slept_for own.waits u) old new own under_way got
@@ -212,7 +212,7 @@ module _ (caller : Caller) (new : List BufferEvent) where
       subst (λ (x : CallState). SectionPolled (homes_in opening) ActsFor (inner opening) c t call x old new own got.own under_way (is_some got.answer)
       (recorded_if x call_state.stage got.answer)) whole
       (polled_in call_state.stage call_state.position call_state.effect before under_way
-      (subst (λ (x : CallState). Goes (inner opening) (buffer_sections old) t call x own before) (sym whole) goes) lawful awake
+      (subst (λ (x : CallState). SectionGoes (inner opening) (buffer_sections old) t call x own before) (sym whole) goes) lawful awake
       (slept_for own.waits t) (slept_for own.lock.slept t) refl refl got
       (subst (λ v. CvPolled buffer_monitor_rules (lock_kernel (cv_rules buffer_monitor_rules) opening) ActsFor c (buffer_of call)
       (section_at t call call_state.stage)

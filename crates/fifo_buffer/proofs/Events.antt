@@ -8,7 +8,7 @@ use Rattle.layer_traits.specs.declared.call_states.{Stage.{Stage, TheVariants.{I
 use Rattle.layer_traits.specs.Layers.{BufferLaw.{buffer_of, section_at, side_of}, Conditions.{CvCall, cv_rules}, QLockLaw.lock_kernel, QLocking.IsOwners}
 use Rattle.layer_traits.specs.Layers.{QLocking.{lock_caller, owner_in}, Queues.{QueueAllowed, buffer_sections, cpu_of_queue_event, with_section}}
 use Rattle.layer_traits.specs.{Threads.Places.{count_in, home_of, one_if}, Protocols.Protocol.section, Blocks.QueueBlocks.{homes_in, inner}}
-use Rattle.layer_traits.specs.Blocks.BufferProtocol.{BufferLock, BufferSection, IsDue, buffer_at, buffer_monitor_rules, buffer_rules, is_in_line}
+use Rattle.layer_traits.specs.Blocks.BufferProtocol.{BufferLock, BufferSection, IsDue, buffer_lock_at, buffer_monitor_rules, buffer_rules, is_in_line}
 use Rattle.{layer_traits.proofs.{CountLemmas.not_counted, ListsLemmas.counted_in}, thread_blocks.{specs.Queues.same_tid, proofs.Members.same_tid_true}}
 use Rattle.fifo_buffer.{specs.{Stances.{Grip, InCall, Stance, CallStateFits, line_at, same_side}, SectionPolls.BufferEvent}, proofs.Apart.fits_apart}
 use Rattle.fifo_buffer.proofs.Apart.{side_self}
@@ -53,11 +53,11 @@ caller_is t call stage = grind arith
 -- what a stance lets its thread do
 module _ (O : LockId → Option BufferLock) (past : List BufferSection) (t : Tid) where
   grip_here : (b : BufId) (side : Side) (holds asks lined : Bool) (position : ℕ) → Stance O past t b side holds asks lined position
-      → Grip t holds asks (buffer_at O past (Buffer b))
+      → Grip t holds asks (buffer_lock_at O past (Buffer b))
   grip_here b side holds asks lined position stance =
-      subst (λ v. Grip t v asks (buffer_at O past (Buffer b))) (and-true holds)
-      (subst (λ v. Grip t (holds && true) v (buffer_at O past (Buffer b))) (and-true asks)
-      (subst (λ v. Grip t (holds && v) (asks && v) (buffer_at O past (Buffer b))) (same_lock_self (Buffer b)) (stance.grip (Buffer b))))
+      subst (λ v. Grip t v asks (buffer_lock_at O past (Buffer b))) (and-true holds)
+      (subst (λ v. Grip t (holds && true) v (buffer_lock_at O past (Buffer b))) (and-true asks)
+      (subst (λ v. Grip t (holds && v) (asks && v) (buffer_lock_at O past (Buffer b))) (same_lock_self (Buffer b)) (stance.grip (Buffer b))))
 
   owned : (x : Option BufferLock) → Grip t true false x → owner_in x ≡ Some t
   owned x grip = grind arith
@@ -68,7 +68,7 @@ module _ (O : LockId → Option BufferLock) (past : List BufferSection) (t : Tid
 
   -- the owner of its buffer's lock is as its section asks
   pub owner_due : (call : Call) (stage : Stage) (position : ℕ) (effect : Option Effect) → InCall O past t call None None stage position effect
-      → IsOwners buffer_rules (section_at t call stage) (owner_in (buffer_at O past (Buffer (buffer_of call))))
+      → IsOwners buffer_rules (section_at t call stage) (owner_in (buffer_lock_at O past (Buffer (buffer_of call))))
   owner_due call Idle position effect now = grind arith
   owner_due call Acquires position effect now = not_owned _ (grip_here (buffer_of call) (side_of call) false false false position now.stance)
   owner_due (Send b m) Enters position effect now = owned _ (grip_here b Senders true false false position now.stance)
@@ -88,7 +88,7 @@ module _ (O : LockId → Option BufferLock) (past : List BufferSection) (t : Tid
   in_line side x once = grind (arith, counted_in)
 
   once_there : (b : BufId) (side : Side) (position : ℕ) → Stance O past t b side true false true position
-      → count_in t (line_at side (buffer_at O past (Buffer b))) ≡ 1
+      → count_in t (line_at side (buffer_lock_at O past (Buffer b))) ≡ 1
   once_there b side position stance =
       stance.line (Buffer b) side ∙ ap (λ v. one_if (true && (v && same_side side side))) (same_lock_self (Buffer b)) ∙ ap one_if (side_self side)
 

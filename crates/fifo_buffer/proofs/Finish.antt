@@ -7,7 +7,7 @@ use Rattle.layer_traits.specs.{declared.call_states.{Stage.{Stage, TheVariants.I
 use Rattle.layer_traits.specs.Layers.BufferLaw.{Answered, Called, begun_at, buffer_of, entry_of, going, recorded, enlisted, replied, reply_of, call_state_of}
 use Rattle.layer_traits.specs.{Layers.{BufferLaw.tried, Conditions.CvCall, QLockLaw.slept_for, Queues.buffer_sections}, Threads.Places.home_of}
 use Rattle.{thread_blocks.{specs.Queues.same_tid, proofs.Members.same_tid_true}, fifo_buffer.specs.Stances.{InCall, CallStateFits, called_at, done_at}}
-use Rattle.fifo_buffer.{specs.SectionPolls.{After, CallsFit, FitsAt, NoSection, Sleeps, Stays, calling_after}, proofs.SectionPollTaken.SectionPollTaken}
+use Rattle.fifo_buffer.{specs.SectionPolls.{After, CallsFit, FitsAt, NoSection, Sleeps, SectionStays, calling_after}, proofs.SectionPollTaken.SectionPollTaken}
 use Rattle.fifo_buffer.proofs.Parts.{effects_append, effects_others, effects_over}
 
 enlisted_call : (call_state : CallState) (out : BufferOut) → (enlisted call_state out).call ≡ call_state.call
@@ -53,10 +53,10 @@ module _ (poll_section : SectionPollTaken) (home : home_of poll_section.homes po
       go u there true is = subst (λ v. FitsAt O (buffer_sections new) left now v) (same_tid_true t u is) mine
       go u there false is = others u there is
 
-  pub finish : ((u : Tid) → home_of homes u ≡ Some c → same_tid t u ≡ false → FitsAt O (buffer_sections old) own call_states u)
+  pub poll_done : ((u : Tid) → home_of homes u ≡ Some c → same_tid t u ≡ false → FitsAt O (buffer_sections old) own call_states u)
       → (answer : Option Reply) → answer ≡ (if done then replied call call_state call_state.stage else None)
       → Fit (calling_after t left.lock.sleep.threads.current answer)
-  finish before answer answers = go done answers section_polled.after
+  poll_done before answer answers = go done answers section_polled.after
     where
       others : (u : Tid) → home_of homes u ≡ Some c → same_tid t u ≡ false → FitsAt O (buffer_sections new) left now u
       others = others_after before
@@ -103,7 +103,7 @@ module _ (poll_section : SectionPollTaken) (home : home_of poll_section.homes po
               (idle (none_there under_way after.none) after.deferred (rw own_call_state after.fits) others)
       go false is after = by_case after.1
         where
-          by_case : Sleeps O (buffer_sections new) t call call_state left under_way ⊎ Stays O
+          by_case : Sleeps O (buffer_sections new) t call call_state left under_way ⊎ SectionStays O
               (buffer_sections new) t call call_state left under_way
               → Fit (calling_after t left.lock.sleep.threads.current answer)
           by_case (inl sleeps) =

@@ -5,7 +5,7 @@ use Rattle.layer_traits.specs.declared.{buffer_edits.BufferOut.BufferOut, calls.
 use Rattle.layer_traits.specs.{declared.call_states.{Stage.{Stage, TheVariants.{Idle, Acquires}}, CallState.CallState}, Layers.BufferLaw.{Calling, MayGoOn}}
 use Rattle.layer_traits.specs.Layers.{BufferLaw.{MayPollCall, begun, going, going_at, call_state_of}, Conditions.CvCall, CvLaw.Waiting, QLockLaw.slept_for}
 use Rattle.{layer_traits.specs.{Blocks.BufferProtocol.{BufferLock, BufferSection}, Threads.Places.home_of}, thread_blocks.specs.Queues.same_tid}
-use Rattle.fifo_buffer.specs.{Stances.{InCall, Stance, CallStateFits, called_at}, SectionPolls.{CallsFit, FitsAt, Goes, MayPollSection, under_way_at}}
+use Rattle.fifo_buffer.specs.{Stances.{InCall, Stance, CallStateFits, called_at}, SectionPolls.{CallsFit, FitsAt, SectionGoes, MayPollSection, under_way_at}}
 use Rattle.layer_traits.specs.declared.scheds.SchedCall.TheVariants as sched
 
 -- within a call the call state goes on as it is
@@ -45,7 +45,7 @@ module _ (O : LockId → Option BufferLock) (past : List BufferSection) (t : Tid
 -- a call that goes on is begun
 pub goes_called : (O : LockId → Option BufferLock) (past : List BufferSection) (t : Tid) (k : Call) (call_state : CallState) (own : Waiting BufferOut)
     (w : Option (SchedCall (CvCall BufferEdit)))
-    → Goes O past t k call_state own w → called_at call_state.stage ≡ true
+    → SectionGoes O past t k call_state own w → called_at call_state.stage ≡ true
 goes_called O past t k call_state own w goes = grind arith
 
 -- the first section poll of a poll

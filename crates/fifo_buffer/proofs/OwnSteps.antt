@@ -10,13 +10,13 @@ use Rattle.layer_traits.specs.declared.locked.{QOut.{QOut, TheVariants.{Did, Rel
 use Rattle.layer_traits.specs.declared.call_states.Stage.{Stage, TheVariants.{Idle, Acquires, Enters, Tries, Waits, AcquiresAgain, Signals, SignalsOwn}}
 use Rattle.layer_traits.specs.{declared.call_states.Stage.TheVariants.Releases, Blocks.BufferBlocks.{BufferState, effect_kind, entered, first_item, is_first}}
 use Rattle.layer_traits.specs.Blocks.{BufferBlocks.{is_next, line_of, may_join, drawn_of, put_in, taken_out}, BufferEffects.{drawn, effect_of, effect_on}}
-use Rattle.layer_traits.specs.Blocks.{BufferEffects.{is_enter, drawn_in}, BufferProtocol.{BufferLock, BufferSection, buffer_at, buffer_rules}}
+use Rattle.layer_traits.specs.Blocks.{BufferEffects.{is_enter, drawn_in}, BufferProtocol.{BufferLock, BufferSection, buffer_lock_at, buffer_rules}}
 use Rattle.layer_traits.specs.{Blocks.BufferProtocol.has_tried_in_vain, Layers.BufferLaw.{IsEffectOf, buffer_of, entry_of, section_at, side_of}}
-use Rattle.layer_traits.specs.{Layers.{Conditions.CvCall, QLocking.{asked, lock_edited, lock_out, asker_report}}, Threads.Places.{count_in, one_if}}
+use Rattle.layer_traits.specs.{Layers.{Conditions.CvCall, QLocking.{lock_asked_by, lock_edited, lock_out, asker_report}}, Threads.Places.{count_in, one_if}}
 use Rattle.{layer_traits.{specs.Protocols.Protocol.section, proofs.CountLemmas.{count_append, not_counted}}, thread_blocks.specs.Queues.rest}
-use Rattle.{thread_blocks.proofs.{Members.same_tid_self, Distinct.out_of_rest}, fifo_buffer.specs.{Laws.BlockSteps.kind_counts, Stances.{Grip, Holds, InCall}}}
-use Rattle.fifo_buffer.specs.Stances.{IsFreeOf, Stance, CallStateFits, done_at, recorded_by, line_at, same_side, slept_by, call_state_in, waits_by}
-use Rattle.fifo_buffer.proofs.{Within.within, Apart.{above_asked, line_shut, side_self}}
+use Rattle.{thread_blocks.proofs.{Members.same_tid_self, Distinct.out_of_rest}, fifo_buffer.specs.{Laws.BlockSteps.kind_counts, Stances.{Grip, HoldsLock}}}
+use Rattle.fifo_buffer.specs.Stances.{InCall, IsFreeOf, Stance, CallStateFits, done_at, recorded_by, line_at, same_side, slept_by, call_state_in, waits_by}
+use Rattle.fifo_buffer.proofs.{Within.call_within, Apart.{above_asked, line_shut, side_self}}
 use Rattle.event_log.specs.declared.entries.Kind.TheVariants as kind
 use Rattle.layer_traits.specs.declared.buffer_edits.BufferOut.TheVariants as told
 use Rattle.layer_traits.specs.declared.conditions.CvOut.TheVariants as answer
@@ -34,9 +34,9 @@ pub record Stepped (opening : LockId → Option BufferLock) (past : List BufferS
   pub stays : mine ≡ None → (recorded_by (call_state_in stage call position effect) stage out).effect ≡ effect
 
 module _ (opening : LockId → Option BufferLock) (past : List BufferSection) (c : CpuId) (t : Tid) (b : BufId) (side : Side) (e : CvCall BufferEdit)
-    (lock : BufferLock) (is : buffer_at opening past (Buffer b) ≡ Some lock) where
-  here : (l : LockId) → same_lock l (Buffer b) ≡ true → buffer_at opening past l ≡ Some lock
-  here l same = subst (λ k. buffer_at opening past k ≡ Some lock) (sym (same_lock_true l (Buffer b) same)) is
+    (lock : BufferLock) (is : buffer_lock_at opening past (Buffer b) ≡ Some lock) where
+  here : (l : LockId) → same_lock l (Buffer b) ≡ true → buffer_lock_at opening past l ≡ Some lock
+  here l same = subst (λ k. buffer_lock_at opening past k ≡ Some lock) (sym (same_lock_true l (Buffer b) same)) is
 
   -- a section at the thread's own buffer changes its stance there alone
   own_stance : (holds asks lined holds' asks' lined' : Bool) (position position' : ℕ) → Stance opening past t b side holds asks lined position
@@ -52,25 +52,26 @@ module _ (opening : LockId → Option BufferLock) (past : List BufferSection) (c
   }
     where
       grip_at : (l : LockId) (v : Bool) → same_lock l (Buffer b) ≡ v
-          → Grip t (holds' && v) (asks' && v) (if v then option_map (lock_edited buffer_rules e) (buffer_at opening past l) else buffer_at opening past l)
+          → Grip t (holds' && v) (asks' && v)
+          (if v then option_map (lock_edited buffer_rules e) (buffer_lock_at opening past l) else buffer_lock_at opening past l)
       grip_at l true same =
           let now : Grip t (holds && true) (asks && true) (Some lock)
           = subst (λ x. Grip t (holds && true) (asks && true) x) (here l same)
-          (subst (λ v. Grip t (holds && v) (asks && v) (buffer_at opening past l)) same (stance.grip l)) in
+          (subst (λ v. Grip t (holds && v) (asks && v) (buffer_lock_at opening past l)) same (stance.grip l)) in
           let then' : Grip t holds' asks' (Some (lock_edited buffer_rules e lock)) = grips (rw (← and-true holds, ← and-true asks) now) in
           subst (λ x. Grip t (holds' && true) (asks' && true) (option_map (lock_edited buffer_rules e) x)) (sym (here l same))
           (rw (and-true holds', and-true asks') then')
       grip_at l false same =
-          let now : Grip t (holds && false) (asks && false) (buffer_at opening past l)
-          = subst (λ v. Grip t (holds && v) (asks && v) (buffer_at opening past l)) same (stance.grip l) in
-          let free : Grip t false false (buffer_at opening past l)
-          = subst (λ v. Grip t v false (buffer_at opening past l)) (and_right holds false refl)
-          (subst (λ v. Grip t (holds && false) v (buffer_at opening past l)) (and_right asks false refl) now) in
-          subst (λ v. Grip t v (asks' && false) (buffer_at opening past l)) (sym (and_right holds' false refl))
-          (subst (λ v. Grip t false v (buffer_at opening past l)) (sym (and_right asks' false refl)) free)
+          let now : Grip t (holds && false) (asks && false) (buffer_lock_at opening past l)
+          = subst (λ v. Grip t (holds && v) (asks && v) (buffer_lock_at opening past l)) same (stance.grip l) in
+          let free : Grip t false false (buffer_lock_at opening past l)
+          = subst (λ v. Grip t v false (buffer_lock_at opening past l)) (and_right holds false refl)
+          (subst (λ v. Grip t (holds && false) v (buffer_lock_at opening past l)) (and_right asks false refl) now) in
+          subst (λ v. Grip t v (asks' && false) (buffer_lock_at opening past l)) (sym (and_right holds' false refl))
+          (subst (λ v. Grip t false v (buffer_lock_at opening past l)) (sym (and_right asks' false refl)) free)
 
       line_there : (l : LockId) (at : Side) (v : Bool) → same_lock l (Buffer b) ≡ v
-          → count_in t (line_at at (if v then option_map (lock_edited buffer_rules e) (buffer_at opening past l) else buffer_at opening past l))
+          → count_in t (line_at at (if v then option_map (lock_edited buffer_rules e) (buffer_lock_at opening past l) else buffer_lock_at opening past l))
           ≡ one_if (lined' && (v && same_side at side))
       line_there l at v same = grind (arith, here, and_right)
 
@@ -79,7 +80,7 @@ module _ (opening : LockId → Option BufferLock) (past : List BufferSection) (c
   drawn_own none = grind (arith, and_right)
 
 -- whoever takes a free lock holds it
-take_free : (t : Tid) (owner : Option Tid) (lock : BufferLock) → owner ≡ None → IsFreeOf t (Some lock) → Holds t (Some (asked t owner lock))
+take_free : (t : Tid) (owner : Option Tid) (lock : BufferLock) → owner ≡ None → IsFreeOf t (Some lock) → HoldsLock t (Some (lock_asked_by t owner lock))
 take_free t owner lock is free = grind arith
 
 -- whoever is first in a line, where it stands once, is not among those behind
@@ -101,7 +102,7 @@ enter_own side t = grind (arith, same_tid_self)
 
 -- the stances after each kind of section of the thread's own
 module _ (opening : LockId → Option BufferLock) (past : List BufferSection) (c : CpuId) (t : Tid) (b : BufId) (side : Side)
-    (lock : BufferLock) (is : buffer_at opening past (Buffer b) ≡ Some lock) where
+    (lock : BufferLock) (is : buffer_lock_at opening past (Buffer b) ≡ Some lock) where
   -- an Acquire, where the lock was free, and where it had an owner
   took_lock : (lined : Bool) (position : ℕ) → lock.owner ≡ None → Stance opening past t b side false false lined position
       → Stance opening (section c (Buffer b) (Acquire t) ∷ past) t b side true false lined position
@@ -134,7 +135,7 @@ module _ (opening : LockId → Option BufferLock) (past : List BufferSection) (c
       (λ grip. grip)
       (λ at now. ap (λ (v : Bool). count_in t (line_of at (if v then entered side t lock.above else lock.above)))
       (may_enter t (line_of side lock.above) small (in_own_line true false false position stance)) ∙ lines_entered t side at lock.above now)
-      (λ lines. sym (ap (λ (v : Bool). if v then drawn_in side (buffer_at opening past (Buffer b)) else drawn opening (Buffer b) side t past) test
+      (λ lines. sym (ap (λ (v : Bool). if v then drawn_in side (buffer_lock_at opening past (Buffer b)) else drawn opening (Buffer b) side t past) test
       ∙ ap (drawn_in side) is))
     where
       test : (same_lock (Buffer b) (Buffer b) && is_enter side t (Inside (Edit (Enter t side)))) ≡ true
@@ -176,7 +177,7 @@ module _ (opening : LockId → Option BufferLock) (past : List BufferSection) (c
 
 -- the stances after a try
 module _ (opening : LockId → Option BufferLock) (past : List BufferSection) (c : CpuId) (t : Tid) (b : BufId)
-    (lock : BufferLock) (is : buffer_at opening past (Buffer b) ≡ Some lock) (position : ℕ) where
+    (lock : BufferLock) (is : buffer_lock_at opening past (Buffer b) ≡ Some lock) (position : ℕ) where
   has_put : (m : Message) → is_next Senders t lock.above ≡ true → Stance opening past t b Senders true false true position
       → Stance opening (section c (Buffer b) (Inside (Edit (TryPut t m))) ∷ past) t b Senders true false false position
   has_put m next stance =
@@ -224,7 +225,7 @@ module _ (opening : LockId → Option BufferLock) (past : List BufferSection) (c
 -- each section of a call, by its stage
 module _ (opening : LockId → Option BufferLock) (past : List BufferSection) (c : CpuId) (t : Tid) (lock : BufferLock) (position : ℕ)
     (effect : Option Effect) where
-  no_effect_here : (b : BufId) (e : CvCall BufferEdit) → buffer_at opening past (Buffer b) ≡ Some lock
+  no_effect_here : (b : BufId) (e : CvCall BufferEdit) → buffer_lock_at opening past (Buffer b) ≡ Some lock
       → effect_on c b e (λ side u. drawn opening (Buffer b) side u past) (Some lock) ≡ None → effect_of opening past (section c (Buffer b) e) ≡ None
   no_effect_here b e is none = ap (λ x. effect_on c b e (λ side u. drawn opening (Buffer b) side u past) x) is ∙ none
 
@@ -237,7 +238,7 @@ module _ (opening : LockId → Option BufferLock) (past : List BufferSection) (c
       → (recorded_by (call_state_in stage call position effect) stage out).effect ≡ effect → Stepped opening past c t call stage position effect out
   silent call stage out fits is stays = record { fits = fits; mine = None; is = is; fresh = λ f w. absurd cc; stays = λ w. stays }
 
-  asks_step : (call : Call) → buffer_at opening past (Buffer (buffer_of call)) ≡ Some lock → InCall opening past t call None None Acquires position effect
+  asks_step : (call : Call) → buffer_lock_at opening past (Buffer (buffer_of call)) ≡ Some lock → InCall opening past t call None None Acquires position effect
       → Stepped opening past c t call Acquires position effect (asker_report lock.owner)
   asks_step call is now = go lock.owner refl
     where
@@ -246,15 +247,15 @@ module _ (opening : LockId → Option BufferLock) (past : List BufferSection) (c
 
       go : (owner : Option Tid) → lock.owner ≡ owner → Stepped opening past c t call Acquires position effect (asker_report owner)
       go None free = silent call Acquires _
-          (within _ _ _ _ refl (took_lock opening past c t (buffer_of call) (side_of call) lock is false position free now.stance)
+          (call_within _ _ _ _ refl (took_lock opening past c t (buffer_of call) (side_of call) lock is false position free now.stance)
           (λ w. absurd cc) (λ w. absurd cc) now.effect_is tt tt)
           none refl
       go (Some o) owned = silent call Acquires _
-          (within _ _ _ _ refl (asked_lock opening past c t (buffer_of call) (side_of call) lock is false position now.stance)
+          (call_within _ _ _ _ refl (asked_lock opening past c t (buffer_of call) (side_of call) lock is false position now.stance)
           (λ w. absurd cc) (λ w. absurd cc) now.effect_is (refl, refl) tt)
           none refl
 
-  asks_again_step : (call : Call) → buffer_at opening past (Buffer (buffer_of call)) ≡ Some lock
+  asks_again_step : (call : Call) → buffer_lock_at opening past (Buffer (buffer_of call)) ≡ Some lock
       → InCall opening past t call None None AcquiresAgain position effect
       → Stepped opening past c t call AcquiresAgain position effect (asker_report lock.owner)
   asks_again_step call is now = go lock.owner refl
@@ -264,30 +265,30 @@ module _ (opening : LockId → Option BufferLock) (past : List BufferSection) (c
 
       go : (owner : Option Tid) → lock.owner ≡ owner → Stepped opening past c t call AcquiresAgain position effect (asker_report owner)
       go None free = silent call AcquiresAgain _
-          (within _ _ _ _ refl (took_lock opening past c t (buffer_of call) (side_of call) lock is true position free now.stance)
+          (call_within _ _ _ _ refl (took_lock opening past c t (buffer_of call) (side_of call) lock is true position free now.stance)
           (λ w. absurd cc) (λ w. now.joins refl) now.effect_is tt tt)
           none refl
       go (Some o) owned = silent call AcquiresAgain _
-          (within _ _ _ _ refl (asked_lock opening past c t (buffer_of call) (side_of call) lock is true position now.stance)
+          (call_within _ _ _ _ refl (asked_lock opening past c t (buffer_of call) (side_of call) lock is true position now.stance)
           (λ w. absurd cc) (λ w. now.joins refl) now.effect_is (refl, refl) tt)
           none refl
 
   none_before : (call : Call) (stage : Stage) → done_at stage ≡ false → InCall opening past t call None None stage position effect → effect ≡ None
   none_before call stage begins now = none_of effect (now.effect_is ∙ begins)
 
-  enters_step : (call : Call) → t.0 < THREADS → buffer_at opening past (Buffer (buffer_of call)) ≡ Some lock
+  enters_step : (call : Call) → t.0 < THREADS → buffer_lock_at opening past (Buffer (buffer_of call)) ≡ Some lock
       → InCall opening past t call None None Enters position effect
       → Stepped opening past c t call Enters position effect (lock_out buffer_rules (section_at t call Enters) lock)
   enters_step (Send b m) small is now = silent (Send b m) Enters _
-      (within _ _ _ _ refl (entered_line opening past c t b Senders lock is position small now.stance)
+      (call_within _ _ _ _ refl (entered_line opening past c t b Senders lock is position small now.stance)
       (λ w. absurd cc) (λ w. tt) now.effect_is tt tt)
       (no_effect_here b (Inside (Edit (Enter t Senders))) is refl) refl
   enters_step (Recv b) small is now = silent (Recv b) Enters _
-      (within _ _ _ _ refl (entered_line opening past c t b Receivers lock is position small now.stance)
+      (call_within _ _ _ _ refl (entered_line opening past c t b Receivers lock is position small now.stance)
       (λ w. absurd cc) (λ w. tt) now.effect_is tt tt)
       (no_effect_here b (Inside (Edit (Enter t Receivers))) is refl) refl
   enters_step (Close b) small is now = record {
-    fits = within _ _ _ _ refl (has_shut opening past c t b Senders lock is position now.stance) (λ w. absurd cc) (λ w. absurd cc) refl tt tt;
+    fits = call_within _ _ _ _ refl (has_shut opening past c t b Senders lock is position now.stance) (λ w. absurd cc) (λ w. absurd cc) refl tt tt;
     mine = Some closed;
     is = ap (λ x. effect_on c b (Inside (Edit (Shut t))) (λ side u. drawn opening (Buffer b) side u past) x) is;
     fresh = λ f same. (none_before (Close b) Enters refl now, same, ap (λ (g : Effect). group_of g.kind) (sym (done f same)));
@@ -300,12 +301,12 @@ module _ (opening : LockId → Option BufferLock) (past : List BufferSection) (c
       done : (f : Effect) → Some closed ≡ Some f → closed ≡ f
       done f same = cc
 
-  put_step : (b : BufId) (m : Message) (v : Bool) → is_next Senders t lock.above ≡ v → buffer_at opening past (Buffer b) ≡ Some lock
+  put_step : (b : BufId) (m : Message) (v : Bool) → is_next Senders t lock.above ≡ v → buffer_lock_at opening past (Buffer b) ≡ Some lock
       → InCall opening past t (Send b m) None None Tries position effect
       → Stepped opening past c t (Send b m) Tries position effect
       (Did (answer.Did (if v then told.Done (effect_kind Senders lock.above) lock.above.effects m else told.NotYet)))
   put_step b m true next is now = record {
-    fits = within _ _ _ _ refl (has_put opening past c t b lock is position m next now.stance) (λ w. absurd cc) (λ w. absurd cc) refl tt tt;
+    fits = call_within _ _ _ _ refl (has_put opening past c t b lock is position m next now.stance) (λ w. absurd cc) (λ w. absurd cc) refl tt tt;
     mine = Some (record { kind = effect_kind Senders lock.above; value = m; op = lock.above.effects; pos = position });
     is = ap (λ x. effect_on c b (Inside (Edit (TryPut t m))) (λ side u. drawn opening (Buffer b) side u past) x) is
         ∙ ap (λ (v : Bool). if v then Some (entry_of c t b
@@ -324,19 +325,19 @@ module _ (opening : LockId → Option BufferLock) (past : List BufferSection) (c
           → record { kind = effect_kind Senders lock.above; value = m; op = lock.above.effects; pos = position } ≡ f
       done f same = cc
   put_step b m false next is now = silent (Send b m) Tries _
-      (within _ _ _ _ refl (put_in_vain opening past c t b lock is position m next now.stance)
+      (call_within _ _ _ _ refl (put_in_vain opening past c t b lock is position m next now.stance)
       (λ w. vain_put opening past c t b lock is position m next) (λ w. tt) now.effect_is tt tt)
       (ap (λ x. effect_on c b (Inside (Edit (TryPut t m))) (λ side u. drawn opening (Buffer b) side u past) x) is
       ∙ ap (λ (v : Bool). if v then Some (entry_of c t b
       (record { kind = effect_kind Senders lock.above; value = m; op = lock.above.effects; pos = drawn opening (Buffer b) Senders t past })) else None) next)
       refl
 
-  take_step : (b : BufId) (v : Bool) → is_next Receivers t lock.above ≡ v → buffer_at opening past (Buffer b) ≡ Some lock
+  take_step : (b : BufId) (v : Bool) → is_next Receivers t lock.above ≡ v → buffer_lock_at opening past (Buffer b) ≡ Some lock
       → InCall opening past t (Recv b) None None Tries position effect
       → Stepped opening past c t (Recv b) Tries position effect
       (Did (answer.Did (if v then told.Done (effect_kind Receivers lock.above) lock.above.effects (first_item lock.above.items) else told.NotYet)))
   take_step b true next is now = record {
-    fits = within _ _ _ _ refl (has_taken opening past c t b lock is position next now.stance) (λ w. absurd cc) (λ w. absurd cc) refl tt tt;
+    fits = call_within _ _ _ _ refl (has_taken opening past c t b lock is position next now.stance) (λ w. absurd cc) (λ w. absurd cc) refl tt tt;
     mine = Some (record { kind = effect_kind Receivers lock.above; value = first_item lock.above.items; op = lock.above.effects; pos = position });
     is = ap (λ x. effect_on c b (Inside (Edit (TryTake t))) (λ side u. drawn opening (Buffer b) side u past) x) is
         ∙ ap (λ (v : Bool). if v then Some (entry_of c t b
@@ -368,7 +369,7 @@ module _ (opening : LockId → Option BufferLock) (past : List BufferSection) (c
       done : (f : Effect) → Some taken ≡ Some f → taken ≡ f
       done f same = cc
   take_step b false next is now = silent (Recv b) Tries _
-      (within _ _ _ _ refl (took_in_vain opening past c t b lock is position next now.stance)
+      (call_within _ _ _ _ refl (took_in_vain opening past c t b lock is position next now.stance)
       (λ w. vain_take opening past c t b lock is position next) (λ w. tt) now.effect_is tt tt)
       (ap (λ x. effect_on c b (Inside (Edit (TryTake t))) (λ side u. drawn opening (Buffer b) side u past) x) is
       ∙ ap (λ (v : Bool). if v then Some (entry_of c t b
@@ -380,38 +381,39 @@ module _ (opening : LockId → Option BufferLock) (past : List BufferSection) (c
             (Buffer b) Receivers t past;
       })) else None) next) refl
 
-  tries_step : (call : Call) → buffer_at opening past (Buffer (buffer_of call)) ≡ Some lock → InCall opening past t call None None Tries position effect
+  tries_step : (call : Call) → buffer_lock_at opening past (Buffer (buffer_of call)) ≡ Some lock → InCall opening past t call None None Tries position effect
       → Stepped opening past c t call Tries position effect (lock_out buffer_rules (section_at t call Tries) lock)
   tries_step (Send b m) is now = put_step b m (is_next Senders t lock.above) refl is now
   tries_step (Recv b) is now = take_step b (is_next Receivers t lock.above) refl is now
   tries_step (Close b) is now = absurd (now.joins refl)
 
-  waits_step : (call : Call) → buffer_at opening past (Buffer (buffer_of call)) ≡ Some lock → InCall opening past t call None None Waits position effect
+  waits_step : (call : Call) → buffer_lock_at opening past (Buffer (buffer_of call)) ≡ Some lock → InCall opening past t call None None Waits position effect
       → Stepped opening past c t call Waits position effect (Released (answer.Waited (side_of call)))
   waits_step call is now = silent call Waits _
-      (within _ _ _ _ refl (waited_there opening past c t (buffer_of call) (side_of call) lock is true position (side_of call) now.stance)
+      (call_within _ _ _ _ refl (waited_there opening past c t (buffer_of call) (side_of call) lock is true position (side_of call) now.stance)
       (λ w. absurd cc) (λ w. now.joins refl) now.effect_is tt (refl, refl))
       (no_effect_here (buffer_of call) (Release (Wait t (side_of call))) is refl) refl
 
-  signals_step : (call : Call) (far : Side) (front : Option Tid) → buffer_at opening past (Buffer (buffer_of call)) ≡ Some lock
+  signals_step : (call : Call) (far : Side) (front : Option Tid) → buffer_lock_at opening past (Buffer (buffer_of call)) ≡ Some lock
       → section_at t call Signals ≡ Inside (SignalFront t far) → InCall opening past t call None None Signals position effect
       → Stepped opening past c t call Signals position effect (Did (answer.Signalled far front))
   signals_step call far front is same now = silent call Signals _
-      (within _ _ _ _ refl (subst (λ e. Stance opening (section c (Buffer (buffer_of call)) e ∷ past) t (buffer_of call) (side_of call) true false false
+      (call_within _ _ _ _ refl (subst (λ e. Stance opening (section c (Buffer (buffer_of call)) e ∷ past) t (buffer_of call) (side_of call) true false false
       position) (sym same) (same_there opening past c t (buffer_of call) (side_of call) lock is true false position far now.stance))
       (λ w. absurd cc) (λ w. absurd cc) now.effect_is tt tt)
       (ap (λ e. effect_of opening past (section c (Buffer (buffer_of call)) e)) same
       ∙ no_effect_here (buffer_of call) (Inside (SignalFront t far)) is refl) refl
 
-  signals_own_step : (call : Call) (front : Option Tid) → buffer_at opening past (Buffer (buffer_of call)) ≡ Some lock
+  signals_own_step : (call : Call) (front : Option Tid) → buffer_lock_at opening past (Buffer (buffer_of call)) ≡ Some lock
       → InCall opening past t call None None SignalsOwn position effect
       → Stepped opening past c t call SignalsOwn position effect (Did (answer.Signalled (side_of call) front))
   signals_own_step call front is now = silent call SignalsOwn _
-      (within _ _ _ _ refl (same_there opening past c t (buffer_of call) (side_of call) lock is true false position (side_of call) now.stance)
+      (call_within _ _ _ _ refl (same_there opening past c t (buffer_of call) (side_of call) lock is true false position (side_of call) now.stance)
       (λ w. absurd cc) (λ w. absurd cc) now.effect_is tt tt)
       (no_effect_here (buffer_of call) (Inside (SignalFront t (side_of call))) is refl) refl
 
-  releases_step : (call : Call) → buffer_at opening past (Buffer (buffer_of call)) ≡ Some lock → InCall opening past t call None None Releases position effect
+  releases_step : (call : Call) → buffer_lock_at opening past (Buffer (buffer_of call)) ≡ Some lock
+      → InCall opening past t call None None Releases position effect
       → Stepped opening past c t call Releases position effect (Released answer.Left)
   releases_step call is now =
       let left = left_there opening past c t (buffer_of call) (side_of call) lock is false position now.stance in
@@ -424,7 +426,7 @@ module _ (opening : LockId → Option BufferLock) (past : List BufferSection) (c
       (no_effect_here (buffer_of call) (Release (Leave t)) is refl) refl
 
   -- the section of any stage of a call
-  pub own_step : (call : Call) (stage : Stage) → t.0 < THREADS → buffer_at opening past (Buffer (buffer_of call)) ≡ Some lock
+  pub own_step : (call : Call) (stage : Stage) → t.0 < THREADS → buffer_lock_at opening past (Buffer (buffer_of call)) ≡ Some lock
       → InCall opening past t call None None stage position effect → Stepped opening past c t call stage position effect
       (lock_out buffer_rules (section_at t call stage) lock)
   own_step call Idle small is now = absurd (false_true now.called)

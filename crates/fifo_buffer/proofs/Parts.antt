@@ -10,8 +10,8 @@ use Rattle.layer_traits.specs.Blocks.{BufferProtocol.{BufferLock, BufferSection,
 use Rattle.layer_traits.specs.Layers.{BufferLaw.{MovesGrow, OthersSeen, cpu_of_entry, recorded, call_state_of}, Conditions.{CvCall, cv_rules}, CvLaw.Waiting}
 use Rattle.layer_traits.specs.Layers.{QLockLaw.{lock_kernel, slept_for}, Queues.{QueueAllowed, buffer_sections, cpu_of_queue_event, moves_in, with_section}}
 use Rattle.layer_traits.{specs.{Threads.Places.home_of, Protocols.Protocol.section}, proofs.CallLemmas.{moves_append, moves_others, moves_over}}
-use Rattle.fifo_buffer.specs.{FifoFits.PartFits, Stances.CallStateFits, Laws.Tallies.effect_position, SectionPolls.{BufferEvent, BufferOutcome, CallsFit, Goes}}
-use Rattle.fifo_buffer.{specs.SectionPolls.{IsDeferred, Midway}, proofs.Events.keeps_fits}
+use Rattle.fifo_buffer.specs.{FifoFits.PartFits, Stances.CallStateFits, Laws.Tallies.effect_position, SectionPolls.{BufferEvent, BufferOutcome, CallsFit}}
+use Rattle.fifo_buffer.{specs.SectionPolls.{SectionGoes, IsDeferred, Midway}, proofs.Events.keeps_fits}
 
 -- an effect has its section's CPU
 one_entry : (d cpu : CpuId) (b : BufId) (call : CvCall BufferEdit) (position : Side → Tid → ℕ) (x : Option BufferLock) → same_cpu cpu d ≡ false
@@ -84,8 +84,8 @@ module _ (opening : LockId → Option (QueueBlock BufferLock)) (d : CpuId) (more
 
   goes_on : (t : Tid) → home_of (homes_in opening) t ≡ Some d
       → (call : Call) (call_state : CallState) (own : Waiting BufferOut) (under_way : Option (SchedCall (CvCall BufferEdit)))
-      → Goes (inner opening) (buffer_sections past) t call call_state own under_way
-      → Goes (inner opening) (buffer_sections (more ++ past)) t call call_state own under_way
+      → SectionGoes (inner opening) (buffer_sections past) t call call_state own under_way
+      → SectionGoes (inner opening) (buffer_sections (more ++ past)) t call call_state own under_way
   goes_on t home call call_state own None goes = record {
     hand = goes.hand;
     deferred = goes.deferred;

@@ -8,17 +8,17 @@ use Rattle.layer_traits.specs.declared.{buffer_edits.BufferOut.BufferOut, calls.
 use Rattle.layer_traits.specs.declared.locked.{QEdit.TheVariants.{Acquire, Release}, QOut.{QOut, TheVariants.{Acquired, Queued, Did, Released}}}
 use Rattle.layer_traits.specs.declared.{moves.WaitList.WaitList, queue_edits.QueueBlock.QueueBlock, scheds.SchedCall.SchedCall, call_states.Stage.Stage}
 use Rattle.layer_traits.specs.{declared.call_states.CallState.CallState, Blocks.{BufferEffects.effects_in, BufferProtocol.{BufferLock, BufferSection}}}
-use Rattle.layer_traits.specs.Blocks.{BufferProtocol.{buffer_at, buffer_monitor_rules, buffer_rules}, QueueBlocks.{homes_in, inner}}
+use Rattle.layer_traits.specs.Blocks.{BufferProtocol.{buffer_lock_at, buffer_monitor_rules, buffer_rules}, QueueBlocks.{homes_in, inner}}
 use Rattle.layer_traits.specs.Layers.{BufferLaw.{IsEffectOf, buffer_of, recorded, section_at, side_of}, Conditions.{CvCall, cv_rules}, CvLaw.MayCallCond}
 use Rattle.layer_traits.specs.Layers.{CvLaw.{MayWait, Waiting, left_waiting}, QLockLaw.{MayGo, MayLock, Locking, left_after, lock_kernel, slept_for}}
 use Rattle.layer_traits.specs.Layers.{QLocking.{wait_list_asked, wait_list_slept, lock_answer, lock_out, asker_report}, Queues.{QueueAllowed, buffer_sections}}
-use Rattle.layer_traits.specs.Layers.{Queues.{event, cpu_of_queue_event, out_at}, SleepLaw.{PollResult, Does, Sends, Sleeping, Waits as WaitsStill, MayDo}}
+use Rattle.layer_traits.specs.Layers.{Queues.{event, cpu_of_queue_event, out_at}, SleepLaw.{PollResult, Does, SendsHome, Sleeping, WaitsStill, MayDo}}
 use Rattle.layer_traits.specs.{Layers.SleepLaw.{left_with, must_send, seen_with}, Threads.{Passes.{own_slept, own_woken, passed_on, queue_for}, Places.Threads}}
 use Rattle.layer_traits.{specs.{Threads.Places.home_of, Polling.Plans.Left, Protocols.Protocol.section}, proofs.PlaceLemmas.woken_current}
 use Rattle.{thread_blocks.specs.Queues.same_tid, fifo_buffer.specs.Stances.{InCall, CallStateFits, asks_at, recorded_by, slept_by, call_state_in, waits_at}}
-use Rattle.fifo_buffer.specs.{Stances.waits_by, SectionPolls.{After, BufferEvent, BufferOutcome, Goes, IsDeferred, MayPollSection, Midway, SectionPolled}}
-use Rattle.fifo_buffer.{specs.SectionPolls.{recorded_if, is_plain}, proofs.{Apart.fits_apart, Callers.Caller, Events.{caller_is, due_now, keeps_fits}}}
-use Rattle.fifo_buffer.proofs.{Events.owner_due, OwnSteps.{Stepped, own_step}}
+use Rattle.fifo_buffer.specs.{Stances.waits_by, SectionPolls.{After, BufferEvent, BufferOutcome, SectionGoes, IsDeferred, MayPollSection, Midway}}
+use Rattle.fifo_buffer.{specs.SectionPolls.{SectionPolled, recorded_if, is_plain}, proofs.{Apart.fits_apart, Callers.Caller, Events.{caller_is, due_now}}}
+use Rattle.fifo_buffer.proofs.{Events.{keeps_fits, owner_due}, OwnSteps.{Stepped, own_step}}
 use Rattle.layer_traits.specs.declared.conditions.CvOut.TheVariants as answer
 use Rattle.layer_traits.specs.declared.queues.QueueCall.TheVariants as queue
 use Rattle.layer_traits.specs.declared.scheds.SchedCall.TheVariants as sched
@@ -35,7 +35,7 @@ module _ (opening : LockId → Option (QueueBlock BufferLock)) (c : CpuId) (t : 
   -- the whole duty of a poll
   may_for : (own : Waiting BufferOut) (under_way : Option (SchedCall (CvCall BufferEdit))) (slept waits : Option BufId)
       → slept_for own.lock.slept t ≡ slept → slept_for own.waits t ≡ waits
-      → Goes (inner opening) (buffer_sections past) t call call_state own under_way
+      → SectionGoes (inner opening) (buffer_sections past) t call call_state own under_way
       → MayWait waits under_way (buffer_of call) (section_at t call call_state.stage) t
       (MayGo slept under_way (buffer_of call) (section_at t call call_state.stage) t
       (MayLock (cv_rules buffer_monitor_rules) (lock_kernel (cv_rules buffer_monitor_rules) opening) c past own.lock.sleep.threads.hand (buffer_of call)
@@ -212,7 +212,7 @@ module _ (caller : Caller) (stage : Stage) (position : ℕ) (effect : Option Eff
   Keeping = (outcome : BufferOutcome) × (own.lock.sleep.deferred ≡ Some outcome) × IsDeferred O (buffer_sections old) t stage call_state outcome
 
   module _ (slept_none : slept_for own.lock.slept t ≡ None) (waits_none : slept_for own.waits t ≡ None) where
-    view : (under_way : Option (SchedCall (CvCall BufferEdit))) → Goes O (buffer_sections old) t call call_state own under_way → Fresh ⊎ Keeping
+    view : (under_way : Option (SchedCall (CvCall BufferEdit))) → SectionGoes O (buffer_sections old) t call call_state own under_way → Fresh ⊎ Keeping
     view under_way goes = grind arith
 
     never : waits_at stage ≡ true → false ≡ is_some (slept_for own.waits t)
@@ -313,7 +313,7 @@ module _ (caller : Caller) (stage : Stage) (position : ℕ) (effect : Option Eff
     -- the section was done: its effect, and what it leaves
     module _ (lawful : IsLawful (QueueAllowed (lock_kernel (cv_rules buffer_monitor_rules) opening)) (event c (queue.OnBuffer (buffer_of call) e) ∷
         (others ++ old)))
-        (now : Fresh) (lock : BufferLock) (at : buffer_at O (buffer_sections (others ++ old)) (Buffer (buffer_of call)) ≡ Some lock) where
+        (now : Fresh) (lock : BufferLock) (at : buffer_lock_at O (buffer_sections (others ++ old)) (Buffer (buffer_of call)) ≡ Some lock) where
       abbrev outcome : BufferOutcome
       outcome = lock_answer (cv_rules buffer_monitor_rules) e lock
 
@@ -512,7 +512,7 @@ module _ (caller : Caller) (stage : Stage) (position : ℕ) (effect : Option Eff
 
     module _ (lawful : IsLawful (QueueAllowed (lock_kernel (cv_rules buffer_monitor_rules) opening)) (event c (queue.OnBuffer (buffer_of call) e) ∷
         (others ++ old)))
-        (now : Fresh) (lock : BufferLock) (at : buffer_at O (buffer_sections (others ++ old)) (Buffer (buffer_of call)) ≡ Some lock) where
+        (now : Fresh) (lock : BufferLock) (at : buffer_lock_at O (buffer_sections (others ++ old)) (Buffer (buffer_of call)) ≡ Some lock) where
       abbrev sent : Left (Sleeping (QOut (CvOut BufferOut))) BufferOutcome
       sent = record {
         own = record {
@@ -546,9 +546,9 @@ module _ (caller : Caller) (stage : Stage) (position : ℕ) (effect : Option Eff
     does_base : (outcome : BufferOutcome)
         → IsLawful (QueueAllowed (lock_kernel (cv_rules buffer_monitor_rules) opening)) (event c (queue.OnBuffer (buffer_of call) e) ∷ (others ++ old))
         → Fresh → out_at (lock_kernel (cv_rules buffer_monitor_rules) opening) (others ++ old) (buffer_of call) e ≡ Some outcome → DoneAs outcome
-    does_base outcome lawful now out = there (buffer_at O (buffer_sections (others ++ old)) (Buffer (buffer_of call))) refl out
+    does_base outcome lawful now out = there (buffer_lock_at O (buffer_sections (others ++ old)) (Buffer (buffer_of call))) refl out
       where
-        there : (x : Option BufferLock) → buffer_at O (buffer_sections (others ++ old)) (Buffer (buffer_of call)) ≡ x
+        there : (x : Option BufferLock) → buffer_lock_at O (buffer_sections (others ++ old)) (Buffer (buffer_of call)) ≡ x
             → option_map (lock_answer (cv_rules buffer_monitor_rules) e) x ≡ Some outcome → DoneAs outcome
         there None at is = absurd cc
         there (Some lock) at is =
@@ -594,11 +594,11 @@ module _ (caller : Caller) (stage : Stage) (position : ℕ) (effect : Option Eff
       where
         none : {o : BufferOutcome} → None ≡ Some o → ⊥
         none same = absurd cc
-    result_of_poll new (Sends u) lawful is may (inl now) = absurd (none own.lock.sleep.deferred now.0 may.0)
+    result_of_poll new (SendsHome u) lawful is may (inl now) = absurd (none own.lock.sleep.deferred now.0 may.0)
       where
         none : (o : Option BufferOutcome) → o ≡ None → IsSome o → ⊥
         none o is some = let out : is_some o ≡ false = ap is_some is in absurd (cc (out, some))
-    result_of_poll new (Sends u) lawful is may (inr now) =
+    result_of_poll new (SendsHome u) lawful is may (inr now) =
         subst (λ log. SectionPolledBy log
         (both t (buffer_of call) own.waits own.lock.slept
         (record { own = record { threads = passed_on own.lock.sleep.threads; deferred = None }; answer = own.lock.sleep.deferred }))
@@ -611,7 +611,7 @@ module _ (caller : Caller) (stage : Stage) (position : ℕ) (effect : Option Eff
         → IsLawful (QueueAllowed (lock_kernel (cv_rules buffer_monitor_rules) opening)) new
         → new ≡ seen_with (lock_kernel (cv_rules buffer_monitor_rules) opening) c (buffer_of call) e poll_result (others ++ old)
         → MayDo (lock_kernel (cv_rules buffer_monitor_rules) opening) c (buffer_of call) e poll_result (others ++ old) own.lock.sleep
-        → (before : Option (SchedCall (CvCall BufferEdit))) → Goes O (buffer_sections old) t call call_state own before
+        → (before : Option (SchedCall (CvCall BufferEdit))) → SectionGoes O (buffer_sections old) t call call_state own before
         → (under_way : Option (SchedCall (CvCall BufferEdit))) (s : Left (Sleeping (QOut (CvOut BufferOut))) BufferOutcome)
         (l : Left (Locking (CvOut BufferOut)) BufferOutcome)
         (got : Left (Waiting BufferOut) BufferOutcome) (u : Tid) → u ≡ t

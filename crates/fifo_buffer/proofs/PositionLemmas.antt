@@ -1,23 +1,23 @@
 -- A line's counter counts the threads that entered it.
 use Rattle.std.proofs.Common.{◌≡◌, ℕ, ◌+◌, ◌<◌, ◌%◌, ◌^◌, Bool, true, false, not, ◌&&◌, List, [], ◌∷◌, length, Option, Some, option_map, if◌then◌else◌, get_or}
 use Rattle.std.proofs.{Common.{refl, ap, sym, ◌∙◌, arith, lt-ltb}, lemmas.Option.{slice_get_within, slice_get-get_or}}
-use Rattle.layer_traits.specs.Blocks.{Capacities.caps_in, BufferEffects.{fresh_lock, drawn_in}, BufferProtocol.{BufferLock, BufferSection, IsDue, buffer_at}}
-use Rattle.layer_traits.specs.Blocks.{BufferProtocol.{buffer_monitor_rules, buffer_rules}, QueueBlocks.{StartsWell, homes_in, inner}, BufferBlocks.BufferState}
-use Rattle.layer_traits.specs.{Blocks.BufferBlocks.{counted, entered, may_join, drawn_of, put_in, shut, taken_out}, declared.buffer_edits.BufferEdit.BufferEdit}
-use Rattle.layer_traits.specs.declared.{locked.Side.Side, queue_edits.QueueBlock.QueueBlock, queues.QueueCall.{QueueCall, TheVariants.{Push, TakeAll}}}
-use Rattle.layer_traits.specs.{declared.queues.QueueCall.TheVariants.OnBuffer, Layers.{Conditions.{CvCall, cv_rules}, QLockLaw.lock_kernel, QLocking.asked}}
-use Rattle.layer_traits.specs.{Layers.{QLocking.{lock_caller, lock_edited}, Queues.{QueueAllowed, buffer_sections, with_section}}, Threads.Places.home_of}
-use Rattle.{layer_traits.specs.Protocols.Protocol.section, event_log.specs.declared.ids.{BufId.BufId, CpuId.CpuId, LockId.{LockId, TheVariants.Buffer}}}
-use Rattle.event_log.{specs.{declared.ids.{Tid.Tid, TheConstants.THREADS}, History.{IsLawful, same_lock}, Messages.Message}, proofs.Same.same_lock_true}
-use Rattle.{thread_blocks.specs.Queues.is_in, fifo_buffer.specs.{FifoFits.BootsSo, Laws.OwnedLaws.found, Positions.{PositionsAreCounts, enters, entries_of}}}
-use Rattle.fifo_buffer.specs.{Stances.same_side, SectionPolls.BufferEvent}
+use Rattle.layer_traits.specs.Blocks.{Capacities.caps_in, BufferEffects.{fresh_lock, drawn_in}, BufferProtocol.{BufferLock, BufferSection, IsDue}}
+use Rattle.layer_traits.specs.Blocks.{BufferProtocol.{buffer_lock_at, buffer_monitor_rules, buffer_rules}, QueueBlocks.{StartsWell, homes_in, inner}}
+use Rattle.layer_traits.specs.Blocks.BufferBlocks.{BufferState, counted, entered, may_join, drawn_of, put_in, shut, taken_out}
+use Rattle.layer_traits.specs.declared.{buffer_edits.BufferEdit.BufferEdit, locked.Side.Side, queue_edits.QueueBlock.QueueBlock, queues.QueueCall.QueueCall}
+use Rattle.layer_traits.specs.{declared.queues.QueueCall.TheVariants.{Push, TakeAll, OnBuffer}, Layers.{Conditions.{CvCall, cv_rules}, QLockLaw.lock_kernel}}
+use Rattle.layer_traits.specs.Layers.{QLocking.{lock_asked_by, lock_caller, lock_edited}, Queues.{QueueAllowed, buffer_sections, with_section}}
+use Rattle.{layer_traits.specs.{Threads.Places.home_of, Protocols.Protocol.section}, event_log.specs.declared.ids.{BufId.BufId, CpuId.CpuId, LockId.LockId}}
+use Rattle.event_log.specs.{declared.ids.{LockId.TheVariants.Buffer, Tid.Tid, TheConstants.THREADS}, History.{IsLawful, same_lock}, Messages.Message}
+use Rattle.{event_log.proofs.Same.same_lock_true, thread_blocks.specs.Queues.is_in, fifo_buffer.specs.{FifoFits.BootsSo, Laws.OwnedLaws.found}}
+use Rattle.fifo_buffer.specs.{Positions.{PositionsAreCounts, enters_side, entered_count}, Stances.same_side, SectionPolls.BufferEvent}
 
 -- one more thread entered, or none
 abbrev more : Bool → ℕ → ℕ
 more v n = if v then counted n else n
 
 -- a section counts a thread that enters, which may join: it is one of the machine's and stands in neither line
-asked_same : (side : Side) (t : Tid) (owner : Option Tid) (lock : BufferLock) → drawn_of side (asked t owner lock).above ≡ drawn_of side lock.above
+asked_same : (side : Side) (t : Tid) (owner : Option Tid) (lock : BufferLock) → drawn_of side (lock_asked_by t owner lock).above ≡ drawn_of side lock.above
 asked_same side t owner lock = grind arith
 
 entered_counts : (side at : Side) (t : Tid) (x : BufferState) → drawn_of side (entered at t x) ≡ more (same_side side at) (drawn_of side x)
@@ -36,8 +36,8 @@ pub joins_now : (t : Tid) (queue : List Tid) → t.0 < THREADS → is_in t queue
 joins_now t queue small out = ap (λ v. v && not (is_in t queue)) (lt-ltb t.0 THREADS small) ∙ ap not out
 
 section_counts : (side : Side) (O : LockId → Option BufferLock) (past : List BufferSection) (d : BufId) (call : CvCall BufferEdit) (lock : BufferLock)
-    → buffer_at O past (Buffer d) ≡ Some lock → IsDue O past (Buffer d) call → (lock_caller buffer_rules call).0 < THREADS
-    → drawn_of side (lock_edited buffer_rules call lock).above ≡ more (enters side call) (drawn_of side lock.above)
+    → buffer_lock_at O past (Buffer d) ≡ Some lock → IsDue O past (Buffer d) call → (lock_caller buffer_rules call).0 < THREADS
+    → drawn_of side (lock_edited buffer_rules call lock).above ≡ more (enters_side side call) (drawn_of side lock.above)
 section_counts side O past d call lock at due small = grind (arith, asked_same, joins_now, entered_counts, put_same, taken_same, shut_same)
 
 counts_more : (v : Bool) (a n : ℕ) → a ≡ n % 2 ^ 64 → more v a ≡ (if v then n + 1 else n) % 2 ^ 64
@@ -46,7 +46,7 @@ counts_more v a n is = grind arith
 module _ (opening : LockId → Option (QueueBlock BufferLock)) (starts : StartsWell opening) (boots : BootsSo opening) (b : BufId) (side : Side)
     (within : b.0 < length (caps_in opening)) where
   abbrev Counted : List BufferSection → Type 0
-  Counted past = drawn_in side (buffer_at (inner opening) past (Buffer b)) ≡ entries_of side (Buffer b) past % 2 ^ 64
+  Counted past = drawn_in side (buffer_lock_at (inner opening) past (Buffer b)) ≡ entered_count side (Buffer b) past % 2 ^ 64
 
   -- at the start nobody entered
   none_yet : Counted []
@@ -62,12 +62,12 @@ module _ (opening : LockId → Option (QueueBlock BufferLock)) (starts : StartsW
 
   abbrev drawn_if : List BufferSection → CvCall BufferEdit → Bool → ℕ
   drawn_if past call v =
-      drawn_in side (if v then option_map (lock_edited buffer_rules call) (buffer_at (inner opening) past (Buffer b))
-      else buffer_at (inner opening) past (Buffer b))
+      drawn_in side (if v then option_map (lock_edited buffer_rules call) (buffer_lock_at (inner opening) past (Buffer b))
+      else buffer_lock_at (inner opening) past (Buffer b))
 
   abbrev count_if : List BufferSection → CvCall BufferEdit → Bool → ℕ
   count_if past call v =
-      (if v && enters side call then entries_of side (Buffer b) past + 1 else entries_of side (Buffer b) past) % 2 ^ 64
+      (if v && enters_side side call then entered_count side (Buffer b) past + 1 else entered_count side (Buffer b) past) % 2 ^ 64
 
   one_section : (past : List BufferEvent) (c : CpuId) (d : BufId) (call : CvCall BufferEdit) → IsDue (inner opening) (buffer_sections past) (Buffer d) call
       → (lock_caller buffer_rules call).0 < THREADS → Counted (buffer_sections past) → Counted (section c (Buffer d) call ∷ buffer_sections past)
@@ -76,13 +76,13 @@ module _ (opening : LockId → Option (QueueBlock BufferLock)) (starts : StartsW
       go : (v : Bool) → same_lock (Buffer b) (Buffer d) ≡ v → Counted (section c (Buffer d) call ∷ (buffer_sections past))
       go true is =
           let lock = found opening boots b within past in
-          let here : buffer_at (inner opening) (buffer_sections past) (Buffer d) ≡ Some lock.0
-          = ap (buffer_at (inner opening) (buffer_sections past)) (sym (same_lock_true (Buffer b) (Buffer d) is)) ∙ lock.1 in
-          let counts : drawn_of side lock.0.above ≡ entries_of side (Buffer b) (buffer_sections past) % 2 ^ 64 = sym (ap (drawn_in side) lock.1) ∙ before in
+          let here : buffer_lock_at (inner opening) (buffer_sections past) (Buffer d) ≡ Some lock.0
+          = ap (buffer_lock_at (inner opening) (buffer_sections past)) (sym (same_lock_true (Buffer b) (Buffer d) is)) ∙ lock.1 in
+          let counts : drawn_of side lock.0.above ≡ entered_count side (Buffer b) (buffer_sections past) % 2 ^ 64 = sym (ap (drawn_in side) lock.1) ∙ before in
           ap (drawn_if (buffer_sections past) call) is
           ∙ ap (λ (x : Option BufferLock). drawn_in side (option_map (lock_edited buffer_rules call) x)) lock.1
           ∙ section_counts side (inner opening) (buffer_sections past) d call lock.0 here due small
-          ∙ counts_more (enters side call) (drawn_of side lock.0.above) (entries_of side (Buffer b) (buffer_sections past)) counts
+          ∙ counts_more (enters_side side call) (drawn_of side lock.0.above) (entered_count side (Buffer b) (buffer_sections past)) counts
           ∙ ap (count_if (buffer_sections past) call) (sym is)
       go false is = ap (drawn_if (buffer_sections past) call) is ∙ before ∙ ap (count_if (buffer_sections past) call) (sym is)
 

@@ -2,17 +2,17 @@
 use Rattle.std.proofs.Common.{◌≡◌, ℕ, ◌<◌, Bool, true, false, ◌&&◌, List, [], ◌∷◌, ◌++◌, length, Option, Some, None, option_map, if◌then◌else◌, refl, ap, sym}
 use Rattle.std.{proofs.{Common.{◌∙◌, subst, arith, get_or, append_assoc, option_to_list}, lemmas.Option.{slice_get-get_or, same_Some}}, specs.Prelude.{◌==◌}}
 use Rattle.layer_traits.specs.Blocks.{Capacities.caps_in, BufferEffects.{effect_of, effect_on, effects_in, drawn, fresh_lock}, BufferProtocol.BufferLock}
-use Rattle.layer_traits.specs.Blocks.{BufferProtocol.{BufferSection, IsDue, buffer_at, buffer_monitor_rules, is_in_line, buffer_rules}, QueueBlocks.StartsWell}
-use Rattle.layer_traits.specs.Blocks.{QueueBlocks.inner, BufferBlocks.{BufferState, entered, is_first, is_next, line_of, may_join, shut}}
+use Rattle.layer_traits.specs.Blocks.BufferProtocol.{BufferSection, IsDue, buffer_lock_at, buffer_monitor_rules, is_in_line, buffer_rules}
+use Rattle.layer_traits.specs.Blocks.{QueueBlocks.{StartsWell, inner}, BufferBlocks.{BufferState, entered, is_first, is_next, line_of, may_join, shut}}
 use Rattle.layer_traits.specs.declared.{buffer_edits.BufferEdit.{BufferEdit, TheVariants.{Enter, TryPut, TryTake, Shut}}, queue_edits.QueueBlock.QueueBlock}
 use Rattle.layer_traits.specs.declared.{conditions.CvEdit.TheVariants.{Edit, SignalFront}, locked.{QEdit.TheVariants.{Acquire, Inside, Release}, Side.Side}}
 use Rattle.layer_traits.specs.declared.{locked.Side.TheVariants.{Receivers, Senders}, queues.QueueCall.{QueueCall, TheVariants.{Push, TakeAll, OnBuffer}}}
-use Rattle.layer_traits.specs.Layers.{Conditions.{CvCall, cv_rules}, QLockLaw.lock_kernel, QLocking.{asked, lock_caller, lock_edited}, Queues.QueueAllowed}
-use Rattle.{layer_traits.specs.{Layers.Queues.{buffer_sections, with_section}, Protocols.Protocol.section}, event_log.specs.declared.entries.Entry.Entry}
-use Rattle.event_log.specs.{declared.ids.{BufId.BufId, CpuId.CpuId, LockId.{LockId, TheVariants.Buffer}, Tid.Tid, TheConstants.THREADS}, History.IsLawful}
-use Rattle.event_log.{specs.{History.same_lock, Messages.Message, Runs.{group_of, same_group}}, proofs.Same.same_lock_true}
-use Rattle.fifo_buffer.specs.{Laws.{Tallies.effect_position, OwnedLaws.found}, FifoFits.BootsSo, Positions.enters, SectionPolls.BufferEvent}
-use Rattle.fifo_buffer.{specs.{Served.{FirstComeFirstServed, group_on, joined, served}, Stances.same_side}, proofs.PositionLemmas.{joins_now, small_home}}
+use Rattle.layer_traits.specs.Layers.{Conditions.{CvCall, cv_rules}, QLockLaw.lock_kernel, QLocking.{lock_asked_by, lock_caller, lock_edited}}
+use Rattle.layer_traits.specs.{Layers.Queues.{QueueAllowed, buffer_sections, with_section}, Protocols.Protocol.section}
+use Rattle.event_log.specs.declared.{entries.Entry.Entry, ids.{BufId.BufId, CpuId.CpuId, LockId.{LockId, TheVariants.Buffer}, Tid.Tid, TheConstants.THREADS}}
+use Rattle.event_log.{specs.{History.{IsLawful, same_lock}, Messages.Message, Runs.{group_of, same_group}}, proofs.Same.same_lock_true}
+use Rattle.fifo_buffer.specs.{Laws.{Tallies.effect_position, OwnedLaws.found}, FifoFits.BootsSo, Positions.enters_side, SectionPolls.BufferEvent}
+use Rattle.fifo_buffer.{specs.{Served.{FirstComeFirstServed, group_on, joiners_of, served}, Stances.same_side}, proofs.PositionLemmas.{joins_now, small_home}}
 use Rattle.thread_blocks.{specs.Queues.rest, proofs.Members.same_tid_true}
 
 -- What a section makes of a line.
@@ -25,7 +25,7 @@ first_in_line t (u ∷ line) first = let same = same_tid_true t u first in ap (�
 next_is_first : (side : Side) (t : Tid) (x : BufferState) → is_next side t x ≡ true → is_first t (line_of side x) ≡ true
 next_is_first side t x next = grind arith
 
-asked_stays : (side : Side) (t : Tid) (owner : Option Tid) (lock : BufferLock) → line_of side (asked t owner lock).above ≡ line_of side lock.above
+asked_stays : (side : Side) (t : Tid) (owner : Option Tid) (lock : BufferLock) → line_of side (lock_asked_by t owner lock).above ≡ line_of side lock.above
 asked_stays side t owner lock = grind arith
 
 entered_line : (side at : Side) (t : Tid) (x : BufferState)
@@ -49,7 +49,7 @@ module _ (side : Side) (b : BufId) (c : CpuId) (position : Side → Tid → ℕ)
     (is : all ≡ served side b.0 es ++ line_of side lock.above) where
   abbrev Keeps : CvCall BufferEdit → Option Entry → Type 0
   Keeps call effect =
-      (if enters side call then all ++ lock_caller buffer_rules call ∷ [] else all)
+      (if enters_side side call then all ++ lock_caller buffer_rules call ∷ [] else all)
       ≡ served side b.0 (option_to_list effect ++ es) ++ line_of side (lock_edited buffer_rules call lock).above
 
   abbrev effect : CvCall BufferEdit → Option Entry
@@ -97,7 +97,7 @@ module _ (side : Side) (b : BufId) (c : CpuId) (position : Side → Tid → ℕ)
       shuts Senders so = grind arith
       shuts Receivers so = grind arith
 
-  keeps_call : (O : LockId → Option BufferLock) (past : List BufferSection) (call : CvCall BufferEdit) → buffer_at O past (Buffer b) ≡ Some lock
+  keeps_call : (O : LockId → Option BufferLock) (past : List BufferSection) (call : CvCall BufferEdit) → buffer_lock_at O past (Buffer b) ≡ Some lock
       → IsDue O past (Buffer b) call → (lock_caller buffer_rules call).0 < THREADS → Keeps call (effect call)
   keeps_call O past (Acquire t) at due small = keeps_acquire t
   keeps_call O past (Inside (Edit (Enter t Receivers))) at due small =
@@ -123,12 +123,12 @@ elsewhere side b d (Some e) es other its =
 module _ (opening : LockId → Option (QueueBlock BufferLock)) (starts : StartsWell opening) (boots : BootsSo opening) (b : BufId) (side : Side)
     (within : b.0 < length (caps_in opening)) where
   abbrev lock_at : List BufferSection → Option BufferLock
-  lock_at past = buffer_at (inner opening) past (Buffer b)
+  lock_at past = buffer_lock_at (inner opening) past (Buffer b)
 
   -- those who joined are those who were served and then those in line
   IsServed : List BufferSection → Type 0
   IsServed past = (lock : BufferLock) → lock_at past ≡ Some lock
-      → joined side (Buffer b) past ≡ served side b.0 (effects_in (inner opening) past) ++ line_of side lock.above
+      → joiners_of side (Buffer b) past ≡ served side b.0 (effects_in (inner opening) past) ++ line_of side lock.above
 
   nobody_yet : IsServed []
   unfolding IsServed
@@ -150,22 +150,23 @@ module _ (opening : LockId → Option (QueueBlock BufferLock)) (starts : StartsW
       here = effect_of (inner opening) (buffer_sections past) (section c (Buffer d) call)
 
       go : (v : Bool) → same_lock (Buffer b) (Buffer d) ≡ v → (lock : BufferLock) → lock_at (section c (Buffer d) call ∷ (buffer_sections past)) ≡ Some lock
-          → joined side (Buffer b) (section c (Buffer d) call ∷ (buffer_sections past))
+          → joiners_of side (Buffer b) (section c (Buffer d) call ∷ (buffer_sections past))
           ≡ served side b.0 (effects_in (inner opening) (section c (Buffer d) call ∷ (buffer_sections past))) ++ line_of side lock.above
       go true is lock at =
           let was = found opening boots b within past in
           let one : Buffer b ≡ Buffer d = same_lock_true (Buffer b) (Buffer d) is in
-          let there : buffer_at (inner opening) (buffer_sections past) (Buffer d) ≡ Some was.0
-          = ap (buffer_at (inner opening) (buffer_sections past)) (sym one) ∙ was.1 in
+          let there : buffer_lock_at (inner opening) (buffer_sections past) (Buffer d) ≡ Some was.0
+          = ap (buffer_lock_at (inner opening) (buffer_sections past)) (sym one) ∙ was.1 in
           let same : d ≡ b = buffer_same d b (sym one) in
           let edited : lock ≡ lock_edited buffer_rules call was.0 = same_Some lock (lock_edited buffer_rules call was.0) (sym at
           ∙ ap (λ (v : Bool). if v then option_map (lock_edited buffer_rules call) (lock_at (buffer_sections past)) else lock_at (buffer_sections past)) is
           ∙ ap (option_map (lock_edited buffer_rules call)) was.1) in
-          let kept = keeps_call side b c (λ s t. drawn (inner opening) (Buffer d) s t (buffer_sections past)) (joined side (Buffer b) (buffer_sections past))
+          let kept =
+          keeps_call side b c (λ s t. drawn (inner opening) (Buffer d) s t (buffer_sections past)) (joiners_of side (Buffer b) (buffer_sections past))
           (effects_in (inner opening) (buffer_sections past)) was.0 (before was.0 was.1) (inner opening) (buffer_sections past) call was.1
           (subst (λ (x : BufId). IsDue (inner opening) (buffer_sections past) (Buffer x) call) same due) small in
-          ap (λ (v : Bool). if v && enters side call then joined side (Buffer b) (buffer_sections past)
-          ++ lock_caller buffer_rules call ∷ [] else joined side (Buffer b) (buffer_sections past))
+          ap (λ (v : Bool). if v && enters_side side call then joiners_of side (Buffer b) (buffer_sections past)
+          ++ lock_caller buffer_rules call ∷ [] else joiners_of side (Buffer b) (buffer_sections past))
           is
           ∙ kept
           ∙ ap (λ (o : Option Entry). served side b.0 (option_to_list o ++ effects_in (inner opening) (buffer_sections past))
@@ -176,7 +177,7 @@ module _ (opening : LockId → Option (QueueBlock BufferLock)) (starts : StartsW
           buffer_same : (x y : BufId) → Buffer x ≡ Buffer y → x ≡ y
           buffer_same x y same = cc same
 
-          effect_here : (l : BufferLock) → buffer_at (inner opening) (buffer_sections past) (Buffer d) ≡ Some l → d ≡ b
+          effect_here : (l : BufferLock) → buffer_lock_at (inner opening) (buffer_sections past) (Buffer d) ≡ Some l → d ≡ b
               → here ≡ effect_on c b call (λ s t. drawn (inner opening) (Buffer d) s t (buffer_sections past)) (Some l)
           effect_here l there same =
               ap (λ (o : Option BufferLock). effect_on c d call (λ s t. drawn (inner opening) (Buffer d) s t (buffer_sections past)) o) there
@@ -185,13 +186,13 @@ module _ (opening : LockId → Option (QueueBlock BufferLock)) (starts : StartsW
           let was : lock_at (buffer_sections past) ≡ Some lock
           = sym (ap (λ (v : Bool). if v then option_map (lock_edited buffer_rules call) (lock_at (buffer_sections past)) else lock_at
           (buffer_sections past)) is) ∙ at in
-          ap (λ (v : Bool). if v && enters side call then joined side (Buffer b) (buffer_sections past)
-          ++ lock_caller buffer_rules call ∷ [] else joined side (Buffer b) (buffer_sections past))
+          ap (λ (v : Bool). if v && enters_side side call then joiners_of side (Buffer b) (buffer_sections past)
+          ++ lock_caller buffer_rules call ∷ [] else joiners_of side (Buffer b) (buffer_sections past))
           is
           ∙ before lock was
           ∙ ap (λ (l : List Tid). l ++ line_of side lock.above) (sym (elsewhere side b d here (effects_in (inner opening) (buffer_sections past)) is (λ e at_e.
           (effect_position c d call (λ s t. drawn (inner opening) (Buffer d) s t (buffer_sections past))
-          (buffer_at (inner opening) (buffer_sections past) (Buffer d)) e at_e).1)))
+          (buffer_lock_at (inner opening) (buffer_sections past) (Buffer d)) e at_e).1)))
 
   served_all : (past : List BufferEvent) → IsLawful (QueueAllowed (lock_kernel (cv_rules buffer_monitor_rules) opening)) past
       → IsServed (buffer_sections past)

@@ -6,8 +6,9 @@ use Rattle.layer_traits.specs.declared.{buffer_edits.BufferOut.BufferOut, calls.
 use Rattle.layer_traits.specs.{declared.{scheds.SchedCall.SchedCall, call_states.{Stage.Stage, CallState.CallState}}, Blocks.BufferProtocol.BufferLock}
 use Rattle.layer_traits.specs.{Blocks.BufferProtocol.BufferSection, Layers.{Conditions.CvCall, CvLaw.Waiting, QLockLaw.{is_handed, slept_for}}}
 use Rattle.layer_traits.specs.Layers.{Queues.buffer_sections, BufferLaw.{buffer_of, going, recorded, no_call, replied, call_state_of}}
-use Rattle.{thread_blocks.specs.Queues.same_tid, fifo_buffer.specs.{Stances.{IsMark, asks_at, waits_at}, SectionPolls.{After, Ended, Goes, MayPollSection}}}
-use Rattle.fifo_buffer.{specs.SectionPolls.{Sizes, is_at_once, reply_at}, proofs.{SectionPollTaken.SectionPollTaken, First.{goes_called, going_same}}}
+use Rattle.{thread_blocks.specs.Queues.same_tid, fifo_buffer.specs.{Stances.{IsMark, asks_at, waits_at}, SectionPolls.{After, Ended, SectionGoes}}}
+use Rattle.fifo_buffer.{specs.SectionPolls.{MayPollSection, Sizes, is_at_once, reply_at}, proofs.{SectionPollTaken.SectionPollTaken, First.goes_called}}
+use Rattle.fifo_buffer.proofs.First.{going_same}
 
 pub at_once_why : (stage : Stage) (handed : Bool) → is_at_once stage handed ≡ true → (waits_at stage ≡ true) ⊎ (handed ≡ true)
 at_once_why stage handed is = grind arith
@@ -59,9 +60,9 @@ module _ (poll_section : SectionPollTaken) where
     next_going = going_same later.stage later call (goes_called O (buffer_sections new) t call later left under_way next_may.goes)
 
     -- why nothing was done beneath
-    pub why : own.lock.sleep.threads.current ≡ Some t → handed ≡ is_handed own.lock.slept own.lock.sleep.threads.current
+    pub why_nothing_done : own.lock.sleep.threads.current ≡ Some t → handed ≡ is_handed own.lock.slept own.lock.sleep.threads.current
         → (IsSome (slept_for own.waits t)) ⊎ (IsSome (slept_for own.lock.slept t))
-    why runs is_handed_so = grind (arith, at_once_why)
+    why_nothing_done runs is_handed_so = grind (arith, at_once_why)
 
   -- the reply is read off the call state that the section poll left
   pub completes_as : (stage : Stage) → stage ≡ call_state.stage → (answer : Option Reply) → answer ≡ (if done then reply_at call stage later.effect else None)
@@ -74,7 +75,7 @@ MarksOf t stage own = (is_some (slept_for own.lock.slept t) ≡ true → asks_at
 
 pub marks_of : (O : LockId → Option BufferLock) (past : List BufferSection) (t : Tid) (call : Call) (call_state : CallState) (own : Waiting BufferOut)
     (w : Option (SchedCall (CvCall BufferEdit)))
-    → Goes O past t call call_state own w → MarksOf t call_state.stage own
+    → SectionGoes O past t call call_state own w → MarksOf t call_state.stage own
 marks_of O past t call call_state own None goes = (
   mark (buffer_of call) (asks_at call_state.stage) (slept_for own.lock.slept t) goes.fits.slept_here,
   mark (buffer_of call) (waits_at call_state.stage)

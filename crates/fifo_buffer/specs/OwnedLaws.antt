@@ -11,8 +11,8 @@ items_in lock = lock.above.items
 abbrev pub closed_of : BufferLock → Bool
 closed_of lock = lock.above.closed
 
-abbrev pub owner_of : BufferLock → Option Tid
-owner_of lock = lock.owner
+abbrev pub lock_owner_of : BufferLock → Option Tid
+lock_owner_of lock = lock.owner
 
 abbrev pub wait_lists_of : BufferLock → WaitList → List Tid
 wait_lists_of lock line = wait_list_in line (Some lock)

@@ -74,7 +74,7 @@ Midway O past t call call_state None hand = (hand ≡ None) × InCall O past t c
 Midway O past t call call_state (Some outcome) hand = IsDeferred O past t call_state.stage call_state outcome
 
 -- a thread's call may go on: its next section begins, or the one under way goes on
-pub record Begins (O : LockId → Option BufferLock) (past : List BufferSection) (t : Tid) (call : Call) (call_state : CallState)
+pub record SectionBegins (O : LockId → Option BufferLock) (past : List BufferSection) (t : Tid) (call : Call) (call_state : CallState)
     (own : Waiting BufferOut) : Type 0 where
   pub hand : own.lock.sleep.threads.hand ≡ None
   pub deferred : own.lock.sleep.deferred ≡ None
@@ -87,17 +87,17 @@ pub record GoesOn (O : LockId → Option BufferLock) (past : List BufferSection)
   pub waits : slept_for own.waits t ≡ None
   pub midway : Midway O past t call call_state own.lock.sleep.deferred own.lock.sleep.threads.hand
 
-abbrev pub Goes : (LockId → Option BufferLock) → List BufferSection → Tid → Call → CallState → Waiting BufferOut → Option (SchedCall (CvCall BufferEdit))
+abbrev pub SectionGoes : (LockId → Option BufferLock) → List BufferSection → Tid → Call → CallState → Waiting BufferOut → Option (SchedCall (CvCall BufferEdit))
     → Type 0
-Goes O past t call call_state own None = Begins O past t call call_state own
-Goes O past t call call_state own (Some under_way) = GoesOn O past t call call_state own under_way
+SectionGoes O past t call call_state own None = SectionBegins O past t call call_state own
+SectionGoes O past t call call_state own (Some under_way) = GoesOn O past t call call_state own under_way
 
 pub record MayPollSection (O : LockId → Option BufferLock) (past : List BufferSection) (t : Tid) (call : Call) (call_state : CallState)
     (own : Waiting BufferOut)
     (under_way : Option (SchedCall (CvCall BufferEdit))) : Type 0 where
   pub current : own.lock.sleep.threads.current ≡ Some t
   pub called : call_state.call ≡ Some call
-  pub goes : Goes O past t call call_state own under_way
+  pub goes : SectionGoes O past t call call_state own under_way
 
 -- the lists by thread are as long as there may be threads
 pub record Sizes (own : Waiting BufferOut) (call_states : List CallState) : Type 0 where
@@ -117,7 +117,7 @@ pub record IsIdle (homes : List CpuId) (c : CpuId) (O : LockId → Option Buffer
   pub fit : (u : Tid) → home_of homes u ≡ Some c → FitsAt O past own call_states u
 
 -- this thread's call is under way, and the call states of the others fit
-pub record IsCalling (homes : List CpuId) (c : CpuId) (O : LockId → Option BufferLock) (past : List BufferSection) (own : Waiting BufferOut)
+pub record IsAtCall (homes : List CpuId) (c : CpuId) (O : LockId → Option BufferLock) (past : List BufferSection) (own : Waiting BufferOut)
     (call_states : List CallState) (under_way : Option (SchedCall (CvCall BufferEdit))) (t : Tid) : Type 0 where
   pub call : Call
   pub home : home_of homes t ≡ Some c
@@ -127,7 +127,7 @@ pub record IsCalling (homes : List CpuId) (c : CpuId) (O : LockId → Option Buf
 abbrev pub CallsFit : List CpuId → CpuId → (LockId → Option BufferLock) → List BufferSection → Waiting BufferOut → List CallState
     → Option (SchedCall (CvCall BufferEdit)) → Option Tid → Type 0
 CallsFit homes c O past own call_states under_way None = IsIdle homes c O past own call_states under_way
-CallsFit homes c O past own call_states under_way (Some t) = IsCalling homes c O past own call_states under_way t
+CallsFit homes c O past own call_states under_way (Some t) = IsAtCall homes c O past own call_states under_way t
 
 -- a poll that ended its section: the thread runs on, with the call state that was told the answer
 pub record Ended (O : LockId → Option BufferLock) (past : List BufferSection) (t : Tid) (call_state : CallState) (own : Waiting BufferOut)
@@ -149,17 +149,17 @@ pub record Sleeps (O : LockId → Option BufferLock) (past : List BufferSection)
   pub deferred : own.lock.sleep.deferred ≡ None
   pub fits : InCall O past t call (slept_for own.lock.slept t) (slept_for own.waits t) call_state.stage call_state.position call_state.effect
 
-pub record Stays (O : LockId → Option BufferLock) (past : List BufferSection) (t : Tid) (call : Call) (call_state : CallState) (own : Waiting BufferOut)
+pub record SectionStays (O : LockId → Option BufferLock) (past : List BufferSection) (t : Tid) (call : Call) (call_state : CallState) (own : Waiting BufferOut)
     (under_way : Option (SchedCall (CvCall BufferEdit))) : Type 0 where
   pub current : own.lock.sleep.threads.current ≡ Some t
   pub section_is : is_some under_way ≡ true
-  pub goes : Goes O past t call call_state own under_way
+  pub goes : SectionGoes O past t call call_state own under_way
 
 abbrev pub After : (LockId → Option BufferLock) → List BufferSection → Tid → Call → CallState → Waiting BufferOut → Option (SchedCall (CvCall BufferEdit))
     → Bool → CallState → Type 0
 After O past t call call_state own under_way true later = Ended O past t call_state own under_way later
 After O past t call call_state own under_way false later =
-    (later ≡ call_state) × (Sleeps O past t call call_state own under_way ⊎ Stays O past t call call_state own under_way)
+    (later ≡ call_state) × (Sleeps O past t call call_state own under_way ⊎ SectionStays O past t call call_state own under_way)
 
 -- what one poll of a section did: foreign events came first, then at most one of this CPU; it left this own state and this call state
 pub record SectionPolled (homes : List CpuId) (ActsFor : CpuId → Type 0) (O : LockId → Option BufferLock) (c : CpuId) (t : Tid) (call : Call)

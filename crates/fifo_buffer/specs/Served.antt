@@ -1,18 +1,18 @@
 -- First come, first served: the calls of one side of a buffer take effect in the order in which their threads joined its line.
 use Rattle.std.specs.Prelude.{◌≡◌, ℕ, ◌<◌, ◌==◌, ◌&&◌, List, [], ◌∷◌, ◌++◌, length, Option, Some, if◌then◌else◌}
-use Rattle.layer_traits.specs.Blocks.{Capacities.caps_in, BufferBlocks.line_of, BufferEffects.effects_in, BufferProtocol.{BufferLock, BufferSection, buffer_at}}
-use Rattle.layer_traits.specs.{Blocks.{BufferProtocol.{buffer_monitor_rules, buffer_rules}, QueueBlocks.{StartsWell, inner}}, declared.locked.Side.Side}
-use Rattle.layer_traits.specs.{declared.{locked.Side.TheVariants.{Receivers, Senders}, queue_edits.QueueBlock.QueueBlock}, Layers.Conditions.cv_rules}
+use Rattle.layer_traits.specs.Blocks.{Capacities.caps_in, BufferBlocks.line_of, BufferEffects.effects_in, BufferProtocol.{BufferLock, BufferSection}}
+use Rattle.layer_traits.specs.Blocks.{BufferProtocol.{buffer_lock_at, buffer_monitor_rules, buffer_rules}, QueueBlocks.{StartsWell, inner}}
+use Rattle.layer_traits.specs.{declared.{locked.Side.{Side, TheVariants.{Receivers, Senders}}, queue_edits.QueueBlock.QueueBlock}, Layers.Conditions.cv_rules}
 use Rattle.layer_traits.specs.Layers.{QLockLaw.lock_kernel, QLocking.lock_caller, Queues.{QueueAllowed, buffer_sections}}
 use Rattle.event_log.specs.{declared.{entries.Entry.Entry, ids.{BufId.BufId, LockId.{LockId, TheVariants.Buffer}, Tid.Tid}}, History.{IsLawful, same_lock}}
-use Rattle.{event_log.specs.Runs.{Group, Sends, Receives, group_of, same_group}, fifo_buffer.specs.{FifoFits.BootsSo, Positions.enters}}
+use Rattle.{event_log.specs.Runs.{Group, Sends, Receives, group_of, same_group}, fifo_buffer.specs.{FifoFits.BootsSo, Positions.enters_side}}
 use Rattle.fifo_buffer.specs.SectionPolls.{BufferEvent}
 
 -- the threads that joined this side's line of a lock's buffer in these sections, the first in front
-abbrev pub joined : Side → LockId → List BufferSection → List Tid
-joined side lock [] = []
-joined side lock (s ∷ past) =
-    if same_lock lock s.lock && enters side s.edit then joined side lock past ++ lock_caller buffer_rules s.edit ∷ [] else joined side lock past
+abbrev pub joiners_of : Side → LockId → List BufferSection → List Tid
+joiners_of side lock [] = []
+joiners_of side lock (s ∷ past) =
+    if same_lock lock s.lock && enters_side side s.edit then joiners_of side lock past ++ lock_caller buffer_rules s.edit ∷ [] else joiners_of side lock past
 
 -- the effects that are counted with this side's
 abbrev pub group_on : Side → Group
@@ -29,5 +29,5 @@ served side b (e ∷ past) =
 abbrev pub FirstComeFirstServed : Type 0
 FirstComeFirstServed = (opening : LockId → Option (QueueBlock BufferLock)) (past : List BufferEvent) → StartsWell opening → BootsSo opening
     → IsLawful (QueueAllowed (lock_kernel (cv_rules buffer_monitor_rules) opening)) past → (b : BufId) (side : Side) → b.0 < length (caps_in opening)
-    → (lock : BufferLock) → buffer_at (inner opening) (buffer_sections past) (Buffer b) ≡ Some lock
-    → joined side (Buffer b) (buffer_sections past) ≡ served side b.0 (effects_in (inner opening) (buffer_sections past)) ++ line_of side lock.above
+    → (lock : BufferLock) → buffer_lock_at (inner opening) (buffer_sections past) (Buffer b) ≡ Some lock
+    → joiners_of side (Buffer b) (buffer_sections past) ≡ served side b.0 (effects_in (inner opening) (buffer_sections past)) ++ line_of side lock.above

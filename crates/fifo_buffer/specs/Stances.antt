@@ -6,7 +6,7 @@ use Rattle.layer_traits.specs.declared.{calls.{Call.{Call, TheVariants.Close}, E
 use Rattle.layer_traits.specs.declared.locked.{QOut.{QOut, TheVariants.{Acquired, Queued, Did, Released}}, Side.{Side, TheVariants.{Receivers, Senders}}}
 use Rattle.layer_traits.specs.declared.call_states.Stage.{Stage, TheVariants.{Idle, Acquires, Tries, Waits, AcquiresAgain, Signals, SignalsOwn, Releases}}
 use Rattle.layer_traits.specs.{declared.call_states.CallState.CallState, Blocks.{BufferBlocks.line_of, BufferEffects.drawn, BufferProtocol.BufferLock}}
-use Rattle.layer_traits.specs.{Blocks.BufferProtocol.{BufferSection, buffer_at, has_tried_in_vain}, Layers.BufferLaw.{buffer_of, recorded, side_of}}
+use Rattle.layer_traits.specs.{Blocks.BufferProtocol.{BufferSection, buffer_lock_at, has_tried_in_vain}, Layers.BufferLaw.{buffer_of, recorded, side_of}}
 use Rattle.{layer_traits.specs.Threads.Places.{count_in, one_if}, thread_blocks.specs.Queues.is_in}
 use Rattle.layer_traits.specs.declared.conditions.CvOut.TheVariants as answer
 
@@ -18,14 +18,14 @@ same_side Senders Receivers = false
 same_side Senders Senders = true
 
 -- a call enters a line: a close does not
-abbrev pub IsLined : Call → Type 0
-IsLined (Close b) = ⊥
-IsLined call = Unit {0}
+abbrev pub EntersLine : Call → Type 0
+EntersLine (Close b) = ⊥
+EntersLine call = Unit {0}
 
 -- a thread owns a lock, and does not sleep for it
-abbrev pub Holds : Tid → Option BufferLock → Type 0
-Holds t None = ⊥
-Holds t (Some lock) = (lock.owner ≡ Some t) × (is_in t lock.sleepers ≡ false)
+abbrev pub HoldsLock : Tid → Option BufferLock → Type 0
+HoldsLock t None = ⊥
+HoldsLock t (Some lock) = (lock.owner ≡ Some t) × (is_in t lock.sleepers ≡ false)
 
 -- it neither owns it nor sleeps for it
 abbrev pub IsFreeOf : Tid → Option BufferLock → Type 0
@@ -34,7 +34,7 @@ IsFreeOf t (Some lock) = (lock.owner ≢ Some t) × (is_in t lock.sleepers ≡ f
 
 -- it holds the lock, or asks for it, or neither
 abbrev pub Grip : Tid → Bool → Bool → Option BufferLock → Type 0
-Grip t true asks lock = Holds t lock
+Grip t true asks lock = HoldsLock t lock
 Grip t false true lock = Unit {0}
 Grip t false false lock = IsFreeOf t lock
 
@@ -87,9 +87,9 @@ IsMark b may (Some at) = (at ≡ b) × (may ≡ true)
 module _ (opening : LockId → Option BufferLock) (past : List BufferSection) (t : Tid) where
   -- a thread's grip on each lock, how often it stands in each line, and its position where it stands in one
   pub record Stance (b : BufId) (side : Side) (holds asks lined : Bool) (position : ℕ) : Type 0 where
-    pub grip : (lock : LockId) → Grip t (holds && same_lock lock (Buffer b)) (asks && same_lock lock (Buffer b)) (buffer_at opening past lock)
+    pub grip : (lock : LockId) → Grip t (holds && same_lock lock (Buffer b)) (asks && same_lock lock (Buffer b)) (buffer_lock_at opening past lock)
     pub line : (lock : LockId) (at : Side)
-        → count_in t (line_at at (buffer_at opening past lock)) ≡ one_if (lined && (same_lock lock (Buffer b) && same_side at side))
+        → count_in t (line_at at (buffer_lock_at opening past lock)) ≡ one_if (lined && (same_lock lock (Buffer b) && same_side at side))
     pub drawn_is : lined ≡ true → position ≡ drawn opening (Buffer b) side t past
 
   -- a thread within a call, at a stage, with its position and its effect
@@ -97,7 +97,7 @@ module _ (opening : LockId → Option BufferLock) (past : List BufferSection) (t
     pub called : called_at stage ≡ true
     pub stance : Stance (buffer_of call) (side_of call) (holds_at stage (is_some waits)) (is_some slept) (lined_at stage) position
     pub vain : (waits_at stage && not (is_some waits)) ≡ true → has_tried_in_vain opening (Buffer (buffer_of call)) (side_of call) t past ≡ true
-    pub joins : lined_at stage ≡ true → IsLined call
+    pub joins : lined_at stage ≡ true → EntersLine call
     pub effect_is : is_some effect ≡ done_at stage
     pub slept_here : IsMark (buffer_of call) (asks_at stage) slept
     pub waits_here : IsMark (buffer_of call) (waits_at stage) waits

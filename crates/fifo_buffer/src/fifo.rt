@@ -2,7 +2,7 @@
 
 ghost use Rattle.std.specs.Prelude.{◌≡◌, ◌<◌, [], Bool, Some, None, IsSome, refl, slice_set, if◌then◌else◌};
 ghost use Rattle.layer_traits.specs.Blocks.{Capacities.caps_in, BufferProtocol.buffer_rules, QueueBlocks.{homes_in, inner}, QueueRules.queue_rules};
-ghost use Rattle.layer_traits.specs.Layers.{BufferLaw.{answer_in, buffer_of, buffering, going, plan_of, replied, call_state_of}, QLocking.lock_moves};
+ghost use Rattle.layer_traits.specs.Layers.{BufferLaw.{answer_in, buffer_of, buffering, going, stage_plan, replied, call_state_of}, QLocking.lock_moves};
 ghost use Rattle.layer_traits.specs.{Layers.{QLocking.lock_rules, QLockLaw.{is_handed, slept_for}, Queues.buffer_sections}, Polling.Framed.Framed};
 ghost use Rattle.{layer_traits.specs.Polling.Plans.{Follows, table_of}, event_log.specs.declared.ids.{LockId.TheVariants.Buffer, TheConstants.THREADS}};
 ghost use Rattle.fifo_buffer.specs.SectionPolls.{MayPollSection, Sizes, SectionPolled, calling_after, is_at_once, reply_at};
@@ -69,7 +69,8 @@ impl<C: ThreadLayer<CvLaw<BufferEdit>>> Fifo<C> {
         ensures follows { C.IsStepwise
             → Follows (C.ActsFor m.old) (table_of (queue_rules (lock_rules buffer_rules) (lock_moves buffer_rules))) (C.opening m.old)
             (C.cpu_of self.old.lower)
-            (plan_of (homes_in (C.opening m.old)) (C.cpu_of self.old.lower) t call.now (going (call_state_of self.old.call_states.call_states t) call.now).stage
+            (stage_plan (homes_in (C.opening m.old)) (C.cpu_of self.old.lower) t call.now
+            (going (call_state_of self.old.call_states.call_states t) call.now).stage
             (going (call_state_of self.old.call_states.call_states t) call.now)
             (buffering (C.own self.old.lower) self.old.call_states.call_states))
             (C.acts m.old) (C.acts m.new)
@@ -120,7 +121,7 @@ impl<C: ThreadLayer<CvLaw<BufferEdit>>> CallLayer<BufferLaw> for Fifo<C> {
     ghost use Rattle.layer_traits.specs.Blocks.{BufferEffects.{effects_in, opening_locks}, BufferProtocol.buffer_monitor_rules, QueueBlocks.inner};
     ghost use Rattle.layer_traits.specs.Layers.{BufferLaw.buffering, Conditions.cv_rules, QLockLaw.lock_kernel, QLocking.{wait_list_in, lock_after}};
     ghost use Rattle.{layer_traits.specs.{Layers.Queues.{buffer_sections, moves_in}, Laws.Openings.opens_so}, fifo_buffer.specs.FifoFits.{BootsSo, PartFits}};
-    ghost use Rattle.fifo_buffer.specs.{Laws.FifoLaws.{fifo_lawful, fifo_wait_lists, none_under}, SectionPolls.under_way_at};
+    ghost use Rattle.fifo_buffer.specs.{Laws.FifoLaws.{fifo_lawful, fifo_wait_lists, no_call_beneath}, SectionPolls.under_way_at};
 
     type Machine = C::Machine;
 
@@ -284,7 +285,8 @@ impl<C: ThreadLayer<CvLaw<BufferEdit>>> CallLayer<BufferLaw> for Fifo<C> {
     ghost busy = { λ p m fits. C.busy p.lower m fits.0 };
 
     ghost idle = { λ p m fits nothing. C.idle p.lower m fits.0
-        (none_under (C.opening m) (C.cpu_of p.lower) (C.seen m) (C.own p.lower) p.call_states.call_states (C.under_way p.lower) p.calling fits.1 nothing) };
+        (no_call_beneath (C.opening m) (C.cpu_of p.lower) (C.seen m) (C.own p.lower) p.call_states.call_states (C.under_way p.lower) p.calling
+        fits.1 nothing) };
 
     ghost opens = { λ step m homes c fresh. opens_so (caps_in (C.opening m)) homes c (C.opening m) (C.opens m c fresh.0.0) fresh.4 fresh.5 fresh.6 };
 }
@@ -295,7 +297,7 @@ impl<C: OwnedThreadLayer<CvLaw<BufferEdit>>> OwnedBuffers for Fifo<C> {
     ghost use Rattle.layer_traits.specs.{Blocks.{BufferProtocol.buffer_monitor_rules, QueueBlocks.inner}, Layers.{Conditions.cv_rules, QLockLaw.lock_kernel}};
     ghost use Rattle.layer_traits.specs.{Layers.{QLocking.{wait_list_in, owner_in}, Queues.{buffer_sections, moves_in}}, Threads.Places.pending_by};
     ghost use Rattle.fifo_buffer.specs.Laws.OwnedLaws.{block_there, closed_read, effects_known, items_acted, items_read, wait_lists_read, owner_read};
-    ghost use Rattle.fifo_buffer.specs.OwnedLaws.{closed_of, items_in, wait_lists_of, buffer_lock_of, owner_of};
+    ghost use Rattle.fifo_buffer.specs.OwnedLaws.{closed_of, items_in, wait_lists_of, buffer_lock_of, lock_owner_of};
 
     ghost owner = { λ m b. owner_in (buffer_lock_of (C.opening m) (C.seen m) b) };
 
@@ -307,9 +309,9 @@ impl<C: OwnedThreadLayer<CvLaw<BufferEdit>>> OwnedBuffers for Fifo<C> {
 
     ghost closed_with = { λ p b. option_map closed_of (C.block_with p.lower b) };
 
-    ghost owner_at = { λ m b. option_map owner_of (C.block_at m b) };
+    ghost owner_at = { λ m b. option_map lock_owner_of (C.block_at m b) };
 
-    ghost owner_with = { λ p b. option_map owner_of (C.block_with p.lower b) };
+    ghost owner_with = { λ p b. option_map lock_owner_of (C.block_with p.lower b) };
 
     ghost wait_lists_at = { λ m b. option_map wait_lists_of (C.block_at m b) };
 
@@ -383,7 +385,7 @@ impl<C: OwnedThreadLayer<CvLaw<BufferEdit>>> OwnedBuffers for Fifo<C> {
 
     ghost owners = { λ m c b acts within. view_read
         (parts_on (λ (p : Self). p.lower) (λ p. C.Fits p m) (λ (p : Self). Self.Fits p m) (λ p. C.cpu_of p) (C.MayHold m) (λ p fits. fits.0))
-        owner_of (buffer_lock_of (C.opening m) (C.seen m) b) (λ p. C.block_with p b) (C.block_at m b)
+        lock_owner_of (buffer_lock_of (C.opening m) (C.seen m) b) (λ p. C.block_with p b) (C.block_at m b)
         (owner_in (buffer_lock_of (C.opening m) (C.seen m) b)) (owner_read (C.opening m) acts.1 b within (C.seen m))
         (C.shown m c b acts.0 (block_there (C.opening m) acts.1 b within)) };
 

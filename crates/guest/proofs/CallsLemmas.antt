@@ -3,10 +3,11 @@ use Rattle.std.proofs.{Common.{◌≡◌, ◌==◌, ℕ, Bool, true, false, List
 use Rattle.event_log.specs.declared.{ids.BufId.BufId, entries.{Entry.Entry, Kind.TheVariants.{Send as SendKind, Recv as RecvKind, Close as CloseKind}}}
 use Rattle.{event_log.specs.declared.entries.Kind.TheVariants.{SendClosed, RecvClosed}, guest.specs.declared.instructions.{Register.Register, Source.Source}}
 use Rattle.guest.specs.{declared.instructions.{Into.Into, Instruction.{Instruction, TheVariants.{Set, Add, Sub, Jnz, Send, Recv, Close, Yield}}}, State.State}
-use Rattle.guest.specs.State.{next_of, value_in, message_from, moved_on, moved_to, after_local, after_send, after_recv, after_close, after_closed, after_yield}
-use Rattle.guest.specs.Calls.{IsProgramsCalls, sets, adds, subtracts, jumps, goes_on, yields, sends, receives, closes, offers, asks}
+use Rattle.guest.specs.State.{next_of, register_value, message_from, moved_on, moved_to, after_local, after_send, after_recv, after_close, after_closed}
+use Rattle.guest.specs.{State.after_yield, Calls.{IsProgramsCalls, sets, adds, subtracts, jumps, goes_on, yields, sends, receives, closes, offers}}
+use Rattle.guest.specs.Calls.{asks_in_vain}
 
-after_jump : (program : List Instruction) (es : List Entry) (s : State) (r : Register) (k : ℕ) (b : Bool) → b ≡ (value_in s r == 0)
+after_jump : (program : List Instruction) (es : List Entry) (s : State) (r : Register) (k : ℕ) (b : Bool) → b ≡ (register_value s r == 0)
     → IsProgramsCalls program es s → next_of program s ≡ Jnz r k
     → IsProgramsCalls program es (if b then moved_on s else moved_to s k)
 after_jump program es s r k true e calls at = goes_on r k calls at (eqb-true _ _ (sym e))
@@ -17,7 +18,7 @@ local_at : (program : List Instruction) (es : List Entry) (s : State) (i : Instr
 local_at program es s (Set r n) at calls = sets r n calls at
 local_at program es s (Add r q) at calls = adds r q calls at
 local_at program es s (Sub r q) at calls = subtracts r q calls at
-local_at program es s (Jnz r k) at calls = after_jump program es s r k (value_in s r == 0) refl calls at
+local_at program es s (Jnz r k) at calls = after_jump program es s r k (register_value s r == 0) refl calls at
 local_at program es s other at calls = calls
 
 -- an instruction that shares nothing leaves the list
@@ -67,4 +68,4 @@ pub calls-ask : (program : List Instruction) (es : List Entry) (s : State) (b : 
     → IsProgramsCalls program es s → next_of program s ≡ Recv b into k
     → e.kind ≡ RecvClosed → e.buffer ≡ b → IsProgramsCalls program (e ∷ es) (after_closed (next_of program s) s)
 calls-ask program es s b into k e calls at kind buffer =
-    subst (λ (i : Instruction). IsProgramsCalls program (e ∷ es) (after_closed i s)) (sym at) (asks b into k e calls at kind buffer)
+    subst (λ (i : Instruction). IsProgramsCalls program (e ∷ es) (after_closed i s)) (sym at) (asks_in_vain b into k e calls at kind buffer)

@@ -11,7 +11,7 @@ use Rattle.guest.specs.declared.instructions.{Into.TheVariants.{One as IntoOne, 
 use Rattle.guest.specs.declared.{instructions.Instruction.TheVariants.{Send, Recv, Close, Yield, Exit}, refusals.GuestFault.{GuestFault, TheVariants.BadNumber}}
 use Rattle.guest.specs.{declared.refusals.GuestFault.TheVariants.BadTarget, Instructions.{IsSource, IsTarget, IsWithin}, Language.{or_fault, register_in}}
 use Rattle.guest.specs.Language.{word_in, buffer_in, words_in, target_in, pieces_in, line_in, one_piece, two_pieces, three_pieces, four_pieces}
-use Rattle.guest.specs.Spelling.{name_of, target_of, pieces_of, instruction_line}
+use Rattle.guest.specs.Spelling.{register_name, target_of, pieces_of, instruction_line}
 
 -- which side of a choice was taken
 chosen : {A : Type 0} (b : Bool) (x y r : A) → (if b then x else y) ≡ r → ((b ≡ true) × (x ≡ r)) ⊎ ((b ≡ false) × (y ≡ r))
@@ -27,15 +27,15 @@ bound (Ok x) f y h = (x, refl, h)
 bound (Err e) f y h = absurd (cc)
 
 -- one name of the chain of the registers' names
-name_or : (piece : List ℕ) (q r : Register) (rest : Result Register GuestFault) → (rest ≡ Ok r → (piece ≡ name_of r) × Unit {0})
-    → (if bytes_eq piece (name_of q) then Ok q else rest) ≡ Ok r → (piece ≡ name_of r) × Unit {0}
+name_or : (piece : List ℕ) (q r : Register) (rest : Result Register GuestFault) → (rest ≡ Ok r → (piece ≡ register_name r) × Unit {0})
+    → (if bytes_eq piece (register_name q) then Ok q else rest) ≡ Ok r → (piece ≡ register_name r) × Unit {0}
 name_or piece q r rest behind h =
-    elim (chosen (bytes_eq piece (name_of q)) (Ok q) rest (Ok r) h) [
-      | inl p ↦ let e : q ≡ r = (let is = p.1 in cc) in (subst (λ x. piece ≡ name_of x) e (same_text piece (name_of q) p.0), tt)
+    elim (chosen (bytes_eq piece (register_name q)) (Ok q) rest (Ok r) h) [
+      | inl p ↦ let e : q ≡ r = (let is = p.1 in cc) in (subst (λ x. piece ≡ register_name x) e (same_text piece (register_name q) p.0), tt)
       | inr n ↦ behind n.1
     ]
 
-register_spelled : (piece : List ℕ) (r : Register) → register_in piece ≡ Ok r → (piece ≡ name_of r) × Unit {0}
+register_spelled : (piece : List ℕ) (r : Register) → register_in piece ≡ Ok r → (piece ≡ register_name r) × Unit {0}
 unfolding register_in
 register_spelled piece r =
     name_or piece Reg0 r _ (name_or piece Reg1 r _ (name_or piece Reg2 r _ (name_or piece Reg3 r _ (
@@ -200,9 +200,9 @@ decimal_no_space n small =
     let digits = ascii_digits.to (decimal n) (digits_decimal ascii_digits n small) in
     All-from_get_or (λ byte. (byte == 32) ≡ false) (decimal n) 0 (λ i h. let range = digit_at (decimal n) i digits h in ne_eqb _ 32 (λ e. omega arith))
 
-name_no_space : (r : Register) → HasNoSpace (name_of r)
-name_no_space Reg0 = no_space (name_of Reg0) refl
-name_no_space other = no_space (name_of other) refl
+name_no_space : (r : Register) → HasNoSpace (register_name r)
+name_no_space Reg0 = no_space (register_name Reg0) refl
+name_no_space other = no_space (register_name other) refl
 
 target_no_space : (count : ℕ) (k : Option ℕ) → count ≤ 2 ^ 64 → IsTarget count k → HaveNoSpace (target_of k)
 target_no_space count None most below = tt
@@ -240,7 +240,7 @@ line_split count (Close b) most within = split_again _ _ (no_space (codes "close
 line_split count Yield most within = split_again _ _ (no_space (codes "yield") refl, tt)
 line_split count Exit most within = split_again _ _ (no_space (codes "exit") refl, tt)
 
-register_again : (r : Register) → register_in (name_of r) ≡ Ok r
+register_again : (r : Register) → register_in (register_name r) ≡ Ok r
 unfolding register_in
 register_again Reg0 = refl
 register_again other = refl

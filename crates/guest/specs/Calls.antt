@@ -3,21 +3,21 @@ use Rattle.std.specs.Prelude.{◌≡◌, ◌≢◌, ℕ, List, [], ◌∷◌, Op
 use Rattle.event_log.specs.declared.{ids.BufId.BufId, entries.{Entry.Entry, Kind.TheVariants.{Send as SendKind, Recv as RecvKind, Close as CloseKind}}}
 use Rattle.{event_log.specs.declared.entries.Kind.TheVariants.{SendClosed, RecvClosed}, guest.specs.declared.instructions.{Register.Register, Source.Source}}
 use Rattle.guest.specs.declared.instructions.{Into.Into, Instruction.{Instruction, TheVariants.{Set, Add, Sub, Jnz, Send, Recv, Close, Yield, Exit}}}
-use Rattle.guest.specs.State.{State, at_start, next_of, value_in, message_from, moved_on, moved_with, moved_into, moved_to, moved_aside, wrapped_sum}
+use Rattle.guest.specs.State.{State, at_start, next_of, register_value, message_from, moved_on, moved_with, moved_into, moved_to, moved_aside, wrapped_sum}
 use Rattle.guest.specs.State.{wrapped_difference}
 
 -- the program has made just the calls of these entries, newest first, when it stands in this state
 pub data IsProgramsCalls (program : List Instruction) : List Entry → State → Type 0 where
-  starts : IsProgramsCalls program [] at_start
+  made_none : IsProgramsCalls program [] at_start
   sets : {es : List Entry} {s : State} (r : Register) (n : ℕ) → IsProgramsCalls program es s → next_of program s ≡ Set r n
       → IsProgramsCalls program es (moved_with s r n)
   adds : {es : List Entry} {s : State} (r q : Register) → IsProgramsCalls program es s → next_of program s ≡ Add r q
-      → IsProgramsCalls program es (moved_with s r (wrapped_sum (value_in s r) (value_in s q)))
+      → IsProgramsCalls program es (moved_with s r (wrapped_sum (register_value s r) (register_value s q)))
   subtracts : {es : List Entry} {s : State} (r q : Register) → IsProgramsCalls program es s → next_of program s ≡ Sub r q
-      → IsProgramsCalls program es (moved_with s r (wrapped_difference (value_in s r) (value_in s q)))
-  jumps : {es : List Entry} {s : State} (r : Register) (k : ℕ) → IsProgramsCalls program es s → next_of program s ≡ Jnz r k → value_in s r ≢ 0
+      → IsProgramsCalls program es (moved_with s r (wrapped_difference (register_value s r) (register_value s q)))
+  jumps : {es : List Entry} {s : State} (r : Register) (k : ℕ) → IsProgramsCalls program es s → next_of program s ≡ Jnz r k → register_value s r ≢ 0
       → IsProgramsCalls program es (moved_to s k)
-  goes_on : {es : List Entry} {s : State} (r : Register) (k : ℕ) → IsProgramsCalls program es s → next_of program s ≡ Jnz r k → value_in s r ≡ 0
+  goes_on : {es : List Entry} {s : State} (r : Register) (k : ℕ) → IsProgramsCalls program es s → next_of program s ≡ Jnz r k → register_value s r ≡ 0
       → IsProgramsCalls program es (moved_on s)
   yields : {es : List Entry} {s : State} → IsProgramsCalls program es s → next_of program s ≡ Yield → IsProgramsCalls program es (moved_on s)
   sends : {es : List Entry} {s : State} (b : BufId) (from : Source) (k : Option ℕ) (e : Entry) → IsProgramsCalls program es s
@@ -31,7 +31,7 @@ pub data IsProgramsCalls (program : List Instruction) : List Entry → State →
   offers : {es : List Entry} {s : State} (b : BufId) (from : Source) (k : Option ℕ) (e : Entry) → IsProgramsCalls program es s
       → next_of program s ≡ Send b from k
       → e.kind ≡ SendClosed → e.buffer ≡ b → e.value ≡ message_from s from → IsProgramsCalls program (e ∷ es) (moved_aside s k)
-  asks : {es : List Entry} {s : State} (b : BufId) (into : Into) (k : Option ℕ) (e : Entry) → IsProgramsCalls program es s
+  asks_in_vain : {es : List Entry} {s : State} (b : BufId) (into : Into) (k : Option ℕ) (e : Entry) → IsProgramsCalls program es s
       → next_of program s ≡ Recv b into k
       → e.kind ≡ RecvClosed → e.buffer ≡ b → IsProgramsCalls program (e ∷ es) (moved_aside s k)
 

@@ -110,11 +110,11 @@ program_in lines =
     else program_lines lines
 
 -- what an error says of what is meant: that fault, but nothing where memory was refused
-abbrev pub Fails : {Y : Type 0} → GuestError → Result Y GuestError → Type 0
-Fails (NoMemory _) ghost_of = Unit {0}
-Fails (At line fault) ghost_of = ghost_of ≡ Err (At line fault)
+abbrev pub FaultsAs : {Y : Type 0} → GuestError → Result Y GuestError → Type 0
+FaultsAs (NoMemory _) ghost_of = Unit {0}
+FaultsAs (At line fault) ghost_of = ghost_of ≡ Err (At line fault)
 
 -- a call gives the value that is meant, as it is viewed, or the fault; want of memory aside
-abbrev pub Gives : {X Y : Type 0} → (X → Y) → Result X GuestError → Result Y GuestError → Type 0
-Gives view (Ok x) ghost_of = ghost_of ≡ Ok (view x)
-Gives view (Err e) ghost_of = Fails e ghost_of
+abbrev pub GivesOrFaults : {X Y : Type 0} → (X → Y) → Result X GuestError → Result Y GuestError → Type 0
+GivesOrFaults view (Ok x) ghost_of = ghost_of ≡ Ok (view x)
+GivesOrFaults view (Err e) ghost_of = FaultsAs e ghost_of

@@ -6,15 +6,15 @@ use Rattle.guest.specs.{declared.instructions.Instruction.TheVariants.{Set, Add,
 use Rattle.guest.specs.Language.{line_in}
 
 -- the name of a register
-abbrev pub name_of : Register → List ℕ
-name_of Reg0 = codes "r0"
-name_of Reg1 = codes "r1"
-name_of Reg2 = codes "r2"
-name_of Reg3 = codes "r3"
-name_of Reg4 = codes "r4"
-name_of Reg5 = codes "r5"
-name_of Reg6 = codes "r6"
-name_of Reg7 = codes "r7"
+abbrev pub register_name : Register → List ℕ
+register_name Reg0 = codes "r0"
+register_name Reg1 = codes "r1"
+register_name Reg2 = codes "r2"
+register_name Reg3 = codes "r3"
+register_name Reg4 = codes "r4"
+register_name Reg5 = codes "r5"
+register_name Reg6 = codes "r6"
+register_name Reg7 = codes "r7"
 
 -- the piece of a target, where there is one
 abbrev pub target_of : Option ℕ → List (List ℕ)
@@ -23,13 +23,13 @@ target_of (Some k) = decimal k ∷ []
 
 -- the pieces of an instruction's line
 abbrev pub pieces_of : Instruction → List (List ℕ)
-pieces_of (Set r n) = codes "set" ∷ name_of r ∷ decimal n ∷ []
-pieces_of (Add r q) = codes "add" ∷ name_of r ∷ name_of q ∷ []
-pieces_of (Sub r q) = codes "sub" ∷ name_of r ∷ name_of q ∷ []
-pieces_of (Jnz r k) = codes "jnz" ∷ name_of r ∷ decimal k ∷ []
-pieces_of (Send b (FromOne r) k) = codes "send" ∷ decimal b.0 ∷ name_of r ∷ target_of k
+pieces_of (Set r n) = codes "set" ∷ register_name r ∷ decimal n ∷ []
+pieces_of (Add r q) = codes "add" ∷ register_name r ∷ register_name q ∷ []
+pieces_of (Sub r q) = codes "sub" ∷ register_name r ∷ register_name q ∷ []
+pieces_of (Jnz r k) = codes "jnz" ∷ register_name r ∷ decimal k ∷ []
+pieces_of (Send b (FromOne r) k) = codes "send" ∷ decimal b.0 ∷ register_name r ∷ target_of k
 pieces_of (Send b (First n) k) = codes "sendm" ∷ decimal b.0 ∷ decimal n ∷ target_of k
-pieces_of (Recv b (IntoOne r) k) = codes "recv" ∷ decimal b.0 ∷ name_of r ∷ target_of k
+pieces_of (Recv b (IntoOne r) k) = codes "recv" ∷ decimal b.0 ∷ register_name r ∷ target_of k
 pieces_of (Recv b All k) = codes "recvm" ∷ decimal b.0 ∷ target_of k
 pieces_of (Close b) = codes "close" ∷ decimal b.0 ∷ []
 pieces_of Yield = codes "yield" ∷ []

@@ -19,12 +19,12 @@ abbrev pub next_of : List Instruction → State → Instruction
 next_of program s = instruction_at program s.line
 
 -- what a register holds
-abbrev pub value_in : State → Register → ℕ
-value_in s r = slice_index s.registers (number_of r)
+abbrev pub register_value : State → Register → ℕ
+register_value s r = slice_index s.registers (number_of r)
 
 -- the message that a thread sends which stands at a send: one register's number, or the first registers' numbers
 abbrev pub message_from : State → Source → Message
-message_from s (FromOne r) = value_in s r ∷ []
+message_from s (FromOne r) = register_value s r ∷ []
 message_from s (First n) = take n s.registers
 
 -- at the following line
@@ -59,9 +59,9 @@ wrapped_difference a b = (a + 2 ^ 64 - b) % 2 ^ 64
 -- after an instruction that shares nothing; the others leave the state as it is
 abbrev pub after_local : Instruction → State → State
 after_local (Set r n) s = moved_with s r n
-after_local (Add r q) s = moved_with s r (wrapped_sum (value_in s r) (value_in s q))
-after_local (Sub r q) s = moved_with s r (wrapped_difference (value_in s r) (value_in s q))
-after_local (Jnz r k) s = if value_in s r == 0 then moved_on s else moved_to s k
+after_local (Add r q) s = moved_with s r (wrapped_sum (register_value s r) (register_value s q))
+after_local (Sub r q) s = moved_with s r (wrapped_difference (register_value s r) (register_value s q))
+after_local (Jnz r k) s = if register_value s r == 0 then moved_on s else moved_to s k
 after_local (Send b from k) s = s
 after_local (Recv b into k) s = s
 after_local (Close b) s = s

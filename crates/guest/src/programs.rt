@@ -31,7 +31,7 @@ impl Model for Program {
 impl Program {
     ghost use Rattle.std.specs.{Prelude.{◌≡◌, ◌≢◌, ◌<◌, length, map, IfOk}, List.list_all};
     ghost use Rattle.guest.specs.{declared.instructions.Instruction.TheVariants.Exit, Instructions.{IsProgram, IsWithin, instruction_at, names_below}};
-    ghost use Rattle.guest.specs.Language.{program_in, Gives};
+    ghost use Rattle.guest.specs.Language.{program_in, GivesOrFaults};
 
     /// Reads the lines of a program, one instruction each.
     ///
@@ -40,7 +40,7 @@ impl Program {
     /// pieces taken from left to right. `NoMemory` where an allocation was refused.
     #[tactic(auto, unfolding(crate::specs::Language::program_in))]
     pub fn read(alloc: Global, lines: &[&str]) -> Result<Program, GuestError>
-        ensures read { Gives (λ program. program) result (program_in (map (λ line. line.now) lines.now)) }
+        ensures read { GivesOrFaults (λ program. program) result (program_in (map (λ line. line.now) lines.now)) }
         ensures within { IfOk result IsProgram }
     {
         if lines.is_empty() {

@@ -4,7 +4,7 @@
 ghost use Rattle.std.specs.Prelude.{◌≡◌, ◌<◌, ◌≤◌, ◌^◌, ℕ, List, Ok, map, length, All, IfOk};
 ghost use Rattle.{event_log.specs.{declared.ids.TheConstants.BUFFERS, Reading.read_from}, guest.specs.Instructions.{IsSource, IsWithin}};
 ghost use Rattle.guest.specs.{declared.instructions.Source.TheVariants.First, Language.{register_in, word_in, buffer_in, words_in, target_in, one_piece}};
-ghost use Rattle.guest.specs.Language.{two_pieces, three_pieces, four_pieces, pieces_in, line_in, at_line, program_lines, Gives};
+ghost use Rattle.guest.specs.Language.{two_pieces, three_pieces, four_pieces, pieces_in, line_in, at_line, program_lines, GivesOrFaults};
 
 use crate::instructions::{Instruction, Into, REGISTERS, Register, Source};
 use crate::refusals::{GuestError, GuestFault};
@@ -180,7 +180,7 @@ fn pieces(pieces: &[&str], count: usize) -> Result<Instruction, GuestFault>
 #[tactic(auto, unfolding(crate::specs::Language::line_in))]
 fn line_at(alloc: Global, text: &str, count: usize, line: usize) -> Result<Instruction, GuestError>
     requires { 0 < count }
-    ensures instruction { Gives (λ i. i) result (at_line line (line_in count text.now)) }
+    ensures instruction { GivesOrFaults (λ i. i) result (at_line line (line_in count text.now)) }
     ensures within { IfOk result (IsWithin count) }
 {
     let parts = text.split(' ').collect::<Vec<&str>>(alloc)?;
@@ -198,7 +198,7 @@ fn line_at(alloc: Global, text: &str, count: usize, line: usize) -> Result<Instr
 /// `NoMemory` if an allocation was refused. Then nothing was made.
 pub fn instructions_in(alloc: Global, lines: &[&str]) -> Result<Vec<Instruction>, GuestError>
     requires { 0 < length lines.now }
-    ensures instructions { Gives (λ read. read.items) result (program_lines (map (λ line. line.now) lines.now)) }
+    ensures instructions { GivesOrFaults (λ read. read.items) result (program_lines (map (λ line. line.now) lines.now)) }
     ensures len { IfOk result (λ read. length read.items ≡ length lines.now) }
     ensures within { IfOk result (λ read. All (IsWithin (length lines.now)) read.items) }
 {

@@ -26,7 +26,7 @@ impl Model for Thread {
 impl Thread {
     ghost use Rattle.std.specs.Prelude.{◌≡◌, ◌<◌, length};
     ghost use Rattle.guest.specs.{Instructions.{IsSource, IsWithin}, declared.instructions.Into.TheVariants.All, State.{at_start, next_of, after_local}};
-    ghost use Rattle.guest.specs.State.{after_yield, after_send, after_recv, after_close, after_closed, value_in, message_from, moved_on, moved_with};
+    ghost use Rattle.guest.specs.State.{after_yield, after_send, after_recv, after_close, after_closed, register_value, message_from, moved_on, moved_with};
     ghost use Rattle.guest.specs.State.{moved_into, moved_aside};
 
     /// A thread before its first instruction: at line 0, each register 0.
@@ -52,7 +52,7 @@ impl Thread {
     /// The number in a register.
     #[inline(always)]
     pub fn value(&self, register: Register) -> u64
-        ensures { result ≡ value_in self.now register }
+        ensures { result ≡ register_value self.now register }
     {
         self.registers[register.number()]
     }

@@ -2,9 +2,9 @@
 use Rattle.std.proofs.{Common.{◌≡◌, ℕ, ◌<◌, ◌≤◌, Bool, true, List, [], Option, Some, None, length, refl, ap, arith}, lemmas.Bool.{le-ltb, lt-ltb}}
 use Rattle.layer_traits.specs.{Blocks.{Capacities.caps_in, QueueBlocks.homes_in}, declared.{call_layers.CallLayer.Ghosts, calls.{Call.Call, Reply.Reply}}}
 use Rattle.layer_traits.specs.{declared.calls.ReplyKind.{ReplyKind, TheVariants.NoBuffer as Refuses}, Layers.BufferLaw.{BufferPlan, Buffering, buffer_of}}
-use Rattle.layer_traits.specs.{Layers.{BufferLaw.fifo_plan, IpcLaw.ipc_plan}, Polling.{Framed.Framed, LayerPolls.{IsQuietAt, LookedAt, PolledAt, PolledOnAt}}}
-use Rattle.{layer_traits.{specs.Polling.PollRuns.{once, again, looks}, proofs.PollRunLemmas.{Kept, kept}}, event_log.specs.declared.ids.{CpuId.CpuId, Tid.Tid}}
-use Rattle.ipc_calls.specs.{declared.ipc.Ipc.Ipc, Parts.KeepsPlan}
+use Rattle.layer_traits.specs.{Layers.{BufferLaw.fifo_plan, IpcLaw.ipc_plan}, Polling.{Framed.Framed, LayerPolls.{IsBegunAt, LookedAt, PolledAt, PolledOnAt}}}
+use Rattle.{layer_traits.{specs.Polling.PollRuns.{once, again, looks}, proofs.PollRunLemmas.{Kept, run_kept}}, event_log.specs.declared.ids.CpuId.CpuId}
+use Rattle.{event_log.specs.declared.ids.Tid.Tid, ipc_calls.specs.{declared.ipc.Ipc.Ipc, Parts.KeepsPlan}}
 
 -- what a part of message calls tells as a layer of calls, over a part of buffers
 abbrev pub tells : {P L M : Type 0} → Ghosts P L M → Ghosts (Ipc P) (Unit {0}) M
@@ -68,9 +68,9 @@ module _ {P L M : Type 0} (B : Ghosts P L M) (start : Ipc P) where
 
   module _ (t : Tid) (call : Call) where
     -- a number that is no buffer's is refused, and nothing is done
-    pub refused : (p : Ipc P) (m : M) → length (caps_in (B.opening m)) ≤ (buffer_of call).0 → (tells B).Fits p m
+    pub bad_number_refused : (p : Ipc P) (m : M) → length (caps_in (B.opening m)) ≤ (buffer_of call).0 → (tells B).Fits p m
         → PolledAt (tells B) ipc_plan t call p m p m (Some Refuses)
-    refused p m none fits = record {
+    bad_number_refused p m none fits = record {
       nothing = λ none. record { machine = refl; part = refl; answers = refl };
       called = λ some. absurd (omega arith);
       runs = λ some. absurd (omega arith);
@@ -100,17 +100,17 @@ module _ {P L M : Type 0} (B : Ghosts P L M) (start : Ipc P) where
       follows = λ stepwise. rw (lt-ltb (buffer_of call).0 (length (caps_in (B.opening m))) there) (polled.follows stepwise);
     }
 
-    quiet_over : (p q : P) → IsQuietAt B plan_below t call p q → IsQuietAt (tells B) ipc_plan t call (over p) (over q)
+    quiet_over : (p q : P) → IsBegunAt B plan_below t call p q → IsBegunAt (tells B) ipc_plan t call (over p) (over q)
     quiet_over p q quiet = record { runs = quiet.runs; effect = quiet.effect }
 
     pub ran_over : (p : P) (m : M) (actions : ℕ) (q : P) (n : M) (told : Option ReplyKind) → (buffer_of call).0 < length (caps_in (B.opening m)) → Keeps p m
         → PolledOnAt B plan_below t call p m actions q n told → PolledOnAt (tells B) ipc_plan t call (over p) m actions (over q) n told
     ran_over p m _ q n told there keeps (once polled) = once (polled_over p q m n told there keeps polled)
     ran_over p m _ r o told there keeps (again {k = k} {q = q} {n = n} run quiet polled) =
-        let so_far : Kept B plan_below t call p m k q n = kept B plan_below t call p m k q n None run in
+        let so_far : Kept B plan_below t call p m k q n = run_kept B plan_below t call p m k q n None run in
         again (ran_over p m k q n None there keeps run) (quiet_over p q quiet)
         (polled_over q r n o told (rw so_far.opening there) (keeps_on p q m n so_far.cpu so_far.opening keeps) polled)
     ran_over p m _ r o _ there keeps (looks {k = k} {q = q} {n = n} run quiet looked) =
-        let so_far : Kept B plan_below t call p m k q n = kept B plan_below t call p m k q n None run in
+        let so_far : Kept B plan_below t call p m k q n = run_kept B plan_below t call p m k q n None run in
         looks (ran_over p m k q n None there keeps run) (quiet_over p q quiet)
         (looked_over q r n o true (keeps_on p q m n so_far.cpu so_far.opening keeps) looked)

@@ -5,7 +5,7 @@ use Rattle.{event_log.specs.Actions.Action, thread_blocks.proofs.Members.same_ti
 use Rattle.layer_traits.specs.declared.{queues.{QueueCall.TheVariants.{Push, TakeAll, OnBuffer}, QueueEvent.QueueEvent}, scheds.SchedAnswer.SchedAnswer}
 use Rattle.layer_traits.specs.{declared.passes.Pass.{Pass, TheVariants.Switch}, Threads.MoveRules.{WakesSleepers, edit_move, section_moves, asleep_after}}
 use Rattle.layer_traits.specs.Threads.{MoveRules.asleep_by, Passes.{PassPolled, pass_after, pass_steps}, Places.{AreMoves, MayMove, Move, Moved, Pushed, Step}}
-use Rattle.layer_traits.specs.Threads.Places.{Still, Threads, Took, Where, is_asleep, is_wait_channel, pending_by, wait_channel_of, step, cpu_of_step}
+use Rattle.layer_traits.specs.Threads.Places.{Still, Threads, Took, Where, is_asleep, is_wait_channel, pending_by, wait_channel_of, step_with, cpu_of_step}
 use Rattle.layer_traits.specs.{Threads.Places.{where_after, where_is, where_taken, where_woken}, Polling.Plans.{Act, Follows, Left, Now, Plan, Table, raised}}
 use Rattle.layer_traits.specs.Layers.Queues.{CallAllowed, Kernel, QueueAllowed, buffer_sections, call_move, event, cpu_of_queue_event, moves_in, out_at}
 use Rattle.layer_traits.specs.Layers.Scheds.{SchedPolled, events_of, pass_call}
@@ -39,11 +39,11 @@ module _ {E B O : Type 0} (k : Kernel E B O) where
   -- the steps of newer calls, after these older ones
   abbrev pub moves_over : List (QueueEvent E) → List (QueueEvent E) → List Step
   moves_over [] past = []
-  moves_over (e ∷ more) past = step e.cpu (call_move k (more ++ past) e.call) ∷ moves_over more past
+  moves_over (e ∷ more) past = step_with e.cpu (call_move k (more ++ past) e.call) ∷ moves_over more past
 
   pub moves_append : (more past : List (QueueEvent E)) → moves_in k (more ++ past) ≡ moves_over more past ++ moves_in k past
   moves_append [] past = refl
-  moves_append (e ∷ more) past = ap (λ l. step e.cpu (call_move k (more ++ past) e.call) ∷ l) (moves_append more past)
+  moves_append (e ∷ more) past = ap (λ l. step_with e.cpu (call_move k (more ++ past) e.call) ∷ l) (moves_append more past)
 
   -- calls of others are moves of others
   pub moves_others : (c : CpuId) (more past : List (QueueEvent E)) → AreOthers cpu_of_queue_event c more → AreOthers cpu_of_step c (moves_over more past)

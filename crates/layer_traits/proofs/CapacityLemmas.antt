@@ -1,7 +1,7 @@
 -- Locks that opened with these capacities tell them.
 use Rattle.std.proofs.Common.{◌≡◌, ℕ, zero, suc, ◌+◌, ◌≤◌, List, [], ◌∷◌, length, Option, Some, None, option_map, refl, ap, ◌∙◌, arith}
 use Rattle.std.specs.Prelude.{slice_get}
-use Rattle.{event_log.specs.declared.ids.LockId.{LockId, TheVariants.Buffer}, layer_traits.specs.Blocks.Capacities.{caps_at, caps_from}}
+use Rattle.{event_log.specs.declared.ids.LockId.{LockId, TheVariants.Buffer}, layer_traits.specs.Blocks.Capacities.{with_cap_of, caps_from}}
 
 module _ {L : Type 0} (capacity : L → ℕ) (fresh : ℕ → L) (shows : (n : ℕ) → capacity (fresh n) ≡ n) (all : List ℕ) (locks : LockId → Option L)
     (opens : (n : ℕ) → locks (Buffer (record { 0 = n })) ≡ option_map fresh (slice_get all n)) where
@@ -16,9 +16,9 @@ module _ {L : Type 0} (capacity : L → ℕ) (fresh : ℕ → L) (shows : (n : �
   unfolding caps_from
   caps_read [] zero n same few = refl
   caps_read (k ∷ caps) zero n same few = absurd (omega (arith, few))
-  caps_read [] (suc more) n same few = ap (λ o. caps_at capacity o (caps_from capacity more (n + 1) locks)) (here n None (same 0))
+  caps_read [] (suc more) n same few = ap (λ o. with_cap_of capacity o (caps_from capacity more (n + 1) locks)) (here n None (same 0))
   caps_read (k ∷ caps) (suc more) n same few =
-      ap (λ o. caps_at capacity o (caps_from capacity more (n + 1) locks)) (here n (Some k) (same 0))
+      ap (λ o. with_cap_of capacity o (caps_from capacity more (n + 1) locks)) (here n (Some k) (same 0))
       ∙ ap (λ m. m ∷ caps_from capacity more (n + 1) locks) (shows k)
       ∙ ap (λ rest. k ∷ rest) (caps_read caps more (n + 1) (λ i. further n i (slice_get caps i) (same (suc i))) (omega (arith, few)))
 

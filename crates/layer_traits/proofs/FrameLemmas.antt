@@ -5,9 +5,9 @@ use Rattle.{event_log.specs.declared.ids.{CpuId.CpuId, LockId.LockId}, layer_tra
 one_less : (n : ℕ) → n ≤ n + 1
 one_less n = omega arith
 
-pub untouched : {M B : Type 0} (opening_of : M → LockId → Option B) (site_of : M → List ℕ) (room_of : M → ℕ) (ActsFor : M → CpuId → Type 0) (m : M)
+pub untouched_stays : {M B : Type 0} (opening_of : M → LockId → Option B) (site_of : M → List ℕ) (room_of : M → ℕ) (ActsFor : M → CpuId → Type 0) (m : M)
     → Stays opening_of site_of room_of ActsFor m m
-untouched opening_of site_of room_of ActsFor m = record { opening = refl; site = refl; room = one_less (room_of m); acts = λ c acts. acts }
+untouched_stays opening_of site_of room_of ActsFor m = record { opening = refl; site = refl; room = one_less (room_of m); acts = λ c acts. acts }
 
 -- what stays beneath stays under another view of the blocks
 pub viewed_stays : {M B C : Type 0} (view : (LockId → Option B) → LockId → Option C) {opening_of : M → LockId → Option B} {site_of : M → List ℕ}

@@ -8,14 +8,14 @@ use Rattle.{event_log.proofs.Renaming.{next_action_renamed, others_renamed, sect
 use Rattle.layer_traits.specs.declared.{passes.Pass.TheVariants.{Drain, MakeReady}, queue_edits.{QueueBlock.QueueBlock, QueueEdit.QueueEdit}}
 use Rattle.layer_traits.specs.declared.{queue_edits.QueueAnswer.QueueAnswer, queues.{QueueCall.QueueCall, QueueEvent.QueueEvent}}
 use Rattle.layer_traits.specs.{declared.scheds.{SchedAnswer.{SchedAnswer, TheVariants.Answer}, SchedCall.SchedCall}, Threads.MoveRules.edit_move}
-use Rattle.layer_traits.specs.Threads.{Passes.{own_slept, own_woken, pass_after, queue_for}, Places.{Threads, Moved, step, MayEdit, MayPush, home_of}}
+use Rattle.layer_traits.specs.Threads.{Passes.{own_slept, own_woken, pass_after, queue_for}, Places.{Threads, Moved, step_with, MayEditFor, MayPush, home_of}}
 use Rattle.layer_traits.specs.{Threads.Places.pending_by, Polling.Plans.{Left, Plan, Now, Act, Follows, raised, reply, table_of}, Protocols.Protocol.section}
 use Rattle.layer_traits.specs.Blocks.{QueueBlocks.{StartsAs, StartsWell, homes_in, homes_of, inner}, QueueRules.{AreProper, IsProper, queue_answer}}
 use Rattle.layer_traits.specs.{Blocks.QueueRules.{queue_edited, queue_rules}, Layers.Queues.{Kernel, CallAllowed, IsKnownEvent, QueueAllowed, buffer_sections}}
 use Rattle.layer_traits.specs.Layers.{Queues.{call_move, event, cpu_of_queue_event, event_of, call_at, moves_in, out_at, with_section}, Scheds.EditStays}
-use Rattle.layer_traits.specs.Layers.Scheds.{IsLocal, SchedPolled, answer_to, events_of, left, left_by, own_after, own_answered, queue_call, sched_plan}
-use Rattle.layer_traits.specs.Views.Renaming.{named, renamed_call, renamed_edit, renamed_event, renamed_events, renamed_sched, viewed, viewed_block}
-use Rattle.layer_traits.proofs.PlanRenaming.{block_viewed, map-append, reply_viewed}
+use Rattle.layer_traits.specs.Layers.Scheds.{IsLocal, SchedPolled, answer_to, events_of, sched_left, sched_left_by, own_after, own_answered, queue_call}
+use Rattle.layer_traits.specs.{Layers.Scheds.sched_plan, Views.Renaming.{plan_named, renamed_call, renamed_edit, renamed_event, renamed_events, renamed_sched}}
+use Rattle.layer_traits.{specs.Views.Renaming.{viewed, viewed_block}, proofs.PlanRenaming.{block_viewed, map-append, reply_viewed}}
 use Rattle.layer_traits.specs.declared.queue_edits.QueueBlock.TheVariants as block
 use Rattle.layer_traits.specs.declared.queue_edits.QueueEdit.TheVariants as edit
 use Rattle.layer_traits.specs.declared.queue_edits.QueueAnswer.TheVariants as told
@@ -120,7 +120,7 @@ module _ {D E : Type 0} (name : D → E) where
 -- Plans under other names.
 
 pub named_raised : {M N R S T A C : Type 0} (name : M → N) (f : Left S A → Left T C) (plan : Plan M R S A)
-    → named name (raised f plan) ≡ raised f (named name plan)
+    → plan_named name (raised f plan) ≡ raised f (plan_named name plan)
 named_raised name f (Now left) = refl
 named_raised name f (Act lock m react) = refl
 
@@ -169,14 +169,14 @@ module _ {D E A B O : Type 0} (k : Kernel D A O) (j : Kernel E B O) (name : D �
   -- the threads move alike
   pub moves_renamed : (past : List (QueueEvent D)) → moves_in j (renamed_events name past) ≡ moves_in k past
   moves_renamed [] = refl
-  moves_renamed (e ∷ past) = λ i. step e.cpu (move_renamed past e.call i) ∷ moves_renamed past i
+  moves_renamed (e ∷ past) = λ i. step_with e.cpu (move_renamed past e.call i) ∷ moves_renamed past i
 
   allowed_renamed : (past : List (QueueEvent D)) (c : CpuId) (q : QueueCall D) → CallAllowed k past c q
       → CallAllowed j (renamed_events name past) c (renamed_call name q)
   allowed_renamed past c (queue.Push d t) may = transport (λ i. MayPush (sym homes i) (sym (moves_renamed past) i) c d t) may
   allowed_renamed past c (queue.TakeAll d) may = may
   allowed_renamed past c (queue.OnBuffer b d) may = record {
-    caller = transport (λ i. MayEdit (sym homes i) (sym (moves_renamed past) i) c (sym (callers d) i)) may.caller;
+    caller = transport (λ i. MayEditFor (sym homes i) (sym (moves_renamed past) i) c (sym (callers d) i)) may.caller;
     upper = subst (λ p. j.rules.allowed j.opening p (section c (Buffer b) (name d))) (sym (sections_renamed name past))
         (allowed (buffer_sections past) (section c (Buffer b) d) may.upper);
   }
@@ -254,13 +254,13 @@ module _ {D E A B O : Type 0} (k : Kernel D A O) (j : Kernel E B O) (name : D �
 
   -- Plans and actions.
 
-  by_renamed : (c : CpuId) (h : List CpuId) (own : Threads) (r : Option (QueueAnswer O)) → left_by k.moves h c own r ≡ left_by j.moves h c own r
-  by_renamed c h own (Some (told.Answer out)) = λ i. left (own_woken h c (sym woke i out) (own_slept (sym slept i out) own)) (Some (Answer out))
+  by_renamed : (c : CpuId) (h : List CpuId) (own : Threads) (r : Option (QueueAnswer O)) → sched_left_by k.moves h c own r ≡ sched_left_by j.moves h c own r
+  by_renamed c h own (Some (told.Answer out)) = λ i. sched_left (own_woken h c (sym woke i out) (own_slept (sym slept i out) own)) (Some (Answer out))
   by_renamed c h own r = refl
 
   -- the plan beneath is the plan here
   pub plan_renamed : (h : List CpuId) (c : CpuId) (s : SchedCall D) (own : Threads)
-      → named (renamed_edit name) (sched_plan k.moves h c s own) ≡ sched_plan j.moves h c (renamed_sched name s) own
+      → plan_named (renamed_edit name) (sched_plan k.moves h c s own) ≡ sched_plan j.moves h c (renamed_sched name s) own
   plan_renamed h c (call.Pass YieldNow) own = λ i. Act (Pending c) edit.TakeAll (λ r. by_renamed c h own r i)
   plan_renamed h c (call.Pass Drain) own = λ i. Act (Pending c) edit.TakeAll (λ r. by_renamed c h own r i)
   plan_renamed h c (call.Pass (MakeReady t)) own = λ i. Act (Pending (queue_for h c t)) (edit.Push t) (λ r. by_renamed c h own r i)
@@ -282,7 +282,7 @@ module _ {D E A B O : Type 0} (k : Kernel D A O) (j : Kernel E B O) (name : D �
   pub follows_named : {S T : Type 0} (ActsFor : CpuId → Type 0) (opening : LockId → Option (QueueBlock A)) (cpu : CpuId)
       (plan : Plan (QueueEdit D) (QueueAnswer O) S T)
       (old new : List (Action (QueueEdit D))) (got : Left S T) → Follows ActsFor (table_of (queue_rules k.rules k.moves)) opening cpu plan old new got
-      → Follows ActsFor (table_of (queue_rules j.rules j.moves)) (viewed view opening) cpu (named (renamed_edit name) plan)
+      → Follows ActsFor (table_of (queue_rules j.rules j.moves)) (viewed view opening) cpu (plan_named (renamed_edit name) plan)
       (map (renamed (renamed_edit name)) old) (map (renamed (renamed_edit name)) new) got
   follows_named ActsFor opening cpu (Now left) old new got follows = (ap (map (renamed (renamed_edit name))) follows.0, follows.1)
   follows_named ActsFor opening cpu (Act lock m react) old new got follows = record {

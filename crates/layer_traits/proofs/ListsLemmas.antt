@@ -6,7 +6,7 @@ use Rattle.{event_log.proofs.Same.{same_lock_self, same_lock_true}, layer_traits
 use Rattle.layer_traits.specs.declared.{moves.WaitList.TheVariants.Senders, sleeps.{Outcome.Outcome, Wake.{Wake, TheVariants.{Nobody, FirstSleeper, Receiver}}}}
 use Rattle.layer_traits.specs.{declared.sleeps.Wake.TheVariants.Sender, Threads.{ListsAgree.{same_list, is_at, Agrees}, MoveRules.{edit_move, section_moves}}}
 use Rattle.layer_traits.specs.Threads.{MoveRules.{slept_at, asleep_after, asleep_by}, Places.{WaitChannel, At, Moved, is_thread, is_wait_channel, one_if}}
-use Rattle.layer_traits.specs.{Threads.Places.count_in, Layers.Sleeping.{SleepRules, SleepState, joined, wait_list_joined, left, woken, wait_list_of}}
+use Rattle.layer_traits.specs.{Threads.Places.count_in, Layers.Sleeping.{SleepRules, SleepState, joined, wait_list_joined, left, woken_by, wait_list_of}}
 use Rattle.layer_traits.specs.Layers.Sleeping.{wait_list_at, answer_above, sleep_edited, sleep_answer, sleep_woke, wait_list_after, sleep_rules, sleep_moves}
 use Rattle.layer_traits.{specs.Layers.Sleeping.{NobodySleeps, IsAwake}, proofs.CountLemmas.{count_append, count_front, in_counted, is_thread_self, not_counted}}
 use Rattle.thread_blocks.{specs.Queues.{same_tid, is_in, first, rest, without}, proofs.Members.same_tid_true}
@@ -93,7 +93,7 @@ module _ (lock : LockId) (lines : WaitList → List Tid) (asleep : Tid → Optio
 
   -- the lists agree after these left
   left_agrees : (leave : Wake) → Agrees lock (λ line. left line leave (lines line))
-      (λ t. if is_thread t (woken leave (lines Sleepers) (lines Receivers) (lines Senders)) then None else asleep t)
+      (λ t. if is_thread t (woken_by leave (lines Sleepers) (lines Receivers) (lines Senders)) then None else asleep t)
   left_agrees Nobody Sleepers t = agrees Sleepers t
   left_agrees Nobody line t = agrees line t
   left_agrees FirstSleeper Sleepers t = first_left Sleepers t
@@ -104,7 +104,7 @@ module _ (lock : LockId) (lines : WaitList → List Tid) (asleep : Tid → Optio
   left_agrees (Sender u) line t = stays_there Senders line t _ (named_stood Senders t u) refl
 
   -- whom they wake sleeps at this lock
-  pub woken_asleep : (leave : Wake) (t : Tid) → is_thread t (woken leave (lines Sleepers) (lines Receivers) (lines Senders)) ≡ true
+  pub woken_asleep : (leave : Wake) (t : Tid) → is_thread t (woken_by leave (lines Sleepers) (lines Receivers) (lines Senders)) ≡ true
       → (line : WaitList) × (asleep t ≡ Some (At lock line))
   woken_asleep Nobody t is = absurd cc
   woken_asleep FirstSleeper t is = (Sleepers, stands_asleep Sleepers t (first_stood Sleepers t is))
@@ -138,7 +138,7 @@ module _ (lock : LockId) (lines : WaitList → List Tid) (asleep : Tid → Optio
     (awake : asleep caller ≡ None) (small : caller.0 < THREADS) (joins : Option WaitList) where
   -- whom the section wakes
   abbrev woke : Option Tid
-  woke = woken leave (lines Sleepers) (lines Receivers) (lines Senders)
+  woke = woken_by leave (lines Sleepers) (lines Receivers) (lines Senders)
 
   -- who is woken is not the caller
   both_ways : (t : Tid) (b : Bool) → is_thread t woke ≡ b → (if same_tid caller t then slept_at lock joins (if b then None else asleep t) else

@@ -10,35 +10,35 @@ use Rattle.layer_traits.specs.{declared.queues.{QueueCall.TheVariants.OnBuffer, 
 use Rattle.layer_traits.specs.{Threads.Places.{AreMoves, MayMove, MayPush, pending_after, pending_by}, Protocols.Protocol.{IsKnown, Rules, StaysAllowed}}
 use Rattle.layer_traits.specs.{Protocols.Protocol.section, Blocks.{QueueBlocks.{StartsAs, StartsWell, homes_in, inner, with_queue}, QueueRules.AreProper}}
 use Rattle.layer_traits.specs.{Blocks.QueueRules.{IsProper, IsProperCall, SectionAllowed, queue_answer, queue_edited, queue_rules}, Polling.Polls.MayPoll}
-use Rattle.layer_traits.specs.{Polling.Polls.Polled, Layers.{Sleeping.joined, Queues.{CallAllowed, call_move, IsKnownEvent, Kernel, MayQueue, QueueAllowed}}}
-use Rattle.layer_traits.specs.Layers.Queues.{QueuePolled, StaysCallable, answer_of, buffer_sections, call_at, edit_of, event, cpu_of_queue_event, event_of}
-use Rattle.layer_traits.{specs.{Layers.Queues.{kernel, lock_of, moves_in, out_at}, Laws.Openings.above_is}, proofs.CallLemmas.moves_lawful}
-use Rattle.layer_traits.proofs.{CountLemmas.same_cpu_sym, PlaceLemmas.pend_where, PlanRenaming.map-append}
+use Rattle.layer_traits.specs.{Polling.Polls.PolledAtLock, Layers.{Sleeping.joined, Queues.{CallAllowed, call_move, IsKnownEvent, Kernel, MayQueue}}}
+use Rattle.layer_traits.specs.Layers.Queues.{QueueAllowed, QueuePolled, StaysCallable, answer_of, buffer_sections, call_at, queue_edit_of, event}
+use Rattle.layer_traits.specs.{Layers.Queues.{cpu_of_queue_event, event_of, kernel, lock_of, moves_in, out_at}, Laws.Openings.above_is}
+use Rattle.layer_traits.proofs.{CallLemmas.moves_lawful, CountLemmas.same_cpu_sym, PlaceLemmas.pend_where, PlanRenaming.map-append}
 use Rattle.layer_traits.specs.declared.queue_edits.QueueBlock.TheVariants as block
 use Rattle.layer_traits.specs.declared.queue_edits.QueueEdit.TheVariants as edit
 
 -- A section is its call.
 
-pub call_at_of : {E : Type 0} (call : QueueCall E) → call_at (lock_of call) (edit_of call) ≡ call
+pub call_at_of : {E : Type 0} (call : QueueCall E) → call_at (lock_of call) (queue_edit_of call) ≡ call
 call_at_of call = grind arith
 
-edit_of_at : {E : Type 0} (lock : LockId) (x : QueueEdit E) → edit_of (call_at lock x) ≡ x
+edit_of_at : {E : Type 0} (lock : LockId) (x : QueueEdit E) → queue_edit_of (call_at lock x) ≡ x
 edit_of_at lock x = grind arith
 
 -- a call edits a block of its kind
-pub proper_of : {E : Type 0} (call : QueueCall E) → IsProper (lock_of call) (edit_of call)
+pub proper_of : {E : Type 0} (call : QueueCall E) → IsProper (lock_of call) (queue_edit_of call)
 proper_of call = ap lock_of (call_at_of call)
 
 -- the event of a call's section is the call's
-pub event_is : {E : Type 0} (c : CpuId) (call : QueueCall E) → event_of (section c (lock_of call) (edit_of call)) ≡ event c call
+pub event_is : {E : Type 0} (c : CpuId) (call : QueueCall E) → event_of (section c (lock_of call) (queue_edit_of call)) ≡ event c call
 event_is c call = ap (event c) (call_at_of call)
 
 -- a section of a block of its kind is that of its call
 pub section_is : {E : Type 0} (s : Section (QueueEdit E)) (c : CpuId) (call : QueueCall E) → IsProper s.lock s.edit → event_of s ≡ event c call
-    → s ≡ section c (lock_of call) (edit_of call)
+    → s ≡ section c (lock_of call) (queue_edit_of call)
 section_is s c call proper is =
     let at : s.lock ≡ lock_of call = sym proper ∙ ap (λ e. lock_of e.call) is in
-    let edits : s.edit ≡ edit_of call = sym (edit_of_at s.lock s.edit) ∙ ap (λ e. edit_of e.call) is in
+    let edits : s.edit ≡ queue_edit_of call = sym (edit_of_at s.lock s.edit) ∙ ap (λ e. queue_edit_of e.call) is in
     λ i. section (is i).cpu (at i) (edits i)
 
 pub others_events : {E : Type 0} (c : CpuId) (more : List (Section (QueueEdit E))) → AreOthers cpu_of_section c more
@@ -83,21 +83,21 @@ module _ {E B O : Type 0} (rules : Rules E B O) (mv : MoveRules E O) (opening : 
   -- a call that stays allowed is a section that does
   pub stays_section : (old : List (Section (QueueEdit E))) (c : CpuId) (call : QueueCall E)
       → StaysCallable (QueueAllowed beneath) (map event_of old) (event c call)
-      → StaysAllowed (SectionAllowed rules mv opening) old (section c (lock_of call) (edit_of call))
+      → StaysAllowed (SectionAllowed rules mv opening) old (section c (lock_of call) (queue_edit_of call))
   stays_section old c call stays = λ more others lawful.
       let joined : map event_of (more ++ old) ≡ map event_of more ++ map event_of old = map-append event_of more old in
       let allowed : CallAllowed beneath (map event_of more ++ map event_of old) c call
       = stays (map event_of more) (others_events c more others) (subst (IsLawful (QueueAllowed beneath)) joined (lawful_events (more ++ old) lawful)) in
       record {
         proper = proper_of call;
-        call = subst (λ l. CallAllowed beneath l c (call_at (lock_of call) (edit_of call))) (sym joined)
+        call = subst (λ l. CallAllowed beneath l c (call_at (lock_of call) (queue_edit_of call))) (sym joined)
             (subst (λ q. CallAllowed beneath (map event_of more ++ map event_of old) c q) (sym (call_at_of call)) allowed);
       }
 
   -- a call that may be polled is a section that may
   pub may_section : (old : List (Section (QueueEdit E))) (under : Option (Section (QueueEdit E))) (c : CpuId) (call : QueueCall E) → IsProperCall under
       → MayQueue (QueueAllowed beneath) (map event_of old) (option_map event_of under) (event c call)
-      → MayPoll (SectionAllowed rules mv opening) old under (section c (lock_of call) (edit_of call))
+      → MayPoll (SectionAllowed rules mv opening) old under (section c (lock_of call) (queue_edit_of call))
   may_section old None c call proper may = stays_section old c call may
   may_section old (Some s) c call proper may = section_is s c call proper may
 
@@ -214,7 +214,7 @@ module _ {E B O : Type 0} (rules : Rules E B O) (mv : MoveRules E O) (opening : 
 
       -- the answer of a section is that of its call
       pub answers_call : (log : List (Section (QueueEdit E))) → Lawful log → (call : QueueCall E) (answer : QueueAnswer O)
-          → option_map (queue_answer rules.answer (edit_of call)) (block_after (queue_edited rules.edited) opening (lock_of call) log) ≡ Some answer
+          → option_map (queue_answer rules.answer (queue_edit_of call)) (block_after (queue_edited rules.edited) opening (lock_of call) log) ≡ Some answer
           → answer_of beneath (map event_of log) call ≡ Some answer
       answers_call log lawful (Push d t) answer is = report_push (block_after (queue_edited rules.edited) opening (Pending d) log) t answer is
       answers_call log lawful (TakeAll d) answer is =
@@ -227,7 +227,7 @@ module _ {E B O : Type 0} (rules : Rules E B O) (mv : MoveRules E O) (opening : 
       -- a poll of a section is a poll of its call
       pub polled_event : (ActsFor Acts : CpuId → Type 0) → ((d : CpuId) → Acts d → ActsFor d)
           → (c : CpuId) (call : QueueCall E) (result : Option (QueueAnswer O)) (old new : List (Section (QueueEdit E))) → Lawful new
-          → Polled (queue_rules rules mv) opening ActsFor (section c (lock_of call) (edit_of call)) result old new
+          → PolledAtLock (queue_rules rules mv) opening ActsFor (section c (lock_of call) (queue_edit_of call)) result old new
           → QueuePolled beneath Acts (event c call) result (map event_of old) (map event_of new)
       polled_event ActsFor Acts weakens c call result old new lawful polled = record {
         others = map event_of polled.others;
@@ -239,15 +239,15 @@ module _ {E B O : Type 0} (rules : Rules E B O) (mv : MoveRules E O) (opening : 
           joined : map event_of (polled.others ++ old) ≡ map event_of polled.others ++ map event_of old
           joined = map-append event_of polled.others old
 
-          grown : (b : Bool) → map event_of (if b then section c (lock_of call) (edit_of call) ∷ (polled.others ++ old) else polled.others ++ old)
+          grown : (b : Bool) → map event_of (if b then section c (lock_of call) (queue_edit_of call) ∷ (polled.others ++ old) else polled.others ++ old)
               ≡ (if b then event c call ∷ (map event_of polled.others ++ map event_of old) else map event_of polled.others ++ map event_of old)
           grown true = λ i. event_is c call i ∷ joined i
           grown false = joined
 
           answers : (out : Option (QueueAnswer O))
-              → new ≡ (if is_some out then section c (lock_of call) (edit_of call) ∷ (polled.others ++ old) else polled.others ++ old)
+              → new ≡ (if is_some out then section c (lock_of call) (queue_edit_of call) ∷ (polled.others ++ old) else polled.others ++ old)
               → MatchOption out (Unit {0})
-              (λ answer. option_map (queue_answer rules.answer (edit_of call))
+              (λ answer. option_map (queue_answer rules.answer (queue_edit_of call))
               (block_after (queue_edited rules.edited) opening (lock_of call) (polled.others ++ old)) ≡ Some answer)
               → MatchOption out (Unit {0}) (λ answer. answer_of beneath (map event_of polled.others ++ map event_of old) call ≡ Some answer)
           answers None is told = tt

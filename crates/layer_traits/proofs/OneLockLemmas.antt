@@ -3,7 +3,7 @@ use Rattle.std.proofs.Common.{◌≡◌, ℕ, ◌+◌, ◌%◌, ◌^◌, ◌<◌
 use Rattle.std.proofs.Common.{refl, ap, sym, ◌∙◌, subst, arith}
 use Rattle.event_log.specs.declared.{ids.{CpuId.CpuId, LockId.LockId, TheConstants.CPUS}, events.Event.{Event, TheVariants.{Draw, Look, Free}}}
 use Rattle.event_log.specs.{Actions.{acts_of, gives, phase, spot_of}, History.{same_cpu, same_lock}, Sections.block_after, WordsLog.{IsLegalWords, MayFollow}}
-use Rattle.event_log.{specs.WordsLog.{Idle, Waiting, Holding, cpu_of_event, left_by, lock_phase, draws, frees, is_free}, proofs.Exclusion.{is_at, near}}
+use Rattle.event_log.{specs.WordsLog.{Idle, Waiting, Holding, cpu_of_event, left_by, lock_phase, draws, frees, is_free}, proofs.Exclusion.{is_at, spot_is_near}}
 use Rattle.event_log.proofs.{Same.{same_cpu_self, same_cpu_true, same_lock_self}, Observed.{TicketOf, phase_of}, Tickets.{gives_acts, legal_acts, one_inside}}
 use Rattle.{event_log.proofs.Tickets.{phase_acts, same_rests, lock_phase_other, ticket_at}, layer_traits.specs.declared.edits.Mark.Mark}
 use Rattle.layer_traits.specs.Protocols.{OneLock.{SomeoneInside, NobodyInside, HomeFits}, WordsProtocol.{edit_of, sections}}
@@ -36,7 +36,7 @@ serves_exactly log legal cpu lock ticket waiting served tells =
     let spot = spot_of cpu (acts_of edit_of log) in
     let has : ticket ≡ spot % 2 ^ 64 = subst (λ s. TicketOf s spot) waiting (ticket_at edit_of log legal cpu) in
     let count : gives lock (acts_of edit_of log) ≡ frees lock log = gives_acts edit_of lock log in
-    let close = near (acts_of edit_of log) acts cpu lock there in
+    let close = spot_is_near (acts_of edit_of log) acts cpu lock there in
     let ahead : frees lock log ≤ spot = subst (λ n. n ≤ spot) count close.0 in
     let behind : spot < frees lock log + CPUS = subst (λ n. spot < n + CPUS) count close.1 in
     tells spot ahead behind has ∙ sym (same_rests (frees lock log) spot (frees lock log % 2 ^ 64) ticket ahead behind refl has)
@@ -75,37 +75,37 @@ module _ {E B : Type 0} (edited : E → B → B) (opening : LockId → Option B)
   lock_stays e log not_freed was now (Some block) fits = (nobody_stays lock e log now fits.0, block_keeps e log not_freed ∙ fits.1)
 
   -- an event at another lock changes nothing here
-  pub elsewhere : (e : Event (Mark E)) (log : List (Event (Mark E))) → MayFollow log e → same_lock lock (event_lock e) ≡ false
+  pub home_elsewhere : (e : Event (Mark E)) (log : List (Event (Mark E))) → MayFollow log e → same_lock lock (event_lock e) ≡ false
       → (home : Option B) → HomeFits edited opening log lock home → HomeFits edited opening (e ∷ log) lock home
-  elsewhere (Draw cpu at ticket) log may other = lock_stays (Draw cpu at ticket) log refl (λ t h. absurd (cc (may.1, h))) (λ t h. absurd (cc h))
-  elsewhere (Look cpu at ticket read) log may other =
+  home_elsewhere (Draw cpu at ticket) log may other = lock_stays (Draw cpu at ticket) log refl (λ t h. absurd (cc (may.1, h))) (λ t h. absurd (cc h))
+  home_elsewhere (Look cpu at ticket read) log may other =
       lock_stays (Look cpu at ticket read) log refl (λ t h. absurd (cc (may.0, h))) (λ t h. not_entered lock at (read == ticket) t ticket other h)
-  elsewhere (Free cpu at mark) log may other =
+  home_elsewhere (Free cpu at mark) log may other =
       lock_stays (Free cpu at mark) log other (λ t h. not_here lock at t may.0 other (sym may.1 ∙ h)) (λ t h. absurd (cc h))
 
   -- a draw leaves the home as it is
-  pub drew : (cpu : CpuId) (ticket : ℕ) (log : List (Event (Mark E))) → lock_phase cpu log ≡ Idle → (home : Option B)
+  pub home_after_draw : (cpu : CpuId) (ticket : ℕ) (log : List (Event (Mark E))) → lock_phase cpu log ≡ Idle → (home : Option B)
       → HomeFits edited opening log lock home → HomeFits edited opening (Draw cpu lock ticket ∷ log) lock home
-  drew cpu ticket log outside = lock_stays (Draw cpu lock ticket) log refl (λ t h. absurd (cc (outside, h))) (λ t h. absurd (cc h))
+  home_after_draw cpu ticket log outside = lock_stays (Draw cpu lock ticket) log refl (λ t h. absurd (cc (outside, h))) (λ t h. absurd (cc h))
 
   -- and so does a look that misses
-  pub missed : (cpu : CpuId) (ticket read : ℕ) (log : List (Event (Mark E))) → lock_phase cpu log ≡ Waiting lock ticket → (read == ticket) ≡ false
+  pub home_after_miss : (cpu : CpuId) (ticket read : ℕ) (log : List (Event (Mark E))) → lock_phase cpu log ≡ Waiting lock ticket → (read == ticket) ≡ false
       → (home : Option B) → HomeFits edited opening log lock home → HomeFits edited opening (Look cpu lock ticket read ∷ log) lock home
-  missed cpu ticket read log waiting misses =
+  home_after_miss cpu ticket read log waiting misses =
       lock_stays (Look cpu lock ticket read) log refl (λ t h. absurd (cc (waiting, h)))
       (λ t h. absurd (cc (subst (λ b. (if b then Holding lock ticket else Waiting lock ticket) ≡ Holding lock t) misses h)))
 
   -- a look that hits leaves the home empty
-  pub hit : (cpu : CpuId) (ticket read : ℕ) (log : List (Event (Mark E))) → (read == ticket) ≡ true
+  pub home_after_hit : (cpu : CpuId) (ticket read : ℕ) (log : List (Event (Mark E))) → (read == ticket) ≡ true
       → HomeFits edited opening (Look cpu lock ticket read ∷ log) lock None
-  hit cpu ticket read log hits =
+  home_after_hit cpu ticket read log hits =
       (cpu, ticket, lock_phase_own (Look cpu lock ticket read) log ∙ ap (λ b. if b then Holding lock ticket else Waiting lock ticket) hits)
 
   -- a free brings the edited block home
-  pub freed : (cpu : CpuId) (ticket : ℕ) (mark : Mark E) (log : List (Event (Mark E))) → IsLegalWords log → lock_phase cpu log ≡ Holding lock ticket
+  pub home_after_free : (cpu : CpuId) (ticket : ℕ) (mark : Mark E) (log : List (Event (Mark E))) → IsLegalWords log → lock_phase cpu log ≡ Holding lock ticket
       → (block : B) → option_map (edited mark.edit) (block_after edited opening lock (sections log)) ≡ Some block
       → HomeFits edited opening (Free cpu lock mark ∷ log) lock (Some block)
-  freed cpu ticket mark log legal inside block is =
+  home_after_free cpu ticket mark log legal inside block is =
       (nobody, rw same_lock_self is)
     where
       nobody : NobodyInside lock (Free cpu lock mark ∷ log)
@@ -139,5 +139,5 @@ module _ {E B : Type 0} (edited : E → B → B) (opening : LockId → Option B)
   all_home log nobody None fits = absurd (nobody fits.0 fits.1 fits.2)
 
   -- before the first event the block is home
-  pub fresh : (block : B) → opening lock ≡ Some block → HomeFits edited opening [] lock (Some block)
-  fresh block is = (λ c t h. absurd (cc h), is)
+  pub home_at_start : (block : B) → opening lock ≡ Some block → HomeFits edited opening [] lock (Some block)
+  home_at_start block is = (λ c t h. absurd (cc h), is)

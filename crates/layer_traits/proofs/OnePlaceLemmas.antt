@@ -2,7 +2,7 @@
 use Rattle.std.proofs.Common.{◌≡◌, ℕ, zero, suc, ◌+◌, ◌<◌, ◌⊎◌, inl, inr, true, false, ◌&&◌, List, Option, Some, None, is_some, refl, ap, sym, ◌∙◌, arith}
 use Rattle.std.proofs.lemmas.Bool.{and_right, cases_eq, ne_eqb}
 use Rattle.{event_log.{specs.{declared.ids.{CpuId.CpuId, Tid.Tid}, History.same_cpu}, proofs.Same.same_cpu_self}, layer_traits.specs.Threads.OnePlace.total}
-use Rattle.layer_traits.specs.Threads.{OnePlace.{cpu_at, AllStand, OnePlace}, Places.{Step, Threads, Where, Home, Hand, Pend, Asleep, home_of, is_cpu}}
+use Rattle.layer_traits.specs.Threads.{OnePlace.{cpu_at, AllStand, OnePlace}, Places.{Step, Threads, Where, Home, Hand, IsPending, Asleep, home_of, is_cpu}}
 use Rattle.layer_traits.specs.Threads.Places.{is_thread, is_asleep, is_home, is_hand, is_pend, where_is, pending_by, one_if, count_in, copies}
 use Rattle.layer_traits.proofs.PlaceLemmas.{pend_home, away_known, hand_home, pend_count}
 
@@ -70,8 +70,8 @@ module _ (homes : List CpuId) (n : ℕ) (moves : List Step) (own : ℕ → Threa
   placed (Hand d) is =
       let some = hand_home homes moves t d all.moves_are is in
       omega (arith, away (Hand d) refl, known (ap is_home is), one_cpu d n (all.homes_within some.0 d some.1), nowhere)
-  placed (Pend d) is =
-      omega (arith, away (Pend d) refl, known (ap is_home is), one_cpu d n (all.homes_within t d (pend_home homes moves t d all.moves_are is)), nowhere)
+  placed (IsPending d) is =
+      omega (arith, away (IsPending d) refl, known (ap is_home is), one_cpu d n (all.homes_within t d (pend_home homes moves t d all.moves_are is)), nowhere)
   placed (Asleep p) is = omega (arith, away (Asleep p) refl, known (ap is_home is), nowhere)
 
 pub one_place : OnePlace

@@ -4,12 +4,12 @@ use Rattle.std.proofs.Common.{◌≡◌, ◌≢◌, ℕ, zero, suc, ◌+◌, ◌
 use Rattle.std.proofs.{Common.{if◌then◌else◌, refl, ap, sym, ◌∙◌, arith, zero-add, slice_get}, lemmas.Bool.and_parts}
 use Rattle.event_log.{specs.{declared.ids.{CpuId.CpuId, LockId.LockId, Tid.Tid}, History.{same_cpu, AreOthers}}, proofs.Same.{same_cpu_self, same_cpu_true}}
 use Rattle.{thread_blocks.{specs.Queues.{same_tid, is_in}, proofs.Members.same_tid_true}, layer_traits.specs.declared.moves.WaitList.WaitList}
-use Rattle.layer_traits.specs.Threads.{Passes.{as_list, or_else, switched, took, passed_on, finished, own_slept, own_woken}, Places.{home_of, is_cpu}}
-use Rattle.layer_traits.specs.Threads.Places.{is_thread, WaitChannel, At, Where, Home, Hand, Pend, Asleep, Move, Pushed, Took, Moved, Still, Step, step}
-use Rattle.layer_traits.specs.Threads.Places.{cpu_of_step, where_woken, where_taken, where_slept, where_after, where_is, is_asleep, is_home, is_hand, is_pend}
-use Rattle.layer_traits.specs.Threads.Places.{pending_after, pending_by, MayMove, AreMoves, Threads, one_if, count_in, copies, is_here, Stands, homed, at_boot}
-use Rattle.layer_traits.proofs.CountLemmas.{same_tid_sym, same_cpu_sym, is_cpu_true, is_cpu_of, is_cpu_other, is_thread_self, count_append, count_as_list}
-use Rattle.layer_traits.proofs.CountLemmas.{count_front, in_counted, not_counted}
+use Rattle.layer_traits.specs.Threads.{Passes.{as_list, or_else, switched, took_pending, passed_on, finished, own_slept, own_woken}, Places.{home_of, is_cpu}}
+use Rattle.layer_traits.specs.Threads.Places.{is_thread, WaitChannel, At, Where, Home, Hand, IsPending, Asleep, Move, Pushed, Took, Moved, Still, Step}
+use Rattle.layer_traits.specs.Threads.Places.{step_with, cpu_of_step, where_woken, where_taken, where_slept, where_after, where_is, is_asleep, is_home, is_hand}
+use Rattle.layer_traits.specs.Threads.Places.{is_pend, pending_after, pending_by, MayMove, AreMoves, Threads, one_if, count_in, copies, is_here, Stands, homed}
+use Rattle.layer_traits.{specs.Threads.Places.at_boot, proofs.CountLemmas.{same_tid_sym, same_cpu_sym, is_cpu_true, is_cpu_of, is_cpu_other, is_thread_self}}
+use Rattle.layer_traits.proofs.CountLemmas.{count_append, count_as_list, count_front, in_counted, not_counted}
 
 -- What a move may do to a place.
 
@@ -26,13 +26,13 @@ taken_hand : (c d : CpuId) (w : Where) → is_hand d w ≡ is_hand d (where_take
 taken_hand c d w = grind arith
 
 -- who was pending in the queue of its home is at home after a taking
-taken_here : (c : CpuId) (home : Option CpuId) (w : Where) → ((d : CpuId) → w ≡ Pend d → home ≡ Some d)
+taken_here : (c : CpuId) (home : Option CpuId) (w : Where) → ((d : CpuId) → w ≡ IsPending d → home ≡ Some d)
     → one_if (is_cpu c home && is_home w) + one_if (is_pend c w) ≡ one_if (is_cpu c home && is_home (where_taken c w))
 taken_here c home w at = grind (arith, same_cpu_sym)
 
 -- a push from a hand puts its thread into the queue once
 pushed_count : (c d e : CpuId) (t u : Tid) (queue : List Tid) (w : Where) → (same_tid u t ≡ true → w ≡ Hand c) → count_in t queue ≡ one_if (is_pend d w)
-    → count_in t (if same_cpu e d then queue ++ u ∷ [] else queue) ≡ one_if (is_pend d (if same_tid u t then Pend e else w))
+    → count_in t (if same_cpu e d then queue ++ u ∷ [] else queue) ≡ one_if (is_pend d (if same_tid u t then IsPending e else w))
 pushed_count c d e t u queue w held before = grind (arith, count_append, same_tid_sym)
 
 -- a woken thread is in no queue, and in no hand but the waker's
@@ -47,8 +47,8 @@ woken_elsewhere : (c d : CpuId) (home : Option CpuId) → same_cpu c d ≡ false
     → (is_hand d (where_woken c home) ≡ false) × ((is_cpu d home && is_home (where_woken c home)) ≡ (is_cpu d home && false))
 woken_elsewhere c d home other = grind (arith, is_cpu_other)
 
-is_pend_true : (d : CpuId) (w : Where) → is_pend d w ≡ true → w ≡ Pend d
-is_pend_true d (Pend q) is = ap Pend (same_cpu_true q d is)
+is_pend_true : (d : CpuId) (w : Where) → is_pend d w ≡ true → w ≡ IsPending d
+is_pend_true d (IsPending q) is = ap IsPending (same_cpu_true q d is)
 is_pend_true d w is = absurd cc
 
 pub is_hand_true : (d : CpuId) (w : Where) → is_hand d w ≡ true → w ≡ Hand d
@@ -119,32 +119,32 @@ module _ (homes : List CpuId) where
   -- to sleep at home
   pub view_step : (past : List Step) (c : CpuId) (move : Move) (t : Tid) (P : Where → Where → Type 0)
       → MayMove homes past c move → ((w : Where) → P w w)
-      → ((home : CpuId) → home_of homes t ≡ Some home → P (Hand c) (Pend home))
-      → (where_is homes past t ≡ Pend c → P (Pend c) Home)
+      → ((home : CpuId) → home_of homes t ≡ Some home → P (Hand c) (IsPending home))
+      → (where_is homes past t ≡ IsPending c → P (IsPending c) Home)
       → ((u : Tid) → home_of homes u ≡ Some c → (p : WaitChannel) → P (Asleep p) (where_woken c (home_of homes t)))
       → (home_of homes t ≡ Some c → (p : WaitChannel) → P Home (Asleep p))
       → P (where_is homes past t) (where_after homes c move t (where_is homes past t))
   view_step past c (Pushed d u) t P may stays pushes takes wakes sleeps = go (same_tid u t) refl
     where
-      go : (b : Bool) → same_tid u t ≡ b → P (where_is homes past t) (if b then Pend d else where_is homes past t)
+      go : (b : Bool) → same_tid u t ≡ b → P (where_is homes past t) (if b then IsPending d else where_is homes past t)
       go false other = stays (where_is homes past t)
       go true same = let one = same_tid_true u t same in rw (rw one at may.held) (pushes d (rw one at may.home))
   view_step past c (Took d) t P may stays pushes takes wakes sleeps = rw may (go (where_is homes past t) refl)
     where
-      queued : (q : CpuId) → where_is homes past t ≡ Pend q → (b : Bool) → same_cpu c q ≡ b → P (Pend q) (if b then Home else Pend q)
-      queued q is false other = stays (Pend q)
-      queued q is true same = let one = same_cpu_true c q same in rw (← one) (takes (is ∙ ap Pend (sym one)))
+      queued : (q : CpuId) → where_is homes past t ≡ IsPending q → (b : Bool) → same_cpu c q ≡ b → P (IsPending q) (if b then Home else IsPending q)
+      queued q is false other = stays (IsPending q)
+      queued q is true same = let one = same_cpu_true c q same in rw (← one) (takes (is ∙ ap IsPending (sym one)))
 
       go : (w : Where) → where_is homes past t ≡ w → P w (where_taken c w)
-      go (Pend q) is = queued q is (same_cpu c q) refl
+      go (IsPending q) is = queued q is (same_cpu c q) refl
       go w is = stays w
   view_step past c (Moved lock caller slept woke) t P may stays pushes takes wakes sleeps = view_moved past c lock caller slept woke t P may stays wakes sleeps
   view_step past c Still t P may stays pushes takes wakes sleeps = stays (where_is homes past t)
 
   -- who is pending is so at home
-  pub pend_home : (moves : List Step) (t : Tid) (d : CpuId) → AreMoves homes moves → where_is homes moves t ≡ Pend d → home_of homes t ≡ Some d
+  pub pend_home : (moves : List Step) (t : Tid) (d : CpuId) → AreMoves homes moves → where_is homes moves t ≡ IsPending d → home_of homes t ≡ Some d
   pend_home [] t d legal is = absurd cc
-  pend_home (s ∷ past) t d legal is = view_step past s.cpu s.move t (λ w after. (w ≡ Pend d → home_of homes t ≡ Some d) → after ≡ Pend d
+  pend_home (s ∷ past) t d legal is = view_step past s.cpu s.move t (λ w after. (w ≡ IsPending d → home_of homes t ≡ Some d) → after ≡ IsPending d
       → home_of homes t ≡ Some d)
       legal.0 (λ w before. before)
       (λ home is_home before now. is_home ∙ ap Some (let one : home ≡ d = cc in one))
@@ -179,8 +179,8 @@ module _ (homes : List CpuId) where
 
   -- moves of others leave alone who stands in a CPU's hand and who stands at home with it
   step_keeps : (d : CpuId) (past : List Step) (c : CpuId) (move : Move) (t : Tid) → AreMoves homes past → MayMove homes past c move → same_cpu c d ≡ false
-      → (is_hand d (where_is homes (step c move ∷ past) t) ≡ is_hand d (where_is homes past t))
-      × (is_here homes d (step c move ∷ past) t ≡ is_here homes d past t)
+      → (is_hand d (where_is homes (step_with c move ∷ past) t) ≡ is_hand d (where_is homes past t))
+      × (is_here homes d (step_with c move ∷ past) t ≡ is_here homes d past t)
   step_keeps d past c move t legal may other =
       view_step past c move t (λ w after. (is_hand d after ≡ is_hand d w)
       × ((is_cpu d (home_of homes t) && is_home after) ≡ (is_cpu d (home_of homes t) && is_home w)))
@@ -227,7 +227,8 @@ module _ (homes : List CpuId) where
           may (λ w was. was) (λ u home p was. was ∙ sym (ap one_if (woken_pending s.cpu d (home_of homes t)))) (λ home p was. was) before
       go Still may before = before
 
-  pub pend_where : (moves : List Step) → AreMoves homes moves → (d : CpuId) (t : Tid) → is_in t (pending_by moves d) ≡ true → where_is homes moves t ≡ Pend d
+  pub pend_where : (moves : List Step) → AreMoves homes moves → (d : CpuId) (t : Tid) → is_in t (pending_by moves d) ≡ true
+      → where_is homes moves t ≡ IsPending d
   pend_where moves legal d t is =
       let counts = pend_count moves legal d t in
       let some = in_counted t (pending_by moves d) is in
@@ -269,18 +270,18 @@ module _ (homes : List CpuId) where
         let pends = pend_count moves legal c t ∙ ap (λ w. one_if (is_pend c w)) at.1 in
         not_counted t (own.ready ++ pending_by moves c) (omega (arith, count_append t own.ready (pending_by moves c), pends, at.2))
 
-    pub stands_taken : Stands homes c (step c (Took c) ∷ moves) (took (pending_by moves c) own)
+    pub stands_taken : Stands homes c (step_with c (Took c) ∷ moves) (took_pending (pending_by moves c) own)
     stands_taken = record {
       places = λ t. copied t ∙ taken_here c (home_of homes t) (where_is homes moves t) (λ d. pend_home moves t d legal);
       hand = λ t. stands.hand t ∙ taken_hand c c (where_is homes moves t);
     }
       where
-        copied : (t : Tid) → copies (took (pending_by moves c) own) t ≡ one_if (is_here homes c moves t) + one_if (is_pend c (where_is homes moves t))
+        copied : (t : Tid) → copies (took_pending (pending_by moves c) own) t ≡ one_if (is_here homes c moves t) + one_if (is_pend c (where_is homes moves t))
         copied t =
             let outer = count_append t (own.ready ++ pending_by moves c) (as_list own.current) in
             omega (arith, outer, count_append t own.ready (pending_by moves c), count_as_list t own.current, stands.places t, pend_count moves legal c t)
 
-    pub stands_pushed : (d : CpuId) (u : Tid) → own.hand ≡ Some u → Stands homes c (step c (Pushed d u) ∷ moves) (passed_on own)
+    pub stands_pushed : (d : CpuId) (u : Tid) → own.hand ≡ Some u → Stands homes c (step_with c (Pushed d u) ∷ moves) (passed_on own)
     stands_pushed d u held = record {
       places = λ t. grind (arith, stands.places t, hand_at u held, same_tid_true);
       hand = λ t. grind (arith, stands.hand t, held);
@@ -300,7 +301,7 @@ module _ (homes : List CpuId) where
 
     pub stands_moved : (lock : LockId) (caller : Tid) (slept : Option WaitList) (woke : Option Tid) → MayMove homes moves c (Moved lock caller slept woke)
         → own.current ≡ Some caller → own.hand ≡ None
-        → Stands homes c (step c (Moved lock caller slept woke) ∷ moves) (own_woken homes c woke (own_slept slept own))
+        → Stands homes c (step_with c (Moved lock caller slept woke) ∷ moves) (own_woken homes c woke (own_slept slept own))
     stands_moved lock caller slept woke may runs empty = record {
       places = λ t. woken_copies homes c (own_slept slept own) t (if same_tid caller t then where_slept lock slept (where_is homes moves t)
           else where_is homes moves t) woke (sleeper_away (where_is homes moves) lock caller t slept woke may.0.at_home may.1)

@@ -5,7 +5,7 @@ use Rattle.{event_log.specs.declared.ids.{CpuId.CpuId, Tid.Tid}, layer_traits.sp
 use Rattle.layer_traits.specs.{declared.{call_layers.CallLayer.Ghosts, call_states.{Stage.Stage, CallState.CallState}}, Blocks.Capacities.caps_in}
 use Rattle.layer_traits.specs.Layers.BufferLaw.{BufferPlan, Buffering, Calling, IsEffectOf, MayGoOn, MayPollCall, UnderWay, begun_at, begun_of, buffer_of}
 use Rattle.layer_traits.specs.{Layers.BufferLaw.{call_state_of, going, going_at, still_calling}, Views.OwnParts.threads_in, Polling.Framed.Framed}
-use Rattle.layer_traits.specs.Polling.{LayerPolls.{IsQuietAt, LookedAt, PolledAt, PolledOnAt}, PollRuns.{once, again, looks}}
+use Rattle.layer_traits.specs.Polling.{LayerPolls.{IsBegunAt, LookedAt, PolledAt, PolledOnAt}, PollRuns.{once, again, looks}}
 
 -- a call that has begun goes on as it is
 going_begun_at : (stage : Stage) (call_state : CallState) (call : Call) → begun_at stage call_state.call ≡ Some call
@@ -77,12 +77,12 @@ module _ {P L M : Type 0} (I : Ghosts P L M) (plan : ℕ → List CpuId → CpuI
   }
 
   -- a run keeps the frame of each of its actions
-  pub kept : (p : P) (m : M) (actions : ℕ) (q : P) (n : M) (told : Option ReplyKind) → PolledOnAt I plan t call p m actions q n told → Kept p m actions q n
-  kept p m _ q n told (once polled) = kept_by p q m n polled.framed
-  kept p m _ r o told (again {k = k} {q = q} {n = n} run quiet polled) =
-      kept_on k (kept p m k q n None run) (kept_by q r n o polled.framed)
-  kept p m _ r o _ (looks {k = k} {q = q} {n = n} run quiet looked) =
-      kept_on k (kept p m k q n None run) (kept_by q r n o looked.framed)
+  pub run_kept : (p : P) (m : M) (actions : ℕ) (q : P) (n : M) (told : Option ReplyKind) → PolledOnAt I plan t call p m actions q n told → Kept p m actions q n
+  run_kept p m _ q n told (once polled) = kept_by p q m n polled.framed
+  run_kept p m _ r o told (again {k = k} {q = q} {n = n} run quiet polled) =
+      kept_on k (run_kept p m k q n None run) (kept_by q r n o polled.framed)
+  run_kept p m _ r o _ (looks {k = k} {q = q} {n = n} run quiet looked) =
+      kept_on k (run_kept p m k q n None run) (kept_by q r n o looked.framed)
 
   -- the call is under way
   pub record IsOn (q : P) : Type 0 where
@@ -121,7 +121,7 @@ module _ {P L M : Type 0} (I : Ghosts P L M) (plan : ℕ → List CpuId → CpuI
   -- so far nothing was done, or the call was quiet
   pub data SoFar (p : P) (m : M) : ℕ → P → M → Type 0 where
     nothing_yet : SoFar p m 0 p m
-    quiet_yet : {k : ℕ} {q : P} {n : M} → 0 < k → PolledOnAt I plan t call p m k q n None → IsQuietAt I plan t call p q → SoFar p m k q n
+    quiet_yet : {k : ℕ} {q : P} {n : M} → 0 < k → PolledOnAt I plan t call p m k q n None → IsBegunAt I plan t call p q → SoFar p m k q n
 
   -- then the call may be polled again
   pub may_poll : (p : P) (m : M) (actions : ℕ) (q : P) (n : M) → SoFar p m actions q n → MayPoll p m → MayPoll q n
@@ -129,7 +129,7 @@ module _ {P L M : Type 0} (I : Ghosts P L M) (plan : ℕ → List CpuId → CpuI
   may_poll p m _ q n (quiet_yet {k = k} some run quiet) may =
       let on = is_on p m k q n run quiet.runs in
       record {
-        fits = (kept p m k q n None run).fits;
+        fits = (run_kept p m k q n None run).fits;
         runs = quiet.runs;
         hand = λ none. absurd (cc (none, on.under_way));
         same = may_go_on (call_state_of (I.own q).call_states t) call on.begun;
@@ -137,9 +137,9 @@ module _ {P L M : Type 0} (I : Ghosts P L M) (plan : ℕ → List CpuId → CpuI
       }
 
   -- the room that is left, and the opening blocks
-  pub left : (p : P) (m : M) (actions : ℕ) (q : P) (n : M) → SoFar p m actions q n → (I.room m ≤ I.room n + actions) × (I.opening n ≡ I.opening m)
-  left p m _ _ _ nothing_yet = (omega arith, refl)
-  left p m _ q n (quiet_yet {k = k} some run quiet) = let k = kept p m k q n None run in (k.room, k.opening)
+  pub run_left : (p : P) (m : M) (actions : ℕ) (q : P) (n : M) → SoFar p m actions q n → (I.room m ≤ I.room n + actions) × (I.opening n ≡ I.opening m)
+  run_left p m _ _ _ nothing_yet = (omega arith, refl)
+  run_left p m _ q n (quiet_yet {k = k} some run quiet) = let k = run_kept p m k q n None run in (k.room, k.opening)
 
   -- one more poll, and one more look
   pub one_more : (p : P) (m : M) (actions : ℕ) (q : P) (n : M) (r : P) (o : M) (told : Option ReplyKind) → SoFar p m actions q n
@@ -154,7 +154,7 @@ module _ {P L M : Type 0} (I : Ghosts P L M) (plan : ℕ → List CpuId → CpuI
   one_look p m _ q n r o (quiet_yet some run quiet) more looked = looks run quiet looked
 
   pub quiet_after_look : (p : P) (m : M) (actions : ℕ) (q : P) (n : M) (r : P) (o : M) → SoFar p m actions q n → 0 < actions → LookedAt I plan true q n r o
-      → IsQuietAt I plan t call p r
+      → IsBegunAt I plan t call p r
   quiet_after_look p m _ _ _ r o nothing_yet some looked = absurd (omega arith)
   quiet_after_look p m _ q n r o (quiet_yet some run quiet) more looked = record {
     runs = ap (λ (o : Buffering). (threads_in o).current) looked.own ∙ quiet.runs;
@@ -172,7 +172,7 @@ module _ {P L M : Type 0} (I : Ghosts P L M) (plan : ℕ → List CpuId → CpuI
   pub quiet_after_poll : (p : P) (m : M) (actions : ℕ) (q : P) (n : M) (r : P) (o : M) → SoFar p m actions q n → PolledAt I plan t call q n r o None
       → (threads_in (I.own r)).current ≢ None
       → is_some (call_state_of (I.own r).call_states t).effect ≡ is_some (going (call_state_of (I.own p).call_states t) call).effect
-      → IsQuietAt I plan t call p r
+      → IsBegunAt I plan t call p r
   quiet_after_poll p m actions q n r o so_far polled runs same =
       let found = there q r n o polled in
       let called = polled.called found in

@@ -2,8 +2,8 @@
 use Rattle.std.proofs.Common.{◌≡◌, List, ◌++◌, Option, Some, None, IsSome, is_some, option_map, refl, ap, sym, ◌∙◌, subst, arith}
 use Rattle.{event_log.specs.declared.ids.{BufId.BufId, CpuId.CpuId, Tid.Tid}, layer_traits.specs.declared.queues.QueueEvent.QueueEvent}
 use Rattle.layer_traits.specs.{declared.{scheds.SchedAnswer.{SchedAnswer, TheVariants.{Done, Answer}}, sleeps.Outcome.Outcome}, Threads.Places.Threads}
-use Rattle.layer_traits.specs.Layers.{Queues.{Kernel, out_at}, Scheds.{SchedPolled, own_answered}, SleepLaw.{Sleeping, SleepPolled, Waits, Does, Sends, due}}
-use Rattle.layer_traits.specs.Layers.SleepLaw.{done_if, left_done, left_reported}
+use Rattle.layer_traits.specs.Layers.{Queues.{Kernel, out_at}, Scheds.{SchedPolled, own_answered}, SleepLaw.{Sleeping, SleepPolled, WaitsStill, Does}}
+use Rattle.layer_traits.specs.Layers.SleepLaw.{SendsHome, due, done_if, left_done, left_reported}
 
 -- an outcome is kept exactly while a thread stands in the hand
 abbrev pub HandDefers : {O : Type 0} → Option Tid → Option (Outcome O) → Type 0
@@ -28,7 +28,7 @@ module _ {E B O : Type 0} (k : Kernel E B (Outcome O)) (b : BufId) (e : E) where
   sleep_polled ActsFor c old new own own' hand deferred None in_hand is_deferred fits polled = record {
     others = polled.others;
     foreign = polled.foreign;
-    poll_result = Waits;
+    poll_result = WaitsStill;
     may = tt;
     is = polled.is;
     leaves = λ i. record { own = record { threads = polled.after i; deferred = sym is_deferred i }; answer = None };
@@ -47,7 +47,7 @@ module _ {E B O : Type 0} (k : Kernel E B (Outcome O)) (b : BufId) (e : E) where
   sleep_polled ActsFor c old new own own' (Some t) (Some outcome) (Some Done) in_hand is_deferred fits polled = record {
     others = polled.others;
     foreign = polled.foreign;
-    poll_result = Sends t;
+    poll_result = SendsHome t;
     may = (subst (λ o. IsSome o) (sym is_deferred) refl, in_hand);
     is = polled.is;
     leaves = λ i. record { own = record { threads = polled.after i; deferred = None }; answer = sym is_deferred i };

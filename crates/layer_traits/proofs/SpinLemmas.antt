@@ -66,9 +66,9 @@ module _ {M : Type 0} (cpu : CpuId) (lock : LockId) (ticket read : ℕ) (old : L
   word_peeked read_here (suc looks) past = word_peeked read_here looks past
 
   -- looks, told as peeks
-  pub peeked : (looks : ℕ) → as_grants (replicate looks (Look cpu lock ticket read) ++ old) ≡ replicate looks (Peek cpu lock ticket shown) ++ as_grants old
-  peeked zero = refl
-  peeked (suc looks) =
-      let rest = peeked looks in
+  pub as_peeks : (looks : ℕ) → as_grants (replicate looks (Look cpu lock ticket read) ++ old) ≡ replicate looks (Peek cpu lock ticket shown) ++ as_grants old
+  as_peeks zero = refl
+  as_peeks (suc looks) =
+      let rest = as_peeks looks in
       ap (λ l. Peek cpu lock ticket (grant_word lock (ticket % CPUS) l) ∷ l) rest
       ∙ ap (λ n. Peek cpu lock ticket n ∷ replicate looks (Peek cpu lock ticket shown) ++ as_grants old) (word_peeked shown looks (as_grants old))

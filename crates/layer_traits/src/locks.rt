@@ -4,7 +4,7 @@
 
 ghost use Rattle.std.specs.Prelude.{◌≡◌, IsSome, is_some};
 ghost use Rattle.{event_log.specs.Sections.{Section, cpu_of_section, sections_in}, layer_traits.specs.{Protocols.Protocol.section, Polling.Plans.section_plan}};
-ghost use Rattle.layer_traits.specs.Polling.{Plans.table_of, Polls.{MayPoll, Polled, until_answered}};
+ghost use Rattle.layer_traits.specs.Polling.{Plans.table_of, Polls.{MayPoll, PolledAtLock, until_answered}};
 
 use crate::edits::SplitEdit;
 use crate::layers::{Law, Layer};
@@ -78,7 +78,7 @@ impl<E: SplitEdit> Law for LockLaw<E> {
 
     ghost LeavesBegun = { λ cpu call payload result begun. begun ≡ until_answered result (section cpu call.lock (E.meant call.edit payload)) };
 
-    ghost Polled = { λ opening ActsFor cpu call payload told old new own own' begun. Polled E.rules opening ActsFor
+    ghost Polled = { λ opening ActsFor cpu call payload told old new own own' begun. PolledAtLock E.rules opening ActsFor
         (section cpu call.lock (E.meant call.edit payload)) told old new };
 
     ghost IsPrompt = { λ _ _ result _ _. IsSome result };

@@ -3,11 +3,11 @@
 //! No call takes memory, and none waits.
 
 ghost use Rattle.std.specs.Prelude.{◌≡◌, ◌≤◌, [], IsSome, None, length, map};
-ghost use Rattle.layer_traits.specs.Layers.{QLocking.{LockState, AreAtRest, lock_after, lock_caller, lock_moves, lock_rules}, QLockLaw.{Locking, at_start}};
-ghost use Rattle.layer_traits.specs.Layers.QLockLaw.{LockAgrees, LockPolled, MayCallLock, MustWait, lock_kernel, lock_plan, slept_for, is_handed};
-ghost use Rattle.layer_traits.specs.Layers.{QLockLaw.lock_pass_plan, Queues.{QueueAllowed, buffer_sections, cpu_of_queue_event, event_of, moves_in}};
-ghost use Rattle.layer_traits.specs.{Layers.{Scheds.SchedPolled, SleepLaw.done_if}, Views.Owned.wait_list_under, Blocks.Payloads.{lock_meant, lock_told}};
-ghost use Rattle.layer_traits.specs.Blocks.{Payloads.outcome_told, QueueBlocks.{StartsWell, homes_in, inner}, QueueRules.{AreProper, queue_rules}};
+ghost use Rattle.layer_traits.specs.Layers.{QLocking.{LockState, AreAtRest, lock_after, lock_caller, lock_moves, lock_rules}, QLockLaw.Locking};
+ghost use Rattle.layer_traits.specs.Layers.QLockLaw.{locking_at_start, LockAgrees, LockPolled, MayCallLock, MustWait, lock_kernel, lock_plan, slept_for};
+ghost use Rattle.layer_traits.specs.Layers.{QLockLaw.{is_handed, lock_pass_plan}, Queues.{QueueAllowed, buffer_sections, cpu_of_queue_event, event_of}};
+ghost use Rattle.layer_traits.specs.{Layers.{Queues.moves_in, Scheds.SchedPolled, SleepLaw.done_if}, Views.Owned.wait_list_under, Blocks.Payloads.lock_meant};
+ghost use Rattle.layer_traits.specs.Blocks.{Payloads.{lock_told, outcome_told}, QueueBlocks.{StartsWell, homes_in, inner}, QueueRules.{AreProper, queue_rules}};
 ghost use Rattle.{layer_traits.specs.{Threads.Places.{AreMoves, pending_by}, Polling.Plans.table_of}, event_log.specs.declared.ids.LockId.TheVariants.Buffer};
 ghost use Rattle.event_log.specs.{declared.ids.{LockId.TheVariants.Pending, TheConstants.THREADS}, Sections.sections_in};
 ghost use Rattle.layer_traits.specs.declared.scheds.SchedCall.TheVariants as sched;
@@ -42,7 +42,7 @@ pub struct LockingOf<O> {
 impl<O> Model for LockingOf<O> {
     ghost Value = { Locking O };
 
-    ghost view = { λ _. at_start [] (record { 0 = 0 }) };
+    ghost view = { λ _. locking_at_start [] (record { 0 = 0 }) };
 }
 
 /// The law of queuing locks (Gu et al., OSDI 2016): each buffer's lock has an owner. An Acquire of a
@@ -87,7 +87,7 @@ impl<F: Locked> Law for QLockLaw<F> {
 
     ghost AreHomes = { λ homes. length homes ≤ THREADS };
 
-    ghost at_boot = { at_start };
+    ghost at_boot = { locking_at_start };
 
     ghost Boots = { λ opening seen homes cpu. (seen ≡ []) × (homes_in opening ≡ homes) × IsSome (opening (Pending cpu)) × AreAtRest (inner opening) };
 

@@ -6,7 +6,7 @@ use Rattle.clap.specs.{Simple.{HasMatchesOf, app_of, is_simple, subcommand_of, s
 use Rattle.clap.specs.{Walk.{first_of, rows_of}, declared.{builder.command.Command.{Command, TheViews.out-Command}, error.Error.Error}}
 use Rattle.clap.specs.declared.{error.kind.ErrorKind.TheVariants.OutOfMemory, parser.matches.{ArgMatches.ArgMatches, Found.Found}}
 use Rattle.clap.proofs.{OnLiterals.clap_on_literals, ValueTestLemmas.{accepts-Accepts, Accepts-accepts}, WalkLemmas.first_value-rows}
-use Rattle.mctower.specs.Line.{Parses, faults_of, found_in, is_faultless, is_taken, lock_asked, run_in, Ghost, run, number_at, number_in, program}
+use Rattle.mctower.specs.Line.{Parses, faults_of, found_in, is_faultless, is_taken, lock_asked, run_in, Ghost, run, option_number, number_in, program}
 use Rattle.clap.specs.declared.builder.value_parser.ValueParser.TheVariants as vp
 
 abbrev pub Text : Type 0
@@ -34,7 +34,7 @@ number_refused least most text none = go (is_unsigned_in least most text) refl w
 -- the number of an option is the one of its first value
 pub number_found : (least most : ℕ) (name : Text) (found : Found) (text : Option Text)
     → text ≡ first_value found name
-    → option_and_then (number_in least most) text ≡ number_at least most name (rows_of found)
+    → option_and_then (number_in least most) text ≡ option_number least most name (rows_of found)
 number_found least most name found text e = ap (option_and_then (number_in least most)) (e ∙ first_value-rows found name)
 
 -- the schedule of `run` is its option's first value
@@ -50,9 +50,9 @@ lock_found found text e = ap lock_asked (e ∙ first_value-rows found (codes "lo
 -- ---- the program's commands
 
 -- what a program with one command more reads
-pub grown : (old sub new : Command) (a b : App) → AddsSubcommand old sub new → app_of old ≡ a → app_of sub ≡ b
+pub program_grown : (old sub new : Command) (a b : App) → AddsSubcommand old sub new → app_of old ≡ a → app_of sub ≡ b
     → (out-Command sub).has_globals ≡ false → app_of new ≡ with_subcommand a b.top
-grown old sub new a b adds above below local =
+program_grown old sub new a b adds above below local =
     adds.shape local ∙ ap₂ with_subcommand above (ap (λ (x : App). x.top) below)
 
 -- ---- what clap makes of the words
@@ -84,10 +84,10 @@ unfolding faults_of
 parse_refused a words error same has = subst (λ p. HasKind (fault_of p words) error) same (has (ap is_simple_and_free same ∙ exact))
 
 -- a parse by the program's commands takes the words, or has a fault that the rules find
-pub parses : (a : App) (words : List Text) (result : Result ArgMatches Error) → a ≡ program
+pub words_parsed : (a : App) (words : List Text) (result : Result ArgMatches Error) → a ≡ program
     → IfOk result (HasMatchesOf a words) → (is_simple_and_free a ≡ true → FailsBy (fault_of a words) result) → Parses words result
-parses a words (Ok matches) same has fails = parse_taken a words matches same has fails
-parses a words (Err error) same has fails = parse_refused a words error same fails
+words_parsed a words (Ok matches) same has fails = parse_taken a words matches same has fails
+words_parsed a words (Err error) same has fails = parse_refused a words error same fails
 
 -- words with a fault for another cause than memory are not taken
 pub not_taken : (words : List Text) (error : Error) → HasKind (faults_of words) error → (kind_of error ≡ OutOfMemory → ⊥) → is_taken words ≡ false

@@ -11,9 +11,9 @@ use Rattle.mctower.{specs.declared.run.run_faults.Fault.{Fault, TheVariants.{NoM
 use Rattle.tracer.proofs.OrderLemmas.{orders_agree}
 
 -- a system that opens with a plan's buffers, homes, guests and room for entries is the plan's
-pub opened : (plan : BootPlan) (s : Shown) → s.caps ≡ plan.caps → s.homes ≡ homes_for plan → map (λ p. p.guests) s.cpus ≡ tables_for plan
+pub plan_opened : (plan : BootPlan) (s : Shown) → s.caps ≡ plan.caps → s.homes ≡ homes_for plan → map (λ p. p.guests) s.cpus ≡ tables_for plan
     → map (λ p. p.limit) s.cpus ≡ replicate plan.cpus plan.trace → IsSystemOf plan s
-opened plan s caps homes guests limits = record {
+plan_opened plan s caps homes guests limits = record {
   caps = caps;
   homes = homes;
   programs = sym (map_twice (λ (p : CpuShown). p.guests) programs_of s.cpus) ∙ ap (map programs_of) guests;
@@ -22,9 +22,9 @@ opened plan s caps homes guests limits = record {
 }
 
 -- and it took no step
-pub newly : (plan : BootPlan) (room : ℕ) (s : Shown) → IsSystemOf plan s → map (λ p. p.guests) s.cpus ≡ tables_for plan → s.room ≡ room → s.taken ≡ 0
+pub newly_opened : (plan : BootPlan) (room : ℕ) (s : Shown) → IsSystemOf plan s → map (λ p. p.guests) s.cpus ≡ tables_for plan → s.room ≡ room → s.taken ≡ 0
     → IsOpened plan room s
-newly plan room s of guests room_is taken = record { system = of; guests = guests; room_is = room_is; taken = taken }
+newly_opened plan room s of guests room_is taken = record { system = of; guests = guests; room_is = room_is; taken = taken }
 
 -- steps leave a plan's system the plan's
 pub stays_of : (plan : BootPlan) (first last : Shown) → IsSystemOf plan first → SamePlan first last → IsSystemOf plan last
@@ -121,8 +121,8 @@ not_written IsStepwise A plan steps caps first last r e out same of known ran wr
     err_runs IsStepwise plan steps r e out is (write_fault IsStepwise A plan steps caps first last e out same of known ran writes)
 
 -- the text was written
-pub written : (IsStepwise : Type 0) (plan : BootPlan) (steps : List CpuId) (caps : List ℕ) (first last : Shown) (out : Output)
+pub text_written : (IsStepwise : Type 0) (plan : BootPlan) (steps : List CpuId) (caps : List ℕ) (first last : Shown) (out : Output)
     → caps ≡ plan.caps → IsSystemOf plan first → AreCpus (length first.cpus) steps → IsRunOf IsStepwise plan steps last
     → (out.failed ≡ false) × IsOut caps (traces_of last) last.contents out → RunsPlan IsStepwise plan steps (Ok last) out
-written IsStepwise plan steps caps first last out same of known ran writes =
+text_written IsStepwise plan steps caps first last out same of known ran writes =
     (writes.0, out_ran IsStepwise plan steps caps first last out same of known ran writes.1)

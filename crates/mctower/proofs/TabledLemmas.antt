@@ -4,9 +4,9 @@ use Rattle.std.{proofs.lemmas.{List.{length-map, length-set}, Option.slice_get_w
 use Rattle.event_log.specs.{declared.{entries.Entry.Entry, ids.{CpuId.CpuId, LockId.TheVariants.Buffer as AtBuffer}}, Actions.phase, Buffers.after_effect}
 use Rattle.event_log.specs.{Buffers.{empty_buffers, items_of}, Messages.Message, Runs.{after_entry, contents_from}, Traces.IsInterleaving}
 use Rattle.{event_log.proofs.RunLemmas.left_from, boot.specs.Plan.BootPlan, layer_traits.specs.{declared.steps.Reason.Reason, Polling.Plans.is_in_section}}
-use Rattle.cpu.specs.{Claims.{CpuShown, Shown, buffer_at, listed, traces_of}, Cpus.{halted_at as own_halted_at, reason_in}, Sound.{IsSetupFor, setup_for}}
+use Rattle.cpu.specs.{Claims.{CpuShown, Shown, buffer_at, listed, traces_of}, Cpus.{cpu_halted_at, reason_in}, Sound.{IsSetupFor, setup_for}}
 use Rattle.cpu.specs.{Systems.{halted_in, own_reason_in, whole_of}, Table.{Setups.{Private, Setup}, Steps.{Whole, block_at, boots_from, cpu_numbered}}}
-use Rattle.cpu.{specs.{Observed.{IsPlaceByTable, ObservedByTable}, Wakeups.Quiet.IsQuiet}, proofs.ListFacts.ListReads.{map_twice, shows_at, there_is}}
+use Rattle.cpu.{specs.{Observed.{IsPlaceByTable, ObservedByTable}, Wakeups.Quiet.IsQuietTable}, proofs.ListFacts.ListReads.{map_twice, shows_at, there_is}}
 use Rattle.mctower.specs.{Plans.table_run, Running.IsRunOf, State.{IsStateOf, places_in}, Texts.IsTextOf, declared.tell.state_lines.State.State}
 use Rattle.mctower.specs.Tabled.{IsStateOfRun, IsTextOfRun, NothingIsPrinted, contents_at, items_held, reason_at, reason_by, traces_at}
 
@@ -89,7 +89,7 @@ module _ (IsStepwise : Type 0) (plan : BootPlan) (steps : List CpuId) (s : Shown
       let p = there.0 in
       let one = told.cpus setup planned k p there.1 in
       ap own_reason_in there.1
-      ∙ ap (λ b. reason_in b (own_halted_at p.own p.guests p.trace p.limit)) (sym one.inside)
+      ∙ ap (λ b. reason_in b (cpu_halted_at p.own p.guests p.trace p.limit)) (sym one.inside)
       ∙ ap (λ (h : Option Reason). reason_in (is_in_section (phase (cpu_numbered k) s.log)) h) (sym one.halted)
       ∙ ap (λ (o : Option Private). reason_by setup (cpu_numbered k) (whole_of s) o) (sym (shows_at (λ (q : CpuShown). q.private) s.cpus k p there.1))
 
@@ -106,7 +106,7 @@ module _ (IsStepwise : Type 0) (plan : BootPlan) (steps : List CpuId) (s : Shown
         let below = slice_get_within (places_in state) t at there in
         subst (λ (w : Whole). IsPlaceByTable setup w (record { 0 = t }) at) (ran.table step)
         (told.places setup planned (record { 0 = t }) at (omega (arith, below, long)) (is.places t at there));
-    quiet = subst (λ (w : Whole). (state.is_quiet ≡ true) ↔ IsQuiet setup w) (ran.table step) (is.table step setup planned);
+    quiet = subst (λ (w : Whole). (state.is_quiet ≡ true) ↔ IsQuietTable setup w) (ran.table step) (is.table step setup planned);
   }
 
 -- at boot no trace has an entry

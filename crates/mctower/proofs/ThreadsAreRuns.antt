@@ -2,7 +2,7 @@
 use Rattle.std.proofs.Common.{◌≡◌, ℕ, ◌+◌, List, length, Option, Some, None, refl, ap, sym, ◌∙◌, subst}
 use Rattle.event_log.specs.{declared.{entries.Entry.Entry, ids.{CpuId.CpuId, LockId.TheVariants.Buffer as AtBuffer}}, Messages.Message}
 use Rattle.{boot.specs.Plan.BootPlan, cpu.specs.{Claims.buffer_at, Sound.setup_for, Table.{Blocks.{Block, OfBuffer, OfPending}, Steps.{Whole, block_at}}}}
-use Rattle.cpu_workers.{specs.{Lawful.{IsLawfulReport, Shown, held_at, left_in, messages_in}, ReportRuns.IsReportOfRun}, proofs.Scheduled.is_run}
+use Rattle.cpu_workers.{specs.{Lawful.{IsLawfulReport, ShownReport, held_at, left_in, messages_in}, ReportRuns.IsReportOfRun}, proofs.Scheduled.is_run}
 use Rattle.{tracer.{specs.TraceText.IsTraceText, proofs.TakenLemmas.one_order}, mctower.specs.{Plans.table_run, Texts.IsTextOf}}
 use Rattle.mctower.specs.Tabled.{IsTextOfRun, RunsHaveOneText, contents_at, items_held, traces_at}
 use Rattle.mctower.{specs.Threads.{AlwaysOpen, IsPrintedByRun, ThreadsPrintARun}, proofs.TabledLemmas.listed_alike}
@@ -13,7 +13,7 @@ held_alike None = refl
 held_alike (Some (OfPending threads)) = refl
 held_alike (Some (OfBuffer k)) = refl
 
-module _ (plan : BootPlan) (turns : ℕ) (r : Shown) (lawful : IsLawfulReport (setup_for plan) AlwaysOpen turns r) where
+module _ (plan : BootPlan) (turns : ℕ) (r : ShownReport) (lawful : IsLawfulReport (setup_for plan) AlwaysOpen turns r) where
   abbrev run : IsReportOfRun (setup_for plan) AlwaysOpen turns r
   run = is_run (setup_for plan) AlwaysOpen turns r lawful
 

@@ -5,10 +5,11 @@ use Rattle.std.specs.Io.KnownBytes.{Appends}
 use Rattle.event_log.{specs.{declared.entries.Entry.Entry, Buffers.empty_buffers}, proofs.{Streams.taken_put, RunLemmas.op_order_from, BoolLemmas.refuted}}
 use Rattle.{layer_traits.specs.Threads.OnePlace.cpu_at, boot.specs.{declared.refusals.BootError.BootError, Plan.{BootPlan, IsPlan}}, tracer.specs.Sinks.Outs}
 use Rattle.{tracer.proofs.{SinkLemmas.{all_out, outs_then}, OrderLemmas.orders_agree}, cpu.specs.{Boots.homes_for, Cpus.IsOfHome, Sound.setup_for}}
-use Rattle.cpu_workers.specs.{declared.workers.stops.Stop.Stop, Lawful.{IsLawfulReport, CpuReport, Shown, ReportsTrue, left_in}}
+use Rattle.cpu_workers.specs.{declared.workers.stops.Stop.Stop, Lawful.{IsLawfulReport, CpuReport, ShownReport, ReportsTrue, left_in}}
 use Rattle.mctower.specs.declared.{refusals.Refusal.{Refusal, TheVariants.WriteFault}, run.run_faults.Fault.Fault, serve.outcomes.Done.Done}
 use Rattle.mctower.specs.{declared.serve.outcomes.Done.TheVariants.Worked, Output.Output, Refusals.{from_fault, lacks_memory}, Serve.{OfPlan, RefusedBy}}
-use Rattle.mctower.{specs.{Serve.WorksPlan, Texts.{HaveText, IsOut, IsTextOf, Writes}, Threads.{IsWorked, AlwaysOpen}}, proofs.ThreadsAreRuns.printed_by_run}
+use Rattle.mctower.specs.{Serve.WorksPlan, Texts.{HaveText, IsOut, IsTextOf, Writes}, Threads.{IsWorkedPlan, AlwaysOpen}}
+use Rattle.mctower.proofs.ThreadsAreRuns.{printed_by_run}
 use Rattle.mctower.specs.declared.run.run_faults.Fault.TheVariants as run
 
 -- what is so for a plan that was read
@@ -19,7 +20,7 @@ of_read Means plan read answer out is (inl refused) = inl refused
 of_read Means plan read answer out is (inr means) = inr (subst (λ r. OfPlan Means r answer out) (sym is) means)
 
 -- the traces of a lawful report have a text with what is left
-pub report_has : (plan : BootPlan) (turns : ℕ) (r : Shown) → IsPlan plan → IsLawfulReport (setup_for plan) AlwaysOpen turns r
+pub report_has : (plan : BootPlan) (turns : ℕ) (r : ShownReport) → IsPlan plan → IsLawfulReport (setup_for plan) AlwaysOpen turns r
     → HaveText plan.caps r.traces (left_in (length plan.caps) r)
 report_has plan turns r within lawful = record {
   plan = plan;
@@ -44,8 +45,8 @@ report_has plan turns r within lawful = record {
         (one.0, cc (known, at), one.2)
 
 -- the plan's workers have run, and this is their text
-has_worked : (turns : ℕ) (plan : BootPlan) (r : Shown) (stops : Vec Stop Global) (text : List ℕ) → IsLawfulReport (setup_for plan) AlwaysOpen turns r
-    → stops.items ≡ r.stops → IsTextOf plan.caps r.traces (left_in (length plan.caps) r) text → IsWorked plan turns stops.items text
+has_worked : (turns : ℕ) (plan : BootPlan) (r : ShownReport) (stops : Vec Stop Global) (text : List ℕ) → IsLawfulReport (setup_for plan) AlwaysOpen turns r
+    → stops.items ≡ r.stops → IsTextOf plan.caps r.traces (left_in (length plan.caps) r) text → IsWorkedPlan plan turns stops.items text
 has_worked turns plan r stops text lawful same is = record {
   report = r;
   lawful = lawful;
@@ -58,12 +59,12 @@ has_worked turns plan r stops text lawful same is = record {
 }
 
 -- the plan's workers have run, their text is out, and nothing more was put out behind it
-pub worked : (turns : ℕ) (plan : BootPlan) (r : Shown) (stops : Vec Stop Global) (answer : Result Done Refusal) (first whole : Output)
+pub plan_worked : (turns : ℕ) (plan : BootPlan) (r : ShownReport) (stops : Vec Stop Global) (answer : Result Done Refusal) (first whole : Output)
     → IsLawfulReport (setup_for plan) AlwaysOpen turns r → stops.items ≡ r.stops
     → (first.failed ≡ false) × IsOut plan.caps r.traces (left_in (length plan.caps) r) first
     → answer ≡ (if whole.failed then Err WriteFault else Ok (Worked stops)) → Outs whole.failed first.new whole.new [] → first.old ≡ whole.old
     → (whole.failed ≡ false → whole.flushed ≡ true) → WorksPlan turns plan answer whole
-worked turns plan r stops answer first whole lawful same writes given more old passed_on =
+plan_worked turns plan r stops answer first whole lawful same writes given more old passed_on =
     let trace = writes.1.text in
     let out : Appends first.old first.new trace = all_out first.failed first.old first.new trace writes.0 writes.1.out in
     let outs = outs_then whole.failed first.old first.new whole.new trace [] out more in
@@ -78,7 +79,7 @@ worked turns plan r stops answer first whole lawful same writes given more old p
     })
 
 -- their text could not be written
-pub not_written : (A : Type 0) (turns : ℕ) (plan : BootPlan) (r : Shown) (stops : Vec Stop Global) (fault : Fault) (refusal : Refusal) (out : Output)
+pub not_written : (A : Type 0) (turns : ℕ) (plan : BootPlan) (r : ShownReport) (stops : Vec Stop Global) (fault : Fault) (refusal : Refusal) (out : Output)
     → IsLawfulReport (setup_for plan) AlwaysOpen turns r → stops.items ≡ r.stops
     → Writes {A = A} plan.caps r.traces (left_in (length plan.caps) r) (Err fault) out → refusal ≡ from_fault fault
     → RefusedBy lacks_memory (Err refusal) out ⊎ WorksPlan turns plan (Err refusal) out

@@ -2,10 +2,10 @@
 -- without a condition where they are such.
 use Rattle.std.{proofs.Common.{◌≡◌, List, refl}, specs.Prelude.{Result, Ok, Err, IsErrAnd}}
 use Rattle.{event_log.specs.declared.{ids.CpuId.CpuId, refusals.NoMemory.NoMemory as NoMemoryTold}, boot.specs.declared.refusals.BootError.BootError}
-use Rattle.{boot.specs.{declared.locks.LockKind.LockKind, Plan.{BootPlan, Fails}}, cpu.specs.{Claims.Shown, Systems.{Ran, WentOn, goes, starts, stayed, took}}}
-use Rattle.mctower.specs.declared.{run.run_faults.Fault.{Fault, TheVariants.{NoMemory, Boot, BadCpu, NoOrder, WriteFault}}, tell.state_lines.State.State}
-use Rattle.mctower.specs.{Output.{IsUntouched, Output}, Plans.from_boot, Running.{IsPrinted, IsRunOf, NoCondition, RunsOverTower, RunsPlan, RunsOn, on_lock}}
-use Rattle.mctower.specs.State.{IsStateOf}
+use Rattle.{boot.specs.{declared.locks.LockKind.LockKind, Plan.{BootPlan, Fails}}, cpu.specs.{Claims.Shown, Systems.{Ran, WentOn, goes, took_none, stayed}}}
+use Rattle.{cpu.specs.Systems.took, mctower.specs.declared.run.run_faults.Fault.{Fault, TheVariants.{NoMemory, Boot, BadCpu, NoOrder, WriteFault}}}
+use Rattle.mctower.specs.{declared.tell.state_lines.State.State, Output.{IsUntouched, Output}, Plans.from_boot, Running.{IsPrinted, IsRunOf, NoCondition}}
+use Rattle.mctower.specs.{Running.{RunsOverTower, RunsPlan, RunsTextOn, on_lock}, State.IsStateOf}
 use Rattle.boot.specs.declared.locks.LockKind.TheVariants as kind
 use Rattle.boot.specs.declared.refusals.BootError.TheVariants as refused
 
@@ -15,7 +15,7 @@ module _ (If Where : Type 0) (follows : Where → If) where
   went c s r (stayed reason is same) = stayed reason is same
 
   ran : (start : Shown) (steps : List CpuId) (s : Shown) → Ran If start steps s → Ran Where start steps s
-  ran start _ _ starts = starts
+  ran start _ _ took_none = took_none
   ran start _ _ (goes {steps = steps} {s = s} c r before step) = goes c r (ran start steps s before) (went c s r step)
 
   run_of : (plan : BootPlan) (steps : List CpuId) (s : Shown) → IsRunOf If plan steps s → IsRunOf Where plan steps s
@@ -66,19 +66,19 @@ either_lock Said kind.Ticket said = said
 either_lock Said kind.Grant said = said
 
 pub runs_alike : (If : Type 0) → If → (plan : BootPlan) (steps : List CpuId) (result : Result Shown Fault) (out : Output)
-    → RunsPlan (on_lock If If plan.lock) plan steps result out → RunsOn NoCondition (Ok plan) steps result out
+    → RunsPlan (on_lock If If plan.lock) plan steps result out → RunsTextOn NoCondition (Ok plan) steps result out
 runs_alike If here plan steps result out runs =
     runs_plan (on_lock If If plan.lock) NoCondition (λ always. either_lock If plan.lock here) plan steps result out runs
 
 -- want of memory is no more than that, whatever the text
 wants_memory : (read : Result BootPlan BootError) (steps : List CpuId) (evidence : NoMemoryTold) (out : Output) → IsUntouched out
-    → RunsOn NoCondition read steps (Err (NoMemory evidence)) out
+    → RunsTextOn NoCondition read steps (Err (NoMemory evidence)) out
 wants_memory (Ok plan) steps evidence out untouched = untouched
 wants_memory (Err e) steps evidence out untouched = untouched
 
 -- a text that gives no plan is run by nobody: it is refused, or memory was wanting
 pub unread_text : (read : Result BootPlan BootError) (steps : List CpuId) (e : BootError) (out : Output) → Fails e read → IsUntouched out
-    → RunsOn NoCondition read steps (Err (from_boot e)) out
+    → RunsTextOn NoCondition read steps (Err (from_boot e)) out
 unread_text read steps (refused.NoMemory evidence) out fails untouched = wants_memory read steps evidence out untouched
 unread_text read steps refused.BadToml out fails untouched = rw fails (refl, untouched)
 unread_text read steps (refused.MissingKey key) out fails untouched = rw fails (refl, untouched)
@@ -87,6 +87,6 @@ unread_text read steps (refused.Guest t line fault) out fails untouched = rw fai
 
 -- a fault that is passed on is what is told
 pub fault_told : (read : Result BootPlan BootError) (steps : List CpuId) (fault : Fault) (told : Result State Fault) (out : Output)
-    → RunsOn NoCondition read steps (Err fault) out → IsErrAnd told (λ f. f ≡ fault) → RunsOverTower read steps told out
+    → RunsTextOn NoCondition read steps (Err fault) out → IsErrAnd told (λ f. f ≡ fault) → RunsOverTower read steps told out
 fault_told read steps fault (Ok state) out runs is = absurd is
 fault_told read steps fault (Err f) out runs is = record { answer = Err fault; runs = runs; tells = is }

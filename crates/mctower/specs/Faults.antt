@@ -5,7 +5,7 @@ use Rattle.clap.specs.{Kinds.IsAmong, Walk.{Row, Text, first_of}, declared.error
 use Rattle.clap.specs.declared.error.kind.ErrorKind.TheVariants.{MissingRequiredArgument, ArgumentConflict, InvalidValue, TooManyValues, DisplayHelp}
 use Rattle.{clap.specs.declared.error.kind.ErrorKind.TheVariants.{DisplayVersion, OutOfMemory}, event_log.specs.declared.ids.TheConstants.CPUS}
 use Rattle.{event_log.specs.declared.refusals.NoMemory.NoMemory, mctower.specs.{Help.{topic_of, usage_of}, Line.{faults_of, found_in, is_taken, lock_asked}}}
-use Rattle.mctower.specs.{Line.number_at, Print.shown_line, declared.{line.TheConstants.{MOST_TIMES, MOST_TURNS}, refusals.line_faults.NoOrder.NoOrder}}
+use Rattle.mctower.specs.{Line.option_number, Print.shown_line, declared.{line.TheConstants.{MOST_TIMES, MOST_TURNS}, refusals.line_faults.NoOrder.NoOrder}}
 use Rattle.mctower.specs.declared.refusals.line_faults.{NoOrder.TheVariants.{AsksHelp, AsksVersion, Faulty}, LineFault.{LineFault, TheVariants.NotText}}
 use Rattle.mctower.specs.declared.refusals.line_faults.{LineFault.TheVariants.{NoCommand, Words, Value}, ValueOption.{ValueOption, TheVariants.{Cpus, Times}}}
 use Rattle.mctower.specs.declared.refusals.line_faults.ValueOption.TheVariants.{Lock, Turns}
@@ -28,10 +28,10 @@ wanted_of Turns = codes "1 to " ++ decimal MOST_TURNS
 
 -- the value that an option has is none that it takes
 abbrev pub is_bad : List Row → ValueOption → Bool
-is_bad rows Cpus = is_none (number_at 1 CPUS (codes "cpus") rows)
-is_bad rows Times = is_none (number_at 1 MOST_TIMES (codes "times") rows)
+is_bad rows Cpus = is_none (option_number 1 CPUS (codes "cpus") rows)
+is_bad rows Times = is_none (option_number 1 MOST_TIMES (codes "times") rows)
 is_bad rows Lock = is_none (lock_asked (first_of (codes "lock") rows))
-is_bad rows Turns = is_none (number_at 1 MOST_TURNS (codes "turns") rows)
+is_bad rows Turns = is_none (option_number 1 MOST_TURNS (codes "turns") rows)
 
 -- the options of a command, in the order in which they are tested
 abbrev pub options_of : Text → List ValueOption

@@ -64,8 +64,8 @@ abbrev pub number_in : ℕ → ℕ → Text → Option ℕ
 number_in least most text = if is_unsigned_in least most text then Some (digits_value 10 (without_leading_plus text)) else None
 
 -- the number that the option of this name has, in this range
-abbrev pub number_at : ℕ → ℕ → Text → List Row → Option ℕ
-number_at least most name rows = option_and_then (number_in least most) (first_of name rows)
+abbrev pub option_number : ℕ → ℕ → Text → List Row → Option ℕ
+option_number least most name rows = option_and_then (number_in least most) (first_of name rows)
 
 -- the lock that is asked for by its name: one with a grant word for each waiter, where none is named
 abbrev pub lock_asked : Option Text → Option LockKind
@@ -73,23 +73,23 @@ lock_asked None = Some Grant
 lock_asked (Some name) = lock_named name
 
 -- the order of the command `count` with these values: 1 to CPUS CPUs, 1 to MOST_TIMES sections for each, and the lock
-abbrev pub count_in : List Row → Option Ghost
-count_in rows = option_and_then (λ cpus. option_and_then (λ times. option_map (λ lock. count cpus times lock)
-    (lock_asked (first_of (codes "lock") rows))) (number_at 1 MOST_TIMES (codes "times") rows)) (number_at 1 CPUS (codes "cpus") rows)
+abbrev pub count_meant : List Row → Option Ghost
+count_meant rows = option_and_then (λ cpus. option_and_then (λ times. option_map (λ lock. count cpus times lock)
+    (lock_asked (first_of (codes "lock") rows))) (option_number 1 MOST_TIMES (codes "times") rows)) (option_number 1 CPUS (codes "cpus") rows)
 
 -- the order of the command `run` with these values
 abbrev pub run_in : List Row → Option Ghost
 run_in rows = Some (run (first_of (codes "schedule") rows))
 
 -- the order of the command `threads` with these values: 1 to MOST_TURNS turns
-abbrev pub threads_in : List Row → Option Ghost
-threads_in rows = option_map (λ turns. threads turns) (number_at 1 MOST_TURNS (codes "turns") rows)
+abbrev pub threads_meant : List Row → Option Ghost
+threads_meant rows = option_map (λ turns. threads turns) (option_number 1 MOST_TURNS (codes "turns") rows)
 
 -- the order of a command by its name and its values
 abbrev pub order_in : Text × List Row → Option Ghost
-order_in found = if bytes_eq found.0 (codes "count") then count_in found.1
+order_in found = if bytes_eq found.0 (codes "count") then count_meant found.1
     else (if bytes_eq found.0 (codes "run") then run_in found.1
-    else (if bytes_eq found.0 (codes "threads") then threads_in found.1
+    else (if bytes_eq found.0 (codes "threads") then threads_meant found.1
     else (if bytes_eq found.0 (codes "check") then Some check else None)))
 
 -- the command that the words name, with its values

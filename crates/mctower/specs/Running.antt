@@ -64,9 +64,9 @@ Refuses e (Err NoOrder) out = ⊥
 Refuses e (Err WriteFault) out = ⊥
 
 -- what a run of a text over these layers answers, by the plan that the text gives or its first fault; want of memory aside
-abbrev pub RunsOn : Type 0 → Result BootPlan BootError → List CpuId → Result Shown Fault → Output → Type 0
-RunsOn IsStepwise (Ok plan) steps result out = RunsPlan IsStepwise plan steps result out
-RunsOn IsStepwise (Err e) steps result out = Refuses e result out
+abbrev pub RunsTextOn : Type 0 → Result BootPlan BootError → List CpuId → Result Shown Fault → Output → Type 0
+RunsTextOn IsStepwise (Ok plan) steps result out = RunsPlan IsStepwise plan steps result out
+RunsTextOn IsStepwise (Err e) steps result out = Refuses e result out
 
 -- ---- over the lock that the plan names
 
@@ -76,9 +76,9 @@ on_lock tickets grants kind.Ticket = tickets
 on_lock tickets grants kind.Grant = grants
 
 -- the lock beneath a system after a run, by the case of the answer
-abbrev pub lock_of : {I J M N : Type 0} → RanOver I J M N → LockKind
-lock_of (Ticket s) = kind.Ticket
-lock_of (Grant s) = kind.Grant
+abbrev pub lock_beneath : {I J M N : Type 0} → RanOver I J M N → LockKind
+lock_beneath (Ticket s) = kind.Ticket
+lock_beneath (Grant s) = kind.Grant
 
 -- the system after a run, whatever its lock is
 abbrev pub system_of : {I J M N : Type 0} → RanOver I J M N → Shown
@@ -91,14 +91,14 @@ system_in (Ok ran) = Ok (system_of ran)
 system_in (Err fault) = Err fault
 
 -- where there is a system, this is the lock beneath it
-abbrev pub IsOver : {I J M N : Type 0} → LockKind → Result (RanOver I J M N) Fault → Type 0
-IsOver lock (Ok ran) = lock_of ran ≡ lock
-IsOver lock (Err fault) = Unit {0}
+abbrev pub IsOverLock : {I J M N : Type 0} → LockKind → Result (RanOver I J M N) Fault → Type 0
+IsOverLock lock (Ok ran) = lock_beneath ran ≡ lock
+IsOverLock lock (Err fault) = Unit {0}
 
 -- What a run of a text answers: the system stands on the lock that the plan names, and the run is one over the layers that stand on it; what is
 -- no plan is refused.
 abbrev pub RunsText : {I J M N : Type 0} → (LockKind → Type 0) → Result BootPlan BootError → List CpuId → Result (RanOver I J M N) Fault → Output → Type 0
-RunsText IsStepwise (Ok plan) steps result out = IsOver plan.lock result × RunsPlan (IsStepwise plan.lock) plan steps (system_in result) out
+RunsText IsStepwise (Ok plan) steps result out = IsOverLock plan.lock result × RunsPlan (IsStepwise plan.lock) plan steps (system_in result) out
 RunsText IsStepwise (Err e) steps result out = Refuses e (system_in result) out
 
 -- what is said of layers of which each poll is one action holds of such layers without a condition
@@ -115,5 +115,5 @@ Tells (Err fault) (Err told) = told ≡ fault
 -- A text was run over layers of which each poll is one action, and this is told of the answer.
 pub record RunsOverTower (read : Result BootPlan BootError) (steps : List CpuId) (told : Result State Fault) (printed : Output) : Type 0 where
   pub answer : Result Shown Fault
-  pub runs : RunsOn NoCondition read steps answer printed
+  pub runs : RunsTextOn NoCondition read steps answer printed
   pub tells : Tells answer told

@@ -21,12 +21,12 @@ abbrev pub cpu_of : List ℕ → Option CpuId
 cpu_of text = option_map (λ number. record { 0 = number }) (number_to 255 text)
 
 -- the number of steps, from 1 to the most, that a text spells
-abbrev pub count_of : List ℕ → Option ℕ
-count_of text = option_and_then (λ number. if number == 0 then None else Some number) (number_to MOST_STEPS text)
+abbrev pub steps_spelled : List ℕ → Option ℕ
+steps_spelled text = option_and_then (λ number. if number == 0 then None else Some number) (number_to MOST_STEPS text)
 
 -- the item `c*n` of the texts of its two numbers
 abbrev pub counted_item : List ℕ → List ℕ → Option Item
-counted_item cpu steps = option_and_then (λ c. option_map (λ n. record { cpu = c; steps = n }) (count_of steps)) (cpu_of cpu)
+counted_item cpu steps = option_and_then (λ c. option_map (λ n. record { cpu = c; steps = n }) (steps_spelled steps)) (cpu_of cpu)
 
 -- the item that a text spells: `c*n`, or `c` for one step
 abbrev pub item_of : List ℕ → Option Item

@@ -11,7 +11,7 @@ use Rattle.mctower.specs.declared.refusals.{Refusal.TheVariants.{BadSchedule, Pl
 use Rattle.mctower.specs.declared.{refusals.line_faults.NoOrder.TheVariants.{AsksHelp, AsksVersion}, line.help_texts.TheConstants.VERSION}
 use Rattle.mctower.specs.{declared.{serve.outcomes.Done.{Done, TheVariants.{Exit, Ran, Worked, BothCounted}}, tell.state_lines.State.State}, Running.AreCpus}
 use Rattle.mctower.specs.{Running.{IsRunOf, NoCondition}, Faults.{IsFault, IsWhy}, Help.{help_of, topic_of}, State.{IsStateOf, text_of_state}}
-use Rattle.{mctower.specs.{Schedule.steps_of, Tabled.{IsStateOfRun, IsTextOfRun}, Texts.IsTextOf, Threads.{IsWorked, stop_text}}, cpu.specs.Claims.Shown}
+use Rattle.{mctower.specs.{Schedule.steps_of, Tabled.{IsStateOfRun, IsTextOfRun}, Texts.IsTextOf, Threads.{IsWorkedPlan, stop_text}}, cpu.specs.Claims.Shown}
 use Rattle.{cpu.specs.Claims.traces_of, cpu_workers.specs.declared.{workers.stops.Stop.Stop, counting.counted.Counted.Counted}}
 use Rattle.tracer.specs.declared.verdicts.Verdict.TheVariants as verdict
 use Rattle.tracer.specs.Reasons as reasons
@@ -137,8 +137,8 @@ pub record RunsTrace (plan : BootPlan) (steps : List CpuId) (answer : Result Don
   pub put : PutsRun plan steps system trace answer printed
 
 -- the plan is run over the tower, or a step is of no CPU of it
-abbrev pub RunsPlan : List CpuId → BootPlan → Result Done Refusal → Output → Type 0
-RunsPlan steps plan answer out = ((¬ AreCpus plan.cpus steps) × RefusedBy BadCpu answer out) ⊎ RunsTrace plan steps answer out
+abbrev pub ServesPlan : List CpuId → BootPlan → Result Done Refusal → Output → Type 0
+ServesPlan steps plan answer out = ((¬ AreCpus plan.cpus steps) × RefusedBy BadCpu answer out) ⊎ RunsTrace plan steps answer out
 
 -- the steps that a schedule asks for: none without one
 abbrev pub steps_asked : Option Text → Option (List CpuId)
@@ -147,7 +147,7 @@ steps_asked (Some text) = steps_of text
 
 -- the steps are run; what is no schedule is a bad command line, want of memory aside
 abbrev pub RunsAsked : Option (List CpuId) → Option (List ℕ) → Result Done Refusal → Output → Type 0
-RunsAsked (Some steps) input answer out = OfInput (RunsPlan steps) input answer out
+RunsAsked (Some steps) input answer out = OfInput (ServesPlan steps) input answer out
 RunsAsked None input answer out = RefusedBy lacks_memory answer out ⊎ RefusedBy BadSchedule answer out
 
 -- ---- threads
@@ -156,7 +156,7 @@ RunsAsked None input answer out = RefusedBy lacks_memory answer out ⊎ RefusedB
 pub record WorksTrace (plan : BootPlan) (turns : ℕ) (answer : Result Done Refusal) (printed : Output) : Type 0 where
   pub stops : Vec Stop Global
   pub trace : List ℕ
-  pub worked : IsWorked plan turns stops.items trace
+  pub worked : IsWorkedPlan plan turns stops.items trace
   pub put : Puts (Worked stops) trace answer printed
 
 -- the plan's workers have run, or a thread could not be started

@@ -1,7 +1,7 @@
 -- What the state lines tell of a system.
 use Rattle.std.specs.Prelude.{◌≡◌, ◌↔◌, ℕ, true, List, length, take, Some, slice_get}
 use Rattle.{layer_traits.specs.declared.calls.Place.Place, cpu.specs.{Calm.IsQuiet, Claims.{IsPlaceOf, Shown, listed}, Sound.IsSetupFor, Systems.halted_in}}
-use Rattle.{cpu.specs.{Systems.whole_of, Table.Setups.Setup, Observed.IsStill, Wakeups.Quiet.IsQuiet as IsQuietTable}, mctower.specs.StateLines.state_text}
+use Rattle.{cpu.specs.{Systems.whole_of, Table.Setups.Setup, Observed.IsStill, Wakeups.Quiet.IsQuietTable}, mctower.specs.StateLines.state_text}
 use Rattle.mctower.specs.declared.tell.state_lines.State.{State}
 
 -- where each thread is

@@ -3,8 +3,8 @@ use Rattle.std.specs.Prelude.{◌≡◌, ◌↔◌, ℕ, true, List, [], length,
 use Rattle.event_log.specs.{declared.{entries.Entry.Entry, ids.{CpuId.CpuId, LockId.TheVariants.Buffer as AtBuffer}}, Actions.phase, Messages.Message}
 use Rattle.{boot.specs.Plan.BootPlan, layer_traits.specs.{declared.{calls.Place.Place, steps.Reason.Reason}, Polling.Plans.is_in_section}}
 use Rattle.cpu.specs.{Claims.{buffer_at, listed}, Cpus.reason_in, Sound.setup_for, Table.{Blocks.{Block, OfBuffer, OfPending}, Setups.{Private, Setup}}}
-use Rattle.{cpu.specs.{Table.Steps.{Whole, block_at, cpu_numbered, halted_at}, Observed.IsPlaceByTable, Wakeups.Quiet.IsQuiet}, mctower.specs.Plans.table_run}
-use Rattle.mctower.specs.{State.places_in, Texts.IsTextOf, declared.tell.state_lines.State.State}
+use Rattle.cpu.specs.{Table.Steps.{Whole, block_at, cpu_numbered, halted_at}, Observed.IsPlaceByTable, Wakeups.Quiet.IsQuietTable}
+use Rattle.mctower.specs.{Plans.table_run, State.places_in, Texts.IsTextOf, declared.tell.state_lines.State.State}
 
 -- the traces of the table's CPUs
 abbrev pub traces_at : Whole → List (List Entry)
@@ -46,4 +46,4 @@ pub record IsStateOfRun (plan : BootPlan) (steps : List CpuId) (state : State) :
   pub many : length (places_in state) ≡ length plan.tasks
   pub places : (t : ℕ) (at : Place) → slice_get (places_in state) t ≡ Some at
       → IsPlaceByTable (setup_for plan) (table_run plan steps) (record { 0 = t }) at
-  pub quiet : (state.is_quiet ≡ true) ↔ IsQuiet (setup_for plan) (table_run plan steps)
+  pub quiet : (state.is_quiet ≡ true) ↔ IsQuietTable (setup_for plan) (table_run plan steps)

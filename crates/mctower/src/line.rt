@@ -3,8 +3,9 @@
 ghost use Rattle.std.specs.Prelude.{◌≡◌, IfOk, OkIff, codes, map, option_map, true, false};
 ghost use Rattle.clap.specs.{Simple.{app_of, subcommand_rows_of}, Matches.found_of, Walk.{first_of, rows_of, rule_of}};
 ghost use Rattle.{clap.specs.declared.builder.command.Command.TheViews.out-Command, event_log.specs.Refusals.no_memory};
-ghost use Rattle.mctower.specs.{declared.line.LineError.TheVariants.NoMemory, Line.{Reads, check_app, count_app, count_in, number_in, number_at, lock_asked}};
-ghost use Rattle.mctower.specs.Line.{optional, order_of, program, run_app, threads_app, required_option, threads_in, run_in, order_in, Finds, Parses};
+ghost use Rattle.mctower.specs.{declared.line.LineError.TheVariants.NoMemory, Line.{Reads, check_app, count_app, count_meant, number_in, option_number}};
+ghost use Rattle.mctower.specs.Line.{lock_asked, optional, order_of, program, run_app, threads_app, required_option, threads_meant, run_in, order_in, Finds};
+ghost use Rattle.mctower.specs.Line.{Parses};
 
 pub(crate) mod help_texts;
 pub(crate) mod no_orders;
@@ -137,7 +138,7 @@ fn number(text: &str, least: u64, most: u64) -> Option<u64>
 
 /// The number that the option of this name has, from `least` to `most`.
 pub(crate) fn number_of(matches: &ArgMatches<'_>, name: &str, least: u64, most: u64) -> Option<u64>
-    ensures { result ≡ number_at least most name.now (rows_of (found_of matches.now)) }
+    ensures { result ≡ option_number least most name.now (rows_of (found_of matches.now)) }
 {
     number(matches.get_str(name)?, least, most)
 }
@@ -153,7 +154,7 @@ pub(crate) fn lock_given(matches: &ArgMatches<'_>) -> Option<LockKind>
 }
 
 fn count_order(matches: &ArgMatches<'_>) -> Result<Order, LineError>
-    ensures { Reads (count_in (rows_of (found_of matches.now))) result }
+    ensures { Reads (count_meant (rows_of (found_of matches.now))) result }
 {
     let Some(cpus) = number_of(matches, "cpus", 1, MOST_CPUS) else {
         return Err(LineError::Refused);
@@ -168,7 +169,7 @@ fn count_order(matches: &ArgMatches<'_>) -> Result<Order, LineError>
 }
 
 fn threads_order(matches: &ArgMatches<'_>) -> Result<Order, LineError>
-    ensures { Reads (threads_in (rows_of (found_of matches.now))) result }
+    ensures { Reads (threads_meant (rows_of (found_of matches.now))) result }
 {
     match number_of(matches, "turns", 1, MOST_TURNS) {
         Some(turns) => Ok(Order::Threads(turns)),

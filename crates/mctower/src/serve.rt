@@ -3,7 +3,7 @@
 
 ghost use Rattle.std.specs.Prelude.{◌≡◌, ◌≤◌, ◌⊎◌, IfOk, None, false, true, length, map, option_map, string_bytes};
 ghost use Rattle.{event_log.specs.declared.ids.TheConstants.CPUS, tracer.specs.Sinks.{has_failed, is_flushed}, mctower.specs.{Output.between, Line.order_of}};
-ghost use Rattle.mctower.specs.{Schedule.ReadsSteps, Serve.{Checks, Counts, Ends, OfBytes, OfInput, PutsAnswer, RunsPlan, Serves}};
+ghost use Rattle.mctower.specs.{Schedule.ReadsSteps, Serve.{Checks, Counts, Ends, OfBytes, OfInput, PutsAnswer, ServesPlan, Serves}};
 ghost use Rattle.mctower.specs.Serve.{PrintsVerdict, fault_refused, reads_input, steps_asked};
 
 pub mod outcomes;
@@ -139,7 +139,7 @@ fn run_bytes<O: Write>(
 ) -> Result<Done, Refusal>
     requires live { has_failed out.old ≡ false }
     requires few { length steps.now ≤ MOST_STEPS }
-    ensures runs { OfBytes (RunsPlan steps.now) bytes.now result (between O.contents out.old out.new) }
+    ensures runs { OfBytes (ServesPlan steps.now) bytes.now result (between O.contents out.old out.new) }
     ensures flushed { IfOk result (λ _. is_flushed out.new ≡ true) }
 {
     let Ok(plan) = str::from_utf8(bytes) else {
@@ -160,7 +160,7 @@ fn serve_run<R: Read, O: Write>(
 ) -> Result<Done, Refusal>
     requires live { has_failed out.old ≡ false }
     requires few { length steps.now ≤ MOST_STEPS }
-    ensures runs { OfInput (RunsPlan steps.now) (R.remaining input.old) result (between O.contents out.old out.new) }
+    ensures runs { OfInput (ServesPlan steps.now) (R.remaining input.old) result (between O.contents out.old out.new) }
     ensures flushed { IfOk result (λ _. is_flushed out.new ≡ true) }
 {
     let bytes = match read_all(alloc, input) {

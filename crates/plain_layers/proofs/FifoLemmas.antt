@@ -15,14 +15,14 @@ use Rattle.layer_traits.specs.{declared.sleeps.Outcome.Outcome, Layers.BufferLaw
 use Rattle.layer_traits.specs.Layers.{BufferLaw.{entry_of, going, going_at, no_call, call_state_of, reply_with, MovesGrow, OthersSeen}, Queues.call_move}
 use Rattle.layer_traits.specs.Layers.{Queues.{out_at, IsKnownEvent, Kernel, buffer_sections, moves_in}, Sleeping.{sleep_answer, sleep_moves, NobodySleeps}}
 use Rattle.layer_traits.specs.Layers.{Sleeping.wait_list_at, SleepLaw.{Sleeping, done_if, sleep_kernel}, Scheds.{SchedPolled, events_of, own_answered}}
-use Rattle.layer_traits.specs.{Layers.Scheds.pass_call, Threads.{Passes.{own_slept, queue_for, PassPolled}, Places.{AreMoves, Pushed, Stands, Step, step}}}
+use Rattle.layer_traits.specs.{Layers.Scheds.pass_call, Threads.{Passes.{own_slept, queue_for, PassPolled}, Places.{AreMoves, Pushed, Stands, Step, step_with}}}
 use Rattle.layer_traits.{specs.{Threads.Places.Threads, Protocols.Protocol.section}, proofs.{PlaceLemmas.{current_at, woken_current}, CallLemmas.pass_polled}}
-use Rattle.{layer_traits.proofs.{SleepLemmas.done_same, Seen.lawful_rest}, plain_layers.specs.Fifos.{shown, ask_of, attempt_of, effect_by, locked_after}}
-use Rattle.plain_layers.specs.Fifos.{reply_to, call_state_after, IsOwned, PlainLocked, entries_in, fresh_buffer, fresh_buffers}
-use Rattle.plain_layers.specs.{declared.attempts.{Tried.{TheVariants.{Acted, Refused}, Tried}, Attempt.Attempt}, Attempts.{PlainState, allows, effect_at}}
-use Rattle.plain_layers.specs.{Attempts.{effect_in, wait_list_by, told, attempts}, Wholes.{IsDoneWhole, asked}, Laws.FifoTallies.{block_of, no_position}}
-use Rattle.{plain_layers.{specs.Laws.FifoTallies.{plain_tally, reported_if}, proofs.WholeLemmas.no_foreign_events}, sleep_wakeup.proofs.BootLemmas.there_inside}
-use Rattle.fifo_buffer.specs.{Laws.BlockSteps.{put_counts, take_counts}, Tallies.Tally}
+use Rattle.{layer_traits.proofs.{SleepLemmas.done_same, Seen.lawful_rest}, plain_layers.specs.Fifos.{plain_shown, ask_of, attempt_of, effect_by, locked_after}}
+use Rattle.plain_layers.specs.Fifos.{reply_to, call_state_after, IsOwned, PlainLocked, plain_entries_in, fresh_buffer, fresh_buffers}
+use Rattle.plain_layers.specs.{declared.attempts.{Tried.{TheVariants.{Acted, Refused}, Tried}, Attempt.Attempt}, Attempts.{PlainState, allows, attempt_effect}}
+use Rattle.plain_layers.specs.{Attempts.{effect_in, wait_list_by, attempt_told, attempts}, Wholes.{IsDoneWhole, asked_edit}, Laws.FifoTallies.plain_block}
+use Rattle.plain_layers.{specs.Laws.FifoTallies.{no_position, plain_tally, reported_if}, proofs.WholeLemmas.no_foreign_events}
+use Rattle.{sleep_wakeup.proofs.BootLemmas.there_inside, fifo_buffer.specs.{Laws.BlockSteps.{put_counts, take_counts}, Tallies.Tally}}
 use Rattle.plain_layers.specs.declared.attempts.Ask.TheVariants as ask
 use Rattle.layer_traits.specs.declared.moves.WaitList.TheVariants as wait_list
 use Rattle.layer_traits.specs.declared.scheds.SchedCall.TheVariants as sched
@@ -53,7 +53,7 @@ pub owned_after : (ActsFor Acts : CpuId → Type 0) (opening opening' : LockId �
     → ((c : CpuId) → ActsFor c → Acts c) → IsOwned ActsFor opening → IsOwned Acts opening'
 owned_after ActsFor Acts opening opening' same acts owned = record {
   all = λ c small. acts c (owned.all c small);
-  fresh = subst (λ (o : LockId → Option (QueueBlock PlainLocked)). inner o ≡ fresh_buffers (caps_in (viewed shown o))) (sym same) owned.fresh;
+  fresh = subst (λ (o : LockId → Option (QueueBlock PlainLocked)). inner o ≡ fresh_buffers (caps_in (viewed plain_shown o))) (sym same) owned.fresh;
 }
 
 -- A pass.
@@ -92,11 +92,11 @@ module _ (opening : LockId → Option (QueueBlock PlainLocked)) (ActsFor : CpuId
 
   -- a pass adds no effect
   pub passed_seen : (Acts : CpuId → Type 0)
-      → OthersSeen Acts (entries_in (inner opening) (buffer_sections old)) (entries_in (inner opening) (buffer_sections new))
+      → OthersSeen Acts (plain_entries_in (inner opening) (buffer_sections old)) (plain_entries_in (inner opening) (buffer_sections new))
   passed_seen Acts = record {
     others = [];
     foreign = λ d acts. tt;
-    is = ap (entries_in (inner opening)) (same_sections _ (nobody _ alone.polled.is) alone.polled.is);
+    is = ap (plain_entries_in (inner opening)) (same_sections _ (nobody _ alone.polled.is) alone.polled.is);
   }
 
   -- and is a pass in moves
@@ -155,11 +155,11 @@ set_waits call_states t call effect within waits u = go (u.0 == t.0) refl
 -- A poll of a call.
 
 -- the buffer of a call is there
-pub buffer_there : (opening : LockId → Option (QueueBlock PlainLocked)) (b : BufId) → inner opening ≡ fresh_buffers (caps_in (viewed shown opening))
-    → b.0 < length (caps_in (viewed shown opening)) → IsSome (opening (Buffer b))
+pub buffer_there : (opening : LockId → Option (QueueBlock PlainLocked)) (b : BufId) → inner opening ≡ fresh_buffers (caps_in (viewed plain_shown opening))
+    → b.0 < length (caps_in (viewed plain_shown opening)) → IsSome (opening (Buffer b))
 buffer_there opening b fresh within =
-    let has = slice_get-get_or (caps_in (viewed shown opening)) b.0 0 within in
-    let found : inner opening (Buffer b) ≡ Some (fresh_buffer (get_or (caps_in (viewed shown opening)) b.0 0))
+    let has = slice_get-get_or (caps_in (viewed plain_shown opening)) b.0 0 within in
+    let found : inner opening (Buffer b) ≡ Some (fresh_buffer (get_or (caps_in (viewed plain_shown opening)) b.0 0))
     = ap (λ (o : LockId → Option PlainLocked). o (Buffer b)) fresh ∙ ap (option_map fresh_buffer) has in
     there_inside (opening (Buffer b)) (subst (λ x. IsSome x) (sym found) refl)
 
@@ -171,16 +171,16 @@ runs_small homes c moves own legal stands room t runs =
     omega (arith, within, room)
 
 -- its effect is the buffer's
-effect_of : (a : Attempt) (x : PlainState) (f : Effect) → effect_in (told a x) ≡ Some f → effect_at a.ask x ≡ f
+effect_of : (a : Attempt) (x : PlainState) (f : Effect) → effect_in (attempt_told a x) ≡ Some f → attempt_effect a.ask x ≡ f
 effect_of a x f is = go (allows a.ask x) is
   where
-    go : (y : Bool) → effect_in (reported_if y a x) ≡ Some f → effect_at a.ask x ≡ f
+    go : (y : Bool) → effect_in (reported_if y a x) ≡ Some f → attempt_effect a.ask x ≡ f
     go false is = absurd cc
     go true is = ap (λ o. unwrap_or o f) is
 
-effect_kinds : (t : Tid) (call : Call) (x : PlainState) (f : Effect) → effect_in (told (attempt_of t call) x) ≡ Some f → IsEffectOf call f
+effect_kinds : (t : Tid) (call : Call) (x : PlainState) (f : Effect) → effect_in (attempt_told (attempt_of t call) x) ≡ Some f → IsEffectOf call f
 effect_kinds t (Send b m) x f is =
-    let one : f ≡ effect_at (ask.Send m) x = sym (effect_of (attempt_of t (Send b m)) x f is) in
+    let one : f ≡ attempt_effect (ask.Send m) x = sym (effect_of (attempt_of t (Send b m)) x f is) in
     (ap (λ (e : Effect). group_of e.kind) one ∙ put_counts x.closed, ap (λ (e : Effect). e.value) one)
 effect_kinds t (Recv b) x f is =
     ap (λ (e : Effect). group_of e.kind) (sym (effect_of (attempt_of t (Recv b)) x f is)) ∙ take_counts x.items
@@ -211,12 +211,13 @@ reply_left call_states t call effect kind within told =
     ∙ ap (λ f. option_map (λ k. reply_with k f) kind) (effect_left call effect) ∙ told
 
 module _ (opening : LockId → Option (QueueBlock PlainLocked)) (c : CpuId) (b : BufId) (a : Attempt) (old new : List (QueueEvent Attempt)) (own : Threads)
-    (left : Sleeping Tried) (outcome : Outcome Tried) (done : IsDoneWhole (asked (sleep_kernel attempts opening) c b a) old new own left outcome) where
-  out_is : IsDoneWhole (asked (sleep_kernel attempts opening) c b a) old new own left outcome → out_at (sleep_kernel attempts opening) old b a ≡ Some outcome
+    (left : Sleeping Tried) (outcome : Outcome Tried) (done : IsDoneWhole (asked_edit (sleep_kernel attempts opening) c b a) old new own left outcome) where
+  out_is : IsDoneWhole (asked_edit (sleep_kernel attempts opening) c b a) old new own left outcome
+      → out_at (sleep_kernel attempts opening) old b a ≡ Some outcome
   out_is (inl alone) = alone.out
   out_is (inr sending) = sending.out
 
-  sections_are : IsDoneWhole (asked (sleep_kernel attempts opening) c b a) old new own left outcome
+  sections_are : IsDoneWhole (asked_edit (sleep_kernel attempts opening) c b a) old new own left outcome
       → buffer_sections new ≡ section c (Buffer b) a ∷ buffer_sections old
   sections_are (inl alone) = ap buffer_sections alone.seen
   sections_are (inr sending) = ap buffer_sections sending.seen
@@ -226,10 +227,10 @@ module _ (opening : LockId → Option (QueueBlock PlainLocked)) (c : CpuId) (b :
   effect_is (Some state) is = ap (λ (o : Option (Outcome Tried)). effect_in (unwrap_or o outcome).out) is
 
   -- the effects grow by the call's own, if it has one
-  pub done_entries : entries_in (inner opening) (buffer_sections new)
-      ≡ option_to_list (option_map (entry_of c a.thread b) (effect_in outcome.out)) ++ entries_in (inner opening) (buffer_sections old)
-  done_entries = ap (entries_in (inner opening)) (sections_are done)
-      ∙ ap (λ f. option_to_list (option_map (entry_of c a.thread b) f) ++ entries_in (inner opening) (buffer_sections old))
+  pub done_entries : plain_entries_in (inner opening) (buffer_sections new)
+      ≡ option_to_list (option_map (entry_of c a.thread b) (effect_in outcome.out)) ++ plain_entries_in (inner opening) (buffer_sections old)
+  done_entries = ap (plain_entries_in (inner opening)) (sections_are done)
+      ∙ ap (λ f. option_to_list (option_map (entry_of c a.thread b) f) ++ plain_entries_in (inner opening) (buffer_sections old))
       (effect_is (locked_after (inner opening) (Buffer b) (buffer_sections old)) (out_is done))
 
   -- and it is one of the call
@@ -239,12 +240,12 @@ module _ (opening : LockId → Option (QueueBlock PlainLocked)) (c : CpuId) (b :
       go : (x : Option PlainLocked) → option_map (sleep_answer attempts a) x ≡ Some outcome → IsEffectOf call f
       go None out = absurd cc
       go (Some state) out = effect_kinds t call state.above f
-          (subst (λ e. effect_in (told e state.above) ≡ Some f) is (effect_is (Some state) out ∙ has))
+          (subst (λ e. effect_in (attempt_told e state.above) ≡ Some f) is (effect_is (Some state) out ∙ has))
 
   pub done_deferred : left.deferred ≡ None
   done_deferred = go done
     where
-      go : IsDoneWhole (asked (sleep_kernel attempts opening) c b a) old new own left outcome → left.deferred ≡ None
+      go : IsDoneWhole (asked_edit (sleep_kernel attempts opening) c b a) old new own left outcome → left.deferred ≡ None
       go (inl alone) = ap (λ (s : Sleeping Tried). s.deferred) alone.leaves
       go (inr sending) = ap (λ (s : Sleeping Tried). s.deferred) sending.leaves
 
@@ -255,19 +256,19 @@ module _ (opening : LockId → Option (QueueBlock PlainLocked)) (c : CpuId) (b :
       K : Kernel Attempt PlainLocked (Outcome Tried)
       K = sleep_kernel attempts opening
 
-      go : IsDoneWhole (asked (sleep_kernel attempts opening) c b a) old new own left outcome
+      go : IsDoneWhole (asked_edit (sleep_kernel attempts opening) c b a) old new own left outcome
           → MovesGrow Acts c (moves_in (sleep_kernel attempts opening) old) (moves_in (sleep_kernel attempts opening) new)
       go (inl alone) = record {
         others = [];
-        mine = step c (call_move (sleep_kernel attempts opening) old (OnBuffer b a)) ∷ [];
+        mine = step_with c (call_move (sleep_kernel attempts opening) old (OnBuffer b a)) ∷ [];
         foreign = λ d acts. tt;
         own = (refl, tt);
         is = ap (moves_in (sleep_kernel attempts opening)) alone.seen;
       }
       go (inr sending) = record {
         others = [];
-        mine = step c (Pushed (queue_for (homes_in opening) c sending.woken) sending.woken)
-            ∷ step c (call_move (sleep_kernel attempts opening) old (OnBuffer b a)) ∷ [];
+        mine = step_with c (Pushed (queue_for (homes_in opening) c sending.woken) sending.woken)
+            ∷ step_with c (call_move (sleep_kernel attempts opening) old (OnBuffer b a)) ∷ [];
         foreign = λ d acts. tt;
         own = (refl, (refl, tt));
         is = ap (moves_in (sleep_kernel attempts opening)) sending.seen;
@@ -279,14 +280,15 @@ module _ (opening : LockId → Option (QueueBlock PlainLocked)) (c : CpuId) (b :
       → ((u : Tid) → (call_state_of call_states u).stage ≢ Idle → (call_state_of call_states u).effect ≡ None)
       → now ≡ slice_set call_states t.0 (call_state_after call (effect_in outcome.out)) → (answer : Option Reply)
       → answer ≡ reply_to call (effect_in outcome.out)
-      → Called Acts c t call call_states now (entries_in (inner opening) (buffer_sections old)) (entries_in (inner opening) (buffer_sections new)) answer
+      → Called Acts c t call call_states now (plain_entries_in (inner opening) (buffer_sections old))
+      (plain_entries_in (inner opening) (buffer_sections new)) answer
   done_called Acts t call call_states now attempt at within may waits set answer replies = record {
     others = [];
     mine = effect_in outcome.out;
     foreign = λ d acts. tt;
-    is = done_entries ∙ ap (λ u. option_to_list (option_map (entry_of c u b) (effect_in outcome.out)) ++ entries_in (inner opening) (buffer_sections old))
+    is = done_entries ∙ ap (λ u. option_to_list (option_map (entry_of c u b) (effect_in outcome.out)) ++ plain_entries_in (inner opening) (buffer_sections old))
         (ap (λ (e : Attempt). e.thread) attempt)
-        ∙ ap (λ x. option_to_list (option_map (entry_of c t x) (effect_in outcome.out)) ++ entries_in (inner opening) (buffer_sections old)) at;
+        ∙ ap (λ x. option_to_list (option_map (entry_of c t x) (effect_in outcome.out)) ++ plain_entries_in (inner opening) (buffer_sections old)) at;
     fresh = λ f has. (
       none_before (call_state_of call_states t) (waits t),
       ap (λ (x : CallState). x.effect) mine_now
@@ -330,26 +332,26 @@ module _ (opening : LockId → Option (QueueBlock PlainLocked)) (c : CpuId) (b :
 
   -- a call without an effect was refused: the buffer allows it none, and its thread sleeps
   pub done_refused : (t : Tid) (call : Call) → a ≡ attempt_of t call → b ≡ buffer_of call
-      → inner opening ≡ fresh_buffers (caps_in (viewed shown opening)) → effect_in outcome.out ≡ None
-      → IsRefused call (caps_in (viewed shown opening)) (entries_in (inner opening) (buffer_sections new))
+      → inner opening ≡ fresh_buffers (caps_in (viewed plain_shown opening)) → effect_in outcome.out ≡ None
+      → IsRefused call (caps_in (viewed plain_shown opening)) (plain_entries_in (inner opening) (buffer_sections new))
   done_refused t call attempt at fresh none =
-      subst (λ l. IsRefused call (caps_in (viewed shown opening)) l)
-      (sym (done_entries ∙ ap (λ f. option_to_list (option_map (entry_of c a.thread b) f) ++ entries_in (inner opening) (buffer_sections old)) none))
+      subst (λ l. IsRefused call (caps_in (viewed plain_shown opening)) l)
+      (sym (done_entries ∙ ap (λ f. option_to_list (option_map (entry_of c a.thread b) f) ++ plain_entries_in (inner opening) (buffer_sections old)) none))
       (go (locked_after (inner opening) (Buffer b) (buffer_sections old)) refl (out_is done))
     where
       E : List Entry
-      E = entries_in (inner opening) (buffer_sections old)
+      E = plain_entries_in (inner opening) (buffer_sections old)
 
       -- a buffer that does not allow it is open, and full or empty
-      barred : (k : Call) (x : PlainState) → effect_in (told (attempt_of t k) x) ≡ None → allows (ask_of k) x ≡ false
+      barred : (k : Call) (x : PlainState) → effect_in (attempt_told (attempt_of t k) x) ≡ None → allows (ask_of k) x ≡ false
       barred k x nothing = by (allows (ask_of k) x) nothing
         where
           by : (y : Bool) → effect_in (reported_if y (attempt_of t k) x) ≡ None → y ≡ false
           by true nothing = absurd (cc nothing)
           by false nothing = refl
 
-      refused : (k : Call) (x : PlainState) → Tally (caps_in (viewed shown opening)) (buffer_of k).0 E no_position (block_of x)
-          → effect_in (told (attempt_of t k) x) ≡ None → IsRefused k (caps_in (viewed shown opening)) E
+      refused : (k : Call) (x : PlainState) → Tally (caps_in (viewed plain_shown opening)) (buffer_of k).0 E no_position (plain_block x)
+          → effect_in (attempt_told (attempt_of t k) x) ≡ None → IsRefused k (caps_in (viewed plain_shown opening)) E
       refused (Send at m) x tally nothing =
           let full = or_parts x.closed (nat_lt (length x.items) x.capacity) (barred (Send at m) x nothing) in (
             λ room.
@@ -370,12 +372,12 @@ module _ (opening : LockId → Option (QueueBlock PlainLocked)) (c : CpuId) (b :
       refused (Close at) x tally nothing = absurd (cc nothing)
 
       go : (x : Option PlainLocked) → locked_after (inner opening) (Buffer b) (buffer_sections old) ≡ x → option_map (sleep_answer attempts a) x ≡ Some outcome
-          → IsRefused call (caps_in (viewed shown opening)) (entries_in (inner opening) (buffer_sections old))
+          → IsRefused call (caps_in (viewed plain_shown opening)) (plain_entries_in (inner opening) (buffer_sections old))
       go None is out = absurd cc
       go (Some state) is out = refused call state.above
-          (subst (λ (d : BufId). Tally (caps_in (viewed shown opening)) d.0 E no_position (block_of state.above)) at
-          (plain_tally (inner opening) (caps_in (viewed shown opening)) (buffer_sections old) fresh b state is))
-          (subst (λ e. effect_in (told e state.above) ≡ None) attempt (effect_is (Some state) out ∙ none))
+          (subst (λ (d : BufId). Tally (caps_in (viewed plain_shown opening)) d.0 E no_position (plain_block state.above)) at
+          (plain_tally (inner opening) (caps_in (viewed plain_shown opening)) (buffer_sections old) fresh b state is))
+          (subst (λ e. effect_in (attempt_told e state.above) ≡ None) attempt (effect_is (Some state) out ∙ none))
 
   -- and its thread sleeps
   pub done_sleeps : effect_in outcome.out ≡ None → left.threads.current ≡ None
@@ -385,6 +387,6 @@ module _ (opening : LockId → Option (QueueBlock PlainLocked)) (c : CpuId) (b :
       asleep = woken_current (homes_in opening) c outcome.woke (own_slept (attempts.joins outcome.out) own)
           ∙ slept_current outcome.out own none
 
-      go : IsDoneWhole (asked (sleep_kernel attempts opening) c b a) old new own left outcome → left.threads.current ≡ None
+      go : IsDoneWhole (asked_edit (sleep_kernel attempts opening) c b a) old new own left outcome → left.threads.current ≡ None
       go (inl alone) = ap (λ (s : Sleeping Tried). s.threads.current) alone.leaves ∙ asleep
       go (inr sending) = ap (λ (s : Sleeping Tried). s.threads.current) sending.leaves ∙ asleep

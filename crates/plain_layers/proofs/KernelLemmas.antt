@@ -18,8 +18,8 @@ use Rattle.shared_queue.specs.Opening.{AreQueues}
 use Rattle.layer_traits.specs.declared.scheds.SchedCall.TheVariants as sched
 
 -- a list of events that has grown by one, newest first
-pub grown : {A F X : Type 0} (r : Result A F) (a : A) (old new : List X) (x : X) → r ≡ Ok a → OnOk r (new ≡ old ++ x ∷ []) → reverse new ≡ x ∷ reverse old
-grown r a old new x is pushed = ap reverse (subst (λ o. OnOk o (new ≡ old ++ x ∷ [])) is pushed) ∙ reverse-append old (x ∷ [])
+pub log_grown : {A F X : Type 0} (r : Result A F) (a : A) (old new : List X) (x : X) → r ≡ Ok a → OnOk r (new ≡ old ++ x ∷ []) → reverse new ≡ x ∷ reverse old
+log_grown r a old new x is pushed = ap reverse (subst (λ o. OnOk o (new ≡ old ++ x ∷ [])) is pushed) ∙ reverse-append old (x ∷ [])
 
 -- what is handed on of a call names the lock of the call that is meant
 pub lock_handed : {H E : Type 0} (meant : H → Payload → E) (call : QueueCall H) (payload : Payload)

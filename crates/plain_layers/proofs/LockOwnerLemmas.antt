@@ -7,14 +7,14 @@ use Rattle.layer_traits.specs.declared.locked.{QEdit.{QEdit, TheVariants.{Acquir
 use Rattle.layer_traits.specs.declared.{locked.QOut.TheVariants.Released, conditions.CvOut.CvOut, queue_edits.QueueBlock.QueueBlock}
 use Rattle.layer_traits.specs.declared.{queues.{QueueCall.TheVariants.OnBuffer, QueueEvent.QueueEvent}, scheds.SchedCall.SchedCall, sleeps.Outcome.Outcome}
 use Rattle.layer_traits.specs.Layers.{Conditions.{CvCall, MonitorRules, cv_rules}, CvLaw.{CvPolled, Waiting, left_waiting}, QLocking.{LockRules, LockState}}
-use Rattle.layer_traits.specs.Layers.QLocking.{asked, asker_report, lock_after, lock_answer, lock_caller, lock_edited, lock_moves, owner_in, owner_of}
+use Rattle.layer_traits.specs.Layers.QLocking.{lock_asked_by, asker_report, lock_after, lock_answer, lock_caller, lock_edited, lock_moves, owner_in, owner_of}
 use Rattle.layer_traits.specs.Layers.{QLockLaw.{IsAcquire, LockPolled, Locking, Locks, left_after, left_locked, lock_kernel, slept_for}, Queues.buffer_sections}
-use Rattle.layer_traits.specs.Layers.{Queues.event, Scheds.own_answered, SleepLaw.{PollResult, Waits, Does, Sends, MayDo, Sleeping, left_with, must_send}}
-use Rattle.layer_traits.specs.{Layers.SleepLaw.seen_with, Threads.Places.Threads, Polling.Plans.Left, Blocks.QueueBlocks.{homes_in, inner}}
+use Rattle.layer_traits.specs.Layers.{Queues.event, Scheds.own_answered, SleepLaw.{PollResult, WaitsStill, Does, SendsHome, MayDo, Sleeping, left_with}}
+use Rattle.layer_traits.specs.{Layers.SleepLaw.{must_send, seen_with}, Threads.Places.Threads, Polling.Plans.Left, Blocks.QueueBlocks.{homes_in, inner}}
 
 module _ {F R B O : Type 0} (rules : LockRules F R B O) where
   -- who asks and is told that it owns the lock owns it after that call
-  asker_owns : (t : Tid) (state : LockState B) (owner : Option Tid) → asker_report {O = O} owner ≡ Acquired → (asked t owner state).owner ≡ Some t
+  asker_owns : (t : Tid) (state : LockState B) (owner : Option Tid) → asker_report {O = O} owner ≡ Acquired → (lock_asked_by t owner state).owner ≡ Some t
   asker_owns t state None told = refl
   asker_owns t state (Some u) told = absurd cc
 
@@ -96,9 +96,9 @@ module _ {F R B O : Type 0} (rules : LockRules F R B O) (opening : LockId → Op
     result_here : (poll_result : PollResult (QOut O)) (past : List (QueueEvent (QEdit F R)))
         → MayDo (lock_kernel rules opening) c b e poll_result past own.sleep → own.sleep.deferred ≡ None
         → Here (seen_with (lock_kernel rules opening) c b e poll_result past) (left_with (lock_kernel rules opening) c b e poll_result own.sleep)
-    result_here Waits past may none = λ some. absurd cc
+    result_here WaitsStill past may none = λ some. absurd cc
     result_here (Does outcome) past may none = does_here past outcome may
-    result_here (Sends u) past may none =
+    result_here (SendsHome u) past may none =
         let clash : false ≡ true = subst (λ o. IsSome o) none may.0 in
         absurd cc
 

@@ -2,7 +2,7 @@
 use Rattle.std.proofs.{Common.{◌≡◌, ◌==◌, ℕ, Bool, true, false, List, [], ◌∷◌, ◌++◌, refl, ap, ◌∙◌, if◌then◌else◌}, lemmas.List.append-nil}
 use Rattle.event_log.specs.{declared.entries.{Entry.Entry, Kind.{Kind, TheVariants.{Send, Recv, Close, SendClosed, RecvClosed}}}, Messages.Message}
 use Rattle.{event_log.specs.Streams.{put_by, sent_to, taken_by, taken_from}, layer_traits.specs.Blocks.BufferEffects.entry}
-use Rattle.cpu_workers.specs.Callers.{CallerView, HasMade, IsSameCaller}
+use Rattle.cpu_workers.specs.Callers.{CallerView, HasMadeCall, IsSameCaller}
 
 put_more : (k : Kind) (value : Message) (xs ys tail : List Message) → xs ≡ ys ++ tail → put_by k value xs ≡ put_by k value ys ++ tail
 put_more Send value xs ys tail same = ap (λ l. value ∷ l) same
@@ -37,7 +37,7 @@ taken_from_more b (x ∷ es) e =
     either_more (x.buffer.0 == b) (taken_by x.kind x.value) (λ l. l) (taken_from b (es ++ e ∷ [])) (taken_from b es) (taken_from b (e ∷ []))
     (taken_more x.kind x.value (taken_from b (es ++ e ∷ [])) (taken_from b es) (taken_from b (e ∷ [])) later) later
 
-module _ (old new : CallerView) (k : Kind) (value : Message) (made : HasMade old new k (record { 0 = 0 }) value) where
+module _ (old new : CallerView) (k : Kind) (value : Message) (made : HasMadeCall old new k (record { 0 = 0 }) value) where
   pub sent_after : sent_to 0 new.calls ≡ sent_to 0 old.calls ++ put_by k value []
   sent_after = ap (λ (v : CallerView). sent_to 0 v.calls) made.grows
       ∙ sent_more 0 old.calls (entry old.cpu old.thread k (record { 0 = 0 }) value made.op made.pos)
@@ -64,7 +64,7 @@ same_then a b c first second = record {
 
 -- A call that puts or takes nothing.
 
-module _ (old new : CallerView) (k : Kind) (value : Message) (made : HasMade old new k (record { 0 = 0 }) value) where
+module _ (old new : CallerView) (k : Kind) (value : Message) (made : HasMadeCall old new k (record { 0 = 0 }) value) where
   pub sent_same : put_by k value [] ≡ [] → sent_to 0 new.calls ≡ sent_to 0 old.calls
   sent_same none = sent_after old new k value made ∙ ap (λ l. sent_to 0 old.calls ++ l) none ∙ append-nil (sent_to 0 old.calls)
 

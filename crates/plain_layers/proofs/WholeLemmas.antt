@@ -3,8 +3,9 @@ use Rattle.std.proofs.Common.{◌≡◌, ◌<◌, Bool, true, false, List, [], �
 use Rattle.event_log.{specs.{declared.ids.{CpuId.CpuId, Tid.Tid, TheConstants.CPUS}, History.{AreForeign, IsLawful, same_cpu}}, proofs.Same.same_cpu_self}
 use Rattle.layer_traits.specs.declared.{queues.{QueueCall.TheVariants.{Push, OnBuffer}, QueueEvent.QueueEvent}, sleeps.Outcome.Outcome}
 use Rattle.layer_traits.specs.{Threads.{Passes.{passed_on, queue_for}, Places.Threads}, Polling.Plans.Left, Layers.Queues.{IsKnownEvent, event}}
-use Rattle.layer_traits.specs.Layers.{Queues.{cpu_of_queue_event, out_at}, Scheds.own_answered, SleepLaw.{PollResult, Does, MayDo, Sends, SleepPolled}}
-use Rattle.{layer_traits.specs.Layers.SleepLaw.{Sleeping, Waits, left_with, must_send, seen_with}, plain_layers.specs.Wholes.{Asked, DoneAlone, DoneSending}}
+use Rattle.layer_traits.specs.Layers.{Queues.{cpu_of_queue_event, out_at}, Scheds.own_answered, SleepLaw.{PollResult, Does, MayDo, SendsHome, SleepPolled}}
+use Rattle.{layer_traits.specs.Layers.SleepLaw.{Sleeping, WaitsStill, left_with, must_send, seen_with}, plain_layers.specs.Wholes.{Asked, DoneAlone}}
+use Rattle.plain_layers.specs.Wholes.{DoneSending}
 
 -- who acts for every CPU sees no event of another
 pub no_foreign_events : {E : Type 0} (ActsFor : CpuId → Type 0) → ((c : CpuId) → c.0 < CPUS → ActsFor c) → (others old : List (QueueEvent E))
@@ -43,9 +44,9 @@ module _ {E B O : Type 0} (s : Asked E B O) (ActsFor : CpuId → Type 0) (all : 
   older : (poll_result : PollResult O) (past : List (QueueEvent E)) → new ≡ seen_with s.kernel s.cpu s.buffer s.edit poll_result past
       → IsLawful IsKnownEvent new
       → IsLawful IsKnownEvent past
-  older Waits past is known = subst (IsLawful IsKnownEvent) is known
+  older WaitsStill past is known = subst (IsLawful IsKnownEvent) is known
   older (Does outcome) past is known = (subst (IsLawful IsKnownEvent) is known).1
-  older (Sends t) past is known = (subst (IsLawful IsKnownEvent) is known).1
+  older (SendsHome t) past is known = (subst (IsLawful IsKnownEvent) is known).1
 
   alone : (own : Sleeping O) (got : Left (Sleeping O) (Outcome O)) → IsLawful IsKnownEvent new
       → SleepPolled s.kernel ActsFor s.cpu s.buffer s.edit old new own got → Alone own got
@@ -74,8 +75,8 @@ module _ {E B O : Type 0} (s : Asked E B O) (ActsFor : CpuId → Type 0) (all : 
       go : (poll_result : PollResult O) → MayDo s.kernel s.cpu s.buffer s.edit poll_result old own
           → new ≡ seen_with s.kernel s.cpu s.buffer s.edit poll_result old
           → got left (Some outcome) ≡ left_with s.kernel s.cpu s.buffer s.edit poll_result own → DoneAlone s old new own.threads left outcome
-      go Waits may is leaves = absurd (apart (Outcome O) outcome (ap (λ (l : Left (Sleeping O) (Outcome O)). l.answer) leaves))
-      go (Sends t) may is leaves = absurd (something (Outcome O) (subst (λ o. IsSome o) deferred may.0))
+      go WaitsStill may is leaves = absurd (apart (Outcome O) outcome (ap (λ (l : Left (Sleeping O) (Outcome O)). l.answer) leaves))
+      go (SendsHome t) may is leaves = absurd (something (Outcome O) (subst (λ o. IsSome o) deferred may.0))
       go (Does told) may is leaves = by_send (must_send told (threads_after own.threads told)) refl leaves
         where
           by_send : (b : Bool) → must_send told (threads_after own.threads told) ≡ b
@@ -103,10 +104,10 @@ module _ {E B O : Type 0} (s : Asked E B O) (ActsFor : CpuId → Type 0) (all : 
       go : (poll_result : PollResult O) → MayDo s.kernel s.cpu s.buffer s.edit poll_result old own
           → new ≡ seen_with s.kernel s.cpu s.buffer s.edit poll_result old
           → got left None ≡ left_with s.kernel s.cpu s.buffer s.edit poll_result own → (outcome : Outcome O) × Begun s old new own.threads outcome left
-      go Waits may is leaves =
+      go WaitsStill may is leaves =
           let same : left ≡ own = ap (λ (l : Left (Sleeping O) (Outcome O)). l.own) leaves in
           absurd (something (Outcome O) (subst (λ o. IsSome o) (ap (λ (x : Sleeping O). x.deferred) same ∙ deferred) keeps))
-      go (Sends t) may is leaves = absurd (something (Outcome O) (subst (λ o. IsSome o) deferred may.0))
+      go (SendsHome t) may is leaves = absurd (something (Outcome O) (subst (λ o. IsSome o) deferred may.0))
       go (Does told) may is leaves = by_send (must_send told (threads_after own.threads told)) refl leaves
         where
           by_send : (b : Bool) → must_send told (threads_after own.threads told) ≡ b
@@ -135,9 +136,9 @@ module _ {E B O : Type 0} (s : Asked E B O) (ActsFor : CpuId → Type 0) (all : 
           → got left (Some outcome) ≡ left_with s.kernel s.cpu s.buffer s.edit poll_result own
           → (t : Tid) × (own.threads.hand ≡ Some t) × (outcome ≡ deferred) × (new ≡ event s.cpu (Push (queue_for s.kernel.homes s.cpu t) t) ∷ old)
           × (left ≡ record { threads = passed_on own.threads; deferred = None })
-      go Waits may is leaves = absurd (apart (Outcome O) outcome (ap (λ (l : Left (Sleeping O) (Outcome O)). l.answer) leaves))
+      go WaitsStill may is leaves = absurd (apart (Outcome O) outcome (ap (λ (l : Left (Sleeping O) (Outcome O)). l.answer) leaves))
       go (Does told) may is leaves = absurd (apart (Outcome O) deferred (sym keeps ∙ may.0))
-      go (Sends t) may is leaves = (
+      go (SendsHome t) may is leaves = (
         t,
         may.1,
         ap (λ (l : Left (Sleeping O) (Outcome O)). unwrap_or l.answer outcome) leaves ∙ ap (λ o. unwrap_or o outcome) keeps,

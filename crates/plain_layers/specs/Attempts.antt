@@ -24,8 +24,8 @@ pub record PlainState : Type 0 where
   pub senders : List Tid
 
 -- a buffer at the start
-abbrev pub empty_buffer : ℕ → PlainState
-empty_buffer capacity = record {
+abbrev pub plain_empty_buffer : ℕ → PlainState
+plain_empty_buffer capacity = record {
   items = [];
   capacity = capacity;
   closed = false;
@@ -60,11 +60,11 @@ allows Receive x = x.closed || nat_lt 0 (length x.items)
 allows Close x = true
 
 -- the effect of a call
-abbrev pub effect_at : Ask → PlainState → Effect
-effect_at (Send m) x = record { kind = if x.closed then kind.SendClosed else kind.Send; value = m; op = x.effects; pos = x.sends }
-effect_at Receive x =
+abbrev pub attempt_effect : Ask → PlainState → Effect
+attempt_effect (Send m) x = record { kind = if x.closed then kind.SendClosed else kind.Send; value = m; op = x.effects; pos = x.sends }
+attempt_effect Receive x =
     record { kind = if nat_lt 0 (length x.items) then kind.Recv else kind.RecvClosed; value = first_item x.items; op = x.effects; pos = x.receives }
-effect_at Close x = record { kind = kind.Close; value = no_message; op = x.effects; pos = x.closes }
+attempt_effect Close x = record { kind = kind.Close; value = no_message; op = x.effects; pos = x.closes }
 
 -- whether the buffer is closed after it
 abbrev pub closed_after : Ask → PlainState → Bool
@@ -81,14 +81,14 @@ abbrev pub waking : Ask → PlainState → Side
 waking ask x = waking_by (closed_after ask x) (attempt_side ask) x
 
 -- who leaves, where this one of a side is woken
-abbrev pub leaving : Side → Option Tid → Wake
-leaving side None = leave.Nobody
-leaving Receivers (Some t) = leave.Receiver t
-leaving Senders (Some t) = leave.Sender t
+abbrev pub leaving_side : Side → Option Tid → Wake
+leaving_side side None = leave.Nobody
+leaving_side Receivers (Some t) = leave.Receiver t
+leaving_side Senders (Some t) = leave.Sender t
 
 -- who is woken by the effect of a call
-abbrev pub wakes : Ask → PlainState → Wake
-wakes ask x = leaving (waking ask x) (first (waiting_on (waking ask x) x))
+abbrev pub attempt_wakes : Ask → PlainState → Wake
+attempt_wakes ask x = leaving_side (waking ask x) (first (waiting_on (waking ask x) x))
 
 -- who waits on a side once the first of a side was woken
 abbrev pub wait_list_left : Side → Side → List Tid → List Tid
@@ -109,17 +109,17 @@ done Receive x = record (attempt_woken (waking Receive x) x) { items = other_ite
 done Close x = record (attempt_woken (waking Close x) x) { closed = true; effects = counted x.effects; closes = counted x.closes }
 
 -- the buffer once this thread waits on a side
-abbrev pub waits : Tid → Side → PlainState → PlainState
-waits t Senders x = record x { senders = joined t x.senders }
-waits t Receivers x = record x { receivers = joined t x.receivers }
+abbrev pub with_waiter : Tid → Side → PlainState → PlainState
+with_waiter t Senders x = record x { senders = joined t x.senders }
+with_waiter t Receivers x = record x { receivers = joined t x.receivers }
 
 -- the buffer after an attempt
 abbrev pub attempted : Attempt → PlainState → PlainState
-attempted a x = if allows a.ask x then done a.ask x else waits a.thread (attempt_side a.ask) x
+attempted a x = if allows a.ask x then done a.ask x else with_waiter a.thread (attempt_side a.ask) x
 
 -- what an attempt answers
-abbrev pub told : Attempt → PlainState → Tried
-told a x = if allows a.ask x then Acted (effect_at a.ask x) (wakes a.ask x) else Refused (attempt_side a.ask)
+abbrev pub attempt_told : Attempt → PlainState → Tried
+attempt_told a x = if allows a.ask x then Acted (attempt_effect a.ask x) (attempt_wakes a.ask x) else Refused (attempt_side a.ask)
 
 -- the effect of an attempt that answered this, if it had one
 abbrev pub effect_in : Tried → Option Effect
@@ -141,7 +141,7 @@ abbrev pub attempts : SleepRules Attempt PlainState Tried
 attempts = record {
   caller = λ a. a.thread;
   edited = λ a front x. attempted a x;
-  answer = λ a front x. told a x;
+  answer = λ a front x. attempt_told a x;
   joins = wait_list_by;
   leaves = attempt_left_by;
   allowed = λ opening past s. Unit {0};

@@ -3,14 +3,14 @@ use Rattle.{std.specs.Prelude.{Bool, List, Option, Some, None}, event_log.specs.
 use Rattle.{layer_traits.specs.{declared.moves.WaitList.WaitList, Layers.Sleeping.wait_list_at}, plain_layers.specs.Fifos.PlainLocked}
 
 -- the items of a lock's buffer, whether it is closed, and its waiting lists
-abbrev pub items_in : PlainLocked → List Message
-items_in state = state.above.items
+abbrev pub plain_items_in : PlainLocked → List Message
+plain_items_in state = state.above.items
 
-abbrev pub closed_of : PlainLocked → Bool
-closed_of state = state.above.closed
+abbrev pub plain_closed_of : PlainLocked → Bool
+plain_closed_of state = state.above.closed
 
-abbrev pub wait_lists_of : PlainLocked → WaitList → List Tid
-wait_lists_of state line = wait_list_at line (Some state)
+abbrev pub plain_wait_lists_of : PlainLocked → WaitList → List Tid
+plain_wait_lists_of state line = wait_list_at line (Some state)
 
 abbrev pub nobody : Option Tid
 nobody = None

@@ -7,7 +7,7 @@ use Rattle.layer_traits.specs.declared.{moves.WaitList.WaitList, scheds.SchedCal
 use Rattle.layer_traits.specs.Layers.{BufferLaw.{Buffering, buffering, entry_of, reply_of, call_state_of}, Sleeping.{SleepState, wait_list_at, sleep_edited}}
 use Rattle.layer_traits.specs.{Layers.SleepLaw.Sleeping, Blocks.{BufferProtocol.BufferLock, Capacities.caps_in, QueueBlocks.inner}, Threads.Places.Threads}
 use Rattle.{layer_traits.specs.Views.Renaming.viewed, plain_layers.specs.{declared.attempts.{Ask.Ask, Attempt.Attempt, Tried.Tried}, Attempts.PlainState}}
-use Rattle.plain_layers.specs.Attempts.{attempts, effect_in, empty_buffer, told}
+use Rattle.plain_layers.specs.Attempts.{attempts, effect_in, plain_empty_buffer, attempt_told}
 use Rattle.plain_layers.specs.declared.attempts.Ask.TheVariants as ask
 
 -- a buffer with the waiting lists of its lock
@@ -40,7 +40,7 @@ locked_after opening lock past = block_after (sleep_edited attempts) opening loc
 -- the effect of an attempt at a buffer, if the buffer allows one
 abbrev pub effect_by : Attempt → Option PlainLocked → Option Effect
 effect_by a None = None
-effect_by a (Some state) = effect_in (told a state.above)
+effect_by a (Some state) = effect_in (attempt_told a state.above)
 
 -- the entry of a section at a lock
 abbrev pub entry_at : CpuId → LockId → Attempt → Option PlainLocked → Option Entry
@@ -48,13 +48,13 @@ entry_at c (Pending d) a state = None
 entry_at c (Buffer b) a state = option_map (entry_of c a.thread b) (effect_by a state)
 
 -- the effects of these sections
-abbrev pub entries_in : (LockId → Option PlainLocked) → List (Section Attempt) → List Entry
-entries_in opening [] = []
-entries_in opening (s ∷ past) = option_to_list (entry_at s.cpu s.lock s.edit (locked_after opening s.lock past)) ++ entries_in opening past
+abbrev pub plain_entries_in : (LockId → Option PlainLocked) → List (Section Attempt) → List Entry
+plain_entries_in opening [] = []
+plain_entries_in opening (s ∷ past) = option_to_list (entry_at s.cpu s.lock s.edit (locked_after opening s.lock past)) ++ plain_entries_in opening past
 
 -- a buffer with room for so many items, at which nobody waits
 abbrev pub fresh_buffer : ℕ → PlainLocked
-fresh_buffer capacity = record { sleepers = []; receivers = []; senders = []; above = empty_buffer capacity }
+fresh_buffer capacity = record { sleepers = []; receivers = []; senders = []; above = plain_empty_buffer capacity }
 
 -- the buffers of these capacities
 abbrev pub fresh_buffers : List ℕ → LockId → Option PlainLocked
@@ -66,8 +66,8 @@ abbrev pub wait_lists_in : (LockId → Option PlainLocked) → List (Section Att
 wait_lists_in opening past b line = wait_list_at line (locked_after opening (Buffer b) past)
 
 -- a buffer as the layer's trait shows it: its lock has no owner, and nobody stands in the lines of the block
-abbrev pub shown : PlainLocked → BufferLock
-shown state = record {
+abbrev pub plain_shown : PlainLocked → BufferLock
+plain_shown state = record {
   owner = None;
   sleepers = state.sleepers;
   receivers = state.receivers;
@@ -88,18 +88,18 @@ shown state = record {
 -- the machine has one holder for all CPUs, and opened with fresh buffers
 pub record IsOwned (ActsFor : CpuId → Type 0) (opening : LockId → Option (QueueBlock PlainLocked)) : Type 0 where
   pub all : (c : CpuId) → c.0 < CPUS → ActsFor c
-  pub fresh : inner opening ≡ fresh_buffers (caps_in (viewed shown opening))
+  pub fresh : inner opening ≡ fresh_buffers (caps_in (viewed plain_shown opening))
 
 -- between its polls a part has nothing begun; and a thread has an effect only once its call is over
-pub record Rests (under : Option (SchedCall Attempt)) (own : Sleeping Tried) (call_states : List CallState) : Type 0 where
+pub record RestsBetweenPolls (under : Option (SchedCall Attempt)) (own : Sleeping Tried) (call_states : List CallState) : Type 0 where
   pub none : under ≡ None
   pub deferred : own.deferred ≡ None
   pub waits : (t : Tid) → (call_state_of call_states t).stage ≢ Idle → (call_state_of call_states t).effect ≡ None
   pub slots : length call_states ≡ THREADS
 
 -- what a part has of its own, as the layer's trait shows it
-abbrev pub own_of : Threads → List CallState → Buffering
-own_of threads call_states = buffering (record {
+abbrev pub plain_own_of : Threads → List CallState → Buffering
+plain_own_of threads call_states = buffering (record {
   lock = record { sleep = record { threads = threads; deferred = None }; slept = replicate THREADS None };
   waits = replicate THREADS None;
 }) call_states

@@ -16,8 +16,8 @@ pub record Asked (E B O : Type 0) : Type 1 where
   pub buffer : BufId
   pub edit : E
 
-abbrev pub asked : {E B O : Type 0} → Kernel E B (Outcome O) → CpuId → BufId → E → Asked E B O
-asked kernel cpu buffer edit = record { kernel = kernel; cpu = cpu; buffer = buffer; edit = edit }
+abbrev pub asked_edit : {E B O : Type 0} → Kernel E B (Outcome O) → CpuId → BufId → E → Asked E B O
+asked_edit kernel cpu buffer edit = record { kernel = kernel; cpu = cpu; buffer = buffer; edit = edit }
 
 module _ {E B O : Type 0} (s : Asked E B O) (old new : List (QueueEvent E)) (own : Threads) (left : Sleeping O) (outcome : Outcome O) where
   -- the CPU's own threads after the section

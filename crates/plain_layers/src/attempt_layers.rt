@@ -2,7 +2,7 @@
 //! waits.
 
 ghost use Rattle.std.specs.Prelude.{◌≡◌, ◌<◌, ◌≤◌, [], All, IfOk, IsSome, map};
-ghost use Rattle.{event_log.specs.Buffers.IsCapacity, plain_layers.specs.Attempts.empty_buffer};
+ghost use Rattle.{event_log.specs.Buffers.IsCapacity, plain_layers.specs.Attempts.plain_empty_buffer};
 
 use crate::attempts::{Attempt, PlainBuffer};
 use crate::kernel::PlainKernel;
@@ -54,7 +54,7 @@ pub trait OpensAttempts: OwnedThreadLayer<SleepLaw<Attempt>> {
 /// Errors: `NoMemory` where there is none for them.
 pub fn plain_buffers(alloc: Global, caps: &[u8]) -> Result<Vec<PlainBuffer>, NoMemory>
     requires { All IsCapacity caps.now }
-    ensures { IfOk result (λ buffers. buffers.items ≡ map empty_buffer caps.now) }
+    ensures { IfOk result (λ buffers. buffers.items ≡ map plain_empty_buffer caps.now) }
 {
     let mut buffers = Vec::with_capacity(alloc, caps.len())?;
     for capacity in caps {

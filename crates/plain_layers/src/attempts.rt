@@ -2,9 +2,9 @@
 
 ghost use Rattle.std.specs.Prelude.{◌≡◌, ◌≤◌, true, [], is_some};
 ghost use Rattle.{event_log.specs.declared.ids.TheConstants.CAPACITY, layer_traits.specs.{Layers.Sleeping.joined, declared.sleeps.Wake.TheVariants.Nobody}};
-ghost use Rattle.plain_layers.specs.Attempts.{PlainState, allows, closed_after, done, effect_at, effect_in, empty_buffer, leaving, attempt_side, waiting_on};
-ghost use Rattle.plain_layers.specs.{Attempts.{waits, waking_by, wakes, attempt_woken}, declared.attempts.Ask.{Ask, TheVariants.{Close, Receive, Send}}};
-ghost use Rattle.{plain_layers.specs.declared.attempts.Tried.TheVariants.Acted, thread_blocks.specs.Queues.first};
+ghost use Rattle.plain_layers.specs.Attempts.{PlainState, allows, closed_after, done, attempt_effect, effect_in, plain_empty_buffer, leaving_side};
+ghost use Rattle.plain_layers.specs.{Attempts.{attempt_side, waiting_on, with_waiter, waking_by, attempt_wakes, attempt_woken}, declared.attempts.Ask.Ask};
+ghost use Rattle.{plain_layers.specs.declared.attempts.{Ask.TheVariants.{Close, Receive, Send}, Tried.TheVariants.Acted}, thread_blocks.specs.Queues.first};
 
 use arrayvec::ArrayVec;
 use event_log::{CAPACITY, Kind, Msg, Ring, THREADS, Tid};
@@ -95,7 +95,7 @@ impl PlainBuffer {
     /// Requires: `capacity` is at most `CAPACITY`.
     pub fn new(capacity: usize) -> PlainBuffer
         requires { capacity ≤ CAPACITY }
-        ensures { result ≡ empty_buffer capacity }
+        ensures { result ≡ plain_empty_buffer capacity }
     {
         PlainBuffer {
             items: Ring::new(Msg::none()),
@@ -149,7 +149,7 @@ impl PlainBuffer {
     /// Wakes the first of this side; nobody, where nobody waits there.
     fn wake(&mut self, side: Side) -> Wake
         ensures block { self.new ≡ attempt_woken side self.old }
-        ensures reported { result ≡ leaving side (first (waiting_on side self.old)) }
+        ensures reported { result ≡ leaving_side side (first (waiting_on side self.old)) }
     {
         match side {
             Side::Receivers => match self.receivers.pop() {
@@ -167,7 +167,8 @@ impl PlainBuffer {
     /// closed the first of its own, while somebody waits there.
     fn wake_after(&mut self, own: Side) -> Wake
         ensures block { self.new ≡ attempt_woken (waking_by self.old.closed own self.old) self.old }
-        ensures reported { result ≡ leaving (waking_by self.old.closed own self.old) (first (waiting_on (waking_by self.old.closed own self.old) self.old)) }
+        ensures reported { result
+            ≡ leaving_side (waking_by self.old.closed own self.old) (first (waiting_on (waking_by self.old.closed own self.old) self.old)) }
     {
         if self.closed && self.has_waiting(own) {
             return self.wake(own);
@@ -182,7 +183,7 @@ impl PlainBuffer {
     fn send(&mut self, message: &Msg) -> Tried
         requires { allows (Send message.now) self.old ≡ true }
         ensures block { self.new ≡ done (Send message.now) self.old }
-        ensures reported { result ≡ Acted (effect_at (Send message.now) self.old) (wakes (Send message.now) self.old) }
+        ensures reported { result ≡ Acted (attempt_effect (Send message.now) self.old) (attempt_wakes (Send message.now) self.old) }
     {
         let effect = Effect {
             kind: if self.closed {
@@ -206,7 +207,7 @@ impl PlainBuffer {
     fn receive(&mut self) -> Tried
         requires { allows Receive self.old ≡ true }
         ensures block { self.new ≡ done Receive self.old }
-        ensures reported { result ≡ Acted (effect_at Receive self.old) (wakes Receive self.old) }
+        ensures reported { result ≡ Acted (attempt_effect Receive self.old) (attempt_wakes Receive self.old) }
     {
         let item = self.items.take();
         let effect = Effect {
@@ -227,7 +228,7 @@ impl PlainBuffer {
     /// Closes the buffer.
     fn close(&mut self) -> Tried
         ensures block { self.new ≡ done Close self.old }
-        ensures reported { result ≡ Acted (effect_at Close self.old) (wakes Close self.old) }
+        ensures reported { result ≡ Acted (attempt_effect Close self.old) (attempt_wakes Close self.old) }
     {
         let effect = Effect {
             kind: Kind::Close,
@@ -243,7 +244,7 @@ impl PlainBuffer {
 
     /// Lets `t` wait on this side.
     fn wait(&mut self, t: Tid, side: Side)
-        ensures { self.new ≡ waits t side self.old }
+        ensures { self.new ≡ with_waiter t side self.old }
     {
         match side {
             Side::Senders => join(&mut self.senders, t),
@@ -256,7 +257,7 @@ impl PlainBuffer {
 /// nobody found nobody waiting: so each that waits is woken, by an effect of the one before it.
 pub fn closed_buffers_let_all_go()
     ensures goes { (ask : Ask) (x : PlainState) → x.closed ≡ true → allows ask x ≡ true }
-    ensures wakes { (ask : Ask) (x : PlainState) → closed_after ask x ≡ true → wakes ask x ≡ Nobody → (x.receivers ≡ []) × (x.senders ≡ []) }
+    ensures wakes { (ask : Ask) (x : PlainState) → closed_after ask x ≡ true → attempt_wakes ask x ≡ Nobody → (x.receivers ≡ []) × (x.senders ≡ []) }
 {}
 
 /// The side of a call.

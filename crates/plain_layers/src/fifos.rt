@@ -94,14 +94,14 @@ fn reply(call: &Call, effect: &Option<Effect>) -> Option<ReplyKind>
 impl<S: ThreadLayer<SleepLaw<Attempt>>> CallLayer<BufferLaw> for PlainFifo<S> {
     ghost use Rattle.std.specs.Prelude.{◌/◌, IsSome, length, refl};
     ghost use Rattle.{event_log.specs.declared.ids.LockId.TheVariants.Pending, plain_layers.specs.Laws.{FifoLaws.plain_wait_lists, FifoTallies.plain_lawful}};
-    ghost use Rattle.plain_layers.specs.{Attempts.attempts, Fifos.{IsOwned, Rests, entries_in, wait_lists_in, own_of, shown}};
+    ghost use Rattle.plain_layers.specs.{Attempts.attempts, Fifos.{IsOwned, RestsBetweenPolls, plain_entries_in, wait_lists_in, plain_own_of, plain_shown}};
     ghost use Rattle.layer_traits.{proofs.KernelRenaming.{at_viewed, starts_viewed}, specs.Blocks.QueueBlocks.{homes_in, inner}};
     ghost use Rattle.layer_traits.specs.{Layers.{Queues.{buffer_sections, moves_in}, IpcLaw.WaitListsAgree, SleepLaw.sleep_kernel}, Threads.Places.AreMoves};
     ghost use Rattle.layer_traits.specs.{Threads.Places.Stands, Views.Renaming.viewed};
 
     type Machine = S::Machine;
 
-    ghost seen = { λ m. entries_in (inner (S.opening m)) (buffer_sections (S.seen m)) };
+    ghost seen = { λ m. plain_entries_in (inner (S.opening m)) (buffer_sections (S.seen m)) };
 
     ghost moves = { λ m. moves_in (sleep_kernel attempts (S.opening m)) (S.seen m) };
 
@@ -114,9 +114,9 @@ impl<S: ThreadLayer<SleepLaw<Attempt>>> CallLayer<BufferLaw> for PlainFifo<S> {
     ghost site = { λ m. S.site m };
 
     ghost IsFresh = { λ m homes c. (S.ActsFor m c × S.IsWhole × IsOwned (λ d. S.ActsFor m d) (S.opening m)) × S.IsOutside m c
-        × (entries_in (inner (S.opening m)) (buffer_sections (S.seen m)) ≡ [])
+        × (plain_entries_in (inner (S.opening m)) (buffer_sections (S.seen m)) ≡ [])
         × (moves_in (sleep_kernel attempts (S.opening m)) (S.seen m) ≡ [])
-        × (homes_in (viewed shown (S.opening m)) ≡ homes) × IsSome (S.opening m (Pending c)) };
+        × (homes_in (viewed plain_shown (S.opening m)) ≡ homes) × IsSome (S.opening m (Pending c)) };
 
     ghost MayHold = { λ m c. S.MayHold m c };
 
@@ -127,17 +127,17 @@ impl<S: ThreadLayer<SleepLaw<Attempt>>> CallLayer<BufferLaw> for PlainFifo<S> {
     ghost under_way = { λ p. None };
 
     ghost Fits = { λ p m. S.Fits p.lower m × S.IsWhole × IsOwned (λ d. S.ActsFor m d) (S.opening m)
-        × Rests (S.under_way p.lower) (S.own p.lower) p.call_states };
+        × RestsBetweenPolls (S.under_way p.lower) (S.own p.lower) p.call_states };
 
     ghost IsWhole = { Unit {0} };
 
     ghost IsStepwise = { ⊥ };
 
-    ghost opening = { λ m. viewed shown (S.opening m) };
+    ghost opening = { λ m. viewed plain_shown (S.opening m) };
 
     ghost acts = { λ m. [] };
 
-    ghost own = { λ p. own_of (S.own p.lower).threads p.call_states };
+    ghost own = { λ p. plain_own_of (S.own p.lower).threads p.call_states };
 
     fn part(cpu: CpuId, homes: &[CpuId], buffers: u8) -> Self {
         PlainFifo {
@@ -187,19 +187,19 @@ impl<S: ThreadLayer<SleepLaw<Attempt>>> CallLayer<BufferLaw> for PlainFifo<S> {
 
     ghost own_cpu = { λ p m fits. (S.own_cpu p.lower m fits.0, fits.1, fits.2) };
 
-    ghost lawful = { λ m c acts. plain_lawful (inner (S.opening m)) (caps_in (viewed shown (S.opening m))) (buffer_sections (S.seen m)) acts.2.fresh };
+    ghost lawful = { λ m c acts. plain_lawful (inner (S.opening m)) (caps_in (viewed plain_shown (S.opening m))) (buffer_sections (S.seen m)) acts.2.fresh };
 
-    ghost stands = { λ p m fits. at_viewed shown (S.opening m) (λ homes. Stands homes (S.cpu_of p.lower)
+    ghost stands = { λ p m fits. at_viewed plain_shown (S.opening m) (λ homes. Stands homes (S.cpu_of p.lower)
         (moves_in (sleep_kernel attempts (S.opening m)) (S.seen m)) (S.own p.lower).threads) (S.stands p.lower m fits.0).stands };
 
-    ghost moves_legal = { λ m c acts. at_viewed shown (S.opening m)
+    ghost moves_legal = { λ m c acts. at_viewed plain_shown (S.opening m)
         (λ homes. AreMoves homes (moves_in (sleep_kernel attempts (S.opening m)) (S.seen m))) (S.moves_legal m c acts.0) };
 
-    ghost lists = { λ p m fits. at_viewed shown (S.opening m) (λ homes. WaitListsAgree (length (caps_in (viewed shown (S.opening m)))) homes
+    ghost lists = { λ p m fits. at_viewed plain_shown (S.opening m) (λ homes. WaitListsAgree (length (caps_in (viewed plain_shown (S.opening m)))) homes
         (moves_in (sleep_kernel attempts (S.opening m)) (S.seen m)) (wait_lists_in (inner (S.opening m)) (buffer_sections (S.seen m))))
         (plain_wait_lists (S.opening m) (S.seen m) fits.2.fresh (S.stands p.lower m fits.0).lists) };
 
-    ghost starts = { λ m c acts. starts_viewed shown (S.opening m) (S.opens m c acts.0) };
+    ghost starts = { λ m c acts. starts_viewed plain_shown (S.opening m) (S.opens m c acts.0) };
 
     ghost legal = { λ m c acts. tt };
 
@@ -218,27 +218,28 @@ impl<S: OwnedThreadLayer<SleepLaw<Attempt>>> OwnedBuffers for PlainFifo<S> {
     ghost use Rattle.{std.{specs.Prelude.option_map, proofs.Common.sym}, event_log.specs.{declared.ids.LockId.TheVariants.{Buffer, Pending}, Buffers.items_of}};
     ghost use Rattle.{event_log.specs.Runs.is_closed, layer_traits.specs.{Blocks.{BufferEffects.contents_of, QueueBlocks.inner}, Threads.Places.pending_by}};
     ghost use Rattle.layer_traits.specs.{Layers.{Queues.{buffer_sections, moves_in}, SleepLaw.sleep_kernel}, Views.Renaming.{viewed, viewed_block}};
-    ghost use Rattle.{layer_traits.proofs.OwnedLemmas.{parts_on, read_on, view_read}, plain_layers.specs.{Attempts.attempts, Fifos.entries_in}};
-    ghost use Rattle.plain_layers.specs.{Fifos.{wait_lists_in, locked_after, shown}, FifoOwned.{closed_of, items_in, wait_lists_of, nobody, nothing_read}};
-    ghost use Rattle.plain_layers.specs.Laws.FifoOwned.{buffer_there, closed_read, entries_known, items_read, wait_lists_read, nobody_owns, there_viewed};
+    ghost use Rattle.{layer_traits.proofs.OwnedLemmas.{parts_on, read_on, view_read}, plain_layers.specs.{Attempts.attempts, Fifos.plain_entries_in}};
+    ghost use Rattle.plain_layers.specs.{Fifos.{wait_lists_in, locked_after, plain_shown}, FifoOwned.{plain_closed_of, plain_items_in, plain_wait_lists_of}};
+    ghost use Rattle.plain_layers.specs.{FifoOwned.{nobody, nothing_read}, Laws.FifoOwned.{buffer_there, closed_read, entries_known, items_read}};
+    ghost use Rattle.plain_layers.specs.Laws.FifoOwned.{wait_lists_read, nobody_owns, there_viewed};
 
     ghost owner = { λ m b. nobody };
 
-    ghost items_at = { λ m b. option_map items_in (S.block_at m b) };
+    ghost items_at = { λ m b. option_map plain_items_in (S.block_at m b) };
 
-    ghost items_with = { λ p b. option_map items_in (S.block_with p.lower b) };
+    ghost items_with = { λ p b. option_map plain_items_in (S.block_with p.lower b) };
 
-    ghost closed_at = { λ m b. option_map closed_of (S.block_at m b) };
+    ghost closed_at = { λ m b. option_map plain_closed_of (S.block_at m b) };
 
-    ghost closed_with = { λ p b. option_map closed_of (S.block_with p.lower b) };
+    ghost closed_with = { λ p b. option_map plain_closed_of (S.block_with p.lower b) };
 
     ghost owner_at = { λ m b. Some nobody };
 
     ghost owner_with = { λ p b. nothing_read };
 
-    ghost wait_lists_at = { λ m b. option_map wait_lists_of (S.block_at m b) };
+    ghost wait_lists_at = { λ m b. option_map plain_wait_lists_of (S.block_at m b) };
 
-    ghost wait_lists_with = { λ p b. option_map wait_lists_of (S.block_with p.lower b) };
+    ghost wait_lists_with = { λ p b. option_map plain_wait_lists_of (S.block_with p.lower b) };
 
     ghost queue_at = { λ m d. S.queue_at m d };
 
@@ -288,15 +289,15 @@ impl<S: OwnedThreadLayer<SleepLaw<Attempt>>> OwnedBuffers for PlainFifo<S> {
 
     ghost items = { λ m c b acts within. view_read
         (parts_on (λ (p : Self). p.lower) (λ p. S.Fits p m) (λ (p : Self). Self.Fits p m) (λ p. S.cpu_of p) (S.MayHold m) (λ p fits. fits.0))
-        items_in (locked_after (inner (S.opening m)) (Buffer b) (buffer_sections (S.seen m))) (λ p. S.block_with p b) (S.block_at m b)
-        (items_of (contents_of (caps_in (viewed shown (S.opening m))) (entries_in (inner (S.opening m)) (buffer_sections (S.seen m)))) b.0)
+        plain_items_in (locked_after (inner (S.opening m)) (Buffer b) (buffer_sections (S.seen m))) (λ p. S.block_with p b) (S.block_at m b)
+        (items_of (contents_of (caps_in (viewed plain_shown (S.opening m))) (plain_entries_in (inner (S.opening m)) (buffer_sections (S.seen m)))) b.0)
         (items_read (S.opening m) acts.2.fresh b within (buffer_sections (S.seen m)))
         (S.shown m c b acts.0 (buffer_there (S.opening m) acts.2.fresh b within)) };
 
     ghost closed = { λ m c b acts within. view_read
         (parts_on (λ (p : Self). p.lower) (λ p. S.Fits p m) (λ (p : Self). Self.Fits p m) (λ p. S.cpu_of p) (S.MayHold m) (λ p fits. fits.0))
-        closed_of (locked_after (inner (S.opening m)) (Buffer b) (buffer_sections (S.seen m))) (λ p. S.block_with p b) (S.block_at m b)
-        (is_closed (entries_in (inner (S.opening m)) (buffer_sections (S.seen m))) b.0)
+        plain_closed_of (locked_after (inner (S.opening m)) (Buffer b) (buffer_sections (S.seen m))) (λ p. S.block_with p b) (S.block_at m b)
+        (is_closed (plain_entries_in (inner (S.opening m)) (buffer_sections (S.seen m))) b.0)
         (closed_read (S.opening m) acts.2.fresh b within (buffer_sections (S.seen m)))
         (S.shown m c b acts.0 (buffer_there (S.opening m) acts.2.fresh b within)) };
 
@@ -309,7 +310,7 @@ impl<S: OwnedThreadLayer<SleepLaw<Attempt>>> OwnedBuffers for PlainFifo<S> {
 
     ghost waiters_law = { λ m c b acts within. view_read
         (parts_on (λ (p : Self). p.lower) (λ p. S.Fits p m) (λ (p : Self). Self.Fits p m) (λ p. S.cpu_of p) (S.MayHold m) (λ p fits. fits.0))
-        wait_lists_of (locked_after (inner (S.opening m)) (Buffer b) (buffer_sections (S.seen m))) (λ p. S.block_with p b) (S.block_at m b)
+        plain_wait_lists_of (locked_after (inner (S.opening m)) (Buffer b) (buffer_sections (S.seen m))) (λ p. S.block_with p b) (S.block_at m b)
         (λ line. wait_lists_in (inner (S.opening m)) (buffer_sections (S.seen m)) b line)
         (wait_lists_read (S.opening m) acts.2.fresh b within (buffer_sections (S.seen m)))
         (S.shown m c b acts.0 (buffer_there (S.opening m) acts.2.fresh b within)) };
@@ -318,7 +319,7 @@ impl<S: OwnedThreadLayer<SleepLaw<Attempt>>> OwnedBuffers for PlainFifo<S> {
         (parts_on (λ (p : Self). p.lower) (λ p. S.Fits p m) (λ (p : Self). Self.Fits p m) (λ p. S.cpu_of p) (S.MayHold m) (λ p fits. fits.0))
         (λ p. S.queue_with p d) (S.queue_at m d)
         (pending_by (moves_in (sleep_kernel attempts (S.opening m)) (S.seen m)) d)
-        (S.queues m c d acts.0 (there_viewed (viewed_block shown) (S.opening m (Pending d)) there)) };
+        (S.queues m c d acts.0 (there_viewed (viewed_block plain_shown) (S.opening m (Pending d)) there)) };
 
     ghost holding = { λ step m c held. absurd step };
 }

@@ -3,7 +3,7 @@
 
 ghost use Rattle.std.specs.Prelude.{◌≡◌, ◌≢◌, ◌+◌, ◌<◌, ◌≤◌, None, IsSome};
 ghost use Rattle.{event_log.specs.declared.ids.{CpuId.CpuId, LockId.TheVariants.Buffer, TheConstants.CPUS}, layer_traits.specs.Blocks.Payloads.outcome_told};
-ghost use Rattle.{layer_traits.specs.Layers.SleepLaw.{MaySleep, sleep_kernel}, plain_layers.specs.Wholes.{IsDoneWhole, asked}};
+ghost use Rattle.{layer_traits.specs.Layers.SleepLaw.{MaySleep, sleep_kernel}, plain_layers.specs.Wholes.{IsDoneWhole, asked_edit}};
 
 use event_log::BufId;
 use layer_traits::{BufferCall, Outcome, Payload, SleepLaw, Sleeps, ThreadLayer};
@@ -34,7 +34,7 @@ where
     requires room { 1 < S.room m.old }
     requires call { MaySleep (sleep_kernel E.rules (S.opening m.old)) (S.cpu_of part.old) (S.seen m.old) (S.own part.old).threads buffer
         (E.meant edit payload.old.parcel) }
-    ensures done { IsDoneWhole (asked (sleep_kernel E.rules (S.opening m.old)) (S.cpu_of part.old) buffer (E.meant edit payload.old.parcel))
+    ensures done { IsDoneWhole (asked_edit (sleep_kernel E.rules (S.opening m.old)) (S.cpu_of part.old) buffer (E.meant edit payload.old.parcel))
         (S.seen m.old) (S.seen m.new) (S.own part.old).threads (S.own part.new) (outcome_told E.told result payload.new.parcel) }
     ensures fits { S.Fits part.new m.new }
     ensures cpu { S.cpu_of part.new ≡ S.cpu_of part.old }

@@ -4,11 +4,12 @@ use Rattle.std.proofs.Common.{if◌then◌else◌, option_map, refl, ap, sym, �
 use Rattle.event_log.specs.declared.{ids.{CpuId.CpuId, LockId.LockId, TheConstants.CPUS}, events.Event.{Event, TheVariants.{Draw, Look, Free}}}
 use Rattle.event_log.specs.{Grants.ticket_in, History.same_lock, WordsLog.{IsLegalWords, Idle, Waiting, Holding, draws, frees, lock_phase}}
 use Rattle.{event_log.{specs.Sections.block_after, proofs.Same.{same_lock_self, same_lock_true}}, layer_traits.proofs.OneLockLemmas.counts_elsewhere}
-use Rattle.layer_traits.proofs.OneLockLemmas.{event_lock, lock_phase_own, elsewhere, drew, missed, hit, freed, hit_finds, fresh, serves_exactly}
-use Rattle.layer_traits.{proofs.Seen.{words_legal, sections_allowed}, specs.{declared.edits.Mark.Mark, Protocols.{OneLock.{HomeFits, opened}, Protocol.Rules}}}
-use Rattle.{layer_traits.specs.Protocols.{Protocol.{StaysAllowed, section}, WordsProtocol.{MayCome, sections}}, plain_machine.proofs.TableLemmas.cell_within}
-use Rattle.plain_machine.{proofs.TableLemmas.{cell_put, cell_other}, specs.{declared.cells.Cell.Cell, Machine.{HasCell, IsSound, looked}, Table.cell_at}}
-use Rattle.plain_machine.specs.Table.{with_cell, worded_cell, looked_cell, given_cell, HasFresh, AreFresh}
+use Rattle.layer_traits.proofs.OneLockLemmas.{event_lock, lock_phase_own, home_elsewhere, home_after_draw, home_after_miss, home_after_hit, home_after_free}
+use Rattle.layer_traits.proofs.{OneLockLemmas.{hit_finds, home_at_start, serves_exactly}, Seen.{words_legal, sections_allowed}}
+use Rattle.layer_traits.specs.{declared.edits.Mark.Mark, Protocols.{OneLock.{HomeFits, opened}, Protocol.{Rules, StaysAllowed, section}, WordsProtocol.MayCome}}
+use Rattle.{layer_traits.specs.Protocols.WordsProtocol.sections, plain_machine.proofs.TableLemmas.{cell_within, cell_put, cell_other}}
+use Rattle.plain_machine.specs.{declared.cells.Cell.Cell, Machine.{HasCell, IsSound, looked}, Table.{cell_at, with_cell, worded_cell, looked_cell, given_cell}}
+use Rattle.plain_machine.specs.Table.{HasFresh, AreFresh}
 
 -- a filled table has a fresh cell for each lock that opens
 opens_at : {K B : Type 0} (IsNew : K → Type 0) (blocks : List (LockId × B)) (cells : List (Option (Cell K B))) (lock : LockId)
@@ -32,7 +33,7 @@ fresh_sound Fit rules blocks cells all = record {
         cell = given_cell found.2.words found.0;
         is = found.2.is;
         words = found.2.new;
-        home_is = fresh rules.edited (opened blocks) lock found.0 found.1;
+        home_is = home_at_start rules.edited (opened blocks) lock found.0 found.1;
       };
 }
 
@@ -69,23 +70,23 @@ module _ {E B O K : Type 0} {Fit : ℕ → ℕ → K → Type 0} {rules : Rules 
             cell = had.cell;
             is = cell_other cells lock after l other ∙ had.is;
             words = counts_elsewhere (λ taken given. Fit taken given had.cell.words) e log l there had.words;
-            home_is = elsewhere rules.edited opening l e log may.0 there had.cell.home had.home_is;
+            home_is = home_elsewhere rules.edited opening l e log may.0 there had.cell.home had.home_is;
           }
 
   -- a draw gives the number of earlier draws
-  pub took : (cpu : CpuId) → cpu.0 < CPUS → lock_phase cpu log ≡ Idle → (ticket : ℕ) (cells' : List (Option (Cell K B)))
+  pub machine_draws : (cpu : CpuId) → cpu.0 < CPUS → lock_phase cpu log ≡ Idle → (ticket : ℕ) (cells' : List (Option (Cell K B)))
       → IfSome (cell_at cells lock) (λ c. (words : K)
       × ((taken given : ℕ) → Fit taken given c.words → (ticket ≡ taken % 2 ^ 64) × Fit (taken + 1) given words)
       × (cells' ≡ with_cell cells lock (worded_cell c words)))
       → (log' : List (Event (Mark E))) → log' ≡ Draw cpu lock (draws lock log % 2 ^ 64) ∷ log
       → (log' ≡ Draw cpu lock ticket ∷ log) × IsSound Fit rules opening log' cells'
-  took cpu known outside ticket cells' did log' grew =
+  machine_draws cpu known outside ticket cells' did log' grew =
       let here = rw cell_is at did in
       let law = here.1 (draws lock log) (frees lock log) cell_words in
       let is : log' ≡ Draw cpu lock ticket ∷ log = grew ∙ ap (λ t. Draw cpu lock t ∷ log) (sym law.0) in (
         is,
         rw (is, here.2) (step_sound (Draw cpu lock ticket) refl ((known, outside, law.0), tt) (worded_cell cell here.0) (rw (same_lock_self lock) law.1)
-            (drew rules.edited opening lock cpu ticket log outside cell.home cell_home)),
+            (home_after_draw rules.edited opening lock cpu ticket log outside cell.home cell_home)),
       )
 
   module _ (cpu : CpuId) (ticket : ℕ) (waiting : lock_phase cpu log ≡ Waiting lock ticket) where
@@ -96,9 +97,9 @@ module _ {E B O K : Type 0} {Fit : ℕ → ℕ → K → Type 0} {rules : Rules 
     look_sound : (served : Bool) → served ≡ (frees lock log % 2 ^ 64 == ticket)
         → IsSound Fit rules opening (looked cpu lock ticket log) (with_cell cells lock (looked_cell cell served))
     look_sound true is = step_sound (Look cpu lock ticket (frees lock log % 2 ^ 64)) refl look_may (looked_cell cell true) cell_words
-        (hit rules.edited opening lock cpu ticket (frees lock log % 2 ^ 64) log (sym is))
+        (home_after_hit rules.edited opening lock cpu ticket (frees lock log % 2 ^ 64) log (sym is))
     look_sound false is = step_sound (Look cpu lock ticket (frees lock log % 2 ^ 64)) refl look_may (looked_cell cell false) cell_words
-        (missed rules.edited opening lock cpu ticket (frees lock log % 2 ^ 64) log waiting (sym is) cell.home cell_home)
+        (home_after_miss rules.edited opening lock cpu ticket (frees lock log % 2 ^ 64) log waiting (sym is) cell.home cell_home)
 
     -- a look gives the block exactly where it enters
     look_finds : (served : Bool) → served ≡ (frees lock log % 2 ^ 64 == ticket)
@@ -117,7 +118,7 @@ module _ {E B O K : Type 0} {Fit : ℕ → ℕ → K → Type 0} {rules : Rules 
         go true None fits there left = absurd (let some = there refl in cc some)
         go true (Some block) fits there left = (left, fits.1)
 
-    pub tried : (found : Option B) (cells' : List (Option (Cell K B)))
+    pub machine_looks : (found : Option B) (cells' : List (Option (Cell K B)))
         → IfSome (cell_at cells lock) (λ c. (served : Bool)
         × ((taken given spot : ℕ) → Fit taken given c.words → given ≤ spot → spot < given + CPUS → ticket ≡ spot % 2 ^ 64 → served ≡ (given == spot))
         × (found ≡ (if served then c.home else None)) × (cells' ≡ with_cell cells lock (looked_cell c served)))
@@ -126,7 +127,7 @@ module _ {E B O K : Type 0} {Fit : ℕ → ℕ → K → Type 0} {rules : Rules 
         × MatchOption found (lock_phase cpu log' ≡ Waiting lock ticket)
         (λ block. (lock_phase cpu log' ≡ Holding lock ticket) × (block_after rules.edited opening lock (sections log') ≡ Some block))
         × IsSound Fit rules opening log' cells'
-    tried found cells' did log' grew =
+    machine_looks found cells' did log' grew =
         let here = rw cell_is at did in
         let is : here.0 ≡ (frees lock log % 2 ^ 64 == ticket)
         = serves_exactly log legal cpu lock ticket waiting here.0 (λ spot. here.1 (draws lock log) (frees lock log) spot cell_words) in
@@ -137,14 +138,14 @@ module _ {E B O K : Type 0} {Fit : ℕ → ℕ → K → Type 0} {rules : Rules 
         )
 
   -- a free brings the edited block home
-  pub gave : (cpu : CpuId) (ticket : ℕ) (mark : Mark E) (block : B) → lock_phase cpu log ≡ Holding lock ticket
+  pub machine_frees : (cpu : CpuId) (ticket : ℕ) (mark : Mark E) (block : B) → lock_phase cpu log ≡ Holding lock ticket
       → option_map (rules.edited mark.edit) (block_after rules.edited opening lock (sections log)) ≡ Some block
       → StaysAllowed (rules.allowed opening) (sections log) (section cpu lock mark.edit) → (cells' : List (Option (Cell K B)))
       → IfSome (cell_at cells lock) (λ c. (words : K) × ((taken given : ℕ) → Fit taken given c.words → Fit taken (given + 1) words)
       × (cells' ≡ with_cell cells lock (given_cell words block)))
       → (log' : List (Event (Mark E))) → log' ≡ Free cpu lock mark ∷ log → IsSound Fit rules opening log' cells'
-  gave cpu ticket mark block inside edited stays cells' did log' grew =
+  machine_frees cpu ticket mark block inside edited stays cells' did log' grew =
       let here = rw cell_is at did in
       let law = here.1 (draws lock log) (frees lock log) cell_words in
       rw (grew, here.2) (step_sound (Free cpu lock mark) refl ((ticket, inside), stays [] tt (sections_allowed (rules.allowed opening) log sound.legal))
-      (given_cell here.0 block) (rw (same_lock_self lock) law) (freed rules.edited opening lock cpu ticket mark log legal inside block edited))
+      (given_cell here.0 block) (rw (same_lock_self lock) law) (home_after_free rules.edited opening lock cpu ticket mark log legal inside block edited))

@@ -3,8 +3,9 @@ use Rattle.std.proofs.Common.{arith, ◌≡◌, ℕ, zero, suc, ◌+◌, ◌%◌
 use Rattle.std.proofs.Common.{refl, ap, sym, ◌∙◌}
 use Rattle.event_log.specs.{declared.{ids.{CpuId.CpuId, LockId.LockId, TheConstants.CPUS}, events.Event.{Event, TheVariants.Look}}, Grants.ticket_in}
 use Rattle.event_log.{specs.{History.same_lock, WordsLog.{Waiting, frees, draws, lock_phase}}, proofs.Same.same_lock_true}
-use Rattle.layer_traits.{proofs.{OneLockLemmas.{lock_phase_own, elsewhere, missed, serves_exactly}, Seen.words_legal}, specs.declared.edits.Mark.Mark}
-use Rattle.{layer_traits.specs.Protocols.{OneLock.HomeFits, Protocol.Rules}, plain_machine.specs.{declared.cells.Cell.Cell, Machine.IsSound, Table.cell_at}}
+use Rattle.layer_traits.proofs.{OneLockLemmas.{lock_phase_own, home_elsewhere, home_after_miss, serves_exactly}, Seen.words_legal}
+use Rattle.{layer_traits.specs.{declared.edits.Mark.Mark, Protocols.{OneLock.HomeFits, Protocol.Rules}}, plain_machine.specs.declared.cells.Cell.Cell}
+use Rattle.plain_machine.specs.{Machine.IsSound, Table.cell_at}
 
 module _ {M : Type 0} (cpu : CpuId) (lock : LockId) (ticket read : ℕ) (old : List (Event M)) where
   abbrev pub noted : ℕ → List (Event M)
@@ -42,8 +43,8 @@ module _ {E B O K : Type 0} (Fit : ℕ → ℕ → K → Type 0) (rules : Rules 
       go : (l : LockId) (b : Bool) → same_lock l lock ≡ b → (home : Option B) → HomeFits rules.edited opening log l home
           → HomeFits rules.edited opening (Look cpu lock ticket read ∷ log) l home
       go l true same home fits = rw (same_lock_true l lock same)
-          (missed rules.edited opening lock cpu ticket read log waiting misses home (rw (same_lock_true l lock same) at fits))
-      go l false other home fits = elsewhere rules.edited opening l (Look cpu lock ticket read) log (waiting, reads) other home fits
+          (home_after_miss rules.edited opening lock cpu ticket read log waiting misses home (rw (same_lock_true l lock same) at fits))
+      go l false other home fits = home_elsewhere rules.edited opening l (Look cpu lock ticket read) log (waiting, reads) other home fits
 
   pub spun_sound : (log : List (Event (Mark E))) → lock_phase cpu log ≡ Waiting lock ticket → read ≡ frees lock log % 2 ^ 64 → (read == ticket) ≡ false
       → IsSound Fit rules opening log cells → (looks : ℕ) → IsSound Fit rules opening (noted cpu lock ticket read log looks) cells

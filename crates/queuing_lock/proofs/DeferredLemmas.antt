@@ -7,11 +7,11 @@ use Rattle.layer_traits.specs.declared.{moves.WaitList.TheVariants.{Sleepers, Re
 use Rattle.layer_traits.specs.declared.{queues.QueueEvent.QueueEvent, scheds.SchedCall.{SchedCall, TheVariants.{Pass, OnBuffer}}, passes.Pass.Pass as PassCall}
 use Rattle.layer_traits.specs.{declared.sleeps.Outcome.Outcome, Layers.QLocking.{AreAtRest, IsAtRest, LockRules, LockState, wait_list_asked, wait_list_slept}}
 use Rattle.layer_traits.specs.Layers.{QLocking.{lock_answer, lock_edited, lock_moves, lock_out, asker_report}, QLockLaw.{IsAcquire, lock_kernel}}
-use Rattle.layer_traits.specs.Layers.{Queues.buffer_sections, Scheds.own_answered, SleepLaw.{PollResult, MayCall, MayDo, Sleeping, Waits, Does, Sends}}
+use Rattle.layer_traits.specs.Layers.{Queues.buffer_sections, Scheds.own_answered, SleepLaw.{PollResult, MayCall, MayDo, Sleeping, WaitsStill, Does, SendsHome}}
 use Rattle.layer_traits.specs.{Layers.{SleepLaw.{left_with, must_send}, Sleeping.{NobodySleeps, SleepState, wait_list_at}}, Threads.Places.Threads}
 use Rattle.layer_traits.specs.{Threads.Passes.{own_slept, passed_on}, Blocks.QueueBlocks.inner, Views.Renaming.{renamed_sched, viewed}, Polling.Plans.Left}
 use Rattle.{layer_traits.proofs.KernelRenaming.inner_viewed, queuing_lock.specs.{declared.edits.{QBlock.QBlock, QLockEdit.QLockEdit}, Nested.as_section}}
-use Rattle.queuing_lock.specs.{Nested.{edit_in, nested_lock_of}, Parts.{DeferredFits, is_queued}}
+use Rattle.queuing_lock.specs.{Nested.{lock_call, nested_lock_of}, Parts.{DeferredFits, is_queued}}
 
 nobody_in : {B : Type 0} (line : WaitList) (o : Option (SleepState (QBlock B))) → IsAtRest (option_map nested_lock_of o) → wait_list_at line o ≡ []
 nobody_in Sleepers None rest = refl
@@ -28,7 +28,7 @@ nobody_beneath opening rest lock line = nobody_in line (inner opening lock) (sub
 -- a part at boot keeps nothing
 pub fresh_deferred : {F R O : Type 0} (under : Option (SchedCall (QLockEdit F R))) (deferred : Option (Outcome (QOut O))) (hand : Option Tid) → under ≡ None
     → deferred ≡ None
-    → DeferredFits (option_map (renamed_sched edit_in) under) deferred hand
+    → DeferredFits (option_map (renamed_sched lock_call) under) deferred hand
 fresh_deferred None None hand none nothing = tt
 fresh_deferred None (Some outcome) hand none nothing = absurd cc
 fresh_deferred (Some s) deferred hand none nothing = absurd cc
@@ -36,7 +36,7 @@ fresh_deferred (Some s) deferred hand none nothing = absurd cc
 -- Calls under way beneath and here.
 
 pub may_beneath : {F R : Type 0} (under : Option (SchedCall (QLockEdit F R))) (b : BufId) (e : QEdit F R) (duty owed : Type 0) → (duty → owed)
-    → MayCall (option_map (renamed_sched edit_in) under) (OnBuffer b e) duty → MayCall under (OnBuffer b (as_section e)) owed
+    → MayCall (option_map (renamed_sched lock_call) under) (OnBuffer b e) duty → MayCall under (OnBuffer b (as_section e)) owed
 may_beneath None b e duty owed gives may = gives may
 may_beneath (Some (Pass p)) b e duty owed gives may = absurd cc
 may_beneath (Some (OnBuffer at d)) b e duty owed gives may = ap (renamed_sched as_section) may
@@ -117,13 +117,13 @@ module _ {F R B O : Type 0} (rules : LockRules F R B O) (opening : LockId → Op
   left_fits : (poll_result : PollResult (QOut O)) (past : List (QueueEvent (QEdit F R))) (own : Sleeping (QOut O))
       → MayDo (lock_kernel rules opening) c b e poll_result past own
       → DeferredFits (Some (OnBuffer b e)) own.deferred own.threads.hand → DeferredIn (left_with (lock_kernel rules opening) c b e poll_result own)
-  left_fits Waits past own may fits = fits
+  left_fits WaitsStill past own may fits = fits
   left_fits (Does outcome) past own may fits =
       let threads : Threads = own_answered (lock_moves rules) (lock_kernel rules opening).homes c (Some outcome) own.threads in
       left_deferred outcome threads (must_send outcome threads)
       (sends_by rules (lock_kernel rules opening).homes c own.threads (hand_empty own.deferred own.threads.hand b e fits may.0) e
       (block_after (lock_edited rules) (inner opening) (Buffer b) (buffer_sections past)) outcome may.1)
-  left_fits (Sends t) past own may fits = sent own.deferred (passed_on own.threads) may.0
+  left_fits (SendsHome t) past own may fits = sent own.deferred (passed_on own.threads) may.0
 
   -- what is kept after a poll agrees with the call that goes on, or with none
   pub deferred_result : (poll_result : PollResult (QOut O)) (past : List (QueueEvent (QEdit F R))) (own : Sleeping (QOut O)) (got : Left (Sleeping (QOut O))

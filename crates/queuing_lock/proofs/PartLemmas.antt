@@ -12,22 +12,22 @@ use Rattle.layer_traits.specs.Layers.QLockLaw.{LockPolled, Locking, MayGo, MayLo
 use Rattle.layer_traits.specs.Layers.{QLockLaw.{HasOrAwaits, plan_for, slept_for}, Queues.{QueueAllowed, buffer_sections, moves_in}, Scheds.EditStays}
 use Rattle.layer_traits.specs.Layers.{SleepLaw.{MayCall, MaySleep, SleepPolled, Sleeping, pass_plan, sleep_plan}, Sleeping.{SleepState, sleep_moves}}
 use Rattle.layer_traits.specs.{Layers.Sleeping.sleep_rules, Blocks.{Payloads.lock_meant, QueueBlocks.{StartsWell, homes_in, inner}, QueueRules.queue_rules}}
-use Rattle.layer_traits.specs.{Polling.Plans.{Follows, Left, Plan, raised, table_of}, Views.Renaming.{named, renamed_edit, renamed_events, renamed_sched}}
+use Rattle.layer_traits.specs.{Polling.Plans.{Follows, Left, Plan, raised, table_of}, Views.Renaming.{plan_named, renamed_edit, renamed_events, renamed_sched}}
 use Rattle.layer_traits.{specs.Views.Renaming.viewed, proofs.{CallLemmas.follows_raised, KernelRenaming.{follows_named, homes_viewed, stays_renamed}}}
 use Rattle.layer_traits.proofs.{CountLemmas.not_counted, PlaceLemmas.current_at, SleepRenaming.{pass_plan_renamed, sleep_plan_renamed, sleeps_renamed}}
-use Rattle.queuing_lock.specs.{declared.edits.{QBlock.QBlock, QLockEdit.QLockEdit}, Nested.{as_section, busy_rules, edit_in, nested_lock_of}}
-use Rattle.queuing_lock.specs.{Parts.{DeferredFits, SleptFits, asks_again, slept_left_by}, Laws.NestedLaws.{beneath, here, inner_locks, locks_lawful}}
-use Rattle.queuing_lock.{specs.Laws.NestedLaws.{locks_lists, locks_moves_legal, locks_stand, locks_wrap}, proofs.DeferredLemmas.{DeferredIn, asks_none}}
-use Rattle.queuing_lock.proofs.{DeferredLemmas.{deferred_result, deferred_goes, may_beneath}, OwnerLemmas.owners_stay, PollLemmas.awaits_owner}
+use Rattle.queuing_lock.specs.{declared.edits.{QBlock.QBlock, QLockEdit.QLockEdit}, Nested.{as_section, busy_rules, lock_call, nested_lock_of}}
+use Rattle.queuing_lock.specs.{Parts.{DeferredFits, SleptFits, asks_again, slept_left_by}, Laws.NestedLaws.{beneath_the_lock, at_the_lock, inner_locks}}
+use Rattle.queuing_lock.{specs.Laws.NestedLaws.{locks_lawful, locks_lists, locks_moves_legal, locks_stand, locks_wrap}, proofs.DeferredLemmas.DeferredIn}
+use Rattle.queuing_lock.proofs.{DeferredLemmas.{asks_none, deferred_result, deferred_goes, may_beneath}, OwnerLemmas.owners_stay, PollLemmas.awaits_owner}
 use Rattle.{queuing_lock.proofs.PollLemmas.{slept_of_others, slept_polled, slept_queued}, thread_blocks.specs.Queues.is_in}
 use Rattle.layer_traits.specs.declared.scheds.SchedCall.TheVariants as call
 
 -- the call under way beneath is the one under way here, whatever the answer tells
 pub under_is : {F R A T : Type 0} (told : A → T) (under : Option (SchedCall (QLockEdit F R))) (answer : Option A) (s : SchedCall (QLockEdit F R))
     → under ≡ (if is_some answer then None else Some s)
-    → option_map (renamed_sched edit_in) under ≡ (if is_some (option_map told answer) then None else Some (renamed_sched edit_in s))
-under_is told under None s is = ap (option_map (renamed_sched edit_in)) is
-under_is told under (Some a) s is = ap (option_map (renamed_sched edit_in)) is
+    → option_map (renamed_sched lock_call) under ≡ (if is_some (option_map told answer) then None else Some (renamed_sched lock_call s))
+under_is told under None s is = ap (option_map (renamed_sched lock_call)) is
+under_is told under (Some a) s is = ap (option_map (renamed_sched lock_call)) is
 
 -- who calls something else than its Acquire did not sleep for a lock
 nobody_slept : {F R : Type 0} (x : Option BufId) (under : Option (SchedCall (QEdit F R))) (b : BufId) (e : QEdit F R) (t : Tid) (duty : Type 0)
@@ -57,14 +57,14 @@ pub record Before {F R B O : Type 0} (rules : LockRules F R B O) (opening : Lock
   pub under : Option (SchedCall (QLockEdit F R))
   pub slept : List (Option BufId)
   pub starts : StartsWell opening
-  pub moves_legal : AreMoves (homes_in opening) (moves_in (beneath rules opening) past)
-  pub stands : Stands (homes_in opening) c (moves_in (beneath rules opening) past) own.threads
+  pub moves_legal : AreMoves (homes_in opening) (moves_in (beneath_the_lock rules opening) past)
+  pub stands : Stands (homes_in opening) c (moves_in (beneath_the_lock rules opening) past) own.threads
   pub lists : ListsAgree (busy_rules rules) opening past
-  pub fits : SleptFits rules (viewed nested_lock_of opening) c (renamed_events edit_in past) slept
-  pub deferred : DeferredFits (option_map (renamed_sched edit_in) under) own.deferred own.threads.hand
+  pub fits : SleptFits rules (viewed nested_lock_of opening) c (renamed_events lock_call past) slept
+  pub deferred : DeferredFits (option_map (renamed_sched lock_call) under) own.deferred own.threads.hand
   pub caller : own.threads.current ≡ Some (lock_caller rules e)
-  pub may : MayGo (slept_for slept (lock_caller rules e)) (option_map (renamed_sched edit_in) under) b e (lock_caller rules e)
-      (MayLock rules (here rules opening) c (renamed_events edit_in past) own.threads.hand b e)
+  pub may : MayGo (slept_for slept (lock_caller rules e)) (option_map (renamed_sched lock_call) under) b e (lock_caller rules e)
+      (MayLock rules (at_the_lock rules opening) c (renamed_events lock_call past) own.threads.hand b e)
 
 module _ {F R B O : Type 0} {rules : LockRules F R B O} {opening : LockId → Option (QueueBlock (SleepState (QBlock B)))}
     (before : Before rules opening) where
@@ -72,24 +72,24 @@ module _ {F R B O : Type 0} {rules : LockRules F R B O} {opening : LockId → Op
 
   -- the history and the opening here, the call under way here, who calls, and what the first poll of the call owes
   abbrev seen : List (QueueEvent (QEdit F R))
-  seen = renamed_events edit_in past
+  seen = renamed_events lock_call past
 
   abbrev locks_here : LockId → Option (QueueBlock (LockState B))
   locks_here = viewed nested_lock_of opening
 
   abbrev under_here : Option (SchedCall (QEdit F R))
-  under_here = option_map (renamed_sched edit_in) under
+  under_here = option_map (renamed_sched lock_call) under
 
   abbrev t : Tid
   t = lock_caller rules e
 
   abbrev duty : Type 0
-  duty = MayLock rules (here rules opening) c seen own.threads.hand b e
+  duty = MayLock rules (at_the_lock rules opening) c seen own.threads.hand b e
 
-  legal_here : AreMoves (homes_in locks_here) (moves_in (here rules opening) seen)
+  legal_here : AreMoves (homes_in locks_here) (moves_in (at_the_lock rules opening) seen)
   legal_here = locks_moves_legal rules opening past before.moves_legal
 
-  stands_here : Stands (homes_in locks_here) c (moves_in (here rules opening) seen) own.threads
+  stands_here : Stands (homes_in locks_here) c (moves_in (at_the_lock rules opening) seen) own.threads
   stands_here = locks_stand rules opening c past own.threads before.stands
 
   at_home : home_of (homes_in locks_here) t ≡ Some c
@@ -114,10 +114,10 @@ module _ {F R B O : Type 0} {rules : LockRules F R B O} {opening : LockId → Op
       → is_some (slept_for slept (lock_caller rules d)) ≡ asks_again slept call) is (slept_alone rules meant parcel call slept under_here b duty) before.may
 
   -- whoever slept for the lock owns it now
-  pub handed : (ActsFor : CpuId → Type 0) (x : Option BufId) → slept_for slept t ≡ x → is_some x ≡ true → MayGo x under_here b e t duty
-      → LockPolled rules (here rules opening) ActsFor c b e x seen seen (record { sleep = own; slept = slept }) under_here (left_handed t slept own)
-  handed ActsFor None is some may = absurd cc
-  handed ActsFor (Some at) is some may = record {
+  pub sleeper_handed : (ActsFor : CpuId → Type 0) (x : Option BufId) → slept_for slept t ≡ x → is_some x ≡ true → MayGo x under_here b e t duty
+      → LockPolled rules (at_the_lock rules opening) ActsFor c b e x seen seen (record { sleep = own; slept = slept }) under_here (left_handed t slept own)
+  sleeper_handed ActsFor None is some may = absurd cc
+  sleeper_handed ActsFor (Some at) is some may = record {
     owns = awaits_owner t (lock_after rules (inner locks_here) (Buffer b) (buffer_sections seen))
         (subst (λ x. HasOrAwaits t (lock_after rules (inner locks_here) (Buffer x) (buffer_sections seen))) may.1 (before.fits t at is).awaits)
         (awake_here (Buffer b));
@@ -126,26 +126,26 @@ module _ {F R B O : Type 0} {rules : LockRules F R B O} {opening : LockId → Op
   }
 
   module _ (awake : is_some (slept_for slept t) ≡ false) where
-    pub none : slept_for slept t ≡ None
-    none = none_of (slept_for slept t) awake
+    pub sleeps_for_none : slept_for slept t ≡ None
+    sleeps_for_none = none_of (slept_for slept t) awake
 
     goes : MayCall under_here (call.OnBuffer b e) duty
-    goes = subst (λ x. MayGo x under_here b e t duty) none before.may
+    goes = subst (λ x. MayGo x under_here b e t duty) sleeps_for_none before.may
 
     -- the call stays allowed whatever others do
-    stays : duty → EditStays (here rules opening) c seen (call.OnBuffer b e)
+    stays : duty → EditStays (at_the_lock rules opening) c seen (call.OnBuffer b e)
     stays may more others lawful = record {
       owners = owners_stay rules locks_here c b e seen at_home (awake_here (Buffer b)) may.owners more others lawful;
       granted = may.stays more others lawful;
     }
 
     -- so the section may be polled beneath
-    pub owed : MayCall under (call.OnBuffer b (as_section e)) (MaySleep (beneath rules opening) c past own.threads b (as_section e))
-    owed = may_beneath under b e duty (MaySleep (beneath rules opening) c past own.threads b (as_section e)) (λ may. record {
+    pub beneath_owed : MayCall under (call.OnBuffer b (as_section e)) (MaySleep (beneath_the_lock rules opening) c past own.threads b (as_section e))
+    beneath_owed = may_beneath under b e duty (MaySleep (beneath_the_lock rules opening) c past own.threads b (as_section e)) (λ may. record {
       current = before.caller;
       hand = may.empty;
       stays = λ more others lawful.
-          subst (λ (o : LockId → Option (LockState B)). LockAllowed rules o (map (renamed_section edit_in) (buffer_sections (more ++ past)))
+          subst (λ (o : LockId → Option (LockState B)). LockAllowed rules o (map (renamed_section lock_call) (buffer_sections (more ++ past)))
           (record { cpu = c; lock = Buffer b; edit = e })) (inner_locks rules opening)
           (stays_renamed _ _ _ _ (locks_wrap rules opening) c past b (as_section e) (stays may) more others lawful);
     }) goes
@@ -154,17 +154,17 @@ module _ {F R B O : Type 0} {rules : LockRules F R B O} {opening : LockId → Op
     deferred_now = deferred_goes under_here own.deferred own.threads.hand b e duty before.deferred goes (λ may. may.empty)
 
     module _ {ActsFor : CpuId → Type 0} {new : List (QueueEvent (QLockEdit F R))} {got : Left (Sleeping (QOut O)) (Outcome (QOut O))}
-        (polled : SleepPolled (beneath rules opening) ActsFor c b (as_section e) past new own got) where
+        (polled : SleepPolled (beneath_the_lock rules opening) ActsFor c b (as_section e) past new own got) where
       -- the poll beneath is a poll here
-      polled_here : SleepPolled (here rules opening) ActsFor c b e seen (renamed_events edit_in new) own got
+      polled_here : SleepPolled (at_the_lock rules opening) ActsFor c b e seen (renamed_events lock_call new) own got
       polled_here = sleeps_renamed _ _ _ _ (locks_wrap rules opening) _ _ _ _ _ _ _ _ polled
 
       pub locks : (under' : Option (SchedCall (QEdit F R))) (got' : Left (Locking O) (Outcome (QOut O)))
           → under' ≡ (if is_some got.answer then None else Some (call.OnBuffer b e)) → got' ≡ left_after t b slept got.own got.answer
-          → LockPolled rules (here rules opening) ActsFor c b e (slept_for slept t) seen (renamed_events edit_in new)
+          → LockPolled rules (at_the_lock rules opening) ActsFor c b e (slept_for slept t) seen (renamed_events lock_call new)
           (record { sleep = own; slept = slept }) under' got'
-      locks under' got' ends leaves = subst (λ x. LockPolled rules (here rules opening) ActsFor c b e x seen (renamed_events edit_in new)
-          (record { sleep = own; slept = slept }) under' got') (sym none)
+      locks under' got' ends leaves = subst (λ x. LockPolled rules (at_the_lock rules opening) ActsFor c b e x seen (renamed_events lock_call new)
+          (record { sleep = own; slept = slept }) under' got') (sym sleeps_for_none)
           (record { left = got; polled = polled_here; ends = ends; asks = asks_none own.deferred own.threads.hand b e deferred_now; leaves = leaves })
 
       -- what is kept agrees with the call that goes on
@@ -172,23 +172,25 @@ module _ {F R B O : Type 0} {rules : LockRules F R B O} {opening : LockId → Op
       deferred_after = deferred_result rules locks_here c b e polled_here.poll_result (polled_here.others ++ seen) own got polled_here.may polled_here.leaves
           deferred_now
 
-      module _ (acts : ActsFor c) (lawful : IsLawful (QueueAllowed (beneath rules opening)) new) where
+      module _ (acts : ActsFor c) (lawful : IsLawful (QueueAllowed (beneath_the_lock rules opening)) new) where
         -- who slept owns or sleeps still
-        pub slept_after : SleptFits rules locks_here c (renamed_events edit_in new) slept
-        slept_after = slept_polled rules locks_here c polled_here acts (locks_lawful rules opening new lawful) slept none before.fits
+        pub slept_after : SleptFits rules locks_here c (renamed_events lock_call new) slept
+        slept_after = slept_polled rules locks_here c polled_here acts (locks_lawful rules opening new lawful) slept sleeps_for_none before.fits
 
         pub slept_reported : (outcome : Outcome (QOut O)) → got.answer ≡ Some outcome
-            → SleptFits rules locks_here c (renamed_events edit_in new) (slept_left_by t b slept outcome)
-        slept_reported outcome answer = slept_queued rules locks_here c polled_here acts (locks_lawful rules opening new lawful) slept none before.fits outcome
+            → SleptFits rules locks_here c (renamed_events lock_call new) (slept_left_by t b slept outcome)
+        slept_reported outcome answer =
+            slept_queued rules locks_here c polled_here acts (locks_lawful rules opening new lawful) slept sleeps_for_none before.fits outcome
             at_home caller_small answer deferred_now
 
 -- the part of another CPU agrees still
 pub others_after : {F R B O : Type 0} (rules : LockRules F R B O) (opening : LockId → Option (QueueBlock (SleepState (QBlock B)))) (c d : CpuId) → c ≢ d
     → {ActsFor : CpuId → Type 0} {b : BufId} {e : QEdit F R} {past new : List (QueueEvent (QLockEdit F R))} {own : Sleeping (QOut O)}
     {got : Left (Sleeping (QOut O)) (Outcome (QOut O))}
-    → SleepPolled (beneath rules opening) ActsFor d b (as_section e) past new own got → ActsFor c → IsLawful (QueueAllowed (beneath rules opening)) new
-    → (slept : List (Option BufId)) → SleptFits rules (viewed nested_lock_of opening) c (renamed_events edit_in past) slept
-    → SleptFits rules (viewed nested_lock_of opening) c (renamed_events edit_in new) slept
+    → SleepPolled (beneath_the_lock rules opening) ActsFor d b (as_section e) past new own got → ActsFor c
+    → IsLawful (QueueAllowed (beneath_the_lock rules opening)) new
+    → (slept : List (Option BufId)) → SleptFits rules (viewed nested_lock_of opening) c (renamed_events lock_call past) slept
+    → SleptFits rules (viewed nested_lock_of opening) c (renamed_events lock_call new) slept
 others_after rules opening c d apart polled acts lawful slept fits = slept_of_others rules (viewed nested_lock_of opening) c d apart acts slept
     (sleeps_renamed _ _ _ _ (locks_wrap rules opening) _ _ _ _ _ _ _ _ polled) (locks_lawful rules opening _ lawful) fits
 
@@ -204,11 +206,11 @@ module _ {F R B O : Type 0} (rules : LockRules F R B O) (opening : LockId → Op
   -- a poll followed a plan here
   abbrev pub FollowsHere : {S A : Type 0} → Plan (QueueEdit (QEdit F R)) (QueueAnswer (Outcome (QOut O))) S A → Left S A → Type 0
   FollowsHere plan got = Follows ActsFor (table_of (queue_rules (lock_rules rules) (lock_moves rules))) (viewed nested_lock_of opening) c plan
-      (map (renamed (renamed_edit edit_in)) acts) (map (renamed (renamed_edit edit_in)) acts') got
+      (map (renamed (renamed_edit lock_call)) acts) (map (renamed (renamed_edit lock_call)) acts') got
 
   -- so a plan beneath that is this one here, raised, was followed here
   raised_here : {S T A C : Type 0} (f : Left S A → Left T C) (plan : Plan (QueueEdit (QLockEdit F R)) (QueueAnswer (Outcome (QOut O))) S A)
-      (plan' : Plan (QueueEdit (QEdit F R)) (QueueAnswer (Outcome (QOut O))) S A) → named (renamed_edit edit_in) plan ≡ plan' → (got : Left S A)
+      (plan' : Plan (QueueEdit (QEdit F R)) (QueueAnswer (Outcome (QOut O))) S A) → plan_named (renamed_edit lock_call) plan ≡ plan' → (got : Left S A)
       → FollowsBeneath plan got → FollowsHere (raised f plan') (f got)
   raised_here f plan plan' is got follows = follows_raised _ _ _ _ f plan' _ _ got (subst (λ plan. FollowsHere plan got) is
       (follows_named _ _ _ _ (locks_wrap rules opening) ActsFor opening c plan acts acts' got follows))

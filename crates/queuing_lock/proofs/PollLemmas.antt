@@ -6,15 +6,15 @@ use Rattle.event_log.{specs.History.same_cpu, proofs.{Foreign.lawful_before, Sam
 use Rattle.layer_traits.specs.declared.locked.{QEdit.{QEdit, TheVariants.{Acquire, Inside, Release}}, QOut.{QOut, TheVariants.{Acquired, Queued}}}
 use Rattle.layer_traits.specs.declared.{moves.WaitList.TheVariants.Sleepers, passes.Pass.Pass as PassCall, payloads.Parcel.Parcel}
 use Rattle.layer_traits.specs.declared.{queue_edits.QueueBlock.QueueBlock, queues.{QueueCall.TheVariants.{Push, OnBuffer}, QueueEvent.QueueEvent}}
-use Rattle.layer_traits.specs.{declared.{scheds.SchedAnswer.SchedAnswer, sleeps.Outcome.Outcome}, Layers.QLocking.{LockRules, LockState, asked, wait_list_in}}
-use Rattle.layer_traits.specs.Layers.{QLocking.{lock_after, lock_answer, lock_caller, lock_edited, lock_moves, owner_in, asker_report}, QLockLaw.HasOrAwaits}
-use Rattle.layer_traits.specs.Layers.{QLockLaw.{left_locked, locking, lock_kernel, slept_for}, Queues.{Kernel, QueueAllowed, buffer_sections, event}}
-use Rattle.layer_traits.specs.Layers.{Scheds.{SchedPolled, events_of, own_answered, queue_call}, SleepLaw.{PollResult, MayDo, SleepPolled, Sleeping, Waits}}
-use Rattle.layer_traits.specs.{Layers.{SleepLaw.{Does, Sends, left_done, left_with, must_send, seen_with}, Sleeping.joined}, Threads.Passes.queue_for}
-use Rattle.layer_traits.specs.{Threads.Places.{Threads, home_of}, Blocks.{Payloads.{lock_told, outcome_told}, QueueBlocks.{homes_in, inner}}}
-use Rattle.{layer_traits.specs.Polling.Plans.Left, thread_blocks.{specs.Queues.is_in, proofs.{Distinct.pushed_in, Members.same_tid_self}}}
-use Rattle.queuing_lock.{specs.Parts.{DeferredFits, SleptFits, is_queued, slept_left_by, slept_left_with, reported_with}, proofs.DeferredLemmas.deferred_is}
-use Rattle.queuing_lock.proofs.SleptLemmas.{slept_result, slept_more, slept_others}
+use Rattle.layer_traits.specs.{declared.{scheds.SchedAnswer.SchedAnswer, sleeps.Outcome.Outcome}, Layers.QLocking.{LockRules, LockState, lock_asked_by}}
+use Rattle.layer_traits.specs.Layers.QLocking.{wait_list_in, lock_after, lock_answer, lock_caller, lock_edited, lock_moves, owner_in, asker_report}
+use Rattle.layer_traits.specs.Layers.{QLockLaw.{HasOrAwaits, left_locked, locking, lock_kernel, slept_for}, Queues.{Kernel, QueueAllowed, buffer_sections}}
+use Rattle.layer_traits.specs.Layers.{Queues.event, Scheds.{SchedPolled, events_of, own_answered, queue_call}, SleepLaw.{PollResult, MayDo, SleepPolled}}
+use Rattle.layer_traits.specs.Layers.{SleepLaw.{Sleeping, WaitsStill, Does, SendsHome, left_done, left_with, must_send, seen_with}, Sleeping.joined}
+use Rattle.layer_traits.specs.{Threads.{Passes.queue_for, Places.{Threads, home_of}}, Blocks.{Payloads.{lock_told, outcome_told}, QueueBlocks.homes_in}}
+use Rattle.{layer_traits.specs.{Blocks.QueueBlocks.inner, Polling.Plans.Left}, thread_blocks.{specs.Queues.is_in, proofs.Distinct.pushed_in}}
+use Rattle.{thread_blocks.proofs.Members.same_tid_self, queuing_lock.specs.Parts.{DeferredFits, SleptFits, is_queued, slept_left_by, slept_left_with}}
+use Rattle.queuing_lock.{specs.Parts.reported_with, proofs.{DeferredLemmas.deferred_is, SleptLemmas.{slept_result, slept_more, slept_others}}}
 use Rattle.layer_traits.specs.declared.passes.Pass.TheVariants as pass
 use Rattle.layer_traits.specs.declared.scheds.SchedCall.TheVariants as call
 
@@ -70,7 +70,7 @@ reported_told told parcel other outcome = refl
 
 module _ {F R B O : Type 0} (rules : LockRules F R B O) where
   asked_waits : (t : Tid) (owner : Option Tid) (state : LockState B) → t.0 < THREADS → asker_report {O = O} owner ≡ Queued
-      → HasOrAwaits t (Some (asked t owner state))
+      → HasOrAwaits t (Some (lock_asked_by t owner state))
   asked_waits t None state small queued = absurd cc
   asked_waits t (Some owner) state small queued = inr (joined_in t state.sleepers small)
 
@@ -106,9 +106,9 @@ module _ {F R B O : Type 0} (rules : LockRules F R B O) (opening : LockId → Op
     Awaits past = HasOrAwaits (lock_caller rules e) (lock_after rules (inner opening) (Buffer b) (buffer_sections past))
 
     before : (poll_result : PollResult (QOut O)) (past : List (QueueEvent (QEdit F R))) → Lawful (seen_with K c b e poll_result past) → Lawful past
-    before Waits past lawful = lawful
+    before WaitsStill past lawful = lawful
     before (Does outcome) past lawful = lawful.1
-    before (Sends t) past lawful = lawful.1
+    before (SendsHome t) past lawful = lawful.1
 
     -- who slept owns or sleeps still
     pub slept_polled : SleptFits rules opening c new slept
@@ -121,13 +121,13 @@ module _ {F R B O : Type 0} (rules : LockRules F R B O) (opening : LockId → Op
     queued_result : (poll_result : PollResult (QOut O)) (past : List (QueueEvent (QEdit F R))) (outcome : Outcome (QOut O)) → (lock_caller rules e).0 < THREADS
         → MayDo K c b e poll_result past own → (left_with K c b e poll_result own).answer ≡ Some outcome → outcome.out ≡ Queued
         → DeferredFits (Some (call.OnBuffer b e)) own.deferred own.threads.hand → Awaits (seen_with K c b e poll_result past)
-    queued_result Waits past outcome small may answers queued deferred = absurd cc
+    queued_result WaitsStill past outcome small may answers queued deferred = absurd cc
     queued_result (Does done) past outcome small may answers queued deferred =
         let before = lock_after rules (inner opening) (Buffer b) (buffer_sections past) in
         subst (λ same. HasOrAwaits (lock_caller rules e) (if same then option_map (lock_edited rules e) before else before)) (sym (same_lock_self (Buffer b)))
         (queued_awaits rules e before outcome small
         (may.1 ∙ answered_with done (own_answered (lock_moves rules) K.homes c (Some done) own.threads) outcome answers) queued)
-    queued_result (Sends t) past outcome small may answers queued deferred =
+    queued_result (SendsHome t) past outcome small may answers queued deferred =
         let told = deferred_is own.deferred own.threads.hand b e outcome deferred answers in
         let is = ap is_queued queued in
         absurd cc
@@ -159,10 +159,10 @@ module _ {F R B O : Type 0} (rules : LockRules F R B O) (opening : LockId → Op
 
         go : (poll_result : PollResult (QOut O)) → Lawful (seen_with K by b e poll_result (polled.others ++ old))
             → SleptFits rules opening c (seen_with K by b e poll_result (polled.others ++ old)) slept
-        go Waits lawful = slept_others rules opening c polled.others old (polled.foreign c acts) lawful slept fits
+        go WaitsStill lawful = slept_others rules opening c polled.others old (polled.foreign c acts) lawful slept fits
         go (Does outcome) lawful =
             slept_others rules opening c (event by (OnBuffer b e) ∷ polled.others) old (not_by, polled.foreign c acts) lawful slept fits
-        go (Sends t) lawful =
+        go (SendsHome t) lawful =
             slept_others rules opening c (event by (Push (queue_for (homes_in opening) by t) t) ∷ polled.others) old
             (not_by, polled.foreign c acts) lawful slept fits
 

@@ -4,7 +4,7 @@ use Rattle.std.proofs.{Common.{◌∙◌, subst}, Math.Path.transport, lemmas.Op
 use Rattle.event_log.specs.{declared.ids.{BufId.BufId, CpuId.CpuId, LockId.{LockId, TheVariants.Buffer}, Tid.Tid}, History.{AreOthers, IsLawful}}
 use Rattle.layer_traits.specs.declared.{locked.{QEdit.QEdit, QOut.QOut}, queue_edits.QueueBlock.QueueBlock, queues.QueueEvent.QueueEvent}
 use Rattle.layer_traits.specs.Layers.{QLocking.{LockRules, LockState, lock_caller}, QLockLaw.{HasOrAwaits, lock_kernel, slept_for}, Queues.QueueAllowed}
-use Rattle.layer_traits.specs.Layers.{Queues.cpu_of_queue_event, SleepLaw.{PollResult, Waits, Does, Sends, seen_with}}
+use Rattle.layer_traits.specs.Layers.{Queues.cpu_of_queue_event, SleepLaw.{PollResult, WaitsStill, Does, SendsHome, seen_with}}
 use Rattle.queuing_lock.specs.{Laws.Steady.{keeps_awaits, preserved_by, preserved_by_others}, Parts.{SleptFits, SleptOne}}
 
 -- what stands in a list in which one was set stands there because it was set, or stood there before
@@ -49,7 +49,7 @@ module _ {F R B O : Type 0} (rules : LockRules F R B O) (opening : LockId → Op
       → IsLawful (QueueAllowed (lock_kernel rules opening)) (seen_with (lock_kernel rules opening) c b e poll_result past)
       → slept_for slept (lock_caller rules e) ≡ None
       → SleptFits rules opening c past slept → SleptFits rules opening c (seen_with (lock_kernel rules opening) c b e poll_result past) slept
-  slept_result b e Waits past slept lawful none fits = fits
+  slept_result b e WaitsStill past slept lawful none fits = fits
   slept_result b e (Does outcome) past slept lawful none fits = λ t at is. record {
     here = (fits t at is).here;
     awaits = preserved_by rules opening
@@ -57,7 +57,7 @@ module _ {F R B O : Type 0} (rules : LockRules F R B O) (opening : LockId → Op
         past c b e lawful.0.upper.owners
         (apart slept (lock_caller rules e) t at none is) (fits t at is).awaits;
   }
-  slept_result b e (Sends u) past slept lawful none fits = λ t at is. record { here = (fits t at is).here; awaits = (fits t at is).awaits }
+  slept_result b e (SendsHome u) past slept lawful none fits = λ t at is. record { here = (fits t at is).here; awaits = (fits t at is).awaits }
 
   -- whose call was handed its lock has slept
   pub slept_less : (t : Tid) (past : List (QueueEvent (QEdit F R))) (slept : List (Option BufId)) → SleptFits rules opening c past slept

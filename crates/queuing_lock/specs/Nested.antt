@@ -8,8 +8,8 @@ use Rattle.queuing_lock.specs.declared.edits.{QBlock.QBlock, QLockEdit.QLockEdit
 use Rattle.layer_traits.specs.declared.locked.WakeWaiter.TheVariants as signal
 
 -- the call that a section is
-abbrev pub edit_in : {F R : Type 0} → QLockEdit F R → QEdit F R
-edit_in section = section.edit
+abbrev pub lock_call : {F R : Type 0} → QLockEdit F R → QEdit F R
+lock_call section = section.edit
 
 -- the section that a call is
 abbrev pub as_section : {F R : Type 0} → QEdit F R → QLockEdit F R
@@ -76,5 +76,5 @@ busy_rules rules = record {
   answer = λ section. busy_answer rules section.edit;
   joins = wait_list_slept rules;
   leaves = busy_leaves rules;
-  allowed = λ opening past s. LockAllowed rules (locks opening) (map (renamed_section edit_in) past) (renamed_section edit_in s);
+  allowed = λ opening past s. LockAllowed rules (locks opening) (map (renamed_section lock_call) past) (renamed_section lock_call s);
 }

@@ -26,8 +26,8 @@ reported_with (Did out) outcome = Some outcome
 reported_with (Released out) outcome = Some outcome
 
 -- what is handed on of an outcome
-abbrev pub reported_by : {O : Type 0} → Outcome (QOut O) → Option (Outcome (QOut O))
-reported_by outcome = reported_with outcome.out outcome
+abbrev pub outcome_handed_on : {O : Type 0} → Outcome (QOut O) → Option (Outcome (QOut O))
+outcome_handed_on outcome = reported_with outcome.out outcome
 
 -- whether a call is the Acquire of a thread that slept for a lock
 abbrev pub asks_again : {F R : Type 0} → List (Option BufId) → QEdit F R → Bool

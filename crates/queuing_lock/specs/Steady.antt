@@ -5,15 +5,15 @@ use Rattle.layer_traits.specs.{declared.queue_edits.QueueBlock.QueueBlock, Layer
 use Rattle.{layer_traits.specs.{Threads.Places.home_of, Blocks.QueueBlocks.homes_in}, thread_blocks.specs.Queues.is_in}
 
 -- what is true of a lock stays so by each call of the owner that another thread makes
-abbrev pub Keeps : {F R B O : Type 0} → LockRules F R B O → Tid → (Option (LockState B) → Type 0) → Type 0
-Keeps rules t P = (e : QEdit _ _) (state : LockState _) → IsOwners rules e state.owner → (lock_caller rules e ≡ t → ⊥) → P (Some state)
+abbrev pub IsKeptByOwners : {F R B O : Type 0} → LockRules F R B O → Tid → (Option (LockState B) → Type 0) → Type 0
+IsKeptByOwners rules t P = (e : QEdit _ _) (state : LockState _) → IsOwners rules e state.owner → (lock_caller rules e ≡ t → ⊥) → P (Some state)
     → P (Some (lock_edited rules e state))
 
 -- a thread of a CPU, and what is true of a lock and stays so while other threads call
 pub record IsPreserved {F R B O : Type 0} (rules : LockRules F R B O) (opening : LockId → Option (QueueBlock (LockState B))) : Type 1 where
   pub t : Tid
   pub P : Option (LockState B) → Type 0
-  pub keeps : Keeps rules t P
+  pub keeps : IsKeptByOwners rules t P
   pub c : CpuId
   pub at_home : home_of (homes_in opening) t ≡ Some c
   pub lock : LockId

@@ -22,14 +22,14 @@ impl<F: Locked, S: ThreadLayer<SleepLaw<QLockEdit<F, F::Release>>>> ThreadLayer<
     ghost use Rattle.{event_log.{specs.Actions.renamed, proofs.Renaming.legal_renamed}, layer_traits.specs.Views.Renaming.{renamed_edit, renamed_events}};
     ghost use Rattle.layer_traits.{specs.Views.Renaming.{renamed_sched, viewed}, proofs.KernelRenaming.{known_renamed, proper_renamed, seen_renamed}};
     ghost use Rattle.{layer_traits.proofs.KernelRenaming.starts_viewed, queuing_lock.specs.Laws.NestedLaws.{locks_busy, locks_lawful, locks_lists}};
-    ghost use Rattle.queuing_lock.specs.{Laws.NestedLaws.{locks_moves_legal, locks_stand, none_beneath}, Nested.{edit_in, nested_lock_of}, Parts.DeferredFits};
-    ghost use Rattle.queuing_lock.specs.Parts.{SleptFits};
+    ghost use Rattle.queuing_lock.specs.{Laws.NestedLaws.{locks_moves_legal, locks_stand, none_beneath}, Nested.{lock_call, nested_lock_of}};
+    ghost use Rattle.queuing_lock.specs.Parts.{DeferredFits, SleptFits};
 
     type Machine = S::Machine;
 
     ghost opening = { λ m. viewed nested_lock_of (S.opening m) };
 
-    ghost seen = { λ m. renamed_events edit_in (S.seen m) };
+    ghost seen = { λ m. renamed_events lock_call (S.seen m) };
 
     ghost ActsFor = { λ m c. S.ActsFor m c };
 
@@ -45,19 +45,19 @@ impl<F: Locked, S: ThreadLayer<SleepLaw<QLockEdit<F, F::Release>>>> ThreadLayer<
 
     ghost own = { λ p. record { sleep = S.own p.lower; slept = p.slept.buffers } };
 
-    ghost under_way = { λ p. option_map (renamed_sched edit_in) (S.under_way p.lower) };
+    ghost under_way = { λ p. option_map (renamed_sched lock_call) (S.under_way p.lower) };
 
     ghost is_inside = { λ p. S.is_inside p.lower };
 
     ghost Fits = { λ p m. S.Fits p.lower m
-        × SleptFits F.rules (viewed nested_lock_of (S.opening m)) (S.cpu_of p.lower) (renamed_events edit_in (S.seen m)) p.slept.buffers
-        × DeferredFits (option_map (renamed_sched edit_in) (S.under_way p.lower)) (S.own p.lower).deferred (S.own p.lower).threads.hand };
+        × SleptFits F.rules (viewed nested_lock_of (S.opening m)) (S.cpu_of p.lower) (renamed_events lock_call (S.seen m)) p.slept.buffers
+        × DeferredFits (option_map (renamed_sched lock_call) (S.under_way p.lower)) (S.own p.lower).deferred (S.own p.lower).threads.hand };
 
     ghost IsStepwise = { S.IsStepwise };
 
     ghost IsWhole = { S.IsWhole };
 
-    ghost acts = { λ m. map (renamed (renamed_edit edit_in)) (S.acts m) };
+    ghost acts = { λ m. map (renamed (renamed_edit lock_call)) (S.acts m) };
 
     fn part(cpu: CpuId, homes: &[CpuId], buffers: u8) -> Self {
         QLock {
@@ -139,13 +139,13 @@ impl<F: Locked, S: ThreadLayer<SleepLaw<QLockEdit<F, F::Release>>>> ThreadLayer<
 
     ghost moves_legal = { λ m c acts. locks_moves_legal F.rules (S.opening m) (S.seen m) (S.moves_legal m c acts) };
 
-    ghost known = { λ m c acts. known_renamed edit_in (S.seen m) (S.known m c acts) };
+    ghost known = { λ m c acts. known_renamed lock_call (S.seen m) (S.known m c acts) };
 
-    ghost legal = { λ m c acts. legal_renamed (renamed_edit edit_in) (S.acts m) (S.legal m c acts) };
+    ghost legal = { λ m c acts. legal_renamed (renamed_edit lock_call) (S.acts m) (S.legal m c acts) };
 
-    ghost seen_is = { λ step m. ap (renamed_events edit_in) (S.seen_is step m) ∙ seen_renamed edit_in (S.acts m) };
+    ghost seen_is = { λ step m. ap (renamed_events lock_call) (S.seen_is step m) ∙ seen_renamed lock_call (S.acts m) };
 
-    ghost proper = { λ step m c acts. proper_renamed edit_in (S.acts m) (S.proper step m c acts) };
+    ghost proper = { λ step m c acts. proper_renamed lock_call (S.acts m) (S.proper step m c acts) };
 
     ghost busy = { λ p m fits step. locks_busy (S.cpu_of p.lower) (S.acts m) (S.is_inside p.lower) (S.busy p.lower m fits.0 step) };
 

@@ -2,7 +2,7 @@
 
 ghost use Rattle.std.specs.Prelude.{◌≡◌, ◌<◌, Some, None, is_some, replicate, slice_set, if◌then◌else◌};
 ghost use Rattle.{event_log.specs.declared.ids.TheConstants.THREADS, layer_traits.specs.Layers.QLockLaw.slept_for, queuing_lock.specs.Parts.asks_again};
-ghost use Rattle.queuing_lock.specs.Parts.{slept_left_by, reported_by};
+ghost use Rattle.queuing_lock.specs.Parts.{slept_left_by, outcome_handed_on};
 
 use event_log::{BufId, THREADS, Tid};
 use layer_traits::{Outcome, QEdit, QOut};
@@ -84,7 +84,7 @@ impl Slept {
     ) -> Option<Outcome<QOut<B>>>
         requires { t.0 < THREADS }
         ensures slept { self.new.buffers ≡ slept_left_by t buffer self.old.buffers outcome }
-        ensures complete { result ≡ reported_by outcome }
+        ensures complete { result ≡ outcome_handed_on outcome }
     {
         match outcome.out {
             QOut::Queued => {

@@ -42,10 +42,10 @@ next c homes i d within b is =
     ∙ (λ j. if is j then homed c 0 (take i homes) ++ tid_numbered (most j) ∷ [] else homed c 0 (take i homes)))
 
 -- and joins them, if it is at home here
-pub joins : (c : CpuId) (homes : List CpuId) (i : ℕ) (d : CpuId) → i < length homes → c.0 ≡ (get_or homes i d).0
+pub homed_joins : (c : CpuId) (homes : List CpuId) (i : ℕ) (d : CpuId) → i < length homes → c.0 ≡ (get_or homes i d).0
     → homed c 0 (take (i + 1) homes) ≡ homed c 0 (take i homes) ++ tid_numbered i ∷ []
-joins c homes i d within here = next c homes i d within true (eq-eqb c.0 (get_or homes i d).0 here)
+homed_joins c homes i d within here = next c homes i d within true (eq-eqb c.0 (get_or homes i d).0 here)
 
-pub stays : (c : CpuId) (homes : List CpuId) (i : ℕ) (d : CpuId) → i < length homes → (c.0 ≡ (get_or homes i d).0 → ⊥)
+pub homed_stays : (c : CpuId) (homes : List CpuId) (i : ℕ) (d : CpuId) → i < length homes → (c.0 ≡ (get_or homes i d).0 → ⊥)
     → homed c 0 (take (i + 1) homes) ≡ homed c 0 (take i homes)
-stays c homes i d within elsewhere = next c homes i d within false (ne_eqb c.0 (get_or homes i d).0 elsewhere)
+homed_stays c homes i d within elsewhere = next c homes i d within false (ne_eqb c.0 (get_or homes i d).0 elsewhere)

@@ -7,15 +7,15 @@ use Rattle.{event_log.specs.History.{Grows, IsLawful, same_cpu}, layer_traits.sp
 use Rattle.layer_traits.specs.declared.{queue_edits.{QueueBlock.QueueBlock, QueueAnswer.QueueAnswer}, queues.QueueCall.{QueueCall, TheVariants.{Push, TakeAll}}}
 use Rattle.layer_traits.specs.declared.{queues.{QueueCall.TheVariants.OnBuffer, QueueEvent.QueueEvent}, scheds.SchedAnswer.TheVariants.Done}
 use Rattle.layer_traits.specs.{declared.scheds.SchedCall.SchedCall, Threads.{MoveRules.{MoveRules, WakesSleepers, edit_move}, Passes.{or_else, queue_for}}}
-use Rattle.layer_traits.specs.Threads.Places.{AreMoves, Where, MayEdit, MayMove, Stands, Threads, home_of, is_asleep, is_home, pending_by, step, where_is}
-use Rattle.layer_traits.specs.{Polling.Plans.answered, Protocols.Protocol.{Rules, section}, Blocks.QueueBlocks.{StartsWell, homes_in}}
+use Rattle.layer_traits.specs.Threads.Places.{AreMoves, Where, MayEditFor, MayMove, Stands, Threads, home_of, is_asleep, is_home, pending_by, step_with}
+use Rattle.layer_traits.specs.{Threads.Places.where_is, Polling.Plans.answered, Protocols.Protocol.{Rules, section}, Blocks.QueueBlocks.{StartsWell, homes_in}}
 use Rattle.layer_traits.specs.Layers.Queues.{CallAllowed, Kernel, buffer_sections, MayQueue, QueueAllowed, QueuePolled, answer_of, call_move, event}
 use Rattle.layer_traits.specs.Layers.{Queues.{cpu_of_queue_event, kernel, lock_of, moves_in, out_at}, Scheds.{BufferIsThere, EditStays, MaySched, SchedPolled}}
 use Rattle.layer_traits.{specs.Layers.Scheds.{StateFor, answer_by, answer_to, events_of, own_after, own_by, queue_call}, proofs.CallLemmas.moves_append}
 use Rattle.layer_traits.proofs.{CallLemmas.{moves_lawful, moves_others, moves_over, woken_sleeps}, CountLemmas.not_counted, PlaceLemmas.{away_from, away_known}}
 use Rattle.layer_traits.proofs.PlaceLemmas.{current_at, current_new, hand_free, hand_at, pending_at, stands_finished, stands_moved, stands_others}
 use Rattle.{layer_traits.proofs.PlaceLemmas.{stands_pushed, stands_switched, stands_taken, home_there}, scheduler.specs.Owns.{MayFinish, MayJoin, MaySettle}}
-use Rattle.scheduler.specs.{Owns.{MayTake, local_after}, Parts.{IsCalling, PartFits, UnderFits, sched_call, sched_under}}
+use Rattle.scheduler.specs.{Owns.{MayTake, local_after}, Parts.{IsCalling, SchedPartFits, UnderFits, sched_call, sched_under}}
 use Rattle.layer_traits.specs.declared.queue_edits.QueueAnswer.TheVariants as told
 use Rattle.layer_traits.specs.declared.scheds.SchedCall.TheVariants as call
 
@@ -82,7 +82,7 @@ module _ {E B O : Type 0} (rules : Rules E B O) (mv : MoveRules E O) (opening : 
     allowed_now (call.OnBuffer b e) q state is upper =
         let edits : OnBuffer b e ≡ q = cc in
         let at = current_at H c (moves_in K past) own moves stands (mv.caller e) state.0 in
-        let caller : MayEdit H (moves_in K past) c (mv.caller e) =
+        let caller : MayEditFor H (moves_in K past) c (mv.caller e) =
         record { at_home = at.1; home = at.0; empty = hand_free H c (moves_in K past) own moves stands state.1 } in
         subst (CallAllowed K past c) edits (record { caller = caller; upper = upper })
     allowed_now other q state is upper = let taken : TakeAll c ≡ q = cc in subst (CallAllowed K past c) taken refl
@@ -103,7 +103,8 @@ module _ {E B O : Type 0} (rules : Rules E B O) (mv : MoveRules E O) (opening : 
       (subst (AreMoves H) joined (moves_lawful K wakes (more ++ past) lawful)) stands)
 
   module _ {c below : CpuId} {table : List CpuId} {under : Option (QueueEvent E)} {past : List (QueueEvent E)} {own : Threads} (lawful : Lawful past)
-      (fits : PartFits rules mv opening c below table under past own) (s : SchedCall E) (may : MaySched K c past own (sched_under under own.current) s) where
+      (fits : SchedPartFits rules mv opening c below table under past own) (s : SchedCall E)
+      (may : MaySched K c past own (sched_under under own.current) s) where
     state_of : (o : Option (QueueEvent E)) → UnderFits mv H c o own → MaySched K c past own (sched_under o own.current) s → StateFor mv s own
     state_of None calls may = may.0
     state_of (Some e) calls may = subst (λ x. StateFor mv x own) may calls.state
@@ -133,7 +134,7 @@ module _ {E B O : Type 0} (rules : Rules E B O) (mv : MoveRules E O) (opening : 
       pub local_idle : under ≡ None
       local_idle = grind arith
 
-      pub local_fits : PartFits rules mv opening c below table under past (local_after s own)
+      pub local_fits : SchedPartFits rules mv opening c below table under past (local_after s own)
       local_fits = record {
         cpu = fits.cpu;
         homes = fits.homes;
@@ -166,7 +167,7 @@ module _ {E B O : Type 0} (rules : Rules E B O) (mv : MoveRules E O) (opening : 
     module _ (q : QueueCall E) (is : queue_call H c s ≡ Some q) where
       pub waiting_fits : (ActsFor : CpuId → Type 0) → ActsFor c → (new : List (QueueEvent E)) → QueuePolled K ActsFor (event below q) None past new → Lawful new
           → (below' : CpuId) (under' : Option (QueueEvent E)) → below' ≡ below → under' ≡ Some (event below q)
-          → PartFits rules mv opening c below' table under' new own
+          → SchedPartFits rules mv opening c below' table under' new own
       waiting_fits ActsFor acts new polled legal below' under' same goes = record {
         cpu = same ∙ fits.cpu;
         homes = fits.homes;
@@ -232,11 +233,12 @@ module _ {E B O : Type 0} (rules : Rules E B O) (mv : MoveRules E O) (opening : 
 
         -- what the answer leaves agrees with the places after the call
         taken_stands : q ≡ TakeAll c → Stands H c (moves_in K (event c q ∷ before)) (own_by mv H c answer own)
-        taken_stands takes = subst₂ (λ x a. Stands H c (step c (call_move K before x) ∷ moves_in K before) (own_by mv H c a own)) (sym takes) (all_taken takes)
+        taken_stands takes =
+            subst₂ (λ x a. Stands H c (step_with c (call_move K before x) ∷ moves_in K before) (own_by mv H c a own)) (sym takes) (all_taken takes)
             (stands_taken H c (moves_in K before) own legal_moves stands_so)
 
         pushed_stands : (d : CpuId) (t : Tid) → own.hand ≡ Some t → q ≡ Push d t → Stands H c (moves_in K (event c q ∷ before)) (own_by mv H c answer own)
-        pushed_stands d t held pushes = subst₂ (λ x a. Stands H c (step c (call_move K before x) ∷ moves_in K before) (own_by mv H c a own)) (sym pushes)
+        pushed_stands d t held pushes = subst₂ (λ x a. Stands H c (step_with c (call_move K before x) ∷ moves_in K before) (own_by mv H c a own)) (sym pushes)
             (pushed_done d t pushes)
             (stands_pushed H c (moves_in K before) own legal_moves stands_so d t held)
 
@@ -249,9 +251,9 @@ module _ {E B O : Type 0} (rules : Rules E B O) (mv : MoveRules E O) (opening : 
             subst (λ x. MayMove H (moves_in K before) c (call_move K before x)) edits all.0 in
             let moved = stands_moved H c (moves_in K before) own legal_moves stands_so (Buffer b) (mv.caller e) (mv.slept out.0) (mv.woke out.0)
             (subst (λ o. MayMove H (moves_in K before) c (edit_move mv (Buffer b) e o)) out.1 may) runs empty in
-            let here : Stands H c (step c (edit_move mv (Buffer b) e (out_at K before b e)) ∷ moves_in K before) (own_by mv H c (told.Answer out.0) own) =
-            subst (λ o. Stands H c (step c (edit_move mv (Buffer b) e o) ∷ moves_in K before) (own_by mv H c (told.Answer out.0) own)) (sym out.1) moved in
-            subst₂ (λ x a. Stands H c (step c (call_move K before x) ∷ moves_in K before) (own_by mv H c a own)) (sym edits) (sym out.2) here
+            let here : Stands H c (step_with c (edit_move mv (Buffer b) e (out_at K before b e)) ∷ moves_in K before) (own_by mv H c (told.Answer out.0) own) =
+            subst (λ o. Stands H c (step_with c (edit_move mv (Buffer b) e o) ∷ moves_in K before) (own_by mv H c (told.Answer out.0) own)) (sym out.1) moved in
+            subst₂ (λ x a. Stands H c (step_with c (call_move K before x) ∷ moves_in K before) (own_by mv H c a own)) (sym edits) (sym out.2) here
 
         done_stands : (s : SchedCall E) → StateFor mv s own → queue_call H c s ≡ Some q
             → Stands H c (moves_in K (event c q ∷ before)) (own_by mv H c answer own)
@@ -287,7 +289,7 @@ module _ {E B O : Type 0} (rules : Rules E B O) (mv : MoveRules E O) (opening : 
         may_take = may_take_by answer joined legal_last stands_before polled.answers q refl
 
         pub done_fits : (below' : CpuId) (under' : Option (QueueEvent E)) → below' ≡ below → under' ≡ None
-            → PartFits rules mv opening c below' table under' new (own_by mv H c answer own)
+            → SchedPartFits rules mv opening c below' table under' new (own_by mv H c answer own)
         done_fits below' under' same ends = record {
           cpu = same ∙ fits.cpu;
           homes = fits.homes;
@@ -312,8 +314,8 @@ module _ {E B O : Type 0} (rules : Rules E B O) (mv : MoveRules E O) (opening : 
   -- what others do keeps a part in agreement with the machine
   grown_fits : {d below : CpuId} {table : List CpuId} {under : Option (QueueEvent E)} {past : List (QueueEvent E)} {own : Threads}
       (more new : List (QueueEvent E))
-      → AreOthers cpu_of_queue_event d more → new ≡ more ++ past → Lawful new → PartFits rules mv opening d below table under past own
-      → PartFits rules mv opening d below table under new own
+      → AreOthers cpu_of_queue_event d more → new ≡ more ++ past → Lawful new → SchedPartFits rules mv opening d below table under past own
+      → SchedPartFits rules mv opening d below table under new own
   grown_fits {d} {past = past} {own = own} more new others is legal fits = record {
     cpu = fits.cpu;
     homes = fits.homes;
@@ -326,7 +328,7 @@ module _ {E B O : Type 0} (rules : Rules E B O) (mv : MoveRules E O) (opening : 
   pub other_fits : (ActsFor : CpuId → Type 0) (c d below : CpuId) (table : List CpuId) (under : Option (QueueEvent E)) (q : QueueCall E)
       (result : Option (QueueAnswer O))
       (past new : List (QueueEvent E)) (own : Threads) → ActsFor d → same_cpu c d ≡ false → QueuePolled K ActsFor (event c q) result past new → Lawful new
-      → PartFits rules mv opening d below table under past own → PartFits rules mv opening d below table under new own
+      → SchedPartFits rules mv opening d below table under past own → SchedPartFits rules mv opening d below table under new own
   other_fits ActsFor c d below table under q None past new own acts other polled legal fits =
       grown_fits polled.others new (polled.foreign d acts) polled.is legal fits
   other_fits ActsFor c d below table under q (Some answer) past new own acts other polled legal fits =
@@ -335,7 +337,7 @@ module _ {E B O : Type 0} (rules : Rules E B O) (mv : MoveRules E O) (opening : 
   -- and one more look at a section that waits
   pub looked_fits : {ActsFor : CpuId → Type 0} {d below below' : CpuId} {table : List CpuId} {under under' : Option (QueueEvent E)}
       {past new : List (QueueEvent E)} {own : Threads} → Grows ActsFor cpu_of_queue_event past new → ActsFor d → Lawful new → below' ≡ below → under' ≡ under
-      → PartFits rules mv opening d below table under past own → PartFits rules mv opening d below' table under' new own
+      → SchedPartFits rules mv opening d below table under past own → SchedPartFits rules mv opening d below' table under' new own
   looked_fits {d = d} {table = table} {new = new} {own = own} grows acts legal same goes fits =
-      subst₂ (λ x u. PartFits rules mv opening d x table u new own) (sym same) (sym goes)
+      subst₂ (λ x u. SchedPartFits rules mv opening d x table u new own) (sym same) (sym goes)
       (grown_fits grows.others new (grows.foreign d acts) grows.is legal fits)

@@ -25,14 +25,14 @@ MayTake mv (Taken queue) own = MayJoin queue own
 MayTake mv (Answer out) own = MaySettle (mv.woke out) own
 
 -- what a pass leaves that touches nothing shared; any other changes nothing
-abbrev pub passed_by : Pass → Threads → Threads
-passed_by Switch own = switched own
-passed_by YieldNow own = own
-passed_by Drain own = own
-passed_by (MakeReady t) own = own
-passed_by End own = finished own
+abbrev pub passed_locally : Pass → Threads → Threads
+passed_locally Switch own = switched own
+passed_locally YieldNow own = own
+passed_locally Drain own = own
+passed_locally (MakeReady t) own = own
+passed_locally End own = finished own
 
 -- what a call leaves that touches nothing shared; any other changes nothing
 abbrev pub local_after : {E : Type 0} → SchedCall E → Threads → Threads
-local_after (call.Pass p) own = passed_by p own
+local_after (call.Pass p) own = passed_locally p own
 local_after (call.OnBuffer b e) own = own

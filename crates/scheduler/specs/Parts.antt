@@ -33,7 +33,7 @@ UnderFits mv homes c (Some e) own = IsCalling mv homes c e own
 
 -- a part of this CPU agrees with the machine: the part beneath is of the same CPU, the homes are the machine's, the CPU has a pending
 -- queue, what it has of its own agrees with the places, and so does the call under way beneath
-pub record PartFits {E B O : Type 0} (rules : Rules E B O) (mv : MoveRules E O) (opening : LockId → Option (QueueBlock B)) (c below : CpuId)
+pub record SchedPartFits {E B O : Type 0} (rules : Rules E B O) (mv : MoveRules E O) (opening : LockId → Option (QueueBlock B)) (c below : CpuId)
     (table : List CpuId)
     (under : Option (QueueEvent E)) (past : List (QueueEvent E)) (own : Threads) : Type 0 where
   pub cpu : below ≡ c

@@ -3,9 +3,9 @@
 //! No call takes memory, and none waits.
 
 ghost use Rattle.std.specs.Prelude.{◌≡◌, ◌≤◌, length};
-ghost use Rattle.{event_log.specs.declared.ids.TheConstants.THREADS, layer_traits.specs.Threads.{Places.{at_boot, home_of, is_cpu}, Passes.{switched, took}}};
-ghost use Rattle.layer_traits.specs.{Threads.Passes.{passed_on, finished, own_slept, own_woken}, Layers.Scheds.{own_by, answer_by}, Blocks.Payloads.queue_told};
-ghost use Rattle.{layer_traits.specs.Blocks.Payloads.sched_told, scheduler.specs.Owns.{MayFinish, MayJoin, MaySettle, MayTake, passed_by}};
+ghost use Rattle.{event_log.specs.declared.ids.TheConstants.THREADS, layer_traits.specs.Threads.{Places.{at_boot, home_of, is_cpu}, Passes.switched}};
+ghost use Rattle.layer_traits.specs.{Threads.Passes.{took_pending, passed_on, finished, own_slept, own_woken}, Layers.Scheds.{own_by, answer_by}};
+ghost use Rattle.{layer_traits.specs.Blocks.Payloads.{queue_told, sched_told}, scheduler.specs.Owns.{MayFinish, MayJoin, MaySettle, MayTake, passed_locally}};
 
 use event_log::{CpuId, Tid};
 use layer_traits::{BareQueueAnswer, Moves, OwnThreads, Pass, Payload, SchedAnswer, WaitList};
@@ -57,7 +57,7 @@ fn finish(own: &mut OwnThreads)
 #[inline(always)]
 fn join_ready(own: &mut OwnThreads, queue: &mut ThreadList)
     requires { MayJoin queue.old own.old }
-    ensures { own.new ≡ took queue.old own.old }
+    ensures { own.new ≡ took_pending queue.old own.old }
 {
     queue.drain_into(&mut own.ready);
     if let Some(t) = own.current {
@@ -105,7 +105,7 @@ fn settle(
 #[inline(always)]
 pub fn pass_locally(own: &mut OwnThreads, pass: Pass)
     requires { MayFinish own.old }
-    ensures { own.new ≡ passed_by pass own.old }
+    ensures { own.new ≡ passed_locally pass own.old }
 {
     match pass {
         Pass::Switch => switch(own),

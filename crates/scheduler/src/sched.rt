@@ -24,7 +24,7 @@ pub struct Sched<Q> {
 
 impl<E: Moves, Q: Layer<QueueLaw<E>>> Layer<SchedLaw<E>> for Sched<Q> {
     ghost use Rattle.std.proofs.Common.{◌∙◌, subst, sym};
-    ghost use Rattle.scheduler.specs.{Laws.Parts.{busy_under, none_under, under_is_some}, Parts.{PartFits, sched_under}};
+    ghost use Rattle.scheduler.specs.{Laws.Parts.{busy_under, none_under, under_is_some}, Parts.{SchedPartFits, sched_under}};
 
     type Machine = Q::Machine;
 
@@ -50,7 +50,7 @@ impl<E: Moves, Q: Layer<QueueLaw<E>>> Layer<SchedLaw<E>> for Sched<Q> {
 
     ghost is_inside = { λ p. Q.is_inside p.lower };
 
-    ghost Fits = { λ p m. Q.Fits p.lower m × PartFits E.rules E.moves (Q.opening m) p.cpu (Q.cpu_of p.lower) p.homes.items (Q.under_way p.lower)
+    ghost Fits = { λ p m. Q.Fits p.lower m × SchedPartFits E.rules E.moves (Q.opening m) p.cpu (Q.cpu_of p.lower) p.homes.items (Q.under_way p.lower)
         (Q.seen m) p.own };
 
     ghost IsStepwise = { Q.IsStepwise };

@@ -2,20 +2,21 @@
 use Rattle.std.proofs.Common.{◌≡◌, ℕ, Bool, true, false, List, Option, Some, None, if◌then◌else◌, sym, subst}
 use Rattle.{event_log.specs.{declared.ids.{CpuId.CpuId, LockId.LockId}, Sections.Section}, layer_traits.specs.declared.queue_edits.QueueBlock.QueueBlock}
 use Rattle.layer_traits.specs.{declared.{queue_edits.QueueEdit.QueueEdit, queues.QueueCall.QueueCall}, Polling.Framed.Framed, Protocols.Protocol.section}
-use Rattle.layer_traits.{specs.{Blocks.{QueueBlocks.StartsWell, QueueRules.IsProperCall}, Layers.Queues.{edit_of, lock_of}}, proofs.NestedLemmas.proper_of}
+use Rattle.layer_traits.specs.{Blocks.{QueueBlocks.StartsWell, QueueRules.IsProperCall}, Layers.Queues.{queue_edit_of, lock_of}}
+use Rattle.layer_traits.proofs.NestedLemmas.{proper_of}
 
 -- the section that a poll leaves under way is that of its call
 pub call_proper : {E : Type 0} (cpu : CpuId) (call : QueueCall E) (ends : Bool) (under : Option (Section (QueueEdit E)))
-    → under ≡ (if ends then None else Some (section cpu (lock_of call) (edit_of call))) → IsProperCall under
+    → under ≡ (if ends then None else Some (section cpu (lock_of call) (queue_edit_of call))) → IsProperCall under
 call_proper cpu call true under is = subst IsProperCall (sym is) tt
 call_proper cpu call false under is = subst IsProperCall (sym is) (proper_of call)
 
-pub raised : {P Q M B E : Type 0} {below : Q → P} {Fits : P → M → Type 0} {cpu_of : P → CpuId} (opening : M → LockId → Option (QueueBlock B))
+pub frame_raised : {P Q M B E : Type 0} {below : Q → P} {Fits : P → M → Type 0} {cpu_of : P → CpuId} (opening : M → LockId → Option (QueueBlock B))
     (under_way : P → Option (Section (QueueEdit E))) {site : M → List ℕ} {room : M → ℕ} {ActsFor MayHold : M → CpuId → Type 0} {old new : Q} {m n : M}
     → StartsWell (opening m) → Framed Fits cpu_of opening site room ActsFor MayHold (below old) (below new) m n → IsProperCall (under_way (below new))
     → Framed (λ p k. Fits (below p) k × StartsWell (opening k) × IsProperCall (under_way (below p))) (λ p. cpu_of (below p)) opening site room
     (λ k c. ActsFor k c × StartsWell (opening k)) MayHold old new m n
-raised opening under_way starts framed proper =
+frame_raised opening under_way starts framed proper =
     let starts' = subst StartsWell (sym framed.stays.opening) starts in
     record {
       fits = (framed.fits, starts', proper);

@@ -3,7 +3,7 @@
 //! No call takes memory, and none waits.
 
 ghost use Rattle.std.specs.Prelude.{◌≡◌, refl};
-ghost use Rattle.layer_traits.specs.Layers.Queues.{lock_of, edit_of};
+ghost use Rattle.layer_traits.specs.Layers.Queues.{lock_of, queue_edit_of};
 
 use event_log::{BufId, CpuId, LockId, Tid};
 use layer_traits::{
@@ -15,7 +15,7 @@ use layer_traits::{
 #[inline(always)]
 fn section_of<E>(call: QueueCall<E>) -> LockCall<QueueEdit<E>>
     ensures lock { result.lock ≡ lock_of call }
-    ensures edit { result.edit ≡ edit_of call }
+    ensures edit { result.edit ≡ queue_edit_of call }
 {
     let (lock, edit) = match call {
         QueueCall::Push(queue, t) => (LockId::Pending(queue), QueueEdit::Push(t)),
@@ -35,7 +35,7 @@ pub struct SharedQueues<L> {
 impl<E: Moves, L: Layer<LockLaw<QueueEdit<E>>>> Layer<QueueLaw<E>> for SharedQueues<L> {
     ghost use Rattle.std.{specs.Prelude.{map, option_map}, proofs.Common.{ap, ◌∙◌, subst, sym}};
     ghost use Rattle.layer_traits.specs.{Blocks.{QueueBlocks.StartsWell, QueueRules.{AreProper, IsProperCall}}, Layers.Queues.event_of};
-    ghost use Rattle.{layer_traits.proofs.NestedLemmas.{known_events, lawful_events, lawful_proper}, shared_queue.specs.Laws.SharedLaws.none_beneath};
+    ghost use Rattle.{layer_traits.proofs.NestedLemmas.{known_events, lawful_events, lawful_proper}, shared_queue.specs.Laws.SharedLaws.no_section_beneath};
     ghost use Rattle.shared_queue.specs.Laws.SharedLaws.{same_busy};
 
     type Machine = L::Machine;
@@ -120,7 +120,7 @@ impl<E: Moves, L: Layer<LockLaw<QueueEdit<E>>>> Layer<QueueLaw<E>> for SharedQue
 
     ghost inside = { λ p. L.inside p.lower ∙ sym (same_busy event_of (L.under_way p.lower)) };
 
-    ghost idle = { λ p m fits none. L.idle p.lower m fits.0 (none_beneath event_of (L.under_way p.lower) none) };
+    ghost idle = { λ p m fits none. L.idle p.lower m fits.0 (no_section_beneath event_of (L.under_way p.lower) none) };
 
     ghost legal = { λ m c acts. L.legal m c acts.0 };
 

@@ -5,15 +5,15 @@ use Rattle.layer_traits.specs.declared.{passes.Pass.Pass, payloads.{Parcel.Parce
 use Rattle.layer_traits.specs.declared.{queue_edits.QueueAnswer.QueueAnswer, queues.QueueEvent.QueueEvent, scheds.SchedAnswer.{SchedAnswer, TheVariants.Done}}
 use Rattle.layer_traits.specs.{declared.{scheds.SchedCall.SchedCall, sleeps.Outcome.Outcome}, Blocks.Payloads.{outcome_told, sched_told, told_by}}
 use Rattle.layer_traits.specs.{Blocks.{QueueBlocks.{StartsWell, homes_in, inner}, QueueRules.queue_rules}, Threads.Places.{Stands, Threads}}
-use Rattle.layer_traits.specs.{Polling.Plans.{Follows, Left, Plan, table_of}, Layers.{Queues.{QueueAllowed, moves_in}, Scheds.{MaySched, SchedPolled, left}}}
-use Rattle.layer_traits.specs.Layers.{Scheds.sched_plan, SleepLaw.{MayCall, MaySleep, SleepPolled, Sleeping, done_if, due, left_passed, left_reported}}
-use Rattle.layer_traits.specs.Layers.{SleepLaw.{pass_plan, sleep_plan}, Sleeping.{NobodySleeps, SleepRules, wait_list_at, sleep_moves, sleep_rules}}
-use Rattle.layer_traits.{specs.Views.Renaming.{renamed_edit, renamed_events, renamed_sched, viewed}, proofs.CallLemmas.follows_raised}
-use Rattle.layer_traits.proofs.{KernelRenaming.{follows_named, homes_viewed, inner_viewed, plan_renamed, polled_renamed}, SleepLemmas.HandDefers}
-use Rattle.{layer_traits.proofs.SleepLemmas.sleep_polled, sleep_wakeup.specs.declared.edits.{SleepBlock.SleepBlock, SleepEdit.SleepEdit}}
-use Rattle.sleep_wakeup.specs.{declared.deferred.DeferredOutcome.DeferredOutcome, Laws.NestedLaws.{beneath, here, nested_stays, nested_wraps}, Nested.edit_in}
-use Rattle.sleep_wakeup.specs.{Nested.{nested_moves, nested_rules, nested_told, state_of, states}, Parts.{Deferred, DeferredFits, answer_reported, as_edit}}
-use Rattle.sleep_wakeup.specs.Parts.{deferred_of_answer, deferred_told, done_of, parcel_reported, outcome_in, own_of, under_of}
+use Rattle.layer_traits.specs.{Polling.Plans.{Follows, Left, Plan, table_of}, Layers.{Queues.{QueueAllowed, moves_in}, Scheds.{MaySched, SchedPolled}}}
+use Rattle.layer_traits.specs.Layers.{Scheds.{sched_left, sched_plan}, SleepLaw.{MayCall, MaySleep, SleepPolled, Sleeping, done_if, due, left_passed}}
+use Rattle.layer_traits.specs.Layers.{SleepLaw.{left_reported, pass_plan, sleep_plan}, Sleeping.{NobodySleeps, SleepRules, wait_list_at, sleep_moves}}
+use Rattle.layer_traits.specs.{Layers.Sleeping.sleep_rules, Views.Renaming.{renamed_edit, renamed_events, renamed_sched, viewed}}
+use Rattle.layer_traits.proofs.{CallLemmas.follows_raised, KernelRenaming.{follows_named, homes_viewed, inner_viewed, plan_renamed, polled_renamed}}
+use Rattle.{layer_traits.proofs.SleepLemmas.{HandDefers, sleep_polled}, sleep_wakeup.specs.declared.edits.{SleepBlock.SleepBlock, SleepEdit.SleepEdit}}
+use Rattle.sleep_wakeup.specs.{declared.deferred.DeferredOutcome.DeferredOutcome, Laws.NestedLaws.{beneath, here, nested_stays, nested_wraps}}
+use Rattle.sleep_wakeup.specs.{Nested.{slept_edit, nested_moves, nested_rules, nested_told, state_of, states}, Parts.{Deferred, SectionDeferredFits}}
+use Rattle.sleep_wakeup.specs.Parts.{answer_reported, as_edit, deferred_of_answer, deferred_told, done_of, parcel_reported, outcome_in, own_of, under_of}
 use Rattle.layer_traits.specs.declared.scheds.SchedCall.TheVariants as call
 
 -- where nobody sleeps at the opening here, nobody does beneath
@@ -23,14 +23,14 @@ nobody_beneath opening nobody lock line = ap (wait_list_at line) (sym (inner_vie
 
 -- a part at boot keeps nothing
 pub fresh_deferred : {E : Type 0} (O : Type 0) (under : Option (SchedCall (SleepEdit E))) (hand : Option Tid) → under ≡ None
-    → DeferredFits {E = E} {O = O} None under hand
+    → SectionDeferredFits {E = E} {O = O} None under hand
 fresh_deferred O None hand none = tt
 fresh_deferred O (Some s) hand none = absurd cc
 
 -- an outcome is kept exactly while a thread stands in the hand, where a section may be polled
 pub hand_defers : {E O : Type 0} (deferred : Option (Deferred E O)) (under : Option (SchedCall (SleepEdit E))) (hand : Option Tid) (b : BufId)
     (e : E) (duty : Type 0)
-    → DeferredFits deferred under hand
+    → SectionDeferredFits deferred under hand
     → MayCall (under_of deferred under) (call.OnBuffer b e) duty → (duty → hand ≡ None) → HandDefers hand (outcome_in deferred)
 hand_defers deferred under hand b e duty fits may empty = grind arith
 
@@ -78,8 +78,8 @@ module _ {E B O : Type 0} (rules : SleepRules E B O) (opening : LockId → Optio
       (stands : Stands (homes_in opening) c (moves_in (beneath rules opening) past) threads) where
     -- the call that is due may be polled on the scheduler
     pub nested_may : (deferred : Option (Deferred E O)) (under : Option (SchedCall (SleepEdit E))) (hand : Option Tid) → hand ≡ threads.hand
-        → DeferredFits deferred under hand
-        → MayCall (under_of deferred under) (call.OnBuffer b e) (MaySleep (here rules opening) c (renamed_events edit_in past) threads b e)
+        → SectionDeferredFits deferred under hand
+        → MayCall (under_of deferred under) (call.OnBuffer b e) (MaySleep (here rules opening) c (renamed_events slept_edit past) threads b e)
         → MaySched (beneath rules opening) c past threads under (due hand b (as_edit e))
     nested_may None None None is fits may = ((may.current, may.hand), nested_stays rules opening c past threads b e starts lawful nobody stands may)
     nested_may None None (Some t) is fits may = let none = may.hand in absurd cc
@@ -91,7 +91,7 @@ module _ {E B O : Type 0} (rules : SleepRules E B O) (opening : LockId → Optio
     nested_may (Some k) None (Some t) is fits may = (sym is, tt)
     nested_may (Some k) (Some under) (Some t) is fits may = fits
 
-  due_renamed : (hand : Option Tid) (b : BufId) (e : E) → renamed_sched edit_in (due hand b (as_edit e)) ≡ due hand b e
+  due_renamed : (hand : Option Tid) (b : BufId) (e : E) → renamed_sched slept_edit (due hand b (as_edit e)) ≡ due hand b e
   due_renamed None b e = refl
   due_renamed (Some t) b e = refl
 
@@ -99,17 +99,17 @@ module _ {E B O : Type 0} (rules : SleepRules E B O) (opening : LockId → Optio
       (threads threads' : Threads) where
     -- a poll of a call that was answered so, here
     abbrev Polled : SchedCall E → Option (SchedAnswer (Outcome O)) → Type 0
-    Polled s a = SchedPolled (here rules opening) ActsFor c s a (renamed_events edit_in old) (renamed_events edit_in new) threads threads'
+    Polled s a = SchedPolled (here rules opening) ActsFor c s a (renamed_events slept_edit old) (renamed_events slept_edit new) threads threads'
 
     -- the scheduler's poll of a call is one here
     nested_polled : (s : SchedCall (SleepEdit E)) → SchedPolled (beneath rules opening) ActsFor c s answer old new threads threads'
-        → Polled (renamed_sched edit_in s) answer
+        → Polled (renamed_sched slept_edit s) answer
     nested_polled s polled = polled_renamed _ _ _ _ (nested_wraps rules opening) _ _ _ _ _ _ _ _ polled
 
     -- the poll of the call that is due is a poll of the section
     pub nested_sleeps : (b : BufId) (e : E) (deferred : Option (Deferred E O)) (hand : Option Tid) → hand ≡ threads.hand
         → HandDefers hand (outcome_in deferred) → SchedPolled (beneath rules opening) ActsFor c (due hand b (as_edit e)) answer old new threads threads'
-        → SleepPolled (here rules opening) ActsFor c b e (renamed_events edit_in old) (renamed_events edit_in new) (own_of deferred threads)
+        → SleepPolled (here rules opening) ActsFor c b e (renamed_events slept_edit old) (renamed_events slept_edit new) (own_of deferred threads)
         (left_reported (outcome_in deferred) threads' answer)
     nested_sleeps b e deferred hand is fits polled
         = sleep_polled _ b e _ _ _ _ (own_of deferred threads) threads' hand (outcome_in deferred) answer (sym is) refl
@@ -133,7 +133,7 @@ module _ {E B O : Type 0} (rules : SleepRules E B O) (opening : LockId → Optio
     -- a poll followed a plan here
     abbrev pub FollowsHere : {S A : Type 0} → Plan (QueueEdit E) (QueueAnswer (Outcome O)) S A → Left S A → Type 0
     FollowsHere plan got = Follows ActsFor (table_of (queue_rules (sleep_rules rules) (sleep_moves rules))) (viewed state_of opening) c plan
-        (map (renamed (renamed_edit edit_in)) acts) (map (renamed (renamed_edit edit_in)) acts') got
+        (map (renamed (renamed_edit slept_edit)) acts) (map (renamed (renamed_edit slept_edit)) acts') got
 
     module _ (threads threads' : Threads) (answer : Option (SchedAnswer (Outcome O))) (deferred : Option (Deferred E O)) where
       -- the plan of a call here
@@ -141,29 +141,30 @@ module _ {E B O : Type 0} (rules : SleepRules E B O) (opening : LockId → Optio
       plan_here s = sched_plan (sleep_moves rules) (homes_in (viewed state_of opening)) c s threads
 
       -- a poll that followed the scheduler's plan followed its plan here
-      nested_follows : (s : SchedCall (SleepEdit E)) → FollowsBeneath (sched_plan (nested_moves rules) (homes_in opening) c s threads) (left threads' answer)
-          → FollowsHere (plan_here (renamed_sched edit_in s)) (left threads' answer)
-      nested_follows s follows = subst (λ plan. FollowsHere plan (left threads' answer))
+      nested_follows : (s : SchedCall (SleepEdit E))
+          → FollowsBeneath (sched_plan (nested_moves rules) (homes_in opening) c s threads) (sched_left threads' answer)
+          → FollowsHere (plan_here (renamed_sched slept_edit s)) (sched_left threads' answer)
+      nested_follows s follows = subst (λ plan. FollowsHere plan (sched_left threads' answer))
           (plan_renamed _ _ _ _ (nested_wraps rules opening) (homes_in opening) c s threads
-          ∙ ap (λ homes. sched_plan (sleep_moves rules) homes c (renamed_sched edit_in s) threads) (sym (homes_viewed state_of opening)))
+          ∙ ap (λ homes. sched_plan (sleep_moves rules) homes c (renamed_sched slept_edit s) threads) (sym (homes_viewed state_of opening)))
           (follows_named _ _ _ _ (nested_wraps rules opening) ActsFor opening c (sched_plan (nested_moves rules) (homes_in opening) c s threads) acts acts'
-          (left threads' answer) follows)
+          (sched_left threads' answer) follows)
 
       pub nested_sleep_follows : (b : BufId) (e : E) (hand : Option Tid) → hand ≡ threads.hand
-          → FollowsBeneath (sched_plan (nested_moves rules) (homes_in opening) c (due hand b (as_edit e)) threads) (left threads' answer)
+          → FollowsBeneath (sched_plan (nested_moves rules) (homes_in opening) c (due hand b (as_edit e)) threads) (sched_left threads' answer)
           → FollowsHere (sleep_plan (sleep_moves rules) (homes_in (viewed state_of opening)) c b e (own_of deferred threads))
           (left_reported (outcome_in deferred) threads' answer)
       nested_sleep_follows b e hand is follows = follows_raised _ _ _ _ (λ l. left_reported (outcome_in deferred) l.own l.answer)
-          (plan_here (due threads.hand b e)) _ _ (left threads' answer)
-          (subst (λ s. FollowsHere (plan_here s) (left threads' answer)) (due_renamed hand b e ∙ ap (λ h. due h b e) is)
+          (plan_here (due threads.hand b e)) _ _ (sched_left threads' answer)
+          (subst (λ s. FollowsHere (plan_here s) (sched_left threads' answer)) (due_renamed hand b e ∙ ap (λ h. due h b e) is)
           (nested_follows (due hand b (as_edit e)) follows))
 
       pub nested_pass_follows : (p : Pass) (result : Option (Unit {0})) → result ≡ done_of answer
-          → FollowsBeneath (sched_plan (nested_moves rules) (homes_in opening) c (call.Pass p) threads) (left threads' answer)
+          → FollowsBeneath (sched_plan (nested_moves rules) (homes_in opening) c (call.Pass p) threads) (sched_left threads' answer)
           → FollowsHere (pass_plan (sleep_moves rules) (homes_in (viewed state_of opening)) c p (own_of deferred threads))
           (record { own = own_of deferred threads'; answer = result })
       nested_pass_follows p result is follows =
           subst (λ r. FollowsHere (pass_plan (sleep_moves rules) (homes_in (viewed state_of opening)) c p (own_of deferred threads))
           (record { own = own_of deferred threads'; answer = r })) (sym is)
-          (follows_raised _ _ _ _ (left_passed (outcome_in deferred)) (plan_here (call.Pass p)) _ _ (left threads' answer)
+          (follows_raised _ _ _ _ (left_passed (outcome_in deferred)) (plan_here (call.Pass p)) _ _ (sched_left threads' answer)
           (nested_follows (call.Pass p) follows))

@@ -6,8 +6,8 @@ use Rattle.layer_traits.specs.Layers.Sleeping.{IsAwake, NobodySleeps, SleepRules
 use Rattle.{sleep_wakeup.specs.declared.edits.{SleepBlock.SleepBlock, SleepEdit.SleepEdit}, thread_blocks.specs.Queues.first}
 
 -- the edit of the layer above
-abbrev pub edit_in : {E : Type 0} → SleepEdit E → E
-edit_in d = d.edit
+abbrev pub slept_edit : {E : Type 0} → SleepEdit E → E
+slept_edit d = d.edit
 
 -- the edit that is meant by what is handed on: of the layer above, with the parcel of the payload
 abbrev pub nested_meant : {H E : Type 0} → (H → Parcel → E) → SleepEdit H → Payload → SleepEdit E
@@ -46,8 +46,8 @@ nested_answer rules d block = sleep_answer rules d.edit (state_of block)
 pub record NestedAllowed {E B O : Type 0} (rules : SleepRules E B O) (opening : LockId → Option (SleepBlock B)) (past : List (Section (SleepEdit E)))
     (s : Section (SleepEdit E)) : Type 0 where
   pub start : NobodySleeps (states opening)
-  pub awake : IsAwake rules (states opening) (map (renamed_section edit_in) past) (renamed_section edit_in s)
-  pub upper : rules.allowed (states opening) (map (renamed_section edit_in) past) (renamed_section edit_in s)
+  pub awake : IsAwake rules (states opening) (map (renamed_section slept_edit) past) (renamed_section slept_edit s)
+  pub upper : rules.allowed (states opening) (map (renamed_section slept_edit) past) (renamed_section slept_edit s)
 
 -- what the edits mean
 abbrev pub nested_rules : {E B O : Type 0} → SleepRules E B O → Rules (SleepEdit E) (SleepBlock B) (Outcome O)

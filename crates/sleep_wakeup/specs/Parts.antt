@@ -3,7 +3,7 @@ use Rattle.std.specs.Prelude.{◌≡◌, Bool, not, ◌&&◌, Option, Some, None
 use Rattle.{event_log.specs.declared.ids.{BufId.BufId, Tid.Tid}, layer_traits.specs.declared.{passes.Pass.TheVariants.MakeReady, payloads.Parcel.Parcel}}
 use Rattle.layer_traits.specs.declared.{scheds.{SchedCall.SchedCall, SchedAnswer.{SchedAnswer, TheVariants.{Done, Answer}}}, sleeps.Outcome.Outcome}
 use Rattle.layer_traits.specs.{Blocks.Payloads.outcome_told, Threads.Places.Threads, Views.Renaming.renamed_sched, Layers.SleepLaw.Sleeping}
-use Rattle.sleep_wakeup.specs.{declared.{edits.SleepEdit.SleepEdit, deferred.DeferredOutcome.DeferredOutcome}, Nested.edit_in}
+use Rattle.sleep_wakeup.specs.{declared.{edits.SleepEdit.SleepEdit, deferred.DeferredOutcome.DeferredOutcome}, Nested.slept_edit}
 use Rattle.layer_traits.specs.declared.scheds.SchedCall.TheVariants as call
 
 -- an edit of the layer above as an edit here
@@ -30,19 +30,19 @@ own_of deferred threads = record { threads = threads; deferred = outcome_in defe
 
 -- the call under way: the section whose outcome is kept, or else the scheduler's call
 abbrev pub under_of : {E O : Type 0} → Option (Deferred E O) → Option (SchedCall (SleepEdit E)) → Option (SchedCall E)
-under_of None under = option_map (renamed_sched edit_in) under
+under_of None under = option_map (renamed_sched slept_edit) under
 under_of (Some k) under = Some (call.OnBuffer k.buffer k.edit)
 
 -- an outcome is kept only while a thread stands in the hand, and then the scheduler's call, if there is one, sends that thread home;
 -- while a section is under way nobody stands in the hand
-abbrev pub DeferredFits : {E O : Type 0} → Option (Deferred E O) → Option (SchedCall (SleepEdit E)) → Option Tid → Type 0
-DeferredFits None None hand = Unit {0}
-DeferredFits None (Some (call.Pass p)) hand = Unit {0}
-DeferredFits None (Some (call.OnBuffer b d)) hand = hand ≡ None
-DeferredFits (Some k) None (Some t) = Unit {0}
-DeferredFits (Some k) (Some under) (Some t) = under ≡ call.Pass (MakeReady t)
-DeferredFits (Some k) None None = ⊥
-DeferredFits (Some k) (Some under) None = ⊥
+abbrev pub SectionDeferredFits : {E O : Type 0} → Option (Deferred E O) → Option (SchedCall (SleepEdit E)) → Option Tid → Type 0
+SectionDeferredFits None None hand = Unit {0}
+SectionDeferredFits None (Some (call.Pass p)) hand = Unit {0}
+SectionDeferredFits None (Some (call.OnBuffer b d)) hand = hand ≡ None
+SectionDeferredFits (Some k) None (Some t) = Unit {0}
+SectionDeferredFits (Some k) (Some under) (Some t) = under ≡ call.Pass (MakeReady t)
+SectionDeferredFits (Some k) None None = ⊥
+SectionDeferredFits (Some k) (Some under) None = ⊥
 
 -- the outcome has to wait: its caller goes on, and a thread stands in the hand
 abbrev pub must_wait : {O : Type 0} → Outcome O → Option Tid → Bool

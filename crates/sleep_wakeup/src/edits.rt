@@ -2,7 +2,7 @@
 
 ghost use Rattle.std.specs.Prelude.{◌≡◌};
 ghost use Rattle.layer_traits.specs.{declared.moves.WaitList.TheVariants.{Sleepers, Receivers, Senders}, Views.Owned.wait_list_with, Layers.Sleeping.joined};
-ghost use Rattle.{layer_traits.specs.Layers.Sleeping.{left, wait_list_joined, woken}, sleep_wakeup.specs.Nested.state_of};
+ghost use Rattle.{layer_traits.specs.Layers.Sleeping.{left, wait_list_joined, woken_by}, sleep_wakeup.specs.Nested.state_of};
 
 use event_log::{THREADS, Tid};
 use layer_traits::{Edit, Moves, Outcome, Payload, Sleeps, SplitEdit, WaitList, Wake, WholeSleeps};
@@ -62,7 +62,7 @@ fn let_out(
     receivers: &mut ThreadQueue,
     senders: &mut ThreadQueue,
 ) -> Option<Tid>
-    ensures woke { result ≡ woken leave sleepers.old receivers.old senders.old }
+    ensures woke { result ≡ woken_by leave sleepers.old receivers.old senders.old }
     ensures sleepers { sleepers.new ≡ left Sleepers leave sleepers.old }
     ensures receivers { receivers.new ≡ left Receivers leave receivers.old }
     ensures senders { senders.new ≡ left Senders leave senders.old }

@@ -58,13 +58,13 @@ impl<E: Sleeps, S: Layer<SchedLaw<SleepEdit<E>>>> ThreadLayer<SleepLaw<E>> for S
     ghost use Rattle.layer_traits.specs.{Views.Renaming.{renamed_edit, renamed_events, viewed}, Layers.Sleeping.NobodySleeps};
     ghost use Rattle.layer_traits.proofs.KernelRenaming.{known_renamed, proper_renamed, seen_renamed, starts_viewed};
     ghost use Rattle.sleep_wakeup.specs.Laws.NestedLaws.{nested_busy, nested_idle, nested_lawful, nested_lists, nested_moves_legal, nested_stands};
-    ghost use Rattle.sleep_wakeup.specs.{Nested.{edit_in, state_of, states}, Parts.{DeferredFits, deferred_told, own_of, under_of}};
+    ghost use Rattle.sleep_wakeup.specs.{Nested.{slept_edit, state_of, states}, Parts.{SectionDeferredFits, deferred_told, own_of, under_of}};
 
     type Machine = S::Machine;
 
     ghost opening = { λ m. viewed state_of (S.opening m) };
 
-    ghost seen = { λ m. renamed_events edit_in (S.seen m) };
+    ghost seen = { λ m. renamed_events slept_edit (S.seen m) };
 
     ghost ActsFor = { λ m c. S.ActsFor m c };
 
@@ -85,13 +85,13 @@ impl<E: Sleeps, S: Layer<SchedLaw<SleepEdit<E>>>> ThreadLayer<SleepLaw<E>> for S
     ghost is_inside = { λ p. S.is_inside p.lower };
 
     ghost Fits = { λ p m. S.Fits p.lower m × NobodySleeps (states (inner (S.opening m)))
-        × DeferredFits (option_map (deferred_told E.told) p.deferred) (S.under_way p.lower) (S.own p.lower).hand };
+        × SectionDeferredFits (option_map (deferred_told E.told) p.deferred) (S.under_way p.lower) (S.own p.lower).hand };
 
     ghost IsStepwise = { S.IsStepwise };
 
     ghost IsWhole = { S.IsWhole };
 
-    ghost acts = { λ m. map (renamed (renamed_edit edit_in)) (S.acts m) };
+    ghost acts = { λ m. map (renamed (renamed_edit slept_edit)) (S.acts m) };
 
     fn part(cpu: CpuId, homes: &[CpuId], buffers: u8) -> Self {
         Sleeper {
@@ -173,13 +173,13 @@ impl<E: Sleeps, S: Layer<SchedLaw<SleepEdit<E>>>> ThreadLayer<SleepLaw<E>> for S
 
     ghost moves_legal = { λ m c acts. nested_moves_legal E.rules (S.opening m) (S.seen m) (S.lawful m c acts) };
 
-    ghost known = { λ m c acts. known_renamed edit_in (S.seen m) (S.known m c acts) };
+    ghost known = { λ m c acts. known_renamed slept_edit (S.seen m) (S.known m c acts) };
 
-    ghost legal = { λ m c acts. legal_renamed (renamed_edit edit_in) (S.acts m) (S.legal m c acts) };
+    ghost legal = { λ m c acts. legal_renamed (renamed_edit slept_edit) (S.acts m) (S.legal m c acts) };
 
-    ghost seen_is = { λ step m. ap (renamed_events edit_in) (S.seen_is step m) ∙ seen_renamed edit_in (S.acts m) };
+    ghost seen_is = { λ step m. ap (renamed_events slept_edit) (S.seen_is step m) ∙ seen_renamed slept_edit (S.acts m) };
 
-    ghost proper = { λ step m c acts. proper_renamed edit_in (S.acts m) (S.proper step m c acts) };
+    ghost proper = { λ step m c acts. proper_renamed slept_edit (S.acts m) (S.proper step m c acts) };
 
     ghost busy = { λ p m fits step. nested_busy (S.cpu_of p.lower) (S.acts m) (S.is_inside p.lower) (S.busy p.lower m fits.0 step) };
 

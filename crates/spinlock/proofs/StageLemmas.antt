@@ -6,7 +6,7 @@ use Rattle.event_log.specs.{Sections.{cpu_of_section, block_after, sections_in},
 use Rattle.event_log.{specs.Actions.{action_in, cpu_of_action, phase, spot_of}, proofs.{Exclusion.{one_holds, phase_own}, Foreign.{phase_others, spot_others}}}
 use Rattle.{event_log.proofs.{Foreign.{sections_in-append, others_sections_in}, Same.{same_cpu_self, same_lock_true}}, layer_traits.proofs.Seen.stays_on}
 use Rattle.layer_traits.specs.Polling.{Looks.Tries, Plans.{Follows, table_of, at_give, section_plan, answered, is_in_section}, Framed.{Framed, Stays}}
-use Rattle.{layer_traits.specs.{Polling.Polls.Polled, Protocols.Protocol.{Rules, StaysAllowed, section}}, spinlock.specs.Stages.{StageFits, hit_by}}
+use Rattle.{layer_traits.specs.{Polling.Polls.PolledAtLock, Protocols.Protocol.{Rules, StaysAllowed, section}}, spinlock.specs.Stages.{StageFits, hit_by}}
 use Rattle.spinlock.specs.declared.stages.TicketPhase.{TicketPhase, TheVariants.{Out, Waiting, Holding}}
 
 cpu_differs : (a b : CpuId) → b ≢ a → same_cpu a b ≡ false
@@ -123,7 +123,7 @@ module _ {E B O : Type 0} (rules : Rules E B O) {opening opening' : LockId → O
   -- a Give ends its section, with the answer of its edit on the block with which the CPU entered
   pub left_polled : (lock : LockId) (edit : E) (adds : Adds ActsFor cpu_of_action (Give cpu lock edit) old new) → ActsFor cpu → phase cpu old ≡ Holds lock
       → (block : B) → block_after rules.edited opening lock (sections_in old) ≡ Some block → (out : O) → out ≡ rules.answer edit block
-      → Polled rules opening ActsFor (section cpu lock edit) (Some out) (sections_in old) (sections_in new)
+      → PolledAtLock rules opening ActsFor (section cpu lock edit) (Some out) (sections_in old) (sections_in new)
   left_polled lock edit adds acts holds block found out answers = record {
     others = sections_in adds.others;
     foreign = λ c acts. others_sections_in c adds.others (adds.foreign c acts);
@@ -184,9 +184,10 @@ unended {old = old} a ends adds = record {
 }
 
 -- so its poll has no answer
-pub unanswered : {E B O : Type 0} (rules : Rules E B O) (opening : LockId → Option B) {ActsFor : CpuId → Type 0} {old new : List (Section E)} (s : Section E)
-    → Grows ActsFor cpu_of_section old new → Polled rules opening ActsFor s None old new
-unanswered rules opening s grows = record { others = grows.others; foreign = grows.foreign; is = grows.is; answers = tt }
+pub poll_unanswered : {E B O : Type 0} (rules : Rules E B O) (opening : LockId → Option B) {ActsFor : CpuId → Type 0} {old new : List (Section E)}
+    (s : Section E)
+    → Grows ActsFor cpu_of_section old new → PolledAtLock rules opening ActsFor s None old new
+poll_unanswered rules opening s grows = record { others = grows.others; foreign = grows.foreign; is = grows.is; answers = tt }
 
 -- a look is one more Try of a CPU that waits at its lock
 pub tried_again : {E : Type 0} {ActsFor : CpuId → Type 0} {cpu : CpuId} {old new : List (Action E)} → AreLegal new → (lock : LockId) (hit : Bool)

@@ -4,9 +4,9 @@ use Rattle.{atomic_table.specs.{Seated.TableId, Table.{Me, step, Allows, rest}},
 use Rattle.event_log.specs.{declared.events.Event.Event, History.{Adds, Grows, IsLawful}, WordsLog.{cpu_of_event, lock_phase, LockPhase, Idle, Waiting}}
 use Rattle.{event_log.specs.{WordsLog.Holding, Sections.block_after}, layer_traits.specs.{declared.edits.Mark.Mark, Protocols.Protocol.{Rules, StaysAllowed}}}
 use Rattle.{layer_traits.specs.Protocols.{Protocol.section, WordsProtocol.{MayCome, sections}, OneLock.opened}, table_machine.specs.declared.views.Home.Home}
-use Rattle.table_machine.specs.{declared.views.View.View, Kinds.{WordKind, IsWordKind, given_on}, Layout.{rank_of, word_at, word_count}, Views.{mine, IsCpu}}
-use Rattle.table_machine.specs.{Rule.TableInv, Plays.{Drew, Looked, Freed}, SeatViews.{TableView, SeatView, IsOf, Carries, IsKey, Remembers}}
-use Rattle.table_machine.proofs.{Showing.within_table, Stepping.{draws_allowed, looks_allowed, frees_allowed}}
+use Rattle.table_machine.specs.{declared.views.View.View, Kinds.{WordKind, IsWordKind, given_on}, Layout.{rank_of, word_at, word_count}, Views.mine}
+use Rattle.table_machine.specs.{Views.IsThisCpu, Rule.TableInv, Plays.{Drew, LookedAtWord, Freed}, SeatViews.{TableView, SeatView, IsOf, Carries, IsKey}}
+use Rattle.table_machine.{specs.SeatViews.Remembers, proofs.{Showing.within_table, Stepping.{draws_allowed, looks_allowed, frees_allowed}}}
 use mathlib.Core.Option.{none}
 
 abbrev pub seat_view_of : {E B : Type 0} → CpuId → TableId → Me (Home E B) (View E B) → SeatView E B
@@ -61,7 +61,7 @@ module _ {E B O : Type 0} (R : Rules E B O) where
         (here.0, lands.1, rw (me_is, lands.0) (draws_allowed K R n start law z.slots id cpu me.0.seen me.1 lock there (rw (← d_is) at outside)))
 
     pub look_asks : (ticket : ℕ) → lock_phase d.cpu d.seen ≡ Waiting lock ticket → word ≡ word_at (rank_of b.start lock) (K.looks_at ticket)
-        → (table ≡ z) × (word < z.words) × Allows (TableInv K R n start) z.slots id me word (λ m. m) (Looked K R me)
+        → (table ≡ z) × (word < z.words) × Allows (TableInv K R n start) z.slots id me word (λ m. m) (LookedAtWord K R me)
     look_asks ticket waits is =
         let lands = lies (K.looks_at ticket) (law.looks_within ticket) is in
         let waiting : lock_phase cpu me.0.seen ≡ Waiting lock ticket = rw (← d_is) at waits in
@@ -90,10 +90,10 @@ module _ {E B O : Type 0} (R : Rules E B O) where
 
 -- an event of the own CPU, to the holder that acts for that CPU alone
 pub seat_adds : {E B : Type 0} (k d : SeatView E B) (cpu : CpuId) (e : CpuId → Event (Mark E)) (P : Type 0) (new : List (Event (Mark E))) → k ≡ d → cpu ≡ d.cpu
-    → Adds (IsCpu k.cpu) cpu_of_event (e k.cpu) k.seen new → Adds (λ c. (c ≡ d.cpu) × P) cpu_of_event (e cpu) d.seen new
+    → Adds (IsThisCpu k.cpu) cpu_of_event (e k.cpu) k.seen new → Adds (λ c. (c ≡ d.cpu) × P) cpu_of_event (e cpu) d.seen new
 seat_adds k d cpu e P new k_is same adds =
     let its = rw k_is at adds in record { others = its.others; foreign = λ c acts. its.foreign c acts.0; is = rw same its.is }
 
-pub seat_grows : {E B : Type 0} (k d : SeatView E B) (new : List (Event (Mark E))) → k ≡ d → Grows (IsCpu k.cpu) cpu_of_event k.seen new
-    → Grows (IsCpu d.cpu) cpu_of_event d.seen new
+pub seat_grows : {E B : Type 0} (k d : SeatView E B) (new : List (Event (Mark E))) → k ≡ d → Grows (IsThisCpu k.cpu) cpu_of_event k.seen new
+    → Grows (IsThisCpu d.cpu) cpu_of_event d.seen new
 seat_grows k d new k_is grows = rw k_is at grows

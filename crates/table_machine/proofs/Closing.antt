@@ -5,10 +5,10 @@ use Rattle.{atomic_table.{specs.{Seated.TableId, Table.{Me, step, Final, Seen}},
 use Rattle.event_log.specs.{declared.{ids.LockId.LockId, events.Event.Event}, History.{IsLawful, own_events}, WordsLog.{cpu_of_event, lock_phase, Idle}}
 use Rattle.event_log.{specs.Sections.block_after, proofs.{Foreign.{lock_phase_others, own_none}, ListLemmas.there_is}}
 use Rattle.layer_traits.specs.{declared.edits.Mark.Mark, Protocols.{Protocol.Rules, WordsProtocol.{MayCome, sections}, OneLock.{opened, AreDistinct}}}
-use Rattle.{layer_traits.proofs.OneLockLemmas.all_home, table_machine.specs.{declared.views.{Home.Home, View.View}, Kinds.WordKind, Views.{viewed, Has}}}
-use Rattle.table_machine.specs.{Views.IsSince, Rule.{home_block, TableInv}, Plays.Met, SeatViews.{TableView, SeatView, IsKey, Gathered, Covers, IsIn, Closes}}
-use Rattle.table_machine.proofs.{Elements.{got, there_for}, Logs.{lock_phase_since, own_since, since_trans}, Finding.rank_at, Seeing.{all_end, joined}}
-use Rattle.table_machine.proofs.{Showing.home_of, Asking.{seat_view_of, table_view_of}}
+use Rattle.{layer_traits.proofs.OneLockLemmas.all_home, table_machine.specs.{declared.views.{Home.Home, View.View}, Kinds.WordKind, Views.{caught_up, Has}}}
+use Rattle.table_machine.specs.{Views.IsSince, Rule.{home_block, TableInv}, Plays.Met, SeatViews.{TableView, SeatView, IsKey, Gathered, Covers, IsIn}}
+use Rattle.table_machine.{specs.SeatViews.ClosesTable, proofs.{Elements.{element_got, there_for}, Logs.{lock_phase_since, own_since, since_trans}}}
+use Rattle.table_machine.proofs.{Finding.rank_at, Seeing.{all_end, joined}, Showing.home_of, Asking.{seat_view_of, table_view_of}}
 use mathlib.Core.Option.{none, some}
 use native.Mathlib.Decide.{dec_le}
 use lib.ListN.{get_elem?, length-map}
@@ -72,11 +72,11 @@ module _ {E B O : Type 0} (R : Rules E B O) where
       ∙ ap (λ (e : SeatView E B). (record { start = v.0.start; cpus = v.0.cpus; seen = v.0.seen; told = e.seen; lent = e.cpu ∷ [] }, v.1)) d_is)) met_there in
       let cpus_are : w.0.cpus ≡ d.cpu ∷ v.0.cpus = ap (λ (u : View E B). u.cpus) met.view in
       record {
-        view = met.view ∙ (ap (λ (l : List CpuId). viewed v.0.start l w.0.seen) (sym cpus_are)
-            ∙ ap (λ (s : List (LockId × B)). viewed s w.0.cpus w.0.seen) (ap (λ (u : View E B). u.start) g.view));
+        view = met.view ∙ (ap (λ (l : List CpuId). caught_up v.0.start l w.0.seen) (sym cpus_are)
+            ∙ ap (λ (s : List (LockId × B)). caught_up s w.0.cpus w.0.seen) (ap (λ (u : View E B). u.start) g.view));
         keys = λ i e there. all_end (λ i (e : SeatView E B). Has e.cpu w.0.cpus × IsSince w.0.seen e.seen e.cpu) seat_views d
             (rw cpus_are (inl refl), met.fits.lent d.cpu (inl refl))
-            (λ i e old. let known = g.keys i e (got seat_views i e old) in
+            (λ i e old. let known = g.keys i e (element_got seat_views i e old) in
             (rw cpus_are (inr known.0), since_trans e.cpu w.0.seen v.0.seen e.seen (met.fits.cpus e.cpu known.0) known.1))
             i e (there_for (seat_views ++ d ∷ []) i e there);
         quiet = λ c has. ⊎_elim
@@ -92,12 +92,12 @@ module _ {E B O : Type 0} (R : Rules E B O) where
   absorb_carries cpu ticket table o d d_is key over = rw (ap (λ (d : SeatView E B). lock_phase d.cpu d.seen) d_is ∙ over) at key.held
 
   -- what `close` gives
-  pub closes : (table_view : TableView B) (seat_views : List (SeatView E B)) (homes : List (Home E B)) (locks : List LockId) (blocks : List (LockId × B))
+  pub close_gives : (table_view : TableView B) (seat_views : List (SeatView E B)) (homes : List (Home E B)) (locks : List LockId) (blocks : List (LockId × B))
       → Settled R table_view seat_views homes → locks ≡ map (λ (o : LockId × B). o.0) table_view.start → length blocks ≡ length locks
       → ((i : ℕ) (lock : LockId) (y : Home E B) (b : B) → get_elem? locks i ≡ some lock → get_elem? homes i ≡ some y → y.block ≡ Some b
       → get_elem? blocks i ≡ some (lock, b))
-      → Closes R table_view seat_views blocks
-  closes table_view seat_views homes locks blocks settled locks_are count given = record {
+      → ClosesTable R table_view seat_views blocks
+  close_gives table_view seat_views homes locks blocks settled locks_are count given = record {
     log = settled.log;
     legal = settled.legal;
     keys = settled.keys;
@@ -107,7 +107,7 @@ module _ {E B O : Type 0} (R : Rules E B O) where
         let there = settled.blocks i o at in
         let lock_at : get_elem? locks i ≡ some o.0
         = ap (λ l. get_elem? l i) locks_are ∙ at_map (λ (o : LockId × B). o.0) table_view.start i o (there_for table_view.start i o at) in
-        (there.1, got blocks i (o.0, there.1) (given i o.0 there.0 there.1 lock_at there.2 there.3), there.4));
+        (there.1, element_got blocks i (o.0, there.1) (given i o.0 there.0 there.1 lock_at there.2 there.3), there.4));
   }
 
   -- each slot has a block

@@ -5,10 +5,10 @@ use mathlib.Core.Option.{some, some-injective, some-ne-none}
 use lib.ListN.{get_elem?}
 
 module _ {A : Type 0} where
-  pub got : (l : List A) (i : ℕ) (a : A) → get_elem? l i ≡ some a → slice_get l i ≡ Some a
-  got [] i a there = absurd (some-ne-none a (sym there))
-  got (x ∷ xs) zero a there = ap Some (some-injective x a there)
-  got (x ∷ xs) (suc i) a there = got xs i a there
+  pub element_got : (l : List A) (i : ℕ) (a : A) → get_elem? l i ≡ some a → slice_get l i ≡ Some a
+  element_got [] i a there = absurd (some-ne-none a (sym there))
+  element_got (x ∷ xs) zero a there = ap Some (some-injective x a there)
+  element_got (x ∷ xs) (suc i) a there = element_got xs i a there
 
   pub there_for : (l : List A) (i : ℕ) (a : A) → slice_get l i ≡ Some a → get_elem? l i ≡ some a
   there_for [] i a is = absurd (cc is)
@@ -17,7 +17,7 @@ module _ {A : Type 0} where
 
   -- the last element of a list, and one of its front
   pub last_got : (l : List A) (a : A) (n : ℕ) → length l ≡ n → slice_get (l ++ a ∷ []) n ≡ Some a
-  last_got l a n long = got (l ++ a ∷ []) n a (at_last l a n long)
+  last_got l a n long = element_got (l ++ a ∷ []) n a (at_last l a n long)
 
   pub longer_got : (l more : List A) (i : ℕ) (a : A) → slice_get l i ≡ Some a → slice_get (l ++ more) i ≡ Some a
-  longer_got l more i a is = got (l ++ more) i a (at_longer l more i a (there_for l i a is))
+  longer_got l more i a is = element_got (l ++ more) i a (at_longer l more i a (there_for l i a is))

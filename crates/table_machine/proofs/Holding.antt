@@ -4,8 +4,8 @@ use Rattle.{atomic_table.specs.{Seated.TableId, Table.{Me, step, rest}}, event_l
 use Rattle.event_log.specs.{declared.events.Event.TheVariants.{Draw, Look, Free}, History.Adds, WordsLog.{cpu_of_event, left_by, lock_phase, LockPhase, Idle}}
 use Rattle.{event_log.specs.{WordsLog.{Waiting, Holding}, Sections.block_after}, layer_traits.specs.{declared.edits.Mark.Mark, Protocols.Protocol.Rules}}
 use Rattle.layer_traits.{specs.Protocols.{WordsProtocol.{sections, mark_of}, OneLock.opened}, proofs.OneLockLemmas.lock_phase_own}
-use Rattle.table_machine.specs.{declared.views.{Home.Home, View.View}, Kinds.WordKind, Layout.{rank_of, word_at}, Views.{mine, owner, IsCpu}, Plays.Moves}
-use Rattle.table_machine.specs.{Plays.{Hits, Misses, Drew, Looked, Freed}, SeatViews.{TableView, SeatView, IsOf, Carries, IsKey, Remembers}}
+use Rattle.table_machine.specs.{declared.views.{Home.Home, View.View}, Kinds.WordKind, Layout.{rank_of, word_at}, Views.{mine, owner, IsThisCpu}, Plays.Moves}
+use Rattle.table_machine.specs.{Plays.{Hits, MissesTicket, Drew, LookedAtWord, Freed}, SeatViews.{TableView, SeatView, IsOf, Carries, IsKey, Remembers}}
 use Rattle.table_machine.proofs.{Asking.{key_at, seat_view_of}, Finding.rank_same, Showing.next_reads}
 use mathlib.Core.Option.{none}
 
@@ -13,7 +13,7 @@ module _ {E B O : Type 0} (R : Rules E B O) where
   -- a step of a key: its token goes on from its own event
   pub record Went (d : SeatView E B) (cpu : CpuId) (ticket : ℕ) (e : Event (Mark E)) (w : Me (Home E B) (View E B)) : Type 0 where
     pub start : d.start ≡ w.0.start
-    pub adds : Adds (IsCpu d.cpu) cpu_of_event e d.seen w.0.seen
+    pub adds : Adds (IsThisCpu d.cpu) cpu_of_event e d.seen w.0.seen
     pub key : IsKey R cpu ticket w
 
   went : (cpu : CpuId) (kept ticket : ℕ) (table : TableId) (v w : Me (Home E B) (View E B)) (d : SeatView E B) (e : CpuId → Event (Mark E)) (phase : LockPhase)
@@ -36,7 +36,7 @@ module _ {E B O : Type 0} (R : Rules E B O) where
       (b : TableView B)
       → seat_view_of cpu table v ≡ d → IsKey R cpu kept v
       → IsOf b d → IsSome (opened d.start lock) → lock_phase d.cpu d.seen ≡ Idle → word ≡ word_at (rank_of b.start lock) 0
-      → Drew R (step slots word 1 0 none) v found w → (d.start ≡ w.0.start) × Adds (IsCpu d.cpu) cpu_of_event (Draw d.cpu lock found) d.seen w.0.seen
+      → Drew R (step slots word 1 0 none) v found w → (d.start ≡ w.0.start) × Adds (IsThisCpu d.cpu) cpu_of_event (Draw d.cpu lock found) d.seen w.0.seen
       × IsKey R cpu found w
   draw_reads cpu kept table v w slots word found lock d b d_is key of exists outside word_is told =
       let own : owner v.0.cpus ≡ cpu = ap (λ (u : View E B). owner u.cpus) key.view in
@@ -55,7 +55,7 @@ module _ {E B O : Type 0} (R : Rules E B O) where
   pub record LookMissed (d : SeatView E B) (cpu : CpuId) (kept : ℕ) (lock : LockId) (ticket : ℕ) (w : Me (Home E B) (View E B)) : Type 0 where
     pub start : d.start ≡ w.0.start
     pub read : ℕ
-    pub adds : Adds (IsCpu d.cpu) cpu_of_event (Look d.cpu lock ticket read) d.seen w.0.seen
+    pub adds : Adds (IsThisCpu d.cpu) cpu_of_event (Look d.cpu lock ticket read) d.seen w.0.seen
     pub waits : lock_phase d.cpu w.0.seen ≡ Waiting lock ticket
     pub key : IsKey R cpu kept w
 
@@ -63,7 +63,7 @@ module _ {E B O : Type 0} (R : Rules E B O) where
   pub record LookHit (d : SeatView E B) (cpu : CpuId) (kept : ℕ) (lock : LockId) (ticket rank : ℕ) (w : Me (Home E B) (View E B)) : Type 0 where
     pub start : d.start ≡ w.0.start
     pub read : ℕ
-    pub adds : Adds (IsCpu d.cpu) cpu_of_event (Look d.cpu lock ticket read) d.seen w.0.seen
+    pub adds : Adds (IsThisCpu d.cpu) cpu_of_event (Look d.cpu lock ticket read) d.seen w.0.seen
     pub inside : lock_phase d.cpu w.0.seen ≡ Holding lock ticket
     pub home : Home E B
     pub block : B
@@ -78,7 +78,7 @@ module _ {E B O : Type 0} (R : Rules E B O) where
     own = ap (λ (u : View E B). owner u.cpus) key.view
 
     -- the look is at the lock, and with the ticket, with which the CPU waits
-    looked : (d : SeatView E B) → seat_view_of cpu table v ≡ d → lock_phase d.cpu d.seen ≡ Waiting lock ticket → (told : Looked K R v found w)
+    looked : (d : SeatView E B) → seat_view_of cpu table v ≡ d → lock_phase d.cpu d.seen ≡ Waiting lock ticket → (told : LookedAtWord K R v found w)
         → (told.lock ≡ lock) × (told.ticket ≡ ticket) × (v.1 ≡ []) × (kept ≡ ticket)
     looked d d_is waits told =
         let waiting : lock_phase cpu v.0.seen ≡ Waiting lock ticket = rw (← d_is) at waits in
@@ -88,10 +88,10 @@ module _ {E B O : Type 0} (R : Rules E B O) where
         (lock_is, ticket_is, (rw waiting at key.held), (rw waiting at key.remembers))
 
     pub look_missed : (d : SeatView E B) → seat_view_of cpu table v ≡ d → lock_phase d.cpu d.seen ≡ Waiting lock ticket → K.serves ticket found ≡ false
-        → Looked K R v found w → LookMissed d cpu kept lock ticket w
+        → LookedAtWord K R v found w → LookMissed d cpu kept lock ticket w
     look_missed d d_is waits other told =
         let its = looked d d_is waits told in
-        let miss : Misses K lock ticket v found w = elim (rw (its.0, its.1) at told.finds) [
+        let miss : MissesTicket K lock ticket v found w = elim (rw (its.0, its.1) at told.finds) [
           | inl miss ↦ miss
           | inr hit ↦ absurd (let same = hit.same in cc (other, same))
         ] in
@@ -100,7 +100,7 @@ module _ {E B O : Type 0} (R : Rules E B O) where
         record { start = done.start; read = told.read; adds = done.adds; waits = rw (← d_is) (rw own at miss.waits); key = done.key }
 
     pub look_hit : (d : SeatView E B) (b : TableView B) (rank : ℕ) → seat_view_of cpu table v ≡ d → IsOf b d → lock_phase d.cpu d.seen ≡ Waiting lock ticket
-        → K.serves ticket found ≡ true → rank ≡ rank_of b.start lock → Looked K R v found w → LookHit d cpu kept lock ticket rank w
+        → K.serves ticket found ≡ true → rank ≡ rank_of b.start lock → LookedAtWord K R v found w → LookHit d cpu kept lock ticket rank w
     look_hit d b rank d_is of waits same rank_is told =
         let its = looked d d_is waits told in
         let hit : Hits K R lock ticket v found w = elim (rw (its.0, its.1) at told.finds) [
@@ -156,7 +156,7 @@ module _ {E B O : Type 0} (R : Rules E B O) where
         (stands_after cpu (Free (owner me.0.cpus) lock (mark_of edit)) me.0 w.0 mine_is moves) told.held tt
 
     pub free_adds : {w : Me (Home E B) (View E B)} {rank : ℕ} {x : Home E B} → x ≡ record { block = Some block; edit = Some edit }
-        → Freed R (me.0, (rank, x) ∷ rest me.1) w → Adds (IsCpu d.cpu) cpu_of_event (Free d.cpu lock (mark_of edit)) d.seen w.0.seen
+        → Freed R (me.0, (rank, x) ∷ rest me.1) w → Adds (IsThisCpu d.cpu) cpu_of_event (Free d.cpu lock (mark_of edit)) d.seen w.0.seen
     free_adds {w} {rank} {x} x_is told = (free_reads w rank x x_is told).adds
 
     pub free_key : {w : Me (Home E B) (View E B)} {rank : ℕ} {x : Home E B} → x ≡ record { block = Some block; edit = Some edit }

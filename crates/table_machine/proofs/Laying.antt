@@ -5,7 +5,7 @@ use Rattle.std.proofs.lemmas.List.{replicate-append-replicate}
 use Rattle.{atomic_table.specs.{Seated.TableId, Table.{Me, Splits}}, event_log.specs.{Locks.lock_number, declared.ids.TheConstants.{LOCKS, CPUS}}}
 use Rattle.{event_log.{specs.declared.ids.LockId.LockId, proofs.Same.{lock_number_same, same_lock_true}}, layer_traits.specs.Protocols.Protocol.Rules}
 use Rattle.{layer_traits.specs.Protocols.OneLock.opened, table_machine.specs.{declared.views.{Home.Home, View.View}, Kinds.WordKind, Layout.rank_of}}
-use Rattle.table_machine.specs.{Layout.{word_count, AreRanks, IsLaidOut}, Views.{viewed, mine, owner, cpus_from}, Rule.{TableInv, fresh_home}}
+use Rattle.table_machine.specs.{Layout.{word_count, AreRanks, IsLaidOut}, Views.{caught_up, mine, owner, cpus_from}, Rule.{TableInv, fresh_home}}
 use Rattle.table_machine.{specs.SeatViews.TableView, proofs.{Dealing.deals_split, Asking.table_view_of, Meeting.has_words}}
 use lib.ListN.{length-map}
 
@@ -43,16 +43,17 @@ one_less n k below = omega arith
 module _ (K : WordKind) {E B O : Type 0} (R : Rules E B O) where
   pub deal_asks : (table z : TableId) (start : List (LockId × B)) (n id : ℕ) (ranks : List ℕ) (locks : List LockId) (me : Me (Home E B) (View E B)) (cpu : ℕ)
       (b : TableView B) → IsLaidOut start z.words z.slots ranks locks → table_view_of z start n ≡ b
-      → cpu < b.cpus → table ≡ b.table → me ≡ (viewed b.start (cpus_from cpu (b.cpus - cpu)) [], [])
-      → (table ≡ z) × (0 < z.words) × Splits (TableInv K R n start) id me.0 (viewed me.0.start (drop 1 me.0.cpus) me.0.seen)
+      → cpu < b.cpus → table ≡ b.table → me ≡ (caught_up b.start (cpus_from cpu (b.cpus - cpu)) [], [])
+      → (table ≡ z) × (0 < z.words) × Splits (TableInv K R n start) id me.0 (caught_up me.0.start (drop 1 me.0.cpus) me.0.seen)
       (mine me.0.start (owner me.0.cpus) me.0.seen)
   deal_asks table z start n id ranks locks me cpu b laid b_is below table_is me_is =
       let small : cpu < n = rw (← b_is) at below in
-      let me_at : me ≡ (viewed start (cpus_from cpu (suc (n - (cpu + 1)))) [], []) = rw (← b_is, one_less n cpu small) at me_is in
+      let me_at : me ≡ (caught_up start (cpus_from cpu (suc (n - (cpu + 1)))) [], []) = rw (← b_is, one_less n cpu small) at me_is in
       (rw (← b_is) at table_is, has_words start z.words z.slots ranks locks laid, rw me_at (deals_split K R n start id cpu (n - (cpu + 1))))
 
-  pub deal_leaves : (me w : Me (Home E B) (View E B)) (cpu : ℕ) (b : TableView B) → cpu < b.cpus → me ≡ (viewed b.start (cpus_from cpu (b.cpus - cpu)) [], [])
-      → w ≡ (viewed me.0.start (drop 1 me.0.cpus) me.0.seen, me.1) → w ≡ (viewed b.start (cpus_from (cpu + 1) (b.cpus - (cpu + 1))) [], [])
+  pub deal_leaves : (me w : Me (Home E B) (View E B)) (cpu : ℕ) (b : TableView B) → cpu < b.cpus
+      → me ≡ (caught_up b.start (cpus_from cpu (b.cpus - cpu)) [], [])
+      → w ≡ (caught_up me.0.start (drop 1 me.0.cpus) me.0.seen, me.1) → w ≡ (caught_up b.start (cpus_from (cpu + 1) (b.cpus - (cpu + 1))) [], [])
   deal_leaves me w cpu b below me_is w_is = rw (me_is, one_less b.cpus cpu below) at w_is
 
 -- the whole row

@@ -2,9 +2,9 @@
 use Rattle.std.proofs.Common.{◌≡◌, ℕ, ◌<◌, inl, List, [], ◌∷◌, ◌++◌, length, refl, ap, sym, ◌∙◌, arith}
 use Rattle.{atomic_table.specs.{Seated.TableId, Table.{Me, step, Allows}}, event_log.specs.declared.{ids.{CpuId.CpuId, LockId.LockId}, events.Event.Event}}
 use Rattle.{event_log.specs.{History.Grows, WordsLog.{cpu_of_event, lock_phase}}, layer_traits.specs.{declared.edits.Mark.Mark, Protocols.Protocol.Rules}}
-use Rattle.table_machine.specs.{declared.views.{Home.Home, View.View}, Kinds.WordKind, Layout.{word_count, IsLaidOut}, Views.{mine, IsCpu, EndsWith, IsSince}}
-use Rattle.table_machine.{specs.{Rule.TableInv, Plays.Met, SeatViews.{SeatView, IsKey}}, proofs.{Logs.lock_phase_since, Seeing.joined, Stepping.meets_allowed}}
-use Rattle.table_machine.proofs.Asking.{key_at, seat_view_of}
+use Rattle.table_machine.specs.{declared.views.{Home.Home, View.View}, Kinds.WordKind, Layout.{word_count, IsLaidOut}, Views.{mine, IsThisCpu, EndsWith}}
+use Rattle.table_machine.{specs.{Views.IsSince, Rule.TableInv, Plays.Met, SeatViews.{SeatView, IsKey}}, proofs.{Logs.lock_phase_since, Seeing.joined}}
+use Rattle.table_machine.proofs.{Stepping.meets_allowed, Asking.{key_at, seat_view_of}}
 use mathlib.Core.Option.{none}
 
 pub has_words : {B : Type 0} (start : List (LockId × B)) (words slots : ℕ) (ranks : List ℕ) (locks : List LockId) → IsLaidOut start words slots ranks locks
@@ -16,7 +16,7 @@ module _ {E B O : Type 0} (R : Rules E B O) where
   pub record MeetDone (d : SeatView E B) (cpu : CpuId) (ticket : ℕ) (seen : List (Event (Mark E))) (w : Me (Home E B) (View E B)) : Type 0 where
     pub start : d.start ≡ w.0.start
     pub begins : EndsWith w.0.seen seen
-    pub grows : Grows (IsCpu d.cpu) cpu_of_event d.seen w.0.seen
+    pub grows : Grows (IsThisCpu d.cpu) cpu_of_event d.seen w.0.seen
     pub key : IsKey R cpu ticket w
 
   pub meet_reads : (cpu : CpuId) (ticket : ℕ) (table : TableId) (v u w : Me (Home E B) (View E B)) (o : View E B) (slots found : ℕ) (d : SeatView E B)

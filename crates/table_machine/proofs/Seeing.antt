@@ -2,7 +2,7 @@
 use Rattle.std.proofs.Common.{◌≡◌, ◌≢◌, ◌==◌, ℕ, zero, suc, ◌<◌, ◌⊎◌, inl, inr, ⊎_elim, if◌then◌else◌, List, [], ◌∷◌, ◌++◌, length, set, ap, sym, ◌∙◌}
 use Rattle.{std.proofs.Common.{subst, eq-eqb, ne_eqb}, atomic_table.proofs.Lists.{at_set, set_else}, event_log.specs.declared.ids.{CpuId.CpuId, LockId.LockId}}
 use Rattle.{event_log.specs.{declared.events.Event.Event, History.AreOthers, WordsLog.cpu_of_event}, layer_traits.specs.declared.edits.Mark.Mark}
-use Rattle.table_machine.{specs.{declared.views.View.View, Views.{viewed, Has, EndsWith, IsSince, Owns, Fits, Sees}}, proofs.Logs.{since_more, since_all}}
+use Rattle.table_machine.{specs.{declared.views.View.View, Views.{caught_up, Has, EndsWith, IsSince, Owns, Fits, Sees}}, proofs.Logs.{since_more, since_all}}
 use Rattle.table_machine.proofs.Logs.{ends_nil, ends_more, ends_all}
 use mathlib.Core.Option.{some, some-injective, some-ne-none}
 use lib.ListN.{get_elem?}
@@ -22,10 +22,10 @@ all_end P (x ∷ xs) a last before (suc i) b at = all_end (λ j. P (suc j)) xs a
 
 module _ {E B : Type 0} where
   pub fits_of : (start : List (LockId × B)) (cpus : List CpuId) (log seen : List (Event (Mark E))) → EndsWith log seen
-      → ((c : CpuId) → Has c cpus → IsSince log seen c) → Fits log (viewed start cpus seen)
+      → ((c : CpuId) → Has c cpus → IsSince log seen c) → Fits log (caught_up start cpus seen)
   fits_of start cpus log seen ends since = record { front = ends; told = ends_nil log; cpus = since; lent = λ c has. absurd has }
 
-  pub fits_viewed : (start : List (LockId × B)) (cpus : List CpuId) (log : List (Event (Mark E))) → Fits log (viewed start cpus log)
+  pub fits_viewed : (start : List (LockId × B)) (cpus : List CpuId) (log : List (Event (Mark E))) → Fits log (caught_up start cpus log)
   fits_viewed start cpus log = fits_of start cpus log log (ends_all log) (λ c has. since_all c log)
 
   fits_more : (es log : List (Event (Mark E))) (v : View E B) → ((c : CpuId) → Owns c v → AreOthers cpu_of_event c es) → Fits log v → Fits (es ++ log) v
@@ -37,7 +37,7 @@ module _ {E B : Type 0} where
   }
 
   -- the CPUs of a view that has taken in all are its own
-  pub owns_viewed : (start : List (LockId × B)) (cpus : List CpuId) (log : List (Event (Mark E))) (c : CpuId) → Owns c (viewed start cpus log) → Has c cpus
+  pub owns_viewed : (start : List (LockId × B)) (cpus : List CpuId) (log : List (Event (Mark E))) (c : CpuId) → Owns c (caught_up start cpus log) → Has c cpus
   owns_viewed start cpus log c (inl has) = has
   owns_viewed start cpus log c (inr nothing) = absurd nothing
 
@@ -77,15 +77,15 @@ module _ {E B : Type 0} (n : ℕ) (views : List (View E B)) (log : List (Event (
 
   -- another seat gives what it has seen, and its CPUs, to this one
   pub sees_join : (other : ℕ) (w : View E B) → other ≢ id → get_elem? (set views id (joined v w)) other ≡ some w
-      → Sees n (set (set views id (joined v w)) other (viewed [] [] [])) log
+      → Sees n (set (set views id (joined v w)) other (caught_up [] [] [])) log
   sees_join other w apart there =
       let mine = fits_at n views log s id v here in
       let given = fits_at n views log s other w (sym (set_else views id other (joined v w) apart) ∙ there) in
       let seat : ℕ → ℕ = λ k. if s.seat_of k == other then id else s.seat_of k in
       let stays : (c : CpuId) (i : ℕ) → i ≢ other → i ≡ s.seat_of c.0 → i ≡ seat c.0 = λ c i away e.
       rw (ne_eqb (s.seat_of c.0) other (λ same. away (e ∙ same))) e in
-      each_sees n (set (set views id (joined v w)) other (viewed [] [] [])) log seat
-      (all_set (FitsAt n log seat) (set views id (joined v w)) other (viewed [] [] [])
+      each_sees n (set (set views id (joined v w)) other (caught_up [] [] [])) log seat
+      (all_set (FitsAt n log seat) (set views id (joined v w)) other (caught_up [] [] [])
       (fits_of [] [] log [] (ends_nil log) (λ c has. absurd has), λ c o. absurd (owns_viewed {E = E} {B = B} [] [] [] c o))
       (λ i u away at. all_set (λ i u. i ≢ other → FitsAt n log seat i u) views id (joined v w)
       (λ away. (
@@ -98,9 +98,9 @@ module _ {E B : Type 0} (n : ℕ) (views : List (View E B)) (log : List (Event (
 
 module _ {E B : Type 0} (n : ℕ) (views : List (View E B)) (log : List (Event (Mark E))) (s : Sees n views log) where
   -- a new seat that owns nothing
-  pub sees_new : (start : List (LockId × B)) (seen : List (Event (Mark E))) → EndsWith log seen → Sees n (views ++ viewed start [] seen ∷ []) log
-  sees_new start seen ends = each_sees n (views ++ viewed start [] seen ∷ []) log s.seat_of
-      (all_end (FitsAt n log s.seat_of) views (viewed start [] seen)
+  pub sees_new : (start : List (LockId × B)) (seen : List (Event (Mark E))) → EndsWith log seen → Sees n (views ++ caught_up start [] seen ∷ []) log
+  sees_new start seen ends = each_sees n (views ++ caught_up start [] seen ∷ []) log s.seat_of
+      (all_end (FitsAt n log s.seat_of) views (caught_up start [] seen)
       (fits_of start [] log seen ends (λ c has. absurd has), λ c o. absurd (owns_viewed {E = E} {B = B} start [] seen c o))
       (fits_at n views log s))
 

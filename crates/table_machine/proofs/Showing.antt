@@ -3,9 +3,9 @@ use Rattle.std.proofs.Common.{length-set, ◌≡◌, ◌≢◌, ℕ, ◌<◌, �
 use Rattle.std.proofs.Common.{arith, get_or-set_same, get_or-set_other}
 use Rattle.event_log.specs.{declared.{ids.{LockId.LockId, TheConstants.CPUS}, events.Event.Event}, History.same_lock, WordsLog.{MayFollow, draws, frees}}
 use Rattle.{event_log.proofs.Same.{same_lock_true, same_lock_self}, layer_traits.specs.{declared.edits.Mark.Mark, Protocols.OneLock.opened}}
-use Rattle.{layer_traits.proofs.OneLockLemmas.{counts_elsewhere, event_lock, elsewhere, fresh}, table_machine.specs.{declared.views.Home.Home, Kinds.WordKind}}
-use Rattle.table_machine.specs.{Kinds.IsWordKind, Layout.{AreFirst, rank_of, word_at, words_of, word_count}, Rule.{home_block, fresh_home, ShowsLock, Shows}}
-use Rattle.table_machine.proofs.Finding.{rank_same, rank_below, opened_there}
+use Rattle.{layer_traits.proofs.OneLockLemmas.{counts_elsewhere, event_lock, home_elsewhere, home_at_start}, table_machine.specs.declared.views.Home.Home}
+use Rattle.table_machine.specs.{Kinds.{WordKind, IsWordKind}, Layout.{AreFirst, rank_of, word_at, words_at_rank, word_count}, Rule.{home_block, fresh_home}}
+use Rattle.table_machine.{specs.Rule.{ShowsLock, Shows}, proofs.Finding.{rank_same, rank_below, opened_there}}
 use mathlib.Core.Option.{Option as Maybe, none, some}
 use lib.ListN.{get_elem?, length-map}
 
@@ -25,10 +25,10 @@ pub lies_within : (k n word : ℕ) → k < n → word ≤ CPUS → word_at k wor
 lies_within k n word below within = omega arith
 
 -- what a write to one word of a lock leaves of all its words
-pub written : (words : List ℕ) (k word x : ℕ) → word ≤ CPUS → word_at k word < length words
-    → (words_of (set words (word_at k word) x) k word ≡ x)
-    × ((i : ℕ) → i ≤ CPUS → i ≢ word → words_of (set words (word_at k word) x) k i ≡ words_of words k i)
-written words k word x within lies = (
+pub word_written : (words : List ℕ) (k word x : ℕ) → word ≤ CPUS → word_at k word < length words
+    → (words_at_rank (set words (word_at k word) x) k word ≡ x)
+    × ((i : ℕ) → i ≤ CPUS → i ≢ word → words_at_rank (set words (word_at k word) x) k i ≡ words_at_rank words k i)
+word_written words k word x within lies = (
   get_or-set_same words (word_at k word) x 0 lies,
   λ i small other. get_or-set_other words (word_at k word) (word_at k i) x 0 (words_apart k i word other),
 )
@@ -77,12 +77,12 @@ module _ (K : WordKind) (law : IsWordKind K) {E B : Type 0} (edited : E → B �
           record {
             home = old.home;
             at = same k away ∙ old.at;
-            words_are = law.same (draws lock (e ∷ log)) (frees lock (e ∷ log)) (words_of words k)
-                (words_of (set words (word_at (rank_of start (event_lock e)) word) x) k)
+            words_are = law.same (draws lock (e ∷ log)) (frees lock (e ∷ log)) (words_at_rank words k)
+                (words_at_rank (set words (word_at (rank_of start (event_lock e)) word) x) k)
                 (λ i small. get_or-set_other words (word_at (rank_of start (event_lock e)) word) (word_at k i) x 0
                 (locks_apart k (rank_of start (event_lock e)) i word away small within))
-                (counts_elsewhere (λ taken given. K.Fit taken given (words_of words k)) e log lock other old.words_are);
-            is = elsewhere edited (opened start) lock e log may other (home_block old.home) old.is;
+                (counts_elsewhere (λ taken given. K.Fit taken given (words_at_rank words k)) e log lock other old.words_are);
+            is = home_elsewhere edited (opened start) lock e log may other (home_block old.home) old.is;
           }
 
   -- before the first event the words are as at the start, and each slot has the opening block
@@ -98,7 +98,7 @@ module _ (K : WordKind) (law : IsWordKind K) {E B : Type 0} (edited : E → B �
         record {
           home = some (fresh_home found.0);
           at = ap (λ l. get_elem? l k) (ap (λ l. map some l) are ∙ map_both start) ∙ found.2;
-          words_are = law.begins (words_of words k) (λ i within. first.done_so k i (rank_below start lock exists) within);
-          is = fresh edited (opened start) lock found.0 found.1;
+          words_are = law.begins (words_at_rank words k) (λ i within. first.done_so k i (rank_below start lock exists) within);
+          is = home_at_start edited (opened start) lock found.0 found.1;
         };
   }

@@ -8,12 +8,13 @@ use Rattle.event_log.specs.{WordsLog.{Waiting, Holding}, Actions.{Holds, acts_of
 use Rattle.event_log.proofs.{Exclusion.{is_holding, line_at}, Same.same_lock_self, Tickets.{gives_acts, legal_acts, phase_acts, ticket_at}, Observed.TicketOf}
 use Rattle.{event_log.proofs.Observed.phase_of, layer_traits.specs.{declared.edits.Mark.Mark, Protocols.Protocol.{Rules, StaysAllowed, section}}}
 use Rattle.layer_traits.{specs.Protocols.{WordsProtocol.{MayCome, edit_of, sections, mark_of}, OneLock.opened}, proofs.OneLockLemmas.event_lock}
-use Rattle.layer_traits.proofs.{OneLockLemmas.{lock_phase_own, drew, missed, hit, freed, hit_finds, serves_exactly}, Seen.{words_legal, sections_allowed}}
-use Rattle.{layer_traits.proofs.Seen.{sections-append, others_sections}, table_machine.specs.{declared.views.{Home.Home, View.View}, Kinds.WordKind}}
-use Rattle.table_machine.specs.{Kinds.{IsWordKind, given_on}, Layout.{rank_of, word_at, words_of}, Views.{viewed, mine, Has, IsSince, Sees}, Rule.home_block}
-use Rattle.table_machine.specs.{Rule.{ShowsLock, Shows, TableInv}, Plays.{Moves, Drew, Looked, Freed, Met, Entered, Misses, Hits}}
-use Rattle.table_machine.proofs.{Logs.{lock_phase_since, inside_keeps, ends_nil}, Finding.rank_below, Seeing.{sees_set, sees_new, sees_join, one_event}}
-use Rattle.table_machine.proofs.{Seeing.{owns_viewed, fits_viewed, joined}, Showing.{home_of, shows_step, within_table, written}}
+use Rattle.layer_traits.proofs.OneLockLemmas.{lock_phase_own, home_after_draw, home_after_miss, home_after_hit, home_after_free, hit_finds, serves_exactly}
+use Rattle.{layer_traits.proofs.Seen.{words_legal, sections_allowed, sections-append, others_sections}, table_machine.specs.declared.views.Home.Home}
+use Rattle.table_machine.specs.{declared.views.View.View, Kinds.{WordKind, IsWordKind, given_on}, Layout.{rank_of, word_at, words_at_rank}, Views.caught_up}
+use Rattle.table_machine.specs.{Views.{mine, Has, IsSince, Sees}, Rule.{home_block, ShowsLock, Shows, TableInv}, Plays.{Moves, Drew, LookedAtWord, Freed, Met}}
+use Rattle.table_machine.{specs.Plays.{Entered, MissesTicket, Hits}, proofs.{Logs.{lock_phase_since, inside_keeps, ends_nil}, Finding.rank_below}}
+use Rattle.table_machine.proofs.{Seeing.{sees_set, sees_new, sees_join, one_event, owns_viewed, fits_viewed, joined}, Showing.{home_of, shows_step}}
+use Rattle.table_machine.proofs.Showing.{within_table, word_written}
 use mathlib.Core.Option.{Option as Maybe, none, some}
 use lib.ListN.{get_elem?}
 use lib.Seq.{set-get_or}
@@ -76,8 +77,8 @@ module _ (K : WordKind) {E B O : Type 0} (R : Rules E B O) (n : ℕ) (start : Li
       let below : cpu.0 < n = kept.sees.known id (mine start cpu seen) cpu at (inl (inl refl)) in
       let old = kept.shows.each lock exists in
       let may : MayCome (R.allowed (opened start)) kept.log e =
-      ((lt_of_lt_of_le below kept.few, outside, law.next_is (draws lock kept.log) (frees lock kept.log) (words_of s.words k) old.words_are), tt) in
-      let wrote = written s.words k 0 x (omega arith) (rw kept.shows.word_length (within_table K law R.edited start lock 0 exists (omega arith))) in (
+      ((lt_of_lt_of_le below kept.few, outside, law.next_is (draws lock kept.log) (frees lock kept.log) (words_at_rank s.words k) old.words_are), tt) in
+      let wrote = word_written s.words k 0 x (omega arith) (rw kept.shows.word_length (within_table K law R.edited start lock 0 exists (omega arith))) in (
         mine start cpu (e ∷ kept.log),
         keeps,
         tt,
@@ -85,8 +86,9 @@ module _ (K : WordKind) {E B O : Type 0} (R : Rules E B O) (n : ℕ) (start : Li
           home = old.home;
           at = old.at;
           words_are = rw (same_lock_self lock)
-              (law.took (draws lock kept.log) (frees lock kept.log) (words_of s.words k) (words_of (set s.words i x) k) old.words_are wrote.0 wrote.1);
-          is = drew R.edited (opened start) lock cpu t kept.log outside (home_block old.home) old.is;
+              (law.took (draws lock kept.log) (frees lock kept.log) (words_at_rank s.words k) (words_at_rank (set s.words i x) k) old.words_are
+              wrote.0 wrote.1);
+          is = home_after_draw R.edited (opened start) lock cpu t kept.log outside (home_block old.home) old.is;
         }),
         record { lock = lock; exists = exists; word = refl; moves = after_move s kept id e seen at may; held = refl },
       )
@@ -107,13 +109,13 @@ module _ (K : WordKind) {E B O : Type 0} (R : Rules E B O) (n : ℕ) (start : Li
     -- what the step leaves, as the call of `load` asks it
     abbrev LookLeaves : Type 0
     LookLeaves = (w : View E B) × (a : Act (Home E B)) × Valid s.homes [] a × TableInv K R n start (stepped s place (slice_index s.words place) id [] w a)
-        × Looked K R (mine start cpu seen, []) (slice_index s.words place) (w, carried_after [] a)
+        × LookedAtWord K R (mine start cpu seen, []) (slice_index s.words place) (w, carried_after [] a)
 
     -- the event is in the log, and the CPU has the slots that it took
     look_leaves : (a : Act (Home E B)) → Valid s.homes [] a → length (homes_after s.homes [] a) ≡ length start
         → ((j : ℕ) → j ≢ rank_of start lock → get_elem? (homes_after s.homes [] a) j ≡ get_elem? s.homes j)
         → ShowsLock K R.edited start s.words (homes_after s.homes [] a) (look ∷ kept.log) lock
-        → Misses K lock ticket (mine start cpu seen, []) (slice_index s.words place) (mine start cpu (look ∷ kept.log), carried_after [] a)
+        → MissesTicket K lock ticket (mine start cpu seen, []) (slice_index s.words place) (mine start cpu (look ∷ kept.log), carried_after [] a)
         ⊎ Hits K R lock ticket (mine start cpu seen, []) (slice_index s.words place) (mine start cpu (look ∷ kept.log), carried_after [] a) → LookLeaves
     look_leaves a valid count same here finds = (
       mine start cpu (look ∷ kept.log),
@@ -139,7 +141,7 @@ module _ (K : WordKind) {E B O : Type 0} (R : Rules E B O) (n : ℕ) (start : Li
           home = old.home;
           at = old.at;
           words_are = old.words_are;
-          is = missed R.edited (opened start) lock cpu ticket (frees lock kept.log % 2 ^ 64) kept.log look_may.0.0 misses (home_block old.home) old.is;
+          is = home_after_miss R.edited (opened start) lock cpu ticket (frees lock kept.log % 2 ^ 64) kept.log look_may.0.0 misses (home_block old.home) old.is;
         })
         (inl (record {
           other = other;
@@ -157,7 +159,7 @@ module _ (K : WordKind) {E B O : Type 0} (R : Rules E B O) (n : ℕ) (start : Li
           home = none;
           at = set_here s.homes k none (rw kept.shows.home_length (rank_below start lock exists));
           words_are = old.words_are;
-          is = hit R.edited (opened start) lock cpu ticket (frees lock kept.log % 2 ^ 64) kept.log same;
+          is = home_after_hit R.edited (opened start) lock cpu ticket (frees lock kept.log % 2 ^ 64) kept.log same;
         })
         (inr (record {
           same = served;
@@ -172,14 +174,14 @@ module _ (K : WordKind) {E B O : Type 0} (R : Rules E B O) (n : ℕ) (start : Li
   pub looks_allowed : IsWordKind K → (slots id : ℕ) (cpu : CpuId) (seen : List (Event (Mark E))) (lock : LockId) (ticket : ℕ) → IsSome (opened start lock)
       → lock_phase cpu seen ≡ Waiting lock ticket
       → Allows (TableInv K R n start) slots id (mine start cpu seen, []) (word_at (rank_of start lock) (K.looks_at ticket)) (λ m. m)
-      (Looked K R (mine start cpu seen, []))
+      (LookedAtWord K R (mine start cpu seen, []))
   looks_allowed law slots id cpu seen lock ticket exists waits s kept count at fits =
       let k : ℕ = rank_of start lock in
       let serves : Bool = K.serves ticket (slice_index s.words (word_at k (K.looks_at ticket))) in
       look_ends law s kept id cpu seen lock ticket exists at waits serves refl
       (sym (serves_exactly kept.log (words_legal (R.allowed (opened start)) kept.log kept.legal) cpu lock ticket
       (lock_phase_since cpu kept.log seen (since s kept id cpu seen at) ∙ waits) serves
-      (λ spot. law.hits (draws lock kept.log) (frees lock kept.log) (words_of s.words k) (kept.shows.each lock exists).words_are ticket spot)))
+      (λ spot. law.hits (draws lock kept.log) (frees lock kept.log) (words_at_rank s.words k) (kept.shows.each lock exists).words_are ticket spot)))
 
   -- the CPU inside a lock has the ticket that is served
   served_ticket : (log : List (Event (Mark E))) → IsLegalWords log → (cpu : CpuId) (lock : LockId) (ticket : ℕ) → lock_phase cpu log ≡ Holding lock ticket
@@ -224,7 +226,7 @@ module _ (K : WordKind) {E B O : Type 0} (R : Rules E B O) (n : ℕ) (start : Li
       ap (λ l. block_after R.edited (opened start) lock (sections l)) now.is
       ∙ inside_keeps R.edited (opened start) cpu lock ticket more seen (rw now.is at legal_log) now.others in_lock in
       let old = kept.shows.each lock exists in
-      let wrote = written s.words k word x (law.gives_within ticket)
+      let wrote = word_written s.words k word x (law.gives_within ticket)
       (rw kept.shows.word_length (within_table K law R.edited start lock word exists (law.gives_within ticket))) in (
         mine start cpu (e ∷ kept.log),
         gives,
@@ -234,9 +236,9 @@ module _ (K : WordKind) {E B O : Type 0} (R : Rules E B O) (n : ℕ) (start : Li
               home = some y;
               at = set_here s.homes k (some y) (rw kept.shows.home_length (rank_below start lock exists));
               words_are = rw (same_lock_self lock)
-                  (law.gave (draws lock kept.log) (frees lock kept.log) (words_of s.words k) (words_of (set s.words i x) k) old.words_are ticket
+                  (law.gave (draws lock kept.log) (frees lock kept.log) (words_at_rank s.words k) (words_at_rank (set s.words i x) k) old.words_are ticket
                   (served_ticket kept.log legal_log cpu lock ticket inside) (wrote.0 ∙ f_is (slice_index s.words i)) wrote.1);
-              is = rw has_block (freed R.edited (opened start) lock cpu ticket (mark_of edit) kept.log legal_log inside block
+              is = rw has_block (home_after_free R.edited (opened start) lock cpu ticket (mark_of edit) kept.log legal_log inside block
                   (ap (option_map (R.edited edit)) unchanged ∙ is_edited));
             }),
         record {
@@ -267,7 +269,7 @@ module _ (K : WordKind) {E B O : Type 0} (R : Rules E B O) (n : ℕ) (start : Li
   pub meets_allowed : (slots id : ℕ) (v : View E B) (held : List (ℕ × Home E B)) → v.start ≡ start
       → Allows (TableInv K R n start) slots id (v, held) 0 (λ m. m) (Met R (step slots 0 0 0 none) (v, held))
   meets_allowed slots id v held started s kept count at fits =
-      let w : View E B = viewed v.start (v.lent ++ v.cpus) kept.log in (
+      let w : View E B = caught_up v.start (v.lent ++ v.cpus) kept.log in (
         w,
         keeps,
         tt,
@@ -278,18 +280,18 @@ module _ (K : WordKind) {E B O : Type 0} (R : Rules E B O) (n : ℕ) (start : Li
       )
 
   -- a new seat that acts for nobody
-  pub enters : (slots : ℕ) (first : View E B) → first.start ≡ start
+  pub seat_enters : (slots : ℕ) (first : View E B) → first.start ≡ start
       → Enters (TableInv K R n start) slots 0 (λ m w. Entered (step slots 0 0 0 none) (first, []) m (w, []))
-  enters slots first started s kept count fits =
-      (viewed first.start [] [], same_log s _ kept kept.shows (sees_new n s.views kept.log kept.sees first.start [] (ends_nil kept.log)), refl)
+  seat_enters slots first started s kept count fits =
+      (caught_up first.start [] [], same_log s _ kept kept.shows (sees_new n s.views kept.log kept.sees first.start [] (ends_nil kept.log)), refl)
 
   -- notes of what a seat has seen
-  pub notes_split : (id : ℕ) (v : View E B) → Splits (TableInv K R n start) id v v (viewed v.start [] v.seen)
+  pub notes_split : (id : ℕ) (v : View E B) → Splits (TableInv K R n start) id v v (caught_up v.start [] v.seen)
   notes_split id v s kept at =
       let fits = kept.sees.fits id v at in
       same_log s _ kept kept.shows (sees_new n (set s.views id v) kept.log
       (sees_set n s.views kept.log kept.sees id v at [] (λ c away. tt) v fits (λ c o. o)) v.start v.seen fits.front)
 
-  pub notes_join : (id : ℕ) (v : View E B) (other : ℕ) (w : View E B) → Joins (TableInv K R n start) id v other w (joined v w) (viewed [] [] [])
+  pub notes_join : (id : ℕ) (v : View E B) (other : ℕ) (w : View E B) → Joins (TableInv K R n start) id v other w (joined v w) (caught_up [] [] [])
   notes_join id v other w s kept at apart there =
       same_log s _ kept kept.shows (sees_join n s.views kept.log kept.sees id v at other w apart there)

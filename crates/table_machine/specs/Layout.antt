@@ -15,8 +15,8 @@ abbrev pub word_at : ℕ → ℕ → ℕ
 word_at rank word = 8 * ((CPUS + 1) * rank + word) + 8
 
 -- the words of the lock at this rank
-abbrev pub words_of : List ℕ → ℕ → ℕ → ℕ
-words_of words rank word = slice_index words (word_at rank word)
+abbrev pub words_at_rank : List ℕ → ℕ → ℕ → ℕ
+words_at_rank words rank word = slice_index words (word_at rank word)
 
 -- how many words so many locks have
 abbrev pub word_count : ℕ → ℕ
@@ -25,8 +25,8 @@ word_count locks = 8 * ((CPUS + 1) * locks) + 1
 -- of so many locks, the words of those below `done` are as at the start, and all words of the others are 0
 pub record AreFirst (opens locks done : ℕ) (words : List ℕ) : Type 0 where
   pub count : length words ≡ word_count locks
-  pub done_so : (rank word : ℕ) → rank < done → word ≤ CPUS → words_of words rank word ≡ first_words opens word
-  pub zeros : (rank word : ℕ) → done ≤ rank → rank < locks → word ≤ CPUS → words_of words rank word ≡ 0
+  pub done_so : (rank word : ℕ) → rank < done → word ≤ CPUS → words_at_rank words rank word ≡ first_words opens word
+  pub zeros : (rank word : ℕ) → done ≤ rank → rank < locks → word ≤ CPUS → words_at_rank words rank word ≡ 0
 
 -- the row tells the rank of each lock of the opening
 abbrev pub AreRanks : {B : Type 0} → List ℕ → List (LockId × B) → Type 0

@@ -3,12 +3,13 @@ use Rattle.std.specs.Prelude.{◌≡◌, ℕ, true, false, [], ◌∷◌, ◌++�
 use Rattle.{atomic_table.specs.Table.{Step, Me}, event_log.specs.declared.{ids.LockId.LockId, events.Event.{Event, TheVariants.{Draw, Look, Free}}}}
 use Rattle.event_log.specs.{History.{IsLawful, Adds}, WordsLog.{cpu_of_event, lock_phase, Waiting, Holding}, Sections.block_after}
 use Rattle.layer_traits.specs.{declared.edits.Mark.Mark, Protocols.{Protocol.Rules, WordsProtocol.{MayCome, sections, mark_of}, OneLock.opened}}
-use Rattle.table_machine.specs.{declared.views.{View.View, Home.Home}, Kinds.WordKind, Layout.{rank_of, word_at}, Views.{viewed, mine, owner, IsCpu, Fits}}
+use Rattle.table_machine.specs.{declared.views.{View.View, Home.Home}, Kinds.WordKind, Layout.{rank_of, word_at}, Views.{caught_up, mine, owner, IsThisCpu}}
+use Rattle.table_machine.specs.Views.{Fits}
 
 -- events of others, then this one; the whole is legal
 pub record Moves {E B O : Type 0} (rules : Rules E B O) (v w : View E B) (e : Event (Mark E)) : Type 0 where
   pub view : w ≡ mine v.start (owner v.cpus) w.seen
-  pub adds : Adds (IsCpu (owner v.cpus)) cpu_of_event e v.seen w.seen
+  pub adds : Adds (IsThisCpu (owner v.cpus)) cpu_of_event e v.seen w.seen
   pub legal : IsLawful (MayCome (rules.allowed (opened v.start))) w.seen
 
 -- a Draw of the lock whose word `next` this is
@@ -21,7 +22,7 @@ pub record Drew {E B O : Type 0} (rules : Rules E B O) (at : Step (Home E B)) (v
     pub held : w.1 ≡ v.1
 
 -- a look by whose number the ticket is not served
-pub record Misses (kind : WordKind) {E B : Type 0} (lock : LockId) (ticket : ℕ) (v : Me (Home E B) (View E B)) (found : ℕ)
+pub record MissesTicket (kind : WordKind) {E B : Type 0} (lock : LockId) (ticket : ℕ) (v : Me (Home E B) (View E B)) (found : ℕ)
     (w : Me (Home E B) (View E B)) : Type 0 where
   pub other : kind.serves ticket found ≡ false
   pub waits : lock_phase (owner v.0.cpus) w.0.seen ≡ Waiting lock ticket
@@ -40,14 +41,14 @@ pub record Hits (kind : WordKind) {E B O : Type 0} (rules : Rules E B O) (lock :
 
 -- a Look for the ticket that this CPU waits with: in the log it reads how often the lock was freed. The block is taken exactly where
 -- the ticket is served by the number that was found.
-pub record Looked (kind : WordKind) {E B O : Type 0} (rules : Rules E B O) (v : Me (Home E B) (View E B)) (found : ℕ)
+pub record LookedAtWord (kind : WordKind) {E B O : Type 0} (rules : Rules E B O) (v : Me (Home E B) (View E B)) (found : ℕ)
     (w : Me (Home E B) (View E B)) : Type 0 where
   pub lock : LockId
   pub ticket : ℕ
   pub waits : lock_phase (owner v.0.cpus) v.0.seen ≡ Waiting lock ticket
   pub read : ℕ
   pub moves : Moves rules v.0 w.0 (Look (owner v.0.cpus) lock ticket read)
-  pub finds : Misses kind lock ticket v found w ⊎ Hits kind rules lock ticket v found w
+  pub finds : MissesTicket kind lock ticket v found w ⊎ Hits kind rules lock ticket v found w
 
 -- a Free of the lock that this CPU is inside, with the edit that lies in its slot
 pub record Freed {E B O : Type 0} (rules : Rules E B O) (v w : Me (Home E B) (View E B)) : Type 0 where
@@ -65,11 +66,11 @@ pub record Freed {E B O : Type 0} (rules : Rules E B O) (v w : Me (Home E B) (Vi
 -- what was told is taken in: the view is now the whole log, which goes on from both
 pub record Met {E B O : Type 0} (rules : Rules E B O) (at : Step (Home E B)) (v : Me (Home E B) (View E B)) (found : ℕ) (w : Me (Home E B) (View E B)) : Type 0
   where
-    pub view : w.0 ≡ viewed v.0.start (v.0.lent ++ v.0.cpus) w.0.seen
+    pub view : w.0 ≡ caught_up v.0.start (v.0.lent ++ v.0.cpus) w.0.seen
     pub fits : Fits w.0.seen v.0
     pub legal : IsLawful (MayCome (rules.allowed (opened v.0.start))) w.0.seen
     pub held : w.1 ≡ v.1
 
 -- a new seat has seen nothing and acts for no CPU
 abbrev pub Entered : {E B : Type 0} → Step (Home E B) → Me (Home E B) (View E B) → ℕ → Me (Home E B) (View E B) → Type 0
-Entered at v found w = w ≡ (viewed v.0.start [] [], [])
+Entered at v found w = w ≡ (caught_up v.0.start [] [], [])

@@ -3,7 +3,7 @@ use Rattle.std.specs.Prelude.{◌≡◌, ℕ, ◌≤◌, List, length, IsSome, O
 use Rattle.{atomic_table.specs.Table.State, event_log.specs.declared.{ids.{TheConstants.CPUS, CpuId.CpuId, LockId.LockId}, events.Event.Event}}
 use Rattle.{event_log.specs.{History.{IsLawful, AreOthers}, WordsLog.{cpu_of_event, draws, frees}}, layer_traits.specs.declared.edits.Mark.Mark}
 use Rattle.{layer_traits.specs.Protocols.{Protocol.Rules, WordsProtocol.MayCome, OneLock.{HomeFits, opened}}, table_machine.specs.declared.views.View.View}
-use Rattle.table_machine.specs.{declared.views.Home.Home, Kinds.WordKind, Layout.{rank_of, word_count, words_of}, Views.Sees}
+use Rattle.table_machine.specs.{declared.views.Home.Home, Kinds.WordKind, Layout.{rank_of, word_count, words_at_rank}, Views.Sees}
 use mathlib.Core.Option.{Option as Maybe, none, some}
 use lib.ListN.{get_elem?}
 
@@ -21,7 +21,7 @@ pub record ShowsLock (kind : WordKind) {E B : Type 0} (edited : E → B → B) (
     (log : List (Event (Mark E))) (lock : LockId) : Type 0 where
   pub home : Maybe (Home E B)
   pub at : get_elem? homes (rank_of start lock) ≡ some home
-  pub words_are : kind.Fit (draws lock log) (frees lock log) (words_of words (rank_of start lock))
+  pub words_are : kind.Fit (draws lock log) (frees lock log) (words_at_rank words (rank_of start lock))
   pub is : HomeFits edited (opened start) log lock (home_block home)
 
 -- all words and slots are the replay of the log

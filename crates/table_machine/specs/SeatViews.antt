@@ -3,7 +3,7 @@ use Rattle.std.specs.Prelude.{◌≡◌, ℕ, zero, suc, ◌<◌, ◌≤◌, Lis
 use Rattle.{atomic_table.specs.{Seated.TableId, Table.Me}, event_log.specs.{declared.{ids.{CpuId.CpuId, LockId.LockId}, events.Event.Event}, History.IsLawful}}
 use Rattle.event_log.specs.{History.own_events, WordsLog.{cpu_of_event, LockPhase, Idle, Waiting, Holding, lock_phase}, Sections.block_after}
 use Rattle.layer_traits.specs.{declared.edits.Mark.Mark, Protocols.{Protocol.Rules, WordsProtocol.{MayCome, sections}, OneLock.opened}}
-use Rattle.table_machine.specs.{declared.views.{Home.Home, View.View}, Layout.rank_of, Views.{viewed, mine, Has, EndsWith, IsSince}}
+use Rattle.table_machine.specs.{declared.views.{Home.Home, View.View}, Layout.rank_of, Views.{caught_up, mine, Has, EndsWith, IsSince}}
 
 -- a table to its callers: which one it is, the blocks that it opened with, and its number of CPUs
 pub record TableView (B : Type 0) : Type 0 where
@@ -62,7 +62,7 @@ pub record IsOver {E B : Type 0} (table_view : TableView B) (seat_view : SeatVie
 
 -- a closing seat has taken in these seat views: it acts for their CPUs, which have no ticket outstanding, and goes on from what each has seen
 pub record Gathered {E B : Type 0} (start : List (LockId × B)) (v : View E B) (seat_views : List (SeatView E B)) : Type 0 where
-  pub view : v ≡ viewed start v.cpus v.seen
+  pub view : v ≡ caught_up start v.cpus v.seen
   pub keys : (i : ℕ) (d : SeatView E B) → slice_get seat_views i ≡ Some d → Has d.cpu v.cpus × IsSince v.seen d.seen d.cpu
   pub quiet : (c : CpuId) → Has c v.cpus → lock_phase c v.seen ≡ Idle
 
@@ -76,7 +76,7 @@ pub record IsIn {E B : Type 0} (log : List (Event (Mark E))) (seat_view : SeatVi
   pub whole : own_events cpu_of_event seat_view.cpu log ≡ own_events cpu_of_event seat_view.cpu seat_view.seen
 
 -- there is one legal log in which all seat views stand whole, with no other CPU's events; each block is the fold of its lock's sections
-pub record Closes {E B O : Type 0} (rules : Rules E B O) (table_view : TableView B) (seat_views : List (SeatView E B))
+pub record ClosesTable {E B O : Type 0} (rules : Rules E B O) (table_view : TableView B) (seat_views : List (SeatView E B))
     (blocks : List (LockId × B)) : Type 0 where
   pub log : List (Event (Mark E))
   pub legal : IsLawful (MayCome (rules.allowed (opened table_view.start))) log

@@ -6,12 +6,12 @@ use mathlib.Core.Option.{some}
 use lib.ListN.{get_elem?}
 
 -- a view that has taken in all that it was told
-abbrev pub viewed : {E B : Type 0} → List (LockId × B) → List CpuId → List (Event (Mark E)) → View E B
-viewed start cpus seen = record { start = start; cpus = cpus; seen = seen; told = []; lent = [] }
+abbrev pub caught_up : {E B : Type 0} → List (LockId × B) → List CpuId → List (Event (Mark E)) → View E B
+caught_up start cpus seen = record { start = start; cpus = cpus; seen = seen; told = []; lent = [] }
 
 -- the view of the seat of one CPU
 abbrev pub mine : {E B : Type 0} → List (LockId × B) → CpuId → List (Event (Mark E)) → View E B
-mine start cpu seen = viewed start (cpu ∷ []) seen
+mine start cpu seen = caught_up start (cpu ∷ []) seen
 
 -- so many CPUs, numbered upwards from this one
 abbrev pub cpus_from : ℕ → ℕ → List CpuId
@@ -29,8 +29,8 @@ owner [] = record { 0 = 0 }
 owner (c ∷ rest) = c
 
 -- one CPU alone
-abbrev pub IsCpu : CpuId → CpuId → Type 0
-IsCpu cpu c = c ≡ cpu
+abbrev pub IsThisCpu : CpuId → CpuId → Type 0
+IsThisCpu cpu c = c ≡ cpu
 
 -- the log begins with what was seen: newest first, it ends with it
 pub record EndsWith {E : Type 0} (log seen : List E) : Type 0 where

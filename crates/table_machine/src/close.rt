@@ -4,8 +4,8 @@ ghost use Rattle.std.specs.Prelude.{◌≡◌, ℕ, ◌<◌, ◌≤◌, [], ◌�
 ghost use Rattle.std.specs.Mem.Slots.{slots_items, slots_len, IsFull};
 ghost use mathlib.Core.Option.{some};
 ghost use lib.ListN.{get_elem?};
-ghost use Rattle.event_log.specs.declared.ids.LockId.{LockId};
-ghost use Rattle.table_machine.specs.{declared.views.Home.Home, SeatViews.SeatView, SeatViews.IsOver, SeatViews.Covers, SeatViews.Closes, SeatViews.Gathered};
+ghost use Rattle.{event_log.specs.declared.ids.LockId.LockId, table_machine.specs.{declared.views.Home.Home, SeatViews.{SeatView, IsOver, Covers}}};
+ghost use Rattle.table_machine.specs.SeatViews.{ClosesTable, Gathered};
 
 use crate::keys::Key;
 use crate::plays::{Copies, Enters, Meets};
@@ -28,7 +28,7 @@ impl<E: SplitEdit, K: TableWords> Shared<E, K> {
     pub fn close(self, keys: Vec<Key<E>>) -> Vec<(LockId, E::Block)>
         requires covers { Covers self.cpus keys.items }
         requires keys { All (IsOver self) keys.items }
-        ensures { Closes E.rules self keys.items result.items }
+        ensures { ClosesTable E.rules self keys.items result.items }
     {
         let seat = self.gathered(keys);
         let Shared {

@@ -4,7 +4,7 @@ ghost use Rattle.std.specs.Prelude.{◌≡◌, ℕ, List, [], IsSome, Some, Matc
 ghost use Rattle.event_log.specs.{declared.events.Event.TheVariants.{Draw, Look, Free}, History.{Adds, Grows, IsLawful}, WordsLog.{cpu_of_event, lock_phase}};
 ghost use Rattle.{event_log.specs.{WordsLog.{Idle, Waiting, Holding}, Sections.block_after}, layer_traits.specs.Protocols.Protocol.{section, StaysAllowed}};
 ghost use Rattle.{layer_traits.specs.Protocols.{WordsProtocol.{mark_of, sections, MayCome}, OneLock.opened}, table_machine.specs.SeatViews.IsOf};
-ghost use Rattle.table_machine.specs.Views.{viewed, EndsWith, IsCpu};
+ghost use Rattle.table_machine.specs.Views.{caught_up, EndsWith, IsThisCpu};
 
 use crate::plays::{Copies, Draws, Frees, Looks, Meets};
 use crate::rule::Token;
@@ -58,7 +58,7 @@ impl<E: SplitEdit> Key<E> {
         requires lock { IsSome (opened self.old.start lock) }
         requires outside { lock_phase self.old.cpu self.old.seen ≡ Idle }
         ensures same { self.new ≡ record self.old { seen = self.new.seen } }
-        ensures adds { Adds (IsCpu self.old.cpu) cpu_of_event (Draw self.old.cpu lock result) self.old.seen self.new.seen }
+        ensures adds { Adds (IsThisCpu self.old.cpu) cpu_of_event (Draw self.old.cpu lock result) self.old.seen self.new.seen }
         ensures legal { IsLawful (MayCome (E.rules.allowed (opened self.old.start))) self.new.seen }
     {
         let word = shared.word(lock, 0);
@@ -79,7 +79,7 @@ impl<E: SplitEdit> Key<E> {
         requires lock { IsSome (opened self.old.start lock) }
         requires waiting { lock_phase self.old.cpu self.old.seen ≡ Waiting lock ticket }
         ensures same { self.new ≡ record self.old { seen = self.new.seen } }
-        ensures adds { (read : ℕ) × Adds (IsCpu self.old.cpu) cpu_of_event (Look self.old.cpu lock ticket read) self.old.seen self.new.seen }
+        ensures adds { (read : ℕ) × Adds (IsThisCpu self.old.cpu) cpu_of_event (Look self.old.cpu lock ticket read) self.old.seen self.new.seen }
         ensures hits { MatchOption result
             (lock_phase self.old.cpu self.new.seen ≡ Waiting lock ticket)
             (λ block. (lock_phase self.old.cpu self.new.seen ≡ Holding lock ticket)
@@ -111,7 +111,7 @@ impl<E: SplitEdit> Key<E> {
         requires edited { option_map (E.rules.edited edit) (block_after E.rules.edited (opened self.old.start) lock (sections self.old.seen)) ≡ Some block }
         requires allowed { StaysAllowed (E.rules.allowed (opened self.old.start)) (sections self.old.seen) (section self.old.cpu lock edit) }
         ensures same { self.new ≡ record self.old { seen = self.new.seen } }
-        ensures adds { Adds (IsCpu self.old.cpu) cpu_of_event (Free self.old.cpu lock (mark_of edit)) self.old.seen self.new.seen }
+        ensures adds { Adds (IsThisCpu self.old.cpu) cpu_of_event (Free self.old.cpu lock (mark_of edit)) self.old.seen self.new.seen }
         ensures legal { IsLawful (MayCome (E.rules.allowed (opened self.old.start))) self.new.seen }
     {
         let word = shared.word(lock, K::gives_at(self.ticket));
@@ -132,7 +132,7 @@ impl<E: SplitEdit> Key<E> {
         requires { IsOf shared.now self.old }
         ensures same { self.new ≡ self.old }
         ensures table { result.table_id ≡ self.old.table }
-        ensures notes { result.me ≡ (viewed self.old.start [] self.old.seen, []) }
+        ensures notes { result.me ≡ (caught_up self.old.start [] self.old.seen, []) }
     {
         shared.table.shared.split_seat::<Copies>(&mut self.token)
     }
@@ -144,7 +144,7 @@ impl<E: SplitEdit> Key<E> {
         requires notes { (notes.me.1 ≡ []) × (notes.me.0.cpus ≡ []) }
         ensures same { self.new ≡ record self.old { seen = self.new.seen } }
         ensures begins { EndsWith self.new.seen notes.me.0.seen }
-        ensures grows { Grows (IsCpu self.old.cpu) cpu_of_event self.old.seen self.new.seen }
+        ensures grows { Grows (IsThisCpu self.old.cpu) cpu_of_event self.old.seen self.new.seen }
         ensures legal { IsLawful (MayCome (E.rules.allowed (opened self.old.start))) self.new.seen }
     {
         let table = &shared.table.shared;

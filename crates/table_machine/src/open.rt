@@ -2,8 +2,8 @@
 
 ghost use Rattle.std.specs.Prelude.{◌≡◌, ◌+◌, ◌-◌, ◌<◌, ◌≤◌, ◌^◌, [], length, map, replicate, vec_len, vec_capacity, IfOk};
 ghost use Rattle.{event_log.specs.declared.ids.{LockId.LockId, TheConstants.{CPUS, LOCKS}}, layer_traits.specs.Protocols.OneLock.AreDistinct};
-ghost use Rattle.table_machine.specs.{Layout.{AreFirst, word_count, AreRanks, IsLaidOut}, Rule.fresh_home, Views.{viewed, cpus_from}, SeatViews.new_seat_view};
-ghost use Rattle.table_machine.specs.SeatViews.{new_seat_views};
+ghost use Rattle.table_machine.specs.{Layout.{AreFirst, word_count, AreRanks, IsLaidOut}, Rule.fresh_home, Views.{caught_up, cpus_from}};
+ghost use Rattle.table_machine.specs.SeatViews.{new_seat_view, new_seat_views};
 
 use crate::keys::Key;
 use crate::plays::Deals;
@@ -58,7 +58,7 @@ impl<E: SplitEdit, K: TableWords> Shared<E, K> {
     ) -> Result<Vec<Key<E>>, AllocError>
         requires cpus { cpus ≡ self.now.cpus }
         requires table { dealer.table_id ≡ self.now.table }
-        requires dealer { dealer.me ≡ (viewed self.now.start (cpus_from 0 cpus) [], []) }
+        requires dealer { dealer.me ≡ (caught_up self.now.start (cpus_from 0 cpus) [], []) }
         ensures { IfOk result (λ keys. keys.items ≡ new_seat_views self.now cpus) }
     {
         let mut keys = Vec::with_capacity(alloc, usize::from(cpus))?;
@@ -72,10 +72,10 @@ impl<E: SplitEdit, K: TableWords> Shared<E, K> {
     fn deal(&self, dealer: &mut Token<E>, cpu: u8) -> Key<E>
         requires cpu { cpu < self.now.cpus }
         requires table { dealer.old.table_id ≡ self.now.table }
-        requires dealer { dealer.old.me ≡ (viewed self.now.start (cpus_from cpu (self.now.cpus - cpu)) [], []) }
+        requires dealer { dealer.old.me ≡ (caught_up self.now.start (cpus_from cpu (self.now.cpus - cpu)) [], []) }
         ensures key { result ≡ new_seat_view self.now cpu }
         ensures table { dealer.new.table_id ≡ self.now.table }
-        ensures dealer { dealer.new.me ≡ (viewed self.now.start (cpus_from (cpu + 1) (self.now.cpus - (cpu + 1))) [], []) }
+        ensures dealer { dealer.new.me ≡ (caught_up self.now.start (cpus_from (cpu + 1) (self.now.cpus - (cpu + 1))) [], []) }
     {
         let token = self.table.shared.split_seat::<Deals>(dealer);
         Key {
@@ -97,7 +97,7 @@ fn opened_table<E: SplitEdit, K: TableWords>(
     ensures start { IfOk result (λ r. r.0.start ≡ blocks.items) }
     ensures cpus { IfOk result (λ r. r.0.cpus ≡ cpus) }
     ensures table { IfOk result (λ r. r.1.table_id ≡ r.0.table) }
-    ensures dealer { IfOk result (λ r. r.1.me ≡ (viewed blocks.items (cpus_from 0 cpus) [], [])) }
+    ensures dealer { IfOk result (λ r. r.1.me ≡ (caught_up blocks.items (cpus_from 0 cpus) [], [])) }
 {
     let about = Opening {
         cpus,

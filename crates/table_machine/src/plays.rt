@@ -1,5 +1,5 @@
 //! What each atomic step tells its caller.
-ghost use Rattle.table_machine.specs.Plays.{Drew, Looked, Freed, Met, Entered};
+ghost use Rattle.table_machine.specs.Plays.{Drew, LookedAtWord, Freed, Met, Entered};
 
 use crate::table_words::TableWords;
 use crate::views::{Slot, View};
@@ -23,7 +23,7 @@ pub(crate) struct Looks<E, K> {
 }
 
 impl<E: SplitEdit, K: TableWords> Play<Slot<E, E::Block>, View<E, E::Block>> for Looks<E, K> {
-    ghost then = { λ _ v found w. Looked K.kind E.rules v found w };
+    ghost then = { λ _ v found w. LookedAtWord K.kind E.rules v found w };
 }
 
 /// A write of the word by which a lock is given on: a fetch-and-add or a store.
@@ -58,9 +58,9 @@ pub(crate) struct Deals;
 
 impl<E, B> Split<View<E, B>> for Deals {
     ghost use Rattle.std.specs.Prelude.{[], ◌∷◌, drop};
-    ghost use Rattle.table_machine.specs.Views.{viewed, mine, owner};
+    ghost use Rattle.table_machine.specs.Views.{caught_up, mine, owner};
 
-    ghost left = { λ v. viewed v.start (drop 1 v.cpus) v.seen };
+    ghost left = { λ v. caught_up v.start (drop 1 v.cpus) v.seen };
 
     ghost right = { λ v. mine v.start (owner v.cpus) v.seen };
 }
@@ -69,17 +69,17 @@ impl<E, B> Split<View<E, B>> for Deals {
 pub(crate) struct Copies;
 
 impl<E, B> Split<View<E, B>> for Copies {
-    ghost use Rattle.{std.specs.Prelude.{[]}, table_machine.specs.Views.viewed};
+    ghost use Rattle.{std.specs.Prelude.{[]}, table_machine.specs.Views.caught_up};
 
     ghost left = { λ v. v };
 
-    ghost right = { λ v. viewed v.start [] v.seen };
+    ghost right = { λ v. caught_up v.start [] v.seen };
 }
 
 impl<E, B> Join<View<E, B>> for Copies {
-    ghost use Rattle.{std.specs.Prelude.{[]}, table_machine.specs.Views.viewed};
+    ghost use Rattle.{std.specs.Prelude.{[]}, table_machine.specs.Views.caught_up};
 
     ghost both = { λ v w. record { start = v.start; cpus = v.cpus; seen = v.seen; told = w.seen; lent = w.cpus } };
 
-    ghost spent = { viewed [] [] [] };
+    ghost spent = { caught_up [] [] [] };
 }

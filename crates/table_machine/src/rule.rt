@@ -25,11 +25,11 @@ pub(crate) struct LogRule<E, K> {
 
 impl<E: SplitEdit, K: TableWords> TableRule<Slot<E, E::Block>, View<E, E::Block>, Opening<E::Block>>
     for LogRule<E, K> {
-    ghost use Rattle.{std.specs.Prelude.{[]}, table_machine.specs.{Rule.TableInv, Views.{viewed, cpus_from}}};
+    ghost use Rattle.{std.specs.Prelude.{[]}, table_machine.specs.{Rule.TableInv, Views.{caught_up, cpus_from}}};
 
     ghost holds = { λ k. TableInv K.kind E.rules k.cpus k.blocks.value.items };
 
-    ghost first = { λ k. viewed k.blocks.value.items (cpus_from 0 k.cpus) [] };
+    ghost first = { λ k. caught_up k.blocks.value.items (cpus_from 0 k.cpus) [] };
 }
 
 pub(crate) type Token<E> = Seat<Slot<E, <E as SplitEdit>::Block>, View<E, <E as SplitEdit>::Block>>;

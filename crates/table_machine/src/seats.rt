@@ -2,7 +2,7 @@
 
 ghost use Rattle.std.specs.Prelude.{◌≡◌, List, IsSome, Some, MatchOption, option_map};
 ghost use Rattle.event_log.specs.{declared.ids.CpuId.CpuId, History.{Grows, IsLawful}, WordsLog.cpu_of_event};
-ghost use Rattle.{layer_traits.specs.Protocols.{WordsProtocol.MayCome, OneLock.opened}, table_machine.specs.{SeatViews.IsOf, Views.{EndsWith, IsCpu}}};
+ghost use Rattle.{layer_traits.specs.Protocols.{WordsProtocol.MayCome, OneLock.opened}, table_machine.specs.{SeatViews.IsOf, Views.{EndsWith, IsThisCpu}}};
 
 use crate::keys::Key;
 use crate::shared::Shared;
@@ -122,7 +122,7 @@ pub fn meet<E: SplitEdit, K: TableWords>(first: &mut Seat<'_, E, K>, second: &mu
     ensures first { first.new ≡ first.old }
     ensures second { second.new ≡ record second.old { seen = second.new.seen } }
     ensures begins { EndsWith second.new.seen first.old.seen }
-    ensures grows { Grows (IsCpu second.old.cpu) cpu_of_event second.old.seen second.new.seen }
+    ensures grows { Grows (IsThisCpu second.old.cpu) cpu_of_event second.old.seen second.new.seen }
     ensures lawful { IsLawful (MayCome (E.rules.allowed (opened second.old.start))) second.new.seen }
 {
     let notes = first.key.notes(first.shared);

@@ -15,9 +15,9 @@ laws = record {
 }
 
 -- no thread stands in none
-pub none : IsQueue []
+pub queue_of_none : IsQueue []
 unfolding IsDistinct
-none = (tt, λ t found. absurd cc)
+queue_of_none = (tt, λ t found. absurd cc)
 
 numbers : List Tid → List ℕ
 numbers [] = []
@@ -81,8 +81,8 @@ last_known t u queue all known (inl found) = all u found
 last_known t u queue all known (inr last) = known_more t u [] (λ x found. absurd (true≢false (sym found))) known (or_cases (same_tid u t) false last)
 
 -- one more thread behind the others
-pub pushed : (queue : List Tid) (t : Tid) → IsQueue queue → t.0 < THREADS → is_in t queue ≡ false → IsQueue (queue ++ t ∷ [])
-pushed queue t is known new = (
+pub queue_pushed : (queue : List Tid) (t : Tid) → IsQueue queue → t.0 < THREADS → is_in t queue ≡ false → IsQueue (queue ++ t ∷ [])
+queue_pushed queue t is known new = (
   IsDistinct-push laws queue t is.0 new,
   λ u found. last_known t u queue is.1 known (or_cases (is_in u queue) (is_in u (t ∷ [])) (sym (list_any-append (same_tid u) queue (t ∷ [])) ∙ found)),
 )
@@ -163,10 +163,10 @@ parts_step t y [] zs apart = laws.symm t y ∙ apart.0
 parts_step t y (x ∷ ys) zs apart = parts_step t y ys zs apart.1
 
 -- a thread of a queue stands neither before nor behind itself
-pub parts : (t : Tid) (ys zs : List Tid) → IsDistinct same_tid (ys ++ t ∷ zs) → (is_in t ys ≡ false) × (is_in t zs ≡ false)
+pub distinct_parts : (t : Tid) (ys zs : List Tid) → IsDistinct same_tid (ys ++ t ∷ zs) → (is_in t ys ≡ false) × (is_in t zs ≡ false)
 unfolding IsDistinct
-parts t [] zs distinct = (refl, apart_is t zs distinct.0)
-parts t (y ∷ ys) zs distinct = let later = parts t ys zs distinct.1 in (or_from _ _ (parts_step t y ys zs distinct.0) later.0, later.1)
+distinct_parts t [] zs distinct = (refl, apart_is t zs distinct.0)
+distinct_parts t (y ∷ ys) zs distinct = let later = distinct_parts t ys zs distinct.1 in (or_from _ _ (parts_step t y ys zs distinct.0) later.0, later.1)
 
 -- where a thread stands in a list
 pub record Parted (t : Tid) (queue : List Tid) : Type 0 where
@@ -192,10 +192,10 @@ pub record Split (t : Tid) (queue : List Tid) : Type 0 where
   pub is : queue ≡ before ++ t ∷ after
   pub left : without t queue ≡ before ++ after
 
-pub split : (t : Tid) (queue : List Tid) → IsDistinct same_tid queue → is_in t queue ≡ true → Split t queue
-split t queue distinct found =
+pub queue_split : (t : Tid) (queue : List Tid) → IsDistinct same_tid queue → is_in t queue ≡ true → Split t queue
+queue_split t queue distinct found =
     let p = parted t queue found in
-    let apart = parts t p.before p.after (subst (IsDistinct same_tid) p.is distinct) in
+    let apart = distinct_parts t p.before p.after (subst (IsDistinct same_tid) p.is distinct) in
     record { before = p.before; after = p.after; is = p.is; left = ap (without t) p.is ∙ without_parted t p.before p.after apart.0 apart.1 }
 
 -- the first thread is one of the machine's, and does not stand behind itself
@@ -203,8 +203,8 @@ pub first_known : (t : Tid) (queue : List Tid) → IsQueue (t ∷ queue) → t.0
 first_known t queue is = is.1 t (or_left _ _ (same_tid_self t))
 
 -- the others are a queue too
-pub behind : (t : Tid) (queue : List Tid) → IsQueue (t ∷ queue) → IsQueue queue
-behind t queue is = (IsDistinct-tail same_tid t queue is.0, λ u found. is.1 u (or_right _ _ found))
+pub queue_behind : (t : Tid) (queue : List Tid) → IsQueue (t ∷ queue) → IsQueue queue
+queue_behind t queue is = (IsDistinct-tail same_tid t queue is.0, λ u found. is.1 u (or_right _ _ found))
 
 -- a list that is not empty is the thread at 0 before the others
 pub front_out : (queue : List Tid) (t : Tid) → (length queue == 0) ≡ false → t ≡ slice_index_or queue 0 t → queue ≡ t ∷ remove queue 0
@@ -227,11 +227,11 @@ out_of_rest t (x ∷ queue) out =
     (λ same. true≢false (sym (same_tid_self t) ∙ ap (same_tid t) (same_Some t x (sym same)) ∙ parts.0), parts.1)
 
 -- the same in the words of links
-pub off : (t : Tid) (queue : List Tid) → is_in t queue ≡ false → IsOff (Some t) queue
-off t [] absent = tt
-off t (x ∷ queue) absent =
+pub is_off_absent : (t : Tid) (queue : List Tid) → is_in t queue ≡ false → IsOff (Some t) queue
+is_off_absent t [] absent = tt
+is_off_absent t (x ∷ queue) absent =
     let each = or_parts (same_tid t x) (is_in t queue) absent in
-    (λ same. true≢false (sym (same_tid_self t) ∙ ap (same_tid t) (same_Some t x (sym same)) ∙ each.0), off t queue each.1)
+    (λ same. true≢false (sym (same_tid_self t) ∙ ap (same_tid t) (same_Some t x (sym same)) ∙ each.0), is_off_absent t queue each.1)
 
 pub all_off_end : (queue : List Tid) → IsOff None queue
 all_off_end [] = tt
@@ -240,7 +240,7 @@ all_off_end (x ∷ queue) = (λ same. absurd cc, all_off_end queue)
 pub all_distinct : (queue : List Tid) → IsDistinct same_tid queue → AreDistinct queue
 unfolding IsDistinct
 all_distinct [] distinct = tt
-all_distinct (x ∷ queue) distinct = (off x queue (apart_is x queue distinct.0), all_distinct queue distinct.1)
+all_distinct (x ∷ queue) distinct = (is_off_absent x queue (apart_is x queue distinct.0), all_distinct queue distinct.1)
 
 pub all_below : (n : ℕ) (queue : List Tid) → ((t : Tid) → is_in t queue ≡ true → t.0 < n) → AreBelow n queue
 all_below n [] all = tt

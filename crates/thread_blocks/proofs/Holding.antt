@@ -2,15 +2,16 @@
 use Rattle.std.proofs.Common.{◌≡◌, ◌≢◌, ℕ, ◌+◌, ◌-◌, ◌<◌, Bool, true, false, List, [], ◌∷◌, ◌++◌, length, refl, sym, ap, ◌∙◌, subst, arith, Option, Some, None}
 use Rattle.std.proofs.{Common.{IfSome, slice_index_or, ◌⊎◌, inl, inr, ◌||◌, length-append}, lemmas.Bool.cases_Bool}
 use Rattle.{event_log.specs.declared.ids.{Tid.Tid, TheConstants.THREADS}, thread_blocks.specs.{declared.nodes.{Node.Node, Nodes.Nodes}, Queues.same_tid}}
-use Rattle.thread_blocks.specs.{Queues.{is_in, first, without, IsQueue}, Links.{untouched, at, next_of, prev_of, member_of, walk, threads_of, Changed, Hold}}
-use Rattle.thread_blocks.proofs.{Members.{same_tid_self, same_tid_true}, Distinct.{none, has_room, pushed, taken_out, without_parted, taken_absent}}
-use Rattle.thread_blocks.proofs.{Distinct.{others_stay, pushed_in, parts, off, all_off_end, all_distinct, all_below}, Linking.{AreBelow, walk_is, before_below}}
-use Rattle.thread_blocks.proofs.Linking.{after_below, last_below, below_at, below_behind, linked_from, no_end, other_node, same_node, unlinked, linked_behind}
+use Rattle.thread_blocks.specs.{Queues.{is_in, first, without, IsQueue}, Links.{untouched, at, next_node, prev_of, member_of, walk, threads_of, Changed, Hold}}
+use Rattle.thread_blocks.proofs.{Members.{same_tid_self, same_tid_true}, Distinct.{queue_of_none, has_room, queue_pushed, taken_out, without_parted}}
+use Rattle.thread_blocks.proofs.Distinct.{taken_absent, others_stay, pushed_in, distinct_parts, is_off_absent, all_off_end, all_distinct, all_below}
+use Rattle.thread_blocks.proofs.Linking.{AreBelow, walk_is, before_below, after_below, last_below, below_at, below_behind, linked_from, no_end, other_node}
+use Rattle.thread_blocks.proofs.Linking.{same_node, unlinked_between, linked_behind}
 
 -- the table shows the queue that it holds
 pub walk_held : {nodes : Nodes} {queue : List Tid} → Hold nodes queue → threads_of nodes ≡ queue
 walk_held {nodes} {queue} hold =
-    subst (λ n. walk (next_of nodes) nodes.end.next n ≡ queue) hold.counted (walk_is (next_of nodes) (prev_of nodes) None queue hold.linked)
+    subst (λ n. walk (next_node nodes) nodes.end.next n ≡ queue) hold.counted (walk_is (next_node nodes) (prev_of nodes) None queue hold.linked)
 
 pub held_walk : {nodes : Nodes} {queue : List Tid} → Hold nodes queue → Hold nodes (threads_of nodes)
 held_walk {nodes} {queue} hold = subst (Hold nodes) (sym (walk_held hold)) hold
@@ -31,7 +32,7 @@ pub empty_held : (nodes : Nodes) → nodes.end ≡ untouched → nodes.count ≡
 empty_held nodes end count fits each = record {
   fits = fits;
   counted = sym count;
-  queue_is = none;
+  queue_is = queue_of_none;
   linked = (ap next end, ap prev end);
   members_are = λ t below. ap is_member (each t.0 below);
 }
@@ -114,25 +115,25 @@ module _ {nodes : Nodes} where
 
   pub before_there : (before : List Tid) (t : Tid) (after : List Tid) → Hold nodes (before ++ t ∷ after)
       → IfSome (prev_of nodes (Some t)) (λ u. u.0 < THREADS)
-  before_there before t after hold = before_below (next_of nodes) (prev_of nodes) THREADS None before t after hold.linked tt (are_below _ hold)
+  before_there before t after hold = before_below (next_node nodes) (prev_of nodes) THREADS None before t after hold.linked tt (are_below _ hold)
 
   pub after_there : (before : List Tid) (t : Tid) (after : List Tid) → Hold nodes (before ++ t ∷ after)
-      → IfSome (next_of nodes (Some t)) (λ u. u.0 < THREADS)
-  after_there before t after hold = after_below (next_of nodes) (prev_of nodes) THREADS (Some t) after
-      (linked_from (next_of nodes) (prev_of nodes) None before t after hold.linked) (below_behind THREADS before t after (are_below _ hold))
+      → IfSome (next_node nodes (Some t)) (λ u. u.0 < THREADS)
+  after_there before t after hold = after_below (next_node nodes) (prev_of nodes) THREADS (Some t) after
+      (linked_from (next_node nodes) (prev_of nodes) None before t after hold.linked) (below_behind THREADS before t after (are_below _ hold))
 
   -- so has the last thread
   pub last_there : (queue : List Tid) → Hold nodes queue → IfSome (prev_of nodes None) (λ u. u.0 < THREADS)
-  last_there queue hold = last_below (next_of nodes) (prev_of nodes) THREADS None queue hold.linked tt (are_below queue hold)
+  last_there queue hold = last_below (next_node nodes) (prev_of nodes) THREADS None queue hold.linked tt (are_below queue hold)
 
   -- a queue that lacks a thread is not full
   pub room_there : (queue : List Tid) (t : Tid) → Hold nodes queue → t.0 < THREADS → is_in t queue ≡ false → nodes.count < THREADS
   room_there queue t hold known new = subst (λ n. n < THREADS) hold.counted (has_room queue t hold.queue_is known new)
 
   -- the queue begins with the thread that the end leads to
-  pub fronted : (queue : List Tid) → Hold nodes queue → nodes.end.next ≡ first queue
-  fronted [] hold = hold.linked.0
-  fronted (t ∷ queue) hold = hold.linked.0
+  pub end_leads : (queue : List Tid) → Hold nodes queue → nodes.end.next ≡ first queue
+  end_leads [] hold = hold.linked.0
+  end_leads (t ∷ queue) hold = hold.linked.0
 
   -- t is taken out from between the others
   pub taken_held : (nodes1 nodes2 nodes3 : Nodes) {out ahead back : Node} (before : List Tid) (t : Tid) (after : List Tid)
@@ -143,12 +144,12 @@ module _ {nodes : Nodes} where
       → Hold nodes (before ++ t ∷ after) → Hold (record nodes3 { count = nodes3.count - 1 }) (before ++ after)
   taken_held nodes1 nodes2 nodes3 {out} {ahead} {back} before t after out_is one ahead_is two back_is three fits count hold =
       let queue : List Tid = before ++ t ∷ after in
-      let apart = parts t before after hold.queue_is.0 in
+      let apart = distinct_parts t before after hold.queue_is.0 in
       let left : without t queue ≡ before ++ after = without_parted t before after apart.0 apart.1 in
       let nodes' : Nodes = record nodes3 { count = nodes3.count - 1 } in
       let last : Changed (at nodes2) (at nodes') out.next (record back { prev = out.prev }) =
       changed_within (λ n. refl) three (at_counted nodes3 (nodes3.count - 1)) in
-      let nexts : Changed (next_of nodes) (next_of nodes') out.prev out.next = changed_within
+      let nexts : Changed (next_node nodes) (next_node nodes') out.prev out.next = changed_within
       (part_kept next one (ap next out_is)) (part_changed next two) (part_kept next last (ap next back_is)) in
       let prevs : Changed (prev_of nodes) (prev_of nodes') out.next out.prev = changed_within
       (λ n. part_kept prev two (ap prev ahead_is) n ∙ part_kept prev one (ap prev out_is) n) (part_changed prev last) (λ n. refl) in
@@ -158,7 +159,7 @@ module _ {nodes : Nodes} where
         fits = fits;
         counted = omega (arith, length-append before after, length-append before (t ∷ after), hold.counted, count);
         queue_is = subst IsQueue left (taken_out t queue hold.queue_is);
-        linked = unlinked (next_of nodes) (prev_of nodes) t
+        linked = unlinked_between (next_node nodes) (prev_of nodes) t
             (changed_at (ap prev out_is) (ap next out_is) nexts)
             (changed_at (ap next out_is) (ap prev out_is) prevs)
             None before after (all_off_end queue) (all_distinct queue hold.queue_is.0) hold.linked;
@@ -176,7 +177,7 @@ module _ {nodes : Nodes} where
   behind_held nodes1 nodes2 {before} t queue known before_is one two fits count hold new =
       let nodes' : Nodes = record nodes2 { end = record nodes2.end { prev = Some t }; count = nodes2.count + 1 } in
       let end : Changed (at nodes2) (at nodes') None (record nodes2.end { prev = Some t }) = end_changed nodes2 _ (nodes2.count + 1) in
-      let new_to_end : Changed (next_of nodes1) (next_of nodes') (Some t) None = changed_within
+      let new_to_end : Changed (next_node nodes1) (next_node nodes') (Some t) None = changed_within
       (λ n. refl) (part_changed next two) (part_kept next end refl) in
       let new_back : Changed (prev_of nodes) (prev_of nodes2) (Some t) nodes.end.prev = changed_within
       (part_kept prev one (ap prev before_is)) (part_changed prev two) (λ n. refl) in
@@ -185,10 +186,10 @@ module _ {nodes : Nodes} where
       record {
         fits = fits;
         counted = omega (arith, length-append queue (t ∷ []), hold.counted, count);
-        queue_is = pushed queue t hold.queue_is known new;
-        linked = linked_behind (next_of nodes) (prev_of nodes) t
+        queue_is = queue_pushed queue t hold.queue_is known new;
+        linked = linked_behind (next_node nodes) (prev_of nodes) t
             (part_changed next one) new_to_end new_back (part_changed prev end)
-            None queue no_end (off t queue new) (all_off_end queue) (all_distinct queue hold.queue_is.0) hold.linked;
+            None queue no_end (is_off_absent t queue new) (all_off_end queue) (all_distinct queue hold.queue_is.0) hold.linked;
         members_are = members_after t queue (queue ++ t ∷ []) members hold.members_are
             (pushed_in t t queue ∙ last_in t queue)
             (λ x other. pushed_in x t queue ∙ not_last_in x t queue other);

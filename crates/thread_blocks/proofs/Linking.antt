@@ -127,14 +127,14 @@ module _ (next prev : Option Tid → Option Tid) where
           )
 
       -- where the node before t leads behind it, and the one behind it back before it, t is out
-      pub unlinked : (at : Option Tid) (ys zs : List Tid) → IsOff at (ys ++ t ∷ zs) → AreDistinct (ys ++ t ∷ zs) → AreLinked next prev at (ys ++ t ∷ zs)
+      pub unlinked_between : (at : Option Tid) (ys zs : List Tid) → IsOff at (ys ++ t ∷ zs) → AreDistinct (ys ++ t ∷ zs) → AreLinked next prev at (ys ++ t ∷ zs)
           → AreLinked next' prev' at (ys ++ zs)
-      unlinked at [] zs off distinct linked = unlinked_here at zs off.1 distinct.1 linked
-      unlinked at (y ∷ ys) zs off distinct linked = (
+      unlinked_between at [] zs off distinct linked = unlinked_here at zs off.1 distinct.1 linked
+      unlinked_between at (y ∷ ys) zs off distinct linked = (
         nexts.there at (other_way (not_before (Some y) ys t zs at linked.2 off.0 (off_left at ys (t ∷ zs) off.1))) ∙ linked.0,
         prevs.there (Some y) (other_way (not_after (Some t) zs (Some y) (linked_from (Some y) ys t zs linked.2) no_end
             (off_right (Some y) ys (t ∷ zs) distinct.0).1)) ∙ linked.1,
-        unlinked (Some y) ys zs distinct.0 distinct.1 linked.2,
+        unlinked_between (Some y) ys zs distinct.0 distinct.1 linked.2,
       )
 
   -- where the last node leads to t and t to the end, and back, t is behind the others

@@ -14,8 +14,8 @@ at nodes None = nodes.end
 at nodes (Some t) = slice_index_or nodes.cells t.0 untouched
 
 -- what a node leads to, what it leads back to, and whether it is a member
-abbrev pub next_of : Nodes → Option Tid → Option Tid
-next_of nodes node = (at nodes node).next
+abbrev pub next_node : Nodes → Option Tid → Option Tid
+next_node nodes node = (at nodes node).next
 
 abbrev pub prev_of : Nodes → Option Tid → Option Tid
 prev_of nodes node = (at nodes node).prev
@@ -31,7 +31,7 @@ walk next (Some t) (suc n) = t ∷ walk next (next (Some t)) n
 
 -- the threads of the table: those that are met from the end on, as many as it counts
 abbrev pub threads_of : Nodes → List Tid
-threads_of nodes = walk (next_of nodes) nodes.end.next nodes.count
+threads_of nodes = walk (next_node nodes) nodes.end.next nodes.count
 
 -- from this node through these threads to the end, each node leads to the next one, and each next one back
 abbrev pub AreLinked : (Option Tid → Option Tid) → (Option Tid → Option Tid) → Option Tid → List Tid → Type 0
@@ -48,5 +48,5 @@ pub record Hold (nodes : Nodes) (queue : List Tid) : Type 0 where
   pub fits : length nodes.cells ≡ THREADS
   pub counted : length queue ≡ nodes.count
   pub queue_is : IsQueue queue
-  pub linked : AreLinked (next_of nodes) (prev_of nodes) None queue
+  pub linked : AreLinked (next_node nodes) (prev_of nodes) None queue
   pub members_are : (t : Tid) → t.0 < THREADS → member_of nodes (Some t) ≡ is_in t queue

@@ -1,12 +1,12 @@
 -- The trace text of a run, and of where it ends, gets yes.
 use Rattle.std.proofs.Common.{◌≡◌, ℕ, ◌+◌, ◌<◌, ◌≤◌, ◌^◌, true, false, List, [], ◌∷◌, ◌++◌, length, get_or, drop, map, Ok, refl, sym, ap, subst, ◌∙◌}
 use Rattle.std.proofs.{Common.{append_assoc, lt-ltb, le-ltb, arith}, lemmas.List.{length_push, length-drop, length-set, length-map, get_or-drop, drop-drop}}
-use Rattle.{std.specs.{Prelude.{codes, nat_lt}, List.{AllByRecursion, flat_map, join_with_byte}}, event_log.specs.Messages.Message}
-use Rattle.event_log.specs.{declared.{ids.TheConstants.{BUFFERS, ENTRIES}, entries.Entry.Entry}, Buffers.{items_of, empty_buffers, after_effect, IsCapacity}}
-use Rattle.{event_log.specs.Runs.{after_entry, IsRunFrom, IsRun}, tracer.specs.declared.{verdicts.Verdict.TheVariants.Yes, versions.Version.Version}}
-use Rattle.tracer.specs.{declared.versions.Version.TheVariants.One, TraceText.{text_line, version_word, head_pieces, count_pieces, cap_pieces, entry_pieces}}
-use Rattle.tracer.specs.{TraceText.{left_pieces, end_pieces, numbered, lines_of, spelling, IsEntryOf, IsSpellable, IsTraceText, AreItemsOf}, Judging.Progress}
-use Rattle.tracer.specs.{Judging.{opening, step, lines_in, verdict_from, verdict_of}, Versions.{covers, version_from, version_of}}
+use Rattle.std.specs.{Prelude.{codes, nat_lt}, List.{AllByRecursion, flat_map, join_with_byte}}
+use Rattle.event_log.specs.{Messages.Message, declared.{ids.TheConstants.{BUFFERS, ENTRIES}, entries.Entry.Entry}, Buffers.{items_of, empty_buffers}}
+use Rattle.{event_log.specs.{Buffers.{after_effect, IsCapacity}, Runs.{after_entry, IsRunFrom, IsRun}}, tracer.specs.declared.verdicts.Verdict.TheVariants.Yes}
+use Rattle.tracer.specs.{declared.versions.Version.{Version, TheVariants.One}, TraceText.{text_line, version_word, head_pieces, count_pieces, cap_pieces}}
+use Rattle.tracer.specs.TraceText.{entry_pieces, left_pieces, end_pieces, numbered, lines_of, spelling, IsEntryOf, IsSpellable, IsTraceText, AreItemsOf}
+use Rattle.tracer.specs.{Judging.{TextProgress, text_start, step, lines_in, verdict_from, verdict_of}, Versions.{covers, version_from, version_of}}
 use Rattle.tracer.proofs.{VersionLemmas.{covers_itself, covers_next, version_more}, SplitLemmas.{IsLine, line_read}, KnownLemmas.known_fresh_from}
 use Rattle.tracer.proofs.{EntryLemmas.{progress, behind_e}, StepLemmas.{entry_is_line, step_entry, behind_left, left_is_line, step_first_left, step_left}}
 use Rattle.tracer.proofs.OpeningLemmas.{step_head, step_end, count_is_line_of, step_count, opened, cap_is_line, step_cap}
@@ -16,7 +16,7 @@ use Rattle.tracer.specs.declared.next_lines.NextLine.TheVariants as wants
 end_is_line : IsLine end_pieces
 end_is_line = grind arith
 
-complete_end : (s : Progress) (n : ℕ) → s.at ≡ wants.End → covers s.lowest s.version ≡ true
+complete_end : (s : TextProgress) (n : ℕ) → s.at ≡ wants.End → covers s.lowest s.version ≡ true
     → verdict_from s n (lines_in (flat_map text_line (end_pieces ∷ []))) ≡ Yes
 complete_end s n at low = line_read s (record s { at = wants.Done }) n (codes "end") [] [] end_is_line (step_end s at low)
 
@@ -29,7 +29,7 @@ first_of contents b x xs e =
 behind_first : (contents : List (List Message)) (b : ℕ) (x : List Message) (xs : List (List Message)) → drop b contents ≡ x ∷ xs → drop (b + 1) contents ≡ xs
 behind_first contents b x xs e = sym (drop-drop 1 b contents) ∙ ap (λ (t : List (List Message)). drop 1 t) e
 
-complete_left : (v : Version) (caps : List ℕ) (earlier : List Entry) (contents : List (List Message)) (s : Progress) (b n : ℕ) (x : List Message)
+complete_left : (v : Version) (caps : List ℕ) (earlier : List Entry) (contents : List (List Message)) (s : TextProgress) (b n : ℕ) (x : List Message)
     (xs : List (List Message))
     → length contents ≡ length caps → length caps ≤ BUFFERS → b < length caps → drop b contents ≡ x ∷ xs → AllByRecursion (AreItemsOf v) (x ∷ xs)
     → covers (version_of earlier) v ≡ true
@@ -120,22 +120,22 @@ head_is_line : (v : Version) → IsLine (head_pieces v)
 head_is_line v = grind arith
 
 complete_lines : (caps : List ℕ) (es : List Entry) (left : List (List Message)) → IsSpellable caps es left → IsRun caps es left
-    → verdict_from opening 1 (lines_in (spelling caps es left)) ≡ Yes
+    → verdict_from text_start 1 (lines_in (spelling caps es left)) ≡ Yes
 unfolding spelling lines_of
 complete_lines caps es left fits run =
     let v = version_of es in
-    let opens : Progress = record opening { at = wants.Count; version = v } in
+    let opens : TextProgress = record text_start { at = wants.Count; version = v } in
     let tail = map entry_pieces es ++ (numbered left_pieces 0 left ++ end_pieces ∷ []) in
     let long : length (empty_buffers caps) ≡ length caps = length-map caps (λ (k : ℕ). []) in
     let room : length {A = Entry} [] + length es ≤ ENTRIES = (let h = fits.few_entries in omega arith) in
     let entries : (m : ℕ) → verdict_from (opened v wants.Entries caps) m (lines_in (flat_map text_line tail)) ≡ Yes = λ m.
-    subst (λ (s : Progress). verdict_from s m (lines_in (flat_map text_line tail)) ≡ Yes)
+    subst (λ (s : TextProgress). verdict_from s m (lines_in (flat_map text_line tail)) ≡ Yes)
     (ap (λ buffers. record { at = wants.Entries; version = v; lowest = One; buffers = buffers; entries = 0 }) (known_fresh_from 0 caps caps))
     (complete_entries v caps [] (empty_buffers caps) es left m run fits.entries room long fits.some_buffer fits.few_buffers fits.values refl) in
     let some : 0 < length caps = (let h = fits.some_buffer in omega arith) in
     let none : 0 + length caps ≡ length caps = omega arith in
-    line_read opening opens 1 (codes "mctower-trace") (version_word v ∷ [])
-    (text_line (count_pieces (length caps)) ++ flat_map text_line (numbered cap_pieces 0 caps ++ tail)) (head_is_line v) (step_head v opening refl)
+    line_read text_start opens 1 (codes "mctower-trace") (version_word v ∷ [])
+    (text_line (count_pieces (length caps)) ++ flat_map text_line (numbered cap_pieces 0 caps ++ tail)) (head_is_line v) (step_head v text_start refl)
     ∙ line_read opens (opened v (wants.Capacities (length caps)) []) (1 + 1) (codes "buffers")
     _ (flat_map text_line (numbered cap_pieces 0 caps ++ tail)) (count_is_line_of (length caps) fits.few_buffers)
     (step_count (length caps) opens refl fits.some_buffer fits.few_buffers)

@@ -1,16 +1,16 @@
 -- Each line of a trace text is taken where it may stand, and a line that is taken is spelled so.
 use Rattle.std.proofs.Common.{◌-◌, ◌≡◌, ℕ, ◌<◌, ◌≤◌, ◌^◌, true, List, [], ◌∷◌, length, Ok, refl, ap, ◌∙◌, subst, lit<, arith}
-use Rattle.{std.{proofs.lemmas.Slice.Eq.bytes_eq-Decides, specs.{Prelude.{decimal, codes}, Str.bytes_eq}}, event_log.specs.declared.ids.TheConstants.CPUS}
-use Rattle.event_log.specs.declared.{ids.TheConstants.{THREADS, BUFFERS, ENTRIES}, entries.{Kind.{Kind, TheVariants.{Close, RecvClosed}}, Entry.Entry}}
+use Rattle.std.{proofs.lemmas.Slice.Eq.bytes_eq-Decides, specs.{Prelude.{decimal, codes}, Str.bytes_eq}}
+use Rattle.event_log.specs.declared.{ids.TheConstants.{CPUS, THREADS, BUFFERS, ENTRIES}, entries.{Kind.{Kind, TheVariants.{Close, RecvClosed}}, Entry.Entry}}
 use Rattle.{event_log.{specs.Messages.{Message, no_message}, proofs.DigitsLemmas.number_to-decimal}, tracer.specs.declared.next_lines.NextLine.NextLine}
 use Rattle.tracer.specs.{declared.versions.Version.Version, Versions.{covers, version_of_kind, version_of_message, version_of_entry, version_of}}
-use Rattle.tracer.specs.{TraceText.{kind_word, value_piece, IsValueOf}, Judging.{Digits, Progress, piece_at, digits_at, ended, in_range, kind_in, spells_value}}
-use Rattle.tracer.{specs.Judging.{value_in, is_of_version, entry_digits, entry_in}, proofs.ReadLemmas.{bind_ok, fine, same_ok, in_range_taken}}
+use Rattle.tracer.specs.{TraceText.{kind_word, value_piece, IsValueOf}, Judging.{Digits, TextProgress, piece_at, digits_at, ended, in_range, kind_in}}
+use Rattle.tracer.{specs.Judging.{spells_value, value_in, is_of_version, entry_digits, entry_in}, proofs.ReadLemmas.{bind_ok, fine, same_ok, in_range_taken}}
 use Rattle.tracer.proofs.{ReadLemmas.{decimal_is_number, piece_taken, digits_taken, ended_taken}, KnownLemmas.known_from, VersionLemmas.covers_first_one}
 use Rattle.tracer.proofs.{VersionLemmas.{covers_first, covers_second}, MessageLemmas.{message_again, spells_message_again, item_taken}}
 
 -- behind the earlier entries, in a text of this version
-abbrev pub progress : Version → NextLine → List ℕ → List Entry → List (List Message) → Progress
+abbrev pub progress : Version → NextLine → List ℕ → List Entry → List (List Message) → TextProgress
 progress v at caps earlier contents = record {
   at = at;
   version = v;

@@ -1,11 +1,11 @@
 -- What a gathering keeps: the entries taken so far, and what is left of each trace.
 use Rattle.std.proofs.Common.{◌≡◌, ◌≢◌, ℕ, zero, suc, ◌+◌, ◌<◌, List, [], ◌∷◌, ◌++◌, length, get_or, set, drop, replicate, sum_by, Some, refl, sym, ap, ◌∙◌}
-use Rattle.std.proofs.{Common.{subst, inl, inr, arith, add-one, append_assoc}, lemmas.List.{drop_more, drop_all, drop-drop, get_or-set_other}}
-use Rattle.std.proofs.lemmas.List.{get_or-set_same, get_or_past, nil_from_length, length-replicate, length-set, length-append, append-nil, Sums.sum_by-cons}
-use Rattle.std.proofs.lemmas.{List.Sums.{sum_by-set, get_or-le-sum_by}, Bool.cases_eq, Option.{get_or_from_slice_get, slice_get_within}}
-use Rattle.std.specs.{Borrow.Bor, Prelude.slice_get}
-use Rattle.event_log.specs.{declared.entries.Entry.Entry, Runs.count_of, Traces.{IsInterleaving, HasOpOrderFrom, HasOpOrder}}
-use Rattle.tracer.specs.Gather.{traces_in, entries_in, IsOrder, IsFrontReady, TakesFirstReadyFrom, TakesFirstReady, HasNoOrder, next_entry, IsDue, NoneDueBelow}
+use Rattle.std.proofs.{Common.{subst, inl, inr, arith, add-one, append_assoc}, lemmas.List.{drop_more, drop_all, drop-drop, get_or-set_other, get_or-set_same}}
+use Rattle.std.proofs.lemmas.List.{get_or_past, nil_from_length, length-replicate, length-set, length-append, append-nil, Sums.{sum_by-cons, sum_by-set}}
+use Rattle.std.{proofs.lemmas.{List.Sums.get_or-le-sum_by, Bool.cases_eq, Option.{get_or_from_slice_get, slice_get_within}}, specs.Borrow.Bor}
+use Rattle.std.specs.Prelude.{slice_get}
+use Rattle.{event_log.specs.{declared.entries.Entry.Entry, Runs.count_of, Traces.{IsInterleaving, HasOpOrderFrom, HasOpOrder}}, tracer.specs.Gather.traces_in}
+use Rattle.tracer.specs.Gather.{entries_in, IsOrder, IsFrontReady, TakesFirstReadyFrom, TakesFirstReady, HasNoOrder, next_entry, IsNextOp, NoneDueBelow}
 use Rattle.tracer.proofs.OrderLemmas.{at_head, head_at, head_within, count_more_same, count_more_other, CameFirst, may_come_first}
 
 -- what is left of each trace, where so many of each are taken
@@ -121,7 +121,7 @@ gathers_start traces n total taken counts done size fresh zeros all none =
     subst (Gathers traces total taken counts) (sym none) (gathers_none traces n total taken counts size fresh zeros all)
 
 none_ready_in : (traces : List (List Entry)) (taken counts : List ℕ) (done : List Entry) (j : ℕ) (rest : List Entry) → get_or (rests traces taken) j [] ≡ rest
-    → ((b : ℕ) → get_or counts b 0 ≡ count_of done b) → ((e : Entry) → next_entry traces taken j ≡ Some e → ¬ IsDue counts e) → ¬ IsFrontReady done rest
+    → ((b : ℕ) → get_or counts b 0 ≡ count_of done b) → ((e : Entry) → next_entry traces taken j ≡ Some e → ¬ IsNextOp counts e) → ¬ IsFrontReady done rest
 none_ready_in traces taken counts done j [] at counted none ready = ready
 none_ready_in traces taken counts done j (e ∷ rest) at counted none ready = none e (head_is_next traces taken j e rest at) (ready ∙ sym (counted e.buffer.0))
 
@@ -157,7 +157,7 @@ some_left_in traces total taken counts done k e g next = grind (arith, slice_get
 
 -- one entry more
 gathers_more : (traces : List (List Entry)) (total : ℕ) (taken counts : List ℕ) (done : List Entry) (k : ℕ) (e : Entry) → Gathers traces total taken counts done
-    → e.buffer.0 < 256 → next_entry traces taken k ≡ Some e → IsDue counts e → NoneDueBelow traces taken counts k
+    → e.buffer.0 < 256 → next_entry traces taken k ≡ Some e → IsNextOp counts e → NoneDueBelow traces taken counts k
     → Gathers traces total (set taken k (get_or taken k 0 + 1)) (set counts e.buffer.0 (get_or counts e.buffer.0 0 + 1)) (done ++ e ∷ [])
 gathers_more traces total taken counts done k e g small next due below =
     let rest = drop (get_or taken k 0 + 1) (get_or traces k []) in
@@ -190,7 +190,7 @@ gathers_more traces total taken counts done k e g small next due below =
     }
 
 pub gathers_next : (traces : List (List Entry)) (total : ℕ) (taken counts : List ℕ) (done : List Entry) (k : ℕ) (e : Entry) (count buffer : ℕ)
-    (after : List Entry) → Gathers traces total taken counts done → buffer < 256 → next_entry traces taken k ≡ Some e → IsDue counts e
+    (after : List Entry) → Gathers traces total taken counts done → buffer < 256 → next_entry traces taken k ≡ Some e → IsNextOp counts e
     → NoneDueBelow traces taken counts k
     → count ≡ get_or taken k 0 → buffer ≡ e.buffer.0 → after ≡ done ++ e ∷ []
     → Gathers traces total (set taken k (count + 1)) (set counts buffer (get_or counts buffer 0 + 1)) after

@@ -6,7 +6,7 @@ use Rattle.{std.specs.Prelude.{slice_get, slice_set}, event_log.specs.{Messages.
 use Rattle.event_log.specs.{declared.entries.Entry.Entry, Buffers.{items_of, empty_buffers, IsAllowedEffect, after_effect}, Runs.{kind_eq, group_of, count_of}}
 use Rattle.event_log.{specs.{Runs.{count_of_kind, IsNext, after_entry}, Reading.{◌>>=◌}}, proofs.RunLemmas.{count_more, count_kind_more, items_none}}
 use Rattle.tracer.specs.{TraceText.IsValueOf, declared.verdicts.Reason.TheVariants.{Op, Pos}, Judging.{Seen, fresh, or_reason, or_range, was_closed, next_pos}}
-use Rattle.tracer.{specs.Judging.{bumped, counted, take_first, item_effect, entry_on, entry_among}, proofs.ReadLemmas.{or_range_taken, bind_ok, wanted_ok}}
+use Rattle.tracer.{specs.Judging.{bumped, seen_behind, take_first, item_effect, entry_on, entry_among}, proofs.ReadLemmas.{or_range_taken, bind_ok, wanted_ok}}
 use Rattle.tracer.proofs.ReadLemmas.{same_ok}
 
 -- what is known of buffer b, behind the earlier entries
@@ -57,7 +57,7 @@ bumped_by counts n = grind arith
 
 -- a buffer after an effect on it
 abbrev after_seen : Kind → Message → Seen → Seen
-after_seen kind value seen = counted (group_of kind) (after_effect kind seen.items value) seen
+after_seen kind value seen = seen_behind (group_of kind) (after_effect kind seen.items value) seen
 
 seen_here : (earlier : List Entry) (contents : List (List Message)) (e : Entry) (capacity : ℕ) → e.buffer.0 < length contents
     → seen_of (earlier ++ e ∷ []) (after_entry contents e) e.buffer.0 capacity ≡ after_seen e.kind e.value (seen_of earlier contents e.buffer.0 capacity)
@@ -156,13 +156,13 @@ among_taken caps earlier contents e after long none taken =
     let read : entry_on e seen ≡ Ok stepped.0 = ap (entry_on e) (sym same) ∙ stepped.1 in
     let group = group_of e.kind in
     let effects = item_effect e.kind e.value (was_closed seen) seen.capacity seen.items in
-    let done = effects >>= λ items. Ok (counted group items seen) in
+    let done = effects >>= λ items. Ok (seen_behind group items seen) in
     let op = wanted_ok (e.op == seen.ops) Op (or_reason (e.pos == next_pos group seen) Pos done) stepped.0 read in
     let pos = wanted_ok (e.pos == next_pos group seen) Pos done stepped.0 op.1 in
     let items = bind_ok effects _ stepped.0 pos.1 in
     let effect = effect_taken e.kind e.value (was_closed seen) seen.capacity seen.items items.0 none items.1 in
-    let now : stepped.0 ≡ after_seen e.kind e.value seen = sym (same_ok (counted group items.0 seen) stepped.0 items.2)
-    ∙ ap (λ (l : List Message). counted group l seen) effect.1 in (
+    let now : stepped.0 ≡ after_seen e.kind e.value seen = sym (same_ok (seen_behind group items.0 seen) stepped.0 items.2)
+    ∙ ap (λ (l : List Message). seen_behind group l seen) effect.1 in (
       record {
         known = inside;
         allowed = effect.0;

@@ -2,12 +2,12 @@
 use Rattle.std.proofs.Common.{◌≡◌, ℕ, ◌<◌, ◌^◌, ◌==◌, Bool, true, false, not, ◌&&◌, List, [], ◌∷◌, length, map, Result, Ok, Some, refl, sym, ap, subst, ◌∙◌}
 use Rattle.std.proofs.{Common.{lit<, arith}, lemmas.{Bool.and_parts, List.{length-map, Splits.{length-slice_split, join_with_byte-slice_split}}}}
 use Rattle.std.{proofs.lemmas.Slice.Eq.bytes_eq-Decides, specs.{Prelude.{decimal, nat_le}, Str.bytes_eq, List.{AllByRecursion, list_all, join_with_byte}}}
-use Rattle.event_log.specs.{declared.messages.TheConstants.WORDS, Messages.{Message, IsMessage, padded}, Digits.{is_number, number_to}, Rings.{first, rest}}
-use Rattle.event_log.proofs.{DigitsLemmas.{IsSpelled, number_to-Some, number_to-decimal, spelled_number}, MessageLemmas.padded_eq}
+use Rattle.event_log.specs.{declared.messages.TheConstants.WORDS, Messages.{Message, IsMessage, padded}, Digits.{is_number, number_to}, Rings.front_item}
+use Rattle.event_log.{specs.Rings.items_behind, proofs.{DigitsLemmas.{IsSpelled, number_to-Some, number_to-decimal, spelled_number}, MessageLemmas.padded_eq}}
 use Rattle.tracer.specs.{declared.{verdicts.Reason.{Reason, TheVariants.Range}, versions.Version.{Version, TheVariants.Three}}, Versions.covers}
-use Rattle.tracer.specs.{Versions.version_of_count, TraceText.{message_text, IsItemOf}, Judging.{take_first, words_of, spells_message, numbers_in, message_in}}
-use Rattle.tracer.{specs.Judging.{is_same, is_message, is_within}, proofs.{VersionLemmas.covers_first_one, ReadLemmas.{wanted_ok, same_ok, in_range_taken}}}
-use Rattle.tracer.proofs.{ReadLemmas.decimal_is_number, SplitLemmas.{Lacks, digits_alone, split_join, join_lacks, decimal_lacks}}
+use Rattle.tracer.specs.{Versions.version_of_count, TraceText.{message_text, IsItemOf}, Judging.{take_first, comma_parts, spells_message, numbers_in}}
+use Rattle.tracer.{specs.Judging.{message_in, is_same, is_message, is_within}, proofs.{VersionLemmas.covers_first_one, ReadLemmas.{wanted_ok, same_ok}}}
+use Rattle.tracer.proofs.{ReadLemmas.{in_range_taken, decimal_is_number}, SplitLemmas.{Lacks, digits_alone, split_join, join_lacks, decimal_lacks}}
 
 -- words of 64 bits
 abbrev pub AreWords : List ℕ → Type 0
@@ -20,8 +20,8 @@ words_lack at (n ∷ ns) lt small = (decimal_lacks at n lt small.0, words_lack a
 -- ---- equal
 
 -- the first message is the wanted one
-pub takes_first : (x m : Message) (items : List Message) (differs : Bool) → first items ≡ Some x
-    → differs ≡ not (bytes_eq (padded x) (padded m) && (length x == length m)) → differs ≡ false → take_first m items ≡ Ok (rest items)
+pub takes_first : (x m : Message) (items : List Message) (differs : Bool) → front_item items ≡ Some x
+    → differs ≡ not (bytes_eq (padded x) (padded m) && (length x == length m)) → differs ≡ false → take_first m items ≡ Ok (items_behind items)
 takes_first x m items differs is test equal = grind (arith, padded_eq)
 
 -- a message that was read is this one
@@ -31,7 +31,7 @@ is_read read x m same is test = rw is (test ∙ padded_eq x m)
 
 -- ---- one word
 
-alone : (piece : List ℕ) → IsSpelled piece → words_of piece ≡ piece ∷ []
+alone : (piece : List ℕ) → IsSpelled piece → comma_parts piece ≡ piece ∷ []
 alone piece spelled = digits_alone 44 piece (lit< tt) spelled.digits
 
 pub spells_number : (v : Version) (piece : List ℕ) → is_number piece ≡ true → spells_message v piece ≡ true
@@ -42,22 +42,23 @@ reads_number piece n is = rw (alone piece (number_to-Some 18446744073709551615 p
 
 -- ---- several words
 
-several : (v : Version) (piece front behind : List ℕ) → words_of piece ≡ front ∷ words_of behind
-    → covers v (version_of_count (length (words_of piece))) ≡ covers v Three
+several : (v : Version) (piece front behind : List ℕ) → comma_parts piece ≡ front ∷ comma_parts behind
+    → covers v (version_of_count (length (comma_parts piece))) ≡ covers v Three
 several v piece front behind cut = grind (arith, ap length cut, length-slice_split (λ b. b == 44) behind)
 
 -- a text of a version that has no messages of several words
-pub not_spelled : (v : Version) (piece front behind : List ℕ) (high : Bool) → words_of piece ≡ front ∷ words_of behind → high ≡ covers v Three → high ≡ false
+pub not_spelled : (v : Version) (piece front behind : List ℕ) (high : Bool) → comma_parts piece ≡ front ∷ comma_parts behind
+    → high ≡ covers v Three → high ≡ false
     → high ≡ spells_message v piece
 not_spelled v piece front behind high cut is low = grind (arith, several v piece front behind cut)
 
 -- ---- spelled, and read again
 
-cut_again : (m : Message) → 0 < length m → AreWords m → words_of (message_text m) ≡ map decimal m
+cut_again : (m : Message) → 0 < length m → AreWords m → comma_parts (message_text m) ≡ map decimal m
 cut_again [] some small = absurd (let z : 0 < 0 = some in omega arith)
 cut_again (n ∷ ns) some small = split_join 44 (decimal n) (map decimal ns) (words_lack 44 (n ∷ ns) (lit< tt) small)
 
-words_again : (m : Message) → IsMessage m → words_of (message_text m) ≡ map decimal m
+words_again : (m : Message) → IsMessage m → comma_parts (message_text m) ≡ map decimal m
 words_again m is = cut_again m is.some is.words
 
 are_numbers_again : (ns : List ℕ) → AreWords ns → list_all is_number (map decimal ns) ≡ true
@@ -108,12 +109,12 @@ numbers_taken (w ∷ ws) ns e = grind (arith, in_range_taken 1844674407370955161
 pub record MessageTaken (piece : List ℕ) (m : Message) : Type 0 where
   pub spelled : piece ≡ message_text m
   pub small : IsMessage m
-  pub count : length (words_of piece) ≡ length m
+  pub count : length (comma_parts piece) ≡ length m
 
 pub message_taken : (piece : List ℕ) (m : Message) → message_in piece ≡ Ok m → MessageTaken piece m
 message_taken piece m e =
-    let few = wanted_ok (nat_le (length (words_of piece)) WORDS) Range (numbers_in (words_of piece)) m e in
-    let read = numbers_taken (words_of piece) m few.1 in
+    let few = wanted_ok (nat_le (length (comma_parts piece)) WORDS) Range (numbers_in (comma_parts piece)) m e in
+    let read = numbers_taken (comma_parts piece) m few.1 in
     let spelled : piece ≡ message_text m = sym (join_with_byte-slice_split 44 piece) ∙ ap (join_with_byte 44) read.spelled in
     grind (arith, spelled, read, few.0, length-slice_split (λ b. b == 44) piece)
 
@@ -124,7 +125,7 @@ pub record ItemTaken (v : Version) (piece : List ℕ) (m : Message) : Type 0 whe
 
 pub item_taken : (v : Version) (piece : List ℕ) (m : Message) → spells_message v piece ≡ true → message_in piece ≡ Ok m → ItemTaken v piece m
 item_taken v piece m spells e =
-    grind (arith, message_taken piece m e, and_parts (covers v (version_of_count (length (words_of piece)))) (list_all is_number (words_of piece)) spells)
+    grind (arith, message_taken piece m e, and_parts (covers v (version_of_count (length (comma_parts piece)))) (list_all is_number (comma_parts piece)) spells)
 
 same_taken : (read : Result Message Reason) (m : Message) → is_same read m ≡ true → read ≡ Ok m
 same_taken read m e = grind (arith, bytes_eq-Decides)

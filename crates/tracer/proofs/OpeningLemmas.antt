@@ -1,13 +1,14 @@
 -- The lines before the entries, and the last line: each is taken where it may stand, and what is taken is spelled so.
 use Rattle.std.proofs.Common.{◌≡◌, ℕ, ◌+◌, ◌<◌, ◌≤◌, ◌^◌, true, cond, List, [], ◌∷◌, ◌++◌, length, map, Ok, refl, sym, ap, ◌∙◌, lt-ltb, ltb-true, lit<, arith}
 use Rattle.std.{proofs.lemmas.{List.{length-map, map_push}, Slice.Eq.bytes_eq-Decides}, specs.{Prelude.{decimal, codes, nat_lt}, Str.bytes_eq}}
-use Rattle.{std.specs.List.join_with_byte, event_log.specs.{Buffers.IsCapacity, declared.ids.TheConstants.{BUFFERS, CAPACITY}}}
-use Rattle.{event_log.proofs.DigitsLemmas.number_to-decimal, tracer.specs.declared.verdicts.Reason.TheVariants.{Spelling, Range, OfVersion}}
-use Rattle.tracer.specs.{declared.{next_lines.NextLine.NextLine, versions.Version.{Version, TheVariants.{One, Two, Three}}}, Versions.covers}
-use Rattle.tracer.specs.{TraceText.{head_pieces, cap_pieces, count_pieces}, Judging.{Progress, fresh, or_reason, piece_at, word_at, digits_at, ended, in_range}}
-use Rattle.tracer.specs.Judging.{is_value, count_digits, count_line, capacity_digits, capacity_line, version_in, head_line, end_line, step}
-use Rattle.tracer.proofs.{SplitLemmas.{IsLine, decimal_lacks, pieces_again}, ReadLemmas.{bind_ok, wanted_ok, same_ok, piece_taken, word_taken, digits_taken}}
-use Rattle.tracer.proofs.ReadLemmas.{ended_taken, IsInRange, in_range_taken, is_value_taken, decimal_is_number, is_value_again}
+use Rattle.std.specs.List.{join_with_byte}
+use Rattle.event_log.{specs.{Buffers.IsCapacity, declared.ids.TheConstants.{BUFFERS, CAPACITY}}, proofs.DigitsLemmas.number_to-decimal}
+use Rattle.tracer.specs.declared.{verdicts.Reason.TheVariants.{Spelling, Range, OfVersion}, next_lines.NextLine.NextLine, versions.Version.Version}
+use Rattle.tracer.specs.{declared.versions.Version.TheVariants.{One, Two, Three}, Versions.covers, TraceText.{head_pieces, cap_pieces, count_pieces}}
+use Rattle.tracer.specs.Judging.{TextProgress, fresh, or_reason, piece_at, expected_word, digits_at, ended, in_range, is_value, count_digits, count_line}
+use Rattle.tracer.{specs.Judging.{capacity_digits, capacity_line, version_in, head_line, end_line, step}, proofs.SplitLemmas.{IsLine, decimal_lacks}}
+use Rattle.tracer.proofs.{SplitLemmas.pieces_again, ReadLemmas.{bind_ok, wanted_ok, same_ok, piece_taken, word_taken, digits_taken, ended_taken, IsInRange}}
+use Rattle.tracer.proofs.ReadLemmas.{in_range_taken, is_value_taken, decimal_is_number, is_value_again}
 use Rattle.tracer.specs.declared.next_lines.NextLine.TheVariants as wants
 
 -- ---- the head and the last line
@@ -16,14 +17,14 @@ version_taken : (line : List ℕ) (v : Version) → version_in line ≡ Ok v →
 version_taken line v e = grind (arith, bytes_eq-Decides)
 
 -- a head that is taken names its version
-pub head_taken : (line : List ℕ) (s after : Progress) → head_line line s ≡ Ok after
+pub head_taken : (line : List ℕ) (s after : TextProgress) → head_line line s ≡ Ok after
     → (v : Version) × (line ≡ join_with_byte 32 (head_pieces v)) × (after ≡ record s { at = wants.Count; version = v })
 unfolding head_line
 head_taken line s after taken =
     let read = bind_ok (version_in line) _ after taken in
     (read.0, version_taken line read.0 read.1, sym (same_ok _ after read.2))
 
-pub step_head : (v : Version) (s : Progress) → s.at ≡ wants.Head
+pub step_head : (v : Version) (s : TextProgress) → s.at ≡ wants.Head
     → step s (join_with_byte 32 (head_pieces v)) ≡ Ok (record s { at = wants.Count; version = v })
 unfolding step head_line
 step_head One s at = rw at refl
@@ -31,7 +32,7 @@ step_head Two s at = rw at refl
 step_head Three s at = rw at refl
 
 -- the last line is taken where no lower version can spell the text
-pub end_taken : (line : List ℕ) (s after : Progress) → end_line line s ≡ Ok after
+pub end_taken : (line : List ℕ) (s after : TextProgress) → end_line line s ≡ Ok after
     → (line ≡ codes "end") × (covers s.lowest s.version ≡ true) × (after ≡ record s { at = wants.Done })
 unfolding end_line
 end_taken line s after taken =
@@ -40,7 +41,7 @@ end_taken line s after taken =
     let low = wanted_ok (covers s.lowest s.version) OfVersion (Ok (record s { at = wants.Done })) after test.1 in
     ((bytes_eq-Decides line (codes "end")).0 test.0, low.0, sym (same_ok (record s { at = wants.Done }) after low.1))
 
-pub step_end : (s : Progress) → s.at ≡ wants.End → covers s.lowest s.version ≡ true → step s (codes "end") ≡ Ok (record s { at = wants.Done })
+pub step_end : (s : TextProgress) → s.at ≡ wants.End → covers s.lowest s.version ≡ true → step s (codes "end") ≡ Ok (record s { at = wants.Done })
 unfolding step end_line
 step_end s at low = rw (at, low) refl
 
@@ -50,31 +51,32 @@ count_digits_again : (n : ℕ) → n < 2 ^ 64 → count_digits (count_pieces n) 
 unfolding count_digits
 count_digits_again n small = rw (decimal_is_number n small) refl
 
-pub count_line_again : (n : ℕ) (s : Progress) → 1 ≤ n → n ≤ BUFFERS → count_line (count_pieces n) s ≡ Ok (record s { at = wants.Capacities n; buffers = [] })
+pub count_line_again : (n : ℕ) (s : TextProgress) → 1 ≤ n → n ≤ BUFFERS
+    → count_line (count_pieces n) s ≡ Ok (record s { at = wants.Capacities n; buffers = [] })
 unfolding count_line
 count_line_again n s some few = rw (count_digits_again n (omega arith), number_to-decimal BUFFERS n (omega arith) few, lt-ltb 0 n (omega arith)) refl
 
 count_digits_taken : (ps : List (List ℕ)) (digits : List ℕ) → count_digits ps ≡ Ok digits → ps ≡ codes "buffers" ∷ digits ∷ []
 unfolding count_digits
 count_digits_taken ps digits taken =
-    let word = bind_ok (word_at (codes "buffers") ps) _ digits taken in
+    let word = bind_ok (expected_word (codes "buffers") ps) _ digits taken in
     let number = bind_ok (digits_at word.0) _ digits word.2 in
     let last = bind_ok (ended number.0.1) _ digits number.2 in
     cc (word_taken (codes "buffers") ps word.0 word.1, digits_taken word.0 number.0 number.1, ended_taken number.0.1 last.0 last.1, last.2)
 
 -- what it says that the number of buffers was taken
-pub record CountTaken (ps : List (List ℕ)) (s after : Progress) (n : ℕ) : Type 0 where
+pub record CountTaken (ps : List (List ℕ)) (s after : TextProgress) (n : ℕ) : Type 0 where
   pub spelled : ps ≡ count_pieces n
   pub some : 1 ≤ n
   pub few : n ≤ BUFFERS
   pub is : after ≡ record s { at = wants.Capacities n; buffers = [] }
 
-count_found : (ps : List (List ℕ)) (digits : List ℕ) (n : ℕ) (s after : Progress) → ps ≡ codes "buffers" ∷ digits ∷ [] → IsInRange BUFFERS digits n → 0 < n
+count_found : (ps : List (List ℕ)) (digits : List ℕ) (n : ℕ) (s after : TextProgress) → ps ≡ codes "buffers" ∷ digits ∷ [] → IsInRange BUFFERS digits n → 0 < n
     → record s { at = wants.Capacities n; buffers = [] } ≡ after → CountTaken ps s after n
 count_found ps digits n s after shape range some is =
     record { spelled = shape ∙ ap (λ (d : List ℕ). codes "buffers" ∷ d ∷ []) range.spelled; some = omega arith; few = range.within; is = sym is }
 
-pub count_line_taken : (ps : List (List ℕ)) (s after : Progress) → count_line ps s ≡ Ok after → (n : ℕ) × CountTaken ps s after n
+pub count_line_taken : (ps : List (List ℕ)) (s after : TextProgress) → count_line ps s ≡ Ok after → (n : ℕ) × CountTaken ps s after n
 unfolding count_line
 count_line_taken ps s after taken =
     let digits = bind_ok (count_digits ps) _ after taken in
@@ -92,7 +94,7 @@ count_is_line_of n few = record {
   feeds = ((refl, (refl, (refl, (refl, (refl, (refl, (refl, tt))))))), (decimal_lacks 10 n (lit< tt) (omega arith), tt));
 }
 
-pub step_count : (n : ℕ) (s : Progress) → s.at ≡ wants.Count → 1 ≤ n → n ≤ BUFFERS
+pub step_count : (n : ℕ) (s : TextProgress) → s.at ≡ wants.Count → 1 ≤ n → n ≤ BUFFERS
     → step s (join_with_byte 32 (count_pieces n)) ≡ Ok (record s { at = wants.Capacities n; buffers = [] })
 unfolding step count_line
 step_count n s at some few =
@@ -102,7 +104,7 @@ step_count n s at some few =
 -- ---- a capacity
 
 -- before the first entry of a text of this version, with these capacities known
-abbrev pub opened : Version → NextLine → List ℕ → Progress
+abbrev pub opened : Version → NextLine → List ℕ → TextProgress
 opened v at caps = record { at = at; version = v; lowest = One; buffers = map fresh caps; entries = 0 }
 
 -- which line comes behind a capacity
@@ -130,7 +132,7 @@ capacity_line_again v at count caps capacity small few =
 capacity_digits_taken : (b : ℕ) (ps : List (List ℕ)) (digits : List ℕ) → capacity_digits b ps ≡ Ok digits → ps ≡ codes "cap" ∷ decimal b ∷ digits ∷ []
 unfolding capacity_digits
 capacity_digits_taken b ps digits taken =
-    let word = bind_ok (word_at (codes "cap") ps) _ digits taken in
+    let word = bind_ok (expected_word (codes "cap") ps) _ digits taken in
     let number = bind_ok (piece_at word.0) _ digits word.2 in
     let capacity = bind_ok (or_reason (is_value number.0.0 b) Spelling (digits_at number.0.1)) _ digits
     number.2 in
@@ -146,12 +148,12 @@ capacity_digits_taken b ps digits taken =
     )
 
 -- what it says that a capacity was taken
-pub record CapacityTaken (v : Version) (count : ℕ) (caps : List ℕ) (ps : List (List ℕ)) (after : Progress) (capacity : ℕ) : Type 0 where
+pub record CapacityTaken (v : Version) (count : ℕ) (caps : List ℕ) (ps : List (List ℕ)) (after : TextProgress) (capacity : ℕ) : Type 0 where
   pub spelled : ps ≡ cap_pieces (length caps) capacity
   pub small : IsCapacity capacity
   pub is : after ≡ opened v (behind_cap (length caps + 1) count) (caps ++ capacity ∷ [])
 
-capacity_found : (v : Version) (count : ℕ) (caps : List ℕ) (ps : List (List ℕ)) (digits : List ℕ) (capacity : ℕ) (after : Progress)
+capacity_found : (v : Version) (count : ℕ) (caps : List ℕ) (ps : List (List ℕ)) (digits : List ℕ) (capacity : ℕ) (after : TextProgress)
     → ps ≡ codes "cap" ∷ decimal (length (map fresh caps)) ∷ digits ∷ [] → IsInRange CAPACITY digits capacity → 0 < capacity
     → record {
       at = behind_cap (length (map fresh caps) + 1) count;
@@ -163,7 +165,7 @@ capacity_found : (v : Version) (count : ℕ) (caps : List ℕ) (ps : List (List 
     → CapacityTaken v count caps ps after capacity
 capacity_found v count caps ps digits capacity after shape range some is = grind (arith, length-map, map_push)
 
-pub capacity_line_taken : (v : Version) (at : NextLine) (count : ℕ) (caps : List ℕ) (ps : List (List ℕ)) (after : Progress)
+pub capacity_line_taken : (v : Version) (at : NextLine) (count : ℕ) (caps : List ℕ) (ps : List (List ℕ)) (after : TextProgress)
     → capacity_line count ps (opened v at caps) ≡ Ok after
     → (capacity : ℕ) × CapacityTaken v count caps ps after capacity
 unfolding capacity_line

@@ -34,9 +34,9 @@ read_more xs ys at n mid now front read = record {
 }
 
 -- what stands behind the first `count` bytes is moved to the front
-pub moved : (xs : List ℕ) (filled count : ℕ) → count ≤ length (take filled xs) → filled ≤ length xs
+pub bytes_moved : (xs : List ℕ) (filled count : ℕ) → count ≤ length (take filled xs) → filled ≤ length xs
     → take (filled - count) (paste xs 0 (drop count xs) (filled - count)) ≡ drop count (take filled xs)
-moved xs filled count few inside =
+bytes_moved xs filled count few inside =
     let within : count ≤ filled = omega (arith, length-take filled xs) in
     let parts : filled ≡ count + (filled - count) = omega arith in
     let rest : filled - count ≤ length (drop count xs) = omega (arith, length-drop count xs) in
@@ -86,10 +86,10 @@ one_taken old part now new rest line behind taken is stepped next fault =
     }
 
 -- a line with a fault
-pub refused : (old : TextJudge) (part : List ℕ) (now new : TextJudge) (rest line behind : List ℕ) (reason : Reason) → IsTakenTo old part now rest
+pub faulty_line_refused : (old : TextJudge) (part : List ℕ) (now new : TextJudge) (rest line behind : List ℕ) (reason : Reason) → IsTakenTo old part now rest
     → IsFirstLine rest line behind → step (progress_of now.judge) line ≡ Err reason → new.line ≡ now.line → new.fault ≡ Some reason
     → (more : List ℕ) → verdict_behind old (part ++ more) ≡ verdict_behind new (drop (length part) part ++ more)
-refused old part now new rest line behind reason taken is stepped same fault more =
+faulty_line_refused old part now new rest line behind reason taken is stepped same fault more =
     taken.judged more ∙ live_verdict now (rest ++ more) taken.live
     ∙ line_refused (progress_of now.judge) now.line (rest ++ more) line (behind ++ more) reason (first_line rest line behind more is) stepped
     ∙ ap (λ n. No n reason) (sym same) ∙ (rw fault refl)

@@ -3,7 +3,7 @@ use Rattle.std.proofs.Common.{◌≡◌, ℕ, ◌<◌, ◌≤◌, ◌^◌, Bool,
 use Rattle.std.{proofs.lemmas.Slice.Eq.bytes_eq-Decides, specs.Prelude.decimal}
 use Rattle.event_log.{specs.{Digits.{is_number, number_to}, Reading.{◌>>=◌}}, proofs.DigitsLemmas.{decimal-spelled, is_number-spelled, number_to-decimal}}
 use Rattle.event_log.proofs.DigitsLemmas.{number_to-spelling, number_to-Some}
-use Rattle.tracer.specs.{declared.verdicts.Reason.Reason, Judging.{or_reason, piece_at, word_at, digits_at, ended, or_range, in_range, is_just, is_value}}
+use Rattle.tracer.specs.{declared.verdicts.Reason.Reason, Judging.{or_reason, piece_at, expected_word, digits_at, ended, or_range, in_range, is_just, is_value}}
 
 -- the value of a step without a fault
 pub bind_ok : {A B : Type 0} (r : Result A Reason) (f : A → Result B Reason) (y : B) → (r >>= f) ≡ Ok y → (x : A) × (r ≡ Ok x) × (f x ≡ Ok y)
@@ -23,7 +23,7 @@ same_ok x y e = cc
 pub piece_taken : (ps : List (List ℕ)) (x : List ℕ × List (List ℕ)) → piece_at ps ≡ Ok x → ps ≡ x.0 ∷ x.1
 piece_taken ps x e = grind arith
 
-pub word_taken : (w : List ℕ) (ps rest : List (List ℕ)) → word_at w ps ≡ Ok rest → ps ≡ w ∷ rest
+pub word_taken : (w : List ℕ) (ps rest : List (List ℕ)) → expected_word w ps ≡ Ok rest → ps ≡ w ∷ rest
 word_taken w ps rest e = grind (arith, bytes_eq-Decides)
 
 pub digits_taken : (ps : List (List ℕ)) (x : List ℕ × List (List ℕ)) → digits_at ps ≡ Ok x → ps ≡ x.0 ∷ x.1

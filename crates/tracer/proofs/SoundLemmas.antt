@@ -2,21 +2,22 @@
 use Rattle.std.proofs.Common.{◌≡◌, inl, inr, ℕ, ◌+◌, ◌<◌, ◌≤◌, ◌==◌, ◌&&◌, Bool, true, false, cond, List, [], ◌∷◌, ◌++◌, length, drop, map, Result, Ok, Err}
 use Rattle.std.proofs.{Common.{refl, sym, ap, subst, ◌∙◌, append_assoc, eqb-true, ltb-true, ltb-false, arith}, lemmas.List.{append-nil, length_push}}
 use Rattle.std.proofs.lemmas.List.{length-set, length-map, drop_more, drop_all, nil_from_length, Concat.flat_map-append, Splits.join_with_byte-slice_split}
-use Rattle.{std.specs.{Prelude.nat_lt, List.{AllByRecursion, flat_map, join_with_byte}}, event_log.specs.{Messages.Message, declared.ids.TheConstants.BUFFERS}}
-use Rattle.event_log.specs.{declared.{ids.TheConstants.ENTRIES, entries.Entry.Entry}, Buffers.{items_of, empty_buffers, IsCapacity}, Runs.{IsNext, after_entry}}
-use Rattle.{event_log.{specs.Runs.{IsRunFrom, IsRun}, proofs.Streams.taken_put}, tracer.specs.declared.verdicts.{Reason.Reason, Verdict.Verdict}}
-use Rattle.tracer.specs.{declared.{verdicts.Verdict.TheVariants.{Yes, No}, versions.Version.{Version, TheVariants.One}}, Versions.{covers, version_of_entry}}
-use Rattle.tracer.specs.{Versions.{version_from, version_of}, Verdicts.IsTraceOfRun, Judging.{Progress, opening, step, after_line, line_pieces, lines_in}}
-use Rattle.tracer.specs.{Judging.{verdict_from, verdict_of, head_line, end_line, count_line, capacity_line, entries_line, left_line}, TraceText.text_line}
-use Rattle.tracer.specs.TraceText.{head_pieces, count_pieces, cap_pieces, entry_pieces, left_pieces, end_pieces, numbered, lines_of, spelling, IsEntryOf}
-use Rattle.tracer.{specs.TraceText.{IsSpellable, AreItemsOf}, proofs.{KnownLemmas.known_fresh_from, EntryLemmas.progress, StepLemmas.left_line_taken}}
-use Rattle.tracer.proofs.{StepLemmas.entries_taken, VersionLemmas.{covers_first_one, covers_same, covers_both, version_more}, OpeningLemmas.head_taken}
-use Rattle.tracer.proofs.OpeningLemmas.{end_taken, count_line_taken, opened, behind_cap, capacity_line_taken}
+use Rattle.std.specs.{Prelude.nat_lt, List.{AllByRecursion, flat_map, join_with_byte}}
+use Rattle.event_log.specs.{Messages.Message, declared.{ids.TheConstants.{BUFFERS, ENTRIES}, entries.Entry.Entry}, Buffers.{items_of, empty_buffers}}
+use Rattle.event_log.{specs.{Buffers.IsCapacity, Runs.{IsNext, after_entry, IsRunFrom, IsRun}}, proofs.Streams.taken_put}
+use Rattle.tracer.specs.declared.{verdicts.{Reason.Reason, Verdict.{Verdict, TheVariants.{Yes, No}}}, versions.Version.{Version, TheVariants.One}}
+use Rattle.tracer.specs.{Versions.{covers, version_of_entry, version_from, version_of}, Verdicts.IsTraceOfRun, Judging.{TextProgress, text_start, step}}
+use Rattle.tracer.specs.Judging.{after_line, line_pieces, lines_in, verdict_from, verdict_of, head_line, end_line, count_line, capacity_line, entries_line}
+use Rattle.tracer.specs.{Judging.left_line, TraceText.{text_line, head_pieces, count_pieces, cap_pieces, entry_pieces, left_pieces, end_pieces, numbered}}
+use Rattle.tracer.{specs.TraceText.{lines_of, spelling, IsEntryOf, IsSpellable, AreItemsOf}, proofs.{KnownLemmas.known_fresh_from, EntryLemmas.progress}}
+use Rattle.tracer.proofs.{StepLemmas.{left_line_taken, entries_taken}, VersionLemmas.{covers_first_one, covers_same, covers_both, version_more}}
+use Rattle.tracer.proofs.OpeningLemmas.{head_taken, end_taken, count_line_taken, opened, behind_cap, capacity_line_taken}
 use Rattle.tracer.specs.declared.next_lines.NextLine.TheVariants as wants
 
 -- ---- one line
 
-went : (r : Result Progress Reason) (n : ℕ) (next : Progress → Verdict) → after_line r n next ≡ Yes → (after : Progress) × (r ≡ Ok after) × (next after ≡ Yes)
+went : (r : Result TextProgress Reason) (n : ℕ) (next : TextProgress → Verdict) → after_line r n next ≡ Yes
+    → (after : TextProgress) × (r ≡ Ok after) × (next after ≡ Yes)
 went (Ok after) n next e = (after, refl, e)
 went (Err reason) n next e = absurd (cc)
 
@@ -46,10 +47,10 @@ unfolding step
 sound_end v low buffers entries n [] e = absurd (cc)
 sound_end v low buffers entries n (rest ∷ []) e = absurd (cc)
 sound_end v low buffers entries n (line ∷ next ∷ more) e =
-    let s : Progress = record { at = wants.End; version = v; lowest = low; buffers = buffers; entries = entries } in
+    let s : TextProgress = record { at = wants.End; version = v; lowest = low; buffers = buffers; entries = entries } in
     let go = went (end_line line s) n (λ after. verdict_from after (n + 1) (next ∷ more)) e in
     let word = end_taken line s go.0 go.1 in
-    let rest = done_end v low buffers entries (n + 1) (next ∷ more) (subst (λ (a : Progress). verdict_from a (n + 1) (next ∷ more) ≡ Yes) word.2 go.2) in
+    let rest = done_end v low buffers entries (n + 1) (next ∷ more) (subst (λ (a : TextProgress). verdict_from a (n + 1) (next ∷ more) ≡ Yes) word.2 go.2) in
     (rw (word.0, rest) refl, word.1)
 
 -- ---- what is left
@@ -97,7 +98,7 @@ sound_left v b caps earlier contents n (line ∷ next ∷ more) long e =
     let taken = left_line_taken v (wants.Contents b) b caps earlier contents (line_pieces line) go.0 go.1 in
     let behind = behind_cases v b caps earlier contents (n + 1) (next ∷ more) (nat_lt (b + 1) (length caps)) refl long
     (λ _ again. sound_left v (b + 1) caps earlier contents (n + 1) (next ∷ more) long again)
-    (subst (λ (a : Progress). verdict_from a (n + 1) (next ∷ more) ≡ Yes) taken.is go.2) in
+    (subst (λ (a : TextProgress). verdict_from a (n + 1) (next ∷ more) ≡ Yes) taken.is go.2) in
     left_text v (version_of earlier) b contents line (line_pieces line) next more refl (let h = taken.known in omega arith) taken.spelled taken.small behind
 
 -- ---- the entries
@@ -146,13 +147,13 @@ sound_entries v caps earlier contents n (line ∷ next ∷ more) few long high e
           (sound_entries v caps (earlier ++ entry.0 ∷ []) (after_entry contents entry.0) (n + 1) (next ∷ more)
           (let room = entry.5 in omega (arith, length_push earlier entry.0)) (length-set contents entry.0.buffer.0 _ ∙ long)
           (rw (version_more earlier entry.0) (covers_both v (version_of earlier) (version_of_entry entry.0) high entry.3))
-          (subst (λ (a : Progress). verdict_from a (n + 1) (next ∷ more) ≡ Yes) entry.6 go.2))
+          (subst (λ (a : TextProgress). verdict_from a (n + 1) (next ∷ more) ≡ Yes) entry.6 go.2))
       | inr left ↦
           judged_left v caps earlier contents (line ∷ next ∷ more) few long high
           (left_text v (version_of earlier) 0 contents line (line_pieces line) next more refl (let h = left.known in omega arith) left.spelled left.small
           (behind_cases v 0 caps earlier contents (n + 1) (next ∷ more) (nat_lt (0 + 1) (length caps)) refl long
           (λ _ again. sound_left v (0 + 1) caps earlier contents (n + 1) (next ∷ more) long again)
-          (subst (λ (a : Progress). verdict_from a (n + 1) (next ∷ more) ≡ Yes) left.is go.2)))
+          (subst (λ (a : TextProgress). verdict_from a (n + 1) (next ∷ more) ≡ Yes) left.is go.2)))
     ]
 
 -- ---- the capacities
@@ -209,7 +210,7 @@ sound_caps v count caps n (line ∷ next ∷ more) lt e =
     let k = taken.0 in
     let longer : length (caps ++ k ∷ []) ≡ length caps + 1 = length_push caps k in
     let judged : verdict_from (opened v (behind_cap (length (caps ++ k ∷ [])) count) (caps ++ k ∷ [])) (n + 1) (next ∷ more) ≡ Yes =
-    rw longer (subst (λ (a : Progress). verdict_from a (n + 1) (next ∷ more) ≡ Yes) taken.1.is go.2) in
+    rw longer (subst (λ (a : TextProgress). verdict_from a (n + 1) (next ∷ more) ≡ Yes) taken.1.is go.2) in
     caps_more v count caps line next more k taken.1.spelled taken.1.small
     (caps_cases v count (caps ++ k ∷ []) (n + 1) (next ∷ more) (nat_lt (length (caps ++ k ∷ [])) count) refl (omega arith)
     (λ less again. sound_caps v count (caps ++ k ∷ []) (n + 1) (next ∷ more) less again) judged)
@@ -238,18 +239,18 @@ tail_of v line next more n caps rest es left spelled some few counted small text
       ∙ rw (counted, text, judged.text) (ap (λ (t : List ℕ). text_line (count_pieces n) ++ t) (sym (flat_map-append text_line (numbered cap_pieces 0 caps) _))),
 )
 
-sound_count : (v : Version) (n : ℕ) (lines : List (List ℕ)) → verdict_from (record opening { at = wants.Count; version = v }) n lines ≡ Yes
+sound_count : (v : Version) (n : ℕ) (lines : List (List ℕ)) → verdict_from (record text_start { at = wants.Count; version = v }) n lines ≡ Yes
     → IsTail v (join_with_byte 10 lines)
 unfolding step
 sound_count v n [] e = absurd (cc)
 sound_count v n (rest ∷ []) e = absurd (cc)
 sound_count v n (line ∷ next ∷ more) e =
-    let s : Progress = record opening { at = wants.Count; version = v } in
+    let s : TextProgress = record text_start { at = wants.Count; version = v } in
     let go = went (count_line (line_pieces line) s) n (λ after. verdict_from after (n + 1) (next ∷ more)) e in
     let taken = count_line_taken (line_pieces line) s go.0 go.1 in
     let count = taken.0 in
     let judged : verdict_from (opened v (wants.Capacities count) []) (n + 1) (next ∷ more) ≡ Yes =
-    subst (λ (a : Progress). verdict_from a (n + 1) (next ∷ more) ≡ Yes) taken.1.is go.2 in
+    subst (λ (a : TextProgress). verdict_from a (n + 1) (next ∷ more) ≡ Yes) taken.1.is go.2 in
     let some : 0 < count = (let h = taken.1.some in omega arith) in
     let all = sound_caps v count [] (n + 1) (next ∷ more) some judged in
     let caps = all.0 in
@@ -257,7 +258,7 @@ sound_count v n (line ∷ next ∷ more) e =
     let opens : opened v wants.Entries caps ≡ progress v wants.Entries caps [] (empty_buffers caps) =
     ap (λ buffers. record { at = wants.Entries; version = v; lowest = One; buffers = buffers; entries = 0 }) (sym (known_fresh_from 0 caps caps)) in
     let entries = sound_entries v caps [] (empty_buffers caps) all.1 all.2 (omega arith) long (covers_first_one v)
-    (subst (λ (a : Progress). verdict_from a all.1 all.2 ≡ Yes) opens all.3.judged) in
+    (subst (λ (a : TextProgress). verdict_from a all.1 all.2 ≡ Yes) opens all.3.judged) in
     tail_of v line next more count caps all.2 entries.0 entries.1 taken.1.spelled taken.1.some taken.1.few (let h = all.3.counted in omega arith) all.3.small
     all.3.text entries.2
 
@@ -266,14 +267,14 @@ head_text : (v : Version) (es : List Entry) (line rest body : List ℕ) → line
 head_text v es line rest body e1 e2 e3 =
     rw (e1, e3, ← e2) (sym (append_assoc (join_with_byte 32 (head_pieces v)) (10 ∷ []) body))
 
-sound_lines : (n : ℕ) (lines : List (List ℕ)) → verdict_from opening n lines ≡ Yes → IsTraceOfRun (join_with_byte 10 lines)
+sound_lines : (n : ℕ) (lines : List (List ℕ)) → verdict_from text_start n lines ≡ Yes → IsTraceOfRun (join_with_byte 10 lines)
 unfolding step spelling lines_of
 sound_lines n [] e = absurd (cc)
 sound_lines n (rest ∷ []) e = absurd (cc)
 sound_lines n (line ∷ next ∷ more) e =
-    let go = went (head_line line opening) n (λ after. verdict_from after (n + 1) (next ∷ more)) e in
-    let head = head_taken line opening go.0 go.1 in
-    let tail = sound_count head.0 (n + 1) (next ∷ more) (subst (λ (a : Progress). verdict_from a (n + 1) (next ∷ more) ≡ Yes) head.2 go.2) in (
+    let go = went (head_line line text_start) n (λ after. verdict_from after (n + 1) (next ∷ more)) e in
+    let head = head_taken line text_start go.0 go.1 in
+    let tail = sound_count head.0 (n + 1) (next ∷ more) (subst (λ (a : TextProgress). verdict_from a (n + 1) (next ∷ more) ≡ Yes) head.2 go.2) in (
       tail.0,
       tail.1,
       tail.2,

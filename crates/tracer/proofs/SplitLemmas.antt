@@ -3,7 +3,7 @@ use Rattle.std.proofs.Common.{◌≡◌, ℕ, ◌+◌, ◌<◌, ◌≤◌, ◌^�
 use Rattle.std.proofs.{Common.{append_assoc, eq-eqb, arith, take_all}, lemmas.{Bool.{Decides.nat_tests, and_parts}, List.Elements.All-from_recursion}}
 use Rattle.std.{proofs.lemmas.List.{Splits.{slice_split_at, slice_split_none}, drop_more, take-append-drop}, specs.{Prelude.decimal, Char.is_ascii_digit}}
 use Rattle.{std.specs.{Str.all_ascii_digits, List.{AllByRecursion, slice_split, join_with_byte}}, event_log.proofs.DigitsLemmas.decimal-spelled}
-use Rattle.tracer.{specs.{TraceText.text_line, Judging.{Progress, line_pieces, lines_in, step, verdict_from}}, proofs.VerdictLemmas.line_taken}
+use Rattle.tracer.{specs.{TraceText.text_line, Judging.{TextProgress, line_pieces, lines_in, step, verdict_from}}, proofs.VerdictLemmas.line_taken}
 
 -- no byte of the text is this one
 abbrev pub Lacks : ℕ → List ℕ → Type 0
@@ -72,6 +72,6 @@ line_again p ps rest line =
     ap lines_in text ∙ split_behind 10 (join_with_byte 32 (p ∷ ps)) rest (join_lacks 10 32 (p ∷ ps) refl line.feeds)
 
 -- a line that is taken
-pub line_read : (s after : Progress) (n : ℕ) (p : List ℕ) (ps : List (List ℕ)) (rest : List ℕ) → IsLine (p ∷ ps)
+pub line_read : (s after : TextProgress) (n : ℕ) (p : List ℕ) (ps : List (List ℕ)) (rest : List ℕ) → IsLine (p ∷ ps)
     → step s (join_with_byte 32 (p ∷ ps)) ≡ Ok after → verdict_from s n (lines_in (text_line (p ∷ ps) ++ rest)) ≡ verdict_from after (n + 1) (lines_in rest)
 line_read s after n p ps rest line taken = line_taken s after n (text_line (p ∷ ps) ++ rest) (join_with_byte 32 (p ∷ ps)) rest (line_again p ps rest line) taken

@@ -2,14 +2,15 @@
 use Rattle.std.proofs.Common.{◌==◌, ◌-◌, ◌≡◌, ℕ, ◌+◌, ◌<◌, ◌≤◌, ◌^◌, Bool, true, false, cond, List, [], ◌∷◌, ◌++◌, length, get_or, map, Option, Some, None, Ok}
 use Rattle.std.proofs.{Common.{refl, sym, ap, ◌∙◌, inl, inr, ◌⊎◌, lt-ltb, ltb-true, lit<, arith}, lemmas.{List.length_push, Slice.Eq.bytes_eq-Decides}}
 use Rattle.std.{proofs.lemmas.{Option.slice_get_within, Bool.and_parts}, specs.{Prelude.{decimal, codes, nat_lt, slice_get}, Str.bytes_eq, List.AllByRecursion}}
-use Rattle.{std.specs.List.{list_all, join_with_byte}, event_log.specs.{Messages.Message, declared.ids.TheConstants.{CPUS, THREADS, BUFFERS, ENTRIES}}}
-use Rattle.event_log.specs.{declared.entries.{Entry.Entry, Kind.{Kind, TheVariants.{Close, RecvClosed}}}, Buffers.items_of, Runs.{IsNext, after_entry}}
+use Rattle.std.specs.List.{list_all, join_with_byte}
+use Rattle.event_log.specs.{Messages.Message, declared.{ids.TheConstants.{CPUS, THREADS, BUFFERS, ENTRIES}, entries.{Entry.Entry, Kind.Kind}}}
+use Rattle.event_log.specs.{declared.entries.Kind.TheVariants.{Close, RecvClosed}, Buffers.items_of, Runs.{IsNext, after_entry}}
 use Rattle.tracer.specs.declared.{verdicts.Reason.TheVariants.{Spelling, Range, Left}, next_lines.NextLine.NextLine, versions.Version.Version}
 use Rattle.tracer.specs.{TraceText.{kind_word, message_text, value_piece, entry_pieces, left_pieces, IsValueOf, IsEntryOf, AreItemsOf}, Versions.{covers, both}}
-use Rattle.tracer.specs.{Versions.{version_of_kind, version_of_message, version_of_entry, version_of}, Judging.{Digits, Seen, Progress, or_reason, piece_at}}
-use Rattle.tracer.specs.Judging.{word_at, is_value, is_message, is_within, are_values, is_left, is_of_version, spells_message, spells_value, entry_digits}
-use Rattle.tracer.{specs.Judging.{entry_in, entry_among, entry_line, left_digits, left_line, entries_line, step}, proofs.SplitLemmas.{Lacks, IsLine}}
-use Rattle.tracer.proofs.{SplitLemmas.{decimal_lacks, pieces_again}, ReadLemmas.{bind_ok, wanted_ok, same_ok, piece_taken, word_taken, is_value_taken}}
+use Rattle.tracer.specs.{Versions.{version_of_kind, version_of_message, version_of_entry, version_of}, Judging.{Digits, Seen, TextProgress, or_reason}}
+use Rattle.tracer.specs.Judging.{piece_at, expected_word, is_value, is_message, is_within, are_values, is_left, is_of_version, spells_message, spells_value}
+use Rattle.tracer.{specs.Judging.{entry_digits, entry_in, entry_among, entry_line, left_digits, left_line, entries_line, step}, proofs.SplitLemmas.Lacks}
+use Rattle.tracer.proofs.{SplitLemmas.{IsLine, decimal_lacks, pieces_again}, ReadLemmas.{bind_ok, wanted_ok, same_ok, piece_taken, word_taken, is_value_taken}}
 use Rattle.tracer.proofs.{ReadLemmas.is_value_again, VersionLemmas.{covers_both, version_more}, KnownLemmas.{same_some, seen_of, known_from, length-known_from}}
 use Rattle.tracer.proofs.{KnownLemmas.{slice_get-known, among_again, among_taken}, EntryLemmas.{progress, behind_e, shape_of, IsSmall, of_version_again}}
 use Rattle.tracer.proofs.{EntryLemmas.{entry_digits_taken, entry_digits_again, entry_in_taken, entry_in_again}, MessageLemmas.same_pieces}
@@ -66,7 +67,7 @@ entry_line_again v at caps earlier contents e few room long small high next =
       version_more earlier e,
     ) refl
 
-entries_e : (ps : List (List ℕ)) (s : Progress) → entries_line (codes "e" ∷ ps) s ≡ entry_line ps s
+entries_e : (ps : List (List ℕ)) (s : TextProgress) → entries_line (codes "e" ∷ ps) s ≡ entry_line ps s
 unfolding entries_line
 entries_e ps s = refl
 
@@ -83,7 +84,7 @@ step_entry v caps earlier contents e few room long small high next =
 
 -- what it says that an entry was taken
 pub record EntryTaken (v : Version) (at : NextLine) (caps : List ℕ) (earlier : List Entry) (contents : List (List Message)) (ps : List (List ℕ))
-    (after : Progress)
+    (after : TextProgress)
     (e : Entry) : Type 0 where
   pub spelled : ps ≡ behind_e e
   pub small : IsEntryOf (length caps) e
@@ -93,7 +94,7 @@ pub record EntryTaken (v : Version) (at : NextLine) (caps : List ℕ) (earlier :
   pub is : after ≡ progress v at caps (earlier ++ e ∷ []) (after_entry contents e)
 
 entry_found : (v : Version) (at : NextLine) (caps : List ℕ) (earlier : List Entry) (contents : List (List Message)) (ps : List (List ℕ)) (digits : Digits)
-    (e : Entry) (buffers : List Seen) (after : Progress) → length contents ≡ length caps → ps ≡ shape_of digits → IsSmall v digits e
+    (e : Entry) (buffers : List Seen) (after : TextProgress) → length contents ≡ length caps → ps ≡ shape_of digits → IsSmall v digits e
     → covers v (version_of_kind digits.kind) ≡ true → length earlier < ENTRIES
     → entry_among e (known_from earlier contents 0 caps) ≡ Ok buffers
     → record { at = at; version = v; lowest = both (version_of earlier) (version_of_entry e); buffers = buffers; entries = length earlier + 1 } ≡ after
@@ -110,7 +111,8 @@ entry_found v at caps earlier contents ps digits e buffers after long shape smal
       is = sym is ∙ rw (taken.1, length_push earlier e, version_more earlier e) refl;
     }
 
-entry_line_taken : (v : Version) (at : NextLine) (caps : List ℕ) (earlier : List Entry) (contents : List (List Message)) (ps : List (List ℕ)) (after : Progress)
+entry_line_taken : (v : Version) (at : NextLine) (caps : List ℕ) (earlier : List Entry) (contents : List (List Message)) (ps : List (List ℕ))
+    (after : TextProgress)
     → length contents ≡ length caps → entry_line ps (progress v at caps earlier contents) ≡ Ok after
     → (e : Entry) × EntryTaken v at caps earlier contents ps after e
 unfolding entry_line
@@ -181,7 +183,7 @@ left_digits_taken : (v : Version) (b : ℕ) (ps values : List (List ℕ)) → le
     → (ps ≡ codes "left" ∷ decimal b ∷ values) × (list_all (spells_message v) values ≡ true)
 unfolding left_digits
 left_digits_taken v b ps values taken =
-    let word = bind_ok (word_at (codes "left") ps) _ values taken in
+    let word = bind_ok (expected_word (codes "left") ps) _ values taken in
     let number = bind_ok (piece_at word.0) _ values word.2 in
     let value = wanted_ok (is_value number.0.0 b) Spelling (or_reason (list_all (spells_message v) number.0.1) Spelling (Ok number.0.1)) values number.2 in
     let rest = wanted_ok (list_all (spells_message v) number.0.1) Spelling (Ok number.0.1) values value.1 in
@@ -192,7 +194,7 @@ left_digits_taken v b ps values taken =
 
 -- what it says that what is left of buffer b was taken
 pub record LeftTaken (v : Version) (b : ℕ) (caps : List ℕ) (earlier : List Entry) (contents : List (List Message)) (ps : List (List ℕ))
-    (after : Progress) : Type 0 where
+    (after : TextProgress) : Type 0 where
   pub known : b < length caps
   pub spelled : ps ≡ left_pieces b (items_of contents b)
   pub small : AreItemsOf v (items_of contents b)
@@ -204,7 +206,7 @@ holds_of values None e = absurd (cc)
 holds_of values (Some seen) e = (seen, refl, e)
 
 left_found : (v : Version) (at : NextLine) (b : ℕ) (caps : List ℕ) (earlier : List Entry) (contents : List (List Message)) (ps values : List (List ℕ))
-    (after : Progress) (seen : Seen) → ps ≡ codes "left" ∷ decimal b ∷ values → list_all (spells_message v) values ≡ true
+    (after : TextProgress) (seen : Seen) → ps ≡ codes "left" ∷ decimal b ∷ values → list_all (spells_message v) values ≡ true
     → slice_get (known_from earlier contents 0 caps) b ≡ Some seen → are_values values seen.items ≡ true
     → record {
       at = cond (nat_lt (b + 1) (length (known_from earlier contents 0 caps))) (wants.Contents (b + 1)) wants.End;
@@ -227,12 +229,12 @@ left_found v at b caps earlier contents ps values after seen shape spells found 
     }
 
 pub left_line_taken : (v : Version) (at : NextLine) (b : ℕ) (caps : List ℕ) (earlier : List Entry) (contents : List (List Message)) (ps : List (List ℕ))
-    (after : Progress)
+    (after : TextProgress)
     → left_line b ps (progress v at caps earlier contents) ≡ Ok after → LeftTaken v b caps earlier contents ps after
 unfolding left_line
 left_line_taken v at b caps earlier contents ps after taken =
     let s = progress v at caps earlier contents in
-    let next : Progress = record s { at = cond (nat_lt (b + 1) (length s.buffers)) (wants.Contents (b + 1)) wants.End } in
+    let next : TextProgress = record s { at = cond (nat_lt (b + 1) (length s.buffers)) (wants.Contents (b + 1)) wants.End } in
     let digits = bind_ok (left_digits v b ps) _ after taken in
     let range = wanted_ok (list_all is_within digits.0) Range (or_reason (is_left digits.0 (slice_get s.buffers b)) Left (Ok next)) after digits.2 in
     let left = wanted_ok (is_left digits.0 (slice_get s.buffers b)) Left (Ok next) after range.1 in
@@ -250,7 +252,7 @@ left_is_line v b items fits small = record {
   feeds = ((refl, (refl, (refl, (refl, tt)))), (decimal_lacks 10 b (lit< tt) fits, items_lack 10 v items (lit< tt) small));
 }
 
-entries_left : (ps : List (List ℕ)) (s : Progress) → entries_line (codes "left" ∷ ps) s ≡ left_line 0 (codes "left" ∷ ps) s
+entries_left : (ps : List (List ℕ)) (s : TextProgress) → entries_line (codes "left" ∷ ps) s ≡ left_line 0 (codes "left" ∷ ps) s
 unfolding entries_line
 entries_left ps s = refl
 
@@ -277,7 +279,7 @@ step_left v b caps earlier contents lt few small =
     (pieces_again (codes "left") (decimal b ∷ map message_text (items_of contents b)) (left_is_line v b (items_of contents b) fits small))
     ∙ left_line_again v (wants.Contents b) b caps earlier contents lt fits small
 
-entries_cases : (v : Version) (caps : List ℕ) (earlier : List Entry) (contents : List (List Message)) (p : List ℕ) (ps : List (List ℕ)) (after : Progress)
+entries_cases : (v : Version) (caps : List ℕ) (earlier : List Entry) (contents : List (List Message)) (p : List ℕ) (ps : List (List ℕ)) (after : TextProgress)
     → length contents ≡ length caps → (first : Bool) → bytes_eq p (codes "e") ≡ first
     → cond first (entry_line ps (progress v wants.Entries caps earlier contents)) (left_line 0 (p ∷ ps)
     (progress v wants.Entries caps earlier contents)) ≡ Ok after
@@ -291,7 +293,7 @@ entries_cases v caps earlier contents p ps after long true first taken =
 entries_cases v caps earlier contents p ps after long false first taken = inr (left_line_taken v wants.Entries 0 caps earlier contents (p ∷ ps) after taken)
 
 -- a line behind the entries is an entry, or what is left of the first buffer
-pub entries_taken : (v : Version) (caps : List ℕ) (earlier : List Entry) (contents : List (List Message)) (ps : List (List ℕ)) (after : Progress)
+pub entries_taken : (v : Version) (caps : List ℕ) (earlier : List Entry) (contents : List (List Message)) (ps : List (List ℕ)) (after : TextProgress)
     → length contents ≡ length caps → entries_line ps (progress v wants.Entries caps earlier contents) ≡ Ok after
     → ((e : Entry) × (ps ≡ entry_pieces e) × IsEntryOf (length caps) e × (covers v (version_of_entry e) ≡ true)
     × IsNext caps earlier contents e × (length earlier < ENTRIES)

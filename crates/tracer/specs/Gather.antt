@@ -58,9 +58,9 @@ abbrev pub next_entry : List (List Entry) → List ℕ → ℕ → Option Entry
 next_entry traces taken k = slice_get (slice_index_or traces k []) (slice_index taken k)
 
 -- the entry has the op number that its buffer waits for, by the number of entries taken of each buffer
-abbrev pub IsDue : List ℕ → Entry → Type 0
-IsDue counts e = e.op ≡ slice_index counts e.buffer.0
+abbrev pub IsNextOp : List ℕ → Entry → Type 0
+IsNextOp counts e = e.op ≡ slice_index counts e.buffer.0
 
 -- of the first n traces none has a next entry that is due
 abbrev pub NoneDueBelow : List (List Entry) → List ℕ → List ℕ → ℕ → Type 0
-NoneDueBelow traces taken counts n = (j : ℕ) (e : Entry) → j < n → next_entry traces taken j ≡ Some e → ¬ IsDue counts e
+NoneDueBelow traces taken counts n = (j : ℕ) (e : Entry) → j < n → next_entry traces taken j ≡ Some e → ¬ IsNextOp counts e

@@ -31,8 +31,8 @@ piece_at [] = Err Spelling
 piece_at (piece ∷ rest) = Ok (piece, rest)
 
 -- this word, and the pieces behind it
-abbrev pub word_at : List ℕ → List (List ℕ) → Result (List (List ℕ)) Reason
-word_at word pieces = piece_at pieces >>= λ p. or_reason (bytes_eq p.0 word) Spelling (Ok p.1)
+abbrev pub expected_word : List ℕ → List (List ℕ) → Result (List (List ℕ)) Reason
+expected_word word pieces = piece_at pieces >>= λ p. or_reason (bytes_eq p.0 word) Spelling (Ok p.1)
 
 -- a piece that spells a number of any size
 abbrev pub digits_at : List (List ℕ) → Result (List ℕ × List (List ℕ)) Reason
@@ -76,15 +76,15 @@ fresh capacity = record { capacity = capacity; items = []; ops = 0; sends = 0; r
 
 -- where the text stands: which line may come, the version of the head, the lowest version that can spell the entries so far, the buffers,
 -- and how many entries there were
-pub record Progress : Type 0 where
+pub record TextProgress : Type 0 where
   pub at : NextLine
   pub version : Version
   pub lowest : Version
   pub buffers : List Seen
   pub entries : ℕ
 
-abbrev pub opening : Progress
-opening = record { at = wants.Head; version = One; lowest = One; buffers = []; entries = 0 }
+abbrev pub text_start : TextProgress
+text_start = record { at = wants.Head; version = One; lowest = One; buffers = []; entries = 0 }
 
 -- whether the buffer was closed
 abbrev pub was_closed : Seen → Bool
@@ -101,8 +101,8 @@ abbrev pub bumped : Bool → ℕ → ℕ
 bumped counts n = if counts then n + 1 else n
 
 -- a buffer behind an effect of this group that leaves these items
-abbrev pub counted : Group → List Message → Seen → Seen
-counted group items seen = record {
+abbrev pub seen_behind : Group → List Message → Seen → Seen
+seen_behind group items seen = record {
   capacity = seen.capacity;
   items = items;
   ops = seen.ops + 1;
@@ -112,8 +112,8 @@ counted group items seen = record {
 }
 
 -- a send wants room
-abbrev pub put_in : Message → ℕ → List Message → Result (List Message) Reason
-put_in value capacity items = or_reason (nat_lt (length items) capacity) Full (Ok (items ++ value ∷ []))
+abbrev pub put_if_room : Message → ℕ → List Message → Result (List Message) Reason
+put_if_room value capacity items = or_reason (nat_lt (length items) capacity) Full (Ok (items ++ value ∷ []))
 
 -- a receive wants its value as the first item
 abbrev pub take_first : Message → List Message → Result (List Message) Reason
@@ -122,7 +122,7 @@ take_first value (first ∷ rest) = or_reason (bytes_eq first value) WrongValue 
 
 -- the items that an effect leaves, of a buffer that is closed or not
 abbrev pub item_effect : Kind → Message → Bool → ℕ → List Message → Result (List Message) Reason
-item_effect Send value closed capacity items = if closed then Err CloseState else put_in value capacity items
+item_effect Send value closed capacity items = if closed then Err CloseState else put_if_room value capacity items
 item_effect Recv value closed capacity items = take_first value items
 item_effect Close value closed capacity items = Ok items
 item_effect SendClosed value closed capacity items = or_reason closed CloseState (Ok items)
@@ -132,7 +132,7 @@ item_effect RecvClosed value closed capacity items = or_reason closed CloseState
 unfoldable pub entry_on : Entry → Seen → Result Seen Reason
 entry_on e seen = or_reason (e.op == seen.ops) Op
     (or_reason (e.pos == next_pos (group_of e.kind) seen) Pos
-    (item_effect e.kind e.value (was_closed seen) seen.capacity seen.items >>= λ items. Ok (counted (group_of e.kind) items seen)))
+    (item_effect e.kind e.value (was_closed seen) seen.capacity seen.items >>= λ items. Ok (seen_behind (group_of e.kind) items seen)))
 
 -- ---- the lines
 
@@ -166,12 +166,12 @@ has_message SendClosed = true
 has_message RecvClosed = false
 
 -- the parts between commas
-abbrev pub words_of : List ℕ → List (List ℕ)
-words_of piece = slice_split (λ b. b == 44) piece
+abbrev pub comma_parts : List ℕ → List (List ℕ)
+comma_parts piece = slice_split (λ b. b == 44) piece
 
 -- whether the piece spells a message, of any size, as a text of this version may
 abbrev pub spells_message : Version → List ℕ → Bool
-spells_message v piece = covers v (version_of_count (length (words_of piece))) && list_all is_number (words_of piece)
+spells_message v piece = covers v (version_of_count (length (comma_parts piece))) && list_all is_number (comma_parts piece)
 
 -- the numbers, if each of them has 64 bits
 abbrev pub numbers_in : List (List ℕ) → Result (List ℕ) Reason
@@ -180,7 +180,7 @@ numbers_in (word ∷ words) = in_range 18446744073709551615 word >>= λ n. numbe
 
 -- the message that the piece spells, if it has no more words than a message has
 abbrev pub message_in : List ℕ → Result Message Reason
-message_in piece = or_reason (nat_le (length (words_of piece)) WORDS) Range (numbers_in (words_of piece))
+message_in piece = or_reason (nat_le (length (comma_parts piece)) WORDS) Range (numbers_in (comma_parts piece))
 
 -- whether the piece spells a message of an effect of this kind, of any size, as a text of this version may
 abbrev pub spells_value : Version → Kind → List ℕ → Bool
@@ -231,7 +231,7 @@ entry_among e buffers = or_range (slice_get buffers e.buffer.0)
     >>= λ seen. entry_on e seen
     >>= λ next. Ok (slice_set buffers e.buffer.0 next)
 
-unfoldable pub entry_line : List (List ℕ) → Progress → Result Progress Reason
+unfoldable pub entry_line : List (List ℕ) → TextProgress → Result TextProgress Reason
 entry_line pieces s = entry_digits pieces
     >>= λ digits. or_reason (is_of_version s.version digits) Spelling (entry_in digits)
     >>= λ e. or_reason (nat_lt s.entries ENTRIES) Range (entry_among e s.buffers)
@@ -239,25 +239,25 @@ entry_line pieces s = entry_digits pieces
 
 -- the digits of the number of buffers
 unfoldable pub count_digits : List (List ℕ) → Result (List ℕ) Reason
-count_digits pieces = word_at (codes "buffers") pieces
+count_digits pieces = expected_word (codes "buffers") pieces
     >>= λ rest. digits_at rest
     >>= λ n. ended n.1
     >>= λ _. Ok n.0
 
-unfoldable pub count_line : List (List ℕ) → Progress → Result Progress Reason
+unfoldable pub count_line : List (List ℕ) → TextProgress → Result TextProgress Reason
 count_line pieces s = count_digits pieces
     >>= λ digits. in_range BUFFERS digits
     >>= λ count. or_reason (nat_lt 0 count) Range (Ok (record s { at = wants.Capacities count; buffers = [] }))
 
 -- the digits of the capacity of buffer b
 unfoldable pub capacity_digits : ℕ → List (List ℕ) → Result (List ℕ) Reason
-capacity_digits b pieces = word_at (codes "cap") pieces
+capacity_digits b pieces = expected_word (codes "cap") pieces
     >>= λ rest. piece_at rest
     >>= λ number. or_reason (is_value number.0 b) Spelling (digits_at number.1)
     >>= λ capacity. ended capacity.1
     >>= λ _. Ok capacity.0
 
-unfoldable pub capacity_line : ℕ → List (List ℕ) → Progress → Result Progress Reason
+unfoldable pub capacity_line : ℕ → List (List ℕ) → TextProgress → Result TextProgress Reason
 capacity_line count pieces s = capacity_digits (length s.buffers) pieces
     >>= λ digits. in_range CAPACITY digits
     >>= λ capacity. or_reason (nat_lt 0 capacity) Range
@@ -268,7 +268,7 @@ capacity_line count pieces s = capacity_digits (length s.buffers) pieces
 
 -- the pieces of the items of buffer b, in a text of this version
 unfoldable pub left_digits : Version → ℕ → List (List ℕ) → Result (List (List ℕ)) Reason
-left_digits v b pieces = word_at (codes "left") pieces
+left_digits v b pieces = expected_word (codes "left") pieces
     >>= λ rest. piece_at rest
     >>= λ number. or_reason (is_value number.0 b) Spelling (or_reason (list_all (spells_message v) number.1) Spelling (Ok number.1))
 
@@ -296,14 +296,14 @@ abbrev pub is_left : List (List ℕ) → Option Seen → Bool
 is_left values None = false
 is_left values (Some seen) = are_values values seen.items
 
-unfoldable pub left_line : ℕ → List (List ℕ) → Progress → Result Progress Reason
+unfoldable pub left_line : ℕ → List (List ℕ) → TextProgress → Result TextProgress Reason
 left_line b pieces s = left_digits s.version b pieces
     >>= λ values. or_reason (list_all is_within values) Range
     (or_reason (is_left values (slice_get s.buffers b)) Left
     (Ok (record s { at = if nat_lt (b + 1) (length s.buffers) then wants.Contents (b + 1) else wants.End })))
 
 -- a line whose first piece is `e` is an entry; any other is what is left of the first buffer
-unfoldable pub entries_line : List (List ℕ) → Progress → Result Progress Reason
+unfoldable pub entries_line : List (List ℕ) → TextProgress → Result TextProgress Reason
 entries_line pieces s = piece_at pieces >>= λ p. if bytes_eq p.0 (codes "e") then entry_line p.1 s else left_line 0 pieces s
 
 -- the version that the head names
@@ -314,25 +314,25 @@ version_in line = if bytes_eq line (codes "mctower-trace 1")
     then Ok Two
     else (if bytes_eq line (codes "mctower-trace 3") then Ok Three else Err Spelling))
 
-unfoldable pub head_line : List ℕ → Progress → Result Progress Reason
+unfoldable pub head_line : List ℕ → TextProgress → Result TextProgress Reason
 head_line line s = version_in line >>= λ v. Ok (record s { at = wants.Count; version = v })
 
 -- the last line, where no lower version than the head's can spell the text
-unfoldable pub end_line : List ℕ → Progress → Result Progress Reason
+unfoldable pub end_line : List ℕ → TextProgress → Result TextProgress Reason
 end_line line s = or_reason (bytes_eq line (codes "end")) Spelling (or_reason (covers s.lowest s.version) OfVersion (Ok (record s { at = wants.Done })))
 
 -- a line after which the text may go on, or the first reason against it
-abbrev pub line_at : NextLine → Progress → List ℕ → Result Progress Reason
-line_at wants.Head s line = head_line line s
-line_at wants.Count s line = count_line (line_pieces line) s
-line_at (wants.Capacities count) s line = capacity_line count (line_pieces line) s
-line_at wants.Entries s line = entries_line (line_pieces line) s
-line_at (wants.Contents b) s line = left_line b (line_pieces line) s
-line_at wants.End s line = end_line line s
-line_at wants.Done s line = Err Spelling
+abbrev pub judged_line : NextLine → TextProgress → List ℕ → Result TextProgress Reason
+judged_line wants.Head s line = head_line line s
+judged_line wants.Count s line = count_line (line_pieces line) s
+judged_line (wants.Capacities count) s line = capacity_line count (line_pieces line) s
+judged_line wants.Entries s line = entries_line (line_pieces line) s
+judged_line (wants.Contents b) s line = left_line b (line_pieces line) s
+judged_line wants.End s line = end_line line s
+judged_line wants.Done s line = Err Spelling
 
-unfoldable pub step : Progress → List ℕ → Result Progress Reason
-step s line = line_at s.at s line
+unfoldable pub step : TextProgress → List ℕ → Result TextProgress Reason
+step s line = judged_line s.at s line
 
 abbrev pub is_done : NextLine → Bool
 is_done wants.Done = true
@@ -345,12 +345,12 @@ is_done wants.End = false
 
 -- ---- the text
 
-abbrev pub after_line : Result Progress Reason → ℕ → (Progress → Verdict) → Verdict
+abbrev pub after_line : Result TextProgress Reason → ℕ → (TextProgress → Verdict) → Verdict
 after_line (Ok s) n next = next s
 after_line (Err reason) n next = No n reason
 
 -- the lines from line n on; the last of them is what stands behind the last line feed
-abbrev pub verdict_from : Progress → ℕ → List (List ℕ) → Verdict
+abbrev pub verdict_from : TextProgress → ℕ → List (List ℕ) → Verdict
 verdict_from s n [] = No n Spelling
 verdict_from s n (rest ∷ []) = if is_done s.at && length rest == 0 then Yes else No n Spelling
 verdict_from s n (line ∷ next ∷ more) = after_line (step s line) n (λ after. verdict_from after (n + 1) (next ∷ more))
@@ -361,4 +361,4 @@ lines_in text = slice_split (λ b. b == 10) text
 
 -- the verdict on a text: the first line with a fault, and its first reason
 unfoldable pub verdict_of : List ℕ → Verdict
-verdict_of text = verdict_from opening 1 (lines_in text)
+verdict_of text = verdict_from text_start 1 (lines_in text)

@@ -7,8 +7,8 @@ abbrev pub held : Part → List ℕ
 held part = take part.filled part.bytes.items
 
 -- the bytes for which it has room
-abbrev pub room_of : Part → ℕ
-room_of part = length part.bytes.items
+abbrev pub bytes_room : Part → ℕ
+bytes_room part = length part.bytes.items
 
 -- the verdict, where this text comes behind the lines that were judged
 abbrev pub verdict_behind : TextJudge → List ℕ → Verdict

@@ -1,6 +1,6 @@
 -- What the judge's tallies are seen as, and what a step leaves.
 use Rattle.std.specs.Prelude.{◌≡◌, Result, Ok, Err, map}
-use Rattle.tracer.specs.{declared.verdicts.Reason.Reason, declared.tally.Tally.Tally, declared.judge.Judge.Judge, Judging.Seen, Judging.Progress}
+use Rattle.tracer.specs.{declared.verdicts.Reason.Reason, declared.tally.Tally.Tally, declared.judge.Judge.Judge, Judging.Seen, Judging.TextProgress}
 
 abbrev pub seen_in : Tally → Seen
 seen_in t = record { capacity = t.capacity; items = t.items; ops = t.ops; sends = t.sends; recvs = t.recvs; closes = t.closes }
@@ -11,7 +11,7 @@ StepsTo read (Ok done) now = read ≡ Ok now
 StepsTo read (Err reason) now = read ≡ Err reason
 
 -- how far a judge has come
-abbrev pub progress_of : Judge → Progress
+abbrev pub progress_of : Judge → TextProgress
 progress_of judge = record {
   at = judge.at;
   version = judge.version;

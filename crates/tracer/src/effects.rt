@@ -1,7 +1,7 @@
 //! What an effect does to the items of a buffer. No call takes memory or waits.
 
 ghost use Rattle.std.specs.Prelude.{◌≡◌, ◌≤◌};
-ghost use Rattle.{event_log.specs.declared.ids.TheConstants.CAPACITY, tracer.specs.{Judging.{put_in, take_first, item_effect}, Tallies.StepsTo}};
+ghost use Rattle.{event_log.specs.declared.ids.TheConstants.CAPACITY, tracer.specs.{Judging.{put_if_room, take_first, item_effect}, Tallies.StepsTo}};
 
 use crate::verdicts::Reason;
 use event_log::{CAPACITY, Kind, Msg, Ring};
@@ -11,7 +11,7 @@ use event_log::{CAPACITY, Kind, Msg, Ring};
 /// Errors: `Full` where there are as many items as the capacity; then nothing changed.
 fn put(items: &mut Ring<Msg>, capacity: usize, value: &Msg) -> Result<(), Reason>
     requires { capacity ≤ CAPACITY }
-    ensures { StepsTo (put_in value.now capacity items.old) result items.new }
+    ensures { StepsTo (put_if_room value.now capacity items.old) result items.new }
 {
     if items.len() >= capacity {
         return Err(Reason::Full);

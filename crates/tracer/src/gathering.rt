@@ -4,7 +4,7 @@ ghost use Rattle.std.specs.Prelude.{◌≡◌, ◌<◌, ◌≤◌, ◌+◌, ℕ,
 ghost use Rattle.{std.specs.Prelude.{option_map, vec_capacity}, event_log.specs.{declared.entries.Entry.Entry as AnEntry, Runs.count_of, Refusals.no_memory}};
 ghost use Rattle.tracer.specs.declared.gathering.GatherError.TheVariants as error;
 ghost use Rattle.tracer.specs.Gather.{IsOrder, TakesFirstReady, HasNoOrder, RunsHaveOrder, OrdersRunAlike, OrdersAgreeByBuffer, traces_in, entries_in};
-ghost use Rattle.tracer.specs.Gather.{next_entry, IsDue, NoneDueBelow};
+ghost use Rattle.tracer.specs.Gather.{next_entry, IsNextOp, NoneDueBelow};
 
 use event_log::{BufId, Entry, NoMemory};
 use std::alloc::{AllocError, AllocFailed, Global};
@@ -97,7 +97,7 @@ fn slot_of(buffer: BufId) -> usize
 /// Whether an entry has the op number that its buffer waits for, where `counts` says how many
 /// entries of each buffer stand in the order.
 fn is_due(counts: &[u64; NAMES], entry: &Entry) -> bool
-    ensures { IsTrue result ↔ IsDue counts.now entry.now }
+    ensures { IsTrue result ↔ IsNextOp counts.now entry.now }
 {
     entry.op == counts[slot_of(entry.buffer)]
 }
@@ -111,7 +111,7 @@ fn first_ready<'t>(
 ) -> Option<(usize, &'t Entry)>
     requires { length taken.now ≡ length traces.now }
     ensures found { IfSome result (λ f. next_entry (traces_in traces.now) taken.now f.0 ≡ Some f.1.now) }
-    ensures due { IfSome result (λ f. IsDue counts.now f.1.now) }
+    ensures due { IfSome result (λ f. IsNextOp counts.now f.1.now) }
     ensures first { IfSome result (λ f. NoneDueBelow (traces_in traces.now) taken.now counts.now f.0) }
     ensures none { IfNone result (NoneDueBelow (traces_in traces.now) taken.now counts.now (length traces.now)) }
 {

@@ -1,7 +1,7 @@
 //! The judge of a trace text. No call takes memory or waits.
 
 ghost use Rattle.std.specs.Prelude.{◌≡◌, ◌+◌, ◌≤◌, ◌<◌, ◌==◌, ◌&&◌, ℕ, length, map, nat_lt, slice_get, true};
-ghost use Rattle.{event_log.specs.declared.ids.TheConstants.BUFFERS, tracer.specs.Judging.{opening, version_in, head_line, end_line, count_line}};
+ghost use Rattle.{event_log.specs.declared.ids.TheConstants.BUFFERS, tracer.specs.Judging.{text_start, version_in, head_line, end_line, count_line}};
 ghost use Rattle.tracer.specs.{Judging.{capacity_line, entry_line, entries_line, left_line, is_left, step, is_done}, Lines.left_of};
 ghost use Rattle.tracer.specs.declared.next_lines.NextLine.TheVariants.{Capacities as WantsCapacities};
 
@@ -54,7 +54,7 @@ impl Judge {
 
     /// The judge before the first line.
     pub fn new() -> Judge
-        ensures { progress_of result ≡ opening }
+        ensures { progress_of result ≡ text_start }
     {
         Judge {
             at: NextLine::Head,

@@ -51,14 +51,14 @@ pub struct Part {
 }
 
 impl Part {
-    ghost use Rattle.tracer.specs.Parts.{held, room_of};
+    ghost use Rattle.tracer.specs.Parts.{held, bytes_room};
 
     /// A part that holds nothing, with room for 64 KB.
     ///
     /// Errors: `NoMemory` if the room was refused.
     pub fn new(alloc: Global) -> Result<Part, NoMemory>
         ensures held { IfOk result (λ part. held part ≡ []) }
-        ensures room { IfOk result (λ part. room_of part ≡ PART) }
+        ensures room { IfOk result (λ part. bytes_room part ≡ PART) }
     {
         let bytes = vec![in alloc; 0u8; PART]?;
         Ok(Part { bytes, filled: 0 })
@@ -76,8 +76,8 @@ impl Part {
     /// Errors: a read that failed, and never that a signal interrupted one; then some of the input may
     /// be lost.
     pub fn fill<R: Read>(&mut self, input: &mut R) -> Result<bool, ReadFailed>
-        ensures room { room_of self.new ≡ room_of self.old }
-        ensures full { result ≡ Ok false → length (held self.new) ≡ room_of self.new }
+        ensures room { bytes_room self.new ≡ bytes_room self.old }
+        ensures full { result ≡ Ok false → length (held self.new) ≡ bytes_room self.new }
         ensures read { OnOk result (IsReadBehind (held self.old) (held self.new) (R.remaining input.old) (R.remaining input.new)) }
         ensures end { result ≡ Ok true → IsAtEnd (R.remaining input.new) }
         ensures retried { IfErr result (λ failed. failed.kind ≢ Interrupted) }
@@ -93,7 +93,7 @@ impl Part {
     pub fn drop_front(&mut self, count: usize)
         requires { count ≤ length (held self.old) }
         ensures held { held self.new ≡ drop count (held self.old) }
-        ensures room { room_of self.new ≡ room_of self.old }
+        ensures room { bytes_room self.new ≡ bytes_room self.old }
     {
         self.bytes.copy_within(count..self.filled, 0);
         self.filled -= count;
@@ -105,8 +105,8 @@ impl Part {
     /// Errors: `NoMemory` if the room was refused; it holds the same.
     pub fn make_room(&mut self) -> Result<(), NoMemory>
         ensures held { held self.new ≡ held self.old }
-        ensures kept { length (held self.old) < room_of self.old → room_of self.new ≡ room_of self.old }
-        ensures twice { OnOk result (room_of self.new ≤ 2 * room_of self.old) }
+        ensures kept { length (held self.old) < bytes_room self.old → bytes_room self.new ≡ bytes_room self.old }
+        ensures twice { OnOk result (bytes_room self.new ≤ 2 * bytes_room self.old) }
     {
         let room = self.bytes.len();
         if self.filled >= room {

@@ -1,7 +1,8 @@
 //! A text cut at a byte, and the pieces of a line. No call takes memory or waits.
 
 ghost use Rattle.std.specs.{Prelude.{◌≡◌, ◌+◌, ◌<◌, ◌≤◌, ◌==◌, ◌∷◌, [], ℕ, false, length, get_or, IfNone, IfSome, IfOk}, List.{list_any, slice_split}};
-ghost use Rattle.tracer.specs.{Judging.{GivesOrReason, piece_at, word_at, digits_at, ended, in_range, is_value, line_pieces}, Lines.{IsFirstLine, left_of}};
+ghost use Rattle.tracer.specs.{Judging.{GivesOrReason, piece_at, expected_word, digits_at, ended, in_range, is_value, line_pieces}, Lines.IsFirstLine};
+ghost use Rattle.tracer.specs.Lines.{left_of};
 
 use crate::numerals::Numeral;
 use crate::verdicts::Reason;
@@ -95,7 +96,7 @@ pub fn piece(pieces: Pieces<'_>) -> Result<(&[u8], Pieces<'_>), Reason>
 ///
 /// Errors: `Spelling` if no piece is left, or the next one is not `word`.
 pub fn word<'a>(word: &[u8], pieces: Pieces<'a>) -> Result<Pieces<'a>, Reason>
-    ensures { GivesOrReason left_of result (word_at word.now (left_of pieces.entry)) }
+    ensures { GivesOrReason left_of result (expected_word word.now (left_of pieces.entry)) }
 {
     let (front, rest) = piece(pieces)?;
     if front != word {

@@ -1,8 +1,8 @@
 //! What is known of a buffer while the entries are judged. No call takes memory or waits.
 
 ghost use Rattle.std.specs.Prelude.{◌≡◌, ◌+◌, ◌≤◌, ◌<◌};
-ghost use Rattle.{event_log.specs.{declared.ids.TheConstants.{CAPACITY, ENTRIES}, Runs.group_of}, tracer.specs.Judging.{fresh, was_closed, next_pos, counted}};
-ghost use Rattle.tracer.specs.{Judging.{entry_on, are_values}, Lines.left_of};
+ghost use Rattle.{event_log.specs.{declared.ids.TheConstants.{CAPACITY, ENTRIES}, Runs.group_of}, tracer.specs.Judging.{fresh, was_closed, next_pos}};
+ghost use Rattle.tracer.specs.{Judging.{seen_behind, entry_on, are_values}, Lines.left_of};
 
 use crate::effects::act;
 use crate::pieces::Pieces;
@@ -63,7 +63,7 @@ impl Tally {
     /// Counts an effect of this kind.
     fn count(&mut self, kind: Kind)
         requires { (self.old.ops < ENTRIES) × (next_pos (group_of kind) (seen_in self.old) < ENTRIES) }
-        ensures { seen_in self.new ≡ counted (group_of kind) (seen_in self.old).items (seen_in self.old) }
+        ensures { seen_in self.new ≡ seen_behind (group_of kind) (seen_in self.old).items (seen_in self.old) }
     {
         self.ops += 1;
         match kind {

@@ -1,7 +1,7 @@
 //! Messages, spelled as their words with commas between them. No call takes memory or waits.
 
 ghost use Rattle.std.specs.{Prelude.{◌≡◌, length}, List.list_all};
-ghost use Rattle.{event_log.specs.Digits.is_number, tracer.specs.Judging.{words_of, spells_message, message_in, is_within, is_message, are_values}};
+ghost use Rattle.{event_log.specs.Digits.is_number, tracer.specs.Judging.{comma_parts, spells_message, message_in, is_within, is_message, are_values}};
 ghost use Rattle.tracer.specs.Lines.{left_of};
 
 use crate::numerals::Numeral;
@@ -13,7 +13,7 @@ use event_log::{Msg, WORDS, is_number};
 
 /// How many words a piece has: one more than commas.
 fn word_count(piece: &[u8]) -> usize
-    ensures { result ≡ length (words_of piece.now) }
+    ensures { result ≡ length (comma_parts piece.now) }
 {
     let mut count = 1;
     let mut rest = piece;
@@ -26,7 +26,7 @@ fn word_count(piece: &[u8]) -> usize
 
 /// Whether each word of a piece is a number.
 fn are_numbers(piece: &[u8]) -> bool
-    ensures { result ≡ list_all is_number (words_of piece.now) }
+    ensures { result ≡ list_all is_number (comma_parts piece.now) }
 {
     let mut rest = piece;
     while let Some((front, after)) = cut(rest, b',') {

@@ -4,7 +4,7 @@ use Rattle.std.proofs.{Common.{arith, vec_capacity}, lemmas.List.{append-nil, le
 use Rattle.layer_traits.specs.Layers.{BufferLaw.{Buffering, Answered, answer_in, begun_of, buffer_of, call_state_of}, IpcLaw.ipc_plan}
 use Rattle.layer_traits.specs.{Blocks.{Capacities.caps_in, QueueBlocks.homes_in}, declared.{call_layers.CallLayer.Ghosts, calls.{Call.Call, Effect.Effect}}}
 use Rattle.layer_traits.specs.{declared.{calls.{ReplyKind.ReplyKind, Reply.Reply}, call_states.CallState.CallState}, Threads.Places.one_if}
-use Rattle.layer_traits.specs.{Views.OwnParts.threads_in, Polling.{LayerPolls.{IsQuietAt, LookedAt, PolledAt, PolledOnAt}, Looks.Tries, PollRuns.PolledOn}}
+use Rattle.layer_traits.specs.{Views.OwnParts.threads_in, Polling.{LayerPolls.{IsBegunAt, LookedAt, PolledAt, PolledOnAt}, Looks.Tries, PollRuns.PolledOn}}
 use Rattle.{event_log.specs.declared.{entries.Entry.Entry, ids.{CpuId.CpuId, Tid.Tid}}, guest.specs.declared.instructions.Instruction.Instruction}
 use Rattle.{guest.specs.State.State, cpu.specs.declared.{cpus.{Choice.TheVariants.Polls, Cpu.Cpu}, guests.{Guest.Guest, GuestStage.GuestStage}}}
 use Rattle.cpu.specs.{declared.guests.{GuestStage.TheVariants.Begun, Todo.Todo}, Cpus.{IsCpu, begins_at, begun_count, chosen, chosen_at, chosen_by, chosen_for}}
@@ -173,7 +173,7 @@ module _ {P L M : Type 0} {I : Ghosts P L M} (laws : PartLaws I) (m : M) (p : Cp
   polls : PollsAt (threads_in (I.own p.part)) p.guests.items t call
   polls = polls_at (valid_cpu cpu.is) t call chose
 
-  module _ (q : P) (quiet : IsQuietAt I ipc_plan t call p.part q) where
+  module _ (q : P) (quiet : IsBegunAt I ipc_plan t call p.part q) where
     guest_between : guest_at (between q).guests.items t.0 ≡ Some (polled polls.guest (had_in q) None)
     guest_between = at_same p.guests.items t.0 (λ g. polled g (had_in q) None) polls.guest polls.at
 

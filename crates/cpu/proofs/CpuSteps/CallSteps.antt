@@ -9,9 +9,9 @@ use Rattle.{layer_traits.specs.Layers.BufferLaw.{buffer_of, still_calling, call_
 use Rattle.cpu.specs.{declared.guests.{Guest.Guest, Todo.{Todo, TheVariants.Calls}, GuestStage.TheVariants.Done}, Cpus.{AllFollow, AreOver, IsCpu, IsOfHome}}
 use Rattle.cpu.specs.Cpus.{begins_at, begun_count, is_begun_guest, chosen, chosen_at, chosen_by, chosen_for, chosen_todo, under_way_of, fresh_at, guest_at}
 use Rattle.cpu.specs.{Cpus.{of_cpu, of_thread, with_guest}, Guests.{HasCome, HasComeIn, entries_of, fresh_effect, is_begun, is_calling, is_ended, polled}}
-use Rattle.cpu.{specs.Guests.{stage_after, todo_of}, proofs.ListFacts.GuestLists.{with_each, at_other, at_same, count_with, cpu_grown, guest_within, reversed}}
-use Rattle.cpu.proofs.{ListFacts.GuestLists.room_kept, CpuSteps.{CpuStates.ValidCpu, GuestsFollow.{answered_by, followed, had_going, may_poll_call}}}
-use Rattle.cpu.proofs.CpuSteps.GuestsFollow.{stays_settled}
+use Rattle.cpu.{specs.Guests.{stage_after, todo_of}, proofs.ListFacts.GuestLists.{with_each, at_other, at_same, count_with, cpu_grown, guest_within}}
+use Rattle.cpu.proofs.{ListFacts.GuestLists.{trace_reversed, room_kept}, CpuSteps.{CpuStates.ValidCpu, GuestsFollow.{answered_by, poll_followed, had_going}}}
+use Rattle.cpu.proofs.CpuSteps.GuestsFollow.{may_poll_call, stays_settled}
 
 -- what a chosen poll tells: its thread runs, and its guest asks for the call
 pub record PollsAt (own : Threads) (guests : List (Option Guest)) (t : Tid) (c : Call) : Type 0 where
@@ -133,7 +133,7 @@ module _ (cpu : ValidCpu) (t : Tid) (c : Call) (chose : chosen cpu.own cpu.guest
         (begun_of (call_state_of states2 t)) left
     follow_t =
         let goes = had_going (call_state_of call_states t) c poll_call_states in
-        followed g.program g.thread (next_of g.program g.thread) c number t refl polls_at.asks g.stage (of_thread t.0 (of_cpu number seen))
+        poll_followed g.program g.thread (next_of g.program g.thread) c number t refl polls_at.asks g.stage (of_thread t.0 (of_cpu number seen))
         (begun_of (call_state_of call_states t)) (begun_of (call_state_of states2 t)) (call_state_of call_states t).effect left called.mine answer follows_at.1
         (λ f mine. let of_call = called.fresh f mine in (sym goes ∙ of_call.0, of_call.1, of_call.2))
         (λ none. called.stays none ∙ goes) (answered_by c (call_state_of states2 t) answer called.answers)
@@ -152,7 +152,7 @@ module _ (cpu : ValidCpu) (t : Tid) (c : Call) (chose : chosen cpu.own cpu.guest
     guest_other u other = ap (λ (l : List (Option Guest)). guest_at l u) guests_is ∙ at_other guests t.0 u (λ x. polled x left answer) other
 
     kept_new : trace2 ≡ reverse (of_cpu number seen2)
-    kept_new = trace_new ∙ reversed number t (buffer_of c) fresh (of_cpu number seen) trace is.kept ∙ ap (λ (l : List Entry). reverse l) (sym mine_is)
+    kept_new = trace_new ∙ trace_reversed number t (buffer_of c) fresh (of_cpu number seen) trace is.kept ∙ ap (λ (l : List Entry). reverse l) (sym mine_is)
 
     follow_new : AllFollow guests2 (of_cpu number seen2) states2
     follow_new = λ (u : Tid) (x : Guest) at. subst (λ (l : List Entry). HasCome x (of_thread u.0 l) (call_state_of states2 u)) (sym mine_is)

@@ -2,11 +2,11 @@
 use Rattle.std.proofs.Common.{◌≡◌, ◌⊎◌, ℕ, List, ◌∷◌, ◌++◌, Option, Some, None, refl, ap, sym, ◌∙◌, subst, arith}
 use Rattle.event_log.specs.{declared.{entries.{Entry.Entry, Kind.Kind}, ids.{BufId.BufId, CpuId.CpuId, Tid.Tid}}, Messages.Message, Runs.{Closes, Receives}}
 use Rattle.{event_log.specs.Runs.{Sends, group_of}, guest.specs.{declared.instructions.{Instruction.Instruction, Into.Into, Source.Source}, State.State}}
-use Rattle.guest.specs.{State.{moved_on, next_of, message_from}, Calls.{IsProgramsCalls, asks, closes, offers, receives, sends}}
+use Rattle.guest.specs.{State.{moved_on, next_of, message_from}, Calls.{IsProgramsCalls, asks_in_vain, closes, offers, receives, sends}}
 use Rattle.layer_traits.specs.declared.{calls.{Call.{Call, TheVariants.{Send, Recv, Close}}, Effect.Effect, Reply.Reply}, call_states.CallState.CallState}
 use Rattle.layer_traits.specs.Layers.BufferLaw.{Answered, IsEffectOf, MayPollCall, begun_at, begun_of, buffer_of, entry_of, going, reply_by, reply_of}
 use Rattle.cpu.specs.{declared.guests.{GuestStage.{GuestStage, TheVariants.{Idle, Begun, Done, Ended}}, Todo.TheVariants.Calls}, Guests.{HasComeIn, IsSettled}}
-use Rattle.cpu.specs.Guests.{after_answer, after_effect, after_received, after_sent, entries_of, fresh_effect, had, stage_after, todo_at}
+use Rattle.cpu.specs.Guests.{after_answer, state_after_effect, after_received, after_sent, entries_of, fresh_effect, had, stage_after, todo_at}
 use Rattle.event_log.specs.declared.entries.Kind.TheVariants as kind
 use Rattle.guest.specs.declared.instructions.Instruction.TheVariants as ins
 
@@ -54,7 +54,7 @@ module _ (program : List Instruction) (es : List Entry) (s : State) (b : BufId) 
   received_more : (into : Into) (k : Option ℕ) → next_of program s ≡ ins.Recv b into k → (of : Kind) → e.kind ≡ of → group_of of ≡ Receives
       → IsProgramsCalls program (e ∷ es) (after_received of into k e.value s)
   received_more into k at kind.Recv is group = receives b into k e calls at is buffer
-  received_more into k at kind.RecvClosed is group = asks b into k e calls at is buffer
+  received_more into k at kind.RecvClosed is group = asks_in_vain b into k e calls at is buffer
   received_more into k at line is group = absurd (cc group)
 
   closed_more : next_of program s ≡ ins.Close b → (of : Kind) → e.kind ≡ of → group_of of ≡ Closes → IsProgramsCalls program (e ∷ es) (moved_on s)
@@ -64,7 +64,7 @@ module _ (program : List Instruction) (es : List Entry) (s : State) (b : BufId) 
 -- an effect of a call is one more of the program's calls
 calls_more : (program : List Instruction) (es : List Entry) (s : State) (i : Instruction) (c : Call) (f : Effect) (cpu : CpuId) (t : Tid)
     → next_of program s ≡ i → todo_at s i ≡ Calls c → IsEffectOf c f → IsProgramsCalls program es s
-    → IsProgramsCalls program (entry_of cpu t (buffer_of c) f ∷ es) (after_effect i f s)
+    → IsProgramsCalls program (entry_of cpu t (buffer_of c) f ∷ es) (state_after_effect i f s)
 calls_more program es s (ins.Send b from k) (Send q m) f cpu t at todo is calls =
     sent_more program es s b (entry_of cpu t q f) (cc todo) calls from k at (is.1 ∙ cc todo) f.kind refl is.0
 calls_more program es s (ins.Recv b into k) (Recv q) f cpu t at todo is calls =
@@ -78,7 +78,7 @@ module _ (program : List Instruction) (s : State) (i : Instruction) (c : Call) (
   -- between polls of the call: no effect and the calls that lead to the state, or an effect and those that lead past it
   abbrev Mid : Option Effect → List Entry → Type 0
   Mid None es = IsProgramsCalls program es s
-  Mid (Some f) es = IsEffectOf c f × IsProgramsCalls program es (after_effect i f s)
+  Mid (Some f) es = IsEffectOf c f × IsProgramsCalls program es (state_after_effect i f s)
 
   here : todo_at s (next_of program s) ≡ Calls c
   here = subst (λ (j : Instruction). todo_at s j ≡ Calls c) (sym at) todo
@@ -94,7 +94,7 @@ module _ (program : List Instruction) (s : State) (i : Instruction) (c : Call) (
       subst (λ (x : Option Call). Mid (had x effect) es) (sym follows.3)
       (subst (λ (x : Option Effect). Mid x es) (sym follows.4) (
         subst (λ (d : Call). IsEffectOf d follows.1) same follows.5,
-        subst (λ (j : Instruction). IsProgramsCalls program es (after_effect j follows.1 s)) at follows.6,
+        subst (λ (j : Instruction). IsProgramsCalls program es (state_after_effect j follows.1 s)) at follows.6,
       ))
   before Ended es saved effect follows =
       absurd (cc (subst (λ (j : Instruction). todo_at s j ≡ Calls c) (sym at ∙ follows.2) todo))
@@ -105,14 +105,14 @@ module _ (program : List Instruction) (s : State) (i : Instruction) (c : Call) (
   fresh_none stage es saved effect left follows none = grind arith
 
   -- what one poll does to a guest: which effect is written, and that the guest follows its entries with that one
-  pub followed : (stage : GuestStage) (es : List Entry) (saved saved2 : Option Call) (effect effect2 mine : Option Effect) (answer : Option Reply)
+  pub poll_followed : (stage : GuestStage) (es : List Entry) (saved saved2 : Option Call) (effect effect2 mine : Option Effect) (answer : Option Reply)
       → HasComeIn stage program s es saved effect
       → ((f : Effect) → mine ≡ Some f → (had saved effect ≡ None) × (effect2 ≡ Some f) × IsEffectOf c f)
       → (mine ≡ None → effect2 ≡ had saved effect) → AnsweredBy c saved2 effect2 answer
       → (mine ≡ fresh_effect stage effect2)
       × HasComeIn (stage_after effect2 answer) program (after_answer answer i s)
       (entries_of cpu t (buffer_of c) (fresh_effect stage effect2) ++ es) saved2 effect2
-  followed stage es saved saved2 effect effect2 (Some f) answer follows fresh stays told =
+  poll_followed stage es saved saved2 effect effect2 (Some f) answer follows fresh stays told =
       let new = fresh f refl in
       let is : Some f ≡ fresh_effect stage effect2 = sym (fresh_none stage es saved effect effect2 follows new.0 ∙ new.1) in
       let held = subst (λ (x : Option Effect). Mid x es) new.0 (before stage es saved effect follows) in
@@ -123,4 +123,4 @@ module _ (program : List Instruction) (s : State) (i : Instruction) (c : Call) (
             (entries_of cpu t (buffer_of c) x ++ es) saved2 effect2)
             is (grind (arith, here, mid, told, sent_state, received_state)),
       )
-  followed stage es saved saved2 effect effect2 None answer follows fresh stays told = grind (arith, fresh_none, here, sent_state, received_state)
+  poll_followed stage es saved saved2 effect effect2 None answer follows fresh stays told = grind (arith, fresh_none, here, sent_state, received_state)

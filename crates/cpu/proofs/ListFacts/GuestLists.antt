@@ -90,9 +90,9 @@ cpu_grown ActsFor number t b (Some f) others old foreign acts =
     rw same (ap (λ l. entry_of number t b f ∷ l) (cpu_same ActsFor number others old foreign acts))
 
 -- a trace that grows at its end, as the history does at its front
-pub reversed : (number : CpuId) (t : Tid) (b : BufId) (mine : Option Effect) (es trace : List Entry) → trace ≡ reverse es
+pub trace_reversed : (number : CpuId) (t : Tid) (b : BufId) (mine : Option Effect) (es trace : List Entry) → trace ≡ reverse es
     → trace ++ entries_of number t b mine ≡ reverse (entries_of number t b mine ++ es)
-reversed number t b mine es trace is = grind (arith, append-nil, reverse-append)
+trace_reversed number t b mine es trace is = grind (arith, append-nil, reverse-append)
 
 -- a poll of a call keeps room for the entries of all calls that have begun
 pub room_kept : (stage : GuestStage) (effect : Option Effect) (answer : Option Reply) (number : CpuId) (t : Tid) (b : BufId) (n begun begun2 limit : ℕ)

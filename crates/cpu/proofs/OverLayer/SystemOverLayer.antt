@@ -3,11 +3,11 @@ use Rattle.std.proofs.{lemmas.{List.{length-map, length-set}, Option.slice_get_w
 use Rattle.std.{proofs.Common.{vec_capacity, ap, arith, sym, subst, ◌∙◌}, specs.{Prelude.slice_get, List.AllByRecursion}}
 use Rattle.layer_traits.specs.{Blocks.{Capacities.caps_in, QueueBlocks.homes_in}, Views.OwnParts.threads_in, declared.call_layers.CallLayer.Ghosts}
 use Rattle.layer_traits.specs.{declared.steps.Step.TheVariants.Stepped, Polling.Along.IsStep, Threads.{OnePlace.cpu_at, Places.Stands}}
-use Rattle.cpu.proofs.{ListFacts.ListReads.{map_twice, shows_same, shown_at, shows_at}, WholeSystems.{InvariantOverSteps.{Holds, Works, stepped}, OneOrder.Has}}
-use Rattle.cpu.{proofs.StepTable.{ReachedSystems.{Observed, shown_in, reached_on}, TableSystems.shown_step}, specs.{declared.cpus.Cpu.Cpu, Claims.CpuShown}}
-use Rattle.cpu.specs.{Claims.cpu_shown, CpuSteps.{IsCpuAt, IsTabledAt, Leaves, WentAt}, Sound.IsReachedByTable, Systems.{SteppedByTable, IsAt, SamePlan}}
-use Rattle.{cpu.specs.{Table.Steps.cpu_step, Tower.Composed.named}, event_log.specs.declared.ids.{BufId.BufId, TheConstants.CPUS, Tid.Tid, CpuId.CpuId}}
-use Rattle.event_log.specs.Actions.{AreLegal}
+use Rattle.cpu.proofs.{ListFacts.ListReads.{map_twice, shows_same, shown_at, shows_at}, WholeSystems.InvariantOverSteps.{Holds, Works, cpu_stepped}}
+use Rattle.cpu.proofs.{WholeSystems.OneOrder.Has, StepTable.{ReachedSystems.{Observed, shown_in, reached_on}, TableSystems.shown_step}}
+use Rattle.cpu.specs.{declared.cpus.Cpu.Cpu, Claims.{CpuShown, cpu_shown}, CpuSteps.{IsCpuAt, IsTabledAt, Leaves, WentAt}, Sound.IsReachedByTable}
+use Rattle.{cpu.specs.{Systems.{SteppedByTable, IsAt, SamePlan}, Table.Steps.cpu_step, Tower.Composed.named}, event_log.specs.declared.ids.BufId.BufId}
+use Rattle.event_log.specs.{declared.ids.{TheConstants.CPUS, Tid.Tid, CpuId.CpuId}, Actions.AreLegal}
 
 -- what a CPU shows
 abbrev pub shown_by : {P L M : Type 0} → Ghosts P L M → Cpu P M → CpuShown
@@ -74,7 +74,7 @@ module _ {P L M : Type 0} (I : Ghosts P L M) (owner : M → BufId → Option Tid
         → Holds W n (slice_set cpus k y) room (taken + 1)
     went_on fits keeps table known =
         let there = slice_get_within (map (shown_by I) cpus) k (shown_by I x) (shows_at (shown_by I) cpus k x at) in
-        stepped W m n cpus room taken k x y is (
+        cpu_stepped W m n cpus room taken k x y is (
           is.sound.0 ∙ ap (λ (l : List CpuId). length l) (sym (ap homes_in left.opening)),
           λ step. reached_on c _ _ Stepped (subst (λ (j : ℕ). j < length (map (shown_by I) cpus)) same there)
               (plan_preserved m n cpus room taken (taken + 1) k x y at left) (by_table step) (is.sound.1 step),

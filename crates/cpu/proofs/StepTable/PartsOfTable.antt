@@ -5,10 +5,10 @@ use Rattle.event_log.specs.{declared.ids.{BufId.BufId, CpuId.CpuId, LockId.{Lock
 use Rattle.event_log.{specs.{Buffers.{items_of, IsAllowedEffect}, Runs.is_closed, Sections.{block_after, sections_in}}, proofs.Renaming.sections_in_renamed}
 use Rattle.layer_traits.specs.{Views.Acted.{ItemsAre, MovesAre, guarded, owner_after}, Blocks.BufferEffects.contents_of, Threads.Places.pending_by}
 use Rattle.{layer_traits.proofs.PlanRenaming.block_viewed, cpu.specs.{Claims.{CpuShown, Shown, waiters_by, buffer_at, no_waiters}, Sound.IsSetupFor}}
-use Rattle.cpu.specs.{Sound.SoundByTable, Table.{Blocks.{OfPending, stands_in}, Edits.{edited, kernel, on_side}, Setups.{Setup, opening as table_opening}}}
-use Rattle.cpu.specs.{Table.{Setups.opening_buffer, Steps.block_at}, Tables.bare, Observed.{BufferIsObserved, HasBuffer}, Tower.Composed.{OpensAs, named}}
-use Rattle.cpu.{specs.Tower.Views.{TowerBlock, TowerName, answer_view, buffer_view, name_of, tower, view}, proofs.ListFacts.ListReads.listed_there}
-use Rattle.cpu.proofs.{StepTable.ReachedSystems.{Observed, shown_in}, Tower.{Polls.opens_alike, SectionViews.tables_agree}}
+use Rattle.cpu.specs.{Sound.SoundByTable, Table.{Blocks.{OfPending, stands_in}, Edits.{edited, table_kernel, on_side}, Setups.Setup}}
+use Rattle.cpu.specs.{Table.{Setups.{opening as table_opening, opening_buffer}, Steps.block_at}, Tables.bare, Observed.{BufferIsObserved, HasBuffer}}
+use Rattle.cpu.specs.Tower.{Composed.{OpensAs, named}, Views.{TowerBlock, TowerName, answer_view, buffer_view, name_of, tower, view}}
+use Rattle.cpu.proofs.{ListFacts.ListReads.listed_there, StepTable.ReachedSystems.{Observed, shown_in}, Tower.{Polls.opens_alike, SectionViews.tables_agree}}
 
 -- the table's block of a lock is the view of the layers'
 pub block_read : (setup : Setup) (opening : LockId → Option TowerBlock) (acts : List (Action TowerName)) (lock : LockId)
@@ -16,7 +16,7 @@ pub block_read : (setup : Setup) (opening : LockId → Option TowerBlock) (acts 
 block_read setup opening acts lock opens =
     ap (λ l. block_after edited (table_opening setup) lock l) (sections_in_renamed name_of acts)
     ∙ sym (opens_alike (λ l. option_map view (opening l)) (table_opening setup) lock opens (map _ (sections_in acts)))
-    ∙ block_viewed tower kernel
+    ∙ block_viewed tower table_kernel
     (record { name = name_of; view = view; told = answer_view; edits = tables_agree.edits; answers = tables_agree.answers }) opening lock (sections_in acts)
 
 module _ (setup : Setup) (m : Observed) (c : CpuId) (opening : LockId → Option TowerBlock) (opens : OpensAs (bare m.homes m.caps) c opening)

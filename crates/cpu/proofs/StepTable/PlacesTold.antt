@@ -3,13 +3,13 @@ use Rattle.std.proofs.{Common.{◌≡◌, ℕ, ◌<◌, true, List, length, Opti
 use Rattle.std.{proofs.lemmas.Option.same_Some, specs.Prelude.{slice_get, slice_index_or}}
 use Rattle.layer_traits.specs.{Views.{OwnParts.threads_in, Observed.{IsOwnPlace, queue_place}}, declared.{calls.Place.Place, moves.WaitList.WaitList}}
 use Rattle.layer_traits.specs.{declared.moves.WaitList.TheVariants.{Sleepers, Receivers, Senders}, Layers.{BufferLaw.Buffering, IpcLaw.WaitListsAgree}}
-use Rattle.layer_traits.specs.Threads.{OnePlace.cpu_at, Passes.or_else, Places.{Asleep, At, Pend, Stands, Step, Threads, Where, home_of, is_pend, one_if}}
+use Rattle.layer_traits.specs.Threads.{OnePlace.cpu_at, Passes.or_else, Places.{Asleep, At, IsPending, Stands, Step, Threads, Where, home_of, is_pend, one_if}}
 use Rattle.layer_traits.{specs.Threads.Places.{pending_by, where_is}, proofs.{CountLemmas.{in_counted, is_cpu_true}, ListsLemmas.wait_channel_here}}
 use Rattle.{layer_traits.proofs.{ListsLemmas.counted_in, PlaceLemmas.{pend_count, pend_home}}, event_log.specs.declared.{entries.Entry.Entry, ids.BufId.BufId}}
 use Rattle.event_log.{specs.declared.ids.{CpuId.CpuId, LockId.TheVariants.Buffer as AtBuffer, Tid.Tid}, proofs.Same.same_cpu_self}
 use Rattle.{thread_blocks.specs.Queues.is_in, cpu.specs.{declared.guests.Guest.Guest, Claims.{Waiters, CpuShown, IsPlaceOf, MovesAgree, Shown, waiters_at}}}
-use Rattle.cpu.specs.{Claims.{waiters_by, listed, no_waiters}, Systems.whole_of, Table.Setups.{Private, Setup, Thread, thread_at, home_of as table_home}}
-use Rattle.cpu.specs.{Tables.{private, state_of, states}, Observed.{CpuHas, CpuIsObserved, HasBuffer, IsPlaceByTable}}
+use Rattle.cpu.specs.{Claims.{waiters_by, listed, no_waiters}, Systems.whole_of, Table.Setups.{Private, Setup, Thread, thread_at, home_cpu}}
+use Rattle.cpu.specs.{Tables.{private, guest_state_of, guest_states}, Observed.{CpuHas, CpuIsObserved, HasBuffer, IsPlaceByTable}}
 use Rattle.cpu.proofs.{ListFacts.ListReads.{listed_there, shows_at, there_is}, Tower.BegunPolls.thread_here}
 use Rattle.event_log.specs.declared.ids.LockId.TheVariants as lock
 use Rattle.layer_traits.specs.declared.calls.Place.TheVariants as place
@@ -18,7 +18,7 @@ use Rattle.layer_traits.specs.declared.calls.Place.TheVariants as place
 pub ended_is : (own : Buffering) (guests : List (Option Guest)) (trace : List Entry) (t : Tid) → t.0 < length guests
     → (thread_at (private own guests trace) t).ended ≡ is_in t (threads_in own).ended
 ended_is own guests trace t within =
-    ap (λ (x : Thread). x.ended) (thread_here own (states guests) trace t (omega (arith, within, length-map guests state_of)))
+    ap (λ (x : Thread). x.ended) (thread_here own (guest_states guests) trace t (omega (arith, within, length-map guests guest_state_of)))
 
 -- a thread that has ended with a CPU is at home with it
 ended_home : (homes : List CpuId) (c : CpuId) (moves : List Step) (own : Threads) → Stands homes c moves own → (t : Tid) → is_in t own.ended ≡ true
@@ -57,12 +57,12 @@ module _ (s : Shown) (agree : MovesAgree s) (lines : BufId → WaitList → List
   own_so k p t place.Ended known there is =
       let home = ap (λ (l : List CpuId). or_else (record { 0 = 0 }) (slice_get l t.0)) homes
       ∙ ap (λ (o : Option CpuId). or_else (record { 0 = 0 }) o) (ended_home s.homes (cpu_at k) s.moves p.own (agree.stands k p there) t is) in
-      cpu_has (table_home setup t) k p (λ q. (thread_at q t).ended ≡ true) home there ((cpus k p there).ended t known ∙ is)
+      cpu_has (home_cpu setup t) k p (λ q. (thread_at q t).ended ≡ true) home there ((cpus k p there).ended t known ∙ is)
   own_so k p t at known there is = absurd is
 
   -- a thread that stands in a queue
   queue_so : (t : Tid) (w : Where) (at : Place) → where_is s.homes s.moves t ≡ w → queue_place w ≡ Some at → IsPlaceByTable setup (whole_of s) t at
-  queue_so t (Pend c) at here is =
+  queue_so t (IsPending c) at here is =
       let within = agree.within t c (pend_home s.homes s.moves t c agree.lawful here) in
       let there = there_is s.cpus c.0 within in
       let one : one_if (is_pend c (where_is s.homes s.moves t)) ≡ 1 = ap (λ w. one_if (is_pend c w)) here ∙ ap one_if (same_cpu_self c) in

@@ -5,7 +5,7 @@ use Rattle.event_log.specs.{declared.{entries.Entry.Entry, ids.{BufId.BufId, Cpu
 use Rattle.{layer_traits.specs.{declared.{moves.WaitList.WaitList, steps.Step.Step}, Threads.Places.Step as Moving}, cpu.specs.declared.guests.Guest.Guest}
 use Rattle.cpu.specs.{Claims.{CpuShown, Shown, shown_of}, Cpus.{guest_at, programs_of}, Sound.{IsReachedByTable, IsSetupFor, RanByTable, ReturnsAlone}}
 use Rattle.cpu.specs.{Sound.{SoundByTable, after_steps}, Systems.{GoesBy, SamePlan, SteppedByTable, whole_of}, Table.{Setups.Setup, Steps.{IsReached, Whole}}}
-use Rattle.cpu.specs.{Table.Steps.{steps, steps_by, system_step}, Tower.Views.TowerName, Wakeups.Alone.{IsInCall, steps_to_return}}
+use Rattle.cpu.specs.{Table.Steps.{steps_once, steps_by, system_step}, Tower.Views.TowerName, Wakeups.Alone.{IsInCall, steps_to_return}}
 use Rattle.cpu.proofs.{ListFacts.{GuestLists.at_programs, ListReads.{shows_at, there_is}}, Wakeups.ReachedStates.systems_lose_no_wake_up}
 use Rattle.cpu.proofs.Wakeups.ReadyCalls.{calls_return_alone}
 
@@ -55,7 +55,7 @@ reached_on c s r answer within same went reached setup is =
     let before = setup_on setup (grind (arith, same)) is in
     let next : (system_step setup c (whole_of s)).next ≡ whole_of r = ap (λ x. x.next) (sym (went setup before.goes)) in
     subst (λ (n : ℕ). IsReached setup n (whole_of r)) (sym same.room)
-    (subst (λ (w : Whole). IsReached setup s.room w) next (steps c (reached setup before) (omega (arith, before.count, within))))
+    (subst (λ (w : Whole). IsReached setup s.room w) next (steps_once c (reached setup before) (omega (arith, before.count, within))))
 
 -- what a machine tells
 pub record Observed : Type 0 where

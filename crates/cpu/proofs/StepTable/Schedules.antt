@@ -4,8 +4,8 @@ use Rattle.std.proofs.{Common.{sym, ◌∙◌, subst, append_assoc, arith}, Math
 use Rattle.std.specs.Prelude.{slice_index_or}
 use Rattle.{event_log.specs.declared.ids.CpuId.CpuId, layer_traits.specs.declared.steps.{Reason.Reason, Step.{Step, TheVariants.{Halted, Stepped}}}}
 use Rattle.{layer_traits.specs.Polling.Spins.BeginWith, cpu.specs.{Claims.{IsMoment, Shown}, Linear.CallsGoOn, Sound.{IsReachedByTable, RanByTable}}}
-use Rattle.cpu.specs.{Sound.after_steps, Systems.{Ran, SamePlan, SteppedByTable, HaltsByTable, WentOn, goes, halted_in, reason_of, starts, stayed, took}}
-use Rattle.cpu.{specs.{Systems.whole_of, Table.{Setups.Setup, Steps.{IsReached, Whole, steps, system_step}}}, proofs.StepTable.ReachedSystems.after_more}
+use Rattle.cpu.specs.{Sound.after_steps, Systems.{Ran, SamePlan, SteppedByTable, HaltsByTable, WentOn, goes, halted_in, reason_of, took_none, stayed, took}}
+use Rattle.cpu.{specs.{Systems.whole_of, Table.{Setups.Setup, Steps.{IsReached, Whole, steps_once, system_step}}}, proofs.StepTable.ReachedSystems.after_more}
 use Rattle.cpu.proofs.StepTable.{ReachedSystems.{goes_on, setup_on}, TableHalts.reasons_step}
 
 -- the steps of these CPUs lead from s to r
@@ -18,7 +18,7 @@ pub record Leads (IsStepwise : Type 0) (s : Shown) (schedule : List CpuId) (r : 
 pub leads_nowhere : (IsStepwise : Type 0) (s : Shown) → Leads IsStepwise s [] s
 leads_nowhere IsStepwise s = record {
   plan = record { caps = refl; homes = refl; programs = refl; count = refl; limits = refl; room = refl };
-  ran = starts;
+  ran = took_none;
   table = λ step setup for. refl;
 }
 
@@ -53,7 +53,7 @@ leads_halted IsStepwise c s within some halts = go (reason_of c s) refl some
 
 ran_on : (IsStepwise : Type 0) (s r t : Shown) (first second : List CpuId) → Ran IsStepwise s first r → Ran IsStepwise r second t
     → Ran IsStepwise s (first ++ second) t
-ran_on IsStepwise s r _ first _ ran starts = subst (λ (l : List CpuId). Ran IsStepwise s l r) (sym (append-nil first)) ran
+ran_on IsStepwise s r _ first _ ran took_none = subst (λ (l : List CpuId). Ran IsStepwise s l r) (sym (append-nil first)) ran
 ran_on IsStepwise s r _ first _ ran (goes {steps = second} {s = u} c t more went) =
     rw (← append_assoc first second (c ∷ [])) (goes c t (ran_on IsStepwise s r u first second ran more) went)
 
@@ -104,7 +104,7 @@ turn_taken (c ∷ rest) d more some begins =
 reached_far : (setup : Setup) (room : ℕ) (c : CpuId) (looks : ℕ) (s : Whole) → IsReached setup room s → c.0 < setup.cpus
     → IsReached setup room (after_steps setup (replicate looks c) s)
 reached_far setup room c zero s reached within = reached
-reached_far setup room c (suc looks) s reached within = reached_far setup room c looks (system_step setup c s).next (steps c reached within) within
+reached_far setup room c (suc looks) s reached within = reached_far setup room c looks (system_step setup c s).next (steps_once c reached within) within
 
 -- after so many steps of one CPU a system is reached as before them
 pub reached_alone : (IsStepwise : Type 0) (c : CpuId) (looks : ℕ) (s r : Shown) → c.0 < length s.cpus → Leads IsStepwise s (replicate looks c) r → IsStepwise

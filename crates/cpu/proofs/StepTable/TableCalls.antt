@@ -6,7 +6,7 @@ use Rattle.layer_traits.specs.{Polling.{Looks.Tries, Plans.{Follows, Now, is_in_
 use Rattle.layer_traits.specs.{Layers.{BufferLaw.fifo_plan, IpcLaw.{OpensSo, ipc_plan}}, Threads.Places.{AreMoves, Stands, Step, Threads, is_thread}}
 use Rattle.{layer_traits.proofs.PlaceLemmas.away_known, event_log.specs.declared.{entries.Entry.Entry, ids.{CpuId.CpuId, LockId.{LockId, TheVariants.Pending}}}}
 use Rattle.event_log.{specs.{declared.ids.{LockId.TheVariants.Buffer as AtBuffer, Tid.Tid}, Actions.Action}, proofs.Renaming.phase_renamed}
-use Rattle.{thread_blocks.proofs.Members.same_tid_self, cpu.specs.{declared.guests.Guest.Guest, Guests.is_ended, Cpus.{halted_at, reason_in, step_answer}}}
+use Rattle.{thread_blocks.proofs.Members.same_tid_self, cpu.specs.{declared.guests.Guest.Guest, Guests.is_ended, Cpus.{cpu_halted_at, reason_in, step_answer}}}
 use Rattle.cpu.specs.{Boots.AreGuests, Table.{Setups.Setup, Steps.cpu_step}, Tower.{Views.{TowerBlock, TowerName, name_of, tower, view}, Composed.OpensAs}}
 use Rattle.cpu.{specs.{Tower.Composed.named, Tables.{IsSetupOf, IsTabled, WentByTable, bare, private}}, proofs.CpuSteps.CpuStates.{TabledCpu, Outset}}
 use Rattle.cpu.proofs.{StepTable.{TableRows.halted_same, TableHalts.answers_so}, Tower.{KeptByPasses.boots_part, Polls.look_is_step}}
@@ -36,9 +36,10 @@ fifo_follows ActsFor opening homes buffers part_of number t c own own2 old new r
 pub answers_step : (cpu : TabledCpu) (ActsFor : CpuId → Type 0) (old : List (Action TowerName)) (outset : Outset ActsFor cpu old) (setup : Setup)
     → IsSetupOf setup cpu.homes cpu.caps cpu.guests cpu.limit
     → (cpu_step setup cpu.number (private cpu.own cpu.guests cpu.trace) (named old)).answer
-    ≡ step_answer (reason_in outset.inside (halted_at (threads_in cpu.own) cpu.guests cpu.trace cpu.limit))
+    ≡ step_answer (reason_in outset.inside (cpu_halted_at (threads_in cpu.own) cpu.guests cpu.trace cpu.limit))
 answers_step cpu ActsFor old outset setup of =
-    answers_so setup cpu.number (private cpu.own cpu.guests cpu.trace) (named old) outset.inside (halted_at (threads_in cpu.own) cpu.guests cpu.trace cpu.limit)
+    answers_so setup cpu.number (private cpu.own cpu.guests cpu.trace) (named old) outset.inside
+    (cpu_halted_at (threads_in cpu.own) cpu.guests cpu.trace cpu.limit)
     (outset.busy ∙ sym (ap is_in_section (phase_renamed name_of cpu.number old)))
     (halted_same cpu setup of)
 

@@ -9,17 +9,17 @@ use Rattle.event_log.{specs.{declared.ids.{CpuId.CpuId, Tid.Tid}, Actions.{Actio
 use Rattle.guest.specs.{declared.instructions.Instruction.Instruction, State.{State, after_local, after_yield, at_start, next_of}}
 use Rattle.thread_blocks.{specs.Queues.{is_in, same_tid}, proofs.{Distinct.pushed_in, Members.same_tid_self}}
 use Rattle.cpu.specs.declared.{cpus.Choice.TheVariants.{Passes, Computes}, guests.{Guest.Guest, Todo.{Todo, TheVariants.{Finish, PassOn, Compute, Calls}}}}
-use Rattle.cpu.specs.{Guests.{after_pass, computed, ended, is_calling, passed, todo_at, todo_of}, Cpus.{chosen, chosen_by, guest_at, halted_at as cpu_halted}}
+use Rattle.cpu.specs.{Guests.{after_pass, computed, guest_ended, is_calling, passed, todo_at, todo_of}, Cpus.{chosen, chosen_by, guest_at, cpu_halted_at}}
 use Rattle.cpu.specs.{Cpus.{of_cpu, of_thread, passed_by, reason_in, with_guest}, Table.{Setups.{Setup, Call as TableCall, Private, thread_at}, Choice.Alone}}
-use Rattle.cpu.specs.Table.{Choice.{Goes, at_instruction, at_ready, choice, ends, with_guest as with_state}, Steps.{cpu_step, halted_at as table_halted}}
-use Rattle.cpu.specs.Tower.{Views.{TowerName, name_of, tower}, Privates.{guests_passed, private_of, private_passed}, Composed.{HandIsKnown, IsLine, OpensAs}}
-use Rattle.cpu.{specs.{Tower.{Composed.named, Positions.IsPart}, Tables.{IsSetupOf, IsTabled, private, state_of, states}}, proofs.CpuSteps.CpuStates.TabledCpu}
-use Rattle.cpu.proofs.CpuSteps.{CpuStates.{Outset, valid}, PassSteps.{PassCase, computes_at, finish_exit, in_no_call, pass_case, switches, drains, sends_idle}}
-use Rattle.cpu.proofs.{CpuSteps.PassSteps.{sends_on, passes_on, finishes}, ListFacts.GuestLists.guest_within, StepTable.TableRows.{call_is, call_of}}
-use Rattle.cpu.proofs.StepTable.{TableRows.{guest_there, halted_same, stands_there, states_at, states_long}, TablePolls.{not_halted_so, opens_as, tabled_with}}
-use Rattle.cpu.proofs.Tower.{Chains.put_same, ChangedThread.own_at, KeptByPasses.{ComesTo, at_rest, deferred_none, pass_rest, passed_part, with_threads}}
-use Rattle.cpu.proofs.Tower.{PassLines.{computed_now, drain_line, ended_now, make_ready_line, switched_now, yield_line}, Polls.{alone_is_step, choice_current}}
-use Rattle.cpu.proofs.Tower.Polls.{choice_hand, choice_idle, halted_is_step, line_is_step, step_goes}
+use Rattle.cpu.specs.{Table.{Choice.{Goes, at_instruction, at_ready, choice, ends, with_state}, Steps.{cpu_step, halted_at}}, Tower.Views.{TowerName, name_of}}
+use Rattle.cpu.specs.Tower.{Views.tower, Privates.{guests_passed, private_of, private_passed}, Composed.{HandIsKnown, IsLine, OpensAs, named}, Positions.IsPart}
+use Rattle.cpu.{specs.Tables.{IsSetupOf, IsTabled, private, guest_state_of, guest_states}, proofs.CpuSteps.CpuStates.{TabledCpu, Outset, valid}}
+use Rattle.cpu.proofs.CpuSteps.PassSteps.{PassCase, computes_at, finish_exit, in_no_call, pass_case, switches, drains, sends_idle, sends_on, passes_on}
+use Rattle.cpu.proofs.{CpuSteps.PassSteps.finishes, ListFacts.GuestLists.guest_within, StepTable.TableRows.{call_is, call_of, guest_there, halted_same}}
+use Rattle.cpu.proofs.{StepTable.{TableRows.{stands_there, states_at, states_long}, TablePolls.{not_halted_so, opens_as, tabled_with}}, Tower.Chains.put_same}
+use Rattle.cpu.proofs.Tower.{ChangedThread.own_at, KeptByPasses.{ComesTo, at_rest, deferred_none, pass_rest, passed_part, with_threads}, PassLines.computed_now}
+use Rattle.cpu.proofs.Tower.{PassLines.{drain_line, ended_now, make_ready_line, switched_now, yield_line}, Polls.{alone_is_step, choice_current, choice_hand}}
+use Rattle.cpu.proofs.Tower.Polls.{choice_idle, halted_is_step, line_is_step, step_goes}
 use Rattle.guest.specs.declared.instructions.Instruction.TheVariants as ins
 use Rattle.layer_traits.specs.declared.call_states.Stage.TheVariants as at_stage
 
@@ -36,9 +36,9 @@ unbegun f call_state at_idle = ap (λ s. option_map f (begun_of (record call_sta
 
 -- the states of the guests, where one guest changed
 states_changed : (guests : List (Option Guest)) (t : ℕ) (f : Guest → Guest) (g : Guest) → guest_at guests t ≡ Some g
-    → states (with_guest guests t f) ≡ slice_set (states guests) t ((f g).thread)
+    → guest_states (with_guest guests t f) ≡ slice_set (guest_states guests) t ((f g).thread)
 states_changed guests t f g at =
-    map-set state_of guests t (option_map f (guest_at guests t)) ∙ ap (λ o. slice_set (states guests) t (state_of (option_map f o))) at
+    map-set guest_state_of guests t (option_map f (guest_at guests t)) ∙ ap (λ o. slice_set (guest_states guests) t (guest_state_of (option_map f o))) at
 
 -- the guests and the threads after a poll of a pass
 abbrev pub passed_if : Option Tid → List (Option Guest) → Pass → Option (Unit {0}) → List (Option Guest)
@@ -157,7 +157,7 @@ module _ (cpu : TabledCpu) where
         by_case End same (finishes t g runs has at asks) now =
             let ended_is = ap (λ (y : Threads). y.ended) now ∙ ap (λ o. (threads_in own).ended ++ as_list o) runs in
             subst (λ x. x) (λ i. IsTabled homes caps number own2 under_way2 (passed_by (sym runs i) guests (sym same i)) opening)
-            (tabled_with cpu t g ended own2 under_way2 at part2
+            (tabled_with cpu t g guest_ended own2 under_way2 at part2
             (λ over. subst (λ l. is_in t l ≡ true) (sym ended_is) (pushed_in t t (threads_in own).ended
             ∙ (ap (λ b. is_in t (threads_in own).ended || (b || false)) (same_tid_self t) ∙ or-true (is_in t (threads_in own).ended))))
             (λ u other before. subst (λ l. is_in u l ≡ true) (sym ended_is) (ended_more u t before)) quick2)
@@ -168,13 +168,13 @@ module _ (cpu : TabledCpu) where
         go (Some x) same = by_case pass refl case_is same
 
     module _ (setup : Setup) (of : IsSetupOf setup homes caps guests limit) (outset : Outset ActsFor cpu old)
-        (live : reason_in outset.inside (cpu_halted (threads_in own) guests trace limit) ≡ None) where
+        (live : reason_in outset.inside (cpu_halted_at (threads_in own) guests trace limit) ≡ None) where
       open outset use {inside, acts, idle, busy, known}
 
       opens : OpensAs setup number opening
       opens = opens_as setup homes caps number opening of.homes_are of.caps_are tabled.opens
 
-      not_halted : is_in_section (phase number old) ≡ false → table_halted setup number p ≡ None
+      not_halted : is_in_section (phase number old) ≡ false → halted_at setup number p ≡ None
       not_halted outside = grind (arith, halted_same, not_halted_so)
 
       known_so : HandIsKnown setup own2
@@ -184,9 +184,9 @@ module _ (cpu : TabledCpu) where
       Goal = IsStep ActsFor (cpu_step setup number) p (private own2 guests2 trace) (named old) (named new) Stepped
 
       -- a pass that is a line of the table
-      by_line : (line : IsLine setup number p (fifo_pass_plan setup.homes number pass own) (private_passed setup own (states guests) trace pass))
+      by_line : (line : IsLine setup number p (fifo_pass_plan setup.homes number pass own) (private_passed setup own (guest_states guests) trace pass))
           → (is_in_section (phase number old) ≡ false → choice setup number p ≡ Goes p)
-          → private_passed setup own (states guests) trace pass (record { own = own2; answer = result }) ≡ private own2 guests2 trace → Goal
+          → private_passed setup own (guest_states guests) trace pass (record { own = own2; answer = result }) ≡ private own2 guests2 trace → Goal
       by_line line goes after =
           subst (λ q. IsStep ActsFor (cpu_step setup number) p q (named old) (named new) Stepped) after
           (line_is_step (record { ActsFor = ActsFor; setup = setup; opening = opening; c = number; acts = acts; opens = opens; old = old; new = new })
@@ -194,7 +194,7 @@ module _ (cpu : TabledCpu) where
             p = p;
             q = p;
             plan = fifo_pass_plan setup.homes number pass own;
-            after = private_passed setup own (states guests) trace pass;
+            after = private_passed setup own (guest_states guests) trace pass;
             line = line;
             goes = λ past same. step_goes setup number p p old past same (λ inside. refl) goes;
           })
@@ -213,27 +213,28 @@ module _ (cpu : TabledCpu) where
       idle_guests runs = grind (arith, guests_are)
 
       line_by : (o : Buffering) → own ≡ o → (q : Pass) → pass ≡ q
-          → IsLine setup number (private o guests trace) (fifo_pass_plan setup.homes number q o) (private_passed setup o (states guests) trace q)
-          → IsLine setup number p (fifo_pass_plan setup.homes number pass own) (private_passed setup own (states guests) trace pass)
+          → IsLine setup number (private o guests trace) (fifo_pass_plan setup.homes number q o) (private_passed setup o (guest_states guests) trace q)
+          → IsLine setup number p (fifo_pass_plan setup.homes number pass own) (private_passed setup own (guest_states guests) trace pass)
       line_by o same q pass_is line = grind arith
 
       drain_step : pass ≡ Drain → (threads_in own).current ≡ None → (threads_in own).hand ≡ None → (threads_in own).ready ≡ [] → Goal
       drain_step pass_is runs has none =
           by_line (line_by (own_at None None [] (threads_in own).ended None own.cv.lock.slept own.cv.waits own.call_states)
           (λ i. own_at (runs i) (has i) (none i) (threads_in own).ended (tabled.part.idle runs i) own.cv.lock.slept own.cv.waits own.call_states) Drain pass_is
-          (drain_line setup number (states guests) trace (threads_in own).ended own.cv.lock.slept own.cv.waits own.call_states))
+          (drain_line setup number (guest_states guests) trace (threads_in own).ended own.cv.lock.slept own.cv.waits own.call_states))
           (λ outside. choice_idle setup number p has runs (not_halted outside) ∙ ap (at_ready p) none)
-          (ap (λ q. private_passed setup own (states guests) trace q (record { own = own2; answer = result })) pass_is ∙ idle_guests runs)
+          (ap (λ q. private_passed setup own (guest_states guests) trace q (record { own = own2; answer = result })) pass_is ∙ idle_guests runs)
 
       send_step : (s : Tid) → pass ≡ MakeReady s → (threads_in own).current ≡ None → (threads_in own).hand ≡ Some s → Goal
       send_step s pass_is runs has =
           by_line (line_by (own_at None (Some s) (threads_in own).ready (threads_in own).ended None own.cv.lock.slept own.cv.waits own.call_states)
           (λ i. own_at (runs i) (has i) (threads_in own).ready (threads_in own).ended (tabled.part.idle runs i) own.cv.lock.slept own.cv.waits own.call_states)
           (MakeReady s) pass_is
-          (make_ready_line setup number (states guests) trace (threads_in own).ended own.cv.lock.slept own.cv.waits own.call_states s (threads_in own).ready
+          (make_ready_line setup number (guest_states guests) trace (threads_in own).ended own.cv.lock.slept own.cv.waits own.call_states s
+          (threads_in own).ready
           (subst (λ h. IsSome (slice_get h s.0)) (sym of.homes_are) (known s has))))
           (λ outside. choice_hand setup number p s has)
-          (ap (λ q. private_passed setup own (states guests) trace q (record { own = own2; answer = result })) pass_is ∙ idle_guests runs)
+          (ap (λ q. private_passed setup own (guest_states guests) trace q (record { own = own2; answer = result })) pass_is ∙ idle_guests runs)
 
       switch_step : pass ≡ Switch → (threads_in own).current ≡ None → (threads_in own).hand ≡ None → ((threads_in own).ready ≡ [] → ⊥)
           → new ≡ old → own2 ≡ with_threads own (switched (threads_in own)) → Goal
@@ -248,7 +249,7 @@ module _ (cpu : TabledCpu) where
               let o : Buffering = own_at None None (t ∷ ready) (threads_in own).ended None own.cv.lock.slept own.cv.waits own.call_states in
               let own_so : own ≡ o = grind arith in
               let next = ap (λ x. private x guests trace) (now ∙ ap (λ x. with_threads x (switched (threads_in x))) own_so)
-              ∙ (switched_now setup number (states guests) trace (threads_in own).ended own.cv.lock.slept own.cv.waits own.call_states t ready
+              ∙ (switched_now setup number (guest_states guests) trace (threads_in own).ended own.cv.lock.slept own.cv.waits own.call_states t ready
               ∙ sym (ap (λ x. record (private x guests trace) { current = Some t; ready = ready }) own_so)) in
               by_alone outside same (choice_idle setup number p has runs (not_halted outside)
               ∙ (ap (at_ready p) queue_is ∙ ap Alone (sym next ∙ idle_guests runs)))
@@ -267,7 +268,7 @@ module _ (cpu : TabledCpu) where
         own_so = λ i. own_at (runs i) (has i) (threads_in own).ready (threads_in own).ended (deferred_none _ _ _ _ _ _ (tabled.part.mine t runs) has i)
             own.cv.lock.slept own.cv.waits own.call_states
 
-        long_guests : t.0 < length (states guests)
+        long_guests : t.0 < length (guest_states guests)
         long_guests = subst (λ n. t.0 < n) (sym (states_long guests)) (guest_within guests t.0 g at)
 
         long_call_states : t.0 < length own.call_states
@@ -285,22 +286,22 @@ module _ (cpu : TabledCpu) where
         yield_step : pass ≡ YieldNow → todo_of g ≡ PassOn → Goal
         yield_step pass_is asks =
             by_line (line_by running own_so YieldNow pass_is
-            (yield_line setup number (states guests) trace (threads_in own).ended own.cv.lock.slept own.cv.waits own.call_states t
+            (yield_line setup number (guest_states guests) trace (threads_in own).ended own.cv.lock.slept own.cv.waits own.call_states t
             (threads_in own).ready at_idle long_guests long_call_states))
             (λ outside. chosen_line outside ∙ ap (at_instruction setup number p t) (yield_line_is g.thread (next_of g.program g.thread) asks))
             (λ i. private_of own2 (states_so i) trace)
           where
-            by_result : (r : Option (Unit {0})) → guests_passed setup YieldNow (Some t) r (states guests)
-                ≡ states (passed_if (threads_in own).current guests pass r)
+            by_result : (r : Option (Unit {0})) → guests_passed setup YieldNow (Some t) r (guest_states guests)
+                ≡ guest_states (passed_if (threads_in own).current guests pass r)
             by_result None = refl
             by_result (Some x) =
-                (λ i. slice_set (states guests) t.0
+                (λ i. slice_set (guest_states guests) t.0
                 (after_yield (next_of (of.programs_are t g at i) (states_at guests t.0 g at at_start i)) (states_at guests t.0 g at at_start i)))
-                ∙ sym (ap (λ o. states (passed_by o guests pass)) runs
-                ∙ (ap (λ q. states (with_guest guests t.0 (after_pass q))) pass_is ∙ states_changed guests t.0 passed g at))
+                ∙ sym (ap (λ o. guest_states (passed_by o guests pass)) runs
+                ∙ (ap (λ q. guest_states (with_guest guests t.0 (after_pass q))) pass_is ∙ states_changed guests t.0 passed g at))
 
-            states_so : guests_passed setup pass (threads_in own).current result (states guests) ≡ states guests2
-            states_so = (λ i. guests_passed setup (pass_is i) (runs i) result (states guests)) ∙ (by_result result ∙ sym (ap states guests_are))
+            states_so : guests_passed setup pass (threads_in own).current result (guest_states guests) ≡ guest_states guests2
+            states_so = (λ i. guests_passed setup (pass_is i) (runs i) result (guest_states guests)) ∙ (by_result result ∙ sym (ap guest_states guests_are))
 
         end_step : pass ≡ End → todo_of g ≡ Finish → new ≡ old → own2 ≡ with_threads own (pass_after End queue (threads_in own)) → (x : Unit {0}) → result
             ≡ Some x → Goal
@@ -311,16 +312,17 @@ module _ (cpu : TabledCpu) where
             outside : is_in_section (phase number old) ≡ false
             outside = grind (arith, subst IsLocalPass (sym pass_is) tt)
 
-            states_so : states guests2 ≡ states guests
+            states_so : guest_states guests2 ≡ guest_states guests
             states_so =
-                ap states (guests_are ∙ ap (passed_if (threads_in own).current guests pass) done)
-                ∙ (ap (λ o. states (passed_by o guests pass)) runs ∙ (ap (λ q. states (with_guest guests t.0 (after_pass q))) pass_is
-                ∙ (states_changed guests t.0 ended g at ∙ sym (put_same (states guests) t.0 g.thread at_start (states_at guests t.0 g at at_start)))))
+                ap guest_states (guests_are ∙ ap (passed_if (threads_in own).current guests pass) done)
+                ∙ (ap (λ o. guest_states (passed_by o guests pass)) runs ∙ (ap (λ q. guest_states (with_guest guests t.0 (after_pass q))) pass_is
+                ∙ (states_changed guests t.0 guest_ended g at
+                ∙ sym (put_same (guest_states guests) t.0 g.thread at_start (states_at guests t.0 g at at_start)))))
 
             next : private own2 guests2 trace ≡ ends p t
             next =
                 (λ i. private_of ((now ∙ ap (λ y. with_threads y (pass_after End queue (threads_in y))) own_so) i) (states_so i) trace)
-                ∙ (ended_now setup number (states guests) trace (threads_in own).ended own.cv.lock.slept own.cv.waits own.call_states t
+                ∙ (ended_now setup number (guest_states guests) trace (threads_in own).ended own.cv.lock.slept own.cv.waits own.call_states t
                 (threads_in own).ready at_idle long_guests long_call_states
                 ∙ sym (ap (λ y. ends (private y guests trace) t) own_so))
 
@@ -362,7 +364,7 @@ module _ (cpu : TabledCpu) where
         (λ over. tabled.ends t g at over) (λ u other before. before) tabled.quick
 
     pub compute_steps : (ActsFor : CpuId → Type 0) (old : List (Action TowerName)) (outset : Outset ActsFor cpu old)
-        → reason_in outset.inside (cpu_halted (threads_in own) guests trace limit) ≡ None
+        → reason_in outset.inside (cpu_halted_at (threads_in own) guests trace limit) ≡ None
         → (setup : Setup) (of : IsSetupOf setup homes caps guests limit)
         → IsStep ActsFor (cpu_step setup number) p (private own (with_guest guests t.0 computed) trace) (named old) (named old) Stepped
     compute_steps ActsFor old outset live setup of =
@@ -370,14 +372,14 @@ module _ (cpu : TabledCpu) where
         let rest = at_rest _ _ _ _ _ _ (tabled.part.mine t does.0) at_idle in
         let outside : is_in_section (phase number old) ≡ false = sym outset.busy ∙ outset.idle (idle under_way refl) in
         let live_now = halted_same cpu setup of
-        ∙ not_halted_so outset.inside (is_in_section (phase number old)) (cpu_halted (threads_in own) guests trace limit) outset.busy live outside in
+        ∙ not_halted_so outset.inside (is_in_section (phase number old)) (cpu_halted_at (threads_in own) guests trace limit) outset.busy live outside in
         let quiet = call_of cpu setup of t g at
         ∙ unbegun _ (call_state_of own.call_states t) at_idle in
         let there = guest_there own guests trace t g at in
         let i : Instruction = next_of g.program g.thread in
-        let within : t.0 < length (states guests) = subst (λ n. t.0 < n) (sym (states_long guests)) (guest_within guests t.0 g at) in
+        let within : t.0 < length (guest_states guests) = subst (λ n. t.0 < n) (sym (states_long guests)) (guest_within guests t.0 g at) in
         let next = ap (λ l. private_of own l trace) (states_changed guests t.0 computed g at)
-        ∙ computed_now setup number (states guests) trace [] [] [] [] own t (after_local i g.thread) within in
+        ∙ computed_now setup number (guest_states guests) trace [] [] [] [] own t (after_local i g.thread) within in
         alone_is_step ActsFor setup number p (private own (with_guest guests t.0 computed) trace) (named old)
         (ap is_in_section (phase_renamed name_of number old) ∙ outside)
         (choice_current setup number p t None rest.hand does.0 quiet live_now
@@ -391,7 +393,7 @@ module _ (cpu : TabledCpu) where
 
   pub halted_steps : (ActsFor : CpuId → Type 0) (old : List (Action TowerName)) (setup : Setup) (of : IsSetupOf setup homes caps guests limit)
       (inside : Bool) (reason : Reason)
-      → inside ≡ is_in_section (phase number old) → reason_in inside (cpu_halted (threads_in own) guests trace limit) ≡ Some reason
+      → inside ≡ is_in_section (phase number old) → reason_in inside (cpu_halted_at (threads_in own) guests trace limit) ≡ Some reason
       → IsStep ActsFor (cpu_step setup number) p p (named old) (named old) (Halted reason)
   halted_steps ActsFor old setup of true reason busy halted = absurd (cc halted)
   halted_steps ActsFor old setup of false reason busy halted =

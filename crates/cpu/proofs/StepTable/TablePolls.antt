@@ -9,10 +9,10 @@ use Rattle.event_log.specs.{declared.{entries.Entry.Entry, ids.{BufId.BufId, Cpu
 use Rattle.{event_log.specs.Actions.phase, guest.specs.{declared.instructions.Instruction.Instruction, State.{State, at_start, next_of}}}
 use Rattle.{thread_blocks.specs.Queues.is_in, cpu.specs.declared.{cpus.Choice.TheVariants.Polls, guests.{Guest.Guest, GuestStage.GuestStage}}}
 use Rattle.cpu.specs.{declared.guests.Todo.TheVariants.Calls, Guests.{HasComeIn, after_answer, entries_of, fresh_effect, had, is_ended, polled, todo_at}}
-use Rattle.cpu.specs.{Cpus.{chosen, fresh_at, guest_at, halted_at as cpu_halted, of_cpu, of_thread, reason_in, with_guest}, Table.Setups.Setup}
-use Rattle.cpu.specs.{Table.Steps.{cpu_step, halted_at as table_halted}, Tower.{Views.{TowerBlock, TowerName, tower}, Privates.{guests_after, private_after}}}
-use Rattle.cpu.specs.Tower.{Privates.{private_of, trace_after}, Composed.{AsksFor, HandIsKnown, IsBeginning, IsGoing, OpensAs, named}, Positions.IsPart}
-use Rattle.cpu.{specs.Tables.{IsSetupOf, IsTabled, bare, private, state_of, states}, proofs.ListFacts.GuestLists.{with_each, at_other, at_same, guest_within}}
+use Rattle.cpu.specs.{Cpus.{chosen, fresh_at, guest_at, cpu_halted_at, of_cpu, of_thread, reason_in, with_guest}, Table.{Setups.Setup, Steps.cpu_step}}
+use Rattle.cpu.specs.{Table.Steps.halted_at, Tower.{Views.{TowerBlock, TowerName, tower}, Privates.{guests_after, private_after, private_of, trace_after}}}
+use Rattle.cpu.specs.{Tower.{Composed.{AsksFor, HandIsKnown, IsBeginning, IsGoing, OpensAs, named}, Positions.IsPart}, Tables.{IsSetupOf, IsTabled, bare}}
+use Rattle.cpu.{specs.Tables.{private, guest_state_of, guest_states}, proofs.ListFacts.GuestLists.{with_each, at_other, at_same, guest_within}}
 use Rattle.cpu.proofs.CpuSteps.{CpuStates.{TabledCpu, Outset, valid}, GuestsFollow.had_going, CallSteps.{PollsAt, polls_at, poll_number, poll_call_states}}
 use Rattle.cpu.proofs.{StepTable.TableRows.{call_is, halted_same, states_at, states_long}, Tower.BegunPolls.{first_polls_are_steps, polls_are_steps}}
 use Rattle.cpu.proofs.Tower.{Chains.put_same, KeptByPolls.{IsFree, begins_keep, preserved_by, plans_keep}, PolledSystem.Polled, KeptByPasses.at_rest}
@@ -94,13 +94,13 @@ module _ (cpu : TabledCpu) where
     abbrev small : t.0 < THREADS
     small = poll_number (valid cpu) t c chose
 
-    in_guests : t.0 < length (states guests)
+    in_guests : t.0 < length (guest_states guests)
     in_guests = subst (λ n. t.0 < n) (sym (states_long guests)) (guest_within guests t.0 g polls.at)
 
     follows_g : HasComeIn g.stage g.program g.thread (of_thread t.0 (of_cpu number seen)) (begun_of call_state) call_state.effect
     follows_g = (is.follow t g polls.at).1
 
-    going_so : (call_state.stage ≡ at_stage.Idle → ⊥) → IsGoing own (states guests) t c
+    going_so : (call_state.stage ≡ at_stage.Idle → ⊥) → IsGoing own (guest_states guests) t c
     going_so calls = record {
       current = polls.runs;
       begun = sym (ap (λ x. x.call) (goes_same call_state.stage call_state c calls))
@@ -113,13 +113,13 @@ module _ (cpu : TabledCpu) where
       in_waits = subst (λ n. t.0 < n) (sym tabled.part.waits) small;
     }
 
-    free_so : call_state.stage ≡ at_stage.Idle → IsFree own (states guests) t
+    free_so : call_state.stage ≡ at_stage.Idle → IsFree own (guest_states guests) t
     free_so at_idle =
         let rest = at_rest _ _ _ _ _ _ (tabled.part.mine t polls.runs) at_idle in
         let long = λ (n : ℕ) (is : n ≡ THREADS). subst (λ m. t.0 < m) (sym is) small in
         assumption (rest, polls.runs, at_idle, in_guests, long _ tabled.part.call_states, long _ tabled.part.slept, long _ tabled.part.waits)
 
-    begins_so : (setup : Setup) → IsSetupOf setup homes caps guests limit → call_state.stage ≡ at_stage.Idle → IsBeginning setup own (states guests) t c
+    begins_so : (setup : Setup) → IsSetupOf setup homes caps guests limit → call_state.stage ≡ at_stage.Idle → IsBeginning setup own (guest_states guests) t c
     begins_so setup of at_idle =
         assumption (
           free_so at_idle,
@@ -133,7 +133,7 @@ module _ (cpu : TabledCpu) where
     outside_so inside idle at_idle = grind (arith, call_is, follows_g)
 
     module _ (ActsFor : CpuId → Type 0) (old : List (Action TowerName)) (outset : Outset ActsFor cpu old)
-        (live : reason_in outset.inside (cpu_halted (threads_in own) guests trace limit) ≡ None) (after : TabledPoll ActsFor cpu t c old) where
+        (live : reason_in outset.inside (cpu_halted_at (threads_in own) guests trace limit) ≡ None) (after : TabledPoll ActsFor cpu t c old) where
       open outset use {inside, acts, idle, busy, known}
       open after use {own as own2, under_way as under_way2, guests as guests2, trace as trace2, new, result, known as known2}
       open after use {follows, ended_is, under_way_is, guests_is, trace_is}
@@ -145,11 +145,11 @@ module _ (cpu : TabledCpu) where
           go (inl at_idle) =
               preserved_by ActsFor (bare homes caps) opening number (fifo_plan homes number t c own) old new
               (record { own = own2; answer = result }) tabled.opens
-              (begins_keep (bare homes caps) number own (states guests) t c (free_so at_idle) tabled.part) follows
+              (begins_keep (bare homes caps) number own (guest_states guests) t c (free_so at_idle) tabled.part) follows
           go (inr calls) =
               preserved_by ActsFor (bare homes caps) opening number (fifo_plan homes number t c own) old new
               (record { own = own2; answer = result }) tabled.opens
-              (plans_keep (bare homes caps) number own (states guests) t c (going_so calls) known tabled.part) follows
+              (plans_keep (bare homes caps) number own (guest_states guests) t c (going_so calls) known tabled.part) follows
 
       pub poll_tabled : IsTabled homes caps number own2 under_way2 guests2 opening
       poll_tabled =
@@ -163,15 +163,15 @@ module _ (cpu : TabledCpu) where
       effect2 = (call_state_of own2.call_states t).effect
 
       module _ (setup : Setup) (of : IsSetupOf setup homes caps guests limit) where
-        states_after : (r : Option Reply) → states (with_guest guests t.0 (λ x. polled x effect2 r)) ≡ guests_after setup t r (states guests)
+        states_after : (r : Option Reply) → guest_states (with_guest guests t.0 (λ x. polled x effect2 r)) ≡ guests_after setup t r (guest_states guests)
         states_after None =
-            map-set state_of guests t.0 (option_map (λ x. polled x effect2 None) (guest_at guests t.0))
-            ∙ (ap (λ o. slice_set (states guests) t.0 (state_of (option_map (λ x. polled x effect2 None) o))) polls.at
-            ∙ sym (put_same (states guests) t.0 g.thread at_start (states_at guests t.0 g polls.at at_start)))
+            map-set guest_state_of guests t.0 (option_map (λ x. polled x effect2 None) (guest_at guests t.0))
+            ∙ (ap (λ o. slice_set (guest_states guests) t.0 (guest_state_of (option_map (λ x. polled x effect2 None) o))) polls.at
+            ∙ sym (put_same (guest_states guests) t.0 g.thread at_start (states_at guests t.0 g polls.at at_start)))
         states_after (Some r) =
-            map-set state_of guests t.0 (option_map (λ x. polled x effect2 (Some r)) (guest_at guests t.0))
-            ∙ (ap (λ o. slice_set (states guests) t.0 (state_of (option_map (λ x. polled x effect2 (Some r)) o))) polls.at
-            ∙ (λ i. slice_set (states guests) t.0 (after_answer (Some r)
+            map-set guest_state_of guests t.0 (option_map (λ x. polled x effect2 (Some r)) (guest_at guests t.0))
+            ∙ (ap (λ o. slice_set (guest_states guests) t.0 (guest_state_of (option_map (λ x. polled x effect2 (Some r)) o))) polls.at
+            ∙ (λ i. slice_set (guest_states guests) t.0 (after_answer (Some r)
             (next_of (sym (of.programs_are t g polls.at) i) (sym (states_at guests t.0 g polls.at at_start) i))
             (sym (states_at guests t.0 g polls.at at_start) i))))
 
@@ -183,10 +183,10 @@ module _ (cpu : TabledCpu) where
             (going call_state c).effect effect2
             follows_g (had_going call_state c (poll_call_states (valid cpu) t c chose)))
 
-        private_so : private_after setup number t c own (states guests) trace (record { own = own2; answer = result }) ≡ private own2 guests2 trace2
-        private_so = λ i. private_of own2 (sym (ap states guests_is ∙ states_after result) i) (sym trace_so i)
+        private_so : private_after setup number t c own (guest_states guests) trace (record { own = own2; answer = result }) ≡ private own2 guests2 trace2
+        private_so = λ i. private_of own2 (sym (ap guest_states guests_is ∙ states_after result) i) (sym trace_so i)
 
-        not_halted : is_in_section (phase number old) ≡ false → table_halted setup number (private own guests trace) ≡ None
+        not_halted : is_in_section (phase number old) ≡ false → halted_at setup number (private own guests trace) ≡ None
         not_halted outside = grind (arith, halted_same, not_halted_so)
 
         known_in : (o : Buffering) → ((u : Tid) → (threads_in o).hand ≡ Some u → IsSome (slice_get homes u.0)) → HandIsKnown setup o
@@ -212,11 +212,11 @@ module _ (cpu : TabledCpu) where
           where
             go : (call_state.stage ≡ at_stage.Idle) ⊎ (call_state.stage ≡ at_stage.Idle → ⊥)
                 → IsStep ActsFor (cpu_step setup number) (private own guests trace)
-                (private_after setup number t c own (states guests) trace (record { own = own2; answer = result })) (named old) (named new) Stepped
+                (private_after setup number t c own (guest_states guests) trace (record { own = own2; answer = result })) (named old) (named new) Stepped
             go (inl at_idle) =
                 let outside : is_in_section (phase number old) ≡ false = sym busy ∙ outside_so inside idle at_idle in
-                first_polls_are_steps polled_so own (states guests) trace t c (record { own = own2; answer = result }) (begins_so setup of at_idle)
+                first_polls_are_steps polled_so own (guest_states guests) trace t c (record { own = own2; answer = result }) (begins_so setup of at_idle)
                 (known_in own2 known2) outside (not_halted outside) follows_so
             go (inr calls) =
-                polls_are_steps polled_so own (states guests) trace t c (record { own = own2; answer = result }) (going_so calls)
+                polls_are_steps polled_so own (guest_states guests) trace t c (record { own = own2; answer = result }) (going_so calls)
                 (known_in own known) (known_in own2 known2) not_halted follows_so

@@ -4,9 +4,9 @@ use Rattle.std.{proofs.{Common.{subst, arith}, lemmas.{Bool.and_parts, Option.sl
 use Rattle.event_log.{specs.{declared.ids.{CpuId.CpuId, Tid.Tid}, History.same_cpu}, proofs.Same.{same_cpu_self, same_cpu_true}}
 use Rattle.{thread_blocks.specs.Queues.is_in, layer_traits.specs.{declared.steps.Reason.{Reason, TheVariants.AllEnded}, Threads.Places.Threads}}
 use Rattle.{layer_traits.specs.Threads.Passes.or_else, cpu.specs.{Calm.{IsQuiet, calm_by, is_calm, is_nobody}, Claims.{CpuShown, MovesAgree, Shown, buffer_at}}}
-use Rattle.cpu.specs.{Cpus.{reason_in, halted_at as own_halted_at}, Sound.{IsReachedByTable, IsSetupFor}, Systems.{own_reason, whole_of}}
-use Rattle.cpu.specs.Table.{Blocks.OfPending, Choice.at_current, Steps.{cpu_numbered, halted_at, halted_by}, Setups.{Private, Setup, have_ended, home_of}}
-use Rattle.cpu.specs.{Table.Setups.{home_threads, home_threads_from, thread_at}, Observed.{IsStill, ObservedByTable}, Wakeups.Quiet.IsQuiet as IsQuietTable}
+use Rattle.cpu.specs.{Cpus.{reason_in, cpu_halted_at}, Sound.{IsReachedByTable, IsSetupFor}, Systems.{own_reason, whole_of}}
+use Rattle.cpu.specs.Table.{Blocks.OfPending, Choice.at_current, Steps.{cpu_numbered, halted_at, halted_by}, Setups.{Private, Setup, have_ended, home_cpu}}
+use Rattle.cpu.specs.{Table.Setups.{home_threads, home_threads_from, thread_at}, Observed.{IsStill, ObservedByTable}, Wakeups.Quiet.IsQuietTable}
 use Rattle.cpu.{specs.Wakeups.Quiet.{IsQuietBy, IsStuck}, proofs.{ListFacts.ListReads.{shown_at, shows_at, there_is}, Wakeups.Stuck.quiet_is_stuck}}
 use Rattle.layer_traits.specs.declared.calls.Place.TheVariants as place
 
@@ -56,19 +56,19 @@ ended_halts : (setup : Setup) (c : CpuId) (p : Private) (reason : Reason) → ha
     → reason ≡ AllEnded
 ended_halts setup c p reason all is = grind arith
 
-home_is : (setup : Setup) (u : Tid) (c : CpuId) → home_of setup u ≡ c → u.0 < length setup.homes → slice_get setup.homes u.0 ≡ Some c
+home_is : (setup : Setup) (u : Tid) (c : CpuId) → home_cpu setup u ≡ c → u.0 < length setup.homes → slice_get setup.homes u.0 ≡ Some c
 home_is setup u c same within =
     let there = there_is setup.homes u.0 within in
     there.1 ∙ ap Some (sym (ap (λ (o : Option CpuId). or_else (record { 0 = 0 }) o) there.1) ∙ same)
 
-all_quiet : (setup : Setup) (c : CpuId) (p : Private) → have_ended p (home_threads setup c) ≡ true → (u : Tid) → home_of setup u ≡ c → u.0 < length setup.homes
+all_quiet : (setup : Setup) (c : CpuId) (p : Private) → have_ended p (home_threads setup c) ≡ true → (u : Tid) → home_cpu setup u ≡ c → u.0 < length setup.homes
     → (thread_at p u).ended ≡ true
 all_quiet setup c p all u home within =
     let zero_plus : 0 + u.0 ≡ u.0 = omega arith in
     subst (λ (n : ℕ). (thread_at p (record { 0 = n })).ended ≡ true) zero_plus
     (ended_at p c setup.homes 0 u.0 c (home_is setup u c home within) (same_cpu_self c) all)
 
-quiet_all : (setup : Setup) (c : CpuId) (p : Private) → ((u : Tid) → home_of setup u ≡ c → u.0 < length setup.homes → (thread_at p u).ended ≡ true)
+quiet_all : (setup : Setup) (c : CpuId) (p : Private) → ((u : Tid) → home_cpu setup u ≡ c → u.0 < length setup.homes → (thread_at p u).ended ≡ true)
     → have_ended p (home_threads setup c) ≡ true
 quiet_all setup c p each = all_ended p c setup.homes 0 (λ k h at same.
     let plus_zero : k ≡ 0 + k = omega arith in
@@ -104,13 +104,13 @@ module _ (s : Shown) (told : ObservedByTable s) (setup : Setup) (is : IsSetupFor
     outside = λ c within.
         let there = there_is s.cpus c.0 (below c within) in
         (told.cpus setup is c.0 there.0 there.1).inside
-        ∙ calm_outside there.0.busy (own_halted_at there.0.own there.0.guests there.0.trace there.0.limit) there.0.own (calm_at c.0 there.0 there.1 quiet);
+        ∙ calm_outside there.0.busy (cpu_halted_at there.0.own there.0.guests there.0.trace there.0.limit) there.0.own (calm_at c.0 there.0 there.1 quiet);
     cpus = λ c q at. shown_at (λ (p : CpuShown). p.private) (λ k r. IsQuietBy setup (cpu_numbered k) r (halted_at setup (cpu_numbered k) r)) s.cpus
         (λ k p there.
         let one = told.cpus setup is k p there in
         let calm = calm_at k p there quiet in
-        let free = calm_outside p.busy (own_halted_at p.own p.guests p.trace p.limit) p.own calm in
-        let now = subst (λ (b : Bool). calm_by (reason_in b (own_halted_at p.own p.guests p.trace p.limit)) b p.own ≡ true) free calm in
+        let free = calm_outside p.busy (cpu_halted_at p.own p.guests p.trace p.limit) p.own calm in
+        let now = subst (λ (b : Bool). calm_by (reason_in b (cpu_halted_at p.own p.guests p.trace p.limit)) b p.own ≡ true) free calm in
         subst (λ (o : Option Reason). IsQuietBy setup (cpu_numbered k) p.private o) (sym one.halted)
         (grind (arith, and_parts, none_is, nobody_is, all_quiet, halted_ended, one.current, one.ready, one.hand, one.halted, now))) c.0 q at;
     pending = λ c within.
@@ -129,9 +129,9 @@ module _ (s : Shown) (told : ObservedByTable s) (setup : Setup) (is : IsSetupFor
         let one = told.cpus setup is c.0 p there.1 in
         let free : p.busy ≡ false = sym one.inside ∙ quiet.outside c (inside_of c within) in
         let so = subst (λ (o : Option Reason). IsQuietBy setup c p.private o) one.halted (quiet.cpus c p.private (shows_private c.0 p there.1)) in
-        let calm = quiet_is_calm setup c p.private p.own (own_halted_at p.own p.guests p.trace p.limit) one.current one.ready one.hand one.halted so in
+        let calm = quiet_is_calm setup c p.private p.own (cpu_halted_at p.own p.guests p.trace p.limit) one.current one.ready one.hand one.halted so in
         ap is_calm there.1
-        ∙ subst (λ (b : Bool). calm_by (reason_in b (own_halted_at p.own p.guests p.trace p.limit)) b p.own ≡ true) (sym free) calm;
+        ∙ subst (λ (b : Bool). calm_by (reason_in b (cpu_halted_at p.own p.guests p.trace p.limit)) b p.own ≡ true) (sym free) calm;
     pending = λ c within.
         let there = there_is s.cpus c.0 within in
         same_queue _ (sym (told.cpus setup is c.0 there.0 there.1).pending ∙ quiet.pending c (inside_of c within));
@@ -170,7 +170,7 @@ quiet_still s told agree reached quiet = record {
           omega (arith, told.few, long),
           λ t within.
               let there = there_is s.homes t.0 (omega (arith, within, long)) in
-              let home : home_of setup t ≡ there.0 =
+              let home : home_cpu setup t ≡ there.0 =
               ap (λ (l : List CpuId). or_else (record { 0 = 0 }) (slice_get l t.0)) homes ∙ ap (λ (o : Option CpuId). or_else (record { 0 = 0 }) o) there.1 in
               let count = is.count in omega (arith, agree.within t there.0 there.1, ap (λ (d : CpuId). d.0) home, count),
         ) (reached setup is) (quiet_so s told setup is quiet)

@@ -5,20 +5,19 @@ use Rattle.layer_traits.specs.{Views.OwnParts.threads_in, declared.{calls.{Call.
 use Rattle.{layer_traits.specs.Layers.{QLockLaw.slept_for, BufferLaw.{Buffering, begun_of, call_state_of}}, event_log.specs.declared.entries.Entry.Entry}
 use Rattle.event_log.{specs.{declared.ids.{CpuId.CpuId, Tid.Tid}, History.same_cpu}, proofs.Same.{same_cpu_self, same_cpu_true}}
 use Rattle.{guest.specs.{declared.instructions.Instruction.Instruction, State.{State, next_of}}, cpu.specs.declared.guests.{Guest.Guest, GuestStage.GuestStage}}
-use Rattle.cpu.specs.{Guests.{HasComeIn, is_begun, is_calling, is_ended}, Cpus.{begins, begun_count, chosen_at, guest_at, halted_at as cpu_halted}}
-use Rattle.cpu.specs.{Cpus.{is_begun_guest, is_over, of_cpu, of_thread}, Table.Setups.{Setup, Private, Thread, have_ended, home_threads, home_threads_from}}
-use Rattle.cpu.specs.Table.{Setups.{is_open_call, open_calls, stands_at, thread_at}, Choice.{Choice, Halts, at_call, at_current}}
-use Rattle.cpu.specs.{Table.Steps.{halted_at as table_halted, halted_by}, Tower.Privates.{call_from, is_deferred, stage_from, thread_of, tid}, Tables.IsSetupOf}
-use Rattle.cpu.{specs.Tables.{private, state_of, states}, proofs.{CpuSteps.CpuStates.TabledCpu, Tower.BegunPolls.thread_here}}
-use Rattle.cpu.proofs.ListFacts.GuestLists.{guest_within}
+use Rattle.cpu.specs.{Guests.{HasComeIn, is_begun, is_calling, is_ended}, Cpus.{begins_call, begun_count, chosen_at, guest_at, cpu_halted_at, is_begun_guest}}
+use Rattle.cpu.specs.{Cpus.{is_over, of_cpu, of_thread}, Table.Setups.{Setup, Private, Thread, have_ended, home_threads, home_threads_from, is_open_call}}
+use Rattle.cpu.specs.Table.{Setups.{open_calls, stands_at, thread_at}, Choice.{Choice, Halts, at_call, at_current}, Steps.{halted_at, halted_by}}
+use Rattle.cpu.specs.{Tower.Privates.{call_from, is_deferred, stage_from, thread_of, tid}, Tables.{IsSetupOf, private, guest_state_of, guest_states}}
+use Rattle.cpu.proofs.{CpuSteps.CpuStates.TabledCpu, Tower.BegunPolls.thread_here, ListFacts.GuestLists.guest_within}
 
 -- the states of the guests
-pub states_at : (guests : List (Option Guest)) (k : ℕ) (g : Guest) → guest_at guests k ≡ Some g → (s : State) → get_or (states guests) k s ≡ g.thread
+pub states_at : (guests : List (Option Guest)) (k : ℕ) (g : Guest) → guest_at guests k ≡ Some g → (s : State) → get_or (guest_states guests) k s ≡ g.thread
 states_at [] k g is s = absurd (cc is)
-states_at (o ∷ guests) zero g is s = ap state_of is
+states_at (o ∷ guests) zero g is s = ap guest_state_of is
 states_at (o ∷ guests) (suc k) g is s = states_at guests k g is s
 
-pub states_long : (guests : List (Option Guest)) → length (states guests) ≡ length guests
+pub states_long : (guests : List (Option Guest)) → length (guest_states guests) ≡ length guests
 states_long [] = refl
 states_long (o ∷ guests) = let rec = states_long guests in omega (arith, rec)
 
@@ -85,8 +84,8 @@ halts_if b x y same = grind arith
 pub guest_there : (own : Buffering) (guests : List (Option Guest)) (trace : List Entry) (t : Tid) (g : Guest) → guest_at guests t.0 ≡ Some g
     → thread_at (private own guests trace) t ≡ thread_of own t g.thread
 guest_there own guests trace t g at =
-    let within : t.0 < length (states guests) = subst (λ n. t.0 < n) (sym (states_long guests)) (guest_within guests t.0 g at) in
-    thread_here own (states guests) trace t within ∙ ap (thread_of own t) (states_at guests t.0 g at _)
+    let within : t.0 < length (guest_states guests) = subst (λ n. t.0 < n) (sym (states_long guests)) (guest_within guests t.0 g at) in
+    thread_here own (guest_states guests) trace t within ∙ ap (thread_of own t) (states_at guests t.0 g at _)
 
 module _ (cpu : TabledCpu) where
   open cpu use {homes, caps, seen, own, number, guests, trace, limit, is, tabled, home}
@@ -141,7 +140,7 @@ module _ (cpu : TabledCpu) where
 
     -- the rest of why a CPU is halted
     abbrev rest_by : Option Tid → Option Tid → List Tid → Option Reason
-    rest_by current hand ready = if begins (chosen_at current hand ready guests) guests && full then Some TraceFull else None
+    rest_by current hand ready = if begins_call (chosen_at current hand ready guests) guests && full then Some TraceFull else None
 
     hand_rest : (s : Tid) (current : Option Tid) → rest_by current (Some s) (threads_in own).ready ≡ None
     hand_rest s current = grind arith
@@ -167,7 +166,7 @@ module _ (cpu : TabledCpu) where
         go o b is_b same = grind (arith, stands_there, all_open)
 
     -- the table's CPU is halted as this one is
-    pub halted_same : table_halted setup number p ≡ cpu_halted (threads_in own) guests trace limit
+    pub halted_same : halted_at setup number p ≡ cpu_halted_at (threads_in own) guests trace limit
     halted_same = grind (arith, hand_rest, all_ended, halts_if, by_current)
       where
         by_current : (current : Option Tid) → (threads_in own).current ≡ current

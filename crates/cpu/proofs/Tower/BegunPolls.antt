@@ -6,17 +6,17 @@ use Rattle.layer_traits.specs.{declared.call_states.{CallState.CallState, Stage.
 use Rattle.layer_traits.specs.{Polling.Plans.is_in_section, Layers.BufferLaw.{Buffering, begun_at, fifo_plan, going, going_at, plan_at, call_state_of}}
 use Rattle.{event_log.specs.{declared.{entries.Entry.Entry, ids.Tid.Tid}, Actions.phase}, guest.specs.State.{State, at_start, next_of}}
 use Rattle.cpu.specs.{Table.{Setups.{Private, new_thread, program_of, thread_at}, Choice.{Goes, choice}, Steps.{cpu_step, halted_at}}, Tower.Views.tower}
-use Rattle.cpu.specs.Tower.{Privates.{guest_at, private_after, private_of, thread_of, tid}, Composed.{AsksFor, HandIsKnown, IsBeginning, IsGoing, IsLine, asks}}
+use Rattle.cpu.specs.Tower.{Privates.{state_at, private_after, private_of, thread_of, tid}, Composed.{AsksFor, HandIsKnown, IsBeginning, IsGoing, IsLine, asks}}
 use Rattle.cpu.{specs.Tower.Composed.named, proofs.Tower.{Callers.{HasRoom, Site, awake, caller_in}, ChangedThread.{numbered_at, own_at, part_at}}}
 use Rattle.cpu.proofs.Tower.{SectionLines.{HasHad, from, own, section_line}, Plans.plans_are_lines, PolledSystem.{Polled, Way}, Polls.begins_so}
 use Rattle.cpu.proofs.Tower.Polls.{choice_current, choice_hand, line_is_step, step_goes}
 
 -- the table's thread of a number
 pub thread_here : (own : Buffering) (guests : List State) (trace : List Entry) (t : Tid) → t.0 < length guests
-    → thread_at (private_of own guests trace) t ≡ thread_of own t (guest_at guests t)
+    → thread_at (private_of own guests trace) t ≡ thread_of own t (state_at guests t)
 thread_here own guests trace t within =
     let zero_plus : 0 + t.0 ≡ t.0 = omega arith in
-    numbered_at (λ n. thread_of own (tid n)) 0 t.0 guests new_thread at_start within ∙ ap (λ n. thread_of own (tid n) (guest_at guests t)) zero_plus
+    numbered_at (λ n. thread_of own (tid n)) 0 t.0 guests new_thread at_start within ∙ ap (λ n. thread_of own (tid n) (state_at guests t)) zero_plus
 
 module _ (polled : Polled) (own : Buffering) (guests : List State) (trace : List Entry) (t : Tid) (call : Call) (got : Left Buffering Reply) where
   open polled use {ActsFor, setup, opening, c, old, new}
@@ -54,7 +54,7 @@ module _ (site : Site) (had : HasHad site None) (first_position : site.position 
   p = private_of (own site None had) site.guests site.trace
 
   abbrev g : State
-  g = guest_at site.guests site.t
+  g = state_at site.guests site.t
 
   there : thread_at p site.t ≡ thread_of (own site None had) site.t g
   there = thread_here (own site None had) site.guests site.trace site.t site.in_guests

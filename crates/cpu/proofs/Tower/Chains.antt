@@ -7,9 +7,9 @@ use Rattle.{event_log.specs.declared.ids.Tid.Tid, guest.specs.State.{State, at_s
 use Rattle.layer_traits.specs.declared.{calls.Effect.Effect, call_states.{CallState.CallState, Stage.{Stage, TheVariants.{Acquires, Enters, Tries, Waits}}}}
 use Rattle.layer_traits.specs.{declared.call_states.Stage.TheVariants.AcquiresAgain, Layers.BufferLaw.{Buffering, fifo_plan, going, plan_at, no_call}}
 use Rattle.{layer_traits.specs.Layers.{BufferLaw.{call_state_of, going_at}, QLockLaw.slept_for}, cpu.specs.{Table.Setups.Setup, Tower.Views.TowerOut}}
-use Rattle.cpu.specs.Tower.{Composed.{IsLine, IsLined, Stands, FitsStage, enters, tries, asks_again}, Privates.{guest_at, private_after, private_of}}
+use Rattle.cpu.specs.Tower.{Composed.{IsLine, IsLined, CallStands, FitsStage, enters, tries, asks_anew}, Privates.{state_at, private_after, private_of}}
 use Rattle.cpu.{specs.Tower.Privates.{thread_from, tid}, proofs.Tower.{Callers.{Caller, Runner, Site, at_next, awake, call_state_at}, ChangedThread.changed}}
-use Rattle.cpu.proofs.Tower.{ChangedThread.{goes, own_at, part_at, parts, threads_at}, SectionLines.{HasHad, after, own, call_state, threads, plan}}
+use Rattle.cpu.proofs.Tower.{ChangedThread.{runner_goes, own_at, part_at, parts, threads_at}, SectionLines.{HasHad, after, own, call_state, threads, plan}}
 use Rattle.cpu.proofs.Tower.SectionLines.{section_line, stands_as}
 
 -- the plan of a poll of this call is a line of the table
@@ -28,11 +28,11 @@ module _ (runner : Runner) (hand : Option Tid) (deferred : Option TowerOut) (tra
   pub private_here : (call_state : CallState) (s w : Option BufId) → call_state_of call_states t ≡ call_state → slept_for slept t ≡ s → slept_for waits t ≡ w
       → private_of (part_at runner hand deferred) guests trace
       ≡ parts (Some t) ready hand (slice_set (threads_at (part_at runner hand deferred) guests) t.0
-      (thread_from call_state s w (is_some deferred) (is_in t ended) (guest_at guests t))) trace
+      (thread_from call_state s w (is_some deferred) (is_in t ended) (state_at guests t))) trace
   private_here call_state s w is is_s is_w =
       (λ i. private_of (own_at (Some t) hand ready ended deferred slept waits (put_same call_states t.0 call_state no_call is i))
-      (put_same guests t.0 (guest_at guests t) at_start refl i) trace)
-      ∙ goes runner hand deferred hand ready deferred call_state (guest_at guests t) trace s w is_s is_w
+      (put_same guests t.0 (state_at guests t) at_start refl i) trace)
+      ∙ runner_goes runner hand deferred hand ready deferred call_state (state_at guests t) trace s w is_s is_w
 
 -- the plan of a poll, where the call state is this
 pub fifo_at : (setup : Setup) (c : CpuId) (t : Tid) (call : TowerCall) (own : Buffering) (call_state : CallState) → call_state_of own.call_states t ≡ call_state
@@ -41,17 +41,17 @@ fifo_at setup c t call own call_state is = ap (λ x. plan_at setup.homes c t cal
 
 -- a call that has begun goes on as it stands
 pub begun_goes : {stage : Stage} {hand : Option Tid} {deferred : Option TowerOut} {s w : Option BufId} {effect : Option Effect}
-    → Stands stage hand deferred s w effect → (x : CallState) (call : TowerCall) → going_at stage x call ≡ x
+    → CallStands stage hand deferred s w effect → (x : CallState) (call : TowerCall) → going_at stage x call ≡ x
 begun_goes given x call = grind arith
 
 pub had_at : {hand : Option Tid} {deferred : Option TowerOut} {s w : Option BufId} (site : Site) (stage : Stage) (effect : Option Effect)
-    → Stands stage hand deferred s w effect → call_state_of site.call_states site.t ≡ call_state_at site.caller stage effect → HasHad site effect
+    → CallStands stage hand deferred s w effect → call_state_of site.call_states site.t ≡ call_state_at site.caller stage effect → HasHad site effect
 had_at site stage effect given is =
     ap (λ x. (going x site.call).effect) is ∙ ap (λ x. x.effect) (begun_goes given (call_state_at site.caller stage effect) site.call)
 
 -- the plan of a poll of it is that of its stage
 pub begun_plan : {stage : Stage} {hand : Option Tid} {deferred : Option TowerOut} {s w : Option BufId} {position : ℕ} {effect : Option Effect} (setup : Setup)
-    (c : CpuId) (t : Tid) (call : TowerCall) (own : Buffering) → Stands stage hand deferred s w effect
+    (c : CpuId) (t : Tid) (call : TowerCall) (own : Buffering) → CallStands stage hand deferred s w effect
     → call_state_of own.call_states t ≡ record { stage = stage; call = Some call; position = position; effect = effect }
     → fifo_plan setup.homes c t call own
     ≡ plan_at setup.homes c t call stage (record { stage = stage; call = Some call; position = position; effect = effect }) own
@@ -60,7 +60,7 @@ begun_plan {stage} {position = position} {effect = effect} setup c t call own gi
     fifo_at setup c t call own state is ∙ ap (λ x. plan_at setup.homes c t call x.stage x own) (begun_goes given state call)
 
 -- the plan of a begun call whose caller neither slept nor waited is a line of the table
-pub site_line : (site : Site) (stage : Stage) (effect : Option Effect) → Stands stage None None None None effect → FitsStage stage (Some site.call)
+pub site_line : (site : Site) (stage : Stage) (effect : Option Effect) → CallStands stage None None None None effect → FitsStage stage (Some site.call)
     → call_state_of site.call_states site.t ≡ call_state_at site.caller stage effect
     → LineOf site.setup site.c site.t site.call (part_at site.runner None None) site.guests site.trace
 site_line site stage effect given fits is =
@@ -92,11 +92,11 @@ module _ (caller : Caller) where
       → slept_for slept t ≡ s → slept_for waits t ≡ w
       → ((j : ℕ) → j ≢ t.0 → slept_for slept2 (tid j) ≡ slept_for slept (tid j))
       → ((j : ℕ) → j ≢ t.0 → slept_for waits2 (tid j) ≡ slept_for waits (tid j)) → slept_for slept2 t ≡ None → slept_for waits2 t ≡ None
-      → thread_from (so next) None None false (is_in t ended) (guest_at guests t) ≡ thread_from (so stage) s w false (is_in t ended) (guest_at guests t)
+      → thread_from (so next) None None false (is_in t ended) (state_at guests t) ≡ thread_from (so stage) s w false (is_in t ended) (state_at guests t)
       → private_of (then_own slept2 waits2 next) guests trace ≡ private_of was guests trace
   same_private stage next slept2 waits2 s w is is_s is_w slept_same waits_same s2 w2 same =
-      (λ i. private_of (then_own slept2 waits2 next) (put_same guests t.0 (guest_at guests t) at_start refl i) trace)
-      ∙ (changed runner None None (Some t) None ready None slept2 waits2 (so next) (guest_at guests t) trace None None false
+      (λ i. private_of (then_own slept2 waits2 next) (put_same guests t.0 (state_at guests t) at_start refl i) trace)
+      ∙ (changed runner None None (Some t) None ready None slept2 waits2 (so next) (state_at guests t) trace None None false
       (λ j other. ap (λ b. b && false) (ne_eqb t.0 j (λ e. other (sym e)))) slept_same waits_same s2 w2 (ap (λ b. b && false) (same_tid_self t))
       ∙ (ap (λ x. parts (Some t) ready None (slice_set (threads_at was guests) t.0 x) trace) same
       ∙ sym (private_here runner None None trace (so stage) s w is is_s is_w)))
@@ -139,10 +139,10 @@ module _ (caller : Caller) where
       → fifo_plan setup.homes c t call was ≡ fifo_plan setup.homes c t call (woken_own AcquiresAgain)
   woken_plan b is s w = grind (arith, fifo_at, now_call_state)
 
-  handed_to : (stage next : Stage) (b : BufId) → Stands next None None None None None → FitsStage next (Some call) → call_state_of call_states t ≡ so stage
+  handed_to : (stage next : Stage) (b : BufId) → CallStands next None None None None None → FitsStage next (Some call) → call_state_of call_states t ≡ so stage
       → slept_for slept t ≡ Some b → slept_for waits t ≡ None → (going (so stage) call).effect ≡ None → (going (so next) call).effect ≡ None
-      → thread_from (so next) None None false (is_in t ended) (guest_at guests t)
-      ≡ thread_from (so stage) (Some b) None false (is_in t ended) (guest_at guests t)
+      → thread_from (so next) None None false (is_in t ended) (state_at guests t)
+      ≡ thread_from (so stage) (Some b) None false (is_in t ended) (state_at guests t)
       → fifo_plan setup.homes c t call was ≡ fifo_plan setup.homes c t call (handed_own next) → LineOf setup c t call was guests trace
   handed_to stage next b given fits is s w none none2 same goes =
       chained_line stage next (handed_own next) is (now_call_state next) none none2
@@ -164,4 +164,4 @@ module _ (caller : Caller) where
       chained_line Waits AcquiresAgain (woken_own AcquiresAgain) is (now_call_state AcquiresAgain) refl refl
       (same_private Waits AcquiresAgain slept (slice_set waits t.0 None) None (Some b) is s w
       (λ j other. refl) (λ j other. get_or-set_other waits t.0 j None None other) s (get_or-set_same waits t.0 None None in_waits) refl)
-      (woken_plan b is s w) (site_line (woken_site AcquiresAgain s) AcquiresAgain None asks_again lined (now_call_state AcquiresAgain))
+      (woken_plan b is s w) (site_line (woken_site AcquiresAgain s) AcquiresAgain None asks_anew lined (now_call_state AcquiresAgain))

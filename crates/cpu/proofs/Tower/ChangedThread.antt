@@ -4,14 +4,14 @@ use Rattle.std.proofs.{Common.{refl, ap, sym, ◌∙◌, arith}, lemmas.{Bool.ne
 use Rattle.{event_log.specs.declared.{entries.Entry.Entry, ids.{BufId.BufId, Tid.Tid}}, guest.specs.State.State, thread_blocks.specs.Queues.is_in}
 use Rattle.{thread_blocks.proofs.Members.same_tid_self, layer_traits.specs.{declared.call_states.CallState.CallState, Layers.QLockLaw.slept_for}}
 use Rattle.{layer_traits.specs.{Layers.BufferLaw.{Buffering, no_call}, Threads.Places.is_thread}, cpu.specs.Table.Setups.{Private, Thread}}
-use Rattle.cpu.{specs.Tower.{Views.TowerOut, Privates.{numbered, private_of, thread_from, thread_of, tid}}, proofs.Tower.Callers.Runner}
+use Rattle.cpu.{specs.Tower.{Views.TowerOut, Privates.{threads_numbered, private_of, thread_from, thread_of, tid}}, proofs.Tower.Callers.Runner}
 
-pub numbered_long : (f : ℕ → State → Thread) (n : ℕ) (guests : List State) → length (numbered f n guests) ≡ length guests
+pub numbered_long : (f : ℕ → State → Thread) (n : ℕ) (guests : List State) → length (threads_numbered f n guests) ≡ length guests
 numbered_long f n [] = refl
 numbered_long f n (x ∷ guests) = let rec = numbered_long f (n + 1) guests in omega (arith, rec)
 
 pub numbered_at : (f : ℕ → State → Thread) (n k : ℕ) (guests : List State) (d : Thread) (s : State) → k < length guests
-    → get_or (numbered f n guests) k d ≡ f (n + k) (get_or guests k s)
+    → get_or (threads_numbered f n guests) k d ≡ f (n + k) (get_or guests k s)
 numbered_at f n k [] d s within = absurd (omega (arith, within))
 numbered_at f n zero (x ∷ guests) d s within = let e : n ≡ n + 0 = omega arith in ap (λ m. f m x) e
 numbered_at f n (suc k) (x ∷ guests) d s within =
@@ -20,7 +20,7 @@ numbered_at f n (suc k) (x ∷ guests) d s within =
     numbered_at f (n + 1) k guests d s below ∙ ap (λ m. f m (get_or guests k s)) e
 
 pub numbered_same : (f g : ℕ → State → Thread) (n : ℕ) (guests : List State) → ((j : ℕ) (x : State) → n ≤ j → g j x ≡ f j x)
-    → numbered g n guests ≡ numbered f n guests
+    → threads_numbered g n guests ≡ threads_numbered f n guests
 numbered_same f g n [] same = refl
 numbered_same f g n (x ∷ guests) same =
     let more = numbered_same f g (n + 1) guests (λ j y below. same j y (omega (arith, below))) in
@@ -29,7 +29,7 @@ numbered_same f g n (x ∷ guests) same =
 -- where one guest and its thread changed, the others stay
 pub numbered_changed : (f g : ℕ → State → Thread) (n k m : ℕ) (guests : List State) (s : State) → m ≡ n + k
     → ((j : ℕ) (x : State) → j ≢ m → g j x ≡ f j x) → k < length guests
-    → numbered g n (slice_set guests k s) ≡ slice_set (numbered f n guests) k (g m s)
+    → threads_numbered g n (slice_set guests k s) ≡ slice_set (threads_numbered f n guests) k (g m s)
 numbered_changed f g n k m [] s is other within = absurd (omega (arith, within))
 numbered_changed f g n zero m (x ∷ guests) s is other within = grind (arith, numbered_same)
 numbered_changed f g n (suc k) m (x ∷ guests) s is other within =
@@ -58,7 +58,7 @@ abbrev pub parts : (current : Option Tid) (ready : List Tid) (hand : Option Tid)
 parts current ready hand threads trace = record { current = current; ready = ready; hand = hand; threads = threads; trace = trace }
 
 abbrev pub threads_at : Buffering → List State → List Thread
-threads_at own guests = numbered (λ n. thread_of own (tid n)) 0 guests
+threads_at own guests = threads_numbered (λ n. thread_of own (tid n)) 0 guests
 
 -- the part of a thread that runs
 abbrev pub part_at : Runner → (hand : Option Tid) (deferred : Option TowerOut) → Buffering
@@ -91,22 +91,22 @@ module _ (runner : Runner) (hand : Option Tid) (deferred : Option TowerOut) wher
       (λ i. thread_from (get_or-set_same call_states t.0 call_state no_call in_call_states i) (is_s i) (is_w i) (is_k i) (is_in t ended) guest))
 
   -- thread t runs on
-  pub goes : (hand2 : Option Tid) (ready2 : List Tid) (deferred2 : Option TowerOut) (call_state : CallState) (guest : State) (trace : List Entry)
+  pub runner_goes : (hand2 : Option Tid) (ready2 : List Tid) (deferred2 : Option TowerOut) (call_state : CallState) (guest : State) (trace : List Entry)
       (s w : Option BufId)
       → slept_for slept t ≡ s → slept_for waits t ≡ w
       → private_of (own_at (Some t) hand2 ready2 ended deferred2 slept waits (slice_set call_states t.0 call_state)) (slice_set guests t.0 guest) trace
       ≡ parts (Some t) ready2 hand2 (slice_set (threads_at before guests) t.0 (thread_from call_state s w (is_some deferred2) (is_in t ended) guest)) trace
-  goes hand2 ready2 deferred2 call_state guest trace s w is_s is_w =
+  runner_goes hand2 ready2 deferred2 call_state guest trace s w is_s is_w =
       changed (Some t) hand2 ready2 deferred2 slept waits call_state guest trace s w (is_some deferred2)
       (λ j other. ap (λ b. b && is_some deferred2) (ne_eqb t.0 j (λ e. other (sym e)))) (λ j other. refl) (λ j other. refl) is_s is_w
       (ap (λ b. b && is_some deferred2) (same_tid_self t))
 
   -- thread t sleeps or waits
-  pub gone : (hand2 : Option Tid) (ready2 : List Tid) (slept2 waits2 : List (Option BufId)) (call_state : CallState) (guest : State) (trace : List Entry)
+  pub thread_gone : (hand2 : Option Tid) (ready2 : List Tid) (slept2 waits2 : List (Option BufId)) (call_state : CallState) (guest : State) (trace : List Entry)
       (s w : Option BufId)
       → ((j : ℕ) → j ≢ t.0 → slept_for slept2 (tid j) ≡ slept_for slept (tid j))
       → ((j : ℕ) → j ≢ t.0 → slept_for waits2 (tid j) ≡ slept_for waits (tid j)) → slept_for slept2 t ≡ s → slept_for waits2 t ≡ w
       → private_of (own_at None hand2 ready2 ended None slept2 waits2 (slice_set call_states t.0 call_state)) (slice_set guests t.0 guest) trace
       ≡ parts None ready2 hand2 (slice_set (threads_at before guests) t.0 (thread_from call_state s w false (is_in t ended) guest)) trace
-  gone hand2 ready2 slept2 waits2 call_state guest trace s w slept_same waits_same is_s is_w =
+  thread_gone hand2 ready2 slept2 waits2 call_state guest trace s w slept_same waits_same is_s is_w =
       changed None hand2 ready2 None slept2 waits2 call_state guest trace s w false (λ j other. refl) slept_same waits_same is_s is_w refl

@@ -5,14 +5,14 @@ use Rattle.{event_log.specs.declared.ids.{LockId.TheVariants.Pending, Tid.Tid}, 
 use Rattle.layer_traits.specs.declared.{calls.{Effect.Effect, Reply.Reply}, conditions.CvOut.CvOut, buffer_edits.{BufferEdit.BufferEdit, BufferOut.BufferOut}}
 use Rattle.layer_traits.specs.declared.call_states.{CallState.CallState, Stage.{Stage, TheVariants.{Idle, Signals, SignalsOwn, Releases}}}
 use Rattle.layer_traits.specs.{Blocks.BufferProtocol.buffer_rules, Layers.BufferLaw.{BufferPlan, Buffering, buffer_of, going, left_recorded, plan_at, reply_of}}
-use Rattle.layer_traits.specs.Layers.{BufferLaw.{call_state_of, no_call, section_at as call_section}, Conditions.CvCall, CvLaw.{Waiting, cv_plan, left_waiting}}
+use Rattle.layer_traits.specs.Layers.{BufferLaw.{call_state_of, no_call, section_at}, Conditions.CvCall, CvLaw.{Waiting, cv_plan, left_waiting}}
 use Rattle.layer_traits.specs.{Layers.{QLockLaw.{left_after, slept_for}, QLocking.lock_moves, SleepLaw.sleep_plan}, Polling.Plans.{Left, Plan, raised}}
 use Rattle.{layer_traits.specs.Threads.Passes.queue_for, cpu.specs.{Guests.after_answer, Table.{Setups.{Thread, Private, program_of}, Choice.settled}}}
-use Rattle.cpu.specs.{Table.{Choice.{at_pending, returned_at}, Blocks.Pend}, Tower.{Views.{TowerAnswer, TowerName, TowerOut}, Privates.{call_from, guest_at}}}
-use Rattle.cpu.specs.Tower.{Privates.{guests_after, private_after, private_of, thread_from, trace_after}, Composed.{outcome_of, Stands, has_signalled}}
-use Rattle.cpu.{specs.Tower.Composed.{has_signalled_own, has_released}, proofs.Tower.{Callers.{Site, call_state_at}, ChangedThread.{goes, numbered_long}}}
-use Rattle.cpu.proofs.Tower.{ChangedThread.{own_at, part_at, parts, threads_at}, SettledAnswers.{calling, goes_on, returns}, SectionLines.react_in}
-use Rattle.cpu.proofs.Tower.Chains.{LineOf, private_here, put_same, begun_plan, had_at}
+use Rattle.cpu.specs.{Table.{Choice.{at_pending, returned_at}, Blocks.Pend}, Tower.{Views.{TowerAnswer, TowerName, TowerOut}, Privates.{call_from, state_at}}}
+use Rattle.cpu.specs.Tower.{Privates.{guests_after, private_after, private_of, thread_from, trace_after}, Composed.{woken_outcome, CallStands, has_signalled}}
+use Rattle.cpu.{specs.Tower.Composed.{has_signalled_own, has_released}, proofs.Tower.{Callers.{Site, call_state_at}, ChangedThread.runner_goes}}
+use Rattle.cpu.proofs.Tower.{ChangedThread.{numbered_long, own_at, part_at, parts, threads_at}, SettledAnswers.{calling, goes_on, returns}}
+use Rattle.cpu.proofs.Tower.{SectionLines.react_in, Chains.{LineOf, private_here, put_same, begun_plan, had_at}}
 use Rattle.layer_traits.specs.declared.locked.QOut.TheVariants as lock
 use Rattle.layer_traits.specs.declared.conditions.CvOut.TheVariants as cv
 use Rattle.layer_traits.specs.declared.queue_edits.QueueEdit.TheVariants as queue
@@ -29,7 +29,7 @@ module _ (site : Site) (u : Tid) (f : Effect) (known : IsSome (slice_get site.se
   here stage = call_state_at site.caller stage (Some f)
 
   abbrev g : State
-  g = guest_at guests t
+  g = state_at guests t
 
   abbrev e : Bool
   e = is_in t ended
@@ -68,30 +68,31 @@ module _ (site : Site) (u : Tid) (f : Effect) (known : IsSome (slice_get site.se
 
   -- a section that woke thread u: its plan is to send u, and then the call is so
   pub record Sends (out : TowerOut) (stage : Stage) (state2 : CallState) (answer : Option Reply) : Type 0 where
-    pub stands : Stands stage (Some u) (Some out) None None (Some f)
-    pub plan : plan_at setup.homes c t call stage (here stage) (own_with out) ≡ sends out stage (call_section t call stage)
-    pub still : react_in (sends out stage (call_section t call stage)) None
+    pub stands : CallStands stage (Some u) (Some out) None None (Some f)
+    pub plan : plan_at setup.homes c t call stage (here stage) (own_with out) ≡ sends out stage (section_at t call stage)
+    pub still : react_in (sends out stage (section_at t call stage)) None
         ≡ record { own = own_at (Some t) (Some u) ready ended (Some out) slept waits (slice_set call_states t.0 (here stage)); answer = None }
-    pub done : react_in (sends out stage (call_section t call stage)) (Some told.Done)
+    pub done : react_in (sends out stage (section_at t call stage)) (Some told.Done)
         ≡ record { own = own_at (Some t) None ready ended None slept waits (slice_set call_states t.0 state2); answer = answer }
 
-  beneath_at : (out : TowerOut) (stage : Stage) → (lock_moves buffer_rules).caller (call_section t call stage) ≡ t
+  beneath_at : (out : TowerOut) (stage : Stage) → (lock_moves buffer_rules).caller (section_at t call stage) ≡ t
       → raised (left_recorded t call (here stage) call_states stage)
-      (cv_plan (lock_moves buffer_rules) setup.homes c (buffer_of call) (call_section t call stage) (own_with out).cv)
-      ≡ sends out stage (call_section t call stage)
+      (cv_plan (lock_moves buffer_rules) setup.homes c (buffer_of call) (section_at t call stage) (own_with out).cv)
+      ≡ sends out stage (section_at t call stage)
   beneath_at out stage mine =
       ap (raised (left_recorded t call (here stage) call_states stage))
-      (beneath_is out (call_section t call stage) (ap (slept_for waits) mine ∙ is_waits) (ap (slept_for slept) mine ∙ is_slept))
+      (beneath_is out (section_at t call stage) (ap (slept_for waits) mine ∙ is_waits) (ap (slept_for slept) mine ∙ is_slept))
 
-  pub sends_signalled : (v : CvOut BufferOut) → Sends (outcome_of (lock.Did v) u) Signals (here SignalsOwn) None
-  sends_signalled v = record { stands = has_signalled u v f; plan = beneath_at (outcome_of (lock.Did v) u) Signals refl; still = refl; done = refl }
+  pub sends_signalled : (v : CvOut BufferOut) → Sends (woken_outcome (lock.Did v) u) Signals (here SignalsOwn) None
+  sends_signalled v = record { stands = has_signalled u v f; plan = beneath_at (woken_outcome (lock.Did v) u) Signals refl; still = refl; done = refl }
 
-  pub sends_signalled_own : (v : CvOut BufferOut) → Sends (outcome_of (lock.Did v) u) SignalsOwn (here Releases) None
-  sends_signalled_own v = record { stands = has_signalled_own u v f; plan = beneath_at (outcome_of (lock.Did v) u) SignalsOwn refl; still = refl; done = refl }
+  pub sends_signalled_own : (v : CvOut BufferOut) → Sends (woken_outcome (lock.Did v) u) SignalsOwn (here Releases) None
+  sends_signalled_own v =
+      record { stands = has_signalled_own u v f; plan = beneath_at (woken_outcome (lock.Did v) u) SignalsOwn refl; still = refl; done = refl }
 
-  pub sends_released : Sends (outcome_of (lock.Released cv.Left) u) Releases (record { stage = Idle; call = None; position = position; effect = Some f })
+  pub sends_released : Sends (woken_outcome (lock.Released cv.Left) u) Releases (record { stage = Idle; call = None; position = position; effect = Some f })
       (Some (reply_of call f))
-  sends_released = record { stands = has_released u f; plan = beneath_at (outcome_of (lock.Released cv.Left) u) Releases refl; still = refl; done = refl }
+  sends_released = record { stands = has_released u f; plan = beneath_at (woken_outcome (lock.Released cv.Left) u) Releases refl; still = refl; done = refl }
 
   module _ (out : TowerOut) (stage : Stage) (is : call_state_of call_states t ≡ here stage) where
     -- the poll leaves the hand empty, and the call goes on or returns
@@ -102,7 +103,7 @@ module _ (site : Site) (u : Tid) (f : Effect) (known : IsSome (slice_get site.se
     sent had state2 answer =
         (λ i. private_of (own_at (Some t) None ready ended None slept waits (slice_set call_states t.0 state2)) (guests_by answer i)
         (trace_after c t (buffer_of call) (had i) (get_or-set_same call_states t.0 state2 no_call in_call_states i).effect trace))
-        ∙ goes runner (Some u) (Some out) None ready None state2 (guest_by answer) trace None None is_slept is_waits
+        ∙ runner_goes runner (Some u) (Some out) None ready None state2 (guest_by answer) trace None None is_slept is_waits
 
     -- the thread as the table has it: its section is done
     threads_are : (next : Stage) → thread_from (here stage) None None true e g ≡ in_call out next
@@ -121,7 +122,7 @@ module _ (site : Site) (u : Tid) (f : Effect) (known : IsSome (slice_get site.se
     line state2 answer sends_u gives = record {
       lock = Pending (queue_for setup.homes c u);
       name = queue.Push u;
-      react = react_in (sends out stage (call_section t call stage));
+      react = react_in (sends out stage (section_at t call stage));
       is = begun_plan setup c t call (own_with out) sends_u.stands is ∙ sends_u.plan;
       asks = ap (λ d. at_pending d (Pend u)) (sym (grind (arith, known)));
       used = inr (u, home_there c (slice_get setup.homes u.0) known);
@@ -140,16 +141,16 @@ module _ (site : Site) (u : Tid) (f : Effect) (known : IsSome (slice_get site.se
         ∙ sym (threads_are next now ∙ goes_on setup c ready (threads out) trace t g e (long out) (call_from call position (Some f) next) ready trace stays))
 
   pub has_signalled_line : (v : CvOut BufferOut) → call_state_of call_states t ≡ here Signals
-      → LineOf setup c t call (own_with (outcome_of (lock.Did v) u)) guests trace
+      → LineOf setup c t call (own_with (woken_outcome (lock.Did v) u)) guests trace
   has_signalled_line v is = signalled_line _ Signals is SignalsOwn (sends_signalled v) refl refl (λ p. refl)
 
   pub has_signalled_own_line : (v : CvOut BufferOut) → call_state_of call_states t ≡ here SignalsOwn
-      → LineOf setup c t call (own_with (outcome_of (lock.Did v) u)) guests trace
+      → LineOf setup c t call (own_with (woken_outcome (lock.Did v) u)) guests trace
   has_signalled_own_line v is = signalled_line _ SignalsOwn is Releases (sends_signalled_own v) refl refl (λ p. refl)
 
-  pub has_released_line : call_state_of call_states t ≡ here Releases → LineOf setup c t call (own_with (outcome_of (lock.Released cv.Left) u)) guests trace
+  pub has_released_line : call_state_of call_states t ≡ here Releases → LineOf setup c t call (own_with (woken_outcome (lock.Released cv.Left) u)) guests trace
   has_released_line is =
-      let out : TowerOut = outcome_of (lock.Released cv.Left) u in
+      let out : TowerOut = woken_outcome (lock.Released cv.Left) u in
       line out Releases is _ _ sends_released
       (ap (λ x. parts (Some t) ready None (slice_set (threads out) t.0 (record { guest = x; call = None; ended = e })) trace)
       (grind arith)

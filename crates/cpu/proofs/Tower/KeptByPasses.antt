@@ -4,8 +4,8 @@ use Rattle.layer_traits.specs.{Views.OwnParts.threads_in, declared.{calls.Effect
 use Rattle.layer_traits.specs.{Threads.{Passes.pass_after, Places.Threads}, Polling.Plans.{Left, Follows}, Layers.BufferLaw.{Buffering, buffering_at_start}}
 use Rattle.{layer_traits.specs.Layers.BufferLaw.{fifo_pass_plan, no_call}, event_log.specs.declared.ids.{BufId.BufId, CpuId.CpuId, LockId.LockId, Tid.Tid}}
 use Rattle.{event_log.{specs.{declared.ids.TheConstants.THREADS, Actions.Action}, proofs.ListLemmas.alike_at}, cpu.specs.Tower.Views.{TowerBlock, TowerName}}
-use Rattle.cpu.specs.Tower.{Views.{TowerOut, tower}, Positions.{IsPart, MayStand, inside, outside}, Composed.{FitsStage, Stands, asks, was_handed, enters}}
-use Rattle.cpu.specs.Tower.Composed.{tries, waits, was_woken, asks_again, was_handed_again, signals, signals_own, releases, has_signalled, has_signalled_own}
+use Rattle.cpu.specs.Tower.{Views.{TowerOut, tower}, Positions.{IsPart, MayStand, inside, outside}, Composed.{FitsStage, CallStands, asks, was_handed, enters}}
+use Rattle.cpu.specs.Tower.Composed.{tries, waits, was_woken, asks_anew, was_handed_again, signals, signals_own, releases, has_signalled, has_signalled_own}
 use Rattle.cpu.specs.Tower.Composed.{has_released}
 use Rattle.layer_traits.specs.declared.passes.Pass.TheVariants as pass
 use Rattle.layer_traits.specs.declared.call_states.Stage.TheVariants as at
@@ -34,7 +34,7 @@ pub deferred_none : (stage : Stage) (hand : Option Tid) (deferred : Option Tower
 deferred_none stage hand deferred s w effect given is = grind arith
 
 stands_calls : (stage : Stage) (hand : Option Tid) (deferred : Option TowerOut) (s w : Option BufId) (effect : Option Effect)
-    → Stands stage hand deferred s w effect
+    → CallStands stage hand deferred s w effect
     → stage ≡ at.Idle → ⊥
 stands_calls stage hand deferred s w effect asks is = absurd (cc is)
 stands_calls stage hand deferred s w effect (was_handed b) is = absurd (cc is)
@@ -42,7 +42,7 @@ stands_calls stage hand deferred s w effect enters is = absurd (cc is)
 stands_calls stage hand deferred s w effect tries is = absurd (cc is)
 stands_calls stage hand deferred s w effect waits is = absurd (cc is)
 stands_calls stage hand deferred s w effect (was_woken b) is = absurd (cc is)
-stands_calls stage hand deferred s w effect asks_again is = absurd (cc is)
+stands_calls stage hand deferred s w effect asks_anew is = absurd (cc is)
 stands_calls stage hand deferred s w effect (was_handed_again b) is = absurd (cc is)
 stands_calls stage hand deferred s w effect (signals f) is = absurd (cc is)
 stands_calls stage hand deferred s w effect (signals_own f) is = absurd (cc is)

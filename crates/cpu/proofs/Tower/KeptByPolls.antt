@@ -3,23 +3,22 @@ use Rattle.std.proofs.Common.{◌≡◌, inr, ◌<◌, List, [], length, slice_g
 use Rattle.std.proofs.lemmas.{List.{get_or-set_other, length-set}, Bool.ne_eqb}
 use Rattle.layer_traits.specs.{Views.OwnParts.threads_in, declared.{calls.{Call.Call as TowerCall, Effect.Effect, Reply.Reply}, call_states.Stage.Stage}}
 use Rattle.layer_traits.specs.{declared.call_states.CallState.CallState, Layers.{QLockLaw.slept_for, BufferLaw.{Buffering, plan_at, call_state_of, fifo_plan}}}
-use Rattle.layer_traits.specs.{Layers.BufferLaw.{going_at, section_at as call_section}, Polling.Plans.{Left, Plan, Acting, Follows, at_give}}
-use Rattle.{layer_traits.specs.Threads.{Places.is_thread, Passes.queue_for}, event_log.specs.declared.ids.{BufId.BufId, CpuId.CpuId}}
-use Rattle.event_log.specs.{declared.ids.{LockId.{TheVariants.Pending, LockId}, Tid.Tid}, Actions.{Action, Phase, phase}, Sections.{block_after, sections_in}}
-use Rattle.{guest.specs.State.State, cpu.specs.{Table.Setups.Setup, Tower.{Views.{TowerAnswer, TowerBlock, TowerName, TowerOut, tower}, Positions.IsPart}}}
-use Rattle.cpu.specs.Tower.{Positions.{MayStand, inside, outside}, Composed.{FitsStage, IsLined, HandIsKnown, Stands, asks, was_handed, enters, tries}}
-use Rattle.cpu.specs.Tower.Composed.{waits as stands_waits, was_woken, asks_again, was_handed_again, signals, signals_own, releases, has_signalled}
-use Rattle.cpu.{specs.Tower.Composed.{has_signalled_own, has_released, IsGoing, OpensAs}, proofs.Tower.Callers.{Caller, HasRoom, Site, awake, caller_in}}
-use Rattle.cpu.proofs.Tower.{Callers.call_state_at, ChangedThread.{own_at, part_at}, SectionLines.{HasHad, own, react_in, plan}, KeptBySections.PlanPreserves}
-use Rattle.cpu.proofs.Tower.{KeptBySections.{Rest, on, rest_set, section_keeps}, Chains.{handed_plan, handed_again_plan, woken_plan, had_at, handed_site}}
-use Rattle.cpu.proofs.Tower.{Chains.{woken_site, now_call_state, handed_own, woken_own, begun_plan}, HandLines.{home_there, sends, Sends, sends_signalled}}
-use Rattle.cpu.proofs.Tower.{HandLines.{sends_signalled_own, sends_released}, Polls.{IsKindIn, kind_after}}
+use Rattle.layer_traits.specs.{Layers.BufferLaw.{going_at, section_at}, Polling.Plans.{Left, Plan, Acting, Follows, at_give}, Threads.Places.is_thread}
+use Rattle.{layer_traits.specs.Threads.Passes.queue_for, event_log.specs.declared.ids.{BufId.BufId, CpuId.CpuId, LockId.{TheVariants.Pending, LockId}, Tid.Tid}}
+use Rattle.{event_log.specs.{Actions.{Action, Phase, phase}, Sections.{block_after, sections_in}}, guest.specs.State.State, cpu.specs.Table.Setups.Setup}
+use Rattle.cpu.specs.Tower.{Views.{TowerAnswer, TowerBlock, TowerName, TowerOut, tower}, Positions.{IsPart, MayStand, inside, outside}, Composed.FitsStage}
+use Rattle.cpu.specs.Tower.Composed.{IsLined, HandIsKnown, CallStands, asks, was_handed, enters, tries, waits as stands_waits, was_woken, asks_anew}
+use Rattle.cpu.specs.Tower.Composed.{was_handed_again, signals, signals_own, releases, has_signalled, has_signalled_own, has_released, IsGoing, OpensAs}
+use Rattle.cpu.proofs.Tower.{Callers.{Caller, HasRoom, Site, awake, caller_in, call_state_at}, ChangedThread.{own_at, part_at}, SectionLines.{HasHad, own}}
+use Rattle.cpu.proofs.Tower.{SectionLines.{react_in, plan}, KeptBySections.{PlanPreserves, Rest, runs_kept, rest_set, section_keeps}, Chains.handed_plan}
+use Rattle.cpu.proofs.Tower.Chains.{handed_again_plan, woken_plan, had_at, handed_site, woken_site, now_call_state, handed_own, woken_own, begun_plan}
+use Rattle.cpu.proofs.Tower.{HandLines.{home_there, sends, Sends, sends_signalled, sends_signalled_own, sends_released}, Polls.{IsKindIn, kind_after}}
 use Rattle.layer_traits.specs.declared.queue_edits.QueueEdit.TheVariants as queue
 use Rattle.layer_traits.specs.declared.call_states.Stage.TheVariants as at
 
 -- the plan of a begun call whose caller neither slept nor waited
 site_keeps : (site : Site) → Rest site.t site.slept site.waits site.call_states → {stage : Stage} {effect : Option Effect}
-    → Stands stage None None None None effect → FitsStage stage (Some site.call)
+    → CallStands stage None None None None effect → FitsStage stage (Some site.call)
     → call_state_of site.call_states site.t ≡ call_state_at site.caller stage effect
     → PlanPreserves site.setup site.c (fifo_plan site.setup.homes site.c site.t site.call (part_at site.runner None None))
 site_keeps site others {stage} {effect} given fits is =
@@ -39,7 +38,7 @@ module _ (caller : Caller) (others : Rest caller.t caller.slept caller.waits cal
   Keeps o = PlanPreserves setup c (fifo_plan setup.homes c t call o)
 
   -- the thread was handed the lock, or was woken, and goes on with the next stage
-  handed_keeps : (next : Stage) → Stands next None None None None None → FitsStage next (Some call) → slept_for waiting t ≡ None
+  handed_keeps : (next : Stage) → CallStands next None None None None None → FitsStage next (Some call) → slept_for waiting t ≡ None
       → fifo_plan setup.homes c t call (pieces None None slept waiting call_states) ≡ fifo_plan setup.homes c t call (handed_own caller next)
       → Keeps (pieces None None slept waiting call_states)
   handed_keeps next given fits w goes =
@@ -57,7 +56,7 @@ module _ (caller : Caller) (others : Rest caller.t caller.slept caller.waits cal
       (site_keeps (woken_site caller at.AcquiresAgain s)
       (rest_set t slept waiting slept (slice_set waiting t.0 None) call_states (here at.AcquiresAgain None) others (λ j other. refl)
       (λ j other. get_or-set_other waiting t.0 j None None other) refl (length-set waiting t.0 None))
-      asks_again lined (now_call_state caller at.AcquiresAgain))
+      asks_anew lined (now_call_state caller at.AcquiresAgain))
 
   -- a thread in the hand is sent
   module _ (u : Tid) (f : Effect) (s : slept_for slept t ≡ None) (w : slept_for waiting t ≡ None) (known : IsSome (slice_get setup.homes u.0)) where
@@ -70,16 +69,16 @@ module _ (caller : Caller) (others : Rest caller.t caller.slept caller.waits cal
         rw (begun_plan setup c t call (pieces (Some u) (Some out) slept waiting call_states) sent.stands is ∙ sent.plan) (record {
           lock = Pending (queue_for setup.homes c u);
           name = queue.Push u;
-          react = react_in (sends (awake caller s w) u f known out stage (call_section t call stage));
+          react = react_in (sends (awake caller s w) u f known out stage (section_at t call stage));
           used = inr (u, home_there c (slice_get setup.homes u.0) known);
           is = refl;
-          stays = subst (λ l. IsPart l.own) (sym sent.still) (on (awake caller s w) (Some f) had others (Some u) ready (Some out) (here stage (Some f))
+          stays = subst (λ l. IsPart l.own) (sym sent.still) (runs_kept (awake caller s w) (Some f) had others (Some u) ready (Some out) (here stage (Some f))
               (inside stage (Some u) (Some out) None None (Some f) sent.stands) fit);
-          gives = λ x kind. subst (λ l. IsPart l.own) (sym sent.done) (on (awake caller s w) (Some f) had others None ready None next may_next fit_next);
+          gives = λ x kind. subst (λ l. IsPart l.own) (sym sent.done) (runs_kept (awake caller s w) (Some f) had others None ready None next may_next fit_next);
         })
 
   pub by_stands : {stage : Stage} {hand : Option Tid} {deferred : Option TowerOut} {s w : Option BufId} {effect : Option Effect}
-      → Stands stage hand deferred s w effect → FitsStage stage (Some call)
+      → CallStands stage hand deferred s w effect → FitsStage stage (Some call)
       → call_state_of call_states t ≡ here stage effect → slept_for slept t ≡ s → slept_for waiting t ≡ w
       → ((u : Tid) → hand ≡ Some u → IsSome (slice_get setup.homes u.0))
       → Keeps (pieces hand deferred slept waiting call_states)
@@ -87,7 +86,7 @@ module _ (caller : Caller) (others : Rest caller.t caller.slept caller.waits cal
   by_stands enters fits is is_s is_w known = site_keeps (awake caller is_s is_w) others enters fits is
   by_stands tries fits is is_s is_w known = site_keeps (awake caller is_s is_w) others tries fits is
   by_stands stands_waits fits is is_s is_w known = site_keeps (awake caller is_s is_w) others stands_waits fits is
-  by_stands asks_again fits is is_s is_w known = site_keeps (awake caller is_s is_w) others asks_again fits is
+  by_stands asks_anew fits is is_s is_w known = site_keeps (awake caller is_s is_w) others asks_anew fits is
   by_stands (signals f) fits is is_s is_w known = site_keeps (awake caller is_s is_w) others (signals f) fits is
   by_stands (signals_own f) fits is is_s is_w known = site_keeps (awake caller is_s is_w) others (signals_own f) fits is
   by_stands (releases f) fits is is_s is_w known = site_keeps (awake caller is_s is_w) others (releases f) fits is

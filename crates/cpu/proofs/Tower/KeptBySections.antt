@@ -6,13 +6,13 @@ use Rattle.{thread_blocks.specs.Queues.first, layer_traits.specs.declared.{calls
 use Rattle.layer_traits.specs.declared.{conditions.CvOut.CvOut, call_states.{Stage.Stage, CallState.CallState}, buffer_edits.BufferOut.BufferOut}
 use Rattle.layer_traits.specs.{declared.buffer_edits.BufferOut.TheVariants.NotYet, Blocks.BufferBlocks.{BufferState, buffer_answer}}
 use Rattle.layer_traits.specs.{Blocks.BufferProtocol.buffer_rules, Layers.{QLockLaw.slept_for, QLocking.{LockState, lock_answer}, BufferLaw.Buffering}}
-use Rattle.layer_traits.specs.{Layers.BufferLaw.{buffer_of, first_of, no_call, call_state_of, try_of, section_at as call_section}, Threads.Places.is_cpu}
-use Rattle.{layer_traits.specs.Polling.Plans.{Left, Plan, Act}, cpu.specs.{Table.Setups.Setup, Tower.Views.{TowerAnswer, TowerBlock, TowerName, TowerOut}}}
-use Rattle.cpu.specs.Tower.{Views.tower, Privates.tid, Positions.{IsPart, MayStand, inside, outside}, Composed.{FitsStage, IsKind, IsLined, IsUsed, Stands}}
-use Rattle.cpu.specs.Tower.Composed.{asks, was_handed, enters, tries, waits as stands_waits, was_woken, asks_again, was_handed_again, signals, signals_own}
-use Rattle.cpu.{specs.Tower.Composed.{releases, has_signalled, has_signalled_own, has_released}, proofs.Tower.{ChangedThread.own_at, Callers.Site}}
-use Rattle.cpu.proofs.Tower.SectionLines.{HasHad, Draws, Shuts, Tried, first_answer, try_answer, shut_effect, call_state, react, lift, waking, asked_out}
-use Rattle.cpu.proofs.Tower.SectionLines.{did_out, signal_out, left_out, over, plan, effect_by, effected_state, left_on, left_gone, reacted, waited, planned}
+use Rattle.layer_traits.specs.{Layers.BufferLaw.{buffer_of, first_of, no_call, call_state_of, try_of, section_at}, Threads.Places.is_cpu, Polling.Plans.Left}
+use Rattle.{layer_traits.specs.Polling.Plans.{Plan, Act}, cpu.specs.{Table.Setups.Setup, Tower.Views.{TowerAnswer, TowerBlock, TowerName, TowerOut, tower}}}
+use Rattle.cpu.specs.Tower.{Privates.tid, Positions.{IsPart, MayStand, inside, outside}, Composed.{FitsStage, IsKind, IsLined, IsUsed, CallStands, asks}}
+use Rattle.cpu.specs.Tower.Composed.{was_handed, enters, tries, waits as stands_waits, was_woken, asks_anew, was_handed_again, signals, signals_own, releases}
+use Rattle.cpu.{specs.Tower.Composed.{has_signalled, has_signalled_own, has_released}, proofs.Tower.{ChangedThread.own_at, Callers.Site, SectionLines.HasHad}}
+use Rattle.cpu.proofs.Tower.SectionLines.{Draws, Shuts, Tried, first_answer, try_answer, shut_effect, call_state, react, lift, waking, asked_out, did_out}
+use Rattle.cpu.proofs.Tower.SectionLines.{signal_out, left_out, over, plan, effect_by, effected_state, left_on, left_gone, reacted, waited, section_planned}
 use Rattle.layer_traits.specs.declared.queue_edits.QueueEdit.TheVariants as queue
 use Rattle.layer_traits.specs.declared.call_states.Stage.TheVariants as at
 use Rattle.layer_traits.specs.declared.queue_edits.QueueBlock.TheVariants as block
@@ -76,30 +76,30 @@ module _ (site : Site) (effect : Option Effect) (had : HasHad site effect) (othe
   open site use {setup, c, t, ready, ended, slept, waits as waiting, call_states, call, in_call_states, in_slept, in_waits, is_slept, is_waits}
 
   -- thread t runs on
-  pub on : (hand2 : Option Tid) (ready2 : List Tid) (deferred2 : Option TowerOut) (state2 : CallState)
+  pub runs_kept : (hand2 : Option Tid) (ready2 : List Tid) (deferred2 : Option TowerOut) (state2 : CallState)
       → MayStand state2.stage hand2 deferred2 None None state2.effect → FitsStage state2.stage state2.call
       → IsPart (own_at (Some t) hand2 ready2 ended deferred2 slept waiting (slice_set call_states t.0 state2))
-  on hand2 ready2 deferred2 state2 may fit =
+  runs_kept hand2 ready2 deferred2 state2 may fit =
       runs_part t ready2 ended slept waiting (slice_set call_states t.0 state2)
       (rest_set t slept waiting slept waiting call_states state2 others (λ j other. refl) (λ j other. refl) refl refl)
       (fit_is _ state2 (get_or-set_same call_states t.0 state2 no_call in_call_states) fit) hand2 deferred2
       (stand_is hand2 deferred2 _ state2 _ None _ None (get_or-set_same call_states t.0 state2 no_call in_call_states) is_slept is_waits may)
 
   -- with nobody in the hand, or with a thread that its section woke
-  runs_on : (ready2 : List Tid) (stage : Stage) → Stands stage None None None None effect → FitsStage stage (Some call)
+  runs_on : (ready2 : List Tid) (stage : Stage) → CallStands stage None None None None effect → FitsStage stage (Some call)
       → IsPart (own_at (Some t) None ready2 ended None slept waiting (slice_set call_states t.0 (call_state site effect had stage)))
-  runs_on ready2 stage given fit = on None ready2 None (call_state site effect had stage) (inside stage None None None None effect given) fit
+  runs_on ready2 stage given fit = runs_kept None ready2 None (call_state site effect had stage) (inside stage None None None None effect given) fit
 
-  sends_on : (u : Tid) (out : TowerOut) (stage : Stage) → Stands stage (Some u) (Some out) None None effect → FitsStage stage (Some call)
+  sends_on : (u : Tid) (out : TowerOut) (stage : Stage) → CallStands stage (Some u) (Some out) None None effect → FitsStage stage (Some call)
       → IsPart (own_at (Some t) (Some u) ready ended (Some out) slept waiting (slice_set call_states t.0 (call_state site effect had stage)))
   sends_on u out stage given fit =
-      on (Some u) ready (Some out) (call_state site effect had stage) (inside stage (Some u) (Some out) None None effect given) fit
+      runs_kept (Some u) ready (Some out) (call_state site effect had stage) (inside stage (Some u) (Some out) None None effect given) fit
 
   -- it sleeps for the lock, or waits
   gone_on : (hand2 : Option Tid) (ready2 : List Tid) (slept2 waits2 : List (Option BufId)) (stage : Stage) (s w : Option BufId)
       → ((j : ℕ) → j ≢ t.0 → slept_for slept2 (tid j) ≡ slept_for slept (tid j)) → ((j : ℕ) → j ≢ t.0 → slept_for waits2 (tid j) ≡ slept_for waiting (tid j))
       → length slept2 ≡ length slept → length waits2 ≡ length waiting → slept_for slept2 t ≡ s → slept_for waits2 t ≡ w
-      → Stands stage None None s w effect → FitsStage stage (Some call) → IsPart (left_gone site effect had hand2 ready2 slept2 waits2 stage).own
+      → CallStands stage None None s w effect → FitsStage stage (Some call) → IsPart (left_gone site effect had hand2 ready2 slept2 waits2 stage).own
   gone_on hand2 ready2 slept2 waits2 stage s w same_s same_w long_s long_w is_s is_w given fit =
       let state2 : CallState = call_state site effect had stage in
       let is = get_or-set_same call_states t.0 state2 no_call in_call_states in
@@ -107,14 +107,14 @@ module _ (site : Site) (effect : Option Effect) (had : HasHad site effect) (othe
       (rest_set t slept waiting slept2 waits2 call_states state2 others same_s same_w long_s long_w) (fit_is _ state2 is fit) hand2
       (stand_is None None _ state2 _ s _ w is is_s is_w (inside stage None None s w effect given))
 
-  asleep : (stage : Stage) → Stands stage None None (Some (buffer_of call)) None effect → FitsStage stage (Some call)
+  asleep : (stage : Stage) → CallStands stage None None (Some (buffer_of call)) None effect → FitsStage stage (Some call)
       → IsPart (left_gone site effect had None ready (slice_set slept t.0 (Some (buffer_of call))) waiting stage).own
   asleep stage given fit =
       gone_on None ready (slice_set slept t.0 (Some (buffer_of call))) waiting stage (Some (buffer_of call)) None
       (λ j other. get_or-set_other slept t.0 j (Some (buffer_of call)) None other) (λ j other. refl) (length-set slept t.0 (Some (buffer_of call))) refl
       (get_or-set_same slept t.0 (Some (buffer_of call)) None in_slept) is_waits given fit
 
-  waits_on : (hand2 : Option Tid) (ready2 : List Tid) (stage : Stage) → Stands stage None None None (Some (buffer_of call)) effect
+  waits_on : (hand2 : Option Tid) (ready2 : List Tid) (stage : Stage) → CallStands stage None None None (Some (buffer_of call)) effect
       → FitsStage stage (Some call) → IsPart (left_gone site effect had hand2 ready2 slept (slice_set waiting t.0 (Some (buffer_of call))) stage).own
   waits_on hand2 ready2 stage given fit =
       gone_on hand2 ready2 slept (slice_set waiting t.0 (Some (buffer_of call))) stage None (Some (buffer_of call)) (λ j other. refl)
@@ -145,12 +145,12 @@ module _ (site : Site) (had : HasHad site None) (others : Rest site.t site.slept
   asks_again_by lined (Some owner) = asleep site None had others at.AcquiresAgain (was_handed_again _) lined
 
   effects_by : (f : Effect) → IsPart (left_on site None had None ready None (effected_state site had f) None).own
-  effects_by f = on site None had others None ready None (effected_state site had f) (inside at.Signals None None None None (Some f) (signals f)) tt
+  effects_by f = runs_kept site None had others None ready None (effected_state site had f) (inside at.Signals None None None None (Some f) (signals f)) tt
 
   first_by : (x : BufferState) → Draws t call x ⊎ Shuts t call x → Keeps at.Enters (did_out (buffer_answer (first_of t call) x))
   first_by x (inl draws) =
       subst (λ o. Keeps at.Enters (did_out o)) (sym draws.is)
-      (on site None had others None ready None (record { stage = at.Tries; call = Some call; position = draws.pos; effect = None })
+      (runs_kept site None had others None ready None (record { stage = at.Tries; call = Some call; position = draws.pos; effect = None })
       (inside at.Tries None None None None None tries) draws.lined)
   first_by x (inr shuts) = subst (λ o. Keeps at.Enters (did_out o)) (sym shuts.is) (effects_by (shut_effect shuts.op shuts.pos))
 
@@ -189,7 +189,7 @@ module _ (site : Site) (f : Effect) (had : HasHad site (Some f)) (others : Rest 
       (sends_on site (Some f) had others u (signal_out v (Some u)) at.SignalsOwn (has_signalled_own u v f) tt) (is_cpu c (slice_get setup.homes u.0))
 
   returned_now : (ready2 : List Tid) → IsPart (own_at (Some t) None ready2 ended None slept waiting (slice_set call_states t.0 (over site f had)))
-  returned_now ready2 = on site (Some f) had others None ready2 None (over site f had) (outside (Some f)) tt
+  returned_now ready2 = runs_kept site (Some f) had others None ready2 None (over site f had) (outside (Some f)) tt
 
   releases_by : (o : Option Tid) → KeepsSome at.Releases (left_out o)
   releases_by None = returned_now ready
@@ -200,32 +200,32 @@ module _ (site : Site) (f : Effect) (had : HasHad site (Some f)) (others : Rest 
 -- Each stage.
 
 answers_keep : (site : Site) {effect : Option Effect} (had : HasHad site effect) (others : Rest site.t site.slept site.waits site.call_states) {stage : Stage}
-    → Stands stage None None None None effect → FitsStage stage (Some site.call) → (x : LockState BufferState)
-    → IsPart (reacted site effect had stage (lock_answer buffer_rules (call_section site.t site.call stage) x)).own
+    → CallStands stage None None None None effect → FitsStage stage (Some site.call) → (x : LockState BufferState)
+    → IsPart (reacted site effect had stage (lock_answer buffer_rules (section_at site.t site.call stage) x)).own
 answers_keep site had others asks fits x = asks_by site had others x.owner
 answers_keep site had others enters fits x = first_by site had others x.above (first_answer site.t site.call x.above)
 answers_keep site had others tries fits x = tries_by site had others x.above fits (try_answer site.t site.call x.above fits)
 answers_keep site had others stands_waits fits x = grind (arith, waits_by, fits)
-answers_keep site had others asks_again fits x = asks_again_by site had others fits x.owner
+answers_keep site had others asks_anew fits x = asks_again_by site had others fits x.owner
 answers_keep site had others (signals f) fits x = signals_by site f had others _ _
 answers_keep site had others (signals_own f) fits x = own_signals_by site f had others _ _
 answers_keep site had others (releases f) fits x = releases_by site f had others (first x.sleepers)
 
 -- the plan of a section preserves how all threads stand
 pub section_keeps : (site : Site) (effect : Option Effect) (had : HasHad site effect) → Rest site.t site.slept site.waits site.call_states → (stage : Stage)
-    → Stands stage None None None None effect → FitsStage stage (Some site.call) → PlanPreserves site.setup site.c (plan site effect had stage)
+    → CallStands stage None None None None effect → FitsStage stage (Some site.call) → PlanPreserves site.setup site.c (plan site effect had stage)
 section_keeps site effect had others stage given fits = record {
   lock = Buffer (buffer_of site.call);
-  name = queue.Above (call_section site.t site.call stage);
-  react = react site effect had stage (call_section site.t site.call stage);
+  name = queue.Above (section_at site.t site.call stage);
+  react = react site effect had stage (section_at site.t site.call stage);
   used = tt;
-  is = planned site had given;
+  is = section_planned site had given;
   stays = runs_on site effect had others site.ready stage given fits;
   gives = by_block;
 }
   where
     by_block : (x : TowerBlock) → IsKind (Buffer (buffer_of site.call)) x
-        → IsPart (react site effect had stage (call_section site.t site.call stage)
-        (Some (tower.answer (queue.Above (call_section site.t site.call stage)) x))).own
+        → IsPart (react site effect had stage (section_at site.t site.call stage)
+        (Some (tower.answer (queue.Above (section_at site.t site.call stage)) x))).own
     by_block (block.Above x) kind = answers_keep site had others given fits x
     by_block (block.Queue pending homes) kind = absurd kind

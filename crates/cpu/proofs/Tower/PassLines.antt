@@ -6,7 +6,7 @@ use Rattle.{guest.specs.State.{after_yield, at_start, next_of}, thread_blocks.{s
 use Rattle.layer_traits.specs.{declared.{passes.Pass.Pass, call_states.CallState.CallState}, Layers.{QLockLaw.slept_for, BufferLaw.{Buffering, fifo_pass_plan}}}
 use Rattle.layer_traits.specs.{Layers.BufferLaw.{no_call, call_state_of}, Threads.{Passes.queue_for, Places.is_thread}, Polling.Plans.Left}
 use Rattle.cpu.specs.Table.{Blocks.Pend, Setups.{Setup, Private, Thread, program_of, thread_at}, Choice.{after_by, after_section, asked_by, at_pending, ends}}
-use Rattle.cpu.specs.{Table.Choice.with_guest, Tower.{Views.{TowerAnswer, TowerBlock, answer_view, tower}, Privates.{guest_at, private_of, private_passed}}}
+use Rattle.cpu.specs.{Table.Choice.with_state, Tower.{Views.{TowerAnswer, TowerBlock, answer_view, tower}, Privates.{state_at, private_of, private_passed}}}
 use Rattle.cpu.{specs.Tower.{Privates.{thread_from, thread_of, tid}, Composed.{HandIsKnown, IsKind, IsLine}}, proofs.Tower.Callers.Runner}
 use Rattle.cpu.proofs.Tower.{ChangedThread.{changed, numbered_changed, numbered_same, own_at, part_at, parts, threads_at}, SectionLines.react_in}
 use Rattle.cpu.proofs.Tower.{HandLines.home_there, Chains.put_same, BegunPolls.thread_here}
@@ -85,7 +85,7 @@ module _ (setup : Setup) (c : CpuId) (guests : List State) (trace : List Entry) 
     p = private_of running guests trace
 
     abbrev g : State
-    g = guest_at guests t
+    g = state_at guests t
 
     abbrev free : State → Thread
     free guest = record { guest = guest; call = None; ended = is_in t ended }
@@ -156,7 +156,7 @@ module _ (setup : Setup) (c : CpuId) (guests : List State) (trace : List Entry) 
 
   -- an instruction of the thread's own
   pub computed_now : (own : Buffering) (t : Tid) (guest : State) → t.0 < length guests
-      → private_of own (slice_set guests t.0 guest) trace ≡ with_guest (private_of own guests trace) t guest
+      → private_of own (slice_set guests t.0 guest) trace ≡ with_state (private_of own guests trace) t guest
   computed_now own t guest within =
       let zero_plus : t.0 ≡ 0 + t.0 = omega arith in
       ap (λ l. parts own.cv.lock.sleep.threads.current own.cv.lock.sleep.threads.ready own.cv.lock.sleep.threads.hand l trace)

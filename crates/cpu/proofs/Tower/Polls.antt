@@ -5,8 +5,8 @@ use Rattle.event_log.{specs.Sections.{Section, block_after, sections_in}, proofs
 use Rattle.{event_log.proofs.Renaming.phase_renamed, layer_traits.specs.declared.steps.{Reason.{Reason, TheVariants.TraceFull}, Step.TheVariants.Stepped}}
 use Rattle.layer_traits.specs.{declared.steps.Step.{TheVariants.Halted, Step}, Polling.{Along.IsStep, Looks.Tries, Plans.{Left, Acting, Follows, at_give}}}
 use Rattle.layer_traits.{specs.{Polling.Plans.{is_in_section, reply}, Layers.BufferLaw.Buffering}, proofs.{LookLemmas.tries_renamed, PlanRenaming.map-append}}
-use Rattle.{layer_traits.proofs.PlanRenaming.reply_viewed, cpu.specs.Table.{Blocks.{Block, Name}, Edits.{edited, kernel}, Setups.{Setup, Private}}}
-use Rattle.cpu.specs.Table.{Setups.{opening as table_opening, thread_at, Call as TableCall}, Steps.{acting, acting_on, after_reply, chosen, cpu_step}}
+use Rattle.{layer_traits.proofs.PlanRenaming.reply_viewed, cpu.specs.Table.{Blocks.{Block, Name}, Edits.{edited, table_kernel}, Setups.{Setup, Private}}}
+use Rattle.cpu.specs.Table.{Setups.{opening as table_opening, thread_at, Call as TableCall}, Steps.{acting, acting_on, after_reply, chosen_step, cpu_step}}
 use Rattle.cpu.specs.Table.{Steps.{halted_at, halted_by, step_in}, Choice.{Alone, Choice, Goes, Halts, Ask, asked, at_call, at_hand, at_ready, choice}}
 use Rattle.cpu.specs.Tower.{Views.{TowerBlock, TowerName, answer_view, name_of, tower, view}, Composed.{HaltsExactly, HandIsKnown, IsKind, named}}
 use Rattle.cpu.proofs.Tower.{PolledSystem.{Polled, Way}, SectionViews.tables_agree}
@@ -52,12 +52,12 @@ module _ {A : Type 0} (polled : Polled) (way : Way A polled) (got : Left Bufferi
 
   -- the table's answer is the view of the layers'
   answer_is : option_map answer_view (reply tower opening c line.lock line.name past)
-      ≡ reply kernel (table_opening setup) c line.lock (name_of line.name) (named past)
+      ≡ reply table_kernel (table_opening setup) c line.lock (name_of line.name) (named past)
   answer_is =
-      reply_viewed tower kernel
+      reply_viewed tower table_kernel
       (record { name = name_of; view = view; told = answer_view; edits = tables_agree.edits; answers = tables_agree.answers })
       opening c line.lock line.name past
-      ∙ ap (λ o. at_give (phase c (named past)) (option_map (kernel.answer (name_of line.name)) o))
+      ∙ ap (λ o. at_give (phase c (named past)) (option_map (table_kernel.answer (name_of line.name)) o))
       (opens_alike (λ l. option_map view (opening l)) (table_opening setup) line.lock (opens line.lock line.used) (sections_in (named past)))
 
   by_reply : (x : Phase) (o : Option TowerBlock) → IsKindIn line.lock o → got ≡ line.react (at_give x (option_map (tower.answer line.name) o))
@@ -105,7 +105,7 @@ still_is_step ActsFor setup c p q log answer is = record {
 pub alone_is_step : (ActsFor : CpuId → Type 0) (setup : Setup) (c : CpuId) (p q : Private) (log : List (Action Name))
     → is_in_section (phase c log) ≡ false → choice setup c p ≡ Alone q → IsStep ActsFor (cpu_step setup c) p q log log Stepped
 alone_is_step ActsFor setup c p q log outside chose =
-    still_is_step ActsFor setup c p q log Stepped (ap (step_in setup c p log) outside ∙ ap (λ x. chosen setup c p x log) chose)
+    still_is_step ActsFor setup c p q log Stepped (ap (step_in setup c p log) outside ∙ ap (λ x. chosen_step setup c p x log) chose)
 
 halts_by : (x : Choice) (reason : Reason) → halted_by x ≡ Some reason → x ≡ Halts reason
 halts_by x reason is = grind arith
@@ -114,7 +114,7 @@ pub halted_is_step : (ActsFor : CpuId → Type 0) (setup : Setup) (c : CpuId) (p
     → is_in_section (phase c log) ≡ false → halted_at setup c p ≡ Some reason → IsStep ActsFor (cpu_step setup c) p p log log (Halted reason)
 halted_is_step ActsFor setup c p log reason outside halted =
     still_is_step ActsFor setup c p p log (Halted reason)
-    (ap (step_in setup c p log) outside ∙ ap (λ x. chosen setup c p x log) (halts_by (choice setup c p) reason halted))
+    (ap (step_in setup c p log) outside ∙ ap (λ x. chosen_step setup c p x log) (halts_by (choice setup c p) reason halted))
 
 pub halts_exactly : HaltsExactly
 halts_exactly setup c p log = grind arith
@@ -127,7 +127,7 @@ look_is_step ActsFor setup c p old new tries =
     let seen = tries_renamed name_of ActsFor c old new tries in
     let log : List (Action Name) = seen.past in
     let is : cpu_step setup c p log ≡ acting setup c p log = ap (λ x. step_in setup c p log (is_in_section x)) seen.waits in
-    let none = ap (λ x. at_give x (option_map (kernel.answer (asked setup c p).name)
+    let none = ap (λ x. at_give x (option_map (table_kernel.answer (asked setup c p).name)
     (block_after edited (table_opening setup) (asked setup c p).lock (sections_in log)))) seen.waits in
     let act = ap (λ x. action_in c (asked setup c p).lock (asked setup c p).name log x) seen.waits in
     let next : p ≡ (cpu_step setup c p log).next = ap (after_reply setup c p) (sym none) ∙ ap (λ o. o.next) (sym is) in

@@ -15,13 +15,14 @@ use Rattle.layer_traits.specs.Layers.BufferLaw.{buffer_of, first_of, going, left
 use Rattle.layer_traits.specs.Layers.{BufferLaw.section_at as call_section, Conditions.CvCall, CvLaw.{Waiting, cv_plan, left_waiting}, QLockLaw.Locking}
 use Rattle.layer_traits.specs.Layers.{QLockLaw.{left_after, slept_for}, QLocking.{LockState, lock_answer, lock_moves, wait_list_asked, asker_report}}
 use Rattle.layer_traits.specs.{Layers.SleepLaw.{Sleeping, left_done, sleep_plan}, Threads.Places.{Threads, is_cpu}, Polling.Plans.{Left, Plan, Now, Act}}
-use Rattle.{layer_traits.specs.Polling.Plans.raised, cpu.specs.{Guests.after_answer, Table.{Blocks.effect_of, Setups.{Call, Thread, Private, home_of}}}}
-use Rattle.cpu.specs.Table.{Setups.{program_of, thread_at}, Choice.{after_section, at_buffer, recorded, returned_at, section_at, settled, slept_if, woken}}
+use Rattle.{layer_traits.specs.Polling.Plans.raised, cpu.specs.{Guests.after_answer, Table.{Blocks.kind_for, Setups.{Call, Thread, Private, home_cpu}}}}
+use Rattle.cpu.specs.Table.{Setups.{program_of, thread_at}, Choice.{after_section, at_buffer, with_told, returned_at, section_due, settled, slept_if, woken}}
 use Rattle.cpu.specs.Tower.{Views.{TowerAnswer, TowerBlock, TowerName, TowerOut, answer_view, name_of, tower, report_in}, Composed.{HandIsKnown, IsKind}}
-use Rattle.cpu.specs.Tower.Composed.{IsLine, IsLined, Stands, FitsStage, asks, enters, tries, waits as stands_waits, asks_again, signals, signals_own, releases}
-use Rattle.cpu.specs.Tower.Privates.{asks_in, call_from, guest_at, guests_after, message_of, private_after, private_of, thread_from, trace_after, tid}
-use Rattle.cpu.proofs.Tower.{Callers.{Site, call_state_at}, ChangedThread.{goes, gone, numbered_long, own_at, part_at, parts, threads_at}}
-use Rattle.cpu.proofs.Tower.SettledAnswers.{asks_for, calling, done_with, from_t, goes_on, recorded_is, put, returns}
+use Rattle.cpu.specs.Tower.Composed.{IsLine, IsLined, CallStands, FitsStage, asks, enters, tries, waits as stands_waits, asks_anew, signals, signals_own}
+use Rattle.cpu.specs.Tower.{Composed.releases, Privates.{asks_in, call_from, state_at, guests_after, call_message, private_after, private_of, thread_from}}
+use Rattle.cpu.{specs.Tower.Privates.{trace_after, tid}, proofs.Tower.{Callers.{Site, call_state_at}, ChangedThread.{runner_goes, thread_gone, numbered_long}}}
+use Rattle.cpu.proofs.Tower.{ChangedThread.{own_at, part_at, parts, threads_at}, SettledAnswers.{asks_for, calling, done_with, from_t, goes_on, recorded_is}}
+use Rattle.cpu.proofs.Tower.SettledAnswers.{put, returns}
 use Rattle.event_log.specs.declared.entries.Kind.TheVariants as kind
 use Rattle.layer_traits.specs.declared.queue_edits.QueueEdit.TheVariants as queue
 use Rattle.layer_traits.specs.declared.queue_edits.QueueAnswer.TheVariants as told
@@ -58,8 +59,8 @@ pub record Tried (t : Tid) (call : TowerCall) (x : BufferState) : Type 0 where
   pub closed : Bool
   pub op : ℕ
   pub message : Message
-  pub is : buffer_answer (try_of t call) x ≡ Done (effect_of (asks_in call) closed) op message
-  pub same : closed ≡ true → message ≡ message_of call None
+  pub is : buffer_answer (try_of t call) x ≡ Done (kind_for (asks_in call) closed) op message
+  pub same : closed ≡ true → message ≡ call_message call None
 
 pub try_answer : (t : Tid) (call : TowerCall) (x : BufferState) → IsLined call → (buffer_answer (try_of t call) x ≡ NotYet) ⊎ Tried t call x
 try_answer t (Send b m) x lined = grind arith
@@ -70,7 +71,7 @@ try_answer t (Close b) x lined = absurd lined
 
 -- the effect of a try that found the buffer closed or not
 abbrev pub effect_by : TowerCall → (closed : Bool) → (op : ℕ) → Message → (pos : ℕ) → Effect
-effect_by call closed op m pos = record { kind = effect_of (asks_in call) closed; value = m; op = op; pos = pos }
+effect_by call closed op m pos = record { kind = kind_for (asks_in call) closed; value = m; op = op; pos = pos }
 
 -- that of a close
 abbrev pub shut_effect : (op pos : ℕ) → Effect
@@ -114,7 +115,7 @@ module _ (site : Site) (effect : Option Effect) (is_effect : HasHad site effect)
   own = part_at runner None None
 
   abbrev pub g : State
-  g = guest_at guests t
+  g = state_at guests t
 
   abbrev pub e : Bool
   e = is_in t ended
@@ -161,7 +162,8 @@ module _ (site : Site) (effect : Option Effect) (is_effect : HasHad site effect)
   runs_on hand2 ready2 deferred2 state2 answer =
       (λ i. private_of (own_at (Some t) hand2 ready2 ended deferred2 slept waits (slice_set call_states t.0 state2)) (guests_by answer i)
       (trace_after c t buf (is_effect i) (get_or-set_same call_states t.0 state2 no_call in_call_states i).effect trace))
-      ∙ goes runner None None hand2 ready2 deferred2 state2 (guest_by answer) (trace_after c t buf effect state2.effect trace) None None is_slept is_waits
+      ∙ runner_goes runner None None hand2 ready2 deferred2 state2 (guest_by answer) (trace_after c t buf effect state2.effect trace) None None
+      is_slept is_waits
 
   -- what a poll leaves after which thread t sleeps for the lock, or waits
   abbrev pub left_gone : (hand2 : Option Tid) (ready2 : List Tid) (slept2 waits2 : List (Option BufId)) (stage : Stage) → Left Buffering Reply
@@ -176,7 +178,7 @@ module _ (site : Site) (effect : Option Effect) (is_effect : HasHad site effect)
   gone_now hand2 ready2 slept2 waits2 stage s w same_s same_w is_s is_w =
       (λ i. private_of (own_at None hand2 ready2 ended None slept2 waits2 (slice_set call_states t.0 (call_state stage))) (guests_by None i)
       (trace_after c t buf (is_effect i) (get_or-set_same call_states t.0 (call_state stage) no_call in_call_states i).effect trace))
-      ∙ gone runner None None hand2 ready2 slept2 waits2 (call_state stage) g (trace_after c t buf effect effect trace) s w same_s same_w is_s is_w
+      ∙ thread_gone runner None None hand2 ready2 slept2 waits2 (call_state stage) g (trace_after c t buf effect effect trace) s w same_s same_w is_s is_w
 
   -- The plan of a section whose caller neither sleeps nor waits.
 
@@ -222,7 +224,7 @@ module _ (site : Site) (effect : Option Effect) (is_effect : HasHad site effect)
   pub by_home : (u : Tid) (F : Bool → Left Buffering Reply) (H : Bool → Private) → ((b : Bool) → after (F b) ≡ H b)
       → (HandIsKnown setup (F false).own → IsSome (slice_get setup.homes u.0))
       → HandIsKnown setup (F (is_cpu c (slice_get setup.homes u.0))).own
-      → after (F (is_cpu c (slice_get setup.homes u.0))) ≡ H (same_cpu (home_of setup u) c)
+      → after (F (is_cpu c (slice_get setup.homes u.0))) ≡ H (same_cpu (home_cpu setup u) c)
   by_home u F H each hand known = grind (arith, same_cpu_sym)
 
   -- The table's side.
@@ -243,7 +245,7 @@ module _ (site : Site) (effect : Option Effect) (is_effect : HasHad site effect)
   -- the section of a stage that told this leaves the call so
   abbrev pub Records : Stage → TowerOut → Call → List Entry → Type 0
   Records stage out next trace2 =
-      recorded c (from stage) t (k stage) (k stage).stage (report_in out.out) ≡ putting (k stage) next trace2 (thread_at (from stage) t)
+      with_told c (from stage) t (k stage) (k stage).stage (report_in out.out) ≡ putting (k stage) next trace2 (thread_at (from stage) t)
 
   pub by_table : (stage : Stage) (out : TowerOut) (next : Call) (trace2 : List Entry) → Records stage out next trace2
       → by_answer stage out ≡ settled setup (woken setup c out.woke (slept_if out.slept (stands ready None next trace2)))
@@ -351,7 +353,7 @@ module _ (site : Site) (had : HasHad site None) where
       (runs site None had Tries (lock.Did (cv.Did NotYet)) (call_state site None had Waits) (k site None had Waits) trace refl (λ p. refl) refl)
   tries_by x lined (inr tried) =
       subst (λ o. Fits Tries (did_out o)) (sym tried.is)
-      (effects Tries (Done (effect_of (asks_in call) tried.closed) tried.op tried.message)
+      (effects Tries (Done (kind_for (asks_in call) tried.closed) tried.op tried.message)
       (effect_by call tried.closed tried.op tried.message position) (grind (arith, lined, tried.same)))
 
   -- it waits, with the thread that it woke at home or in the hand
@@ -450,32 +452,32 @@ module _ (site : Site) (f : Effect) (had : HasHad site (Some f)) where
 -- Each stage.
 
 -- where a call's next section is due, its plan is this section's
-pub planned : (site : Site) {effect : Option Effect} (had : HasHad site effect) {stage : Stage} → Stands stage None None None None effect
+pub section_planned : (site : Site) {effect : Option Effect} (had : HasHad site effect) {stage : Stage} → CallStands stage None None None None effect
     → plan site effect had stage ≡ fresh site effect had stage (call_section site.t site.call stage)
-planned site had asks = grind (arith, beneath_is)
-planned site had enters = grind (arith, beneath_is)
-planned site had tries = grind (arith, beneath_is)
-planned site had stands_waits = grind (arith, beneath_is)
-planned site had asks_again = grind (arith, beneath_is)
-planned site had (signals f) = grind (arith, beneath_is)
-planned site had (signals_own f) = grind (arith, beneath_is)
-planned site had (releases f) = grind (arith, beneath_is)
+section_planned site had asks = grind (arith, beneath_is)
+section_planned site had enters = grind (arith, beneath_is)
+section_planned site had tries = grind (arith, beneath_is)
+section_planned site had stands_waits = grind (arith, beneath_is)
+section_planned site had asks_anew = grind (arith, beneath_is)
+section_planned site had (signals f) = grind (arith, beneath_is)
+section_planned site had (signals_own f) = grind (arith, beneath_is)
+section_planned site had (releases f) = grind (arith, beneath_is)
 
 -- its thread is as the table has it
-pub stands_as : (site : Site) (effect : Option Effect) (had : HasHad site effect) (stage : Stage) → Stands stage None None None None effect
+pub stands_as : (site : Site) (effect : Option Effect) (had : HasHad site effect) (stage : Stage) → CallStands stage None None None None effect
     → thread_from (call_state site effect had stage) None None false (e site effect had) (g site effect had)
     ≡ with_call site effect had (k site effect had stage)
 stands_as site effect had stage given = grind arith
 
 -- the table asks for the section under its own name
-named_so : (t : Tid) (call : TowerCall) (position : ℕ) {effect : Option Effect} {stage : Stage} → Stands stage None None None None effect
-    → FitsStage stage (Some call) → section_at t (call_from call position effect stage) stage ≡ name_of (queue.Above (call_section t call stage))
+named_so : (t : Tid) (call : TowerCall) (position : ℕ) {effect : Option Effect} {stage : Stage} → CallStands stage None None None None effect
+    → FitsStage stage (Some call) → section_due t (call_from call position effect stage) stage ≡ name_of (queue.Above (call_section t call stage))
 named_so t call position given fits = grind arith
 
 same_trace : (c : CpuId) (t : Tid) (b : BufId) (effect : Option Effect) (trace : List Entry) → trace_after c t b effect effect trace ≡ trace
 same_trace c t b effect trace = grind arith
 
-answers : (site : Site) {effect : Option Effect} (had : HasHad site effect) {stage : Stage} → Stands stage None None None None effect
+answers : (site : Site) {effect : Option Effect} (had : HasHad site effect) {stage : Stage} → CallStands stage None None None None effect
     → FitsStage stage (Some site.call) → (x : LockState BufferState)
     → HandIsKnown site.setup (reacted site effect had stage (lock_answer buffer_rules (call_section site.t site.call stage) x)).own
     → after site effect had (reacted site effect had stage (lock_answer buffer_rules (call_section site.t site.call stage) x))
@@ -484,19 +486,19 @@ answers site had asks fits x known = ask site had x.owner
 answers site had enters fits x known = first_by site had x.above (first_answer site.t site.call x.above)
 answers site had tries fits x known = tries_by site had x.above fits (try_answer site.t site.call x.above fits)
 answers site had stands_waits fits x known = grind (arith, wait_now, known)
-answers site had asks_again fits x known = ask_again site had x.owner
+answers site had asks_anew fits x known = ask_again site had x.owner
 answers site had (signals f) fits x known = signal site f had _ _ known
 answers site had (signals_own f) fits x known = own_signal site f had _ _ known
 answers site had (releases f) fits x known = release site f had (first x.sleepers) known
 
 -- the plan of a section is a line of the table
-pub section_line : (site : Site) (effect : Option Effect) (had : HasHad site effect) (stage : Stage) → Stands stage None None None None effect
+pub section_line : (site : Site) (effect : Option Effect) (had : HasHad site effect) (stage : Stage) → CallStands stage None None None None effect
     → FitsStage stage (Some site.call) → IsLine site.setup site.c (from site effect had stage) (plan site effect had stage) (after site effect had)
 section_line site effect had stage given fits = record {
   lock = Buffer (buf site effect had);
   name = queue.Above (call_section site.t site.call stage);
   react = react site effect had stage (call_section site.t site.call stage);
-  is = planned site had given;
+  is = section_planned site had given;
   asks =
       asks_for site.setup site.c site.ready (threads site effect had) site.trace site.t (g site effect had) (e site effect had) (within site effect had)
       (k site effect had stage)

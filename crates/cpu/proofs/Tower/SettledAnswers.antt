@@ -2,7 +2,7 @@
 use Rattle.std.proofs.{Common.{◌≡◌, ◌<◌, Bool, List, length, slice_set, Option, Some, None, ap, ◌∙◌}, lemmas.List.{get_or-set_same, set-set}}
 use Rattle.{event_log.specs.declared.{entries.Entry.Entry, ids.{CpuId.CpuId, Tid.Tid}}, guest.specs.State.{State, next_of}, cpu.specs.Table.Blocks.Answer}
 use Rattle.cpu.specs.Table.{Setups.{Setup, Call, Thread, Private, new_thread, program_of, thread_at}, Choice.{after_by, after_section, asked, asked_by}}
-use Rattle.cpu.specs.Table.Choice.{at_buffer, guest_after, recorded, returned_at, returned_by, section_at, settled, slept_if, woken}
+use Rattle.cpu.specs.Table.Choice.{at_buffer, guest_after, with_told, returned_at, returned_by, section_due, settled, slept_if, woken}
 use Rattle.{cpu.proofs.Tower.ChangedThread.parts, layer_traits.specs.declared.call_states.Stage.TheVariants.Idle}
 
 module _ (setup : Setup) (c : CpuId) (ready : List Tid) (threads : List Thread) (trace : List Entry) (t : Tid) (g : State) (e : Bool)
@@ -24,7 +24,7 @@ module _ (setup : Setup) (c : CpuId) (ready : List Tid) (threads : List Thread) 
   there : (x : Thread) (ready2 : List Tid) (hand : Option Tid) (trace2 : List Entry) → thread_at (with_t ready2 hand x trace2) t ≡ x
   there x ready2 hand trace2 = get_or-set_same threads t.0 x new_thread within
 
-  pub asks_for : (call : Call) → asked setup c (from_t call) ≡ at_buffer call.buffer (section_at t call call.stage)
+  pub asks_for : (call : Call) → asked setup c (from_t call) ≡ at_buffer call.buffer (section_due t call call.stage)
   asks_for call = ap (λ x. asked_by c t x.call) (there (calling call) ready None trace)
 
   -- the table's private state after a section whose answer leaves the call so
@@ -32,7 +32,7 @@ module _ (setup : Setup) (c : CpuId) (ready : List Tid) (threads : List Thread) 
   put call next trace2 x = parts (Some t) ready None (slice_set (slice_set threads t.0 (calling call)) t.0 (record x { call = Some next })) trace2
 
   pub recorded_is : (call : Call) (a : Answer) (next : Call) (trace2 : List Entry)
-      → recorded c (from_t call) t call call.stage a.told ≡ put call next trace2 (thread_at (from_t call) t)
+      → with_told c (from_t call) t call call.stage a.told ≡ put call next trace2 (thread_at (from_t call) t)
       → after_section setup c (from_t call) a ≡ settled setup (woken setup c a.woke (slept_if a.slept (with_t ready None (calling next) trace2)))
   recorded_is call a next trace2 is =
       ap (λ x. after_by setup c (from_t call) t x.call a) (there (calling call) ready None trace)

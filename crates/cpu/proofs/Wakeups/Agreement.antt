@@ -8,7 +8,7 @@ use Rattle.{thread_blocks.{specs.Queues.same_tid, proofs.Members.{same_tid_self,
 use Rattle.layer_traits.specs.declared.{locked.Side.TheVariants.{Receivers, Senders}, call_states.Stage.{Stage, TheVariants.{Idle, Enters, Tries, Waits}}}
 use Rattle.layer_traits.specs.{declared.call_states.Stage.TheVariants.{AcquiresAgain, Signals, SignalsOwn, Releases}, Threads.Places.{Where, is_home, is_hand}}
 use Rattle.layer_traits.{specs.Threads.Places.{is_thread, one_if, count_in}, proofs.{CountLemmas.{same_tid_sym, count_append}, PlaceLemmas.is_home_true}}
-use Rattle.cpu.specs.Table.{Blocks.side_of, Setups.{Setup, Call, Thread, Private, new_thread, thread_at, with_thread, home_of}, Choice.{slept_if, woken}}
+use Rattle.cpu.specs.Table.{Blocks.side_of_group, Setups.{Setup, Call, Thread, Private, new_thread, thread_at, with_thread, home_cpu}, Choice.{slept_if, woken}}
 use Rattle.cpu.{specs.Wakeups.Order.{Progress, Begins, HasEntered, WasRefused, Owes}, proofs.Wakeups.{Lists.refuted, PostsAndVisits.{Waiting, Visit, Outside}}}
 use Rattle.cpu.proofs.Wakeups.PostsAndVisits.{In, post_woken, is_local}
 
@@ -30,7 +30,7 @@ visit_of_stage b side given = Outside
 
 abbrev pub visit_of_call : Option Call → Visit
 visit_of_call None = Outside
-visit_of_call (Some call) = visit_of_stage call.buffer (side_of call.asks) call.stage
+visit_of_call (Some call) = visit_of_stage call.buffer (side_of_group call.asks) call.stage
 
 -- a call that has done its last section
 abbrev pub is_last : Stage → Bool
@@ -87,16 +87,16 @@ agrees_same setup c p q t T N P agrees same others mine = grind (arith, by_test)
 
 -- The thread that runs.
 
-pub runs : (setup : Setup) (c : CpuId) (p : Private) (T : Tid → Visit) (P : Tid → Where) → Agrees setup c p T P → (t : Tid) → p.current ≡ Some t
+pub runs_at_home : (setup : Setup) (c : CpuId) (p : Private) (T : Tid → Visit) (P : Tid → Where) → Agrees setup c p T P → (t : Tid) → p.current ≡ Some t
     → (is_local setup c t ≡ true) × (is_home (P t) ≡ true) × ((thread_at p t).ended ≡ false) × (count_in t p.ready ≡ 0)
-runs setup c p T P agrees t is = grind (arith, same_tid_self, and_parts)
+runs_at_home setup c p T P agrees t is = grind (arith, same_tid_self, and_parts)
 
 pub known_of : (setup : Setup) (c : CpuId) (t : Tid) → is_local setup c t ≡ true → t.0 < length setup.homes
-known_of setup c t local = ltb-true t.0 (length setup.homes) (and_parts (same_cpu (home_of setup t) c) (nat_lt t.0 (length setup.homes)) local).1
+known_of setup c t local = ltb-true t.0 (length setup.homes) (and_parts (same_cpu (home_cpu setup t) c) (nat_lt t.0 (length setup.homes)) local).1
 
-pub within : (setup : Setup) (c : CpuId) (p : Private) (T : Tid → Visit) (P : Tid → Where) → Agrees setup c p T P
+pub local_within : (setup : Setup) (c : CpuId) (p : Private) (T : Tid → Visit) (P : Tid → Where) → Agrees setup c p T P
     → (t : Tid) → is_local setup c t ≡ true → t.0 < length p.threads
-within setup c p T P agrees t local = subst (λ n. t.0 < n) (sym agrees.size) (known_of setup c t local)
+local_within setup c p T P agrees t local = subst (λ n. t.0 < n) (sym agrees.size) (known_of setup c t local)
 
 -- The caller goes to sleep.
 
@@ -108,7 +108,7 @@ agrees_slept setup c p t T P N false agrees runs_now others stays sleeps = grind
   where
     same : (u : Tid) → N u ≡ P u
     same u = grind (arith, same_tid_true, others)
-agrees_slept setup c p t T P N true agrees runs_now others stays sleeps = grind (arith, runs, same_tid_true, is_home_true, refuted, and_right, and_left)
+agrees_slept setup c p t T P N true agrees runs_now others stays sleeps = grind (arith, runs_at_home, same_tid_true, is_home_true, refuted, and_right, and_left)
 
 -- A thread is woken.
 
@@ -116,12 +116,12 @@ pub agrees_woken : (setup : Setup) (c : CpuId) (p : Private) (T : Tid → Visit)
     → ((s : Tid) → woke ≡ Some s → (is_home (P s) ≡ false) × (nat_lt s.0 (length setup.homes) ≡ true))
     → Agrees setup c (woken setup c woke p) T (λ u. if is_thread u woke then post_woken setup c u else P u)
 agrees_woken setup c p T P None agrees empty asleep = agrees
-agrees_woken setup c p T P (Some s) agrees empty asleep = by_home (same_cpu (home_of setup s) c) refl
+agrees_woken setup c p T P (Some s) agrees empty asleep = by_home (same_cpu (home_cpu setup s) c) refl
   where
     N : Tid → Where
     N u = if same_tid s u then post_woken setup c u else P u
 
-    by_home : (here : Bool) → same_cpu (home_of setup s) c ≡ here
+    by_home : (here : Bool) → same_cpu (home_cpu setup s) c ≡ here
         → Agrees setup c (if here then record p { ready = p.ready ++ s ∷ [] } else record p { hand = Some s }) T
         (λ u. if same_tid s u then post_woken setup c u else P u)
     by_home true here = record {

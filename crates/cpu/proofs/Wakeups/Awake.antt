@@ -4,8 +4,8 @@ use Rattle.std.proofs.lemmas.{Bool.false_from_ne_true, Option.same_Some}
 use Rattle.{event_log.specs.declared.ids.Tid.Tid, thread_blocks.{specs.Queues.{first, rest}, proofs.Members.{same_tid_self, same_tid_true}}}
 use Rattle.{thread_blocks.proofs.Distinct.taken_absent, layer_traits.specs.{declared.locked.Side.TheVariants.{Receivers, Senders}, Layers.Sleeping.joined}}
 use Rattle.{layer_traits.specs.Blocks.BufferBlocks.is_first, cpu.specs.Table.Blocks.{Buffer, Name, AcqQ, Enter, TryPut, TryTake, Shut, WaitOn, SigRecv}}
-use Rattle.cpu.specs.{Table.{Blocks.{SigSend, RelQ, front_stands_in}, Edits.{may_try, is_due, shut, released, edited_buffer}}, Wakeups.Order.{Progress, Begins}}
-use Rattle.cpu.{specs.Wakeups.Order.{HasEntered, WasRefused, Owes, progress_after, MayEdit}, proofs.Wakeups.Lists.{refuted, none_is_not, in_joined}}
+use Rattle.cpu.specs.{Table.{Blocks.{SigSend, RelQ, front_stands_in}, Edits.{may_try, is_due, shut_off, released, edited_buffer}}, Wakeups.Order.Progress}
+use Rattle.cpu.{specs.Wakeups.Order.{Begins, HasEntered, WasRefused, Owes, progress_after, MayEdit}, proofs.Wakeups.Lists.{refuted, none_is_not, in_joined}}
 
 -- nobody is due
 abbrev pub IsCalm : Buffer → Type 0
@@ -31,7 +31,7 @@ owned : {A : Type 0} {t : Tid} (o : Option Tid) → o ≡ Some t → o ≡ None 
 owned {A = A} {t = t} o some none = none_is_not (sym none ∙ some)
 
 -- whoever closes the buffer owes both signals
-after_shut : (t : Tid) (k : Buffer) → k.busy ≡ Some t → IsAwake (shut k) (Owes true true)
+after_shut : (t : Tid) (k : Buffer) → k.busy ≡ Some t → IsAwake (shut_off k) (Owes true true)
 after_shut t k owner = record { fits = (λ e. absurd (cc e), λ e. absurd (cc e)); idle = λ e. owned k.busy owner e }
 
 -- a lock that nobody owns after it was given back had no sleepers

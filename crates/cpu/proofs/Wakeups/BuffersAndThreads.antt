@@ -4,15 +4,15 @@ use Rattle.std.proofs.{Common.{subst, arith}, lemmas.Bool.{and_parts, and_left, 
 use Rattle.event_log.specs.declared.ids.{CpuId.CpuId, Tid.Tid, BufId.BufId, LockId.{LockId, TheVariants.{Pending, Buffer as AtBuffer}}, TheConstants.THREADS}
 use Rattle.event_log.{specs.{History.same_cpu, Sections.Section}, proofs.Same.{same_cpu_self, same_cpu_true, same_lock_self, same_lock_true}}
 use Rattle.{thread_blocks.{specs.Queues.same_tid, proofs.Members.same_tid_true}, layer_traits.specs.{declared.moves.WaitList.WaitList, Threads.Places.Where}}
-use Rattle.layer_traits.specs.{Threads.Places.{Home, Hand, Pend as IsPending, is_home, is_thread, one_if, count_in}, Layers.Sleeping.joined}
+use Rattle.layer_traits.specs.{Threads.Places.{Home, Hand, IsPending, is_home, is_thread, one_if, count_in}, Layers.Sleeping.joined}
 use Rattle.{layer_traits.proofs.CountLemmas.same_cpu_sym, cpu.specs.Table.{Blocks.{Buffer, Block, OfBuffer, OfPending, Name, Pend, TakeAll}, Edits.edited}}
-use Rattle.cpu.specs.{Table.{Edits.{edited_buffer, answer_of_buffer}, Setups.{Setup, home_of}}, Wakeups.Order.{Progress, progress, progress_by, progress_after}}
-use Rattle.cpu.{specs.Wakeups.Order.{block_of, MayEdit, MayEditBlock, IsInOrder}, proofs.Wakeups.{Lists.refuted, Awake.IsAwake, Ordered.same_buffer}}
-use Rattle.cpu.proofs.Wakeups.{Ordered.buffer_awake, ThreadAtBuffer.{Pair, paired, marked_none, grown_list, buffer_self, buffer_true, woken_sleeps}}
-use Rattle.cpu.proofs.Wakeups.{ThreadAtBuffer.{woken_awake, other_pair, other_joined}, OwnSections.{ByCaller, may_edit, own_pair, away, post_apart}}
-use Rattle.cpu.proofs.Wakeups.PostsAndVisits.{is_buffer, sleeps_in, sleeps_at, is_pending, is_moved, caller_in, is_caller, waiters_of, post_woken, post_moved}
-use Rattle.cpu.proofs.Wakeups.PostsAndVisits.{post_pending, post_buffer, post, next_visit, visit_moved, visit_buffer, visit, IsCallers, MayComeBy, MayComeTo}
-use Rattle.cpu.proofs.Wakeups.PostsAndVisits.{MayComeAt, MayCome, marked}
+use Rattle.cpu.specs.{Table.{Edits.{edited_buffer, answer_of_buffer}, Setups.{Setup, home_cpu}}, Wakeups.Order.{Progress, progress, progress_by}}
+use Rattle.cpu.{specs.Wakeups.Order.{progress_after, block_of, MayEdit, MayEditBlock, IsInOrder}, proofs.Wakeups.{Lists.refuted, Awake.IsAwake}}
+use Rattle.cpu.proofs.Wakeups.{Ordered.{same_buffer, buffer_awake}, ThreadAtBuffer.{Pair, paired, marked_none, grown_list, buffer_self, buffer_true}}
+use Rattle.cpu.proofs.Wakeups.{ThreadAtBuffer.{woken_sleeps, woken_awake, other_pair, other_joined}, OwnSections.{ByCaller, may_edit, own_pair, stays_apart}}
+use Rattle.cpu.proofs.Wakeups.{OwnSections.post_apart, PostsAndVisits.{is_buffer, sleeps_in, sleeps_at, is_pending, is_moved, caller_in, is_caller, waiters_of}}
+use Rattle.cpu.proofs.Wakeups.PostsAndVisits.{post_woken, post_moved, post_pending, post_buffer, post, next_visit, visit_moved, visit_buffer, visit, IsCallers}
+use Rattle.cpu.proofs.Wakeups.PostsAndVisits.{MayComeBy, MayComeTo, MayComeAt, MayCome, marked}
 
 -- what holds after a section log
 pub record Good (setup : Setup) (past : List (Section Name)) : Type 0 where
@@ -20,7 +20,7 @@ pub record Good (setup : Setup) (past : List (Section Name)) : Type 0 where
   pub pairs : (b : BufId) (u : Tid) (k : Buffer) → block_of setup (AtBuffer b) past ≡ Some (OfBuffer k)
       → Pair b u k (progress setup (AtBuffer b) past) (visit setup u past) (post setup u past)
   pub pending : (d : CpuId) (u : Tid) (threads : List Tid) → block_of setup (Pending d) past ≡ Some (OfPending threads)
-      → count_in u threads ≡ one_if (same_cpu (home_of setup u) d && is_pending (post setup u past))
+      → count_in u threads ≡ one_if (same_cpu (home_cpu setup u) d && is_pending (post setup u past))
   -- only a number that is a thread's was ever woken
   pub small : (u : Tid) → is_moved (post setup u past) ≡ true → nat_lt u.0 THREADS ≡ true
   -- whoever is not at home has a home
@@ -42,9 +42,9 @@ good_none setup = record {
     threads_or given = []
 
     opening_pending : (d : CpuId) (u : Tid) (threads : List Tid) → Some (OfPending []) ≡ Some (OfPending threads)
-        → count_in u threads ≡ one_if (same_cpu (home_of setup u) d && false)
+        → count_in u threads ≡ one_if (same_cpu (home_cpu setup u) d && false)
     opening_pending d u threads is =
-        ap (count_in u) (sym (ap threads_or is)) ∙ sym (ap one_if (and_right (same_cpu (home_of setup u) d) false refl))
+        ap (count_in u) (sym (ap threads_or is)) ∙ sym (ap one_if (and_right (same_cpu (home_cpu setup u) d) false refl))
 
 -- How a section moves a thread.
 
@@ -146,7 +146,7 @@ module _ (setup : Setup) (past : List (Section Name)) (good : Good setup past) (
     where
       by_test : (mine : Bool) → is_caller u name ≡ mine → Pair b u k g (if mine then next_visit d name was (visit setup u past) else visit setup u past) x
       by_test true own =
-          grind (arith, paired, refuted, away b d name was (visit setup u past) off (callers u (is_the_caller u name own)).due, pair)
+          grind (arith, paired, refuted, stays_apart b d name was (visit setup u past) off (callers u (is_the_caller u name own)).due, pair)
       by_test false other = pair
   visit_there b off u k g x o pair = pair
 
@@ -168,14 +168,15 @@ module _ (setup : Setup) (past : List (Section Name)) (good : Good setup past) (
     pairs = λ b u k is. by_test b u k (is_buffer b d) refl is;
     pending = λ e u threads is.
         good.pending e u threads is
-        ∙ ap (λ p. one_if (same_cpu (home_of setup u) e && p))
+        ∙ ap (λ p. one_if (same_cpu (home_cpu setup u) e && p))
         (sym (no_pending_moves setup c d u name (post setup u past) _ (moves_at setup past good c d name callers u (block_of setup (AtBuffer d) past) refl)));
     small = λ u on.
         small_moves setup c d u name (post setup u past) _
         (moves_at setup past good c d name callers u (block_of setup (AtBuffer d) past) refl) (good.small u) on;
     known = λ u off.
         known_moves setup c d u name (post setup u past) _ (moves_at setup past good c d name callers u (block_of setup (AtBuffer d) past) refl)
-        (λ own. (and_parts (same_cpu (home_of setup u) c) (nat_lt u.0 (length setup.homes)) (callers u (is_the_caller u name own)).local).1) (good.known u) off;
+        (λ own. (and_parts (same_cpu (home_cpu setup u) c) (nat_lt u.0 (length setup.homes)) (callers u (is_the_caller u name own)).local).1)
+        (good.known u) off;
   }
     where
       log : List (Section Name)
@@ -202,26 +203,26 @@ threads_or given = []
 
 -- the queue of the lock at which the section came, and the queue of another lock
 module _ (setup : Setup) (past : List (Section Name)) (good : Good setup past) (c d : CpuId) where
-  pended_list : (s : Tid) → post setup s past ≡ Hand c → home_of setup s ≡ d → (u : Tid) (list : List Tid)
+  pended_list : (s : Tid) → post setup s past ≡ Hand c → home_cpu setup s ≡ d → (u : Tid) (list : List Tid)
       → block_of setup (Pending d) past ≡ Some (OfPending list)
-      → count_in u (joined s list) ≡ one_if (same_cpu (home_of setup u) d && is_pending (if same_tid s u then IsPending d else post setup u past))
+      → count_in u (joined s list) ≡ one_if (same_cpu (home_cpu setup u) d && is_pending (if same_tid s u then IsPending d else post setup u past))
   pended_list s held home u list block = by_test (same_tid s u) refl
     where
       by_test : (mine : Bool) → same_tid s u ≡ mine
-          → count_in u (joined s list) ≡ one_if (same_cpu (home_of setup u) d && is_pending (if mine then IsPending d else post setup u past))
+          → count_in u (joined s list) ≡ one_if (same_cpu (home_cpu setup u) d && is_pending (if mine then IsPending d else post setup u past))
       by_test true same =
-          let none : count_in s list ≡ 0 = good.pending d s list block ∙ ap (λ x. one_if (same_cpu (home_of setup s) d && is_pending x)) held
-          ∙ ap one_if (and_right (same_cpu (home_of setup s) d) false refl) in
+          let none : count_in s list ≡ 0 = good.pending d s list block ∙ ap (λ x. one_if (same_cpu (home_cpu setup s) d && is_pending x)) held
+          ∙ ap one_if (and_right (same_cpu (home_cpu setup s) d) false refl) in
           let one : count_in s (joined s list) ≡ marked s true = grown_list s list none in
           let counts : marked s true ≡ 1 = ap (λ b. one_if (b && true)) (good.small s (ap is_moved held)) in
-          let there : one_if (same_cpu (home_of setup s) d && true) ≡ 1 = ap (λ b. one_if (b && true)) (ap (λ e. same_cpu e d) home ∙ same_cpu_self d) in
-          subst (λ v. count_in v (joined s list) ≡ one_if (same_cpu (home_of setup v) d && true)) (same_tid_true s u same) (one ∙ counts ∙ sym there)
+          let there : one_if (same_cpu (home_cpu setup s) d && true) ≡ 1 = ap (λ b. one_if (b && true)) (ap (λ e. same_cpu e d) home ∙ same_cpu_self d) in
+          subst (λ v. count_in v (joined s list) ≡ one_if (same_cpu (home_cpu setup v) d && true)) (same_tid_true s u same) (one ∙ counts ∙ sym there)
       by_test false other = other_joined u s list other ∙ good.pending d u list block
 
   -- what a section leaves of the queue at which it came
   here_pending : (name : Name) → MayComeTo setup past c d name → (u : Tid) (now : List Tid) (o : Option Block) → block_of setup (Pending d) past ≡ o
       → option_map (edited name) o ≡ Some (OfPending now)
-      → count_in u now ≡ one_if (same_cpu (home_of setup u) d && is_pending (post_pending setup d u name (post setup u past)))
+      → count_in u now ≡ one_if (same_cpu (home_cpu setup u) d && is_pending (post_pending setup d u name (post setup u past)))
   here_pending name may u now o block is = grind (arith, pended_list)
 
   -- no section on pending threads touches a buffer
@@ -244,10 +245,10 @@ module _ (setup : Setup) (past : List (Section Name)) (good : Good setup past) (
     where
       by_test : (e : CpuId) (u : Tid) (now : List Tid) (here : Bool) → same_cpu e d ≡ here
           → (if here then option_map (edited name) (block_of setup (Pending e) past) else block_of setup (Pending e) past) ≡ Some (OfPending now)
-          → count_in u now ≡ one_if (same_cpu (home_of setup u) e && is_pending (post_pending setup d u name (post setup u past)))
+          → count_in u now ≡ one_if (same_cpu (home_cpu setup u) e && is_pending (post_pending setup d u name (post setup u past)))
       by_test e u now true same is =
           let P : CpuId → Type 0 = λ x. option_map (edited name) (block_of setup (Pending x) past) ≡ Some (OfPending now)
-          → count_in u now ≡ one_if (same_cpu (home_of setup u) x && is_pending (post_pending setup d u name (post setup u past))) in
+          → count_in u now ≡ one_if (same_cpu (home_cpu setup u) x && is_pending (post_pending setup d u name (post setup u past))) in
           subst P (sym (same_cpu_true e d same)) (here_pending name may u now (block_of setup (Pending d) past) refl) is
       by_test e u now false off is = good.pending e u now is ∙ ap one_if (sym (grind (arith, may, off, same_tid_true, same_cpu_sym, same_cpu_true)))
 

@@ -4,14 +4,14 @@ use Rattle.std.proofs.{Common.{if◌then◌else◌, refl, sym, ap, ◌∙◌, su
 use Rattle.event_log.specs.declared.{ids.{CpuId.CpuId, Tid.Tid, LockId.TheVariants.Buffer as AtBuffer, TheConstants.THREADS}, entries.Entry.Entry}
 use Rattle.{event_log.specs.{History.same_cpu, Runs.Group, Sections.Section}, thread_blocks.specs.Queues.first, layer_traits.specs.declared.locked.Side.Side}
 use Rattle.layer_traits.specs.declared.call_states.Stage.TheVariants.{Idle, Acquires, Enters, Tries, Signals, SignalsOwn, Releases}
-use Rattle.{layer_traits.specs.Blocks.BufferBlocks.may_join, cpu.specs.Table.Blocks.{Buffer, OfBuffer, Name, RelQ, Pend, side_of, Reported, Nothing, Position}}
-use Rattle.cpu.specs.Table.{Blocks.{Answer, Enter}, Edits.{edited_buffer, acquired, entered, reports, wakes, answer, answer_of_acquire, answer_of_buffer}}
-use Rattle.cpu.specs.Table.{Edits.{line_of, drawn_position}, Setups.{Setup, Call, Private, thread_at, home_of, home_threads, have_ended, stands_at}}
-use Rattle.cpu.specs.Table.Choice.{section_at, first_signal, second_signal, asked, Goes, choice, with_call, entry_of, effected, recorded, woken, guest_after}
-use Rattle.cpu.specs.Table.{Choice.{returned, returned_at, settled, after_section, first_section, recorded_entry, recorded_position}, Steps.{Whole, steps_by}}
-use Rattle.cpu.{specs.Wakeups.{Alone.{IsInCall, steps_to_move}, Order.block_of}, proofs.Wakeups.{Agreement.at_same, CpuStep.pending_there, CpuAlone.steps_more}}
-use Rattle.cpu.proofs.Wakeups.CpuAlone.{section_of, Stands, after_three, two_steps, here_two, three_steps, stands_after, InCall, with_new, goes_on, asks_for}
-use Rattle.cpu.proofs.Wakeups.CpuAlone.{after_is, settled_is, block_next}
+use Rattle.{layer_traits.specs.Blocks.BufferBlocks.may_join, cpu.specs.Table.Blocks.{Buffer, OfBuffer, Name, RelQ, Pend, side_of_group, Reported, Nothing}}
+use Rattle.cpu.specs.Table.{Blocks.{Position, Answer, Enter}, Edits.{edited_buffer, acquired, lined_up, reports, wakes, answer, answer_of_acquire}}
+use Rattle.cpu.specs.Table.{Edits.{answer_of_buffer, line_on, drawn_position}, Setups.{Setup, Call, Private, thread_at, home_cpu, home_threads, have_ended}}
+use Rattle.cpu.specs.Table.{Setups.stands_at, Choice.{section_due, first_signal, second_signal, asked, Goes, choice, with_call, entry_made, effected}}
+use Rattle.cpu.specs.Table.Choice.{with_told, woken, guest_after, returned, returned_at, settled, after_section, first_section, recorded_entry}
+use Rattle.cpu.specs.{Table.{Choice.recorded_position, Steps.{Whole, steps_by}}, Wakeups.{Alone.{IsInCall, steps_to_move}, Order.block_of}}
+use Rattle.cpu.proofs.Wakeups.{Agreement.at_same, CpuStep.pending_there, CpuAlone.{steps_more, section_of, Stands, after_three, two_steps, here_two}}
+use Rattle.cpu.proofs.Wakeups.CpuAlone.{three_steps, stands_after, InCall, with_new, goes_on, asks_for, after_is, settled_is, block_next}
 
 module _ (setup : Setup) (c : CpuId) (t : Tid) where
   -- after n steps of CPU c its thread t stands in this call, which goes on; the call's buffer holds this
@@ -28,14 +28,14 @@ module _ (setup : Setup) (c : CpuId) (t : Tid) where
 
   -- one section of the call
   advance : (s : Whole) (n : ℕ) (k next : Buffer) (call more : Call) (traced longer : List Entry) (left : ℕ) (a : Answer) → Gets s n k call traced (left + 3)
-      → answer_of_buffer (section_at t call call.stage) k ≡ a → edited_buffer (section_at t call call.stage) k ≡ next → call.buffer ≡ more.buffer
+      → answer_of_buffer (section_due t call call.stage) k ≡ a → edited_buffer (section_due t call call.stage) k ≡ next → call.buffer ≡ more.buffer
       → ((p : Private) → InCall setup c p t call traced → InCall setup c (after_section setup c p a) t more longer)
       → Gets s (n + 3) next more longer left
   advance s n k next call more traced longer left a gets told edits same_buffer goes_so =
       let q = gets.state in
       let asks = asks_for setup c q t call traced gets.inside in
       let answers = ap (λ ask. option_map (answer ask.name) (block_of setup ask.lock gets.past)) asks
-      ∙ ap (option_map (answer (section_at t call call.stage))) gets.block ∙ ap Some told in
+      ∙ ap (option_map (answer (section_due t call call.stage))) gets.block ∙ ap Some told in
       let after = goes_so q gets.inside in
       record {
         now = after_three setup c gets.now q a;
@@ -52,7 +52,7 @@ module _ (setup : Setup) (c : CpuId) (t : Tid) where
 
   -- a section that puts nobody to sleep and wakes nobody: the call records what it answers
   answer_recorded : (p h : Private) (call more : Call) (traced longer : List Entry) (told : Reported) → InCall setup c p t call traced
-      → recorded c p t call call.stage told ≡ h
+      → with_told c p t call call.stage told ≡ h
       → InCall setup c h t more longer → returned_at setup h t more more.stage ≡ h → InCall setup c (after_section setup c p (reports told)) t more longer
   answer_recorded p h call more traced longer told inside is after stays =
       let same = after_is setup c p t call traced (reports told) inside ∙ ap (settled setup) is ∙ settled_is setup c h t more longer after ∙ stays in
@@ -63,10 +63,10 @@ module _ (setup : Setup) (c : CpuId) (t : Tid) where
 
   -- The sections, one after the other.
 
-  pub acquires : (s : Whole) (n left : ℕ) (k : Buffer) (call : Call) (traced : List Entry) → k.busy ≡ None
+  pub section_acquires : (s : Whole) (n left : ℕ) (k : Buffer) (call : Call) (traced : List Entry) → k.busy ≡ None
       → Gets s n k (record call { stage = Acquires }) traced (left + 3)
       → Gets s (n + 3) (record k { busy = Some t }) (record call { stage = Enters }) traced left
-  acquires s n left k call traced free gets =
+  section_acquires s n left k call traced free gets =
       advance s n k (record k { busy = Some t }) (record call { stage = Acquires }) (record call { stage = Enters }) traced traced left (reports Nothing) gets
       (ap answer_of_acquire free) (ap (λ o. acquired t o k) free) refl
       (λ p inside.
@@ -80,25 +80,25 @@ module _ (setup : Setup) (c : CpuId) (t : Tid) where
 
     pub enters_line : (side : Side) (asks : Group) → first_section t asks ≡ Enter t side
         → ((p : Private) (call : Call) (told : Reported) → recorded_entry c p t call asks told ≡ recorded_position p t call told)
-        → (s : Whole) (n left : ℕ) (k : Buffer) (call : Call) (traced : List Entry) → line_of side k ≡ []
+        → (s : Whole) (n left : ℕ) (k : Buffer) (call : Call) (traced : List Entry) → line_on side k ≡ []
         → Gets s n k (record call { asks = asks; stage = Enters }) traced (left + 3)
-        → Gets s (n + 3) (entered t side k) (record call { asks = asks; position = drawn_position side k; stage = Tries }) traced left
+        → Gets s (n + 3) (lined_up t side k) (record call { asks = asks; position = drawn_position side k; stage = Tries }) traced left
     enters_line side asks first records s n left k call traced empty gets =
         let now : Call = record call { asks = asks; stage = Enters } in
         let more : Call = record call { asks = asks; position = drawn_position side k; stage = Tries } in
-        advance s n k (entered t side k) now more traced traced left (reports (Position (drawn_position side k))) gets
+        advance s n k (lined_up t side k) now more traced traced left (reports (Position (drawn_position side k))) gets
         (ap (λ e. answer_of_buffer e k) first)
-        (ap (λ e. edited_buffer e k) first ∙ ap (λ b. if b then entered t side k else k) (may_enter (line_of side k) empty)) refl
+        (ap (λ e. edited_buffer e k) first ∙ ap (λ b. if b then lined_up t side k else k) (may_enter (line_on side k) empty)) refl
         (λ p inside.
         answer_recorded p (with_call p t (Some more)) now more traced traced (Position (drawn_position side k)) inside
         (records p now (Position (drawn_position side k))) (new_in p now more traced inside) refl)
 
   -- the state after an effect: the entry is written
   effect_in : (p : Private) (call now : Call) (op : ℕ) (traced : List Entry) → InCall setup c p t call traced
-      → InCall setup c (effected c p t now op) t (record now { effect = Some op; stage = Signals }) (traced ++ entry_of c t now op now.message ∷ [])
+      → InCall setup c (effected c p t now op) t (record now { effect = Some op; stage = Signals }) (traced ++ entry_made c t now op now.message ∷ [])
   effect_in p call now op traced inside =
       let after = new_in p call (record now { effect = Some op; stage = Signals }) traced inside in
-      assumption (after, have_same (home_threads setup c) ∙ after.live, ap (λ x. x ++ entry_of c t now op now.message ∷ []) inside.trace)
+      assumption (after, have_same (home_threads setup c) ∙ after.live, ap (λ x. x ++ entry_made c t now op now.message ∷ []) inside.trace)
     where
       have_same : (ts : List Tid)
           → have_ended (effected c p t now op) ts ≡ have_ended (with_call p t (Some (record now { effect = Some op; stage = Signals }))) ts
@@ -106,17 +106,17 @@ module _ (setup : Setup) (c : CpuId) (t : Tid) where
       have_same (u ∷ ts) = ap (λ b. (thread_at (with_call p t (Some (record now { effect = Some op; stage = Signals }))) u).ended && b) (have_same ts)
 
   -- a section that has the call's effect: the call as it then is
-  pub tries : (s : Whole) (n left : ℕ) (k next : Buffer) (call now : Call) (traced : List Entry) (told : Reported) → call.buffer ≡ now.buffer
-      → answer_of_buffer (section_at t call call.stage) k ≡ reports told → edited_buffer (section_at t call call.stage) k ≡ next
-      → ((p : Private) → recorded c p t call call.stage told ≡ effected c p t now k.effects)
+  pub section_tries : (s : Whole) (n left : ℕ) (k next : Buffer) (call now : Call) (traced : List Entry) (told : Reported) → call.buffer ≡ now.buffer
+      → answer_of_buffer (section_due t call call.stage) k ≡ reports told → edited_buffer (section_due t call call.stage) k ≡ next
+      → ((p : Private) → with_told c p t call call.stage told ≡ effected c p t now k.effects)
       → Gets s n k call traced (left + 3)
-      → Gets s (n + 3) next (record now { effect = Some k.effects; stage = Signals }) (traced ++ entry_of c t now k.effects now.message ∷ []) left
-  tries s n left k next call now traced told same_buffer tells_so edits recorded_so gets =
-      advance s n k next call (record now { effect = Some k.effects; stage = Signals }) traced (traced ++ entry_of c t now k.effects now.message ∷ []) left
+      → Gets s (n + 3) next (record now { effect = Some k.effects; stage = Signals }) (traced ++ entry_made c t now k.effects now.message ∷ []) left
+  section_tries s n left k next call now traced told same_buffer tells_so edits recorded_so gets =
+      advance s n k next call (record now { effect = Some k.effects; stage = Signals }) traced (traced ++ entry_made c t now k.effects now.message ∷ []) left
       (reports told) gets tells_so edits same_buffer
       (λ p inside.
       answer_recorded p (effected c p t now k.effects) call (record now { effect = Some k.effects; stage = Signals }) traced
-      (traced ++ entry_of c t now k.effects now.message ∷ []) told inside (recorded_so p) (effect_in p call now k.effects traced inside) refl)
+      (traced ++ entry_made c t now k.effects now.message ∷ []) told inside (recorded_so p) (effect_in p call now k.effects traced inside) refl)
 
   -- less room than there is
   with_less : (s : Whole) (n : ℕ) (k : Buffer) (call : Call) (traced : List Entry) (left less : ℕ) → less ≤ left
@@ -141,8 +141,8 @@ module _ (setup : Setup) (c : CpuId) (t : Tid) where
 
   -- a signal that wakes nobody
   signals_none : (s : Whole) (n left : ℕ) (k next : Buffer) (call more : Call) (traced : List Entry) → call.buffer ≡ more.buffer
-      → answer_of_buffer (section_at t call call.stage) k ≡ wakes None → edited_buffer (section_at t call call.stage) k ≡ next
-      → ((p : Private) (told : Reported) → recorded c p t call call.stage told ≡ with_call p t (Some more))
+      → answer_of_buffer (section_due t call call.stage) k ≡ wakes None → edited_buffer (section_due t call call.stage) k ≡ next
+      → ((p : Private) (told : Reported) → with_told c p t call call.stage told ≡ with_call p t (Some more))
       → ((p : Private) → returned_at setup p t more more.stage ≡ p)
       → Gets s n k call traced (left + 3) → Gets s (n + 3) next more traced left
   signals_none s n left k next call more traced same_buffer told edits recorded_so stays gets =
@@ -152,9 +152,9 @@ module _ (setup : Setup) (c : CpuId) (t : Tid) where
 
   -- a signal that wakes a thread at home here
   signals_home : (s : Whole) (n left : ℕ) (k next : Buffer) (call more : Call) (traced : List Entry) (u : Tid)
-      → same_cpu (home_of setup u) c ≡ true → call.buffer ≡ more.buffer
-      → answer_of_buffer (section_at t call call.stage) k ≡ wakes (Some u) → edited_buffer (section_at t call call.stage) k ≡ next
-      → ((p : Private) (told : Reported) → recorded c p t call call.stage told ≡ with_call p t (Some more))
+      → same_cpu (home_cpu setup u) c ≡ true → call.buffer ≡ more.buffer
+      → answer_of_buffer (section_due t call call.stage) k ≡ wakes (Some u) → edited_buffer (section_due t call call.stage) k ≡ next
+      → ((p : Private) (told : Reported) → with_told c p t call call.stage told ≡ with_call p t (Some more))
       → ((p : Private) → returned_at setup p t more more.stage ≡ p)
       → Gets s n k call traced (left + 3) → Gets s (n + 3) next more traced left
   signals_home s n left k next call more traced u here same_buffer told edits recorded_so stays gets =
@@ -179,16 +179,16 @@ module _ (setup : Setup) (c : CpuId) (t : Tid) where
 
   -- a signal that wakes a thread of another CPU: the next section puts it among the pending there
   signals_away : (s : Whole) (n left : ℕ) (k next : Buffer) (call more : Call) (traced : List Entry) (u : Tid)
-      → same_cpu (home_of setup u) c ≡ false → call.buffer ≡ more.buffer
-      → answer_of_buffer (section_at t call call.stage) k ≡ wakes (Some u) → edited_buffer (section_at t call call.stage) k ≡ next
-      → ((p : Private) (told : Reported) → recorded c p t call call.stage told ≡ with_call p t (Some more))
+      → same_cpu (home_cpu setup u) c ≡ false → call.buffer ≡ more.buffer
+      → answer_of_buffer (section_due t call call.stage) k ≡ wakes (Some u) → edited_buffer (section_due t call call.stage) k ≡ next
+      → ((p : Private) (told : Reported) → with_told c p t call call.stage told ≡ with_call p t (Some more))
       → ((p : Private) → returned_at setup p t more more.stage ≡ p)
       → Gets s n k call traced ((left + 3) + 3) → Gets s ((n + 3) + 3) next more traced left
   signals_away s n left k next call more traced u away same_buffer told edits recorded_so stays gets =
       let q = gets.state in
       let asks = asks_for setup c q t call traced gets.inside in
       let answers = ap (λ ask. option_map (answer ask.name) (block_of setup ask.lock gets.past)) asks
-      ∙ ap (option_map (answer (section_at t call call.stage))) gets.block ∙ ap Some told in
+      ∙ ap (option_map (answer (section_due t call call.stage))) gets.block ∙ ap Some told in
       let h = with_call q t (Some more) in
       let held : Private = record h { hand = Some u } in
       let same = after_is setup c q t call traced (wakes (Some u)) gets.inside
@@ -200,7 +200,7 @@ module _ (setup : Setup) (c : CpuId) (t : Tid) where
       ∙ three_steps setup c gets.now gets.before q gets.past (left + 3) (wakes (Some u)) gets.stands gets.goes answers in
       let stands_one : Stands setup c one held past (left + 3) =
       subst (λ x. Stands setup c one x past (left + 3)) same (stands_after setup c gets.now gets.before q gets.past (left + 3) (wakes (Some u)) gets.stands) in
-      let pends = ap (option_map (answer (Pend u))) (pending_there setup (home_of setup u) past).1 in
+      let pends = ap (option_map (answer (Pend u))) (pending_there setup (home_cpu setup u) past).1 in
       let now = new_in q call more traced gets.inside in
       let at : InCall setup c (record h { hand = None }) t more traced =
       grind (arith, now) in
@@ -221,15 +221,15 @@ module _ (setup : Setup) (c : CpuId) (t : Tid) where
 
   -- a signal, whomever it wakes
   signals : (s : Whole) (n left : ℕ) (k next : Buffer) (call more : Call) (traced : List Entry) (woke : Option Tid) → call.buffer ≡ more.buffer
-      → answer_of_buffer (section_at t call call.stage) k ≡ wakes woke → edited_buffer (section_at t call call.stage) k ≡ next
-      → ((p : Private) (told : Reported) → recorded c p t call call.stage told ≡ with_call p t (Some more))
+      → answer_of_buffer (section_due t call call.stage) k ≡ wakes woke → edited_buffer (section_due t call call.stage) k ≡ next
+      → ((p : Private) (told : Reported) → with_told c p t call call.stage told ≡ with_call p t (Some more))
       → ((p : Private) → returned_at setup p t more more.stage ≡ p)
       → Gets s n k call traced (left + (3 + steps_to_move setup c woke)) → Gets s (n + (3 + steps_to_move setup c woke)) next more traced left
   signals s n left k next call more traced None same_buffer told edits recorded_so stays gets =
       signals_none s n left k next call more traced same_buffer told edits recorded_so stays gets
-  signals s n left k next call more traced (Some u) same_buffer told edits recorded_so stays gets = by_home (same_cpu (home_of setup u) c) refl gets
+  signals s n left k next call more traced (Some u) same_buffer told edits recorded_so stays gets = by_home (same_cpu (home_cpu setup u) c) refl gets
     where
-      by_home : (here : Bool) → same_cpu (home_of setup u) c ≡ here → Gets s n k call traced (left + (3 + (if not here then 3 else 0)))
+      by_home : (here : Bool) → same_cpu (home_cpu setup u) c ≡ here → Gets s n k call traced (left + (3 + (if not here then 3 else 0)))
           → Gets s (n + (3 + (if not here then 3 else 0))) next more traced left
       by_home true here got = signals_home s n left k next call more traced u here same_buffer told edits recorded_so stays got
       by_home false away got =
@@ -287,18 +287,18 @@ module _ (setup : Setup) (c : CpuId) (t : Tid) where
       }
 
   -- From the effect to the return: the two signals and the release.
-  pub ending : (s : Whole) (n left : ℕ) (k : Buffer) (call : Call) (traced : List Entry) (woke own : Option Tid)
-      → answer_of_buffer (first_signal t (side_of call.asks)) k ≡ wakes woke
-      → answer_of_buffer (second_signal t (side_of call.asks)) (edited_buffer (first_signal t (side_of call.asks)) k) ≡ wakes own
-      → (edited_buffer (second_signal t (side_of call.asks)) (edited_buffer (first_signal t (side_of call.asks)) k)).sleepers ≡ []
+  pub call_ends_alone : (s : Whole) (n left : ℕ) (k : Buffer) (call : Call) (traced : List Entry) (woke own : Option Tid)
+      → answer_of_buffer (first_signal t (side_of_group call.asks)) k ≡ wakes woke
+      → answer_of_buffer (second_signal t (side_of_group call.asks)) (edited_buffer (first_signal t (side_of_group call.asks)) k) ≡ wakes own
+      → (edited_buffer (second_signal t (side_of_group call.asks)) (edited_buffer (first_signal t (side_of_group call.asks)) k)).sleepers ≡ []
       → 9 + (steps_to_move setup c woke + steps_to_move setup c own) ≤ left
       → Gets s n k (record call { stage = Signals }) traced left
       → Returned s (n + (9 + (steps_to_move setup c woke + steps_to_move setup c own))) traced
-  ending s n left k call traced woke own first_tells own_tells none space gets =
+  call_ends_alone s n left k call traced woke own first_tells own_tells none space gets =
       let mine = steps_to_move setup c own in
       let theirs = steps_to_move setup c woke in
-      let other = edited_buffer (first_signal t (side_of call.asks)) k in
-      let both = edited_buffer (second_signal t (side_of call.asks)) other in
+      let other = edited_buffer (first_signal t (side_of_group call.asks)) k in
+      let both = edited_buffer (second_signal t (side_of_group call.asks)) other in
       let one = signals s n (3 + (3 + mine)) k other (record call { stage = Signals }) (record call { stage = SignalsOwn }) traced woke refl first_tells refl
       (λ p told. refl) (λ p. refl)
       (with_less s n k (record call { stage = Signals }) traced left ((3 + (3 + mine)) + (3 + theirs)) (omega (arith, space)) gets) in

@@ -6,9 +6,9 @@ use Rattle.{guest.specs.{declared.instructions.Instruction.TheVariants.{Yield as
 use Rattle.{thread_blocks.proofs.Members.same_tid_true, layer_traits.specs.declared.steps.Reason.TheVariants.{AllEnded, TraceFull}}
 use Rattle.layer_traits.{specs.{declared.call_states.Stage.TheVariants.Acquires, Threads.Places.{Where, is_thread}}, proofs.CountLemmas.same_tid_sym}
 use Rattle.cpu.specs.Table.{Setups.{Setup, Call, Private, thread_at, stands_at, home_threads, open_calls, have_ended}, Choice.{Choice, Halts, Alone, Goes}}
-use Rattle.cpu.specs.Table.Choice.{new_call, with_call, with_guest, begins, at_instruction, at_call, at_ready, at_current, at_hand, choice}
+use Rattle.cpu.specs.Table.Choice.{new_call, with_call, with_state, begin_or_halt, at_instruction, at_call, at_ready, at_current, at_hand, choice}
 use Rattle.cpu.proofs.Wakeups.{Lists.refuted, PostsAndVisits.{Visit, is_local}, Agreement.{visit_of_call, is_done, Agrees, IsSettled, at_same, at_other}}
-use Rattle.cpu.proofs.Wakeups.Agreement.{same_with, agrees_same, runs, within}
+use Rattle.cpu.proofs.Wakeups.Agreement.{same_with, agrees_same, runs_at_home, local_within}
 
 -- the state that is chosen agrees
 abbrev pub ChoiceOk : Setup → CpuId → (Tid → Visit) → (Tid → Where) → Choice → Type 0
@@ -34,12 +34,12 @@ module _ (setup : Setup) (c : CpuId) (p : Private) (T : Tid → Visit) (P : Tid 
 
   module _ (t : Tid) (empty : p.hand ≡ None) (runs_now : p.current ≡ Some t) (outside : (thread_at p t).call ≡ None) where
     known : t.0 < length p.threads
-    known = within setup c p T P agrees t (runs setup c p T P agrees t runs_now).0
+    known = local_within setup c p T P agrees t (runs_at_home setup c p T P agrees t runs_now).0
 
-    computes : (guest : State) → Agrees setup c (with_guest p t guest) T P × IsSettled setup c (with_guest p t guest)
+    computes : (guest : State) → Agrees setup c (with_state p t guest) T P × IsSettled setup c (with_state p t guest)
     computes guest = (
-      agrees_same setup c p (with_guest p t guest) t T T P agrees (same_with p t (record (thread_at p t) { guest = guest }) known refl) (λ u other. refl)
-          (agrees.calls t (runs setup c p T P agrees t runs_now).0
+      agrees_same setup c p (with_state p t guest) t T T P agrees (same_with p t (record (thread_at p t) { guest = guest }) known refl) (λ u other. refl)
+          (agrees.calls t (runs_at_home setup c p T P agrees t runs_now).0
           ∙ ap (λ y. visit_of_call y.call) (sym (at_same p t (record (thread_at p t) { guest = guest }) known))),
       λ u local done. (refuted (ap is_some empty)
           (settled_before u local (ap is_done (sym (grind (arith, same_tid_true, at_same, at_other, known))) ∙ done)).0),
@@ -49,7 +49,7 @@ module _ (setup : Setup) (c : CpuId) (p : Private) (T : Tid → Visit) (P : Tid 
     calls_now call first = (
       agrees_same setup c p (with_call p t (Some call)) t T T P agrees
           (same_with p t (record (thread_at p t) { call = Some call }) known refl) (λ u other. refl)
-          (agrees.calls t (runs setup c p T P agrees t runs_now).0 ∙ ap visit_of_call outside ∙ sym (now_called ∙ at_start)),
+          (agrees.calls t (runs_at_home setup c p T P agrees t runs_now).0 ∙ ap visit_of_call outside ∙ sym (now_called ∙ at_start)),
       λ u local done. by_test u local done (same_tid t u) refl,
     )
       where
@@ -63,7 +63,7 @@ module _ (setup : Setup) (c : CpuId) (p : Private) (T : Tid → Visit) (P : Tid 
             → (is_some p.hand ≡ true) × (is_thread u p.current ≡ true)
         by_test u local done mine is = grind (arith, same_tid_true, at_same, known, refuted, at_other)
 
-    begun : (call : Call) → call.stage ≡ Acquires → ChoiceOk setup c T P (begins setup c p t call)
+    begun : (call : Call) → call.stage ≡ Acquires → ChoiceOk setup c T P (begin_or_halt setup c p t call)
     begun call first = by_test ((length p.trace + open_calls p (home_threads setup c)) == setup.trace_room)
       where
         by_test : (full : Bool) → ChoiceOk setup c T P (if full then Halts TraceFull else Goes (with_call p t (Some call)))
@@ -75,7 +75,7 @@ module _ (setup : Setup) (c : CpuId) (p : Private) (T : Tid → Visit) (P : Tid 
     instructed (Recv b r k) = begun (new_call _ b _) refl
     instructed (Close b) = begun (new_call _ b _) refl
     instructed YieldLine = (agrees, settled_before)
-    instructed Exit = grind (arith, length-set, runs, same_tid_true, at_same, known, at_other, and_right)
+    instructed Exit = grind (arith, length-set, runs_at_home, same_tid_true, at_same, known, at_other, and_right)
     instructed line = computes _
 
   pub choice_ok : ChoiceOk setup c T P (choice setup c p)

@@ -2,12 +2,12 @@
 use Rattle.std.proofs.Common.{◌≡◌, ℕ, zero, suc, ◌+◌, ◌<◌, ◌≤◌, true, false, ◌&&◌, List, [], ◌∷◌, length, slice_get, slice_set, Some, None, option_map, refl}
 use Rattle.std.proofs.{Common.{sym, ap, ◌∙◌, subst, arith}, lemmas.Bool.ne_eqb}
 use Rattle.event_log.specs.{declared.{ids.{CpuId.CpuId, Tid.Tid, BufId.BufId, LockId.TheVariants.Buffer as AtBuffer}, entries.Entry.Entry}, Sections.Section}
-use Rattle.event_log.specs.{Sections.sections_in, Actions.{Action, Take, Try, Give, Phase, Rests, Waits as WaitsAt, Holds, phase, next_action, AreFree}}
+use Rattle.event_log.specs.{Sections.sections_in, Actions.{Action, Take, Try, Give, Phase, Rests, Waits, Holds, phase, next_action, AreFree}}
 use Rattle.event_log.proofs.{Alone.{first_action, second_action, third_action, free_again}, Exclusion.phase_own, Same.same_lock_self}
 use Rattle.layer_traits.specs.{declared.steps.Step.TheVariants.Stepped, Polling.{Plans.{is_in_section, at_give}, Along.Outcome}}
 use Rattle.cpu.specs.Table.{Blocks.{Buffer, OfBuffer, Name, Answer}, Edits.{edited_buffer, answer}, Setups.{Setup, Call, Private, thread_at, home_threads}}
 use Rattle.cpu.specs.Table.{Setups.have_ended, Steps.{after_reply, acting, step_in, cpu_step, Whole, whole_after, system_step, steps_by}, Choice.Ask}
-use Rattle.cpu.specs.Table.Choice.{at_buffer, section_at, asked_by, asked_at, asked_in, asked, Goes, choice, with_call, returned_at, returned_by, returned_in}
+use Rattle.cpu.specs.Table.Choice.{at_buffer, section_due, asked_by, asked_at, asked_in, asked, Goes, choice, with_call, returned_at, returned_by, returned_in}
 use Rattle.cpu.specs.{Table.Choice.{settled, after_call, after_by, after_at, after_in, after_section}, Wakeups.Order.block_of}
 use Rattle.cpu.proofs.Wakeups.{Agreement.{at_same, Same, same_with}, Lists.set_here}
 
@@ -80,8 +80,8 @@ module _ (setup : Setup) (c : CpuId) where
           let log = Take c (asked setup c q).lock ∷ s.log in
           let now = phase_own (Take c (asked setup c q).lock) s.log in
           one_step _ q _ (set_here s.cpus c.0 p q at.here)
-          (within q log (WaitsAt (asked setup c q).lock) now refl
-          ∙ act q log (WaitsAt (asked setup c q).lock) (Try c (asked setup c q).lock true) now
+          (within q log (Waits (asked setup c q).lock) now refl
+          ∙ act q log (Waits (asked setup c q).lock) (Try c (asked setup c q).lock true) now
           (second_action c (asked setup c q).lock (asked setup c q).name s.log (at.free (asked setup c q).lock))) refl (omega (arith, at.room))
 
   pub here_two : (s : Whole) (p q : Private) → slice_get s.cpus c.0 ≡ Some p → slice_get (after_two s q).cpus c.0 ≡ Some q
@@ -148,7 +148,7 @@ module _ (setup : Setup) (c : CpuId) where
   goes_on p t call traced at = grind arith
 
   pub asks_for : (p : Private) (t : Tid) (call : Call) (traced : List Entry) → InCall p t call traced
-      → asked setup c p ≡ at_buffer call.buffer (section_at t call call.stage)
+      → asked setup c p ≡ at_buffer call.buffer (section_due t call call.stage)
   asks_for p t call traced at = ap (asked_in setup c p) at.hand ∙ ap (asked_at c p) at.current ∙ ap (asked_by c t) at.calls
 
   pub after_is : (p : Private) (t : Tid) (call : Call) (traced : List Entry) (a : Answer) → InCall p t call traced

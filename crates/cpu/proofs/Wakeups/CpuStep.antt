@@ -1,13 +1,13 @@
 -- One step of a CPU: each section that it ends is one that may come, and every CPU stays in agreement with the log.
 use Rattle.std.proofs.Common.{◌≡◌, Bool, true, false, List, [], ◌∷◌, ◌++◌, length, Option, Some, None, option_map, nat_lt, if◌then◌else◌, refl, sym, ap, ◌∙◌}
 use Rattle.std.proofs.{Common.{subst, arith}, lemmas.Bool.{and_parts, false_from_ne_true}}
-use Rattle.cpu.proofs.Wakeups.{Agreement.{at_other, at_same, Agrees, IsSettled, runs, within}, Lists.refuted, ThreadAtBuffer.woken_sleeps}
+use Rattle.cpu.proofs.Wakeups.{Agreement.{at_other, at_same, Agrees, IsSettled, runs_at_home, local_within}, Lists.refuted, ThreadAtBuffer.woken_sleeps}
 use Rattle.cpu.proofs.Wakeups.{BuffersAndThreads.{Good, moves_at, CallersAre, callers_are, is_the_caller, sleeps_not_home}, SectionsAgree.IsCalling}
 use Rattle.cpu.proofs.Wakeups.SectionsAgree.{section_caller, agrees_call, agrees_pended, agrees_drained, agrees_yielded, agrees_foreign, drained_hand}
 use Rattle.cpu.proofs.Wakeups.PostsAndVisits.{caller_in, is_caller, post_pending, post_buffer, post, visit_moved, visit, is_local, IsCallers, MayComeBy}
 use Rattle.cpu.{proofs.Wakeups.PostsAndVisits.{MayComeTo, MayComeAt, MayCome}, specs.Table.Blocks.{Block, OfBuffer, OfPending, Name, Pend, TakeAll}}
-use Rattle.cpu.specs.Table.{Edits.{edited, answer, answer_of_buffer}, Setups.{Setup, Call, Private, thread_at, home_of, stands_at}, Steps.after_reply}
-use Rattle.cpu.specs.Table.Choice.{Ask, at_pending, at_buffer, section_at, asked_by, asked_at, asked_in, asked, with_guest, after_call, after_by, after_at}
+use Rattle.cpu.specs.Table.{Edits.{edited, answer, answer_of_buffer}, Setups.{Setup, Call, Private, thread_at, home_cpu, stands_at}, Steps.after_reply}
+use Rattle.cpu.specs.Table.Choice.{Ask, at_pending, at_buffer, section_due, asked_by, asked_at, asked_in, asked, with_state, after_call, after_by, after_at}
 use Rattle.{cpu.specs.{Table.Choice.after_in, Wakeups.Order.block_of}, event_log.specs.declared.ids.{CpuId.CpuId, Tid.Tid, BufId.BufId, LockId.LockId}}
 use Rattle.event_log.specs.{declared.ids.LockId.TheVariants.{Pending, Buffer as AtBuffer}, History.{same_cpu, same_lock}, Sections.Section}
 use Rattle.{guest.specs.State.after_yield, thread_blocks.proofs.Members.{same_tid_self, same_tid_true}, layer_traits.specs.Threads.Places.{is_home, is_thread}}
@@ -56,8 +56,8 @@ module _ (setup : Setup) (past : List (Section Name)) (good : Good setup past) (
       ))
       (λ u. grind (arith, moves_at setup past good e d name callers u (block_of setup (AtBuffer d) past) refl))
     where
-      mine : (u : Tid) → is_caller u name ≡ true → same_cpu (home_of setup u) e ≡ true
-      mine u own = (and_parts (same_cpu (home_of setup u) e) (nat_lt u.0 (length setup.homes)) (callers u (is_the_caller u name own)).local).0
+      mine : (u : Tid) → is_caller u name ≡ true → same_cpu (home_cpu setup u) e ≡ true
+      mine u own = (and_parts (same_cpu (home_cpu setup u) e) (nat_lt u.0 (length setup.homes)) (callers u (is_the_caller u name own)).local).0
 
   pending_homes : (d : CpuId) (name : Name) → MayComeTo setup past e d name → (u : Tid) → is_local setup c u ≡ true
       → is_home (post_pending setup d u name (post setup u past)) ≡ is_home (post setup u past)
@@ -91,17 +91,17 @@ pub record GiveOk (setup : Setup) (past : List (Section Name)) (c : CpuId) (p : 
 
 module _ (setup : Setup) (past : List (Section Name)) (good : Good setup past) (c : CpuId) (p : Private)
     (agrees : Agrees setup c p (λ u. visit setup u past) (λ u. post setup u past)) (settled_before : IsSettled setup c p) where
-  give_pend : (s : Tid) → p.hand ≡ Some s → GiveOk setup past c p (Pending (home_of setup s)) (Pend s)
+  give_pend : (s : Tid) → p.hand ≡ Some s → GiveOk setup past c p (Pending (home_cpu setup s)) (Pend s)
   give_pend s holds =
-      let there = pending_there setup (home_of setup s) past in
+      let there = pending_there setup (home_cpu setup s) past in
       let is = ap (λ o. after_reply setup c p (option_map (answer (Pend s)) o)) there.1
       ∙ ap (λ h. after_in setup c p h (answer (Pend s) (OfPending there.0))) holds in
       let held = is_hand_true c (post setup s past) (sym (agrees.hands s) ∙ ap (is_thread s) holds ∙ same_tid_self s) in
-      let now = agrees_pended setup c p (λ u. visit setup u past) (λ u. post setup u past) agrees settled_before (home_of setup s) s holds in
+      let now = agrees_pended setup c p (λ u. visit setup u past) (λ u. post setup u past) agrees settled_before (home_cpu setup s) s holds in
       record {
         may = (held, refl);
         agrees =
-            subst (λ q. Agrees setup c q (λ u. visit setup u past) (λ u. post_pending setup (home_of setup s) u (Pend s) (post setup u past))) (sym is) now.0;
+            subst (λ q. Agrees setup c q (λ u. visit setup u past) (λ u. post_pending setup (home_cpu setup s) u (Pend s) (post setup u past))) (sym is) now.0;
         settled = subst (IsSettled setup c) (sym is) now.1;
       }
 
@@ -125,7 +125,7 @@ module _ (setup : Setup) (past : List (Section Name)) (good : Good setup past) (
       let there = pending_there setup c past in
       let list = there.0 in
       let guest = after_yield (stands_at setup p t) (thread_at p t).guest in
-      let q : Private = record (with_guest p t guest) { current = None; ready = (p.ready ++ list) ++ t ∷ [] } in
+      let q : Private = record (with_state p t guest) { current = None; ready = (p.ready ++ list) ++ t ∷ [] } in
       let is = ap (λ o. after_reply setup c p (option_map (answer TakeAll) o)) there.1
       ∙ ap (λ h. after_in setup c p h (answer TakeAll (OfPending list))) empty
       ∙ ap (λ h. after_at setup c p h (answer TakeAll (OfPending list))) runs_now
@@ -134,8 +134,8 @@ module _ (setup : Setup) (past : List (Section Name)) (good : Good setup past) (
       (λ u. good.pending c u list there.1) good.known in
       let now = agrees_yielded setup c (record p { ready = p.ready ++ list }) (λ u. visit setup u past)
       (λ u. post_pending setup c u TakeAll (post setup u past)) drained_now t runs_now guest in
-      let known = within setup c p (λ u. visit setup u past) (λ u. post setup u past) agrees t
-      (runs setup c p (λ u. visit setup u past) (λ u. post setup u past) agrees t runs_now).0 in
+      let known = local_within setup c p (λ u. visit setup u past) (λ u. post setup u past) agrees t
+      (runs_at_home setup c p (λ u. visit setup u past) (λ u. post setup u past) agrees t runs_now).0 in
       record {
         may = refl;
         agrees = subst (λ x. Agrees setup c x (λ u. visit setup u past) (λ u. post_pending setup c u TakeAll (post setup u past))) (sym is) now;
@@ -143,48 +143,48 @@ module _ (setup : Setup) (past : List (Section Name)) (good : Good setup past) (
       }
 
   give_call : p.hand ≡ None → (t : Tid) → p.current ≡ Some t → (call : Call) → (thread_at p t).call ≡ Some call
-      → GiveOk setup past c p (AtBuffer call.buffer) (section_at t call call.stage)
+      → GiveOk setup past c p (AtBuffer call.buffer) (section_due t call call.stage)
   give_call empty t runs_now call is = by_block (block_of setup (AtBuffer call.buffer) past) refl
     where
       name : Name
-      name = section_at t call call.stage
+      name = section_due t call call.stage
 
       at : (is_local setup c t ≡ true) × (is_home (post setup t past) ≡ true) × ((thread_at p t).ended ≡ false) × (count_in t p.ready ≡ 0)
-      at = runs setup c p (λ u. visit setup u past) (λ u. post setup u past) agrees t runs_now
+      at = runs_at_home setup c p (λ u. visit setup u past) (λ u. post setup u past) agrees t runs_now
 
-      callers : IsCallers setup c call.buffer (section_at t call call.stage) t (post setup t past) (visit setup t past)
+      callers : IsCallers setup c call.buffer (section_due t call call.stage) t (post setup t past) (visit setup t past)
       callers = grind (arith, at, is_home_true, agrees, false_from_ne_true, refuted)
 
-      may_come : MayComeBy setup past c call.buffer (section_at t call call.stage) (caller_in (section_at t call call.stage))
-      may_come = subst (MayComeBy setup past c call.buffer (section_at t call call.stage)) (sym (section_caller t call call.stage)) callers
+      may_come : MayComeBy setup past c call.buffer (section_due t call call.stage) (caller_in (section_due t call call.stage))
+      may_come = subst (MayComeBy setup past c call.buffer (section_due t call call.stage)) (sym (section_caller t call call.stage)) callers
 
       by_block : (o : Option Block) → block_of setup (AtBuffer call.buffer) past ≡ o
-          → GiveOk setup past c p (AtBuffer call.buffer) (section_at t call call.stage)
+          → GiveOk setup past c p (AtBuffer call.buffer) (section_due t call call.stage)
       by_block None block = record {
         may = may_come;
         agrees = rw block agrees;
-        settled = subst (λ o. IsSettled setup c (after_reply setup c p (option_map (answer (section_at t call call.stage)) o))) (sym block) settled_before;
+        settled = subst (λ o. IsSettled setup c (after_reply setup c p (option_map (answer (section_due t call call.stage)) o))) (sym block) settled_before;
       }
       by_block (Some (OfPending list)) block = absurd (no_pending_at_buffer setup call.buffer past list block)
       by_block (Some (OfBuffer k)) block =
-          let asleep : (s : Tid) → (answer_of_buffer (section_at t call call.stage) k).woke ≡ Some s
+          let asleep : (s : Tid) → (answer_of_buffer (section_due t call call.stage) k).woke ≡ Some s
           → (is_home (post setup s past) ≡ false) × (nat_lt s.0 (length setup.homes) ≡ true) =
           λ s woke.
           let pair = good.pairs call.buffer s k block in
-          let sleeps = (woken_sleeps call.buffer s k _ _ _ pair (section_at t call call.stage) (ap (is_thread s) woke ∙ same_tid_self s)).1 in
+          let sleeps = (woken_sleeps call.buffer s k _ _ _ pair (section_due t call call.stage) (ap (is_thread s) woke ∙ same_tid_self s)).1 in
           let off = sleeps_not_home call.buffer (post setup s past) sleeps in
           (off, good.known s off) in
           let calling : IsCalling setup c p (λ u. visit setup u past) (λ u. post setup u past) t call
           = assumption (agrees, settled_before, empty, runs_now, is) in
           let now = agrees_call setup c p (λ u. visit setup u past) (λ u. post setup u past) t call calling k asleep in
-          let a = answer_of_buffer (section_at t call call.stage) k in
-          let gives : after_reply setup c p (option_map (answer (section_at t call call.stage)) (Some (OfBuffer k))) ≡ after_call setup c p t call a =
+          let a = answer_of_buffer (section_due t call call.stage) k in
+          let gives : after_reply setup c p (option_map (answer (section_due t call call.stage)) (Some (OfBuffer k))) ≡ after_call setup c p t call a =
           ap (λ h. after_in setup c p h a) empty ∙ ap (λ h. after_at setup c p h a) runs_now ∙ ap (λ h. after_by setup c p t h a) is in
           record {
             may = may_come;
             agrees = rw block
-                (subst (λ q. Agrees setup c q (λ u. visit_moved call.buffer u (section_at t call call.stage) k (visit setup u past))
-                (λ u. post_buffer setup c call.buffer u (section_at t call call.stage) (Some (OfBuffer k)) (post setup u past))) (sym gives) now.0);
+                (subst (λ q. Agrees setup c q (λ u. visit_moved call.buffer u (section_due t call call.stage) k (visit setup u past))
+                (λ u. post_buffer setup c call.buffer u (section_due t call call.stage) (Some (OfBuffer k)) (post setup u past))) (sym gives) now.0);
             settled = rw block (subst (IsSettled setup c) (sym gives) now.1);
           }
 
@@ -200,7 +200,7 @@ module _ (setup : Setup) (past : List (Section Name)) (good : Good setup past) (
       by_call empty t runs_now None is =
           give_asked (at_pending c TakeAll) (ap (asked_in setup c p) empty ∙ ap (asked_at c p) runs_now ∙ ap (asked_by c t) is) (give_yield empty t runs_now is)
       by_call empty t runs_now (Some call) is =
-          give_asked (at_buffer call.buffer (section_at t call call.stage)) (ap (asked_in setup c p) empty ∙ ap (asked_at c p) runs_now ∙ ap (asked_by c t) is)
+          give_asked (at_buffer call.buffer (section_due t call call.stage)) (ap (asked_in setup c p) empty ∙ ap (asked_at c p) runs_now ∙ ap (asked_by c t) is)
           (give_call empty t runs_now call is)
 
       by_current : p.hand ≡ None → (current : Option Tid) → p.current ≡ current → GiveOk setup past c p (asked setup c p).lock (asked setup c p).name
@@ -209,4 +209,4 @@ module _ (setup : Setup) (past : List (Section Name)) (good : Good setup past) (
 
       by_hand : (hand : Option Tid) → p.hand ≡ hand → GiveOk setup past c p (asked setup c p).lock (asked setup c p).name
       by_hand None empty = by_current empty p.current refl
-      by_hand (Some s) holds = give_asked (at_pending (home_of setup s) (Pend s)) (ap (asked_in setup c p) holds) (give_pend s holds)
+      by_hand (Some s) holds = give_asked (at_pending (home_cpu setup s) (Pend s)) (ap (asked_in setup c p) holds) (give_pend s holds)

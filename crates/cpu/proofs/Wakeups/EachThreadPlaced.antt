@@ -3,14 +3,14 @@ use Rattle.std.proofs.Common.{◌≡◌, ℕ, zero, suc, ◌+◌, ◌<◌, Bool,
 use Rattle.std.proofs.{Common.{subst, arith}, lemmas.Bool.{and_from, and_left, and_right, false_from_ne_true, lt-ltb, ltb-true, ne_eqb}}
 use Rattle.event_log.specs.declared.ids.{CpuId.CpuId, Tid.Tid, BufId.BufId, LockId.TheVariants.{Pending, Buffer as AtBuffer}, TheConstants.THREADS}
 use Rattle.{event_log.{specs.{History.same_cpu, Sections.sections_in}, proofs.Same.same_cpu_self}, layer_traits.specs.declared.moves.WaitList.WaitList}
-use Rattle.layer_traits.specs.Threads.{ListsAgree.same_list, Passes.as_list, OnePlace.total, Places.{Where, Home, Hand, Pend as IsPending, Asleep, At, is_home}}
+use Rattle.layer_traits.specs.Threads.{ListsAgree.same_list, Passes.as_list, OnePlace.total, Places.{Where, Home, Hand, IsPending, Asleep, At, is_home}}
 use Rattle.layer_traits.{specs.Threads.Places.{is_hand, is_thread, one_if, count_in}, proofs.CountLemmas.{count_append, count_as_list}}
-use Rattle.{layer_traits.proofs.OnePlaceLemmas.{total_at, total_none}, cpu.specs.Table.{Blocks.{Buffer, OfBuffer}, Setups.{Setup, Private, thread_at, home_of}}}
-use Rattle.cpu.specs.{Table.{Steps.{Whole, cpu_numbered}, Worked.buffer_numbered}, Wakeups.{Order.block_of, Quiet.HomesExist, OnePlace.{own_queues, queues_in}}}
-use Rattle.cpu.specs.Wakeups.OnePlace.{all_of, of_cpu, of_pending, of_buffer, everyone, thread_in, thread_of, is_live, StandInOnePlace}
-use Rattle.cpu.proofs.Wakeups.{Lists.refuted, PostsAndVisits.{sleeps_in, is_pending, is_local, post, visit, marked}, ThreadAtBuffer.{sleeps_here, marked_none}}
-use Rattle.cpu.proofs.Wakeups.{BuffersAndThreads.Good, Placed.{IsListed, IsPlaced, buffer_there}, Agreement.seat, CpuStep.pending_there}
-use Rattle.cpu.proofs.Wakeups.{ReachedStates.fair_good, SystemInv.{SystemInv, reached_inv, cpu_there}}
+use Rattle.{layer_traits.proofs.OnePlaceLemmas.{total_at, total_none}, cpu.specs.Table.{Blocks.{Buffer, OfBuffer}, Setups.{Setup, Private, thread_at}}}
+use Rattle.cpu.specs.{Table.{Setups.home_cpu, Steps.{Whole, cpu_numbered}, Worked.buffer_numbered}, Wakeups.{Order.block_of, Quiet.HomesExist}}
+use Rattle.cpu.specs.Wakeups.OnePlace.{own_queues, queues_in, all_of, threads_on_cpu, of_pending, of_buffer, everyone, thread_in, thread_in_whole, is_live}
+use Rattle.cpu.{specs.Wakeups.OnePlace.StandInOnePlace, proofs.Wakeups.{Lists.refuted, PostsAndVisits.{sleeps_in, is_pending, is_local, post, visit, marked}}}
+use Rattle.cpu.proofs.Wakeups.{ThreadAtBuffer.{sleeps_here, marked_none}, BuffersAndThreads.Good, Placed.{IsListed, IsPlaced, buffer_there}, Agreement.seat}
+use Rattle.cpu.proofs.Wakeups.{CpuStep.pending_there, ReachedStates.fair_good, SystemInv.{SystemInv, reached_inv, cpu_there}}
 use Rattle.layer_traits.specs.declared.moves.WaitList.TheVariants as wait_list
 
 -- Sums of the numbers below n.
@@ -29,15 +29,16 @@ module _ (setup : Setup) (s : Whole) (homes : HomesExist setup) (kept : SystemIn
   -- What each queue has of the thread, by its post.
 
   at_cpu : (x : Where) → post setup u (sections_in s.log) ≡ x → (i : ℕ) → i < setup.cpus
-      → count_in u (of_cpu s i) ≡ one_if (seat setup (cpu_numbered i) u x (ended_at i)) + one_if (is_hand (cpu_numbered i) x)
+      → count_in u (threads_on_cpu s i) ≡ one_if (seat setup (cpu_numbered i) u x (ended_at i)) + one_if (is_hand (cpu_numbered i) x)
   at_cpu x is i below = by_cpu (cpu_there setup s kept (cpu_numbered i) below)
     where
       by_cpu : ((p : Private) × (slice_get s.cpus i ≡ Some p))
-          → count_in u (of_cpu s i) ≡ one_if (seat setup (cpu_numbered i) u x (ended_at i)) + one_if (is_hand (cpu_numbered i) x)
+          → count_in u (threads_on_cpu s i) ≡ one_if (seat setup (cpu_numbered i) u x (ended_at i)) + one_if (is_hand (cpu_numbered i) x)
       by_cpu cpu =
           let p = cpu.0 in
           let agrees = (kept.sound.cpus (cpu_numbered i) p cpu.1).agrees in
-          let list : count_in u (of_cpu s i) ≡ count_in u ((as_list p.current ++ p.ready) ++ as_list p.hand) = ap (λ o. count_in u (own_queues o)) cpu.1 in
+          let list : count_in u (threads_on_cpu s i) ≡ count_in u ((as_list p.current ++ p.ready) ++ as_list p.hand) =
+          ap (λ o. count_in u (own_queues o)) cpu.1 in
           let parts : count_in u ((as_list p.current ++ p.ready) ++ as_list p.hand) ≡ count_in u (as_list p.current ++ p.ready) + count_in u (as_list p.hand) =
           count_append u (as_list p.current ++ p.ready) (as_list p.hand) in
           let front : count_in u (as_list p.current ++ p.ready) ≡ count_in u (as_list p.current) + count_in u p.ready =
@@ -50,11 +51,11 @@ module _ (setup : Setup) (s : Whole) (homes : HomesExist setup) (kept : SystemIn
           omega (arith, list, parts, front, count_as_list u p.current, hand, seats)
 
   at_pending : (x : Where) → post setup u (sections_in s.log) ≡ x → (i : ℕ)
-      → count_in u (of_pending setup s i) ≡ one_if (same_cpu (home_of setup u) (cpu_numbered i) && is_pending x)
+      → count_in u (of_pending setup s i) ≡ one_if (same_cpu (home_cpu setup u) (cpu_numbered i) && is_pending x)
   at_pending x is i =
       let there = pending_there setup (cpu_numbered i) (sections_in s.log) in
       ap (λ o. count_in u (queues_in o)) there.1 ∙ good.pending (cpu_numbered i) u there.0 there.1
-      ∙ ap (λ y. one_if (same_cpu (home_of setup u) (cpu_numbered i) && is_pending y)) is
+      ∙ ap (λ y. one_if (same_cpu (home_cpu setup u) (cpu_numbered i) && is_pending y)) is
 
   at_buffer : (x : Where) → post setup u (sections_in s.log) ≡ x → (i : ℕ) → i < length setup.caps
       → count_in u (of_buffer setup s i)
@@ -82,7 +83,7 @@ module _ (setup : Setup) (s : Whole) (homes : HomesExist setup) (kept : SystemIn
 
   -- the three sums
   abbrev cpus_sum : ℕ
-  cpus_sum = total (λ i. count_in u (of_cpu s i)) setup.cpus
+  cpus_sum = total (λ i. count_in u (threads_on_cpu s i)) setup.cpus
 
   abbrev pending_sum : ℕ
   pending_sum = total (λ i. count_in u (of_pending setup s i)) setup.cpus
@@ -95,7 +96,7 @@ module _ (setup : Setup) (s : Whole) (homes : HomesExist setup) (kept : SystemIn
 
   no_pending : (x : Where) → post setup u (sections_in s.log) ≡ x → is_pending x ≡ false → pending_sum ≡ 0
   no_pending x is off =
-      total_none _ setup.cpus (λ i below. at_pending x is i ∙ ap one_if (and_right (same_cpu (home_of setup u) (cpu_numbered i)) (is_pending x) off))
+      total_none _ setup.cpus (λ i below. at_pending x is i ∙ ap one_if (and_right (same_cpu (home_cpu setup u) (cpu_numbered i)) (is_pending x) off))
 
   no_buffers : (x : Where) → post setup u (sections_in s.log) ≡ x → ((b : BufId) (list : WaitList) → sleeps_in b list x ≡ false) → buffers_sum ≡ 0
   no_buffers x is awake =
@@ -126,9 +127,9 @@ module _ (setup : Setup) (s : Whole) (homes : HomesExist setup) (kept : SystemIn
           total_none _ setup.cpus (λ i below.
           let seats : one_if (seat setup (cpu_numbered i) u Home (ended_at i)) ≡ 0 =
           ap one_if (and_left (is_local setup (cpu_numbered i) u) (true && not (ended_at i))
-          (and_right (same_cpu (home_of setup u) (cpu_numbered i)) (nat_lt u.0 (length setup.homes)) off)) in
+          (and_right (same_cpu (home_cpu setup u) (cpu_numbered i)) (nat_lt u.0 (length setup.homes)) off)) in
           omega (arith, at_cpu Home is i below, seats)) in
-          let live : one_if (is_live setup s u) ≡ 0 = ap one_if (and_left (nat_lt u.0 (length setup.homes)) (not (thread_of setup s u).ended) off) in
+          let live : one_if (is_live setup s u) ≡ 0 = ap one_if (and_left (nat_lt u.0 (length setup.homes)) (not (thread_in_whole setup s u).ended) off) in
           omega (arith, sums, cpus, no_pending Home is refl, no_buffers Home is (λ b list. refl), live)
       by_post (Hand c) is = away (Hand c) is refl
       by_post (IsPending q) is = away (IsPending q) is refl
@@ -137,45 +138,45 @@ module _ (setup : Setup) (s : Whole) (homes : HomesExist setup) (kept : SystemIn
   -- A thread.
 
   module _ (known : nat_lt u.0 (length setup.homes) ≡ true) where
-    home_within : (home_of setup u).0 < setup.cpus
+    home_within : (home_cpu setup u).0 < setup.cpus
     home_within = homes.1 u (ltb-true u.0 (length setup.homes) known)
 
     small : nat_lt u.0 THREADS ≡ true
     small = grind (arith, ltb-true, lt-ltb)
 
-    other_cpu : (i : ℕ) → (i ≡ (home_of setup u).0 → ⊥) → same_cpu (home_of setup u) (cpu_numbered i) ≡ false
-    other_cpu i off = ne_eqb (home_of setup u).0 i (λ same. off (sym same))
+    other_cpu : (i : ℕ) → (i ≡ (home_cpu setup u).0 → ⊥) → same_cpu (home_cpu setup u) (cpu_numbered i) ≡ false
+    other_cpu i off = ne_eqb (home_cpu setup u).0 i (λ same. off (sym same))
 
     -- away from home a thread has not ended
     alive : (x : Where) → post setup u (sections_in s.log) ≡ x → is_home x ≡ false → one_if (is_live setup s u) ≡ 1
-    alive x is out = by_cpu (cpu_there setup s kept (home_of setup u) home_within)
+    alive x is out = by_cpu (cpu_there setup s kept (home_cpu setup u) home_within)
       where
-        by_cpu : ((p : Private) × (slice_get s.cpus (home_of setup u).0 ≡ Some p)) → one_if (is_live setup s u) ≡ 1
+        by_cpu : ((p : Private) × (slice_get s.cpus (home_cpu setup u).0 ≡ Some p)) → one_if (is_live setup s u) ≡ 1
         by_cpu cpu =
-            let agrees = (kept.sound.cpus (home_of setup u) cpu.0 cpu.1).agrees in
-            let local : is_local setup (home_of setup u) u ≡ true =
-            and_from (same_cpu (home_of setup u) (home_of setup u)) (nat_lt u.0 (length setup.homes)) (same_cpu_self (home_of setup u)) known in
+            let agrees = (kept.sound.cpus (home_cpu setup u) cpu.0 cpu.1).agrees in
+            let local : is_local setup (home_cpu setup u) u ≡ true =
+            and_from (same_cpu (home_cpu setup u) (home_cpu setup u)) (nat_lt u.0 (length setup.homes)) (same_cpu_self (home_cpu setup u)) known in
             let goes : (thread_at cpu.0 u).ended ≡ false =
             false_from_ne_true (thread_at cpu.0 u).ended (λ ended. refuted (ap is_home is ∙ out) (agrees.ends u local ended)) in
             (λ i. one_if (known i && not ((ap (λ o. (thread_in o u).ended) cpu.1 ∙ goes) i)))
 
     by_post : (x : Where) → post setup u (sections_in s.log) ≡ x → count_in u (everyone setup s) ≡ one_if (is_live setup s u)
     by_post Home is =
-        let cpus : cpus_sum ≡ count_in u (of_cpu s (home_of setup u).0) =
-        total_at (λ i. count_in u (of_cpu s i)) setup.cpus (home_of setup u).0 home_within (λ i below off.
+        let cpus : cpus_sum ≡ count_in u (threads_on_cpu s (home_cpu setup u).0) =
+        total_at (λ i. count_in u (threads_on_cpu s i)) setup.cpus (home_cpu setup u).0 home_within (λ i below off.
         let here = at_cpu Home is i below in
         let seats : one_if (seat setup (cpu_numbered i) u Home (ended_at i)) ≡ 0 =
         ap one_if (and_left (is_local setup (cpu_numbered i) u) (true && not (ended_at i))
-        (and_left (same_cpu (home_of setup u) (cpu_numbered i)) (nat_lt u.0 (length setup.homes)) (other_cpu i off))) in
+        (and_left (same_cpu (home_cpu setup u) (cpu_numbered i)) (nat_lt u.0 (length setup.homes)) (other_cpu i off))) in
         omega (arith, here, seats)) in
-        let seats : one_if (seat setup (home_of setup u) u Home (ended_at (home_of setup u).0)) ≡ one_if (is_live setup s u) =
-        (λ i. one_if ((same_cpu_self (home_of setup u) i && known i) && (true && not (ended_at (home_of setup u).0))))
-        ∙ (λ i. one_if (sym known i && not (ended_at (home_of setup u).0))) in
-        omega (arith, sums, cpus, at_cpu Home is (home_of setup u).0 home_within, seats, no_pending Home is refl, no_buffers Home is (λ b list. refl))
+        let seats : one_if (seat setup (home_cpu setup u) u Home (ended_at (home_cpu setup u).0)) ≡ one_if (is_live setup s u) =
+        (λ i. one_if ((same_cpu_self (home_cpu setup u) i && known i) && (true && not (ended_at (home_cpu setup u).0))))
+        ∙ (λ i. one_if (sym known i && not (ended_at (home_cpu setup u).0))) in
+        omega (arith, sums, cpus, at_cpu Home is (home_cpu setup u).0 home_within, seats, no_pending Home is refl, no_buffers Home is (λ b list. refl))
     by_post (Hand e) is =
         let within : e.0 < setup.cpus = subst (IsPlaced setup (visit setup u (sections_in s.log))) is (kept.placed.posts u) in
-        let cpus : cpus_sum ≡ count_in u (of_cpu s e.0) =
-        total_at (λ i. count_in u (of_cpu s i)) setup.cpus e.0 within (λ i below off.
+        let cpus : cpus_sum ≡ count_in u (threads_on_cpu s e.0) =
+        total_at (λ i. count_in u (threads_on_cpu s i)) setup.cpus e.0 within (λ i below off.
         let here = at_cpu (Hand e) is i below in
         let seats = no_seat (Hand e) i refl in
         let hand : one_if (same_cpu e (cpu_numbered i)) ≡ 0 = ap one_if (ne_eqb e.0 i (λ same. off (sym same))) in
@@ -185,12 +186,12 @@ module _ (setup : Setup) (s : Whole) (homes : HomesExist setup) (kept : SystemIn
         let live = alive (Hand e) is refl in
         omega (arith, sums, cpus, at_cpu (Hand e) is e.0 within, no_seat (Hand e) e.0 refl, ap one_if (same_cpu_self e), pending, buffers, live)
     by_post (IsPending q) is =
-        let pending : pending_sum ≡ count_in u (of_pending setup s (home_of setup u).0) =
-        total_at (λ i. count_in u (of_pending setup s i)) setup.cpus (home_of setup u).0 home_within (λ i below off.
-        at_pending (IsPending q) is i ∙ ap one_if (and_left (same_cpu (home_of setup u) (cpu_numbered i)) true (other_cpu i off))) in
-        let here : count_in u (of_pending setup s (home_of setup u).0) ≡ 1 =
-        at_pending (IsPending q) is (home_of setup u).0 ∙ ap one_if
-        (and_from (same_cpu (home_of setup u) (home_of setup u)) true (same_cpu_self (home_of setup u)) refl) in
+        let pending : pending_sum ≡ count_in u (of_pending setup s (home_cpu setup u).0) =
+        total_at (λ i. count_in u (of_pending setup s i)) setup.cpus (home_cpu setup u).0 home_within (λ i below off.
+        at_pending (IsPending q) is i ∙ ap one_if (and_left (same_cpu (home_cpu setup u) (cpu_numbered i)) true (other_cpu i off))) in
+        let here : count_in u (of_pending setup s (home_cpu setup u).0) ≡ 1 =
+        at_pending (IsPending q) is (home_cpu setup u).0 ∙ ap one_if
+        (and_from (same_cpu (home_cpu setup u) (home_cpu setup u)) true (same_cpu_self (home_cpu setup u)) refl) in
         let live = alive (IsPending q) is refl in
         omega (arith, sums, no_cpus (IsPending q) is refl (λ c. refl), pending, here, no_buffers (IsPending q) is (λ b list. refl), live)
     by_post (Asleep (At (Pending d) list)) is = absurd (subst (IsPlaced setup (visit setup u (sections_in s.log))) is (kept.placed.posts u))

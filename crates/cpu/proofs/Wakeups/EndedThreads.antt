@@ -6,9 +6,9 @@ use Rattle.guest.specs.{declared.instructions.Instruction.{Instruction, TheVaria
 use Rattle.{guest.specs.State.message_from, thread_blocks.proofs.Members.same_tid_true, layer_traits.specs.declared.steps.Reason.TheVariants.AllEnded}
 use Rattle.layer_traits.specs.declared.{steps.Reason.TheVariants.TraceFull, call_states.Stage.{Stage, TheVariants.{Idle, Tries, Waits, AcquiresAgain, Signals}}}
 use Rattle.{layer_traits.specs.declared.call_states.Stage.TheVariants.{SignalsOwn, Releases}, cpu.specs.Table.{Blocks.{Name, Answer}, Steps.acting}}
-use Rattle.cpu.specs.Table.Setups.{Setup, Call, Thread, Private, new_thread, thread_at, with_thread, program_of, stands_at, at_boot, home_threads, open_calls}
-use Rattle.cpu.specs.Table.{Setups.have_ended, Choice.{Choice, Halts, Alone, Goes, new_call, with_call, begins, at_instruction, at_call, at_ready, at_current}}
-use Rattle.cpu.specs.Table.Choice.{at_hand, choice, recorded, slept_if, woken, settled, after_by, after_at, after_in, after_section}
+use Rattle.cpu.specs.Table.Setups.{Setup, Call, Thread, Private, new_thread, thread_at, with_thread, program_of, stands_at, boot_of, home_threads, open_calls}
+use Rattle.cpu.specs.Table.{Setups.have_ended, Choice.{Choice, Halts, Alone, Goes, new_call, with_call, begin_or_halt, at_instruction, at_call, at_ready}}
+use Rattle.cpu.specs.Table.Choice.{at_current, at_hand, choice, with_told, slept_if, woken, settled, after_by, after_at, after_in, after_section}
 use Rattle.cpu.{specs.Wakeups.Quiet.IsNextEffect, proofs.Wakeups.{Lists.refuted, Agreement.{at_same, at_other}}}
 
 abbrev pub is_before : Stage → Bool
@@ -50,7 +50,7 @@ all_new : {A : Type 0} (homes : List A) (i : ℕ) → get_or (map (λ home. new_
 all_new (home ∷ homes) (suc i) = all_new homes i
 all_new homes i = refl
 
-pub fine_at_boot : (setup : Setup) (c : CpuId) → AllFine setup (at_boot setup c)
+pub fine_at_boot : (setup : Setup) (c : CpuId) → AllFine setup (boot_of setup c)
 fine_at_boot setup c u = subst (Fine setup u) (sym (all_new setup.homes u.0)) (record { quits = λ e. refl; says = tt })
 
 fine_with : (setup : Setup) (p : Private) (t : Tid) (x : Thread) → t.0 < length p.threads → AllFine setup p → Fine setup t x → AllFine setup (with_thread p t x)
@@ -89,8 +89,8 @@ module _ (setup : Setup) (c : CpuId) where
       by_call : (t : Tid) → p.current ≡ Some t → (call : Option Call) → (thread_at p t).call ≡ call → AllFine setup (after_by setup c p t call a)
       by_call t runs_now None is = grind (arith, fine_set)
       by_call t runs_now (Some call) is =
-          fine_settled (woken setup c a.woke (slept_if a.slept (recorded c p t call call.stage a.told)))
-          (grind (arith, fine_slept a.slept (recorded c p t call call.stage a.told) (grind (arith, fine_call, known t runs_now, fine, is))))
+          fine_settled (woken setup c a.woke (slept_if a.slept (with_told c p t call call.stage a.told)))
+          (grind (arith, fine_slept a.slept (with_told c p t call call.stage a.told) (grind (arith, fine_call, known t runs_now, fine, is))))
 
       by_current : (current : Option Tid) → p.current ≡ current → AllFine setup (after_at setup c p current a)
       by_current current idle = grind (arith, by_call)
@@ -109,7 +109,7 @@ module _ (setup : Setup) (c : CpuId) where
   module _ (p : Private) (fine : AllFine setup p) (alive : (t : Tid) → p.current ≡ Some t → (thread_at p t).ended ≡ false) where
     fine_begins : (t : Tid) → p.current ≡ Some t → (call : Call) → call.effect ≡ None
         → IsNextEffect (stands_at setup p t) (thread_at p t).guest call.asks call.buffer call.message → FitsGroup call.asks call.stage
-        → FineChoice (begins setup c p t call)
+        → FineChoice (begin_or_halt setup c p t call)
     fine_begins t runs_now call new next fits = by_test ((length p.trace + open_calls p (home_threads setup c)) == setup.trace_room)
       where
         by_test : (full : Bool) → FineChoice (if full then Halts TraceFull else Goes (with_call p t (Some call)))

@@ -5,9 +5,9 @@ use Rattle.event_log.{specs.{declared.ids.{CpuId.CpuId, Tid.Tid}, History.same_c
 use Rattle.guest.specs.declared.instructions.Instruction.{Instruction, TheVariants.{Send, Recv, Close, Yield as YieldLine}}
 use Rattle.layer_traits.specs.{declared.{steps.Reason.TheVariants.{AllEnded, TraceFull}, call_states.Stage.Stage}, Polling.Plans.is_in_section}
 use Rattle.cpu.specs.Table.{Blocks.{Name, Reported}, Setups.{Setup, Call, Private, thread_at, stands_at, home_threads, open_calls, have_ended}, Choice.Choice}
-use Rattle.cpu.specs.Table.Choice.{Halts, Alone, Goes, with_call, at_instruction, at_call, at_ready, at_current, at_hand, choice, recorded, slept_if, woken}
-use Rattle.cpu.specs.Table.{Choice.{returned_in, settled}, Steps.{acting, chosen, step_in, cpu_step, Whole, system_step, IsReached, boots, steps}}
-use Rattle.cpu.proofs.Wakeups.{Lists.refuted, Agreement.{at_same, within, runs}, PostsAndVisits.{post, visit}, ChosenSteps.{ChoiceOk, choice_ok}}
+use Rattle.cpu.specs.Table.Choice.{Halts, Alone, Goes, with_call, at_instruction, at_call, at_ready, at_current, at_hand, choice, with_told, slept_if, woken}
+use Rattle.cpu.specs.Table.{Choice.{returned_in, settled}, Steps.{acting, chosen_step, step_in, cpu_step, Whole, system_step, IsReached, boots, steps_once}}
+use Rattle.cpu.proofs.Wakeups.{Lists.refuted, Agreement.{at_same, local_within, runs_at_home}, PostsAndVisits.{post, visit}, ChosenSteps.{ChoiceOk, choice_ok}}
 use Rattle.cpu.proofs.Wakeups.{ReachedStates.{Ok, get_set, boots_at, reached_sound, Sound}, SystemInv.{NextIs, same, went, next_is}}
 
 abbrev pub IsFilled : Private → Type 0
@@ -31,7 +31,7 @@ module _ (setup : Setup) (c : CpuId) where
   called p t call known = grind (arith, at_same)
 
   recorded_some : (p : Private) (t : Tid) (call : Call) → t.0 < length p.threads → (thread_at p t).call ≡ Some call
-      → (stage : Stage) (told : Reported) → RecordedSome p (recorded c p t call stage told) t
+      → (stage : Stage) (told : Reported) → RecordedSome p (with_told c p t call stage told) t
   recorded_some p t call known is stage told = grind (arith, called)
 
   some_inside : (p q : Private) (t : Tid) → p.current ≡ Some t → RecordedSome p q t → (slept : Bool) → (u : Tid)
@@ -92,17 +92,17 @@ module _ (setup : Setup) (c : CpuId) where
   filled_step p log ok filled = by_section (is_in_section (phase c log))
     where
       by_choice : (what : Choice) → ChoiceOk setup c (λ u. visit setup u (sections_in log)) (λ u. post setup u (sections_in log)) what → FilledChoice what
-          → IsFilled (chosen setup c p what log).next
+          → IsFilled (chosen_step setup c p what log).next
       by_choice (Halts reason) agrees now = filled
       by_choice (Alone q) agrees now = now
       by_choice (Goes q) agrees now =
-          filled_acting q now (λ t runs_now. within setup c q (λ u. visit setup u (sections_in log)) (λ u. post setup u (sections_in log)) agrees.0 t
-          (runs setup c q (λ u. visit setup u (sections_in log)) (λ u. post setup u (sections_in log)) agrees.0 t runs_now).0) log
+          filled_acting q now (λ t runs_now. local_within setup c q (λ u. visit setup u (sections_in log)) (λ u. post setup u (sections_in log)) agrees.0 t
+          (runs_at_home setup c q (λ u. visit setup u (sections_in log)) (λ u. post setup u (sections_in log)) agrees.0 t runs_now).0) log
 
       by_section : (inside : Bool) → IsFilled (step_in setup c p log inside).next
       by_section true =
-          filled_acting p filled (λ t runs_now. within setup c p (λ u. visit setup u (sections_in log)) (λ u. post setup u (sections_in log)) ok.agrees t
-          (runs setup c p (λ u. visit setup u (sections_in log)) (λ u. post setup u (sections_in log)) ok.agrees t runs_now).0) log
+          filled_acting p filled (λ t runs_now. local_within setup c p (λ u. visit setup u (sections_in log)) (λ u. post setup u (sections_in log)) ok.agrees t
+          (runs_at_home setup c p (λ u. visit setup u (sections_in log)) (λ u. post setup u (sections_in log)) ok.agrees t runs_now).0) log
       by_section false =
           by_choice (choice setup c p) (choice_ok setup c p (λ u. visit setup u (sections_in log)) (λ u. post setup u (sections_in log)) ok.agrees ok.settled)
           (filled_choice p filled)
@@ -123,6 +123,6 @@ filled_next setup c s next sound filled (went p here) = λ e q is. by_test e q i
 
 pub reached_filled : (setup : Setup) (room : ℕ) (s : Whole) → IsReached setup room s → AllFilled s
 reached_filled setup room s boots = grind (arith, boots_at, empty_filled)
-reached_filled setup room s (steps {s = before} c reached known) =
+reached_filled setup room s (steps_once {s = before} c reached known) =
     filled_next setup c before (system_step setup c before).next (reached_sound setup room before reached)
     (reached_filled setup room before reached) (next_is setup c before)

@@ -4,18 +4,18 @@ use Rattle.std.proofs.{Common.{arith, length, Some, slice_get, slice_set, zero-a
 use Rattle.std.{proofs.lemmas.List.{length-set, Elements.All-append}, specs.List.All}
 use Rattle.event_log.{specs.{declared.ids.CpuId.CpuId, History.{same_cpu, own_events}, Actions.{Action, cpu_of_action}}, proofs.Same.same_cpu_self}
 use Rattle.{event_log.proofs.ListLemmas.set_else, layer_traits.specs.{declared.steps.Step.TheVariants.Stepped, Polling.Along.{starts, others, steps}}}
-use Rattle.cpu.specs.{Sound.after_steps, Table.{Blocks.Name, Setups.{Setup, Private, at_boot}, Steps.{Whole, AlongTable, boots_from, cpu_numbered, cpu_step}}}
+use Rattle.cpu.specs.{Sound.after_steps, Table.{Blocks.Name, Setups.{Setup, Private, boot_of}, Steps.{Whole, AlongTable, boots_from, cpu_numbered, cpu_step}}}
 use Rattle.cpu.{specs.{Table.Steps.{system_step, whole_at_boot}, Wakeups.{Lost.IsWorked, Merged.WorkIsARun}}, proofs.StepTable.ReachedSystems.after_more}
 use Rattle.cpu.proofs.Wakeups.{Lists.{refuted, same_head, same_tail, set_here}, SystemInv.boots_length}
 
 -- ---- lists
 
-booted : (setup : Setup) (n k i : ℕ) → i < k → slice_get (boots_from setup n k) i ≡ Some (at_boot setup (cpu_numbered (n + i)))
+booted : (setup : Setup) (n k i : ℕ) → i < k → slice_get (boots_from setup n k) i ≡ Some (boot_of setup (cpu_numbered (n + i)))
 booted setup n zero i below = absurd (omega (arith, below))
-booted setup n (suc k) zero below = let same : n ≡ n + 0 = omega arith in ap (λ m. Some (at_boot setup (cpu_numbered m))) same
+booted setup n (suc k) zero below = let same : n ≡ n + 0 = omega arith in ap (λ m. Some (boot_of setup (cpu_numbered m))) same
 booted setup n (suc k) (suc i) below =
     let same : (n + 1) + i ≡ n + suc i = omega arith in
-    booted setup (n + 1) k i (omega (arith, below)) ∙ ap (λ m. Some (at_boot setup (cpu_numbered m))) same
+    booted setup (n + 1) k i (omega (arith, below)) ∙ ap (λ m. Some (boot_of setup (cpu_numbered m))) same
 
 -- ---- one system
 
@@ -140,17 +140,17 @@ cut setup c n p log (steps {n = m} {p = q} {log = before} along taken) =
 
 -- the way of a CPU before any action
 from_boot : (setup : Setup) (c : CpuId) (n : ℕ) (p : Private) (log : List (Action Name)) → AlongTable setup c n p log → log ≡ []
-    → Way setup c [] (at_boot setup c) p
+    → Way setup c [] (boot_of setup c) p
 unfolding IsShort
 from_boot setup c n p log starts = λ is. stays
 from_boot setup c n p log (others {n = m} {p = q} {log = before} b along off) = λ is. absurd (cc is)
 from_boot setup c n p log (steps {n = m} {p = q} {log = before} along taken) = λ is. by_acts (short setup c q before) is (from_boot setup c m q before along)
   where
     by_acts : IsShort c (cpu_step setup c q before).acts → (cpu_step setup c q before).acts ++ before ≡ []
-        → (before ≡ [] → Way setup c [] (at_boot setup c) q) → Way setup c [] (at_boot setup c) (cpu_step setup c q before).next
+        → (before ≡ [] → Way setup c [] (boot_of setup c) q) → Way setup c [] (boot_of setup c) (cpu_step setup c q before).next
     by_acts (inl none) is earlier =
         let same : before ≡ [] = ap (λ acts. acts ++ before) (sym none) ∙ is in
-        longer setup c (at_boot setup c) q before [] same (earlier same) taken none
+        longer setup c (boot_of setup c) q before [] same (earlier same) taken none
     by_acts (inr own) is earlier =
         let list : own.0 ∷ before ≡ [] = ap (λ acts. acts ++ before) (sym own.1) ∙ is in
         absurd (cc list)
@@ -309,15 +309,15 @@ merged setup [] rest R came = ways setup [] R (record {
   ps = boots_from setup 0 setup.cpus;
   way = boots;
   all = λ k below. let x = came k below in (
-    at_boot setup (cpu_numbered (0 + k)),
+    boot_of setup (cpu_numbered (0 + k)),
     booted setup 0 setup.cpus k below,
     (x.1, at_zero k x.1 (from_boot setup (cpu_numbered k) x.0 x.1 [] x.2 refl), x.3),
   );
 })
   where
-    at_zero : (k : ℕ) (p : Private) → Way setup (cpu_numbered k) [] (at_boot setup (cpu_numbered k)) p
-        → Way setup (cpu_numbered k) [] (at_boot setup (cpu_numbered (0 + k))) p
-    at_zero k p way = subst (λ n. Way setup (cpu_numbered k) [] (at_boot setup (cpu_numbered n)) p) (sym (zero-add k)) way
+    at_zero : (k : ℕ) (p : Private) → Way setup (cpu_numbered k) [] (boot_of setup (cpu_numbered k)) p
+        → Way setup (cpu_numbered k) [] (boot_of setup (cpu_numbered (0 + k))) p
+    at_zero k p way = subst (λ n. Way setup (cpu_numbered k) [] (boot_of setup (cpu_numbered n)) p) (sym (zero-add k)) way
 merged setup (a ∷ past) rest R came = by_cpu (merged setup past earlier (Before setup a past R) before) (cases_lt (cpu_of_action a).0 setup.cpus)
   where
     earlier : (c : CpuId) → setup.cpus ≤ c.0 → own_events cpu_of_action c past ≡ []

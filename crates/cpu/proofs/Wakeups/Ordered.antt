@@ -1,11 +1,12 @@
 -- Sections in the order of their calls lose no wake-up.
-use Rattle.std.proofs.Common.{◌≡◌, Bool, true, false, List, [], ◌∷◌, length, slice_get, Option, Some, option_map, nat_lt, if◌then◌else◌, refl, sym, ap}
-use Rattle.std.proofs.{Common.{subst, arith}, lemmas.Bool.{and_from, lt-ltb, or_right}}
+use Rattle.std.proofs.Common.{◌≡◌, Bool, true, false, List, [], ◌∷◌, length, slice_get, Option, Some, option_map, nat_lt, if◌then◌else◌, refl, sym, ap, subst}
+use Rattle.std.proofs.{Common.arith, lemmas.Bool.{and_from, lt-ltb, or_right}}
 use Rattle.event_log.specs.{declared.{ids.{BufId.BufId, LockId.TheVariants.Buffer as AtBuffer}, entries.Kind.Kind}, Messages.Message, Runs.{Sends, Receives}}
 use Rattle.{event_log.{specs.{Runs.group_of, History.same_lock, Sections.Section}, proofs.Same.same_lock_true}, cpu.specs.Table.Blocks.{Buffer, Block}}
-use Rattle.cpu.specs.{Table.{Blocks.{OfBuffer, Name}, Edits.{edited, may_go, is_due, on_side}, Setups.Setup}, Wakeups.Order.{Progress, progress, progress_by}}
-use Rattle.cpu.{specs.Wakeups.{Order.{block_of, KeepsOrderAt, IsInOrder}, Lost.{Allows, NoWakeUpIsLost, OrderLosesNoWakeUp}}, proofs.Wakeups.Lists.refuted}
-use Rattle.{cpu.proofs.Wakeups.Awake.{Fits, IsAwake, stays_awake, IsCalm}, layer_traits.specs.declared.locked.Side.{Side, TheVariants.{Receivers, Senders}}}
+use Rattle.cpu.specs.{Table.{Blocks.{OfBuffer, Name}, Edits.{edited, front_may_go, is_due, on_side}, Setups.Setup}, Wakeups.Order.{Progress, progress}}
+use Rattle.cpu.specs.Wakeups.{Order.{progress_by, block_of, KeepsOrderAt, IsInOrder}, Lost.{Allows, NoWakeUpIsLost, OrderLosesNoWakeUp}}
+use Rattle.{cpu.proofs.Wakeups.{Lists.refuted, Awake.{Fits, IsAwake, stays_awake, IsCalm}}, layer_traits.specs.declared.locked.Side.Side}
+use Rattle.layer_traits.specs.declared.locked.Side.TheVariants.{Receivers, Senders}
 
 -- what is in an option of blocks, if it is a buffer
 abbrev pub buffer_or : Buffer → Option Block → Buffer
@@ -36,9 +37,9 @@ some_items [] m is = absurd (cc is)
 some_items (x ∷ items) m is = lt-ltb 0 (length (x ∷ items)) (omega arith)
 
 -- all that an allowed effect says of the buffer
-pub going : (side : Side) (k : Buffer) (e : Kind) (m : Message) → group_of e ≡ on_side side Receives Sends → Allows k e m → may_go side k ≡ true
-going Senders k e m asks allowed = grind (arith, or_right, lt-ltb)
-going Receivers k e m asks allowed = grind (arith, or_right, some_items)
+pub allowed_goes : (side : Side) (k : Buffer) (e : Kind) (m : Message) → group_of e ≡ on_side side Receives Sends → Allows k e m → front_may_go side k ≡ true
+allowed_goes Senders k e m asks allowed = grind (arith, or_right, lt-ltb)
+allowed_goes Receivers k e m asks allowed = grind (arith, or_right, some_items)
 
 -- nobody is due on a side of a calm buffer
 pub calm_on : (k : Buffer) → IsCalm k → (side : Side) → is_due side k ≡ false
@@ -50,7 +51,7 @@ pub calm_loses_nothing : (k : Buffer) (g : Progress) → IsAwake k g → NoWakeU
 calm_loses_nothing k g awake = record {
   on = λ side free t m is there e asks allowed.
       refuted (calm_on k (subst (Fits k) (awake.idle free).0 awake.fits) side)
-      (and_from _ (may_go side k) (grind (arith, is, there)) (going side k e m asks allowed));
+      (and_from _ (front_may_go side k) (grind (arith, is, there)) (allowed_goes side k e m asks allowed));
 }
 
 pub order_loses_no_wake_up : OrderLosesNoWakeUp

@@ -5,7 +5,7 @@ use Rattle.{event_log.specs.declared.ids.{CpuId.CpuId, Tid.Tid, BufId.BufId, Loc
 use Rattle.{thread_blocks.proofs.Members.same_tid_self, layer_traits.specs.declared.locked.Side.{Side, TheVariants.{Receivers, Senders}}}
 use Rattle.layer_traits.specs.{declared.moves.WaitList.WaitList, Threads.Places.{Where, Home, Asleep, At, is_thread, count_in}, Blocks.BufferBlocks.may_join}
 use Rattle.{layer_traits.proofs.CountLemmas.{count_append, not_counted}, cpu.specs.Table.Blocks.{Buffer, Name, AcqQ, Enter, TryPut, TryTake, Shut, WaitOn}}
-use Rattle.cpu.specs.Table.{Blocks.{SigRecv, SigSend, RelQ}, Edits.{acquired, line_of, entered, waiting, released, edited_buffer, answer_of_acquire}}
+use Rattle.cpu.specs.Table.{Blocks.{SigRecv, SigSend, RelQ}, Edits.{acquired, line_on, lined_up, waiting, released, edited_buffer, answer_of_acquire}}
 use Rattle.cpu.specs.{Table.{Edits.answer_of_buffer, Setups.Setup}, Wakeups.Order.{Progress, Begins, HasEntered, WasRefused, Owes, progress_after, MayEdit}}
 use Rattle.cpu.proofs.Wakeups.{Lists.{refuted, first_is}, PostsAndVisits.{Waiting, Visit, Outside, In, is_buffer, sleeps_in, list_of, names, goes_on}}
 use Rattle.cpu.proofs.Wakeups.PostsAndVisits.{is_inside, stands, is_lined, InStep, caller_in, is_caller, waiters_of, post_woken, post_slept, post_moved}
@@ -66,8 +66,8 @@ module _ (b : BufId) (u : Tid) where
   lined : (progress : Progress) (side : Side) → stands side (In b progress) ≡ true → marked u (is_lined b side (In b progress)) ≡ marked u true
   lined progress side on = ap (marked u) (and_from (is_buffer b b) (stands side (In b progress)) (buffer_self b) on)
 
-  own_enter : (k : Buffer) (g : Progress) (side : Side) (joins : Bool) → may_join u (line_of side k) ≡ joins → k.busy ≡ Some u → Pair b u k g (In b Begins) Home
-      → Pair b u (if joins then entered u side k else k) (HasEntered side) (In b (HasEntered side)) Home
+  own_enter : (k : Buffer) (g : Progress) (side : Side) (joins : Bool) → may_join u (line_on side k) ≡ joins → k.busy ≡ Some u → Pair b u k g (In b Begins) Home
+      → Pair b u (if joins then lined_up u side k else k) (HasEntered side) (In b (HasEntered side)) Home
   own_enter k g side joins is owner pair = grind (arith, at_work, not_counted, same_tid_self, count_append, unlined, lined, is)
 
   -- the thread gives the lock back, and is inside no longer
@@ -101,7 +101,7 @@ module _ (b : BufId) (u : Tid) where
   own_at (Enter t side) k g (In d Begins) is idle may due pair =
       let at_b : Pair b u k g (In b Begins) Home = subst (λ x. Pair b u k g (In x Begins) Home) due pair in
       let same : u ≡ t = same_Some u t (sym is) in
-      rw (← same) (own_enter k g side (may_join u (line_of side k)) refl (subst (λ v. k.busy ≡ Some v) (sym same) may.0) at_b)
+      rw (← same) (own_enter k g side (may_join u (line_on side k)) refl (subst (λ v. k.busy ≡ Some v) (sym same) may.0) at_b)
   own_at (Shut t) k g (In d Begins) is idle may due pair = grind (arith, at_work, unlined)
   own_at (TryPut t m) k g (In d (HasEntered Senders)) is idle may due pair
       = grind (arith, same_Some, and_parts, unlined, at_work, first_left, marked_most, first_is, same_tid_self)
@@ -147,18 +147,19 @@ pub record Apart (b : BufId) (visit next : Visit) : Type 0 where
   pub before : names b visit ≡ false
   pub after : names b next ≡ false
 
-pub away : (b d : BufId) (name : Name) (k : Buffer) (visit : Visit) → is_buffer b d ≡ false → IsDue d name visit → Apart b visit (next_visit d name k visit)
-away b d (AcqQ t) k Outside off due = record { before = refl; after = off }
-away b d (AcqQ t) k (Waiting e side) off due = record { before = subst (λ x. is_buffer b x ≡ false) (sym due) off; after = off }
-away b d (Enter t side) k (In e Begins) off due = record { before = subst (λ x. is_buffer b x ≡ false) (sym due) off; after = off }
-away b d (Shut t) k (In e Begins) off due = record { before = subst (λ x. is_buffer b x ≡ false) (sym due) off; after = off }
-away b d (TryPut t m) k (In e (HasEntered Senders)) off due = record { before = subst (λ x. is_buffer b x ≡ false) (sym due) off; after = off }
-away b d (TryTake t) k (In e (HasEntered Receivers)) off due = record { before = subst (λ x. is_buffer b x ≡ false) (sym due) off; after = off }
-away b d (WaitOn t side) k (In e (WasRefused other)) off due = record { before = subst (λ x. is_buffer b x ≡ false) (sym due.0) off; after = off }
-away b d (SigRecv t) k (In e (Owes r s)) off due = record { before = subst (λ x. is_buffer b x ≡ false) (sym due) off; after = off }
-away b d (SigSend t) k (In e (Owes r s)) off due = record { before = subst (λ x. is_buffer b x ≡ false) (sym due) off; after = off }
-away b d (RelQ t) k (In e (Owes r s)) off due = record { before = subst (λ x. is_buffer b x ≡ false) (sym due.0) off; after = refl }
-away b d name k visit off due = absurd due
+pub stays_apart : (b d : BufId) (name : Name) (k : Buffer) (visit : Visit) → is_buffer b d ≡ false → IsDue d name visit
+    → Apart b visit (next_visit d name k visit)
+stays_apart b d (AcqQ t) k Outside off due = record { before = refl; after = off }
+stays_apart b d (AcqQ t) k (Waiting e side) off due = record { before = subst (λ x. is_buffer b x ≡ false) (sym due) off; after = off }
+stays_apart b d (Enter t side) k (In e Begins) off due = record { before = subst (λ x. is_buffer b x ≡ false) (sym due) off; after = off }
+stays_apart b d (Shut t) k (In e Begins) off due = record { before = subst (λ x. is_buffer b x ≡ false) (sym due) off; after = off }
+stays_apart b d (TryPut t m) k (In e (HasEntered Senders)) off due = record { before = subst (λ x. is_buffer b x ≡ false) (sym due) off; after = off }
+stays_apart b d (TryTake t) k (In e (HasEntered Receivers)) off due = record { before = subst (λ x. is_buffer b x ≡ false) (sym due) off; after = off }
+stays_apart b d (WaitOn t side) k (In e (WasRefused other)) off due = record { before = subst (λ x. is_buffer b x ≡ false) (sym due.0) off; after = off }
+stays_apart b d (SigRecv t) k (In e (Owes r s)) off due = record { before = subst (λ x. is_buffer b x ≡ false) (sym due) off; after = off }
+stays_apart b d (SigSend t) k (In e (Owes r s)) off due = record { before = subst (λ x. is_buffer b x ≡ false) (sym due) off; after = off }
+stays_apart b d (RelQ t) k (In e (Owes r s)) off due = record { before = subst (λ x. is_buffer b x ≡ false) (sym due.0) off; after = refl }
+stays_apart b d name k visit off due = absurd due
 
 -- the pair of a thread whose place bears the same marks of the buffer
 pub post_apart : (b : BufId) (u : Tid) (k : Buffer) (g : Progress) (visit : Visit) (post next : Where)

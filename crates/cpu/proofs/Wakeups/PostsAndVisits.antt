@@ -4,9 +4,9 @@ use Rattle.std.proofs.Common.{◌≡◌, ℕ, Bool, true, false, ◌&&◌, ◌==
 use Rattle.event_log.specs.declared.ids.{CpuId.CpuId, Tid.Tid, BufId.BufId, LockId.{LockId, TheVariants.{Pending, Buffer as AtBuffer}}, TheConstants.THREADS}
 use Rattle.{event_log.specs.{History.{same_cpu, same_lock}, Sections.Section}, thread_blocks.specs.Queues.same_tid}
 use Rattle.layer_traits.specs.{declared.{locked.Side.{Side, TheVariants.{Receivers, Senders}}, moves.WaitList.WaitList}, Threads.ListsAgree.is_at}
-use Rattle.layer_traits.specs.Threads.Places.{Where, Home, Hand, Pend as IsPending, Asleep, At, wait_channel_of, is_thread, one_if}
+use Rattle.layer_traits.specs.Threads.Places.{Where, Home, Hand, IsPending, Asleep, At, wait_channel_of, is_thread, one_if}
 use Rattle.cpu.specs.Table.Blocks.{Buffer, Block, OfBuffer, Name, AcqQ, Enter, TryPut, TryTake, Shut, WaitOn, SigRecv, SigSend, RelQ, Pend, TakeAll}
-use Rattle.cpu.specs.{Table.{Edits.answer_of_buffer, Setups.{Setup, home_of}}, Wakeups.Order.{Progress, Begins, HasEntered, WasRefused, Owes, MayTry}}
+use Rattle.cpu.specs.{Table.{Edits.answer_of_buffer, Setups.{Setup, home_cpu}}, Wakeups.Order.{Progress, Begins, HasEntered, WasRefused, Owes, MayTry}}
 use Rattle.cpu.specs.Wakeups.Order.{progress_after, block_of}
 use Rattle.layer_traits.specs.declared.moves.WaitList.TheVariants as wait_list
 
@@ -122,7 +122,7 @@ post_by here c = if here then Home else Hand c
 
 -- a woken thread is at home at once, or in the hand of the CPU that woke it
 abbrev pub post_woken : Setup → CpuId → Tid → Where
-post_woken setup c u = post_by (same_cpu (home_of setup u) c) c
+post_woken setup c u = post_by (same_cpu (home_cpu setup u) c) c
 
 abbrev pub post_slept : BufId → Tid → Name → Bool → Where → Where
 post_slept b u name slept x = if slept && is_caller u name then waiters_of b name else x
@@ -136,7 +136,7 @@ post_drained x = x
 
 abbrev pub post_pending : Setup → CpuId → Tid → Name → Where → Where
 post_pending setup d u (Pend s) x = if same_tid s u then IsPending d else x
-post_pending setup d u TakeAll x = if same_cpu (home_of setup u) d then post_drained x else x
+post_pending setup d u TakeAll x = if same_cpu (home_cpu setup u) d then post_drained x else x
 post_pending setup d u name x = x
 
 abbrev pub post_buffer : Setup → CpuId → BufId → Tid → Name → Option Block → Where → Where
@@ -201,7 +201,7 @@ IsDue b name visit = ⊥
 
 -- a thread is at home on a CPU
 abbrev pub is_local : Setup → CpuId → Tid → Bool
-is_local setup c u = same_cpu (home_of setup u) c && nat_lt u.0 (length setup.homes)
+is_local setup c u = same_cpu (home_cpu setup u) c && nat_lt u.0 (length setup.homes)
 
 -- the caller of a section runs on its CPU, and the section is due to it
 pub record IsCallers (setup : Setup) (c : CpuId) (b : BufId) (name : Name) (t : Tid) (post : Where) (visit : Visit) : Type 0 where
@@ -214,7 +214,7 @@ MayComeBy setup past c b name None = ⊥
 MayComeBy setup past c b name (Some t) = IsCallers setup c b name t (post setup t past) (visit setup t past)
 
 abbrev pub MayComeTo : Setup → List (Section Name) → CpuId → CpuId → Name → Type 0
-MayComeTo setup past c d (Pend s) = (post setup s past ≡ Hand c) × (home_of setup s ≡ d)
+MayComeTo setup past c d (Pend s) = (post setup s past ≡ Hand c) × (home_cpu setup s ≡ d)
 MayComeTo setup past c d TakeAll = c ≡ d
 MayComeTo setup past c d name = ⊥
 

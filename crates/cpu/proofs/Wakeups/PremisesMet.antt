@@ -2,15 +2,15 @@
 use Rattle.std.proofs.Common.{◌≡◌, ℕ, zero, suc, ◌<◌, ◌≤◌, false, List, [], ◌∷◌, slice_get, Some, None, refl, subst, arith}
 use Rattle.event_log.specs.declared.{ids.{CpuId.CpuId, Tid.Tid, LockId.TheVariants.Pending, TheConstants.THREADS}, entries.Kind.TheVariants.Send as SendKind}
 use Rattle.{event_log.specs.{Runs.Sends, Actions.phase}, layer_traits.specs.Polling.Plans.is_in_section, cpu.specs.Table.{Blocks.OfPending, Setups.Setup}}
-use Rattle.cpu.specs.Table.{Setups.{Private, home_of}, Worked.{thread, buffer_numbered, one_sender, two_sends}, Steps.{Whole, IsReached, boots, steps}}
-use Rattle.cpu.specs.{Table.Steps.{steps_by, system_step, cpu_numbered, whole_at_boot, block_at, halted_at}, Wakeups.Quiet.{IsQuietBy, IsQuiet}}
+use Rattle.cpu.specs.Table.{Setups.{Private, home_cpu}, Worked.{thread, buffer_numbered, one_sender, two_sends}, Steps.{Whole, IsReached, boots, steps_once}}
+use Rattle.cpu.specs.{Table.Steps.{steps_by, system_step, cpu_numbered, whole_at_boot, block_at, halted_at}, Wakeups.Quiet.{IsQuietBy, IsQuietTable}}
 use Rattle.cpu.{specs.Wakeups.Met.{waiting_sender, at_send, PremisesAreMet}, proofs.Wakeups.ReachedStates.same_private}
 
 -- steps from a reached state
 steps_reached : (setup : Setup) (room : ℕ) (c : CpuId) → c.0 < setup.cpus → (n : ℕ) (s : Whole)
     → IsReached setup room s → IsReached setup room (steps_by setup c n s)
 steps_reached setup room c known zero s reached = reached
-steps_reached setup room c known (suc n) s reached = steps_reached setup room c known n (system_step setup c s).next (steps c reached known)
+steps_reached setup room c known (suc n) s reached = steps_reached setup room c known n (system_step setup c s).next (steps_once c reached known)
 
 only_cpu : (P : CpuId → Type 0) → P (cpu_numbered 0) → (c : CpuId) → c.0 < 1 → P c
 only_cpu P first c below = let none : 0 ≡ c.0 = omega (arith, below) in subst (λ n. P (cpu_numbered n)) none first
@@ -32,15 +32,15 @@ all_by P (q ∷ cpus) all (suc n) p is = all_by (λ m. P (suc m)) cpus all.1 n p
 quiet_cpu : (n : ℕ) (p : Private) → slice_get waiting_sender.cpus n ≡ Some p → IsQuietBy two_sends (cpu_numbered n) p (halted_at two_sends (cpu_numbered n) p)
 quiet_cpu = all_by (λ n p. IsQuietBy two_sends (cpu_numbered n) p (halted_at two_sends (cpu_numbered n) p)) waiting_sender.cpus ((refl, refl, refl), tt)
 
-is_quiet : IsQuiet two_sends waiting_sender
+is_quiet : IsQuietTable two_sends waiting_sender
 is_quiet = record {
   outside = only_cpu (λ c. is_in_section (phase c waiting_sender.log) ≡ false) refl;
   cpus = λ c p is. quiet_cpu c.0 p is;
   pending = only_cpu (λ c. block_at two_sends (Pending c) waiting_sender.log ≡ Some (OfPending [])) refl;
 }
 
-one_home : (t : Tid) → t.0 < 1 → (home_of two_sends t).0 < 1
-one_home t below = let none : 0 ≡ t.0 = omega (arith, below) in subst (λ n. (home_of two_sends (thread n)).0 < 1) none (omega arith)
+one_home : (t : Tid) → t.0 < 1 → (home_cpu two_sends t).0 < 1
+one_home t below = let none : 0 ≡ t.0 = omega (arith, below) in subst (λ n. (home_cpu two_sends (thread n)).0 < 1) none (omega arith)
 
 few : 1 ≤ THREADS
 few = omega arith

@@ -3,15 +3,15 @@ use Rattle.std.proofs.Common.{◌≡◌, ℕ, zero, suc, ◌+◌, ◌<◌, ◌==
 use Rattle.std.proofs.{Common.{Option, Some, None, option_map, nat_lt, if◌then◌else◌, refl, sym, ap, ◌∙◌, subst, arith}, lemmas.Bool.{and_right, eq-eqb}}
 use Rattle.std.proofs.{lemmas.{Bool.{ne_eqb, eqb-true, eqb-false, lt-ltb, le-ltb, ltb-true, ltb-false}, List.length-map}, Math.Bool.and-true}
 use Rattle.event_log.specs.{declared.ids.{CpuId.CpuId, Tid.Tid, LockId.LockId}, History.{same_cpu, IsLawful}, Sections.sections_in, Actions.{Action, Take, Try}}
-use Rattle.event_log.{specs.Actions.{Give, Phase, Rests, Waits as WaitsAt, Holds, phase, cpu_of_action, spot_of, gives, action_in}, proofs.Same.same_cpu_true}
+use Rattle.event_log.{specs.Actions.{Give, Phase, Rests, Waits, Holds, phase, cpu_of_action, spot_of, gives, action_in}, proofs.Same.same_cpu_true}
 use Rattle.{event_log.proofs.{Exclusion.{phase_own, phase_other}, ListLemmas.set_else}, layer_traits.specs.declared.steps.Step.TheVariants.Stepped}
 use Rattle.layer_traits.specs.{Threads.{Places.{one_if, count_in}, Passes.or_else}, Polling.{Plans.{is_in_section, at_give}, Along.Outcome}}
-use Rattle.cpu.specs.Table.{Blocks.Name, Edits.answer, Setups.{Setup, Private, new_thread, home_threads_from, at_boot}, Choice.{asked, Choice, Halts, Alone}}
-use Rattle.cpu.specs.Table.{Choice.{Goes, choice}, Steps.{after_reply, chosen, step_in, cpu_step, Whole, cpu_numbered, boots_from, whole_at_boot, whole_after}}
-use Rattle.cpu.specs.{Table.Steps.{step_at, system_step, IsReached, boots, steps}, Wakeups.{Order.block_of, Lost.{SystemsKeepOrder, SystemsLoseNoWakeUp}}}
-use Rattle.cpu.{specs.Wakeups.Lost.FreeLocksHaveNoSleepers, proofs.Wakeups.{Lists.refuted, Ordered.{buffer_awake, order_loses_no_wake_up}, PostsAndVisits.post}}
-use Rattle.cpu.proofs.Wakeups.{PostsAndVisits.{visit, MayComeAt}, BuffersAndThreads.{Good, good_none, good_step}, Agreement.{Agrees, IsSettled}}
-use Rattle.cpu.proofs.Wakeups.{CpuStep.{foreign_step, give_ok}, ChosenSteps.{ChoiceOk, choice_ok}}
+use Rattle.cpu.specs.Table.{Blocks.Name, Edits.answer, Setups.{Setup, Private, new_thread, home_threads_from, boot_of}, Choice.{asked, Choice, Halts, Alone}}
+use Rattle.cpu.specs.Table.{Choice.{Goes, choice}, Steps.{after_reply, chosen_step, step_in, cpu_step, Whole, cpu_numbered, boots_from, whole_at_boot}}
+use Rattle.cpu.specs.{Table.Steps.{whole_after, step_at, system_step, IsReached, boots, steps_once}, Wakeups.{Order.block_of, Lost.SystemsKeepOrder}}
+use Rattle.cpu.{specs.Wakeups.Lost.{SystemsLoseNoWakeUp, FreeLocksHaveNoSleepers}, proofs.Wakeups.{Lists.refuted, Ordered.buffer_awake}}
+use Rattle.cpu.proofs.Wakeups.{Ordered.order_loses_no_wake_up, PostsAndVisits.{post, visit, MayComeAt}, BuffersAndThreads.{Good, good_none, good_step}}
+use Rattle.cpu.proofs.Wakeups.{Agreement.{Agrees, IsSettled}, CpuStep.{foreign_step, give_ok}, ChosenSteps.{ChoiceOk, choice_ok}}
 
 -- Logs of actions.
 
@@ -33,7 +33,7 @@ fair_good setup (Give cpu lock name ∷ past) fair =
 -- the lock at which a CPU in this phase stands
 abbrev pub lock_in : Phase → Option LockId
 lock_in Rests = None
-lock_in (WaitsAt lock) = Some lock
+lock_in (Waits lock) = Some lock
 lock_in (Holds lock) = Some lock
 
 -- a CPU agrees with the log, and stands at the lock of the section that is asked of it
@@ -84,7 +84,7 @@ module _ (setup : Setup) (c : CpuId) (log : List (Action Name)) (fair : IsFairLo
     };
     does = (refl, tt);
   }
-  acted_ok q ok (WaitsAt there) is = record {
+  acted_ok q ok (Waits there) is = record {
     fair = (tt, fair);
     ok = record {
       agrees = ok.agrees;
@@ -120,7 +120,7 @@ module _ (setup : Setup) (c : CpuId) (log : List (Action Name)) (fair : IsFairLo
     where
       by_choice : is_in_section (phase c log) ≡ false → (what : Choice)
           → ChoiceOk setup c (λ u. visit setup u (sections_in log)) (λ u. post setup u (sections_in log)) what
-          → StepOk setup c log (chosen setup c p what log)
+          → StepOk setup c log (chosen_step setup c p what log)
       by_choice rests (Halts reason) chosen_ok = record { fair = fair; ok = ok; does = tt }
       by_choice rests (Alone q) chosen_ok = record {
         fair = fair;
@@ -182,7 +182,7 @@ homed_at c (home ∷ homes) i (suc k) u at = by_test (same_cpu home c) (homed_at
         ≡ one_if (same_cpu (or_else (record { 0 = 0 }) (slice_get homes k)) c && nat_lt (suc k) (length (home ∷ homes)))
     by_test here more = grind (arith, ne_eqb, ltb-true, lt-ltb, ltb-false, le-ltb)
 
-pub ok_at_boot : (setup : Setup) (c : CpuId) → Ok setup c (at_boot setup c) []
+pub ok_at_boot : (setup : Setup) (c : CpuId) → Ok setup c (boot_of setup c) []
 ok_at_boot setup c = grind (arith, length-map, all_new, homed_at, and-true, refuted)
 
 -- Systems.
@@ -205,8 +205,8 @@ get_set (z ∷ xs) zero zero x y is same = same_private x y is
 get_set (z ∷ xs) (suc i) (suc j) x y is same = get_set xs i j x y is (omega (arith, same))
 get_set xs i j x y is same = grind (arith, same)
 
-pub boots_at : (setup : Setup) (n k i : ℕ) (p : Private) → slice_get (boots_from setup n k) i ≡ Some p → at_boot setup (cpu_numbered (n + i)) ≡ p
-boots_at setup n (suc k) (suc i) p is = ap (λ m. at_boot setup (cpu_numbered m)) (by_suc n i) ∙ boots_at setup (n + 1) k i p is
+pub boots_at : (setup : Setup) (n k i : ℕ) (p : Private) → slice_get (boots_from setup n k) i ≡ Some p → boot_of setup (cpu_numbered (n + i)) ≡ p
+boots_at setup n (suc k) (suc i) p is = ap (λ m. boot_of setup (cpu_numbered m)) (by_suc n i) ∙ boots_at setup (n + 1) k i p is
   where
     by_suc : (n i : ℕ) → n + suc i ≡ (n + 1) + i
     by_suc n i = omega arith
@@ -217,7 +217,7 @@ sound_at_boot setup room = record {
   fair = tt;
   cpus = λ e p is.
       let zero_plus : 0 + e.0 ≡ e.0 = omega arith in
-      let at : at_boot setup e ≡ p = ap (λ m. at_boot setup (cpu_numbered m)) (sym zero_plus) ∙ boots_at setup 0 setup.cpus e.0 p is in
+      let at : boot_of setup e ≡ p = ap (λ m. boot_of setup (cpu_numbered m)) (sym zero_plus) ∙ boots_at setup 0 setup.cpus e.0 p is in
       subst (λ q. Ok setup e q []) at (ok_at_boot setup e);
 }
 
@@ -249,7 +249,7 @@ sound_step setup s sound c = sound_at setup s sound c (slice_get s.cpus c.0) ref
 
 pub reached_sound : (setup : Setup) (room : ℕ) (s : Whole) → IsReached setup room s → Sound setup s
 reached_sound setup room s boots = sound_at_boot setup room
-reached_sound setup room s (steps {s = before} c reached within) = sound_step setup before (reached_sound setup room before reached) c
+reached_sound setup room s (steps_once {s = before} c reached within) = sound_step setup before (reached_sound setup room before reached) c
 
 pub systems_keep_order : SystemsKeepOrder
 systems_keep_order setup room s reached = (fair_good setup s.log (reached_sound setup room s reached).fair).ordered

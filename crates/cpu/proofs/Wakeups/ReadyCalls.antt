@@ -7,15 +7,15 @@ use Rattle.event_log.specs.{Messages.Message, Runs.{Group, Sends, Receives, Clos
 use Rattle.{guest.specs.declared.instructions.Instruction.Instruction, thread_blocks.{specs.Queues.{first, rest}, proofs.Members.same_tid_self}}
 use Rattle.layer_traits.specs.declared.{locked.Side.TheVariants.{Receivers, Senders}, call_states.Stage.TheVariants.{Enters, Tries, Signals}}
 use Rattle.{layer_traits.specs.Blocks.BufferBlocks.{is_first, first_item}, cpu.specs.Table.Blocks.{Buffer, OfBuffer, Reported, Done, WasClosed, DidShut}}
-use Rattle.cpu.specs.Table.{Blocks.{NotYet, front, front_stands_in, side_of}, Edits.{may_go, due_on, entered, put, taken, shut, report_of_put, report_of_take}}
-use Rattle.cpu.specs.Table.{Edits.{reports, wakes, edited_buffer, answer_of_buffer}, Setups.{Setup, Call, Private, stands_at, home_threads, have_ended}}
-use Rattle.cpu.specs.Table.{Steps.{Whole, IsReached, block_at, steps_by}, Choice.{Goes, new_call, with_call, at_call, choice, first_signal, second_signal}}
-use Rattle.cpu.specs.{Table.Choice.{effected, entry_of, recorded_try}, Wakeups.{Lost.Allows, Order.progress, Quiet.AreFew, Alone.{IsCallOn, HasEmptyLine}}}
-use Rattle.cpu.specs.Wakeups.Alone.{IsInCall, IsReady, HasReturned, CallsReturnAlone, first_waiter, steps_to_move, steps_to_return}
-use Rattle.cpu.proofs.Wakeups.{Lists.refuted, Ordered.{buffer_awake, going}, Awake.{IsCalm, Fits, IsAwake}, PostsAndVisits.{is_local, post, visit}}
-use Rattle.cpu.proofs.Wakeups.{Agreement.{Agrees, runs, known_of, within}, ReachedStates.{reached_sound, systems_keep_order, free_locks_have_no_sleepers}}
-use Rattle.cpu.proofs.Wakeups.{FilledHand.reached_filled, WithinCapacity.holds_no_more, CpuAlone.with_new, CallsAlone.{Gets, Returned, acquires, enters_line}}
-use Rattle.cpu.proofs.Wakeups.CallsAlone.{tries, ending}
+use Rattle.cpu.specs.Table.{Blocks.{NotYet, front, front_stands_in, side_of_group}, Edits.{front_may_go, due_on, lined_up, put, taken, shut_off, report_of_put}}
+use Rattle.cpu.specs.Table.{Edits.{report_of_take, reports, wakes, edited_buffer, answer_of_buffer}, Setups.{Setup, Call, Private, stands_at, home_threads}}
+use Rattle.cpu.specs.Table.{Setups.have_ended, Steps.{Whole, IsReached, block_at, steps_by}, Choice.{Goes, new_call, with_call, at_call, choice, first_signal}}
+use Rattle.cpu.specs.{Table.Choice.{second_signal, effected, entry_made, recorded_try}, Wakeups.{Lost.Allows, Order.progress, Quiet.AreFew, Alone.IsCallOn}}
+use Rattle.cpu.specs.Wakeups.Alone.{HasEmptyLine, IsInCall, IsReady, HasReturned, CallsReturnAlone, first_waiter, steps_to_move, steps_to_return}
+use Rattle.cpu.proofs.Wakeups.{Lists.refuted, Ordered.{buffer_awake, allowed_goes}, Awake.{IsCalm, Fits, IsAwake}, PostsAndVisits.{is_local, post, visit}}
+use Rattle.cpu.proofs.Wakeups.{Agreement.{Agrees, runs_at_home, known_of, local_within}, ReachedStates.{reached_sound, systems_keep_order}}
+use Rattle.cpu.proofs.Wakeups.{ReachedStates.free_locks_have_no_sleepers, FilledHand.reached_filled, WithinCapacity.holds_no_more, CpuAlone.with_new}
+use Rattle.cpu.proofs.Wakeups.CallsAlone.{Gets, Returned, section_acquires, enters_line, section_tries, call_ends_alone}
 
 module _ (setup : Setup) (room : ℕ) (s : Whole) (c : CpuId) (p : Private) (t : Tid) (few : AreFew setup)
     (reached : IsReached setup room s) (ready : IsReady setup c s p t) where
@@ -23,13 +23,13 @@ module _ (setup : Setup) (room : ℕ) (s : Whole) (c : CpuId) (p : Private) (t :
   agrees = ((reached_sound setup room s reached).cpus c p ready.here).agrees
 
   local : is_local setup c t ≡ true
-  local = (runs setup c p (λ u. visit setup u (sections_in s.log)) (λ u. post setup u (sections_in s.log)) agrees t ready.runs).0
+  local = (runs_at_home setup c p (λ u. visit setup u (sections_in s.log)) (λ u. post setup u (sections_in s.log)) agrees t ready.runs).0
 
   small : t.0 < THREADS
   small = let known = known_of setup c t local in let most = few in omega (arith, known, most)
 
   known : t.0 < length p.threads
-  known = within setup c p (λ u. visit setup u (sections_in s.log)) (λ u. post setup u (sections_in s.log)) agrees t local
+  known = local_within setup c p (λ u. visit setup u (sections_in s.log)) (λ u. post setup u (sections_in s.log)) agrees t local
 
   empty : p.hand ≡ None
   empty = by_hand p.hand refl
@@ -105,60 +105,60 @@ module _ (setup : Setup) (room : ℕ) (s : Whole) (c : CpuId) (p : Private) (t :
 
     -- a send has its effect, and its signals are due
     sent : (m : Message) (told : Reported) (now : Call) → choice setup c p ≡ Goes (with_call p t (Some (new_call Sends b m)))
-        → k.send_line ≡ [] → may_go Senders k ≡ true → report_of_put k.closed k.effects m ≡ told → b ≡ now.buffer
+        → k.send_line ≡ [] → front_may_go Senders k ≡ true → report_of_put k.closed k.effects m ≡ told → b ≡ now.buffer
         → ((q : Private) → recorded_try c q t (queued Sends b m k.send_positions) told ≡ effected c q t now k.effects)
-        → Gets setup c t s 9 (put m (entered t Senders (record k { busy = Some t }))) (record now { effect = Some k.effects; stage = Signals })
-        (p.trace ++ entry_of c t now k.effects now.message ∷ []) 12
+        → Gets setup c t s 9 (put m (lined_up t Senders (record k { busy = Some t }))) (record now { effect = Some k.effects; stage = Signals })
+        (p.trace ++ entry_made c t now k.effects now.message ∷ []) 12
     sent m told now goes line can tells_so same_buffer recorded_so =
         let call = new_call Sends b m in
-        let got = acquires setup c t s 0 18 k call p.trace free (first_gets Sends b k m goes space block) in
+        let got = section_acquires setup c t s 0 18 k call p.trace free (first_gets Sends b k m goes space block) in
         let entered_now = enters_line setup c t small Senders Sends refl (λ q x told. refl) s 3 15 (record k { busy = Some t }) call p.trace line got in
-        let may = first_after k.send_line (may_go Senders k) line can in
-        let at = entered t Senders (record k { busy = Some t }) in
-        tries setup c t s 6 12 at (put m at) (queued Sends b m k.send_positions) now p.trace told same_buffer
+        let may = first_after k.send_line (front_may_go Senders k) line can in
+        let at = lined_up t Senders (record k { busy = Some t }) in
+        section_tries setup c t s 6 12 at (put m at) (queued Sends b m k.send_positions) now p.trace told same_buffer
         (ap (λ d. reports (if d then report_of_put k.closed k.effects m else NotYet)) may ∙ ap reports tells_so)
         (ap (λ d. if d then put m at else at) may) recorded_so entered_now
 
     received : (m : Message) (told : Reported) (now : Call) → choice setup c p ≡ Goes (with_call p t (Some (new_call Receives b m)))
-        → k.receive_line ≡ [] → may_go Receivers k ≡ true → report_of_take k.items k.effects ≡ told → b ≡ now.buffer
+        → k.receive_line ≡ [] → front_may_go Receivers k ≡ true → report_of_take k.items k.effects ≡ told → b ≡ now.buffer
         → ((q : Private) → recorded_try c q t (queued Receives b m k.receive_positions) told ≡ effected c q t now k.effects)
-        → Gets setup c t s 9 (taken (entered t Receivers (record k { busy = Some t }))) (record now { effect = Some k.effects; stage = Signals })
-        (p.trace ++ entry_of c t now k.effects now.message ∷ []) 12
+        → Gets setup c t s 9 (taken (lined_up t Receivers (record k { busy = Some t }))) (record now { effect = Some k.effects; stage = Signals })
+        (p.trace ++ entry_made c t now k.effects now.message ∷ []) 12
     received m told now goes line can tells_so same_buffer recorded_so =
         let call = new_call Receives b m in
-        let got = acquires setup c t s 0 18 k call p.trace free (first_gets Receives b k m goes space block) in
+        let got = section_acquires setup c t s 0 18 k call p.trace free (first_gets Receives b k m goes space block) in
         let entered_now = enters_line setup c t small Receivers Receives refl (λ q x told. refl) s 3 15 (record k { busy = Some t }) call p.trace line got in
-        let may = first_after k.receive_line (may_go Receivers k) line can in
-        let at = entered t Receivers (record k { busy = Some t }) in
-        tries setup c t s 6 12 at (taken at) (queued Receives b m k.receive_positions) now p.trace told same_buffer
+        let may = first_after k.receive_line (front_may_go Receivers k) line can in
+        let at = lined_up t Receivers (record k { busy = Some t }) in
+        section_tries setup c t s 6 12 at (taken at) (queued Receives b m k.receive_positions) now p.trace told same_buffer
         (ap (λ d. reports (if d then report_of_take k.items k.effects else NotYet)) may ∙ ap reports tells_so)
         (ap (λ d. if d then taken at else at) may) recorded_so entered_now
 
     -- the signals of a send, whose own line is empty, and of a receive
     sent_back : (m : Message) (now : Call) (traced : List Entry) (woke : Option Tid) → now.asks ≡ Sends
-        → k.send_line ≡ [] → due_on Receivers (put m (entered t Senders (record k { busy = Some t }))) ≡ woke
-        → Gets setup c t s 9 (put m (entered t Senders (record k { busy = Some t }))) (record now { stage = Signals }) traced 12
+        → k.send_line ≡ [] → due_on Receivers (put m (lined_up t Senders (record k { busy = Some t }))) ≡ woke
+        → Gets setup c t s 9 (put m (lined_up t Senders (record k { busy = Some t }))) (record now { stage = Signals }) traced 12
         → Returned setup c t s (9 + (9 + (steps_to_move setup c woke + 0))) traced
     sent_back m now traced woke is line wakes_so gets =
-        let at = put m (entered t Senders (record k { busy = Some t })) in
-        ending setup c t s 9 12 at now traced woke None
-        (ap (λ a. answer_of_buffer (first_signal t (side_of a)) at) is ∙ ap wakes wakes_so)
-        (ap (λ a. answer_of_buffer (second_signal t (side_of a)) (edited_buffer (first_signal t (side_of a)) at)) is
+        let at = put m (lined_up t Senders (record k { busy = Some t })) in
+        call_ends_alone setup c t s 9 12 at now traced woke None
+        (ap (λ a. answer_of_buffer (first_signal t (side_of_group a)) at) is ∙ ap wakes wakes_so)
+        (ap (λ a. answer_of_buffer (second_signal t (side_of_group a)) (edited_buffer (first_signal t (side_of_group a)) at)) is
         ∙ ap wakes (due_none at.send_line k.waiting_senders _ (ap (λ l. rest (l ++ t ∷ [])) line)))
-        (ap (λ a. (edited_buffer (second_signal t (side_of a)) (edited_buffer (first_signal t (side_of a)) at)).sleepers) is ∙ none)
+        (ap (λ a. (edited_buffer (second_signal t (side_of_group a)) (edited_buffer (first_signal t (side_of_group a)) at)).sleepers) is ∙ none)
         (omega (arith, most_moved woke)) gets
 
     received_back : (now : Call) (traced : List Entry) (woke : Option Tid) → now.asks ≡ Receives
-        → k.receive_line ≡ [] → due_on Senders (taken (entered t Receivers (record k { busy = Some t }))) ≡ woke
-        → Gets setup c t s 9 (taken (entered t Receivers (record k { busy = Some t }))) (record now { stage = Signals }) traced 12
+        → k.receive_line ≡ [] → due_on Senders (taken (lined_up t Receivers (record k { busy = Some t }))) ≡ woke
+        → Gets setup c t s 9 (taken (lined_up t Receivers (record k { busy = Some t }))) (record now { stage = Signals }) traced 12
         → Returned setup c t s (9 + (9 + (steps_to_move setup c woke + 0))) traced
     received_back now traced woke is line wakes_so gets =
-        let at = taken (entered t Receivers (record k { busy = Some t })) in
-        ending setup c t s 9 12 at now traced woke None
-        (ap (λ a. answer_of_buffer (first_signal t (side_of a)) at) is ∙ ap wakes wakes_so)
-        (ap (λ a. answer_of_buffer (second_signal t (side_of a)) (edited_buffer (first_signal t (side_of a)) at)) is
+        let at = taken (lined_up t Receivers (record k { busy = Some t })) in
+        call_ends_alone setup c t s 9 12 at now traced woke None
+        (ap (λ a. answer_of_buffer (first_signal t (side_of_group a)) at) is ∙ ap wakes wakes_so)
+        (ap (λ a. answer_of_buffer (second_signal t (side_of_group a)) (edited_buffer (first_signal t (side_of_group a)) at)) is
         ∙ ap wakes (due_none at.receive_line k.waiting_receivers _ (ap (λ l. rest (l ++ t ∷ [])) line)))
-        (ap (λ a. (edited_buffer (second_signal t (side_of a)) (edited_buffer (first_signal t (side_of a)) at)).sleepers) is ∙ none)
+        (ap (λ a. (edited_buffer (second_signal t (side_of_group a)) (edited_buffer (first_signal t (side_of_group a)) at)).sleepers) is ∙ none)
         (omega (arith, most_moved woke)) gets
 
     closed_back : (m : Message) → choice setup c p ≡ Goes (with_call p t (Some (new_call Closes b m)))
@@ -169,15 +169,15 @@ module _ (setup : Setup) (room : ℕ) (s : Whole) (c : CpuId) (p : Private) (t :
         let mine = first_waiter Senders k in
         let most = most_moved theirs in
         let more = most_moved mine in
-        let traced = p.trace ++ entry_of c t now k.effects m ∷ [] in
-        let got = acquires setup c t s 0 18 k (new_call Closes b m) p.trace free (first_gets Closes b k m goes space block) in
-        let done = tries setup c t s 3 15 (record k { busy = Some t }) (shut (record k { busy = Some t }))
+        let traced = p.trace ++ entry_made c t now k.effects m ∷ [] in
+        let got = section_acquires setup c t s 0 18 k (new_call Closes b m) p.trace free (first_gets Closes b k m goes space block) in
+        let done = section_tries setup c t s 3 15 (record k { busy = Some t }) (shut_off (record k { busy = Some t }))
         (record (new_call Closes b m) { stage = Enters }) now p.trace (DidShut k.effects k.closes) refl refl refl (λ q. refl) got in
-        let back = ending setup c t s 6 15 (shut (record k { busy = Some t })) (record now { effect = Some k.effects }) traced theirs mine
+        let back = call_ends_alone setup c t s 6 15 (shut_off (record k { busy = Some t })) (record now { effect = Some k.effects }) traced theirs mine
         (ap wakes (woken_is (front_stands_in k.receive_line k.waiting_receivers) true (front k.receive_line) refl))
         (ap wakes (woken_is (front_stands_in k.send_line k.waiting_senders) true (front k.send_line) refl)) none (omega (arith, most, more)) done in
         ends_at (6 + (9 + (steps_to_move setup c theirs + steps_to_move setup c mine))) (steps_to_return setup c CloseKind k) CloseKind b (omega arith)
-        (told _ CloseKind b (entry_of c t now k.effects m) (refl, refl, refl) back)
+        (told _ CloseKind b (entry_made c t now k.effects m) (refl, refl, refl) back)
 
     pub returns : (e : Kind) (m : Message) → IsCallOn (group_of e) b (stands_at setup p t) → Allows k e m → HasEmptyLine (group_of e) k
         → IsBack (steps_to_return setup c e k) e b
@@ -185,37 +185,37 @@ module _ (setup : Setup) (room : ℕ) (s : Whole) (c : CpuId) (p : Private) (t :
         let begin = begins_as Sends b (stands_at setup p t) refl at_call in
         let now = record (queued Sends b begin.0 k.send_positions) { message = begin.0 } in
         let woke = first_waiter Receivers k in
-        let done = sent begin.0 (Done k.effects begin.0) now begin.1 line (going Senders k SendKind m refl allowed)
+        let done = sent begin.0 (Done k.effects begin.0) now begin.1 line (allowed_goes Senders k SendKind m refl allowed)
         (ap (λ d. report_of_put d k.effects begin.0) allowed.0) refl (λ q. refl) in
         ends_at (9 + (9 + (steps_to_move setup c woke + 0))) (steps_to_return setup c SendKind k) SendKind b (omega arith)
-        (told _ SendKind b (entry_of c t now k.effects begin.0) (refl, refl, refl)
+        (told _ SendKind b (entry_made c t now k.effects begin.0) (refl, refl, refl)
         (sent_back begin.0 (record now { effect = Some k.effects }) _ woke refl line
         (woken_is (front_stands_in k.receive_line k.waiting_receivers) _ (front k.receive_line) (grind (arith, lt-ltb, length-append))) done))
     returns SendClosed m at_call allowed line =
         let begin = begins_as Sends b (stands_at setup p t) refl at_call in
         let now = record (queued Sends b begin.0 k.send_positions) { closed = true } in
-        let done = sent begin.0 (WasClosed k.effects) now begin.1 line (going Senders k SendClosed m refl allowed)
+        let done = sent begin.0 (WasClosed k.effects) now begin.1 line (allowed_goes Senders k SendClosed m refl allowed)
         (ap (λ d. report_of_put d k.effects begin.0) allowed) refl (λ q. refl) in
-        told 18 SendClosed b (entry_of c t now k.effects begin.0) (refl, refl, refl)
+        told 18 SendClosed b (entry_made c t now k.effects begin.0) (refl, refl, refl)
         (sent_back begin.0 (record now { effect = Some k.effects }) _ None refl line
         (grind (arith, (calm b k block free).1, allowed)) done)
     returns RecvKind m at_call allowed line =
         let begin = begins_as Receives b (stands_at setup p t) refl at_call in
         let now = record (queued Receives b begin.0 k.receive_positions) { message = first_item k.items } in
         let woke = first_waiter Senders k in
-        let done = received begin.0 (Done k.effects (first_item k.items)) now begin.1 line (going Receivers k RecvKind m refl allowed)
+        let done = received begin.0 (Done k.effects (first_item k.items)) now begin.1 line (allowed_goes Receivers k RecvKind m refl allowed)
         (grind (arith, allowed)) refl (λ q. refl) in
         ends_at (9 + (9 + (steps_to_move setup c woke + 0))) (steps_to_return setup c RecvKind k) RecvKind b (omega arith)
-        (told _ RecvKind b (entry_of c t now k.effects (first_item k.items)) (refl, refl, refl)
+        (told _ RecvKind b (entry_made c t now k.effects (first_item k.items)) (refl, refl, refl)
         (received_back (record now { effect = Some k.effects }) _ woke refl line
         (woken_is (front_stands_in k.send_line k.waiting_senders) _ (front k.send_line)
         (or_right k.closed _ (grind (arith, lt-ltb, holds_no_more setup (sections_in s.log) b k block, allowed)))) done))
     returns RecvClosed m at_call allowed line =
         let begin = begins_as Receives b (stands_at setup p t) refl at_call in
         let now = record (queued Receives b begin.0 k.receive_positions) { closed = true } in
-        let done = received begin.0 (WasClosed k.effects) now begin.1 line (going Receivers k RecvClosed m refl allowed)
+        let done = received begin.0 (WasClosed k.effects) now begin.1 line (allowed_goes Receivers k RecvClosed m refl allowed)
         (ap (λ l. report_of_take l k.effects) allowed.1) refl (λ q. refl) in
-        told 18 RecvClosed b (entry_of c t now k.effects begin.0) (refl, refl, refl)
+        told 18 RecvClosed b (entry_made c t now k.effects begin.0) (refl, refl, refl)
         (received_back (record now { effect = Some k.effects }) _ None refl line
         (grind (arith, (calm b k block free).0, allowed.0)) done)
     returns CloseKind m at_call allowed line =

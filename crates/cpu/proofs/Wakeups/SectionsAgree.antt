@@ -4,16 +4,16 @@ use Rattle.std.proofs.{Common.{sym, ap, ◌∙◌, subst, arith}, lemmas.Bool.{a
 use Rattle.event_log.specs.{declared.{ids.{CpuId.CpuId, Tid.Tid}, entries.Entry.Entry}, History.same_cpu, Messages.Message, Runs.{Group, Sends, Receives}}
 use Rattle.{event_log.specs.Runs.Closes, guest.specs.State.State, thread_blocks.{specs.Queues.same_tid, proofs.Members.{same_tid_self, same_tid_true}}}
 use Rattle.layer_traits.specs.declared.{locked.Side.TheVariants.{Receivers, Senders}, call_states.Stage.{Stage, TheVariants.{Idle, Acquires, Enters, Tries}}}
-use Rattle.layer_traits.specs.{declared.call_states.Stage.TheVariants.{Waits, AcquiresAgain, Signals, SignalsOwn, Releases}, Threads.Places.Where}
-use Rattle.layer_traits.{specs.Threads.Places.{Pend as IsPending, is_home, is_hand, is_thread, one_if, count_in}, proofs.CountLemmas.same_tid_sym}
-use Rattle.{layer_traits.proofs.CountLemmas.count_append, cpu.specs.Table.Blocks.{Buffer, Name, Pend, TakeAll, side_of, Reported, Done, WasClosed, NotYet}}
-use Rattle.cpu.specs.Table.{Blocks.Answer, Edits.{report_of_put, report_of_take, answer_of_buffer, drawn_position}, Setups.{Setup, Call, Thread, Private}}
-use Rattle.cpu.specs.Table.{Setups.{thread_at, with_thread, home_of, stands_at}, Choice.{section_at, first_section, with_call, with_guest, goes_to, recorded}}
-use Rattle.cpu.specs.Table.Choice.{recorded_entry, recorded_try, entry_of, slept_if, woken, returned_at, returned_in, settled, guest_after, after_call}
-use Rattle.cpu.{specs.Wakeups.Order.{Begins, HasEntered, WasRefused, Owes}, proofs.Wakeups.{Lists.refuted, PostsAndVisits.{Visit, Outside, In, is_pending}}}
-use Rattle.cpu.proofs.Wakeups.PostsAndVisits.{caller_in, is_caller, waiters_of, post_slept, post_moved, post_drained, post_pending, next_visit, visit_moved}
-use Rattle.cpu.proofs.Wakeups.{PostsAndVisits.is_local, Agreement.{visit_of_stage, visit_of_call, is_last, is_done, seat, Agrees, IsSettled, at_same, at_other}}
-use Rattle.cpu.proofs.Wakeups.Agreement.{Same, same_with, agrees_same, runs, within, agrees_slept, agrees_woken}
+use Rattle.layer_traits.specs.{declared.call_states.Stage.TheVariants.{Waits, AcquiresAgain, Signals, SignalsOwn, Releases}, Threads.Places.{Where, IsPending}}
+use Rattle.layer_traits.{specs.Threads.Places.{is_home, is_hand, is_thread, one_if, count_in}, proofs.CountLemmas.{same_tid_sym, count_append}}
+use Rattle.cpu.specs.Table.{Blocks.{Buffer, Name, Pend, TakeAll, side_of_group, Reported, Done, WasClosed, NotYet, Answer}, Edits.report_of_put}
+use Rattle.cpu.specs.Table.{Edits.{report_of_take, answer_of_buffer, drawn_position}, Setups.{Setup, Call, Thread, Private, thread_at, with_thread, home_cpu}}
+use Rattle.cpu.specs.Table.{Setups.stands_at, Choice.{section_due, first_section, with_call, with_state, goes_to, with_told, recorded_entry, recorded_try}}
+use Rattle.cpu.specs.{Table.Choice.{entry_made, slept_if, woken, returned_at, returned_in, settled, guest_after, after_call}, Wakeups.Order.Begins}
+use Rattle.cpu.{specs.Wakeups.Order.{HasEntered, WasRefused, Owes}, proofs.Wakeups.{Lists.refuted, PostsAndVisits.{Visit, Outside, In, is_pending, caller_in}}}
+use Rattle.cpu.proofs.Wakeups.PostsAndVisits.{is_caller, waiters_of, post_slept, post_moved, post_drained, post_pending, next_visit, visit_moved, is_local}
+use Rattle.cpu.proofs.Wakeups.Agreement.{visit_of_stage, visit_of_call, is_last, is_done, seat, Agrees, IsSettled, at_same, at_other, Same, same_with}
+use Rattle.cpu.proofs.Wakeups.Agreement.{agrees_same, runs_at_home, local_within, agrees_slept, agrees_woken}
 
 -- A call returns once the hand is empty.
 
@@ -38,13 +38,13 @@ module _ (setup : Setup) (c : CpuId) where
       by_stage : (call : Call) → (thread_at p t).call ≡ Some call → (stage : Stage) → call.stage ≡ stage
           → Agrees setup c (returned_at setup p t call stage) T P × IsSettled setup c (returned_at setup p t call stage)
       by_stage call is Idle at =
-          let local = (runs setup c p T P agrees t runs_now).0 in
-          let known = within setup c p T P agrees t local in
+          let local = (runs_at_home setup c p T P agrees t runs_now).0 in
+          let known = local_within setup c p T P agrees t local in
           let x : Thread =
           record (thread_at p t) { guest = guest_after call.asks call.closed (stands_at setup p t) call.message (thread_at p t).guest; call = None } in
           let same : Same p (with_thread p t x) t = same_with p t x known refl in
           let none : (thread_at (with_thread p t x) t).call ≡ None = ap (λ y. y.call) (at_same p t x known) in
-          let visit_now : T t ≡ Outside = agrees.calls t local ∙ ap visit_of_call is ∙ ap (visit_of_stage call.buffer (side_of call.asks)) at in (
+          let visit_now : T t ≡ Outside = agrees.calls t local ∙ ap visit_of_call is ∙ ap (visit_of_stage call.buffer (side_of_group call.asks)) at in (
             agrees_same setup c p (with_thread p t x) t T T P agrees same (λ u other. refl) (visit_now ∙ ap visit_of_call (sym none)),
             λ u mine done_now. grind (arith, refuted, same_tid_true, others_done, at_other, mine, done_now, same, none),
           )
@@ -56,7 +56,7 @@ module _ (setup : Setup) (c : CpuId) where
 
 -- The stage of a call, and what its section tells.
 
-pub section_caller : (t : Tid) (call : Call) (stage : Stage) → caller_in (section_at t call stage) ≡ Some t
+pub section_caller : (t : Tid) (call : Call) (stage : Stage) → caller_in (section_due t call stage) ≡ Some t
 section_caller t call stage = grind arith
 
 -- whether the section is the last of its call
@@ -88,23 +88,23 @@ module _ (p : Private) (t : Tid) (known : t.0 < length p.threads) where
         (next_visit call.buffer (first_section t asks) k (In call.buffer Begins)) false
     at_entry Sends is =
         let now : Call = record call { position = drawn_position Senders k; stage = Tries } in
-        subst (λ a. Recorded p (with_call p t (Some now)) t (In call.buffer (HasEntered (side_of a))) false) is (recorded_call now)
+        subst (λ a. Recorded p (with_call p t (Some now)) t (In call.buffer (HasEntered (side_of_group a))) false) is (recorded_call now)
     at_entry Receives is =
         let now : Call = record call { position = drawn_position Receivers k; stage = Tries } in
-        subst (λ a. Recorded p (with_call p t (Some now)) t (In call.buffer (HasEntered (side_of a))) false) is (recorded_call now)
+        subst (λ a. Recorded p (with_call p t (Some now)) t (In call.buffer (HasEntered (side_of_group a))) false) is (recorded_call now)
     at_entry Closes is =
         let now : Call = record call { position = k.closes } in
-        recorded_traced _ (In call.buffer (Owes true true)) false (p.trace ++ entry_of c t now k.effects call.message ∷ [])
+        recorded_traced _ (In call.buffer (Owes true true)) false (p.trace ++ entry_made c t now k.effects call.message ∷ [])
         (recorded_call (record now { effect = Some k.effects; stage = Signals }))
 
     at_done : (op : ℕ) (m : Message) → Recorded p (recorded_try c p t call (Done op m)) t (In call.buffer (Owes true true)) false
     at_done op m =
-        recorded_traced _ (In call.buffer (Owes true true)) false (p.trace ++ entry_of c t (record call { message = m }) op m ∷ [])
+        recorded_traced _ (In call.buffer (Owes true true)) false (p.trace ++ entry_made c t (record call { message = m }) op m ∷ [])
         (recorded_call (record call { message = m; effect = Some op; stage = Signals }))
 
     at_closed : (op : ℕ) → Recorded p (recorded_try c p t call (WasClosed op)) t (In call.buffer (Owes true true)) false
     at_closed op =
-        recorded_traced _ (In call.buffer (Owes true true)) false (p.trace ++ entry_of c t (record call { closed = true }) op call.message ∷ [])
+        recorded_traced _ (In call.buffer (Owes true true)) false (p.trace ++ entry_made c t (record call { closed = true }) op call.message ∷ [])
         (recorded_call (record call { closed = true; effect = Some op; stage = Signals }))
 
     at_put : (closed : Bool) (op : ℕ) (m : Message) → Recorded p (recorded_try c p t call (report_of_put closed op m)) t (In call.buffer
@@ -118,14 +118,14 @@ module _ (p : Private) (t : Tid) (known : t.0 < length p.threads) where
 
     at_try : (may : Bool) (told : Reported) → Recorded p (recorded_try c p t call told) t (In call.buffer (Owes true true)) false
         → Recorded p (recorded_try c p t call (if may then told else NotYet)) t
-        (In call.buffer (if may then Owes true true else WasRefused (side_of call.asks))) false
+        (In call.buffer (if may then Owes true true else WasRefused (side_of_group call.asks))) false
     at_try true told does = does
     at_try false told does = recorded_call (record call { stage = Waits })
 
     -- what a call hears at each stage
     pub recorded_at : (stage : Stage) → is_last stage ≡ false
-        → Recorded p (recorded c p t call stage (answer_of_buffer (section_at t call stage) k).told) t
-        (next_visit call.buffer (section_at t call stage) k (visit_of_stage call.buffer (side_of call.asks) stage)) (is_release stage)
+        → Recorded p (with_told c p t call stage (answer_of_buffer (section_due t call stage) k).told) t
+        (next_visit call.buffer (section_due t call stage) k (visit_of_stage call.buffer (side_of_group call.asks) stage)) (is_release stage)
     recorded_at Acquires going = recorded_call (record call { stage = Enters })
     recorded_at Enters going = at_entry call.asks refl
     recorded_at Waits going = recorded_call (record call { stage = AcquiresAgain })
@@ -159,18 +159,18 @@ module _ (setup : Setup) (c : CpuId) (p : Private) (T : Tid → Visit) (P : Tid 
   open calling use {agrees, settled_before, empty, runs_now, is}
 
   local_now : is_local setup c t ≡ true
-  local_now = (runs setup c p T P agrees t runs_now).0
+  local_now = (runs_at_home setup c p T P agrees t runs_now).0
 
   going : is_last call.stage ≡ false
   going = false_from_ne_true (is_last call.stage) (λ on. refuted (ap is_some empty) (settled_before t local_now (ap is_done is ∙ on)).0)
 
-  module _ (k : Buffer) (asleep : (s : Tid) → (answer_of_buffer (section_at t call call.stage) k).woke ≡ Some s
+  module _ (k : Buffer) (asleep : (s : Tid) → (answer_of_buffer (section_due t call call.stage) k).woke ≡ Some s
       → (is_home (P s) ≡ false) × (nat_lt s.0 (length setup.homes) ≡ true)) where
     abbrev name : Name
-    name = section_at t call call.stage
+    name = section_due t call call.stage
 
     abbrev a : Answer
-    a = answer_of_buffer (section_at t call call.stage) k
+    a = answer_of_buffer (section_due t call call.stage) k
 
     abbrev N : Tid → Visit
     N u = visit_moved call.buffer u name k (T u)
@@ -182,10 +182,11 @@ module _ (setup : Setup) (c : CpuId) (p : Private) (T : Tid → Visit) (P : Tid 
     now u = post_moved setup c call.buffer u name a.slept a.woke (P u)
 
     abbrev recorded_now : Private
-    recorded_now = recorded c p t call call.stage a.told
+    recorded_now = with_told c p t call call.stage a.told
 
-    recorded_is : Recorded p recorded_now t (next_visit call.buffer name k (visit_of_stage call.buffer (side_of call.asks) call.stage)) (is_release call.stage)
-    recorded_is = recorded_at p t (within setup c p T P agrees t local_now) c call k call.stage going
+    recorded_is : Recorded p recorded_now t (next_visit call.buffer name k (visit_of_stage call.buffer (side_of_group call.asks) call.stage))
+        (is_release call.stage)
+    recorded_is = recorded_at p t (local_within setup c p T P agrees t local_now) c call k call.stage going
 
     mine : is_caller t name ≡ true
     mine = ap (is_thread t) (section_caller t call call.stage) ∙ same_tid_self t
@@ -264,12 +265,12 @@ module _ (setup : Setup) (c : CpuId) (p : Private) (T : Tid → Visit) (P : Tid 
       emptied = grind (arith, agrees, sits, at_home)
 
   -- those that were pending are ready
-  pub agrees_drained : (list : List Tid) → ((u : Tid) → count_in u list ≡ one_if (same_cpu (home_of setup u) c && is_pending (P u)))
+  pub agrees_drained : (list : List Tid) → ((u : Tid) → count_in u list ≡ one_if (same_cpu (home_cpu setup u) c && is_pending (P u)))
       → ((u : Tid) → is_home (P u) ≡ false → nat_lt u.0 (length setup.homes) ≡ true)
       → Agrees setup c (record p { ready = p.ready ++ list }) T (λ u. post_pending setup c u TakeAll (P u))
   agrees_drained list counts known = grind (arith, agrees, sits, held, at_home)
     where
-      sits : (u : Tid) (here : Bool) → same_cpu (home_of setup u) c ≡ here → (x : Where) → P u ≡ x
+      sits : (u : Tid) (here : Bool) → same_cpu (home_cpu setup u) c ≡ here → (x : Where) → P u ≡ x
           → one_if (is_thread u p.current) + count_in u (p.ready ++ list)
           ≡ one_if (seat setup c u (if here then post_drained (P u) else P u) (thread_at p u).ended)
       sits u here away x at = grind (arith, count_append, agrees, and_right, and_from, false_from_ne_true, refuted)
@@ -283,19 +284,19 @@ module _ (setup : Setup) (c : CpuId) (p : Private) (T : Tid → Visit) (P : Tid 
 -- the current thread yields: it stands behind those that are ready, and nobody runs
 pub agrees_yielded : (setup : Setup) (c : CpuId) (p : Private) (T : Tid → Visit) (P : Tid → Where)
     → Agrees setup c p T P → (t : Tid) → p.current ≡ Some t → (guest : State)
-    → Agrees setup c (record (with_guest p t guest) { current = None; ready = p.ready ++ t ∷ [] }) T P
+    → Agrees setup c (record (with_state p t guest) { current = None; ready = p.ready ++ t ∷ [] }) T P
 agrees_yielded setup c p T P agrees t runs_now guest = grind (arith, moved, same_tid_sym, count_append)
   where
     x : Thread
     x = record (thread_at p t) { guest = guest }
 
     known : t.0 < length p.threads
-    known = within setup c p T P agrees t (runs setup c p T P agrees t runs_now).0
+    known = local_within setup c p T P agrees t (runs_at_home setup c p T P agrees t runs_now).0
 
-    moved : Agrees setup c (with_guest p t guest) T P
+    moved : Agrees setup c (with_state p t guest) T P
     moved =
-        agrees_same setup c p (with_guest p t guest) t T T P agrees (same_with p t (record (thread_at p t) { guest = guest }) known refl) (λ u other. refl)
-        (agrees.calls t (runs setup c p T P agrees t runs_now).0
+        agrees_same setup c p (with_state p t guest) t T T P agrees (same_with p t (record (thread_at p t) { guest = guest }) known refl) (λ u other. refl)
+        (agrees.calls t (runs_at_home setup c p T P agrees t runs_now).0
         ∙ ap (λ y. visit_of_call y.call) (sym (at_same p t (record (thread_at p t) { guest = guest }) known)))
 
 -- A section of another CPU.

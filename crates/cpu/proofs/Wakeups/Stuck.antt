@@ -6,12 +6,12 @@ use Rattle.event_log.specs.{declared.entries.Kind.{Kind, TheVariants.{Recv as Re
 use Rattle.event_log.{specs.{Runs.{Sends, Receives, Closes, group_of}, History.same_cpu, Sections.sections_in}, proofs.Same.same_cpu_self}
 use Rattle.{guest.specs.{declared.instructions.Instruction.Instruction, State.State}, thread_blocks.{specs.Queues.first, proofs.Members.same_tid_self}}
 use Rattle.layer_traits.specs.declared.{steps.Reason.Reason, locked.Side.{Side, TheVariants.{Receivers, Senders}}, call_states.Stage.TheVariants.AcquiresAgain}
-use Rattle.layer_traits.specs.Threads.Places.{Where, Home, Hand, Pend as IsPending, Asleep, At, is_home, is_hand, is_thread, one_if, count_in}
-use Rattle.{layer_traits.proofs.ListsLemmas.counted_in, cpu.specs.Table.{Blocks.{Buffer, OfBuffer, side_of}, Edits.{line_of, waiting_of}, Setups.{Setup, Call}}}
-use Rattle.cpu.specs.{Table.{Setups.{Private, thread_at, home_of, stands_at}, Steps.{Whole, block_at, halted_at}}, Wakeups.{Order.progress, Lost.Allows}}
-use Rattle.cpu.{specs.Wakeups.Quiet.{HomesExist, IsQuietBy, IsQuiet, IsNextEffect, IsStuckCall, IsLive, IsStuck, QuietIsStuck}, proofs.Wakeups.Lists.refuted}
-use Rattle.cpu.proofs.Wakeups.{Ordered.{buffer_awake, calm_loses_nothing}, PostsAndVisits.{Waiting, Visit, Outside, list_of, sleeps_in, is_side, is_pending}}
-use Rattle.cpu.proofs.Wakeups.{PostsAndVisits.{names, goes_on, starts_here, stands, is_lined, is_local, post, visit, marked}, ThreadAtBuffer.Pair}
+use Rattle.layer_traits.specs.Threads.Places.{Where, Home, Hand, IsPending, Asleep, At, is_home, is_hand, is_thread, one_if, count_in}
+use Rattle.{layer_traits.proofs.ListsLemmas.counted_in, cpu.specs.Table.{Blocks.{Buffer, OfBuffer, side_of_group}, Edits.{line_on, waiting_of}, Setups.Setup}}
+use Rattle.cpu.specs.{Table.{Setups.{Call, Private, thread_at, home_cpu, stands_at}, Steps.{Whole, block_at, halted_at}}, Wakeups.{Order.progress, Lost.Allows}}
+use Rattle.cpu.specs.Wakeups.Quiet.{HomesExist, IsQuietBy, IsQuietTable, IsNextEffect, IsStuckCall, IsLive, IsStuck, QuietIsStuck}
+use Rattle.cpu.proofs.Wakeups.{Lists.refuted, Ordered.{buffer_awake, calm_loses_nothing}, PostsAndVisits.{Waiting, Visit, Outside, list_of, sleeps_in, is_side}}
+use Rattle.cpu.proofs.Wakeups.{PostsAndVisits.{is_pending, names, goes_on, starts_here, stands, is_lined, is_local, post, visit, marked}, ThreadAtBuffer.Pair}
 use Rattle.cpu.proofs.Wakeups.ThreadAtBuffer.{buffer_self, buffer_true, sleeps_here, marked_some, front_counted, line_count, wait_count}
 use Rattle.cpu.proofs.Wakeups.{BuffersAndThreads.Good, Placed.{IsPlaced, buffer_there}, Agreement.{visit_of_call, seat, Agrees}, EndedThreads.is_before}
 use Rattle.cpu.proofs.Wakeups.{EndedThreads.{HasLine, FitsGroup, Says}, ReachedStates.fair_good, SystemInv.{SystemInv, reached_inv, cpu_there}}
@@ -41,7 +41,7 @@ side_self side = grind arith
 
 -- the call whose visit is a wait has to ask for the lock again
 waits_again : (call : Call) (b : BufId) (side : Side) → visit_of_call (Some call) ≡ Waiting b side
-    → (is_before call.stage ≡ true) × (call.buffer ≡ b) × (side_of call.asks ≡ side) × (call.stage ≡ AcquiresAgain)
+    → (is_before call.stage ≡ true) × (call.buffer ≡ b) × (side_of_group call.asks ≡ side) × (call.stage ≡ AcquiresAgain)
 waits_again call b side is = grind (arith, refuted)
 
 -- an instruction asks for one effect
@@ -49,13 +49,13 @@ same_effect : (line : Instruction) (s : State) (a x : Group) (b d : BufId) (m n 
     → IsNextEffect line s a b m → IsNextEffect line s x d n → (a ≡ x) × (b ≡ d)
 same_effect line s a x b d m n one other = grind arith
 
-module _ (setup : Setup) (s : Whole) (homes : HomesExist setup) (kept : SystemInv setup s) (quiet : IsQuiet setup s) where
+module _ (setup : Setup) (s : Whole) (homes : HomesExist setup) (kept : SystemInv setup s) (quiet : IsQuietTable setup s) where
   good : Good setup (sections_in s.log)
   good = fair_good setup s.log kept.sound.fair
 
-  local : (u : Tid) → u.0 < length setup.homes → is_local setup (home_of setup u) u ≡ true
-  local u known = and_from (same_cpu (home_of setup u) (home_of setup u)) (nat_lt u.0 (length setup.homes))
-      (same_cpu_self (home_of setup u)) (lt-ltb u.0 (length setup.homes) known)
+  local : (u : Tid) → u.0 < length setup.homes → is_local setup (home_cpu setup u) u ≡ true
+  local u known = and_from (same_cpu (home_cpu setup u) (home_cpu setup u)) (nat_lt u.0 (length setup.homes))
+      (same_cpu_self (home_cpu setup u)) (lt-ltb u.0 (length setup.homes) known)
 
   small : (u : Tid) → u.0 < length setup.homes → nat_lt u.0 THREADS ≡ true
   small u known = let few = homes.0 in lt-ltb u.0 THREADS (omega (arith, known, few))
@@ -76,16 +76,16 @@ module _ (setup : Setup) (s : Whole) (homes : HomesExist setup) (kept : SystemIn
   asleep p u live = by_post (post setup u (sections_in s.log)) refl
     where
       c : CpuId
-      c = home_of setup u
+      c = home_cpu setup u
 
       by_reason : post setup u (sections_in s.log) ≡ Home → (r : Option Reason)
-          → IsQuietBy setup (home_of setup u) p r → Sleeps (post setup u (sections_in s.log))
+          → IsQuietBy setup (home_cpu setup u) p r → Sleeps (post setup u (sections_in s.log))
       by_reason at (Some reason) ended = refuted live.alive (ended u refl live.known)
       by_reason at None idle =
-          let one : one_if (seat setup (home_of setup u) u (post setup u (sections_in s.log)) (thread_at p u).ended) ≡ 1 =
+          let one : one_if (seat setup (home_cpu setup u) u (post setup u (sections_in s.log)) (thread_at p u).ended) ≡ 1 =
           (λ i. one_if (local u live.known i && (is_home (at i) && not (live.alive i)))) in
           let none : one_if (is_thread u p.current) + count_in u p.ready ≡ 0 = (λ i. one_if (is_thread u (idle.0 i)) + count_in u (idle.1 i)) in
-          let sits = (agrees (home_of setup u) p live.here).seats u in
+          let sits = (agrees (home_cpu setup u) p live.here).seats u in
           absurd (omega (arith, one, none, sits))
 
       by_post : (x : Where) → post setup u (sections_in s.log) ≡ x → Sleeps (post setup u (sections_in s.log))
@@ -93,24 +93,24 @@ module _ (setup : Setup) (s : Whole) (homes : HomesExist setup) (kept : SystemIn
       by_post (Asleep (At (AtBuffer b) wait_list.Receivers)) at = at_wait b Receivers at
       by_post (Asleep (At (AtBuffer b) wait_list.Senders)) at = at_wait b Senders at
       by_post (Asleep (At (Pending d) list)) at = absurd (subst (IsPlaced setup (visit setup u (sections_in s.log))) at (kept.placed.posts u))
-      by_post Home at = by_reason at (halted_at setup (home_of setup u) p) (quiet.cpus (home_of setup u) p live.here)
+      by_post Home at = by_reason at (halted_at setup (home_cpu setup u) p) (quiet.cpus (home_cpu setup u) p live.here)
       by_post (Hand e) at =
           let cpu = cpu_there setup s kept e (subst (IsPlaced setup (visit setup u (sections_in s.log))) at (kept.placed.posts u)) in
           refuted (ap (is_thread u) (empty e cpu.0 cpu.1)) ((agrees e cpu.0 cpu.1).hands u ∙ ap (is_hand e) at ∙ same_cpu_self e)
       by_post (IsPending q) at =
-          let one : one_if (same_cpu (home_of setup u) (home_of setup u) && is_pending (post setup u (sections_in s.log))) ≡ 1 =
-          (λ i. one_if (same_cpu_self (home_of setup u) i && is_pending (at i))) in
-          absurd (omega (arith, good.pending (home_of setup u) u [] (quiet.pending (home_of setup u) (homes.1 u live.known)), one))
+          let one : one_if (same_cpu (home_cpu setup u) (home_cpu setup u) && is_pending (post setup u (sections_in s.log))) ≡ 1 =
+          (λ i. one_if (same_cpu_self (home_cpu setup u) i && is_pending (at i))) in
+          absurd (omega (arith, good.pending (home_cpu setup u) u [] (quiet.pending (home_cpu setup u) (homes.1 u live.known)), one))
 
   -- whoever has a visit at a buffer is live
   live_at : (u : Tid) (b : BufId) → names b (visit setup u (sections_in s.log)) ≡ true → (p : Private) × IsLive setup s p u
   live_at u b on =
       let known = ltb-true u.0 (length setup.homes) (grind (arith, on, kept.placed.callers u)) in
-      let cpu = cpu_there setup s kept (home_of setup u) (homes.1 u known) in
+      let cpu = cpu_there setup s kept (home_cpu setup u) (homes.1 u known) in
       let alive : (thread_at cpu.0 u).ended ≡ false =
       false_from_ne_true (thread_at cpu.0 u).ended (λ ended.
       let out : visit setup u (sections_in s.log) ≡ Outside =
-      (agrees (home_of setup u) cpu.0 cpu.1).calls u (local u known) ∙ ap visit_of_call ((kept.fine (home_of setup u) cpu.0 cpu.1 u).quits ended) in
+      (agrees (home_cpu setup u) cpu.0 cpu.1).calls u (local u known) ∙ ap visit_of_call ((kept.fine (home_cpu setup u) cpu.0 cpu.1 u).quits ended) in
       refuted (ap (names b) out) on) in
       (cpu.0, record { known = known; here = cpu.1; alive = alive })
 
@@ -174,13 +174,13 @@ module _ (setup : Setup) (s : Whole) (homes : HomesExist setup) (kept : SystemIn
       wait = waits p u live
 
       turned : visit setup u (sections_in s.log) ≡ visit_of_call (thread_at p u).call
-      turned = (agrees (home_of setup u) p live.here).calls u (local u live.known)
+      turned = (agrees (home_cpu setup u) p live.here).calls u (local u live.known)
 
       by_call : (o : Option Call) → (thread_at p u).call ≡ o → (call : Call) × ((thread_at p u).call ≡ Some call) × IsStuckCall setup s p u call
       by_call None is = absurd (cc (sym wait.3 ∙ turned ∙ ap visit_of_call is))
       by_call (Some call) is =
           let again = waits_again call wait.0 wait.1 (sym (ap visit_of_call is) ∙ sym turned ∙ wait.3) in
-          let says = subst (Says _ (thread_at p u).guest) is (kept.fine (home_of setup u) p live.here u).says again.0 in
+          let says = subst (Says _ (thread_at p u).guest) is (kept.fine (home_cpu setup u) p live.here u).says again.0 in
           let line : HasLine call.asks = subst (FitsGroup call.asks) again.3 says.2 in (
             call,
             is,
@@ -193,39 +193,40 @@ module _ (setup : Setup) (s : Whole) (homes : HomesExist setup) (kept : SystemIn
             },
           )
         where
-          refused : (call : Call) → HasLine call.asks → call.buffer ≡ wait.0 → side_of call.asks ≡ wait.1
+          refused : (call : Call) → HasLine call.asks → call.buffer ≡ wait.0 → side_of_group call.asks ≡ wait.1
               → (k : Buffer) (m : Message) (e : Kind) → group_of e ≡ call.asks
               → block_at setup (AtBuffer call.buffer) s.log ≡ Some (OfBuffer k) → Allows k e m → ⊥
           refused call line same_buffer same_side k m e asks block allowed =
-              let mine : visit setup u (sections_in s.log) ≡ Waiting call.buffer (side_of call.asks) =
+              let mine : visit setup u (sections_in s.log) ≡ Waiting call.buffer (side_of_group call.asks) =
               wait.3 ∙ (λ i. Waiting (sym same_buffer i) (sym same_side i)) in
-              let one : marked u (is_lined call.buffer (side_of call.asks) (visit setup u (sections_in s.log))) ≡ 1 =
-              (λ i. one_if (small u live.known i && is_lined call.buffer (side_of call.asks) (mine i)))
-              ∙ (λ i. one_if (buffer_self call.buffer i && side_self (side_of call.asks) i)) in
-              let counts = line_count call.buffer u k _ _ _ (good.pairs call.buffer u k block) (side_of call.asks) in
-              let front = front_of u (line_of (side_of call.asks) k) (omega (arith, one, counts)) in
+              let one : marked u (is_lined call.buffer (side_of_group call.asks) (visit setup u (sections_in s.log))) ≡ 1 =
+              (λ i. one_if (small u live.known i && is_lined call.buffer (side_of_group call.asks) (mine i)))
+              ∙ (λ i. one_if (buffer_self call.buffer i && side_self (side_of_group call.asks) i)) in
+              let counts = line_count call.buffer u k _ _ _ (good.pairs call.buffer u k block) (side_of_group call.asks) in
+              let front = front_of u (line_on (side_of_group call.asks) k) (omega (arith, one, counts)) in
               first_waits call line k m e asks block allowed front.0 front.1
             where
               first_waits : (call : Call) → HasLine call.asks → (k : Buffer) (m : Message) (e : Kind) → group_of e ≡ call.asks
                   → block_at setup (AtBuffer call.buffer) s.log ≡ Some (OfBuffer k)
-                  → Allows k e m → (t : Tid) → first (line_of (side_of call.asks) k) ≡ Some t → ⊥
+                  → Allows k e m → (t : Tid) → first (line_on (side_of_group call.asks) k) ≡ Some t → ⊥
               first_waits call line k m e asks block allowed t front =
                   let pair = good.pairs call.buffer t k block in
-                  let some = front_counted t (line_of (side_of call.asks) k) (ap (is_thread t) front ∙ same_tid_self t) in
-                  let lined = (marked_some t (is_lined call.buffer (side_of call.asks) (visit setup t (sections_in s.log)))
-                  (subst (λ n. 0 < n) (line_count call.buffer t k _ _ _ pair (side_of call.asks)) some)).1 in
+                  let some = front_counted t (line_on (side_of_group call.asks) k) (ap (is_thread t) front ∙ same_tid_self t) in
+                  let lined = (marked_some t (is_lined call.buffer (side_of_group call.asks) (visit setup t (sections_in s.log)))
+                  (subst (λ n. 0 < n) (line_count call.buffer t k _ _ _ pair (side_of_group call.asks)) some)).1 in
                   let parts =
-                  and_parts (names call.buffer (visit setup t (sections_in s.log))) (stands (side_of call.asks) (visit setup t (sections_in s.log))) lined in
+                  and_parts (names call.buffer (visit setup t (sections_in s.log)))
+                  (stands (side_of_group call.asks) (visit setup t (sections_in s.log))) lined in
                   let other = live_at t call.buffer parts.0 in
                   let at = waits other.0 t other.1 in
                   let same_buffer : call.buffer ≡ at.0 = buffer_true call.buffer at.0 (sym (ap (names call.buffer) at.3) ∙ parts.0) in
-                  let same_side : side_of call.asks ≡ at.1 = grind (arith, sym (ap (stands (side_of call.asks)) at.3) ∙ parts.1) in
-                  let there : sleeps_in call.buffer (list_of (side_of call.asks)) (post setup t (sections_in s.log)) ≡ true =
+                  let same_side : side_of_group call.asks ≡ at.1 = grind (arith, sym (ap (stands (side_of_group call.asks)) at.3) ∙ parts.1) in
+                  let there : sleeps_in call.buffer (list_of (side_of_group call.asks)) (post setup t (sections_in s.log)) ≡ true =
                   (λ i. sleeps_in (same_buffer i) (list_of (same_side i)) (at.2 i)) ∙ sleeps_here at.0 (list_of at.1) in
-                  let one : marked t (sleeps_in call.buffer (list_of (side_of call.asks)) (post setup t (sections_in s.log))) ≡ 1 =
+                  let one : marked t (sleeps_in call.buffer (list_of (side_of_group call.asks)) (post setup t (sections_in s.log))) ≡ 1 =
                   (λ i. one_if (small t other.1.known i && there i)) in
-                  let counts = wait_count call.buffer t k _ _ _ pair (side_of call.asks) in
-                  let stands_there = counted_in t (waiting_of (side_of call.asks) k) (omega (arith, one, counts)) in
+                  let counts = wait_count call.buffer t k _ _ _ pair (side_of_group call.asks) in
+                  let stands_there = counted_in t (waiting_of (side_of_group call.asks) k) (omega (arith, one, counts)) in
                   grind (
                     arith,
                     calm_loses_nothing k _ (buffer_awake setup (sections_in s.log) good.ordered call.buffer k block),

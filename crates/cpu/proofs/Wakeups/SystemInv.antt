@@ -3,12 +3,12 @@ use Rattle.std.proofs.Common.{◌≡◌, ℕ, zero, suc, ◌+◌, ◌<◌, ◌==
 use Rattle.std.proofs.{Common.{sym, ap, ◌∙◌, subst, arith}, lemmas.{Bool.{eqb-true, eqb-false}, List.length-set}}
 use Rattle.event_log.specs.{declared.ids.{CpuId.CpuId, Tid.Tid}, History.same_cpu, Sections.sections_in, Actions.{Action, Take, Try, Give, phase}}
 use Rattle.{event_log.proofs.ListLemmas.set_else, layer_traits.specs.{declared.steps.Step.{Step, TheVariants.{Stepped, Halted}}, Polling.Plans.is_in_section}}
-use Rattle.cpu.specs.Table.{Blocks.Name, Setups.{Setup, Private, thread_at, at_boot}, Choice.{Choice, Halts, Alone, Goes, choice}, Steps.{chosen, step_in}}
+use Rattle.cpu.specs.Table.{Blocks.Name, Setups.{Setup, Private, thread_at, boot_of}, Choice.{Choice, Halts, Alone, Goes, choice}, Steps.{chosen_step, step_in}}
 use Rattle.cpu.specs.Table.Steps.{cpu_step, Whole, cpu_numbered, boots_from, whole_at_boot, whole_after, roomy, answered_by, step_at, system_step, IsReached}
-use Rattle.cpu.{specs.Table.Steps.{boots, steps}, proofs.Wakeups.{PostsAndVisits.{post, visit}, Placed.{Placed, placed_none, placed_at}, Agreement.Agrees}}
-use Rattle.cpu.proofs.Wakeups.{Agreement.{runs, within}, ChosenSteps.{ChoiceOk, choice_ok}, EndedThreads.{AllFine, fine_at_boot, FineChoice, fine_choice}}
-use Rattle.cpu.proofs.Wakeups.{EndedThreads.fine_acting, ReachedStates.{IsFairLog, Ok, StepOk, step_ok, AllDo, Sound, sound_step, reached_sound, get_set}}
-use Rattle.cpu.proofs.Wakeups.ReachedStates.{boots_at}
+use Rattle.cpu.{specs.Table.Steps.{boots, steps_once}, proofs.Wakeups.{PostsAndVisits.{post, visit}, Placed.{Placed, placed_none, placed_at}, Agreement.Agrees}}
+use Rattle.cpu.proofs.Wakeups.{Agreement.{runs_at_home, local_within}, ChosenSteps.{ChoiceOk, choice_ok}, EndedThreads.{AllFine, fine_at_boot, FineChoice}}
+use Rattle.cpu.proofs.Wakeups.{EndedThreads.{fine_choice, fine_acting}, ReachedStates.{IsFairLog, Ok, StepOk, step_ok, AllDo, Sound, sound_step, reached_sound}}
+use Rattle.cpu.proofs.Wakeups.ReachedStates.{get_set, boots_at}
 
 -- what a step of a system leaves: the same, or the state after its CPU's step
 pub data NextIs (setup : Setup) (c : CpuId) (s : Whole) : Whole → Type 0 where
@@ -48,14 +48,14 @@ fine_step setup c p log ok fine = by_section (is_in_section (phase c log))
     known : (q : Private) → Agrees setup c q (λ u. visit setup u (sections_in log)) (λ u. post setup u (sections_in log))
         → (t : Tid) → q.current ≡ Some t → t.0 < length q.threads
     known q agrees t runs_now =
-        within setup c q (λ u. visit setup u (sections_in log)) (λ u. post setup u (sections_in log)) agrees t
-        (runs setup c q (λ u. visit setup u (sections_in log)) (λ u. post setup u (sections_in log)) agrees t runs_now).0
+        local_within setup c q (λ u. visit setup u (sections_in log)) (λ u. post setup u (sections_in log)) agrees t
+        (runs_at_home setup c q (λ u. visit setup u (sections_in log)) (λ u. post setup u (sections_in log)) agrees t runs_now).0
 
     alive : (t : Tid) → p.current ≡ Some t → (thread_at p t).ended ≡ false
-    alive t runs_now = (runs setup c p (λ u. visit setup u (sections_in log)) (λ u. post setup u (sections_in log)) ok.agrees t runs_now).2
+    alive t runs_now = (runs_at_home setup c p (λ u. visit setup u (sections_in log)) (λ u. post setup u (sections_in log)) ok.agrees t runs_now).2
 
     by_choice : (what : Choice) → ChoiceOk setup c (λ u. visit setup u (sections_in log)) (λ u. post setup u (sections_in log)) what → FineChoice setup c what
-        → AllFine setup (chosen setup c p what log).next
+        → AllFine setup (chosen_step setup c p what log).next
     by_choice (Halts reason) agrees now = fine
     by_choice (Alone q) agrees now = now
     by_choice (Goes q) agrees now = fine_acting setup c q now (known q agrees.0) log
@@ -82,7 +82,7 @@ inv_at_boot setup room = record {
   placed = placed_none setup;
   fine = λ e p is.
       let zero_plus : 0 + e.0 ≡ e.0 = omega arith in
-      subst (AllFine setup) (ap (λ m. at_boot setup (cpu_numbered m)) (sym zero_plus) ∙ boots_at setup 0 setup.cpus e.0 p is) (fine_at_boot setup e);
+      subst (AllFine setup) (ap (λ m. boot_of setup (cpu_numbered m)) (sym zero_plus) ∙ boots_at setup 0 setup.cpus e.0 p is) (fine_at_boot setup e);
   size = boots_length setup 0 setup.cpus;
 }
 
@@ -107,7 +107,7 @@ inv_next setup c s next known kept sound (went p here) = record {
 
 pub reached_inv : (setup : Setup) (room : ℕ) (s : Whole) → IsReached setup room s → SystemInv setup s
 reached_inv setup room s boots = inv_at_boot setup room
-reached_inv setup room s (steps {s = before} c reached within) =
+reached_inv setup room s (steps_once {s = before} c reached within) =
     inv_next setup c before (system_step setup c before).next within (reached_inv setup room before reached)
     (sound_step setup before (reached_sound setup room before reached) c) (next_is setup c before)
 

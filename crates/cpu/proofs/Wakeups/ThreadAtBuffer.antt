@@ -9,11 +9,11 @@ use Rattle.layer_traits.specs.{declared.moves.WaitList.WaitList, Threads.{ListsA
 use Rattle.layer_traits.specs.{Threads.Places.{is_thread, one_if, count_in}, Layers.Sleeping.joined, Blocks.BufferBlocks.may_join}
 use Rattle.layer_traits.proofs.{CountLemmas.{same_tid_sym, count_append, count_front, in_counted, not_counted, count_behind}, ListsLemmas.count_without}
 use Rattle.{layer_traits.proofs.ListsLemmas.{at_wait_channel, wait_channel_here}, cpu.specs.Table.Blocks.{Buffer, Name, AcqQ, Enter, TryPut, TryTake, Shut}}
-use Rattle.cpu.specs.Table.{Blocks.{WaitOn, SigRecv, SigSend, RelQ, front_stands_in}, Edits.{may_go, may_try, due_on, without_any, acquired, line_of, entered}}
-use Rattle.cpu.specs.Table.{Edits.{put, taken, shut, waiting, released, edited_buffer, answer_of_buffer, signalled, waiting_of}, Setups.{Setup, home_of}}
-use Rattle.cpu.{specs.Wakeups.Order.{Progress, Begins, HasEntered, WasRefused, Owes, progress_after, progress_signalled, MayEdit}, proofs.Wakeups.Lists.refuted}
-use Rattle.cpu.proofs.Wakeups.{Lists.first_is, PostsAndVisits.{Visit, is_buffer, sleeps_in, sleeps_at, is_inside, is_starting, is_lined, InStep, is_caller}}
-use Rattle.cpu.proofs.Wakeups.PostsAndVisits.{post_by, post_woken, post_moved, visit_moved, marked, list_of}
+use Rattle.cpu.specs.Table.{Blocks.{WaitOn, SigRecv, SigSend, RelQ, front_stands_in}, Edits.{front_may_go, may_try, due_on, without_any, acquired, line_on}}
+use Rattle.cpu.specs.Table.{Edits.{lined_up, put, taken, shut_off, waiting, released, edited_buffer, answer_of_buffer, signal_sent, waiting_of}, Setups.Setup}
+use Rattle.cpu.specs.{Table.Setups.home_cpu, Wakeups.Order.{Progress, Begins, HasEntered, WasRefused, Owes, progress_after, progress_signalled, MayEdit}}
+use Rattle.cpu.proofs.Wakeups.{Lists.{refuted, first_is}, PostsAndVisits.{Visit, is_buffer, sleeps_in, sleeps_at, is_inside, is_starting, is_lined, InStep}}
+use Rattle.cpu.proofs.Wakeups.PostsAndVisits.{is_caller, post_by, post_woken, post_moved, visit_moved, marked, list_of}
 use Rattle.layer_traits.specs.declared.moves.WaitList.TheVariants as wait_list
 
 -- a thread and a buffer's lock: by who owns it, the lists of its sleepers and of those who wait to send and to receive, and the two lines
@@ -47,7 +47,7 @@ paired owner inside starts sleepers senders receivers send_line receive_line = g
 
 -- its places by side
 pub line_count : (b : BufId) (u : Tid) (k : Buffer) (g : Progress) (visit : Visit) (x : Where) → Pair b u k g visit x
-    → (side : Side) → count_in u (line_of side k) ≡ marked u (is_lined b side visit)
+    → (side : Side) → count_in u (line_on side k) ≡ marked u (is_lined b side visit)
 line_count b u k g visit x pair side = grind arith
 
 pub wait_count : (b : BufId) (u : Tid) (k : Buffer) (g : Progress) (visit : Visit) (x : Where) → Pair b u k g visit x
@@ -118,7 +118,7 @@ module _ (b : BufId) (u : Tid) (k : Buffer) (g : Progress) (visit : Visit) (post
   pub due_waits : (side : Side) → is_thread u (due_on side k) ≡ true → (nat_lt u.0 THREADS ≡ true) × (sleeps_in b (list_of side) post ≡ true)
   due_waits side is =
       marked_some u (sleeps_in b (list_of side) post)
-      (subst (λ n. 0 < n) (wait_count b u k g visit post pair side) (woken_waits u (line_of side k) (waiting_of side k) (may_go side k) is))
+      (subst (λ n. 0 < n) (wait_count b u k g visit post pair side) (woken_waits u (line_on side k) (waiting_of side k) (front_may_go side k) is))
 
   sleeps_so : (list : WaitList) → (nat_lt u.0 THREADS ≡ true) × (sleeps_in b list post ≡ true) → (nat_lt u.0 THREADS ≡ true) × (sleeps_at b post ≡ true)
   sleeps_so list at = grind (arith, and_parts)
@@ -152,7 +152,7 @@ module _ (setup : Setup) (c : CpuId) (b : BufId) (u t : Tid) (other : same_tid t
       pair.senders pair.receivers (same_sends ∙ pair.send_line) (same_receives ∙ pair.receive_line)
 
   other_enter : (k : Buffer) (g : Progress) (side : Side) (joins : Bool) → k.busy ≡ Some t → Pair b u k g visit post
-      → Pair b u (if joins then entered t side k else k) (HasEntered side) visit post
+      → Pair b u (if joins then lined_up t side k else k) (HasEntered side) visit post
   other_enter k g side joins owner pair = grind (arith, with_lines, count_behind)
 
   other_put : (k : Buffer) (g : Progress) (m : Message) (may : Bool) → may_try Senders t k ≡ may → k.busy ≡ Some t → Pair b u k g visit post
@@ -163,7 +163,7 @@ module _ (setup : Setup) (c : CpuId) (b : BufId) (u t : Tid) (other : same_tid t
       → Pair b u (if may then taken k else k) (if may then Owes true true else WasRefused Receivers) visit post
   other_take k g may is owner pair = grind (arith, and_parts, with_lines, first_is, count_front)
 
-  other_shut : (k : Buffer) (g : Progress) → k.busy ≡ Some t → Pair b u k g visit post → Pair b u (shut k) (Owes true true) visit post
+  other_shut : (k : Buffer) (g : Progress) → k.busy ≡ Some t → Pair b u k g visit post → Pair b u (shut_off k) (Owes true true) visit post
   other_shut k g owner pair = with_lines k g (Owes true true) owner pair k.send_line k.receive_line refl refl
 
   other_release : (k : Buffer) (g : Progress) → k.busy ≡ Some t → Pair b u k g visit post
@@ -176,14 +176,14 @@ module _ (setup : Setup) (c : CpuId) (b : BufId) (u t : Tid) (other : same_tid t
       by_test : (w : Bool) → is_thread u (first k.sleepers) ≡ w → Pair b u (released k) Begins visit (if w then post_woken setup c u else post)
       by_test true is =
           let on = (first_sleeps b u k g visit post pair is).1 in
-          let no_lock = woken_awake b wait_list.Sleepers (same_cpu (home_of setup u) c) c in
+          let no_lock = woken_awake b wait_list.Sleepers (same_cpu (home_cpu setup u) c) c in
           let start = start_inside b visit (pair.starts on) in
           paired (λ e. (start.0, start.1, no_lock)) (λ ins awake. grind (arith, same_tid_true, is)) (λ now. refuted no_lock now)
           (first_left u k.sleepers most ∙ ap (λ x. if x then 0 else count_in u k.sleepers) is ∙ sym (marked_none u _ no_lock))
           (pair.senders ∙ ap (marked u)
-          (one_list b wait_list.Sleepers wait_list.Senders post refl on ∙ sym (woken_awake b wait_list.Senders (same_cpu (home_of setup u) c) c)))
+          (one_list b wait_list.Sleepers wait_list.Senders post refl on ∙ sym (woken_awake b wait_list.Senders (same_cpu (home_cpu setup u) c) c)))
           (pair.receivers ∙ ap (marked u)
-          (one_list b wait_list.Sleepers wait_list.Receivers post refl on ∙ sym (woken_awake b wait_list.Receivers (same_cpu (home_of setup u) c) c)))
+          (one_list b wait_list.Sleepers wait_list.Receivers post refl on ∙ sym (woken_awake b wait_list.Receivers (same_cpu (home_cpu setup u) c) c)))
           pair.send_line pair.receive_line
       by_test false is = grind (arith, paired, refuted, same_tid_self, owner, first_left, most)
 
@@ -193,10 +193,10 @@ module _ (setup : Setup) (c : CpuId) (b : BufId) (u t : Tid) (other : same_tid t
   other_wait k g Receivers owner pair = other_release (waiting t Receivers k) g owner (grind (arith, paired, other_joined, pair))
 
   other_signal : (k : Buffer) (g h : Progress) (side : Side) → k.busy ≡ Some t → Pair b u k g visit post
-      → Pair b u (signalled side k) h visit (if is_thread u (due_on side k) then post_woken setup c u else post)
+      → Pair b u (signal_sent side k) h visit (if is_thread u (due_on side k) then post_woken setup c u else post)
   other_signal k g h side owner pair = by_test (is_thread u (due_on side k)) refl
     where
-      by_test : (w : Bool) → is_thread u (due_on side k) ≡ w → Pair b u (signalled side k) h visit (if w then post_woken setup c u else post)
+      by_test : (w : Bool) → is_thread u (due_on side k) ≡ w → Pair b u (signal_sent side k) h visit (if w then post_woken setup c u else post)
       by_test true is =
           let on = (due_waits b u k g visit post pair side is).1 in
           let off = one_list b (list_of side) wait_list.Sleepers post (grind arith) on in
@@ -210,7 +210,7 @@ other_section setup c b u (AcqQ t) k g visit post other may pair =
     subst (λ x. Pair b u (acquired t k.busy k) g visit x) (sym (grind arith))
     (other_acquire setup c b u t other visit post k g k.busy refl pair)
 other_section setup c b u (Enter t side) k g visit post other may pair =
-    other_enter setup c b u t other visit post k g side (may_join t (line_of side k)) may.0 pair
+    other_enter setup c b u t other visit post k g side (may_join t (line_on side k)) may.0 pair
 other_section setup c b u (TryPut t m) k g visit post other may pair = other_put setup c b u t other visit post k g m (may_try Senders t k) refl may.0 pair
 other_section setup c b u (TryTake t) k g visit post other may pair = other_take setup c b u t other visit post k g (may_try Receivers t k) refl may.0 pair
 other_section setup c b u (Shut t) k g visit post other may pair = other_shut setup c b u t other visit post k g may.0 pair

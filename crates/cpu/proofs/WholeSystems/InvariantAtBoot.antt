@@ -6,7 +6,7 @@ use Rattle.std.specs.{Prelude.{slice_get, slice_index_or}, List.AllByRecursion}
 use Rattle.layer_traits.specs.{Blocks.{Capacities.caps_in, QueueBlocks.homes_in}, Views.{OwnParts.threads_in, Openings.AreOpenable}}
 use Rattle.layer_traits.specs.{declared.call_layers.CallLayer.Ghosts, Layers.BufferLaw.{no_call, call_state_of}, Threads.{OnePlace.cpu_at, Places.at_boot}}
 use Rattle.event_log.specs.{declared.{entries.Entry.Entry, ids.{CpuId.CpuId, Tid.Tid, TheConstants.{CPUS, THREADS}}}, Actions.Action}
-use Rattle.{guest.specs.Calls.starts, cpu.specs.{declared.{cpus.Cpu.Cpu, guests.Guest.Guest}, Guests.{HasCome, is_begun}, Boots.{AreGuests, IsBootedAs}}}
+use Rattle.{guest.specs.Calls.made_none, cpu.specs.{declared.{cpus.Cpu.Cpu, guests.Guest.Guest}, Guests.{HasCome, is_begun}, Boots.{AreGuests, IsBootedAs}}}
 use Rattle.cpu.specs.{Cpus.{IsCpu, begun_count, guest_at, is_begun_guest}, Systems.{IsAt, IsSystem}}
 
 -- a thread that never called
@@ -31,13 +31,13 @@ none_begun (x ∷ guests) none =
     go (Some g) at = none 0 g at
 
 -- a CPU before its first step
-pub boots : (homes : List CpuId) (buffers : ℕ) (number : CpuId) (guests : List (Option Guest)) (limit capacity : ℕ) → AreGuests homes buffers number guests
+pub cpu_boots : (homes : List CpuId) (buffers : ℕ) (number : CpuId) (guests : List (Option Guest)) (limit capacity : ℕ) → AreGuests homes buffers number guests
     → length homes ≤ THREADS → limit ≤ capacity
     → IsCpu homes buffers [] (at_boot homes number) (replicate THREADS no_call) None number guests [] limit capacity
-boots homes buffers number guests limit capacity are few reserved = record {
+cpu_boots homes buffers number guests limit capacity are few reserved = record {
   kept = refl;
   stays = tt;
-  follow = λ t g at. rw (no_call_at t) (subst (λ (x : Guest). HasCome x [] no_call) (sym (are.fresh t g at)) ((λ none. refl), (refl, starts)));
+  follow = λ t g at. rw (no_call_at t) (subst (λ (x : Guest). HasCome x [] no_call) (sym (are.fresh t g at)) ((λ none. refl), (refl, made_none)));
   over = λ t ended g at. absurd (cc ended);
   homed = are.homed;
   named = are.named;
@@ -63,7 +63,7 @@ boots_as I m p homes buffers k guests most is fresh counted same none are few = 
   is.cpu_is ∙ sym is.booted.number_is,
   subst (λ z. z) (λ i. IsCpu (sym same i) (sym counted i) (sym none i) (threads_in (sym is.own_is i)) (sym is.own_is i).call_states (sym is.nothing_done i)
       (sym is.booted.number_is i) (sym is.booted.guests_are i) (sym is.booted.nothing i) (sym is.booted.limit_is i) (vec_capacity p.trace))
-      (boots homes buffers (cpu_at k) guests most (vec_capacity p.trace) are few is.booted.reserved),
+      (cpu_boots homes buffers (cpu_at k) guests most (vec_capacity p.trace) are few is.booted.reserved),
 )
 
 -- a system before its first step
@@ -95,12 +95,12 @@ opens IsOne number ActsFor MayHold IsStepwise acts cpus homes homes2 seen caps r
     }
 
 -- the same system, of which the table says something that follows
-pub sounds : {X N : Type 0} (IsOne : X → Type 0) (number : X → CpuId) (ActsFor MayHold : CpuId → Type 0) (IsStepwise : Type 0) (acts : List (Action N))
+pub system_sounds : {X N : Type 0} (IsOne : X → Type 0) (number : X → CpuId) (ActsFor MayHold : CpuId → Type 0) (IsStepwise : Type 0) (acts : List (Action N))
     (cpus : List X)
     (homes : List CpuId) (seen : List Entry) (room taken left : ℕ) (Sound Sound2 : Type 0) → (Sound → Sound2)
     → IsSystem IsOne number ActsFor MayHold IsStepwise acts cpus homes seen room taken left Sound
     → IsSystem IsOne number ActsFor MayHold IsStepwise acts cpus homes seen room taken left Sound2
-sounds IsOne number ActsFor MayHold IsStepwise acts cpus homes seen room taken left Sound Sound2 goes is = grind arith
+system_sounds IsOne number ActsFor MayHold IsStepwise acts cpus homes seen room taken left Sound Sound2 goes is = grind arith
 
 -- the elements behind the first n, and the one in front of them
 drop_next : {X : Type 0} (xs : List X) (n : ℕ) → n < length xs → drop 1 (drop n xs) ≡ drop (suc n) xs

@@ -150,7 +150,7 @@ module _ {M X : Type 0} (of : Works M X) where
       (of.told m).seen room taken (of.left m) (of.Sound m cpus room taken)
 
   -- a CPU took a step
-  pub stepped : (m m2 : M) (cpus : List X) (room taken k : ℕ) (x y : X) → Holds m cpus room taken → of.Sound m2 (slice_set cpus k y) room (taken + 1)
+  pub cpu_stepped : (m m2 : M) (cpus : List X) (room taken k : ℕ) (x y : X) → Holds m cpus room taken → of.Sound m2 (slice_set cpus k y) room (taken + 1)
       → slice_get cpus k ≡ Some x → of.number y ≡ of.number x → of.cpu y ≡ of.number x → of.Fits y m2 → Keeps m2 y
       → of.Tabled m2 y → ((z : X) → of.Tabled m z → of.Tabled m2 z)
       → ((z : X) → of.cpu z ≢ of.number x → of.Fits z m → of.Fits z m2) → ((c : CpuId) → of.ActsFor m c → of.ActsFor m2 c)
@@ -159,7 +159,7 @@ module _ {M X : Type 0} (of : Works M X) where
       → (of.IsStepwise → ActsGrow (of.ActsFor m) (of.number x) (of.told m).acts (of.told m2).acts)
       → AllByRecursion (λ e. e.cpu.0 < CPUS) (of.told m2).seen → (of.told m2).homes ≡ (of.told m).homes → (of.told m2).caps ≡ (of.told m).caps
       → of.left m ≤ of.left m2 + 1 → taken < room → Holds m2 (slice_set cpus k y) room (taken + 1)
-  stepped m m2 cpus room taken k x y is sound at numbered of_cpu_is fits here tabled tables others goes holders grows does known same_homes same_caps
+  cpu_stepped m m2 cpus room taken k x y is sound at numbered of_cpu_is fits here tabled tables others goes holders grows does known same_homes same_caps
       room_left live =
       system_step (IsOne m) (IsOne m2) of.number (of.ActsFor m) (of.ActsFor m2) (of.MayHold m) (of.MayHold m2) of.IsStepwise (of.told m).acts (of.told m2).acts
       cpus (of.told m).homes (of.told m2).homes (of.told m).seen (of.told m2).seen room taken (of.left m) (of.left m2) k y (of.Sound m cpus room taken)

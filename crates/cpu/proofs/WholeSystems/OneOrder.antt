@@ -36,14 +36,14 @@ cpu_first : (e : Entry) (es : List Entry) → of_cpu (cpu_at e.cpu.0) (e ∷ es)
 cpu_first e es = let same : (e.cpu.0 == e.cpu.0) ≡ true = eq-eqb e.cpu.0 e.cpu.0 refl in rw same refl
 
 -- entries of which each CPU's trace has its own, in their order, are an order of the traces
-pub interleaved : (es : List Entry) (traces : List (List Entry)) → ((k : ℕ) → k < length traces → slice_index_or traces k [] ≡ of_cpu (cpu_at k) es)
+pub order_interleaves : (es : List Entry) (traces : List (List Entry)) → ((k : ℕ) → k < length traces → slice_index_or traces k [] ≡ of_cpu (cpu_at k) es)
     → AllByRecursion (λ e. e.cpu.0 < length traces) es → IsInterleaving traces es
-interleaved [] traces each known = grind (arith, cases_lt, get_or_past)
-interleaved (e ∷ es) traces each known = (
+order_interleaves [] traces each known = grind (arith, cases_lt, get_or_past)
+order_interleaves (e ∷ es) traces each known = (
   e.cpu.0,
   of_cpu (cpu_at e.cpu.0) es,
   slice_get-get_or traces e.cpu.0 [] known.0 ∙ ap (λ (l : List Entry). Some l) (each e.cpu.0 known.0 ∙ cpu_first e es),
-  interleaved es (slice_set traces e.cpu.0 (of_cpu (cpu_at e.cpu.0) es)) (λ k within. go k (omega (arith, within, same)) (cases_eq k e.cpu.0))
+  order_interleaves es (slice_set traces e.cpu.0 (of_cpu (cpu_at e.cpu.0) es)) (λ k within. go k (omega (arith, within, same)) (cases_eq k e.cpu.0))
       (subst (λ (n : ℕ). AllByRecursion (λ x. x.cpu.0 < n) es) (sym same) known.1),
 )
   where
@@ -102,7 +102,7 @@ module _ (homes : List CpuId) (buffers : ℕ) (seen : List Entry) (moves : List 
       → AllByRecursion (λ e. e.cpu.0 < length cpus) seen → IsInterleaving (map (λ p. p.trace) cpus) (reverse seen)
   traces_interleaved cpus each known =
       let count : length (map (λ (p : CpuShown). p.trace) cpus) ≡ length cpus = length-map cpus (λ (p : CpuShown). p.trace) in
-      interleaved (reverse seen) (map (λ (p : CpuShown). p.trace) cpus) (λ k within. trace_at k (omega (arith, count, within)))
+      order_interleaves (reverse seen) (map (λ (p : CpuShown). p.trace) cpus) (λ k within. trace_at k (omega (arith, count, within)))
       (subst (λ (n : ℕ). AllByRecursion (λ x. x.cpu.0 < n) (reverse seen)) (sym count) (all_reversed (λ (x : Entry). x.cpu.0 < length cpus) seen known))
     where
       trace_at : (k : ℕ) → k < length cpus → slice_index_or (map (λ (p : CpuShown). p.trace) cpus) k [] ≡ of_cpu (cpu_at k) (reverse seen)

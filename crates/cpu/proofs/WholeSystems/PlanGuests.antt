@@ -4,7 +4,7 @@ use Rattle.std.proofs.{Common.{Some, None, refl, ap, sym, ◌∙◌, subst, arit
 use Rattle.std.proofs.lemmas.{List.{length-map, map-append, take_more, Elements.{All-from_get_or, All-get_or, All-map}}, Option.get_or_from_slice_get}
 use Rattle.std.{proofs.lemmas.Option.{slice_get_within, unwrap_or-slice_get}, specs.Prelude.{All, IsTrue, slice_get, slice_index_or, if◌then◌else◌}}
 use Rattle.{event_log.specs.declared.ids.CpuId.CpuId, guest.specs.{declared.instructions.Instruction.{Instruction, TheVariants.Exit}, Instructions.names_below}}
-use Rattle.{boot.specs.Plan.{IsPlan, IsTask, BootPlan, Task, home_of as plan_home, program_of}, layer_traits.specs.Threads.OnePlace.cpu_at}
+use Rattle.{boot.specs.Plan.{IsPlan, IsTask, BootPlan, Task, plan_home_of, plan_program_of}, layer_traits.specs.Threads.OnePlace.cpu_at}
 use Rattle.{layer_traits.specs.Views.Openings.AreOpenable, cpu.specs.{declared.guests.Guest.Guest, Guests.new_guest, Boots.{AreGuests, AreTables, guest_for}}}
 use Rattle.cpu.{specs.{Boots.{guests_for, homes_for, tables_for}, Claims.listed, Cpus.{NamesBelow, guest_at}}, proofs.ListFacts.GuestLists.guest_within}
 use Rattle.cpu.proofs.ListFacts.ListReads.{listed_length, listed_there, shown_at, shows_at, there_is}
@@ -88,12 +88,12 @@ one_each z (x ∷ xs) n count = ap (λ l. z ∷ l) (one_each z xs (length xs) re
 
 -- One thread more.
 
-pub homes_more : (plan : BootPlan) (t : ℕ) (h : CpuId) (xs : List CpuId) → t < length plan.tasks → h.0 ≡ plan_home plan t → xs ≡ take t (homes_for plan)
+pub homes_more : (plan : BootPlan) (t : ℕ) (h : CpuId) (xs : List CpuId) → t < length plan.tasks → h.0 ≡ plan_home_of plan t → xs ≡ take t (homes_for plan)
     → xs ++ h ∷ [] ≡ take (t + 1) (homes_for plan)
 homes_more plan t h xs within is before =
     let count = length-map plan.tasks (λ (task : Task). cpu_at task.home) in
     let there = there_is plan.tasks t within in
-    let home : plan_home plan t ≡ there.0.home =
+    let home : plan_home_of plan t ≡ there.0.home =
     get_or_from_slice_get (map (λ (task : Task). task.home) plan.tasks) t there.0.home 0 (shows_at (λ (task : Task). task.home) plan.tasks t there.0 there.1) in
     let shown = get_or_from_slice_get (homes_for plan) t (cpu_at there.0.home) h (shows_at (λ (task : Task). cpu_at task.home) plan.tasks t there.0 there.1) in
     let same : h ≡ slice_index_or (homes_for plan) t h = ap (λ (k : ℕ). cpu_at k) (is ∙ home) ∙ sym shown in
@@ -101,11 +101,11 @@ homes_more plan t h xs within is before =
 
 -- What a CPU has at the number of a thread.
 
-guest_there : (plan : BootPlan) (c t : ℕ) → t < length plan.tasks → (b : Bool) → (plan_home plan t == c) ≡ b
-    → slice_index_or (guests_for plan c) t None ≡ (if b then Some (new_guest (program_of plan t)) else None)
+guest_there : (plan : BootPlan) (c t : ℕ) → t < length plan.tasks → (b : Bool) → (plan_home_of plan t == c) ≡ b
+    → slice_index_or (guests_for plan c) t None ≡ (if b then Some (new_guest (plan_program_of plan t)) else None)
 guest_there plan c t within b is =
     let there = there_is plan.tasks t within in
-    let home : plan_home plan t ≡ there.0.home =
+    let home : plan_home_of plan t ≡ there.0.home =
     get_or_from_slice_get (map (λ (task : Task). task.home) plan.tasks) t there.0.home 0 (shows_at (λ (task : Task). task.home) plan.tasks t there.0 there.1) in
     let program = get_or_from_slice_get (map (λ (task : Task). task.program) plan.tasks) t there.0.program []
     (shows_at (λ (task : Task). task.program) plan.tasks t there.0 there.1) in
@@ -114,12 +114,12 @@ guest_there plan c t within b is =
     ∙ ap (λ (d : Bool). if d then Some (new_guest there.0.program) else None) same
     ∙ ap (λ (p : List Instruction). if b then Some (new_guest p) else None) (sym program)
 
-pub guest_home : (plan : BootPlan) (c t : ℕ) → t < length plan.tasks → plan_home plan t ≡ c
-    → Some (new_guest (program_of plan t)) ≡ slice_index_or (guests_for plan c) t None
-guest_home plan c t within home = sym (guest_there plan c t within true (eq-eqb (plan_home plan t) c home))
+pub guest_home : (plan : BootPlan) (c t : ℕ) → t < length plan.tasks → plan_home_of plan t ≡ c
+    → Some (new_guest (plan_program_of plan t)) ≡ slice_index_or (guests_for plan c) t None
+guest_home plan c t within home = sym (guest_there plan c t within true (eq-eqb (plan_home_of plan t) c home))
 
-pub guest_away : (plan : BootPlan) (c t : ℕ) → t < length plan.tasks → plan_home plan t ≢ c → None ≡ slice_index_or (guests_for plan c) t None
-guest_away plan c t within other = sym (guest_there plan c t within false (ne_eqb (plan_home plan t) c other))
+pub guest_away : (plan : BootPlan) (c t : ℕ) → t < length plan.tasks → plan_home_of plan t ≢ c → None ≡ slice_index_or (guests_for plan c) t None
+guest_away plan c t within other = sym (guest_there plan c t within false (ne_eqb (plan_home_of plan t) c other))
 
 -- a table more
 pub tables_more : {X : Type 0} (f : ℕ → List (Option Guest)) (items : X → List (Option Guest)) (xs : List X) (x : X) (n : ℕ)

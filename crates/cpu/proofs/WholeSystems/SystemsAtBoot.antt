@@ -6,8 +6,8 @@ use Rattle.{event_log.{specs.declared.ids.{CpuId.CpuId, TheConstants.THREADS}, p
 use Rattle.layer_traits.{specs.{Layers.BufferLaw.{buffering_at_start, no_call}, Threads.{OnePlace.cpu_at, Places.homed}}, proofs.CountLemmas.same_cpu_sym}
 use Rattle.{boot.specs.Plan.{IsPlan, BootPlan, Task}, cpu.specs.{declared.guests.Guest.Guest, Guests.new_guest, Boots.{AreGuests, guests_for, homes_for}}}
 use Rattle.cpu.specs.{Boots.tables_for, Claims.{CpuShown, Shown}, Cpus.guest_at, Sound.{BootsByTable, IsReachedByTable, IsSetupFor, setup_for}}
-use Rattle.cpu.specs.Table.{Setups.{Private, Setup, home_threads_from, new_thread, program_or, at_boot}, Steps.{IsReached, Whole, boots, boots_from}}
-use Rattle.cpu.specs.{Table.Steps.cpu_numbered, Tables.{private, state_of, states}, Tower.Privates.{numbered, thread_from, thread_of, tid}}
+use Rattle.cpu.specs.Table.{Setups.{Private, Setup, home_threads_from, new_thread, program_or, boot_of}, Steps.{IsReached, Whole, boots, boots_from}}
+use Rattle.cpu.specs.{Table.Steps.cpu_numbered, Tables.{private, guest_state_of, guest_states}, Tower.Privates.{threads_numbered, thread_from, thread_of, tid}}
 use Rattle.cpu.proofs.{ListFacts.ListReads.{listed_length, listed_there, shown_at, shows_at}, WholeSystems.PlanGuests.by_task, Tower.KeptByPasses.no_buffer}
 
 -- One CPU.
@@ -25,7 +25,7 @@ thread_new homes c n guest is =
 
 threads_new : (own : List CpuId) (c : CpuId) (n : ℕ) (guests : List State) (homes : List CpuId) → length guests ≡ length homes
     → ((k : ℕ) → slice_index_or guests k at_start ≡ at_start)
-    → numbered (λ k. thread_of (buffering_at_start own c) (tid k)) n guests ≡ map (λ home. new_thread) homes
+    → threads_numbered (λ k. thread_of (buffering_at_start own c) (tid k)) n guests ≡ map (λ home. new_thread) homes
 threads_new own c n [] [] count new = refl
 threads_new own c n (guest ∷ guests) (home ∷ homes) count new =
     let more = threads_new own c (n + 1) guests homes (omega (arith, count)) (λ k. new (suc k)) in
@@ -33,7 +33,7 @@ threads_new own c n (guest ∷ guests) (home ∷ homes) count new =
 threads_new own c n guests homes count new = absurd (omega (arith, count))
 
 states_new : (guests : List (Option Guest)) → ((k : ℕ) (g : Guest) → guest_at guests k ≡ Some g → g ≡ new_guest g.program) → (k : ℕ)
-    → slice_index_or (states guests) k at_start ≡ at_start
+    → slice_index_or (guest_states guests) k at_start ≡ at_start
 states_new (Some g ∷ guests) new zero = ap (λ (x : Guest). x.thread) (new 0 g refl)
 states_new (guest ∷ guests) new (suc k) = states_new guests (λ j g at. new (suc j) g at) k
 states_new guests new k = refl
@@ -41,24 +41,24 @@ states_new guests new k = refl
 -- a CPU at boot is the table's
 pub private_boots : (setup : Setup) (homes : List CpuId) (buffers : ℕ) (c : CpuId) (guests : List (Option Guest)) → setup.homes ≡ homes
     → AreGuests homes buffers c guests
-    → private (buffering_at_start homes c) guests [] ≡ at_boot setup c
+    → private (buffering_at_start homes c) guests [] ≡ boot_of setup c
 private_boots setup homes buffers c guests same are =
     let ready = homed_is c 0 homes ∙ ap (λ (h : List CpuId). home_threads_from c h 0) (sym same) in
-    let count : length (states guests) ≡ length homes = length-map guests state_of ∙ are.size in
-    let threads = threads_new homes c 0 (states guests) homes count (states_new guests (λ k g at. are.fresh (tid k) g at))
+    let count : length (guest_states guests) ≡ length homes = length-map guests guest_state_of ∙ are.size in
+    let threads = threads_new homes c 0 (guest_states guests) homes count (states_new guests (λ k g at. are.fresh (tid k) g at))
     ∙ ap (λ (h : List CpuId). map (λ home. new_thread) h) (sym same) in
     λ i. record { current = None; ready = ready i; hand = None; threads = threads i; trace = [] }
 
 -- All CPUs.
 
-boots_each : (setup : Setup) (n : ℕ) (ps : List Private) → ((k : ℕ) (p : Private) → slice_get ps k ≡ Some p → p ≡ at_boot setup (cpu_numbered (n + k)))
+boots_each : (setup : Setup) (n : ℕ) (ps : List Private) → ((k : ℕ) (p : Private) → slice_get ps k ≡ Some p → p ≡ boot_of setup (cpu_numbered (n + k)))
     → ps ≡ boots_from setup n (length ps)
 boots_each setup n [] each = refl
 boots_each setup n (p ∷ ps) each =
     let same : n + 0 ≡ n = omega arith in
-    let first : p ≡ at_boot setup (cpu_numbered n) = each 0 p refl ∙ ap (λ (k : ℕ). at_boot setup (cpu_numbered k)) same in
+    let first : p ≡ boot_of setup (cpu_numbered n) = each 0 p refl ∙ ap (λ (k : ℕ). boot_of setup (cpu_numbered k)) same in
     let more = boots_each setup (n + 1) ps (λ k q at.
-    let next : n + suc k ≡ (n + 1) + k = omega arith in each (suc k) q at ∙ ap (λ (j : ℕ). at_boot setup (cpu_numbered j)) next) in
+    let next : n + suc k ≡ (n + 1) + k = omega arith in each (suc k) q at ∙ ap (λ (j : ℕ). boot_of setup (cpu_numbered j)) next) in
     λ i. first i ∷ more i
 
 -- a CPU has these guests, and its part of the layer and its trace are as at boot
@@ -71,12 +71,12 @@ pub record IsNew (homes : List CpuId) (k : ℕ) (p : CpuShown) : Type 0 where
 pub starts_by_table : (s : Shown) → s.log ≡ [] → s.taken ≡ 0 → ((k : ℕ) (p : CpuShown) → slice_get s.cpus k ≡ Some p → IsNew s.homes k p) → BootsByTable s
 starts_by_table s nothing none new setup is =
     let count : length (map (λ p. p.private) s.cpus) ≡ setup.cpus = length-map s.cpus (λ p. p.private) ∙ sym is.count in
-    let cpus = boots_each setup 0 (map (λ p. p.private) s.cpus) (shown_at (λ (p : CpuShown). p.private) (λ k q. q ≡ at_boot setup (cpu_numbered (0 + k))) s.cpus
+    let cpus = boots_each setup 0 (map (λ p. p.private) s.cpus) (shown_at (λ (p : CpuShown). p.private) (λ k q. q ≡ boot_of setup (cpu_numbered (0 + k))) s.cpus
     (λ k p at.
     let one = new k p at in
     let same : k ≡ 0 + k = omega arith in
     one.private_is ∙ private_boots setup s.homes one.buffers (cpu_at k) p.guests (is.goes.each k p at).homes_are one.guests
-    ∙ ap (λ (j : ℕ). at_boot setup (cpu_numbered j)) same)) in
+    ∙ ap (λ (j : ℕ). boot_of setup (cpu_numbered j)) same)) in
     let all = cpus ∙ ap (λ (n : ℕ). boots_from setup 0 n) count in
     λ i. record { cpus = all i; log = nothing i; room = s.room; taken = none i }
 

@@ -44,16 +44,16 @@ pub data Name : Type 0 where
   TakeAll : Name
 
 -- the side of the buffer on which a call stands, by what it asks; a close, which stands in no line, signals as a send does
-abbrev pub side_of : Group → Side
-side_of Sends = Senders
-side_of Receives = Receivers
-side_of Closes = Senders
+abbrev pub side_of_group : Group → Side
+side_of_group Sends = Senders
+side_of_group Receives = Receivers
+side_of_group Closes = Senders
 
 -- the kind of the entry that a call writes, where it found its buffer closed or not
-abbrev pub effect_of : Group → Bool → Kind
-effect_of Sends closed = if closed then SendClosed else SendKind
-effect_of Receives closed = if closed then RecvClosed else RecvKind
-effect_of Closes closed = CloseKind
+abbrev pub kind_for : Group → Bool → Kind
+kind_for Sends closed = if closed then SendClosed else SendKind
+kind_for Receives closed = if closed then RecvClosed else RecvKind
+kind_for Closes closed = CloseKind
 
 -- what a section tells its caller: nothing, its position in a line, its effect's number and message, its effect's number where it found
 -- the buffer closed, the number and the position of the close that it was, that it has to wait, or who was pending

@@ -7,8 +7,8 @@ use Rattle.layer_traits.specs.declared.call_states.Stage.{Stage, TheVariants.{Id
 use Rattle.{layer_traits.specs.declared.call_states.Stage.TheVariants.Releases, guest.specs.declared.instructions.Instruction.{Instruction, TheVariants.Set}}
 use Rattle.guest.specs.{declared.instructions.Instruction.TheVariants.{Add, Sub, Jnz, Send, Recv, Close, Yield as YieldLine, Exit}, State.{State, message_from}}
 use Rattle.{guest.specs.State.{after_local, after_send, after_recv, after_close, after_closed, after_yield}, cpu.specs.Table.Blocks.{Name, AcqQ, Enter, TryPut}}
-use Rattle.cpu.specs.Table.Blocks.{TryTake, Shut, WaitOn, SigRecv, SigSend, RelQ, Pend, TakeAll, side_of, effect_of, Reported, Position, Done, WasClosed}
-use Rattle.cpu.specs.Table.{Blocks.{DidShut, NotYet, Drained, Answer}, Setups.{Setup, Call, Private, thread_at, with_thread, home_of, stands_at, home_threads}}
+use Rattle.cpu.specs.Table.Blocks.{TryTake, Shut, WaitOn, SigRecv, SigSend, RelQ, Pend, TakeAll, side_of_group, kind_for, Reported, Position, Done, WasClosed}
+use Rattle.cpu.specs.Table.{Blocks.{DidShut, NotYet, Drained, Answer}, Setups.{Setup, Call, Private, thread_at, with_thread, home_cpu, stands_at, home_threads}}
 use Rattle.cpu.specs.Table.Setups.{open_calls, have_ended}
 
 -- The section that is asked.
@@ -25,9 +25,9 @@ abbrev pub at_buffer : BufId → Name → Ask
 at_buffer b name = record { lock = AtBuffer b; name = name }
 
 -- the try of a call, by its side
-abbrev pub try_of : Tid → Call → Side → Name
-try_of t call Senders = TryPut t call.message
-try_of t call Receivers = TryTake t
+abbrev pub try_due : Tid → Call → Side → Name
+try_due t call Senders = TryPut t call.message
+try_due t call Receivers = TryTake t
 
 -- after its effect a call signals the other side first, and then its own
 abbrev pub first_signal : Tid → Side → Name
@@ -45,21 +45,21 @@ first_section t Receives = Enter t Receivers
 first_section t Closes = Shut t
 
 -- the section of a call at each stage; at Idle none is due
-abbrev pub section_at : Tid → Call → Stage → Name
-section_at t call Acquires = AcqQ t
-section_at t call Enters = first_section t call.asks
-section_at t call Tries = try_of t call (side_of call.asks)
-section_at t call Waits = WaitOn t (side_of call.asks)
-section_at t call AcquiresAgain = AcqQ t
-section_at t call Signals = first_signal t (side_of call.asks)
-section_at t call SignalsOwn = second_signal t (side_of call.asks)
-section_at t call Releases = RelQ t
-section_at t call Idle = RelQ t
+abbrev pub section_due : Tid → Call → Stage → Name
+section_due t call Acquires = AcqQ t
+section_due t call Enters = first_section t call.asks
+section_due t call Tries = try_due t call (side_of_group call.asks)
+section_due t call Waits = WaitOn t (side_of_group call.asks)
+section_due t call AcquiresAgain = AcqQ t
+section_due t call Signals = first_signal t (side_of_group call.asks)
+section_due t call SignalsOwn = second_signal t (side_of_group call.asks)
+section_due t call Releases = RelQ t
+section_due t call Idle = RelQ t
 
 -- outside a call a section is the taking of all that are pending: by a yield, or by a CPU that has nobody to run
 abbrev pub asked_by : CpuId → Tid → Option Call → Ask
 asked_by c t None = at_pending c TakeAll
-asked_by c t (Some call) = at_buffer call.buffer (section_at t call call.stage)
+asked_by c t (Some call) = at_buffer call.buffer (section_due t call call.stage)
 
 abbrev pub asked_at : CpuId → Private → Option Tid → Ask
 asked_at c p None = at_pending c TakeAll
@@ -68,7 +68,7 @@ asked_at c p (Some t) = asked_by c t (thread_at p t).call
 -- while there is a thread in the hand, it is put among the pending threads of its home first
 abbrev pub asked_in : Setup → CpuId → Private → Option Tid → Ask
 asked_in setup c p None = asked_at c p p.current
-asked_in setup c p (Some s) = at_pending (home_of setup s) (Pend s)
+asked_in setup c p (Some s) = at_pending (home_cpu setup s) (Pend s)
 
 -- the section that is asked of a CPU
 abbrev pub asked : Setup → CpuId → Private → Ask
@@ -89,12 +89,12 @@ new_call asks b m = record { asks = asks; buffer = b; message = m; position = 0;
 abbrev pub with_call : Private → Tid → Option Call → Private
 with_call p t call = with_thread p t (record (thread_at p t) { call = call })
 
-abbrev pub with_guest : Private → Tid → State → Private
-with_guest p t guest = with_thread p t (record (thread_at p t) { guest = guest })
+abbrev pub with_state : Private → Tid → State → Private
+with_state p t guest = with_thread p t (record (thread_at p t) { guest = guest })
 
 -- a call begins, unless the trace has room for no more entries than its CPU's calls under way will leave
-abbrev pub begins : Setup → CpuId → Private → Tid → Call → Choice
-begins setup c p t call =
+abbrev pub begin_or_halt : Setup → CpuId → Private → Tid → Call → Choice
+begin_or_halt setup c p t call =
     if (length p.trace + open_calls p (home_threads setup c)) == setup.trace_room
     then Halts TraceFull
     else Goes (with_call p t (Some call))
@@ -105,15 +105,15 @@ ends p t = record (with_thread p t (record (thread_at p t) { ended = true })) { 
 
 -- the current thread stands at an instruction
 abbrev pub at_instruction : Setup → CpuId → Private → Tid → Instruction → Choice
-at_instruction setup c p t (Send b from k) = begins setup c p t (new_call Sends b (message_from (thread_at p t).guest from))
-at_instruction setup c p t (Recv b into k) = begins setup c p t (new_call Receives b no_message)
-at_instruction setup c p t (Close b) = begins setup c p t (new_call Closes b no_message)
+at_instruction setup c p t (Send b from k) = begin_or_halt setup c p t (new_call Sends b (message_from (thread_at p t).guest from))
+at_instruction setup c p t (Recv b into k) = begin_or_halt setup c p t (new_call Receives b no_message)
+at_instruction setup c p t (Close b) = begin_or_halt setup c p t (new_call Closes b no_message)
 at_instruction setup c p t YieldLine = Goes p
 at_instruction setup c p t Exit = Alone (ends p t)
-at_instruction setup c p t (Set r n) = Alone (with_guest p t (after_local (Set r n) (thread_at p t).guest))
-at_instruction setup c p t (Add r q) = Alone (with_guest p t (after_local (Add r q) (thread_at p t).guest))
-at_instruction setup c p t (Sub r q) = Alone (with_guest p t (after_local (Sub r q) (thread_at p t).guest))
-at_instruction setup c p t (Jnz r k) = Alone (with_guest p t (after_local (Jnz r k) (thread_at p t).guest))
+at_instruction setup c p t (Set r n) = Alone (with_state p t (after_local (Set r n) (thread_at p t).guest))
+at_instruction setup c p t (Add r q) = Alone (with_state p t (after_local (Add r q) (thread_at p t).guest))
+at_instruction setup c p t (Sub r q) = Alone (with_state p t (after_local (Sub r q) (thread_at p t).guest))
+at_instruction setup c p t (Jnz r k) = Alone (with_state p t (after_local (Jnz r k) (thread_at p t).guest))
 
 -- the current thread goes on with its call, or with its instruction
 abbrev pub at_call : Setup → CpuId → Private → Tid → Option Call → Choice
@@ -141,8 +141,8 @@ choice setup c p = at_hand setup c p p.hand
 -- What an answer makes of the private state.
 
 -- the entry of an effect
-abbrev pub entry_of : CpuId → Tid → Call → ℕ → Message → Entry
-entry_of c t call op m = record { cpu = c; thread = t; kind = effect_of call.asks call.closed; buffer = call.buffer; value = m; op = op; pos = call.position }
+abbrev pub entry_made : CpuId → Tid → Call → ℕ → Message → Entry
+entry_made c t call op m = record { cpu = c; thread = t; kind = kind_for call.asks call.closed; buffer = call.buffer; value = m; op = op; pos = call.position }
 
 -- the call goes on to this stage
 abbrev pub goes_to : Private → Tid → Call → Stage → Private
@@ -151,7 +151,7 @@ goes_to p t call stage = with_call p t (Some (record call { stage = stage }))
 -- the call has its effect, and its entry is written
 abbrev pub effected : CpuId → Private → Tid → Call → ℕ → Private
 effected c p t call op =
-    record (with_call p t (Some (record call { effect = Some op; stage = Signals }))) { trace = p.trace ++ entry_of c t call op call.message ∷ [] }
+    record (with_call p t (Some (record call { effect = Some op; stage = Signals }))) { trace = p.trace ++ entry_made c t call op call.message ∷ [] }
 
 -- the position that the call drew
 abbrev pub recorded_position : Private → Tid → Call → Reported → Private
@@ -177,16 +177,16 @@ recorded_try c p t call NotYet = goes_to p t call Waits
 recorded_try c p t call _ = p
 
 -- what the section of a stage told
-abbrev pub recorded : CpuId → Private → Tid → Call → Stage → Reported → Private
-recorded c p t call Acquires told = goes_to p t call Enters
-recorded c p t call Enters told = recorded_entry c p t call call.asks told
-recorded c p t call Tries told = recorded_try c p t call told
-recorded c p t call Waits told = goes_to p t call AcquiresAgain
-recorded c p t call AcquiresAgain told = goes_to p t call Tries
-recorded c p t call Signals told = goes_to p t call SignalsOwn
-recorded c p t call SignalsOwn told = goes_to p t call Releases
-recorded c p t call Releases told = goes_to p t call Idle
-recorded c p t call Idle told = p
+abbrev pub with_told : CpuId → Private → Tid → Call → Stage → Reported → Private
+with_told c p t call Acquires told = goes_to p t call Enters
+with_told c p t call Enters told = recorded_entry c p t call call.asks told
+with_told c p t call Tries told = recorded_try c p t call told
+with_told c p t call Waits told = goes_to p t call AcquiresAgain
+with_told c p t call AcquiresAgain told = goes_to p t call Tries
+with_told c p t call Signals told = goes_to p t call SignalsOwn
+with_told c p t call SignalsOwn told = goes_to p t call Releases
+with_told c p t call Releases told = goes_to p t call Idle
+with_told c p t call Idle told = p
 
 -- a caller that sleeps runs no longer
 abbrev pub slept_if : Bool → Private → Private
@@ -196,7 +196,7 @@ slept_if true p = record p { current = None }
 -- a woken thread is ready if it is at home here; else it is in the hand
 abbrev pub woken : Setup → CpuId → Option Tid → Private → Private
 woken setup c None p = p
-woken setup c (Some s) p = if same_cpu (home_of setup s) c then record p { ready = p.ready ++ s ∷ [] } else record p { hand = Some s }
+woken setup c (Some s) p = if same_cpu (home_cpu setup s) c then record p { ready = p.ready ++ s ∷ [] } else record p { hand = Some s }
 
 -- the thread's state once its call has returned, by what it asked
 abbrev pub guest_served : Group → Instruction → Message → State → State
@@ -236,12 +236,12 @@ drained _ = []
 
 -- after a section of a call
 abbrev pub after_call : Setup → CpuId → Private → Tid → Call → Answer → Private
-after_call setup c p t call a = settled setup (woken setup c a.woke (slept_if a.slept (recorded c p t call call.stage a.told)))
+after_call setup c p t call a = settled setup (woken setup c a.woke (slept_if a.slept (with_told c p t call call.stage a.told)))
 
 -- after a yield: those that were pending are ready, then the thread that yielded; nobody runs
 abbrev pub after_yielding : Setup → Private → Tid → Answer → Private
 after_yielding setup p t a =
-    record (with_guest p t (after_yield (stands_at setup p t) (thread_at p t).guest)) { current = None; ready = (p.ready ++ drained a.told) ++ t ∷ [] }
+    record (with_state p t (after_yield (stands_at setup p t) (thread_at p t).guest)) { current = None; ready = (p.ready ++ drained a.told) ++ t ∷ [] }
 
 -- after a drain: those that were pending are ready
 abbrev pub after_drain : Private → Answer → Private

@@ -20,27 +20,27 @@ on_side Receivers receivers senders = receivers
 on_side Senders receivers senders = senders
 
 -- the line of a side, and those who wait on it
-abbrev pub line_of : Side → Buffer → List Tid
-line_of side k = on_side side k.receive_line k.send_line
+abbrev pub line_on : Side → Buffer → List Tid
+line_on side k = on_side side k.receive_line k.send_line
 
 abbrev pub waiting_of : Side → Buffer → List Tid
 waiting_of side k = on_side side k.waiting_receivers k.waiting_senders
 
 -- the first of a side's line has something to do: where the buffer is closed, to answer that
-abbrev pub may_go : Side → Buffer → Bool
-may_go side k = k.closed || on_side side (has_items k) (has_room k)
+abbrev pub front_may_go : Side → Buffer → Bool
+front_may_go side k = k.closed || on_side side (has_items k) (has_room k)
 
 -- whether a try of this thread has its effect: it is first in its line and has something to do
 abbrev pub may_try : Side → Tid → Buffer → Bool
-may_try side t k = is_first t (line_of side k) && may_go side k
+may_try side t k = is_first t (line_on side k) && front_may_go side k
 
 -- the first of a line waits and has something to do: whoever signals its side wakes it
 abbrev pub is_due : Side → Buffer → Bool
-is_due side k = front_stands_in (line_of side k) (waiting_of side k) && may_go side k
+is_due side k = front_stands_in (line_on side k) (waiting_of side k) && front_may_go side k
 
 -- whom a signal wakes
 abbrev pub due_on : Side → Buffer → Option Tid
-due_on side k = if is_due side k then front (line_of side k) else None
+due_on side k = if is_due side k then front (line_on side k) else None
 
 -- the list without this thread, if there is one
 abbrev pub without_any : Option Tid → List Tid → List Tid
@@ -53,9 +53,9 @@ acquired t None k = record k { busy = Some t }
 acquired t (Some owner) k = record k { sleepers = joined t k.sleepers }
 
 -- t stands at the end of a line, and its position is drawn
-abbrev pub entered : Tid → Side → Buffer → Buffer
-entered t Senders k = record k { send_line = k.send_line ++ t ∷ []; send_positions = counted k.send_positions }
-entered t Receivers k = record k { receive_line = k.receive_line ++ t ∷ []; receive_positions = counted k.receive_positions }
+abbrev pub lined_up : Tid → Side → Buffer → Buffer
+lined_up t Senders k = record k { send_line = k.send_line ++ t ∷ []; send_positions = counted k.send_positions }
+lined_up t Receivers k = record k { receive_line = k.receive_line ++ t ∷ []; receive_positions = counted k.receive_positions }
 
 -- the position that is drawn next in a line
 abbrev pub drawn_position : Side → Buffer → ℕ
@@ -70,8 +70,8 @@ abbrev pub taken : Buffer → Buffer
 taken k = record k { items = other_items k.items; receive_line = behind k.receive_line; effects = counted k.effects }
 
 -- the buffer is closed; its items stay
-abbrev pub shut : Buffer → Buffer
-shut k = record k { closed = true; effects = counted k.effects; closes = counted k.closes }
+abbrev pub shut_off : Buffer → Buffer
+shut_off k = record k { closed = true; effects = counted k.effects; closes = counted k.closes }
 
 -- t waits among those of its side
 abbrev pub waiting : Tid → Side → Buffer → Buffer
@@ -79,9 +79,9 @@ waiting t Senders k = record k { waiting_senders = joined t k.waiting_senders }
 waiting t Receivers k = record k { waiting_receivers = joined t k.waiting_receivers }
 
 -- whom a signal to a side woke waits no longer
-abbrev pub signalled : Side → Buffer → Buffer
-signalled Senders k = record k { waiting_senders = without_any (due_on Senders k) k.waiting_senders }
-signalled Receivers k = record k { waiting_receivers = without_any (due_on Receivers k) k.waiting_receivers }
+abbrev pub signal_sent : Side → Buffer → Buffer
+signal_sent Senders k = record k { waiting_senders = without_any (due_on Senders k) k.waiting_senders }
+signal_sent Receivers k = record k { waiting_receivers = without_any (due_on Receivers k) k.waiting_receivers }
 
 -- the lock passes to its first sleeper, or nobody owns it
 abbrev pub released : Buffer → Buffer
@@ -90,13 +90,13 @@ released k = record k { busy = front k.sleepers; sleepers = behind k.sleepers }
 -- what a section makes of a buffer
 abbrev pub edited_buffer : Name → Buffer → Buffer
 edited_buffer (AcqQ t) k = acquired t k.busy k
-edited_buffer (Enter t side) k = if may_join t (line_of side k) then entered t side k else k
+edited_buffer (Enter t side) k = if may_join t (line_on side k) then lined_up t side k else k
 edited_buffer (TryPut t m) k = if may_try Senders t k then put m k else k
 edited_buffer (TryTake t) k = if may_try Receivers t k then taken k else k
-edited_buffer (Shut t) k = shut k
+edited_buffer (Shut t) k = shut_off k
 edited_buffer (WaitOn t side) k = released (waiting t side k)
-edited_buffer (SigRecv t) k = signalled Receivers k
-edited_buffer (SigSend t) k = signalled Senders k
+edited_buffer (SigRecv t) k = signal_sent Receivers k
+edited_buffer (SigSend t) k = signal_sent Senders k
 edited_buffer (RelQ t) k = released k
 edited_buffer (Pend s) k = k
 edited_buffer TakeAll k = k
@@ -162,5 +162,5 @@ answer name (OfBuffer k) = answer_of_buffer name k
 answer name (OfPending threads) = answer_of_pending name threads
 
 -- the edits and the answers of the sections
-abbrev pub kernel : Table Name Block Answer
-kernel = record { edited = edited; answer = answer }
+abbrev pub table_kernel : Table Name Block Answer
+table_kernel = record { edited = edited; answer = answer }

@@ -53,8 +53,8 @@ abbrev pub with_thread : Private → Tid → Thread → Private
 with_thread p t x = record p { threads = slice_set p.threads t.0 x }
 
 -- the CPU on which a thread runs
-abbrev pub home_of : Setup → Tid → CpuId
-home_of setup t = or_else (record { 0 = 0 }) (slice_get setup.homes t.0)
+abbrev pub home_cpu : Setup → Tid → CpuId
+home_cpu setup t = or_else (record { 0 = 0 }) (slice_get setup.homes t.0)
 
 abbrev pub program_or : Option (List Instruction) → List Instruction
 program_or None = []
@@ -79,12 +79,12 @@ abbrev pub home_threads : Setup → CpuId → List Tid
 home_threads setup c = home_threads_from c setup.homes 0
 
 -- a CPU at boot: its home threads are ready, and nothing has happened
-abbrev pub at_boot : Setup → CpuId → Private
-at_boot setup c = record { current = None; ready = home_threads setup c; hand = None; threads = map (λ home. new_thread) setup.homes; trace = [] }
+abbrev pub boot_of : Setup → CpuId → Private
+boot_of setup c = record { current = None; ready = home_threads setup c; hand = None; threads = map (λ home. new_thread) setup.homes; trace = [] }
 
 -- a buffer at boot
-abbrev pub empty_buffer : ℕ → Buffer
-empty_buffer capacity = record {
+abbrev pub buffer_at_boot : ℕ → Buffer
+buffer_at_boot capacity = record {
   busy = None;
   sleepers = [];
   waiting_receivers = [];
@@ -102,7 +102,7 @@ empty_buffer capacity = record {
 
 abbrev pub opening_buffer : Option ℕ → Option Block
 opening_buffer None = None
-opening_buffer (Some capacity) = Some (OfBuffer (empty_buffer capacity))
+opening_buffer (Some capacity) = Some (OfBuffer (buffer_at_boot capacity))
 
 -- the opening block of each lock
 abbrev pub opening : Setup → LockId → Option Block

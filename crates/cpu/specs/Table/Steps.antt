@@ -2,8 +2,8 @@
 use Rattle.std.specs.Prelude.{ℕ, ◌+◌, ◌<◌, zero, suc, Bool, true, false, ◌==◌, List, [], ◌∷◌, ◌++◌, Option, Some, None, slice_get, slice_set}
 use Rattle.event_log.specs.{declared.ids.{CpuId.CpuId, LockId.LockId}, Actions.{Action, phase, next_action}, Sections.{block_after, sections_in}}
 use Rattle.layer_traits.specs.{declared.steps.{Reason.{Reason, TheVariants.StepsUsed}, Step.{Step, TheVariants.{Stepped, Halted}}}, Polling.Plans.reply}
-use Rattle.{layer_traits.specs.Polling.{Plans.is_in_section, Along.{Outcome, Along}}, cpu.specs.Table.{Blocks.{Block, Name, Answer}, Edits.kernel}}
-use Rattle.cpu.specs.Table.{Setups.{Setup, Private, at_boot, opening}, Choice.{asked, Choice, Halts, Alone, Goes, choice, after_section}}
+use Rattle.{layer_traits.specs.Polling.{Plans.is_in_section, Along.{Outcome, Along}}, cpu.specs.Table.{Blocks.{Block, Name, Answer}, Edits.table_kernel}}
+use Rattle.cpu.specs.Table.{Setups.{Setup, Private, boot_of, opening}, Choice.{asked, Choice, Halts, Alone, Goes, choice, after_section}}
 
 -- A CPU's step.
 
@@ -15,7 +15,7 @@ after_reply setup c p (Some a) = after_section setup c p a
 -- the next action of the section at this lock
 abbrev pub acting_on : Setup → CpuId → Private → LockId → Name → List (Action Name) → Outcome Private Name
 acting_on setup c p lock name past = record {
-  next = after_reply setup c p (reply kernel (opening setup) c lock name past);
+  next = after_reply setup c p (reply table_kernel (opening setup) c lock name past);
   acts = next_action c lock name past ∷ [];
   answer = Stepped;
 }
@@ -24,15 +24,15 @@ abbrev pub acting : Setup → CpuId → Private → List (Action Name) → Outco
 acting setup c p past = acting_on setup c p (asked setup c p).lock (asked setup c p).name past
 
 -- the step that was chosen
-abbrev pub chosen : Setup → CpuId → Private → Choice → List (Action Name) → Outcome Private Name
-chosen setup c p (Halts reason) past = record { next = p; acts = []; answer = Halted reason }
-chosen setup c p (Alone q) past = record { next = q; acts = []; answer = Stepped }
-chosen setup c p (Goes q) past = acting setup c q past
+abbrev pub chosen_step : Setup → CpuId → Private → Choice → List (Action Name) → Outcome Private Name
+chosen_step setup c p (Halts reason) past = record { next = p; acts = []; answer = Halted reason }
+chosen_step setup c p (Alone q) past = record { next = q; acts = []; answer = Stepped }
+chosen_step setup c p (Goes q) past = acting setup c q past
 
 -- a section that is under way goes on
 abbrev pub step_in : Setup → CpuId → Private → List (Action Name) → Bool → Outcome Private Name
 step_in setup c p past true = acting setup c p past
-step_in setup c p past false = chosen setup c p (choice setup c p) past
+step_in setup c p past false = chosen_step setup c p (choice setup c p) past
 
 -- one step of a CPU, after these actions of all CPUs, newest first
 abbrev pub cpu_step : Setup → CpuId → Private → List (Action Name) → Outcome Private Name
@@ -49,7 +49,7 @@ halted_at setup c p = halted_by (choice setup c p)
 
 -- the block of a lock after these actions
 abbrev pub block_at : Setup → LockId → List (Action Name) → Option Block
-block_at setup lock log = block_after kernel.edited (opening setup) lock (sections_in log)
+block_at setup lock log = block_after table_kernel.edited (opening setup) lock (sections_in log)
 
 -- A system's step.
 
@@ -66,7 +66,7 @@ cpu_numbered n = record { 0 = n }
 -- so many CPUs at boot, numbered from n on
 abbrev pub boots_from : Setup → ℕ → ℕ → List Private
 boots_from setup n zero = []
-boots_from setup n (suc k) = at_boot setup (cpu_numbered n) ∷ boots_from setup (n + 1) k
+boots_from setup n (suc k) = boot_of setup (cpu_numbered n) ∷ boots_from setup (n + 1) k
 
 -- a system at boot
 abbrev pub whole_at_boot : Setup → ℕ → Whole
@@ -110,8 +110,8 @@ steps_by setup c (suc n) s = steps_by setup c n (system_step setup c s).next
 -- the states that a system reaches from boot, whichever CPU steps when
 pub data IsReached (setup : Setup) (room : ℕ) : Whole → Type 0 where
   boots : IsReached setup room (whole_at_boot setup room)
-  steps : {s : Whole} (c : CpuId) → IsReached setup room s → c.0 < setup.cpus → IsReached setup room (system_step setup c s).next
+  steps_once : {s : Whole} (c : CpuId) → IsReached setup room s → c.0 < setup.cpus → IsReached setup room (system_step setup c s).next
 
 -- the way of CPU c along a list of actions, by the table
 abbrev pub AlongTable : Setup → CpuId → ℕ → Private → List (Action Name) → Type 0
-AlongTable setup c n p log = Along (cpu_step setup c) c (at_boot setup c) n p log
+AlongTable setup c n p log = Along (cpu_step setup c) c (boot_of setup c) n p log

@@ -8,7 +8,7 @@ use Rattle.layer_traits.specs.{Layers.{QLockLaw.slept_for, BufferLaw.{Buffering,
 use Rattle.event_log.specs.declared.{entries.Entry.Entry, ids.{BufId.BufId, CpuId.CpuId, LockId.{LockId, TheVariants.{Pending, Buffer}}, Tid.Tid}}
 use Rattle.{event_log.specs.Actions.{Action, phase, renamed}, guest.specs.{declared.instructions.Instruction.Instruction, State.{State, next_of, message_from}}}
 use Rattle.cpu.specs.Table.{Blocks.Name, Setups.{Setup, Private, program_of, opening as table_opening}, Choice.{asked, after_section}, Steps.cpu_step}
-use Rattle.cpu.specs.{Table.Steps.halted_at, Tower.{Views.{TowerName, TowerOut, TowerAnswer, TowerBlock, tower, name_of, view, answer_view}, Privates.guest_at}}
+use Rattle.cpu.specs.{Table.Steps.halted_at, Tower.{Views.{TowerName, TowerOut, TowerAnswer, TowerBlock, tower, name_of, view, answer_view}, Privates.state_at}}
 use Rattle.cpu.specs.Tower.Privates.{private_after, private_of}
 use Rattle.guest.specs.declared.instructions.Instruction.TheVariants as instruction
 use Rattle.layer_traits.specs.declared.calls.Call.TheVariants as asks_for
@@ -17,26 +17,26 @@ use Rattle.layer_traits.specs.declared.locked.QOut.TheVariants as lock
 use Rattle.layer_traits.specs.declared.queue_edits.QueueBlock.TheVariants as block
 
 -- the outcome of a section that woke this thread
-abbrev pub outcome_of : QOut (CvOut BufferOut) → Tid → TowerOut
-outcome_of out u = record { out = out; slept = false; woke = Some u }
+abbrev pub woken_outcome : QOut (CvOut BufferOut) → Tid → TowerOut
+woken_outcome out u = record { out = out; slept = false; woke = Some u }
 
 -- how a begun call may stand: at each stage the hand, the kept answer, where its caller slept or waited, and its effect. While a woken
 -- thread is in the hand, the answer of the section that woke it is kept.
-pub data Stands : Stage → (hand : Option Tid) → (deferred : Option TowerOut) → (slept waits : Option BufId) → (effect : Option Effect) → Type 0 where
-  asks : Stands Acquires None None None None None
-  was_handed : (b : BufId) → Stands Acquires None None (Some b) None None
-  enters : Stands Enters None None None None None
-  tries : Stands Tries None None None None None
-  waits : Stands Waits None None None None None
-  was_woken : (b : BufId) → Stands Waits None None None (Some b) None
-  asks_again : Stands AcquiresAgain None None None None None
-  was_handed_again : (b : BufId) → Stands AcquiresAgain None None (Some b) None None
-  signals : (f : Effect) → Stands Signals None None None None (Some f)
-  signals_own : (f : Effect) → Stands SignalsOwn None None None None (Some f)
-  releases : (f : Effect) → Stands Releases None None None None (Some f)
-  has_signalled : (u : Tid) (v : CvOut BufferOut) (f : Effect) → Stands Signals (Some u) (Some (outcome_of (lock.Did v) u)) None None (Some f)
-  has_signalled_own : (u : Tid) (v : CvOut BufferOut) (f : Effect) → Stands SignalsOwn (Some u) (Some (outcome_of (lock.Did v) u)) None None (Some f)
-  has_released : (u : Tid) (f : Effect) → Stands Releases (Some u) (Some (outcome_of (lock.Released cv.Left) u)) None None (Some f)
+pub data CallStands : Stage → (hand : Option Tid) → (deferred : Option TowerOut) → (slept waits : Option BufId) → (effect : Option Effect) → Type 0 where
+  asks : CallStands Acquires None None None None None
+  was_handed : (b : BufId) → CallStands Acquires None None (Some b) None None
+  enters : CallStands Enters None None None None None
+  tries : CallStands Tries None None None None None
+  waits : CallStands Waits None None None None None
+  was_woken : (b : BufId) → CallStands Waits None None None (Some b) None
+  asks_anew : CallStands AcquiresAgain None None None None None
+  was_handed_again : (b : BufId) → CallStands AcquiresAgain None None (Some b) None None
+  signals : (f : Effect) → CallStands Signals None None None None (Some f)
+  signals_own : (f : Effect) → CallStands SignalsOwn None None None None (Some f)
+  releases : (f : Effect) → CallStands Releases None None None None (Some f)
+  has_signalled : (u : Tid) (v : CvOut BufferOut) (f : Effect) → CallStands Signals (Some u) (Some (woken_outcome (lock.Did v) u)) None None (Some f)
+  has_signalled_own : (u : Tid) (v : CvOut BufferOut) (f : Effect) → CallStands SignalsOwn (Some u) (Some (woken_outcome (lock.Did v) u)) None None (Some f)
+  has_released : (u : Tid) (f : Effect) → CallStands Releases (Some u) (Some (woken_outcome (lock.Released cv.Left) u)) None None (Some f)
 
 -- a call that stands in a line of its buffer until its effect: each but a close
 abbrev pub IsLined : Call → Type 0
@@ -59,7 +59,7 @@ FitsStage stage call = Unit {0}
 pub record IsGoing (own : Buffering) (guests : List State) (t : Tid) (call : Call) : Type 0 where
   pub current : (threads_in own).current ≡ Some t
   pub begun : (call_state_of own.call_states t).call ≡ Some call
-  pub stands : Stands (call_state_of own.call_states t).stage (threads_in own).hand own.cv.lock.sleep.deferred (slept_for own.cv.lock.slept t)
+  pub stands : CallStands (call_state_of own.call_states t).stage (threads_in own).hand own.cv.lock.sleep.deferred (slept_for own.cv.lock.slept t)
       (slept_for own.cv.waits t) (call_state_of own.call_states t).effect
   pub fits : FitsStage (call_state_of own.call_states t).stage (call_state_of own.call_states t).call
   pub in_guests : t.0 < length guests
@@ -126,19 +126,19 @@ pub record IsBeginning (setup : Setup) (own : Buffering) (guests : List State) (
   pub slept : slept_for own.cv.lock.slept t ≡ None
   pub waits : slept_for own.cv.waits t ≡ None
   pub at_idle : (call_state_of own.call_states t).stage ≡ Idle
-  pub at : AsksFor (next_of (program_of setup t) (guest_at guests t)) (guest_at guests t) call
+  pub at : AsksFor (next_of (program_of setup t) (state_at guests t)) (state_at guests t) call
   pub in_guests : t.0 < length guests
   pub in_call_states : t.0 < length own.call_states
   pub in_slept : t.0 < length own.cv.lock.slept
   pub in_waits : t.0 < length own.cv.waits
 
 -- what a step answers
-abbrev pub answer_of : (busy : Bool) → Option Reason → Step
-answer_of true reason = Stepped
-answer_of false None = Stepped
-answer_of false (Some reason) = Halted reason
+abbrev pub busy_step_answer : (busy : Bool) → Option Reason → Step
+busy_step_answer true reason = Stepped
+busy_step_answer false None = Stepped
+busy_step_answer false (Some reason) = Halted reason
 
 -- a step of the table answers that the CPU is halted exactly where it is and no section is under way
 abbrev pub HaltsExactly : Type 0
 HaltsExactly = (setup : Setup) (c : CpuId) (p : Private) (log : List (Action Name))
-    → (cpu_step setup c p log).answer ≡ answer_of (is_in_section (phase c log)) (halted_at setup c p)
+    → (cpu_step setup c p log).answer ≡ busy_step_answer (is_in_section (phase c log)) (halted_at setup c p)

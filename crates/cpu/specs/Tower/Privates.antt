@@ -27,11 +27,11 @@ deferred_stage Releases = Idle
 deferred_stage stage = stage
 
 -- the message of a call: that of its effect, once this has come
-abbrev pub message_of : TowerCall → Option Effect → Message
-message_of call (Some f) = f.value
-message_of (asks.Send b m) None = m
-message_of (asks.Recv b) None = no_message
-message_of (asks.Close b) None = no_message
+abbrev pub call_message : TowerCall → Option Effect → Message
+call_message call (Some f) = f.value
+call_message (asks.Send b m) None = m
+call_message (asks.Recv b) None = no_message
+call_message (asks.Close b) None = no_message
 
 -- its position: that of its effect, once this has come
 abbrev pub position_of : ℕ → Option Effect → ℕ
@@ -44,9 +44,9 @@ closed_by (asks.Send b m) kind.SendClosed = true
 closed_by (asks.Recv b) kind.RecvClosed = true
 closed_by call other = false
 
-abbrev pub was_closed : TowerCall → Option Effect → Bool
-was_closed call (Some f) = closed_by call f.kind
-was_closed call None = false
+abbrev pub call_was_closed : TowerCall → Option Effect → Bool
+call_was_closed call (Some f) = closed_by call f.kind
+call_was_closed call None = false
 
 abbrev pub op_of : Effect → ℕ
 op_of f = f.op
@@ -61,10 +61,10 @@ abbrev pub call_from : TowerCall → ℕ → Option Effect → Stage → Call
 call_from call position effect stage = record {
   asks = asks_in call;
   buffer = buffer_of call;
-  message = message_of call effect;
+  message = call_message call effect;
   position = position_of position effect;
   effect = option_map op_of effect;
-  closed = was_closed call effect;
+  closed = call_was_closed call effect;
   stage = stage;
 }
 
@@ -90,9 +90,9 @@ thread_of own u guest = thread_from (call_state_of own.call_states u) (slept_for
     (is_in u (threads_in own).ended) guest
 
 -- threads by number, from n on
-abbrev pub numbered : (ℕ → State → Thread) → ℕ → List State → List Thread
-numbered thread n [] = []
-numbered thread n (guest ∷ guests) = thread n guest ∷ numbered thread (n + 1) guests
+abbrev pub threads_numbered : (ℕ → State → Thread) → ℕ → List State → List Thread
+threads_numbered thread n [] = []
+threads_numbered thread n (guest ∷ guests) = thread n guest ∷ threads_numbered thread (n + 1) guests
 
 abbrev pub tid : ℕ → Tid
 tid n = record { 0 = n }
@@ -103,18 +103,18 @@ private_of own guests trace = record {
   current = (threads_in own).current;
   ready = (threads_in own).ready;
   hand = (threads_in own).hand;
-  threads = numbered (λ n. thread_of own (tid n)) 0 guests;
+  threads = threads_numbered (λ n. thread_of own (tid n)) 0 guests;
   trace = trace;
 }
 
-abbrev pub guest_at : List State → Tid → State
-guest_at guests t = slice_index_or guests t.0 at_start
+abbrev pub state_at : List State → Tid → State
+state_at guests t = slice_index_or guests t.0 at_start
 
 -- the guests after a poll of a call: its caller's moves on once the call replies
 abbrev pub guests_after : Setup → Tid → Option Reply → List State → List State
 guests_after setup t None guests = guests
 guests_after setup t (Some reply) guests =
-    slice_set guests t.0 (after_answer (Some reply) (next_of (program_of setup t) (guest_at guests t)) (guest_at guests t))
+    slice_set guests t.0 (after_answer (Some reply) (next_of (program_of setup t) (state_at guests t)) (state_at guests t))
 
 -- the trace after a poll: an effect writes its entry in the poll in which it comes
 abbrev pub trace_after : CpuId → Tid → BufId → (before after : Option Effect) → List Entry → List Entry
@@ -129,7 +129,7 @@ private_after setup c t call own guests trace left = private_of left.own (guests
 -- the guests after a poll of a pass: that of a thread which has yielded moves on
 abbrev pub guests_passed : Setup → Pass → Option Tid → Option (Unit {0}) → List State → List State
 guests_passed setup pass.YieldNow (Some t) (Some answer) guests =
-    slice_set guests t.0 (after_yield (next_of (program_of setup t) (guest_at guests t)) (guest_at guests t))
+    slice_set guests t.0 (after_yield (next_of (program_of setup t) (state_at guests t)) (state_at guests t))
 guests_passed setup other current answer guests = guests
 
 -- the private state after a poll of a pass

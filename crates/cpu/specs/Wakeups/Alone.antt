@@ -5,8 +5,8 @@ use Rattle.event_log.specs.declared.entries.{Kind.TheVariants.{Send as SendKind,
 use Rattle.event_log.specs.{Messages.Message, Runs.{Group, Sends, Receives, Closes, group_of}, Actions.{phase, Rests, AreFree}, History.same_cpu}
 use Rattle.{guest.specs.declared.instructions.Instruction.{Instruction, TheVariants.{Send, Recv, Close}}, layer_traits.specs.declared.locked.Side.Side}
 use Rattle.{layer_traits.specs.declared.locked.Side.TheVariants.{Receivers, Senders}, cpu.specs.Table.Blocks.{Buffer, OfBuffer, front, front_stands_in}}
-use Rattle.cpu.specs.Table.{Setups.{Call, Setup, Private, home_of, thread_at, stands_at}, Steps.{Whole, IsReached, block_at, halted_at, steps_by}}
-use Rattle.cpu.specs.{Table.Edits.{line_of, waiting_of}, Wakeups.{Lost.Allows, Quiet.AreFew}}
+use Rattle.cpu.specs.Table.{Setups.{Call, Setup, Private, home_cpu, thread_at, stands_at}, Steps.{Whole, IsReached, block_at, halted_at, steps_by}}
+use Rattle.cpu.specs.{Table.Edits.{line_on, waiting_of}, Wakeups.{Lost.Allows, Quiet.AreFew}}
 
 -- the instruction is a send, a receive, or a close, of this buffer
 abbrev pub IsCallOn : Group → BufId → Instruction → Type 0
@@ -59,12 +59,12 @@ pub record IsInCall (s : Whole) (c : CpuId) (t : Tid) : Type 0 where
 
 -- the first of a line, where it waits
 abbrev pub first_waiter : Side → Buffer → Option Tid
-first_waiter side k = if front_stands_in (line_of side k) (waiting_of side k) then front (line_of side k) else None
+first_waiter side k = if front_stands_in (line_on side k) (waiting_of side k) then front (line_on side k) else None
 
 -- whether the first of a line waits and is of another CPU
 abbrev pub is_away : Setup → CpuId → Option Tid → Bool
 is_away setup c None = false
-is_away setup c (Some u) = not (same_cpu (home_of setup u) c)
+is_away setup c (Some u) = not (same_cpu (home_cpu setup u) c)
 
 -- three steps more for a woken thread of another CPU, to put it among the pending there
 abbrev pub steps_to_move : Setup → CpuId → Option Tid → ℕ

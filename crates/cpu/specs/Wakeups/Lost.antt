@@ -3,7 +3,7 @@ use Rattle.std.specs.Prelude.{◌≡◌, ℕ, ◌≤◌, ◌<◌, true, List, []
 use Rattle.event_log.specs.{declared.{ids.{CpuId.CpuId, Tid.Tid, BufId.BufId, LockId.TheVariants.Buffer as AtBuffer}, entries.Kind.Kind}, Messages.Message}
 use Rattle.event_log.specs.{Buffers.IsAllowedEffect, Runs.{Sends, Receives, group_of}, History.own_events, Actions.{Action, cpu_of_action}, Sections.Section}
 use Rattle.{event_log.specs.Sections.sections_in, cpu.specs.Table.{Blocks.{Buffer, OfBuffer, Name, front, stands_in}, Setups.{Setup, Private}, Steps.Whole}}
-use Rattle.cpu.specs.{Table.{Steps.{IsReached, block_at, AlongTable}, Edits.{line_of, waiting_of, on_side}}, Wakeups.Order.{block_of, IsInOrder}}
+use Rattle.cpu.specs.{Table.{Steps.{IsReached, block_at, AlongTable}, Edits.{line_on, waiting_of, on_side}}, Wakeups.Order.{block_of, IsInOrder}}
 use Rattle.layer_traits.specs.declared.locked.Side.{Side}
 
 -- the buffer allows an effect of this kind with this message
@@ -13,7 +13,7 @@ Allows k e m = IsAllowedEffect e k.closed k.capacity k.items m
 -- while nobody owns the lock, the first of neither line waits although the buffer allows an effect of its call: one that serves it, or
 -- the answer that the buffer is closed
 pub record NoWakeUpIsLost (k : Buffer) : Type 0 where
-  pub on : (side : Side) → k.busy ≡ None → (t : Tid) (m : Message) → front (line_of side k) ≡ Some t → stands_in t (waiting_of side k) ≡ true
+  pub on : (side : Side) → k.busy ≡ None → (t : Tid) (m : Message) → front (line_on side k) ≡ Some t → stands_in t (waiting_of side k) ≡ true
       → (e : Kind) → group_of e ≡ on_side side Receives Sends → Allows k e m → ⊥
 
 -- after these actions no wake-up is lost
@@ -39,14 +39,14 @@ FreeLocksHaveNoSleepers = (setup : Setup) (room : ℕ) (s : Whole) → IsReached
     → (b : BufId) (k : Buffer) → block_at setup (AtBuffer b) s.log ≡ Some (OfBuffer k) → k.busy ≡ None → k.sleepers ≡ []
 
 -- a CPU has done its part of this list of actions by the table
-pub record Ran (setup : Setup) (c : CpuId) (log : List (Action Name)) : Type 0 where
+pub record RanItsPart (setup : Setup) (c : CpuId) (log : List (Action Name)) : Type 0 where
   pub count : ℕ
   pub last : Private
   pub steps : AlongTable setup c count last log
 
 -- each CPU has done its part of this list by the table, and nobody else has a part in it
 pub record IsWorked (setup : Setup) (log : List (Action Name)) : Type 0 where
-  pub ran : (c : CpuId) → c.0 < setup.cpus → Ran setup c log
+  pub ran : (c : CpuId) → c.0 < setup.cpus → RanItsPart setup c log
   pub rest : (c : CpuId) → setup.cpus ≤ c.0 → own_events cpu_of_action c log ≡ []
 
 -- CPUs that each work by the table on one list lose no wake-up

@@ -2,7 +2,7 @@
 use Rattle.std.specs.Prelude.{◌≡◌, ℕ, zero, suc, Bool, not, ◌&&◌, nat_lt, List, [], ◌++◌, length, Option, Some, None, slice_get}
 use Rattle.{event_log.specs.declared.ids.{Tid.Tid, LockId.TheVariants.{Pending, Buffer as AtBuffer}}, layer_traits.specs.Threads.Passes.as_list}
 use Rattle.{layer_traits.specs.Threads.Places.{one_if, count_in}, cpu.specs.Table.{Blocks.{Block, OfBuffer, OfPending}, Setups.{Setup, Thread, Private}}}
-use Rattle.cpu.specs.Table.{Setups.{new_thread, thread_at, home_of}, Steps.{Whole, IsReached, cpu_numbered, block_at}, Worked.buffer_numbered}
+use Rattle.cpu.specs.Table.{Setups.{new_thread, thread_at, home_cpu}, Steps.{Whole, IsReached, cpu_numbered, block_at}, Worked.buffer_numbered}
 use Rattle.cpu.specs.Wakeups.Quiet.{HomesExist}
 
 -- the threads that a CPU has: the current one, those that are ready, the one in its hand
@@ -21,8 +21,8 @@ abbrev pub all_of : (ℕ → List Tid) → ℕ → List Tid
 all_of f zero = []
 all_of f (suc n) = all_of f n ++ f n
 
-abbrev pub of_cpu : Whole → ℕ → List Tid
-of_cpu s n = own_queues (slice_get s.cpus n)
+abbrev pub threads_on_cpu : Whole → ℕ → List Tid
+threads_on_cpu s n = own_queues (slice_get s.cpus n)
 
 abbrev pub of_pending : Setup → Whole → ℕ → List Tid
 of_pending setup s n = queues_in (block_at setup (Pending (cpu_numbered n)) s.log)
@@ -32,18 +32,18 @@ of_buffer setup s n = queues_in (block_at setup (AtBuffer (buffer_numbered n)) s
 
 -- all queues of a system
 abbrev pub everyone : Setup → Whole → List Tid
-everyone setup s = all_of (of_cpu s) setup.cpus ++ (all_of (of_pending setup s) setup.cpus ++ all_of (of_buffer setup s) (length setup.caps))
+everyone setup s = all_of (threads_on_cpu s) setup.cpus ++ (all_of (of_pending setup s) setup.cpus ++ all_of (of_buffer setup s) (length setup.caps))
 
 abbrev pub thread_in : Option Private → Tid → Thread
 thread_in None t = new_thread
 thread_in (Some p) t = thread_at p t
 
 -- a thread of a system, and whether it has not ended
-abbrev pub thread_of : Setup → Whole → Tid → Thread
-thread_of setup s t = thread_in (slice_get s.cpus (home_of setup t).0) t
+abbrev pub thread_in_whole : Setup → Whole → Tid → Thread
+thread_in_whole setup s t = thread_in (slice_get s.cpus (home_cpu setup t).0) t
 
 abbrev pub is_live : Setup → Whole → Tid → Bool
-is_live setup s t = nat_lt t.0 (length setup.homes) && not (thread_of setup s t).ended
+is_live setup s t = nat_lt t.0 (length setup.homes) && not (thread_in_whole setup s t).ended
 
 -- in every state that a system reaches each live thread stands in its queues exactly once, and no other number stands there
 abbrev pub StandInOnePlace : Type 0

@@ -14,8 +14,8 @@ abbrev pub by : ℕ → Name → Section Name
 by t name = record { cpu = cpu_numbered t; lock = AtBuffer (buffer_numbered 0); edit = name }
 
 -- thread t finds nothing and waits; thread 2 sends a message; newest first
-abbrev pub receiver_waits : ℕ → List (Section Name)
-receiver_waits t = by t (WaitOn (thread t) Receivers) ∷ by t (TryTake (thread t)) ∷ by t (Enter (thread t) Receivers) ∷ by t (AcqQ (thread t)) ∷ []
+abbrev pub waiting_sections : ℕ → List (Section Name)
+waiting_sections t = by t (WaitOn (thread t) Receivers) ∷ by t (TryTake (thread t)) ∷ by t (Enter (thread t) Receivers) ∷ by t (AcqQ (thread t)) ∷ []
 
 abbrev pub sender_sends : Message → List (Section Name)
 sender_sends m =
@@ -39,7 +39,7 @@ in_visit (s ∷ later) past = s ∷ in_visit later past
 abbrev pub one_signal_log : List (Section Name)
 one_signal_log =
     in_visit receiver_signals_senders
-    (in_visit (sender_sends (8 ∷ [])) (in_visit (sender_sends (7 ∷ [])) (in_visit (receiver_waits 1) (receiver_waits 0))))
+    (in_visit (sender_sends (8 ∷ [])) (in_visit (sender_sends (7 ∷ [])) (in_visit (waiting_sections 1) (waiting_sections 0))))
 
 -- then a message is left, nobody owns the lock, and the second receiver, the first of its line, sleeps beside it
 abbrev pub OneSignalLosesAWakeUp : Type 0
@@ -56,7 +56,7 @@ receiver_signals_nobody = by 0 (RelQ (thread 0)) ∷ by 0 (TryTake (thread 0)) �
 
 -- two receivers wait, the buffer is closed, and the first receiver, the only one that was woken, answers that
 abbrev pub silent_log : List (Section Name)
-silent_log = in_visit receiver_signals_nobody (in_visit closer_closes (in_visit (receiver_waits 1) (receiver_waits 0)))
+silent_log = in_visit receiver_signals_nobody (in_visit closer_closes (in_visit (waiting_sections 1) (waiting_sections 0)))
 
 -- then nobody owns the lock, and the second receiver, the first of its line, sleeps beside a closed buffer
 abbrev pub SilentAnswerLosesAWakeUp : Type 0

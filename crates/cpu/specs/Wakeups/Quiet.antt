@@ -4,7 +4,7 @@ use Rattle.event_log.specs.declared.ids.{CpuId.CpuId, Tid.Tid, BufId.BufId, Lock
 use Rattle.event_log.specs.{declared.entries.Kind.Kind, Messages.Message, Runs.{Group, Sends, Receives, Closes, group_of}, Actions.phase}
 use Rattle.{layer_traits.specs.{declared.steps.Reason.Reason, Polling.Plans.is_in_section}, guest.specs.declared.instructions.Instruction.Instruction}
 use Rattle.guest.specs.{declared.instructions.Instruction.TheVariants.{Set, Add, Sub, Jnz, Send, Recv, Close, Yield as YieldLine, Exit}, State.State}
-use Rattle.{guest.specs.State.message_from, cpu.specs.Table.{Blocks.{Buffer, OfBuffer, OfPending}, Setups.{Setup, Call, Private, thread_at, home_of}}}
+use Rattle.{guest.specs.State.message_from, cpu.specs.Table.{Blocks.{Buffer, OfBuffer, OfPending}, Setups.{Setup, Call, Private, thread_at, home_cpu}}}
 use Rattle.cpu.specs.{Table.{Setups.stands_at, Steps.{Whole, IsReached, block_at, halted_at}}, Wakeups.Lost.Allows}
 
 -- no more threads than a machine may have
@@ -13,15 +13,15 @@ AreFew setup = length setup.homes ≤ THREADS
 
 -- and each is at home on a CPU of this machine
 abbrev pub HomesExist : Setup → Type 0
-HomesExist setup = AreFew setup × ((t : Tid) → t.0 < length setup.homes → (home_of setup t).0 < setup.cpus)
+HomesExist setup = AreFew setup × ((t : Tid) → t.0 < length setup.homes → (home_cpu setup t).0 < setup.cpus)
 
 -- a halted CPU is quiet where each of its threads has ended, any other where nobody runs, is ready or is in its hand
 abbrev pub IsQuietBy : Setup → CpuId → Private → Option Reason → Type 0
-IsQuietBy setup c p (Some reason) = (u : Tid) → home_of setup u ≡ c → u.0 < length setup.homes → (thread_at p u).ended ≡ true
+IsQuietBy setup c p (Some reason) = (u : Tid) → home_cpu setup u ≡ c → u.0 < length setup.homes → (thread_at p u).ended ≡ true
 IsQuietBy setup c p None = (p.current ≡ None) × (p.ready ≡ []) × (p.hand ≡ None)
 
 -- no section is under way, each CPU is quiet, and nobody is pending
-pub record IsQuiet (setup : Setup) (s : Whole) : Type 0 where
+pub record IsQuietTable (setup : Setup) (s : Whole) : Type 0 where
   pub outside : (c : CpuId) → c.0 < setup.cpus → is_in_section (phase c s.log) ≡ false
   pub cpus : (c : CpuId) (p : Private) → slice_get s.cpus c.0 ≡ Some p → IsQuietBy setup c p (halted_at setup c p)
   pub pending : (c : CpuId) → c.0 < setup.cpus → block_at setup (Pending c) s.log ≡ Some (OfPending [])
@@ -51,7 +51,7 @@ pub record IsStuckCall (setup : Setup) (s : Whole) (p : Private) (u : Tid) (call
 -- a thread that has not ended, at home on a CPU with this private state
 pub record IsLive (setup : Setup) (s : Whole) (p : Private) (u : Tid) : Type 0 where
   pub known : u.0 < length setup.homes
-  pub here : slice_get s.cpus (home_of setup u).0 ≡ Some p
+  pub here : slice_get s.cpus (home_cpu setup u).0 ≡ Some p
   pub alive : (thread_at p u).ended ≡ false
 
 -- nobody owns a lock or sleeps at one; each live thread is inside a call that its buffer refuses; and no next effect of a live thread is allowed
@@ -64,4 +64,4 @@ pub record IsStuck (setup : Setup) (s : Whole) : Type 0 where
 
 -- a quiet state that a system reaches is stuck
 abbrev pub QuietIsStuck : Type 0
-QuietIsStuck = (setup : Setup) (room : ℕ) (s : Whole) → HomesExist setup → IsReached setup room s → IsQuiet setup s → IsStuck setup s
+QuietIsStuck = (setup : Setup) (room : ℕ) (s : Whole) → HomesExist setup → IsReached setup room s → IsQuietTable setup s → IsStuck setup s

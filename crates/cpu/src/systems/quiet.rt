@@ -10,8 +10,8 @@ impl<I: Owned + Drop> System<I>
 where
     I::Machine: Drop,
 {
-    ghost use Rattle.{event_log.specs.declared.ids.CpuId.CpuId, layer_traits.specs.Threads.Places.{Pend, where_is}, cpu.specs.Calm.{AllQueuesEmpty, IsQuiet}};
-    ghost use Rattle.cpu.specs.{Calm.calm_in, Sound.IsSetupFor, Systems.whole_of, Table.Setups.Setup, Observed.IsStill, Wakeups.Quiet.IsQuiet as IsQuietTable};
+    ghost use Rattle.{event_log.specs.declared.ids.CpuId.CpuId, layer_traits.specs.Threads.Places.{IsPending, where_is}, cpu.specs.Calm.AllQueuesEmpty};
+    ghost use Rattle.cpu.specs.{Calm.{IsQuiet, calm_in}, Sound.IsSetupFor, Systems.whole_of, Table.Setups.Setup, Observed.IsStill, Wakeups.Quiet.IsQuietTable};
 
     /// Whether the system is quiet: each CPU that is not halted has no current thread, nobody ready,
     /// an empty hand and no section under way; each thread of a halted CPU has ended; and all pending
@@ -67,7 +67,7 @@ where
     /// Whether `thread`, which must exist, is in a pending queue.
     fn pends(&self, thread: Tid) -> bool
         requires { thread.0 < length self.now.homes }
-        ensures { result ≡ true ↔ ((d : CpuId) × (where_is self.now.homes self.now.moves thread ≡ Pend d)) }
+        ensures { result ≡ true ↔ ((d : CpuId) × (where_is self.now.homes self.now.moves thread ≡ IsPending d)) }
     {
         self.holds();
         matches!(self.place(thread), Place::Pending(_))

@@ -3,8 +3,8 @@
 
 ghost use Rattle.std.specs.Prelude.{◌≡◌, ◌<◌, ◌≤◌, [], All, IfOk, length, map, vec_capacity};
 ghost use Rattle.{event_log.specs.{declared.ids.TheConstants.{BUFFERS, CPUS, THREADS}, Buffers.IsCapacity}, layer_traits.specs.Protocols.OneLock.opened};
-ghost use Rattle.{layer_traits.specs.Views.Openings.AreOpenable, table_machine.specs.SeatViews.{Closes, Covers, IsOver, new_seat_views}};
-ghost use Rattle.cpu_workers.specs.{Closing.tower_rules, Natives.{HaveLeftKeys, HaveRun, OpensWith, left_of, own_homes}};
+ghost use Rattle.{layer_traits.specs.Views.Openings.AreOpenable, table_machine.specs.SeatViews.{ClosesTable, Covers, IsOver, new_seat_views}};
+ghost use Rattle.cpu_workers.specs.{Closing.tower_rules, Natives.{HaveLeftKeys, HaveRun, OpensWith, left_among, own_homes}};
 
 use crate::natives::Native;
 use crate::natives::seating::{LeftNative, call_over};
@@ -149,7 +149,7 @@ fn closed<K: TableWords, N: Drop>(
     requires covers { Covers shared.cpus back.keys.items }
     requires keys { All (IsOver shared) back.keys.items }
     ensures natives { result.natives ≡ back.natives }
-    ensures closes { Closes tower_rules shared back.keys.items result.blocks.items }
+    ensures closes { ClosesTable tower_rules shared back.keys.items result.blocks.items }
 {
     let NativeBack { keys, natives } = back;
     NativeReport {
@@ -186,7 +186,7 @@ pub fn run_native<N: Native + Drop + Send, R: Threads + Wait + Sync>(
     requires buffers { length caps.now ≤ BUFFERS }
     requires capacities { All IsCapacity caps.now }
     requires needs { All (λ n. N.Needs n caps.now) natives.items }
-    ensures { IfOk result (λ r. HaveRun N.Kept caps.now natives.items r.natives.items (left_of (length caps.now) r.blocks.items)) }
+    ensures { IfOk result (λ r. HaveRun N.Kept caps.now natives.items r.natives.items (left_among (length caps.now) r.blocks.items)) }
 {
     let count = natives.len();
     let homes = native_homes(count);

@@ -3,7 +3,7 @@
 ghost use Rattle.std.specs.Prelude.{◌≡◌, ℕ, ◌<◌, ◌≤◌, Some, [], All, IfOk, length, slice_get, vec_capacity};
 ghost use Rattle.layer_traits.specs.{Blocks.{Capacities.caps_in, QueueBlocks.{homes_in, inner}, BufferEffects.opening_locks}, Threads.OnePlace.cpu_at};
 ghost use Rattle.{event_log.specs.declared.ids.TheConstants.{BUFFERS, CPUS, THREADS}, cpu_workers.specs.Natives.{HasLeftCalls, HasLeftMachine, IsNewCaller}};
-ghost use Rattle.cpu_workers.specs.{Natives.OpensWith, Reports.Both, Seating.{IsReady, IsUnused, tower_acts}};
+ghost use Rattle.cpu_workers.specs.{Natives.OpensWith, Reports.Both, Seating.{IsReadySeat, IsUnused, tower_acts}};
 
 use crate::natives::Native;
 use crate::natives::tasks::NativeTask;
@@ -171,7 +171,7 @@ where
     requires threads { length homes.now ≤ THREADS }
     requires needs { All (λ n. N.Needs n caps.now) natives.items }
     requires ready { (k : ℕ) (m : L.Machine) → slice_get machines.items k ≡ Some m
-        → IsReady (L.ActsFor m (cpu_at k)) (L.IsOutside m (cpu_at k)) (L.seen m ≡ []) (L.acts m ≡ [])
+        → IsReadySeat (L.ActsFor m (cpu_at k)) (L.IsOutside m (cpu_at k)) (L.seen m ≡ []) (L.acts m ≡ [])
         (OpensWith (length machines.items) caps.now homes.now (L.opening m)) }
     ensures count { IfOk result (λ left. length left.items ≡ length machines.items) }
     ensures site { IfOk result (λ left. (k : ℕ) (x : _) (m : L.Machine) → slice_get left.items k ≡ Some x → slice_get machines.items k ≡ Some m

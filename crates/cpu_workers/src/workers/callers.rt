@@ -3,7 +3,7 @@
 
 ghost use Rattle.std.specs.Prelude.{◌≡◌, ◌<◌, ◌≤◌, false, [], MatchOption, if◌then◌else◌, is_ok, length};
 ghost use Rattle.{layer_traits.specs.{Blocks.Capacities.caps_in, Layers.BufferLaw.buffer_of}, event_log.specs.Messages.no_message};
-ghost use Rattle.cpu_workers.specs.Callers.{HasCalled, HasMade};
+ghost use Rattle.cpu_workers.specs.Callers.{HasCalled, HasMadeCall};
 ghost use Rattle.event_log.specs.declared.entries.Kind.TheVariants as kind;
 
 use crate::workers::calling;
@@ -124,7 +124,7 @@ where
     /// Requires: there is such a buffer. Errors: `Closed` where the buffer is closed by then.
     pub fn send<R: Wait>(&mut self, rt: &R, to: BufId, message: &Msg) -> Result<(), Closed>
         requires { to.0 < length self.old.caps }
-        ensures { HasMade self.old self.new (if is_ok result then kind.Send else kind.SendClosed) to message.now }
+        ensures { HasMadeCall self.old self.new (if is_ok result then kind.Send else kind.SendClosed) to message.now }
     {
         match self.make(rt, &Call::Send(to, *message)) {
             Reply::Closed => Err(Closed),
@@ -141,7 +141,8 @@ where
     /// Requires: there is such a buffer.
     pub fn recv<R: Wait>(&mut self, rt: &R, from: BufId) -> Option<Msg>
         requires { from.0 < length self.old.caps }
-        ensures { MatchOption result (HasMade self.old self.new kind.RecvClosed from no_message) (λ message. HasMade self.old self.new kind.Recv from message) }
+        ensures { MatchOption result (HasMadeCall self.old self.new kind.RecvClosed from no_message)
+            (λ message. HasMadeCall self.old self.new kind.Recv from message) }
     {
         match self.make(rt, &Call::Recv(from)) {
             Reply::Got(message) => Some(message),
@@ -156,7 +157,7 @@ where
     /// Requires: there is such a buffer.
     pub fn close<R: Wait>(&mut self, rt: &R, buffer: BufId)
         requires { buffer.0 < length self.old.caps }
-        ensures { HasMade self.old self.new kind.Close buffer no_message }
+        ensures { HasMadeCall self.old self.new kind.Close buffer no_message }
     {
         let _ = self.make(rt, &Call::Close(buffer));
     }

@@ -4,8 +4,8 @@
 ghost use Rattle.std.specs.Prelude.{◌≡◌, ◌≢◌, ◌<◌, None, Some, IfOk, IfErr, length};
 ghost use Rattle.layer_traits.specs.{Blocks.Capacities.caps_in, Views.OwnParts.threads_in, declared.call_states.Stage.TheVariants.Idle};
 ghost use Rattle.layer_traits.specs.{declared.passes.Pass.TheVariants.End, Layers.BufferLaw.{Calling, MayGoOn, MayPollCall, Passing, buffer_of, call_state_of}};
-ghost use Rattle.{layer_traits.specs.Threads.Passes.MayPass, cpu_workers.specs.{declared.workers.calling.Begun.TheVariants.Calls, Calls.{Ends, KeepsOn}}};
-ghost use Rattle.cpu_workers.specs.{Calls.{MayBegin, MayPoll, Returned, under_way_of}, Idling.is_idle};
+ghost use Rattle.{layer_traits.specs.Threads.Passes.MayPass, cpu_workers.specs.{declared.workers.calling.Begun.TheVariants.Calls, Calls.{EndsCall, KeepsOn}}};
+ghost use Rattle.cpu_workers.specs.{Calls.{MayBegin, MayPollBegun, Returned, begun_under_way}, Idling.is_idle};
 
 use crate::pauses::{SPINS, pause};
 use event_log::Tid;
@@ -56,8 +56,8 @@ fn poll_pass<I: CallLayer<IpcLaw>>(
     ensures cpu { I.cpu_of part.new ≡ I.cpu_of part.old }
     ensures opening { I.opening m.new ≡ I.opening m.old }
     ensures site { I.site m.new ≡ I.site m.old }
-    ensures under_way { I.under_way part.new ≡ under_way_of t result }
-    ensures may { MayPoll t (threads_in (I.own part.new)) result }
+    ensures under_way { I.under_way part.new ≡ begun_under_way t result }
+    ensures may { MayPollBegun t (threads_in (I.own part.new)) result }
     ensures ended { (threads_in (I.own part.new)).ended ≡ (threads_in (I.own part.old)).ended }
     ensures on { KeepsOn (I.cpu_of part.old) t call.now (I.own part.old).call_states (I.own part.new).call_states (I.seen m.old) (I.seen m.new) }
 {
@@ -89,10 +89,10 @@ fn poll_call<I: CallLayer<IpcLaw>>(
     ensures site { I.site m.new ≡ I.site m.old }
     ensures ended { (threads_in (I.own part.new)).ended ≡ (threads_in (I.own part.old)).ended }
     ensures runs { IfOk result (λ reply. (threads_in (I.own part.new)).current ≡ Some t) }
-    ensures goes { IfErr result (λ begun. (I.under_way part.new ≡ under_way_of t begun) × MayPoll t (threads_in (I.own part.new)) begun
+    ensures goes { IfErr result (λ begun. (I.under_way part.new ≡ begun_under_way t begun) × MayPollBegun t (threads_in (I.own part.new)) begun
         × KeepsOn (I.cpu_of part.old) t call.now (I.own part.old).call_states (I.own part.new).call_states (I.seen m.old) (I.seen m.new)) }
     ensures ends { IfOk result (λ reply. (I.under_way part.new ≡ None) × ((call_state_of (I.own part.new).call_states t).stage ≡ Idle)
-        × Ends (I.cpu_of part.old) t call.now reply (I.own part.old).call_states (I.seen m.old) (I.seen m.new)) }
+        × EndsCall (I.cpu_of part.old) t call.now reply (I.own part.old).call_states (I.seen m.old) (I.seen m.new)) }
 {
     match part.poll(m, t, call) {
         Some(reply) => Ok(reply),
@@ -113,8 +113,8 @@ fn poll_once<I: CallLayer<IpcLaw>>(
     requires fits { I.Fits part.old m.old }
     requires room { 0 < I.room m.old }
     requires buffer { (buffer_of call.now).0 < length (caps_in (I.opening m.old)) }
-    requires under_way { I.under_way part.old ≡ under_way_of t begun }
-    requires may { MayPoll t (threads_in (I.own part.old)) begun }
+    requires under_way { I.under_way part.old ≡ begun_under_way t begun }
+    requires may { MayPollBegun t (threads_in (I.own part.old)) begun }
     requires same { MayPollCall (call_state_of (I.own part.old).call_states t) call.now }
     ensures fits { I.Fits part.new m.new }
     ensures cpu { I.cpu_of part.new ≡ I.cpu_of part.old }
@@ -122,10 +122,10 @@ fn poll_once<I: CallLayer<IpcLaw>>(
     ensures site { I.site m.new ≡ I.site m.old }
     ensures ended { (threads_in (I.own part.new)).ended ≡ (threads_in (I.own part.old)).ended }
     ensures runs { IfOk result (λ reply. (threads_in (I.own part.new)).current ≡ Some t) }
-    ensures goes { IfErr result (λ begun. (I.under_way part.new ≡ under_way_of t begun) × MayPoll t (threads_in (I.own part.new)) begun
+    ensures goes { IfErr result (λ begun. (I.under_way part.new ≡ begun_under_way t begun) × MayPollBegun t (threads_in (I.own part.new)) begun
         × KeepsOn (I.cpu_of part.old) t call.now (I.own part.old).call_states (I.own part.new).call_states (I.seen m.old) (I.seen m.new)) }
     ensures ends { IfOk result (λ reply. (I.under_way part.new ≡ None) × ((call_state_of (I.own part.new).call_states t).stage ≡ Idle)
-        × Ends (I.cpu_of part.old) t call.now reply (I.own part.old).call_states (I.seen m.old) (I.seen m.new)) }
+        × EndsCall (I.cpu_of part.old) t call.now reply (I.own part.old).call_states (I.seen m.old) (I.seen m.new)) }
 {
     if part.look(m) {
         return Err(begun);

@@ -1,8 +1,8 @@
 //! What the workers of a plan leave behind. No call takes memory or waits.
 
 ghost use Rattle.std.specs.Prelude.{◌≡◌, Some, All};
-ghost use Rattle.{layer_traits.specs.Protocols.OneLock.opened, table_machine.specs.SeatViews.{Closes, Covers, IsOver}, cpu_workers.specs.Closing.block_shown};
-ghost use Rattle.cpu_workers.specs.{Closing.tower_rules, Lawful.messages_in};
+ghost use Rattle.{layer_traits.specs.Protocols.OneLock.opened, table_machine.specs.SeatViews.{ClosesTable, Covers, IsOver}};
+ghost use Rattle.cpu_workers.specs.{Closing.{block_shown, tower_rules}, Lawful.messages_in};
 
 use crate::counting::plan_words::PlanWords;
 use crate::workers::stops::Stop;
@@ -55,7 +55,7 @@ impl Report {
         ensures stops { result.stops ≡ stops }
         ensures lock { result.closed.lock ≡ K.lock_kind }
         ensures closed { result.closed.blocks.value ≡ result.blocks }
-        ensures closes { Closes tower_rules shared keys.items result.blocks.items }
+        ensures closes { ClosesTable tower_rules shared keys.items result.blocks.items }
     {
         let blocks = shared.close(keys);
         let closed = ClosedTable {

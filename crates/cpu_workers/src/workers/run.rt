@@ -2,9 +2,9 @@
 //! and waits for them.
 
 ghost use Rattle.std.specs.Prelude.{◌≡◌, ◌≤◌, [], IfOk, All, length, map, vec_capacity};
-ghost use Rattle.{layer_traits.specs.Protocols.OneLock.{AreDistinct, opened}, table_machine.specs.SeatViews.{Closes, Covers, IsOf, IsOver, new_seat_views}};
-ghost use Rattle.{boot.specs.Plan.IsPlan, cpu.specs.Sound.setup_for, cpu_workers.specs.{Closing.{shown, tower_rules}, Lawful.IsLawfulReport, Logs.HasWords}};
-ghost use Rattle.cpu_workers.specs.{ReportRuns.IsReportOfRun, Seating.{HaveLeft, OpensPlan}};
+ghost use Rattle.{layer_traits.specs.Protocols.OneLock.{AreDistinct, opened}, table_machine.specs.SeatViews.{ClosesTable, Covers, IsOf, IsOver}};
+ghost use Rattle.{table_machine.specs.SeatViews.new_seat_views, boot.specs.Plan.IsPlan, cpu.specs.Sound.setup_for, cpu_workers.specs.Closing.shown};
+ghost use Rattle.cpu_workers.specs.{Closing.tower_rules, Lawful.IsLawfulReport, Logs.HasWords, ReportRuns.IsReportOfRun, Seating.{HaveLeft, OpensPlan}};
 ghost use Rattle.boot.specs.declared.locks.LockKind.TheVariants as kind;
 
 use crate::counting::plan_words::PlanWords;
@@ -184,7 +184,7 @@ fn closed<K: PlanWords>(shared: Shared<TowerEdit, K>, back: Back<TowerEdit>) -> 
     ensures stops { result.stops ≡ back.stops }
     ensures lock { result.closed.lock ≡ K.lock_kind }
     ensures closed { result.closed.blocks.value ≡ result.blocks }
-    ensures closes { Closes tower_rules shared back.keys.items result.blocks.items }
+    ensures closes { ClosesTable tower_rules shared back.keys.items result.blocks.items }
 {
     let Back {
         keys,

@@ -4,7 +4,7 @@
 ghost use Rattle.std.specs.Prelude.{◌≡◌, ℕ, ◌<◌, ◌≤◌, Some, [], IfOk, length, slice_get, vec_capacity};
 ghost use Rattle.layer_traits.specs.{Blocks.{Capacities.caps_in, QueueBlocks.{homes_in, inner}, BufferEffects.opening_locks}, Threads.OnePlace.cpu_at};
 ghost use Rattle.{event_log.specs.declared.ids.TheConstants.CPUS, boot.specs.Plan.IsPlan, cpu.specs.Boots.homes_for, cpu_workers.specs.Reports.Both};
-ghost use Rattle.cpu_workers.specs.Seating.{HasLeft, IsApart, IsAtBoot, IsReady, IsUnused, OpensPlan, tower_acts};
+ghost use Rattle.cpu_workers.specs.Seating.{HasLeft, IsApart, IsAtBoot, IsReadySeat, IsUnused, OpensPlan, tower_acts};
 
 use crate::refusals::WorkerError;
 use crate::workers::gates::Gate;
@@ -192,7 +192,7 @@ where
     requires count { length machines.items ≤ boot.now.cpus }
     requires few { length machines.items ≤ CPUS }
     requires ready { (k : ℕ) (m : L.Machine) → slice_get machines.items k ≡ Some m
-        → IsReady (L.ActsFor m (cpu_at k)) (L.IsOutside m (cpu_at k)) (L.seen m ≡ []) (L.acts m ≡ []) (OpensPlan boot.now (L.opening m)) }
+        → IsReadySeat (L.ActsFor m (cpu_at k)) (L.IsOutside m (cpu_at k)) (L.seen m ≡ []) (L.acts m ≡ []) (OpensPlan boot.now (L.opening m)) }
     ensures count { IfOk result (λ left. length left.items ≡ length machines.items) }
     ensures site { IfOk result (λ left. (k : ℕ) (x : _) (m : L.Machine) → slice_get left.items k ≡ Some x → slice_get machines.items k ≡ Some m
         → L.site x.machine ≡ L.site m) }

@@ -17,9 +17,9 @@ pub(crate) struct TowerSeat<'a, K: TableWords> {
 }
 
 impl<'a, K: TableWords> Model for TowerSeat<'a, K> {
-    ghost use Rattle.{table_machine.specs.SeatViews.SeatView, cpu_workers.specs.Seating.{Block, Edit}};
+    ghost use Rattle.{table_machine.specs.SeatViews.SeatView, cpu_workers.specs.Seating.{AnyBlock, Edit}};
 
-    ghost Value = { SeatView Edit Block };
+    ghost Value = { SeatView Edit AnyBlock };
 
     ghost view = { λ s. s.seat };
 }

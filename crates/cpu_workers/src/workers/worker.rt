@@ -58,7 +58,7 @@ where
 {
     ghost use Rattle.layer_traits.specs.{declared.steps.Reason.TheVariants.StepsUsed, Blocks.{BufferEffects.opening_locks, QueueBlocks.inner}};
     ghost use Rattle.{event_log.specs.{Actions.AreLegal, declared.ids.TheConstants.THREADS}, cpu.specs.{Cpus.{IsCpu, programs_of}, Tables.{IsTabled, private}}};
-    ghost use Rattle.{cpu.specs.{Boots.AreGuests, Table.{Setups.{Setup, at_boot as boot_of}, Steps.halted_at}}, cpu_workers.specs.Idling.is_idle};
+    ghost use Rattle.{cpu.specs.{Boots.AreGuests, Table.{Setups.{Setup, boot_of}, Steps.halted_at}}, cpu_workers.specs.Idling.is_idle};
     ghost use Rattle.cpu_workers.specs.{Working.{IsPlanned, IsSame, Turned, is_inside}, Orders.{HasFollowed, IsTraceOf}};
 
     /// The worker of a CPU and its machine, which agree. The machine does one action a step and has

@@ -27,11 +27,11 @@ fifo_wait_lists opening past boots agree =
     (λ b. ap (λ locks. locks (Buffer b)) boots) (λ line. refl) agree
 
 -- a CPU that is at nothing has no call under way beneath
-pub none_under : (opening : LockId → Option (QueueBlock BufferLock)) (c : CpuId) (past : List BufferEvent) (own : Waiting BufferOut)
+pub no_call_beneath : (opening : LockId → Option (QueueBlock BufferLock)) (c : CpuId) (past : List BufferEvent) (own : Waiting BufferOut)
     (call_states : List CallState)
     (under_way : Option (SchedCall (CvCall BufferEdit))) (calling : Option Tid) → PartFits opening c past own call_states under_way calling
     → under_way_at calling under_way ≡ None → under_way ≡ None
-none_under opening c past own call_states None calling fits nothing = refl
-none_under opening c past own call_states (Some (sched.Pass p)) None fits nothing = absurd cc
-none_under opening c past own call_states (Some (sched.OnBuffer b e)) None fits nothing = absurd fits.calls.none
-none_under opening c past own call_states (Some s) (Some t) fits nothing = absurd cc
+no_call_beneath opening c past own call_states None calling fits nothing = refl
+no_call_beneath opening c past own call_states (Some (sched.Pass p)) None fits nothing = absurd cc
+no_call_beneath opening c past own call_states (Some (sched.OnBuffer b e)) None fits nothing = absurd fits.calls.none
+no_call_beneath opening c past own call_states (Some s) (Some t) fits nothing = absurd cc

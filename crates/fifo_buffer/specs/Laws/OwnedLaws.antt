@@ -2,7 +2,7 @@
 use Rattle.std.proofs.Common.{◌≡◌, ◌<◌, List, [], ◌∷◌, ◌++◌, length, map, Option, Some, None, IsSome, option_map, option_to_list, slice_index, refl, ap, sym}
 use Rattle.std.{proofs.{Common.{◌∙◌, subst}, lemmas.Option.slice_get-get_or}, specs.List.AllByRecursion}
 use Rattle.layer_traits.specs.Blocks.{Capacities.caps_in, BufferEffects.{contents_of, drawn, effect_of, effects_in, fresh_lock}, BufferProtocol.BufferLock}
-use Rattle.layer_traits.specs.Blocks.{BufferProtocol.{buffer_at, buffer_monitor_rules}, QueueBlocks.{StartsWell, above_of, inner}, QueueRules.AreProper}
+use Rattle.layer_traits.specs.Blocks.{BufferProtocol.{buffer_lock_at, buffer_monitor_rules}, QueueBlocks.{StartsWell, above_of, inner}, QueueRules.AreProper}
 use Rattle.layer_traits.specs.declared.{buffer_edits.BufferEdit.BufferEdit, moves.WaitList.WaitList, queue_edits.QueueBlock.QueueBlock}
 use Rattle.layer_traits.specs.{declared.queues.QueueCall.{QueueCall, TheVariants.{Push, TakeAll, OnBuffer}}, Views.Acted.{BufferActs, ItemsAre}}
 use Rattle.layer_traits.specs.Layers.{Conditions.{CvCall, cv_rules}, QLockLaw.lock_kernel, QLocking.{wait_list_in, lock_edited, owner_in}, Queues.IsKnownEvent}
@@ -10,7 +10,7 @@ use Rattle.layer_traits.specs.{Layers.Queues.{QueueAllowed, buffer_sections, eve
 use Rattle.{layer_traits.proofs.{Alone.block_there as stays_there, ActedLemmas.lock_is}, event_log.specs.declared.{entries.Entry.Entry, ids.BufId.BufId}}
 use Rattle.event_log.specs.{declared.ids.{CpuId.CpuId, LockId.{LockId, TheVariants.Buffer}, TheConstants.CPUS}, Buffers.items_of, History.IsLawful}
 use Rattle.{event_log.specs.{Runs.is_closed, Sections.sections_in}, fifo_buffer.specs.{FifoFits.BootsSo, Laws.Tallies.{all_tallied, effect_position}}}
-use Rattle.fifo_buffer.specs.{OwnedLaws.{buffer_lock_of, closed_of, items_in, owner_of, wait_lists_of}, SectionPolls.BufferEvent}
+use Rattle.fifo_buffer.specs.{OwnedLaws.{buffer_lock_of, closed_of, items_in, lock_owner_of, wait_lists_of}, SectionPolls.BufferEvent}
 
 module _ (opening : LockId → Option (QueueBlock BufferLock)) (boots : BootsSo opening) (b : BufId) (within : b.0 < length (caps_in opening)) where
   -- a buffer of the capacities has a lock, at the start
@@ -67,10 +67,10 @@ module _ (opening : LockId → Option (QueueBlock BufferLock)) (boots : BootsSo 
         shut = tally.closed;
       }
 
-  pub owner_read : (past : List BufferEvent) → option_map owner_of (buffer_lock_of opening past b) ≡ Some (owner_in (buffer_lock_of opening past b))
+  pub owner_read : (past : List BufferEvent) → option_map lock_owner_of (buffer_lock_of opening past b) ≡ Some (owner_in (buffer_lock_of opening past b))
   owner_read past =
       let lock = found past in
-      ap (option_map owner_of) lock.1 ∙ ap (λ o. Some (owner_in o)) (sym lock.1)
+      ap (option_map lock_owner_of) lock.1 ∙ ap (λ o. Some (owner_in o)) (sym lock.1)
 
   pub wait_lists_read : (past : List BufferEvent)
       → option_map wait_lists_of (buffer_lock_of opening past b) ≡ Some (λ (line : WaitList). wait_list_in line (buffer_lock_of opening past b))
@@ -97,6 +97,6 @@ effects_known O (event ∷ past) known = go event.call (effects_known O past kno
         more (effect_of O (buffer_sections past) (section event.cpu (Buffer d) call)) (effects_in O (buffer_sections past))
         (λ e is. subst (λ (cpu : CpuId). cpu.0 < CPUS)
         (sym (effect_position event.cpu d call (λ side t. drawn O (Buffer d) side t (buffer_sections past))
-        (buffer_at O (buffer_sections past) (Buffer d)) e is).0)
+        (buffer_lock_at O (buffer_sections past) (Buffer d)) e is).0)
         known.0)
         rest

@@ -8,9 +8,9 @@ use Rattle.layer_traits.specs.declared.{locked.Side.TheVariants.{Receivers, Send
 use Rattle.layer_traits.specs.{declared.queue_edits.QueueBlock.QueueBlock, Blocks.BufferBlocks.{BufferState, effect_kind, entered, first_item, is_next}}
 use Rattle.layer_traits.specs.Blocks.{BufferBlocks.{line_of, may_join, put_in, shut, taken_out}, BufferEffects.{MayTakeEffect, drawn, drawn_in, effect_on}}
 use Rattle.layer_traits.specs.Blocks.{BufferEffects.{effects_in, entry, fresh_lock, is_enter, opening_locks}, BufferProtocol.{BufferLock, BufferSection, IsDue}}
-use Rattle.layer_traits.specs.{Blocks.{BufferProtocol.{buffer_at, buffer_monitor_rules, buffer_rules, is_in_line}, QueueBlocks.inner}, Layers.Conditions.CvCall}
-use Rattle.layer_traits.specs.Layers.{Conditions.cv_rules, QLocking.{asked, lock_edited}, Queues.{QueueAllowed, buffer_sections, with_section}}
-use Rattle.{layer_traits.specs.{Layers.QLockLaw.lock_kernel, Protocols.Protocol.section}, thread_blocks.specs.Queues.{same_tid, is_in}}
+use Rattle.layer_traits.specs.Blocks.{BufferProtocol.{buffer_lock_at, buffer_monitor_rules, buffer_rules, is_in_line}, QueueBlocks.inner}
+use Rattle.layer_traits.specs.Layers.{Conditions.{CvCall, cv_rules}, QLocking.{lock_asked_by, lock_edited}, Queues.{QueueAllowed, buffer_sections}}
+use Rattle.{layer_traits.specs.{Layers.{Queues.with_section, QLockLaw.lock_kernel}, Protocols.Protocol.section}, thread_blocks.specs.Queues.{same_tid, is_in}}
 use Rattle.{thread_blocks.proofs.Members.same_tid_self, fifo_buffer.specs.Laws.{BlockSteps.{put_step, shut_step, take_step}, BlockTallies.{Agree, Kept, Steps}}}
 use Rattle.fifo_buffer.specs.{Laws.BlockTallies.{all_along, all_but, enters, kept_start, kept_step, agreed, stays, takes}, Tallies.{IsPlaced, Tally, by_side}}
 use Rattle.fifo_buffer.specs.SectionPolls.{BufferEvent}
@@ -61,10 +61,10 @@ module _ (O : LockId → Option BufferLock) (past : List BufferSection) (cpu : C
 
   -- a thread that enters no line keeps its position, and one that enters draws the next
   drawn_is : (call : CvCall BufferEdit) (side : Side) (t : Tid) (v : Bool) → is_enter side t call ≡ v
-      → after call side t ≡ (if v then drawn_in side (buffer_at O past (Buffer d)) else before side t)
+      → after call side t ≡ (if v then drawn_in side (buffer_lock_at O past (Buffer d)) else before side t)
   drawn_is call side t v is =
-      ap (λ w. if w && is_enter side t call then drawn_in side (buffer_at O past (Buffer d)) else before side t) (same_lock_self (Buffer d))
-      ∙ ap (λ w. if w then drawn_in side (buffer_at O past (Buffer d)) else before side t) is
+      ap (λ w. if w && is_enter side t call then drawn_in side (buffer_lock_at O past (Buffer d)) else before side t) (same_lock_self (Buffer d))
+      ∙ ap (λ w. if w then drawn_in side (buffer_lock_at O past (Buffer d)) else before side t) is
 
   agree : (call : CvCall BufferEdit) → ((side : Side) (t : Tid) → is_enter side t call ≡ false) → (x : BufferState)
       → Agree (by_side before) (by_side (after call)) x
@@ -85,12 +85,12 @@ module _ (O : LockId → Option BufferLock) (past : List BufferSection) (cpu : C
       (λ t other. drawn_is call Receivers t false (none Receivers t other))
   agree_but call u x out none Closes = tt
 
-  above_same : (u : Tid) (owner : Option Tid) (lock : BufferLock) → lock.above ≡ (asked u owner lock).above
+  above_same : (u : Tid) (owner : Option Tid) (lock : BufferLock) → lock.above ≡ (lock_asked_by u owner lock).above
   above_same u None lock = refl
   above_same u (Some o) lock = refl
 
   -- its effect may come, and the block tells the effects with it
-  module _ (caps : List ℕ) (es : List Entry) (lock : BufferLock) (at : buffer_at O past (Buffer d) ≡ Some lock)
+  module _ (caps : List ℕ) (es : List Entry) (lock : BufferLock) (at : buffer_lock_at O past (Buffer d) ≡ Some lock)
       (tally : Tally caps d.0 es (by_side before) lock.above) where
     abbrev StepHere : CvCall BufferEdit → Option Entry → BufferState → Type 0
     StepHere call effect x = Steps caps d.0 es effect (by_side (after call)) x
@@ -154,9 +154,9 @@ module _ (O : LockId → Option BufferLock) (past : List BufferSection) (cpu : C
   apart_same : (call : CvCall BufferEdit) (b : BufId) → (b.0 == d.0) ≡ false → (g : Group) (t : Tid)
       → positions O b (section cpu (Buffer d) call ∷ past) g t ≡ positions O b past g t
   apart_same call b other Sends t =
-      ap (λ v. if v && is_enter Senders t call then drawn_in Senders (buffer_at O past (Buffer b)) else drawn O (Buffer b) Senders t past) other
+      ap (λ v. if v && is_enter Senders t call then drawn_in Senders (buffer_lock_at O past (Buffer b)) else drawn O (Buffer b) Senders t past) other
   apart_same call b other Receives t =
-      ap (λ v. if v && is_enter Receivers t call then drawn_in Receivers (buffer_at O past (Buffer b)) else drawn O (Buffer b) Receivers t past) other
+      ap (λ v. if v && is_enter Receivers t call then drawn_in Receivers (buffer_lock_at O past (Buffer b)) else drawn O (Buffer b) Receivers t past) other
   apart_same call b other Closes t = refl
 
 module _ (opening : LockId → Option (QueueBlock BufferLock)) (caps : List ℕ) (boots : inner opening ≡ opening_locks caps) where
@@ -186,7 +186,7 @@ module _ (opening : LockId → Option (QueueBlock BufferLock)) (caps : List ℕ)
           tally call may.upper.granted)
 
   pub all_tallied : (past : List BufferEvent) → IsLawful (QueueAllowed (lock_kernel (cv_rules buffer_monitor_rules) opening)) past
-      → (b : BufId) (lock : BufferLock) → buffer_at (inner opening) (buffer_sections past) (Buffer b) ≡ Some lock
+      → (b : BufId) (lock : BufferLock) → buffer_lock_at (inner opening) (buffer_sections past) (Buffer b) ≡ Some lock
       → Tally caps b.0 (effects_in (inner opening) (buffer_sections past)) (positions (inner opening) b (buffer_sections past)) lock.above
   all_tallied past lawful = (all_kept past lawful).0
 

@@ -4,9 +4,9 @@ use Rattle.std.{specs.{Prelude.{if◌then◌else◌, refl}, Option.option_or}, p
 use Rattle.std.proofs.Common.{inr, ap, subst, sym, ◌∙◌, arith}
 use Rattle.event_log.specs.{declared.ids.{BufId.BufId, CpuId.CpuId, LockId.{LockId, TheVariants.Buffer}, Tid.Tid}, History.same_cpu}
 use Rattle.{event_log.proofs.Same.same_cpu_self, layer_traits.specs.declared.moves.WaitList.{WaitList, TheVariants.{Sleepers, Receivers, Senders}}}
-use Rattle.layer_traits.specs.{Layers.IpcLaw.WaitListsAgree, Threads.{ListsAgree.is_at, Places.{AreMoves, Asleep, At, Hand, Home, Pend, WaitChannel, Step}}}
-use Rattle.layer_traits.specs.Threads.Places.{Where, count_in, home_of, is_hand, is_here, is_home, is_pend, is_thread, one_if, pending_by, wait_channel_of}
-use Rattle.layer_traits.specs.{Threads.Places.where_is, Views.{Owned.wait_list_among, Observed.{IsObservedAs, ReadsPlace, queue_place}}}
+use Rattle.layer_traits.specs.{Layers.IpcLaw.WaitListsAgree, Threads.{ListsAgree.is_at, Places.{AreMoves, Asleep, At, Hand, Home, IsPending, WaitChannel}}}
+use Rattle.layer_traits.specs.Threads.Places.{Step, Where, count_in, home_of, is_hand, is_here, is_home, is_pend, is_thread, one_if, pending_by}
+use Rattle.layer_traits.specs.{Threads.Places.{wait_channel_of, where_is}, Views.{Owned.wait_list_among, Observed.{IsObservedAs, ReadsPlace, queue_place}}}
 use Rattle.layer_traits.proofs.{CountLemmas.{in_counted, is_cpu_of}, ListsLemmas.{at_wait_channel, count_none, counted_in, wait_channel_here}}
 use Rattle.{layer_traits.proofs.PlaceLemmas.{pend_count, pend_home, pend_where}, thread_blocks.specs.Queues.is_in, ipc_calls.specs.Parts.IsSilentOf}
 use Rattle.ipc_calls.specs.{Parts.{asleep_at, wait_list_read, pends_read, said}, PlaceLaws.Watched}
@@ -65,13 +65,13 @@ sleeps_there b Senders = refl
 module _ {P : Type 0} (Fits : P → Type 0) (cpu_of : P → CpuId) (IsInside : CpuId → Type 0) (homes : List CpuId) (moves : List Step) where
   -- who is told to stand in a pending queue stands there
   pub read_pends : (t : Tid) (d : CpuId) (p : P) (here : P → Option (List Tid)) (home : Option (List Tid)) → AreMoves homes moves → Fits p
-      → IsObservedAs Fits cpu_of IsInside here home (pending_by moves d) → pends_read t home (here p) ≡ true → where_is homes moves t ≡ Pend d
+      → IsObservedAs Fits cpu_of IsInside here home (pending_by moves d) → pends_read t home (here p) ≡ true → where_is homes moves t ≡ IsPending d
   read_pends t d p here home lawful fits told is =
       either (said (option_map (is_in t) home)) (said (option_map (is_in t) (here p))) is
       (λ by_machine. said_in t home by_machine (λ q at stands. pends (subst (λ r. is_in t r ≡ true) (told.by_machine q at) stands)))
       (λ by_part. said_in t (here p) by_part (λ q at stands. pends (subst (λ r. is_in t r ≡ true) (told.by_part p q fits at) stands)))
     where
-      pends : is_in t (pending_by moves d) ≡ true → where_is homes moves t ≡ Pend d
+      pends : is_in t (pending_by moves d) ≡ true → where_is homes moves t ≡ IsPending d
       pends stands = pend_where homes moves lawful d t stands
 
   module _ (n : ℕ) (wait_lists : BufId → WaitList → List Tid) (agree : WaitListsAgree n homes moves wait_lists) (b : BufId) (within : b.0 < n) where
@@ -156,7 +156,7 @@ module _ {P : Type 0} (watched : Watched P) (t : Tid) (home : CpuId) (home_is : 
       let has : is_hand (cpu_of q) (where_is homes moves t) ≡ true = ap (is_hand (cpu_of q)) is ∙ (ap (same_cpu c) at ∙ same_cpu_self c) in
       absurd (cc (silent.away.hand, hand, has))
 
-  pending : (d : CpuId) → where_is homes moves t ≡ Pend d → is_in t (pending_by moves d) ≡ true
+  pending : (d : CpuId) → where_is homes moves t ≡ IsPending d → is_in t (pending_by moves d) ≡ true
   pending d is =
       let once : one_if (is_pend d (where_is homes moves t)) ≡ 1 = ap (λ w. one_if (is_pend d w)) is ∙ ap one_if (same_cpu_self d) in
       let count = pend_count homes moves lawful d t in
@@ -180,9 +180,9 @@ module _ {P : Type 0} (watched : Watched P) (t : Tid) (home : CpuId) (home_is : 
     has = λ p same fits silent. (quiet p silent).1 (tells_truth (here p) truth (it.has p same fits) (λ x told. sees.by_part p x fits told));
   }
 
-  by_queue : (d : CpuId) → where_is homes moves t ≡ Pend d → Observed (Pend d)
+  by_queue : (d : CpuId) → where_is homes moves t ≡ IsPending d → Observed (IsPending d)
   by_queue d is = let its = pend_home homes moves t d lawful is in
-      by_told (Pend d) (λ q. queue_with q d) (queue_at d) (pending_by moves d) (queues t d its) (λ p silent.
+      by_told (IsPending d) (λ q. queue_with q d) (queue_at d) (pending_by moves d) (queues t d its) (λ p silent.
       let quiet = or_parts (said (option_map (is_in t) (queue_at d))) (said (option_map (is_in t) (queue_with p d))) (silent.pends d its) in
       (not_silent t (queue_at d) (pending_by moves d) (pending d is) quiet.0, not_silent t (queue_with p d) (pending_by moves d) (pending d is) quiet.1))
 
@@ -203,5 +203,5 @@ module _ {P : Type 0} (watched : Watched P) (t : Tid) (home : CpuId) (home_is : 
       go : (w : Where) → where_is homes moves t ≡ w → Observed w
       go Home is = record { cpu = home; may = inl home_is; has = λ q at fits silent. at_home q at fits is silent }
       go (Hand c) is = record { cpu = c; may = inr (inl refl); has = λ q at fits silent. in_hand q c at fits is silent }
-      go (Pend d) is = by_queue d is
+      go (IsPending d) is = by_queue d is
       go (Asleep (At lock line)) is = asleep lock line is

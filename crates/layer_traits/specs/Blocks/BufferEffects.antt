@@ -8,7 +8,7 @@ use Rattle.event_log.specs.{Messages.{Message, no_message}, Runs.{after_entry, c
 use Rattle.layer_traits.specs.declared.locked.{QEdit.TheVariants.{Acquire, Inside, Release}, Side.{Side, TheVariants.{Receivers, Senders}}}
 use Rattle.layer_traits.specs.declared.{conditions.CvEdit.TheVariants.{Edit, SignalFront}, buffer_edits.BufferEdit.{BufferEdit, TheVariants.{Enter, TryPut}}}
 use Rattle.layer_traits.specs.{declared.buffer_edits.BufferEdit.TheVariants.{TryTake, Shut}, Layers.Conditions.CvCall, Blocks.BufferBlocks.effect_kind}
-use Rattle.layer_traits.specs.Blocks.{BufferBlocks.{empty_block, first_item, is_next, drawn_of}, BufferProtocol.{BufferLock, BufferSection, buffer_at}}
+use Rattle.layer_traits.specs.Blocks.{BufferBlocks.{empty_block, first_item, is_next, drawn_of}, BufferProtocol.{BufferLock, BufferSection, buffer_lock_at}}
 use Rattle.thread_blocks.specs.Queues.{same_tid}
 
 -- whether a call enters this side's line for this thread
@@ -34,7 +34,7 @@ abbrev pub drawn : (LockId → Option BufferLock) → LockId → Side → Tid �
 drawn opening lock side t [] = 0
 drawn opening lock side t (s ∷ past) =
     if same_lock lock s.lock && is_enter side t s.edit
-    then drawn_in side (buffer_at opening past lock)
+    then drawn_in side (buffer_lock_at opening past lock)
     else drawn opening lock side t past
 
 -- an entry
@@ -63,7 +63,7 @@ effect_on cpu b (Release leave) position (Some lock) = None
 abbrev pub effect_at : (LockId → Option BufferLock) → List BufferSection → CpuId → LockId → CvCall BufferEdit → Option Entry
 effect_at opening past cpu (Pending d) call = None
 effect_at opening past cpu (Buffer b) call =
-    effect_on cpu b call (λ side t. drawn opening (Buffer b) side t past) (buffer_at opening past (Buffer b))
+    effect_on cpu b call (λ side t. drawn opening (Buffer b) side t past) (buffer_lock_at opening past (Buffer b))
 
 -- the effect of a section, if it has one
 abbrev pub effect_of : (LockId → Option BufferLock) → List BufferSection → BufferSection → Option Entry

@@ -32,8 +32,8 @@ abbrev pub buffer_rules : LockRules (CvEdit BufferEdit) CvLeave BufferState (CvO
 buffer_rules = cv_rules plain_rules
 
 -- a lock after these sections
-abbrev pub buffer_at : (LockId → Option BufferLock) → List BufferSection → LockId → Option BufferLock
-buffer_at opening past lock = lock_after buffer_rules opening lock past
+abbrev pub buffer_lock_at : (LockId → Option BufferLock) → List BufferSection → LockId → Option BufferLock
+buffer_lock_at opening past lock = lock_after buffer_rules opening lock past
 
 -- whether a thread stands in the line of this side of a buffer
 abbrev pub is_in_line : Side → Tid → Option BufferLock → Bool
@@ -64,16 +64,16 @@ abbrev pub has_tried_in_vain : (LockId → Option BufferLock) → LockId → Sid
 has_tried_in_vain opening lock side t [] = false
 has_tried_in_vain opening lock side t (s ∷ past) =
     if same_tid (lock_caller buffer_rules s.edit) t
-    then is_try side s.edit && same_lock lock s.lock && not (is_next_at side t (buffer_at opening past lock))
+    then is_try side s.edit && same_lock lock s.lock && not (is_next_at side t (buffer_lock_at opening past lock))
     else has_tried_in_vain opening lock side t past
 
 -- a call is due: what its caller must have done before
 abbrev pub IsDue : (LockId → Option BufferLock) → List BufferSection → LockId → CvCall BufferEdit → Type 0
 IsDue opening past lock (Acquire t) = Unit {0}
 IsDue opening past lock (Inside (Edit (Enter t side))) =
-    (is_in_line Senders t (buffer_at opening past lock) ≡ false) × (is_in_line Receivers t (buffer_at opening past lock) ≡ false)
-IsDue opening past lock (Inside (Edit (TryPut t m))) = is_in_line Senders t (buffer_at opening past lock) ≡ true
-IsDue opening past lock (Inside (Edit (TryTake t))) = is_in_line Receivers t (buffer_at opening past lock) ≡ true
+    (is_in_line Senders t (buffer_lock_at opening past lock) ≡ false) × (is_in_line Receivers t (buffer_lock_at opening past lock) ≡ false)
+IsDue opening past lock (Inside (Edit (TryPut t m))) = is_in_line Senders t (buffer_lock_at opening past lock) ≡ true
+IsDue opening past lock (Inside (Edit (TryTake t))) = is_in_line Receivers t (buffer_lock_at opening past lock) ≡ true
 IsDue opening past lock (Inside (Edit (Shut t))) = Unit {0}
 IsDue opening past lock (Inside (SignalFront t side)) = Unit {0}
 IsDue opening past lock (Release (Leave t)) = Unit {0}

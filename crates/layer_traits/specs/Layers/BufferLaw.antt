@@ -195,13 +195,13 @@ pub record RunsOn {A : Type 0} (t : Tid) (own left : Threads) (answer : Option A
   pub ended : left.ended ≡ own.ended
 
 -- a buffer allows an effect of this kind with this message after these
-abbrev pub Allows : List ℕ → List Entry → BufId → Kind → Message → Type 0
-Allows caps past b kind m = IsAllowedEffect kind (is_closed past b.0) (slice_index caps b.0) (items_of (contents_of caps past) b.0) m
+abbrev pub AllowsAfter : List ℕ → List Entry → BufId → Kind → Message → Type 0
+AllowsAfter caps past b kind m = IsAllowedEffect kind (is_closed past b.0) (slice_index caps b.0) (items_of (contents_of caps past) b.0) m
 
 -- why a machine that does a whole call in one poll answers nothing: the buffer allows the call no effect. A close may always come
 abbrev pub IsRefused : Call → List ℕ → List Entry → Type 0
-IsRefused (Send b m) caps past = (Allows caps past b kind.Send m → ⊥) × (Allows caps past b kind.SendClosed m → ⊥)
-IsRefused (Recv b) caps past = (m : Message) → (Allows caps past b kind.Recv m → ⊥) × (Allows caps past b kind.RecvClosed m → ⊥)
+IsRefused (Send b m) caps past = (AllowsAfter caps past b kind.Send m → ⊥) × (AllowsAfter caps past b kind.SendClosed m → ⊥)
+IsRefused (Recv b) caps past = (m : Message) → (AllowsAfter caps past b kind.Recv m → ⊥) × (AllowsAfter caps past b kind.RecvClosed m → ⊥)
 IsRefused (Close b) caps past = ⊥
 
 -- a CPU's own state: that of its conditions, and the call state of each thread
@@ -229,12 +229,12 @@ section_at t call SignalsOwn = Inside (SignalFront t (side_of call))
 section_at t call Releases = Release (Leave t)
 
 -- what an edit of the buffer answered, in a lock's answer
-abbrev pub report_in : CvOut BufferOut → BufferOut
-report_in (answer.Did out) = out
-report_in other = NotYet
+abbrev pub edit_report_in : CvOut BufferOut → BufferOut
+edit_report_in (answer.Did out) = out
+edit_report_in other = NotYet
 
 abbrev pub reported_by : QOut (CvOut BufferOut) → BufferOut
-reported_by (out.Did cv) = report_in cv
+reported_by (out.Did cv) = edit_report_in cv
 reported_by other = NotYet
 
 -- the thread has entered its line: it keeps its position, and tries next; or it has closed the buffer, and signals
@@ -312,8 +312,8 @@ module _ (homes : List CpuId) (c : CpuId) (t : Tid) (call : Call) where
   plan_beneath stage cv = cv_plan (lock_moves buffer_rules) homes c (buffer_of call) (section_at t call stage) cv
 
   -- the plan of one section of a call, at a stage
-  abbrev pub plan_of : Stage → CallState → Buffering → BufferPlan Reply
-  plan_of stage call_state own = raised (left_recorded t call call_state own.call_states stage) (plan_beneath stage own.cv)
+  abbrev pub stage_plan : Stage → CallState → Buffering → BufferPlan Reply
+  stage_plan stage call_state own = raised (left_recorded t call call_state own.call_states stage) (plan_beneath stage own.cv)
 
   -- the plan of a stage whose section may be over without an action, where the next stage's section follows in the same poll
   abbrev pub plan_on : Stage → (CallState → Buffering → BufferPlan Reply) → CallState → Buffering → BufferPlan Reply
@@ -322,15 +322,15 @@ module _ (homes : List CpuId) (c : CpuId) (t : Tid) (call : Call) where
 
   -- the plan of a call at a stage
   abbrev pub plan_at : Stage → CallState → Buffering → BufferPlan Reply
-  plan_at Idle call_state own = plan_on Acquires (plan_of Enters) call_state own
-  plan_at Acquires call_state own = plan_on Acquires (plan_of Enters) call_state own
-  plan_at Enters call_state own = plan_of Enters call_state own
-  plan_at Tries call_state own = plan_of Tries call_state own
-  plan_at Waits call_state own = plan_on Waits (plan_on AcquiresAgain (plan_of Tries)) call_state own
-  plan_at AcquiresAgain call_state own = plan_on AcquiresAgain (plan_of Tries) call_state own
-  plan_at Signals call_state own = plan_of Signals call_state own
-  plan_at SignalsOwn call_state own = plan_of SignalsOwn call_state own
-  plan_at Releases call_state own = plan_of Releases call_state own
+  plan_at Idle call_state own = plan_on Acquires (stage_plan Enters) call_state own
+  plan_at Acquires call_state own = plan_on Acquires (stage_plan Enters) call_state own
+  plan_at Enters call_state own = stage_plan Enters call_state own
+  plan_at Tries call_state own = stage_plan Tries call_state own
+  plan_at Waits call_state own = plan_on Waits (plan_on AcquiresAgain (stage_plan Tries)) call_state own
+  plan_at AcquiresAgain call_state own = plan_on AcquiresAgain (stage_plan Tries) call_state own
+  plan_at Signals call_state own = stage_plan Signals call_state own
+  plan_at SignalsOwn call_state own = stage_plan SignalsOwn call_state own
+  plan_at Releases call_state own = stage_plan Releases call_state own
 
   -- the plan of a poll of a call
   abbrev pub fifo_plan : Buffering → BufferPlan Reply

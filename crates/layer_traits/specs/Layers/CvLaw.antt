@@ -7,7 +7,7 @@ use Rattle.layer_traits.specs.declared.{locked.Side.Side, conditions.{CvLeave.Th
 use Rattle.layer_traits.specs.declared.{queues.QueueEvent.QueueEvent, queue_edits.{QueueAnswer.QueueAnswer, QueueEdit.QueueEdit}, passes.Pass.Pass}
 use Rattle.layer_traits.specs.{declared.{scheds.SchedCall.SchedCall, sleeps.Outcome.Outcome}, Layers.Conditions.{MonitorRules, CvCall, cv_rules}}
 use Rattle.layer_traits.specs.Layers.{Queues.{Kernel, buffer_sections}, QLocking.{LockState, lock_after, lock_caller, wait_list_in}, QLockLaw.Locking}
-use Rattle.layer_traits.specs.Layers.QLockLaw.{LockPolled, MayGo, MayLock, MustWait, at_start, slept_for, lock_plan, lock_pass_plan}
+use Rattle.layer_traits.specs.Layers.QLockLaw.{LockPolled, MayGo, MayLock, MustWait, locking_at_start, slept_for, lock_plan, lock_pass_plan}
 use Rattle.{layer_traits.specs.{Threads.MoveRules.MoveRules, Polling.Plans.{Left, Plan, Now, raised}}, thread_blocks.specs.Queues.is_in}
 use Rattle.layer_traits.specs.declared.conditions.CvOut.TheVariants as answer
 
@@ -18,7 +18,7 @@ pub record Waiting (O : Type 0) : Type 0 where
 
 -- at the start nobody waits
 abbrev pub waiting_at_start : {O : Type 0} → List CpuId → CpuId → Waiting O
-waiting_at_start homes c = record { lock = at_start homes c; waits = replicate THREADS None }
+waiting_at_start homes c = record { lock = locking_at_start homes c; waits = replicate THREADS None }
 
 -- what a thread may call: where it does not wait, what the lock allows; where it was woken out of a wait, the answer to that wait
 abbrev pub MayWait : {G E : Type 0} → Option BufId → Option (SchedCall E) → BufId → CvCall G → Tid → Type 0 → Type 0
@@ -50,25 +50,25 @@ left_released t b waits lock answer.Left outcome = waiting_with lock waits (Some
 left_released t b waits lock (answer.Waited side) outcome = waiting_with lock (slice_set waits t.0 (Some b)) None
 
 -- what a poll leaves where the lock answered this
-abbrev pub left_reported : {O : Type 0} → Tid → BufId → List (Option BufId) → Locking (CvOut O) → QOut (CvOut O) → Outcome (QOut (CvOut O))
+abbrev pub waiting_reported : {O : Type 0} → Tid → BufId → List (Option BufId) → Locking (CvOut O) → QOut (CvOut O) → Outcome (QOut (CvOut O))
     → Left (Waiting O) (Outcome (QOut (CvOut O)))
-left_reported t b waits lock Acquired outcome = waiting_with lock waits (Some outcome)
-left_reported t b waits lock Queued outcome = waiting_with lock waits (Some outcome)
-left_reported t b waits lock (Did out) outcome = waiting_with lock waits (Some outcome)
-left_reported t b waits lock (Released out) outcome = left_released t b waits lock out outcome
+waiting_reported t b waits lock Acquired outcome = waiting_with lock waits (Some outcome)
+waiting_reported t b waits lock Queued outcome = waiting_with lock waits (Some outcome)
+waiting_reported t b waits lock (Did out) outcome = waiting_with lock waits (Some outcome)
+waiting_reported t b waits lock (Released out) outcome = left_released t b waits lock out outcome
 
 -- what a poll leaves, from what the lock's poll left
 abbrev pub left_waiting : {O : Type 0} → Tid → BufId → List (Option BufId) → Locking (CvOut O) → Option (Outcome (QOut (CvOut O)))
     → Left (Waiting O) (Outcome (QOut (CvOut O)))
 left_waiting t b waits lock None = waiting_with lock waits None
-left_waiting t b waits lock (Some outcome) = left_reported t b waits lock outcome.out outcome
+left_waiting t b waits lock (Some outcome) = waiting_reported t b waits lock outcome.out outcome
 
 -- what a poll leaves where the caller was woken out of its wait
 abbrev pub left_woken : {O : Type 0} → Tid → Side → List (Option BufId) → Locking (CvOut O) → Left (Waiting O) (Outcome (QOut (CvOut O)))
 left_woken t side waits lock = waiting_with lock (slice_set waits t.0 None) (Some (waited side))
 
 -- a poll of a thread that does not wait is a poll of its lock
-pub record Waits {G B O : Type 0} (monitor_rules : MonitorRules G B O) (k : Kernel (CvCall G) (LockState B) (Outcome (QOut (CvOut O)))) (ActsFor : CpuId
+pub record PollsItsLock {G B O : Type 0} (monitor_rules : MonitorRules G B O) (k : Kernel (CvCall G) (LockState B) (Outcome (QOut (CvOut O)))) (ActsFor : CpuId
     → Type 0)
     (c : CpuId) (b : BufId) (call : CvCall G) (old new : List (QueueEvent (CvCall G))) (own : Waiting O)
     (under_way : Option (SchedCall (CvCall G))) (got : Left (Waiting O) (Outcome (QOut (CvOut O)))) : Type 0 where
@@ -94,7 +94,7 @@ abbrev pub CvPolled : {G B O : Type 0} → MonitorRules G B O → Kernel (CvCall
     → CvCall G
     → Option BufId → List (QueueEvent (CvCall G)) → List (QueueEvent (CvCall G)) → Waiting O → Option (SchedCall (CvCall G))
     → Left (Waiting O) (Outcome (QOut (CvOut O))) → Type 0
-CvPolled monitor_rules k ActsFor c b call None old new own under_way got = Waits monitor_rules k ActsFor c b call old new own under_way got
+CvPolled monitor_rules k ActsFor c b call None old new own under_way got = PollsItsLock monitor_rules k ActsFor c b call old new own under_way got
 CvPolled monitor_rules k ActsFor c b call (Some at) old new own under_way got = WaitOver monitor_rules k.opening b call old own under_way got
 
 -- what the answer to a wait leaves; a thread that waited asks for nothing else

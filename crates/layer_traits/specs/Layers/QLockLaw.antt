@@ -28,8 +28,8 @@ abbrev pub slept_for : List (Option BufId) → Tid → Option BufId
 slept_for slept t = slice_index_or slept t.0 None
 
 -- a part's own state at boot
-abbrev pub at_start : {O : Type 0} → List CpuId → CpuId → Locking O
-at_start homes c = record { sleep = record { threads = at_boot homes c; deferred = None }; slept = replicate THREADS None }
+abbrev pub locking_at_start : {O : Type 0} → List CpuId → CpuId → Locking O
+locking_at_start homes c = record { sleep = record { threads = at_boot homes c; deferred = None }; slept = replicate THREADS None }
 
 -- whether the current thread was handed a lock for which it slept
 abbrev pub is_handed : List (Option BufId) → Option Tid → Bool

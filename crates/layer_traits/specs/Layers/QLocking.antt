@@ -34,13 +34,13 @@ pub record LockRules (F R B O : Type 0) : Type 1 where
   pub allowed : (LockId → Option (LockState B)) → List (Section (QEdit F R)) → Section (QEdit F R) → Type 0
 
 -- the list of this side, where a caller waits on that side
-abbrev pub waiting_with : Side → Option Side → Tid → List Tid → List Tid
-waiting_with Receivers (Some Receivers) t queue = joined t queue
-waiting_with Senders (Some Senders) t queue = joined t queue
-waiting_with Receivers (Some Senders) t queue = queue
-waiting_with Senders (Some Receivers) t queue = queue
-waiting_with Receivers None t queue = queue
-waiting_with Senders None t queue = queue
+abbrev pub list_with_waiter : Side → Option Side → Tid → List Tid → List Tid
+list_with_waiter Receivers (Some Receivers) t queue = joined t queue
+list_with_waiter Senders (Some Senders) t queue = joined t queue
+list_with_waiter Receivers (Some Senders) t queue = queue
+list_with_waiter Senders (Some Receivers) t queue = queue
+list_with_waiter Receivers None t queue = queue
+list_with_waiter Senders None t queue = queue
 
 -- the list of this side after a signal
 abbrev pub waiting_without : Side → WakeWaiter → List Tid → List Tid
@@ -58,15 +58,15 @@ signalled (Receiver u) receivers senders = if is_in u receivers then Some u else
 signalled (Sender u) receivers senders = if is_in u senders then Some u else None
 
 -- the lock that this thread asked for, where this was its owner: it owns it, or sleeps for it
-abbrev pub asked : {B : Type 0} → Tid → Option Tid → LockState B → LockState B
-asked t None state = record {
+abbrev pub lock_asked_by : {B : Type 0} → Tid → Option Tid → LockState B → LockState B
+lock_asked_by t None state = record {
   owner = Some t;
   sleepers = state.sleepers;
   receivers = state.receivers;
   senders = state.senders;
   above = state.above;
 }
-asked t (Some owner) state = record {
+lock_asked_by t (Some owner) state = record {
   owner = Some owner;
   sleepers = joined t state.sleepers;
   receivers = state.receivers;
@@ -99,7 +99,7 @@ module _ {F R B O : Type 0} (rules : LockRules F R B O) where
 
   -- the lock after a call. A Release does in one event its last edit, names the next owner, and lets its caller wait
   abbrev pub lock_edited : QEdit F R → LockState B → LockState B
-  lock_edited (Acquire t) state = asked t state.owner state
+  lock_edited (Acquire t) state = lock_asked_by t state.owner state
   lock_edited (Inside f) state = record {
     owner = state.owner;
     sleepers = state.sleepers;
@@ -110,8 +110,8 @@ module _ {F R B O : Type 0} (rules : LockRules F R B O) where
   lock_edited (Release r) state = record {
     owner = first state.sleepers;
     sleepers = rest state.sleepers;
-    receivers = waiting_with Receivers (rules.waits (rules.last_answer r state.above)) (rules.last_caller r) state.receivers;
-    senders = waiting_with Senders (rules.waits (rules.last_answer r state.above)) (rules.last_caller r) state.senders;
+    receivers = list_with_waiter Receivers (rules.waits (rules.last_answer r state.above)) (rules.last_caller r) state.receivers;
+    senders = list_with_waiter Senders (rules.waits (rules.last_answer r state.above)) (rules.last_caller r) state.senders;
     above = rules.last_edited r state.above;
   }
 

@@ -5,7 +5,7 @@ use Rattle.event_log.specs.{declared.ids.{BufId.BufId, CpuId.CpuId, LockId.{Lock
 use Rattle.{event_log.specs.{History.{AreOthers, IsLawful}, Sections.{Section, block_after}}, layer_traits.specs.declared.queue_edits.QueueBlock.QueueBlock}
 use Rattle.layer_traits.specs.declared.queue_edits.{QueueEdit.QueueEdit, QueueAnswer.{QueueAnswer, TheVariants.{Done, Taken, Answer}}}
 use Rattle.layer_traits.specs.declared.queues.{QueueCall.{QueueCall, TheVariants.{Push, TakeAll, OnBuffer}}, QueueEvent.QueueEvent}
-use Rattle.layer_traits.specs.Threads.{MoveRules.{MoveRules, edit_move}, Places.{Move, Pushed, Took, Step, step, MayEdit, MayPush, pending_by}}
+use Rattle.layer_traits.specs.Threads.{MoveRules.{MoveRules, edit_move}, Places.{Move, Pushed, Took, Step, step_with, MayEditFor, MayPush, pending_by}}
 use Rattle.layer_traits.specs.{Polling.Plans.{Plan, section_plan}, Protocols.Protocol.{Rules, section}, Blocks.QueueBlocks.{inner, homes_in}}
 use Rattle.layer_traits.specs.declared.queue_edits.QueueEdit.TheVariants as edit
 
@@ -52,11 +52,11 @@ call_move k past (OnBuffer b e) = edit_move k.moves (Buffer b) e (out_at k past 
 -- the steps of these events: all that is known of places
 abbrev pub moves_in : {E B O : Type 0} → Kernel E B O → List (QueueEvent E) → List Step
 moves_in k [] = []
-moves_in k (e ∷ past) = step e.cpu (call_move k past e.call) ∷ moves_in k past
+moves_in k (e ∷ past) = step_with e.cpu (call_move k past e.call) ∷ moves_in k past
 
 -- an edit of a buffer's block may come: its caller stands at home, nobody is in the CPU's hand, and the layer above allows it
 pub record BufferAllowed {E B O : Type 0} (k : Kernel E B O) (past : List (QueueEvent E)) (c : CpuId) (b : BufId) (e : E) : Type 0 where
-  pub caller : MayEdit k.homes (moves_in k past) c (k.moves.caller e)
+  pub caller : MayEditFor k.homes (moves_in k past) c (k.moves.caller e)
   pub upper : k.rules.allowed k.opening (buffer_sections past) (section c (Buffer b) e)
 
 -- a call of a CPU may come after these events: it pushes who is in its hand into the queue of that thread's home, takes its own queue
@@ -105,10 +105,10 @@ lock_of (TakeAll d) = Pending d
 lock_of (OnBuffer b e) = Buffer b
 
 -- the edit of a call, of the block that its lock guards
-abbrev pub edit_of : {E : Type 0} → QueueCall E → QueueEdit E
-edit_of (Push d t) = edit.Push t
-edit_of (TakeAll d) = edit.TakeAll
-edit_of (OnBuffer b e) = edit.Above e
+abbrev pub queue_edit_of : {E : Type 0} → QueueCall E → QueueEdit E
+queue_edit_of (Push d t) = edit.Push t
+queue_edit_of (TakeAll d) = edit.TakeAll
+queue_edit_of (OnBuffer b e) = edit.Above e
 
 -- the queue that a lock guards; at a buffer's lock a number that means nothing
 abbrev pub queue_at : LockId → CpuId
@@ -116,15 +116,15 @@ queue_at (Pending d) = d
 queue_at (Buffer b) = record { 0 = b.0 }
 
 -- the buffer that a lock guards; at a queue's lock a number that means nothing
-abbrev pub buffer_at : LockId → BufId
-buffer_at (Pending d) = record { 0 = d.0 }
-buffer_at (Buffer b) = b
+abbrev pub buffer_guarded : LockId → BufId
+buffer_guarded (Pending d) = record { 0 = d.0 }
+buffer_guarded (Buffer b) = b
 
 -- the call that is this edit at this lock
 abbrev pub call_at : {E : Type 0} → LockId → QueueEdit E → QueueCall E
 call_at lock (edit.Push t) = Push (queue_at lock) t
 call_at lock edit.TakeAll = TakeAll (queue_at lock)
-call_at lock (edit.Above e) = OnBuffer (buffer_at lock) e
+call_at lock (edit.Above e) = OnBuffer (buffer_guarded lock) e
 
 -- the event that a section is
 abbrev pub event_of : {E : Type 0} → Section (QueueEdit E) → QueueEvent E
@@ -132,4 +132,4 @@ event_of s = event s.cpu (call_at s.lock s.edit)
 
 -- the plan of a call: one action of its section
 abbrev pub queue_plan : {E O : Type 0} → QueueCall E → Plan (QueueEdit E) (QueueAnswer O) (Unit {0}) (QueueAnswer O)
-queue_plan call = section_plan (lock_of call) (edit_of call)
+queue_plan call = section_plan (lock_of call) (queue_edit_of call)

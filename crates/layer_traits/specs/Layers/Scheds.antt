@@ -5,7 +5,7 @@ use Rattle.event_log.specs.{declared.ids.{CpuId.CpuId, LockId.{LockId, TheVarian
 use Rattle.layer_traits.specs.declared.{passes.Pass.{Pass, TheVariants.{Switch, YieldNow, Drain, MakeReady, End}}, queue_edits.QueueEdit.QueueEdit}
 use Rattle.layer_traits.specs.declared.{queue_edits.QueueAnswer.QueueAnswer, queues.{QueueCall.QueueCall, QueueEvent.QueueEvent}}
 use Rattle.layer_traits.specs.{declared.scheds.{SchedAnswer.{SchedAnswer, TheVariants.{Done, Answer}}, SchedCall.SchedCall}, Threads.MoveRules.MoveRules}
-use Rattle.layer_traits.specs.Threads.{Passes.{MayPass, IsLocalPass, own_slept, own_woken, pass_after, passed_on, queue_for, took}, Places.Threads}
+use Rattle.layer_traits.specs.Threads.{Passes.{MayPass, IsLocalPass, own_slept, own_woken, pass_after, passed_on, queue_for, took_pending}, Places.Threads}
 use Rattle.layer_traits.specs.{Threads.Places.pending_by, Polling.Plans.{Left, Plan, Now, raised}, Protocols.Protocol.section, Layers.Queues.Kernel}
 use Rattle.layer_traits.specs.Layers.Queues.{QueueAllowed, buffer_sections, event, cpu_of_queue_event, moves_in, out_at, queue_plan}
 use Rattle.layer_traits.specs.declared.queue_edits.QueueAnswer.TheVariants as told
@@ -83,13 +83,13 @@ pub record SchedPolled {E B O : Type 0} (k : Kernel E B O) (ActsFor : CpuId → 
   pub at_once : IsLocal s → IsSome result
 
 -- what a poll leaves: the CPU's own threads, and the answer if it came
-abbrev pub left : {A : Type 0} → Threads → Option A → Left Threads A
-left own answer = record { own = own; answer = answer }
+abbrev pub sched_left : {A : Type 0} → Threads → Option A → Left Threads A
+sched_left own answer = record { own = own; answer = answer }
 
 -- what the answer of the shared queues makes of a CPU's own threads
 abbrev pub own_by : {E O : Type 0} → MoveRules E O → List CpuId → CpuId → QueueAnswer O → Threads → Threads
 own_by mv homes c told.Done own = passed_on own
-own_by mv homes c (told.Taken queue) own = took queue own
+own_by mv homes c (told.Taken queue) own = took_pending queue own
 own_by mv homes c (told.Answer out) own = own_answered mv homes c (Some out) own
 
 -- the scheduler's answer by that of the shared queues
@@ -99,20 +99,20 @@ answer_by (told.Taken queue) = Done
 answer_by (told.Answer out) = Answer out
 
 -- what a poll leaves by what it left at the shared queues
-abbrev pub left_by : {E O : Type 0} → MoveRules E O → List CpuId → CpuId → Threads → Option (QueueAnswer O) → Left Threads (SchedAnswer O)
-left_by mv homes c own None = left own None
-left_by mv homes c own (Some answer) = left (own_by mv homes c answer own) (Some (answer_by answer))
+abbrev pub sched_left_by : {E O : Type 0} → MoveRules E O → List CpuId → CpuId → Threads → Option (QueueAnswer O) → Left Threads (SchedAnswer O)
+sched_left_by mv homes c own None = sched_left own None
+sched_left_by mv homes c own (Some answer) = sched_left (own_by mv homes c answer own) (Some (answer_by answer))
 
 -- what the poll of a call leaves that touches nothing shared
 abbrev pub left_local : {E O : Type 0} → SchedCall E → Threads → Left Threads (SchedAnswer O)
-left_local (call.Pass p) own = left (pass_after p [] own) (Some Done)
-left_local (call.OnBuffer b e) own = left own None
+left_local (call.Pass p) own = sched_left (pass_after p [] own) (Some Done)
+left_local (call.OnBuffer b e) own = sched_left own None
 
 -- the plan of a call by its call at the shared queues
 abbrev pub plan_by : {E O : Type 0} → MoveRules E O → List CpuId → CpuId → SchedCall E → Threads → Option (QueueCall E)
     → Plan (QueueEdit E) (QueueAnswer O) Threads (SchedAnswer O)
 plan_by mv homes c s own None = Now (left_local s own)
-plan_by mv homes c s own (Some q) = raised (λ l. left_by mv homes c own l.answer) (queue_plan q)
+plan_by mv homes c s own (Some q) = raised (λ l. sched_left_by mv homes c own l.answer) (queue_plan q)
 
 -- the plan of a scheduler's call
 abbrev pub sched_plan : {E O : Type 0} → MoveRules E O → List CpuId → CpuId → SchedCall E → Threads → Plan (QueueEdit E) (QueueAnswer O) Threads (SchedAnswer O)

@@ -31,9 +31,9 @@ MayCall (Some under_way) s duty = under_way ≡ s
 
 -- what a poll of a section did: nothing that others see, the section itself, or to send the thread that the section woke to its home
 pub data PollResult (O : Type 0) : Type 0 where
-  Waits : PollResult O
+  WaitsStill : PollResult O
   Does : (outcome : Outcome O) → PollResult O
-  Sends : (t : Tid) → PollResult O
+  SendsHome : (t : Tid) → PollResult O
 
 -- the caller goes on, and a thread in the hand has to be sent home first
 abbrev pub must_send : {O : Type 0} → Outcome O → Threads → Bool
@@ -50,21 +50,21 @@ module _ {E B O : Type 0} (k : Kernel E B (Outcome O)) (c : CpuId) (b : BufId) (
   -- a poll result may be done after this past: a section where none has been done yet, with its outcome there; a thread is sent home from
   -- the hand once its section is done
   abbrev pub MayDo : PollResult O → List (QueueEvent E) → Sleeping O → Type 0
-  MayDo Waits past own = Unit {0}
+  MayDo WaitsStill past own = Unit {0}
   MayDo (Does outcome) past own = (own.deferred ≡ None) × (out_at k past b e ≡ Some outcome)
-  MayDo (Sends t) past own = IsSome own.deferred × (own.threads.hand ≡ Some t)
+  MayDo (SendsHome t) past own = IsSome own.deferred × (own.threads.hand ≡ Some t)
 
   -- the history with a poll result
   abbrev pub seen_with : PollResult O → List (QueueEvent E) → List (QueueEvent E)
-  seen_with Waits past = past
+  seen_with WaitsStill past = past
   seen_with (Does outcome) past = event c (OnBuffer b e) ∷ past
-  seen_with (Sends t) past = event c (Push (queue_for k.homes c t) t) ∷ past
+  seen_with (SendsHome t) past = event c (Push (queue_for k.homes c t) t) ∷ past
 
   -- what a poll result leaves
   abbrev pub left_with : PollResult O → Sleeping O → Left (Sleeping O) (Outcome O)
-  left_with Waits own = record { own = own; answer = None }
+  left_with WaitsStill own = record { own = own; answer = None }
   left_with (Does outcome) own = left_done outcome (own_answered k.moves k.homes c (Some outcome) own.threads)
-  left_with (Sends t) own = record { own = record { threads = passed_on own.threads; deferred = None }; answer = own.deferred }
+  left_with (SendsHome t) own = record { own = record { threads = passed_on own.threads; deferred = None }; answer = own.deferred }
 
 -- a poll of a section: foreign events come first, then at most one poll result, which leaves what was got
 pub record SleepPolled {E B O : Type 0} (k : Kernel E B (Outcome O)) (ActsFor : CpuId → Type 0) (c : CpuId) (b : BufId) (e : E)

@@ -58,11 +58,11 @@ left Senders FirstSleeper queue = queue
 left Senders (Receiver u) queue = queue
 
 -- whom this wakes, of these sleepers, receivers and senders
-abbrev pub woken : Wake → List Tid → List Tid → List Tid → Option Tid
-woken Nobody sleepers receivers senders = None
-woken FirstSleeper sleepers receivers senders = first sleepers
-woken (Receiver u) sleepers receivers senders = if is_in u receivers then Some u else None
-woken (Sender u) sleepers receivers senders = if is_in u senders then Some u else None
+abbrev pub woken_by : Wake → List Tid → List Tid → List Tid → Option Tid
+woken_by Nobody sleepers receivers senders = None
+woken_by FirstSleeper sleepers receivers senders = first sleepers
+woken_by (Receiver u) sleepers receivers senders = if is_in u receivers then Some u else None
+woken_by (Sender u) sleepers receivers senders = if is_in u senders then Some u else None
 
 -- the list of this line
 abbrev pub wait_list_of : {B : Type 0} → WaitList → SleepState B → List Tid
@@ -96,7 +96,7 @@ module _ {E B O : Type 0} (rules : SleepRules E B O) where
 
   -- whom a section wakes
   abbrev pub sleep_woke : E → SleepState B → Option Tid
-  sleep_woke e state = woken (rules.leaves (answer_above e state)) state.sleepers state.receivers state.senders
+  sleep_woke e state = woken_by (rules.leaves (answer_above e state)) state.sleepers state.receivers state.senders
 
   -- what a section answers
   abbrev pub sleep_answer : E → SleepState B → Outcome O

@@ -1,7 +1,7 @@
 -- Runs of polls of a layer of calls, said of the layer.
 use Rattle.{std.specs.Prelude.{ℕ, Bool, List, Option}, event_log.specs.declared.ids.{CpuId.CpuId, Tid.Tid}}
 use Rattle.layer_traits.specs.{declared.{call_layers.CallLayer.Ghosts, calls.{Call.Call, Reply.Reply, ReplyKind.ReplyKind}}, Layers.BufferLaw.BufferPlan}
-use Rattle.layer_traits.specs.{Layers.BufferLaw.{Buffering, answer_in}, Polling.PollRuns.{IsQuiet, Looked, Polled, PolledOn}}
+use Rattle.layer_traits.specs.{Layers.BufferLaw.{Buffering, answer_in}, Polling.PollRuns.{IsBegun, Looked, Polled, PolledOn}}
 
 module _ {P L M : Type 0} (I : Ghosts P L M) (plan : ℕ → List CpuId → CpuId → Tid → Call → Buffering → BufferPlan Reply) where
   -- a look of the layer took its part and machine to the last two, and told whether it looked
@@ -15,8 +15,8 @@ module _ {P L M : Type 0} (I : Ghosts P L M) (plan : ℕ → List CpuId → CpuI
       I.moves I.acts I.IsWhole I.IsStepwise plan t call p m q n (answer_in (I.own q).call_states t told)
 
   -- the call has had no effect since the first part, and its thread runs
-  abbrev pub IsQuietAt : Tid → Call → P → P → Type 0
-  IsQuietAt = IsQuiet I.Fits I.cpu_of I.opening I.site I.room I.ActsFor I.MayHold I.own I.is_inside I.under_way I.seen
+  abbrev pub IsBegunAt : Tid → Call → P → P → Type 0
+  IsBegunAt = IsBegun I.Fits I.cpu_of I.opening I.site I.room I.ActsFor I.MayHold I.own I.is_inside I.under_way I.seen
       I.moves I.acts I.IsWhole I.IsStepwise plan
 
   -- and so did so many polls and looks of this call

@@ -42,7 +42,7 @@ module _ {P M : Type 0} (Fits : P → M → Type 0) (cpu_of : P → CpuId) (open
           (record { own = own_of q; answer = answer })
 
     -- the call that began in the part p has not ended in q, its thread runs, and it has had no effect since
-    pub record IsQuiet (p q : P) : Type 0 where
+    pub record IsBegun (p q : P) : Type 0 where
       pub runs : (threads_in (own_of q)).current ≡ Some t
       pub effect : (call_state_of (own_of q).call_states t).effect ≡ (going (call_state_of (own_of p).call_states t) call).effect
 
@@ -50,6 +50,6 @@ module _ {P M : Type 0} (Fits : P → M → Type 0) (cpu_of : P → CpuId) (open
     -- kind: after each but the last the call was quiet
     pub data PolledOn (p : P) (m : M) : (actions : ℕ) → P → M → (told : Option ReplyKind) → Type 0 where
       once : {q : P} {n : M} {told : Option ReplyKind} → Polled p m q n (answer_in (own_of q).call_states t told) → PolledOn p m 1 q n told
-      again : {k : ℕ} {q r : P} {n o : M} {told : Option ReplyKind} → PolledOn p m k q n None → IsQuiet p q
+      again : {k : ℕ} {q r : P} {n o : M} {told : Option ReplyKind} → PolledOn p m k q n None → IsBegun p q
           → Polled q n r o (answer_in (own_of r).call_states t told) → PolledOn p m (k + 1) r o told
-      looks : {k : ℕ} {q r : P} {n o : M} → PolledOn p m k q n None → IsQuiet p q → Looked true q n r o → PolledOn p m (k + 1) r o None
+      looks : {k : ℕ} {q r : P} {n o : M} → PolledOn p m k q n None → IsBegun p q → Looked true q n r o → PolledOn p m (k + 1) r o None

@@ -17,7 +17,7 @@ abbrev pub Answers : {E B O : Type 0} → Rules E B O → (LockId → Option B) 
 Answers rules opening past s out = option_map (rules.answer s.edit) (block_after rules.edited opening s.lock past) ≡ Some out
 
 -- a poll of a section: foreign sections come first, then the section itself exactly where the poll answers, with its answer at that point
-pub record Polled {E B O : Type 0} (rules : Rules E B O) (opening : LockId → Option B) (ActsFor : CpuId → Type 0) (s : Section E)
+pub record PolledAtLock {E B O : Type 0} (rules : Rules E B O) (opening : LockId → Option B) (ActsFor : CpuId → Type 0) (s : Section E)
     (result : Option O) (old new : List (Section E)) : Type 0 where
   pub others : List (Section E)
   pub foreign : AreForeign ActsFor cpu_of_section others

@@ -1,7 +1,7 @@
 -- What the sections of edits do to places: which move each makes, and where a thread sleeps after them.
 use Rattle.std.specs.Prelude.{◌≡◌, true, List, [], ◌∷◌, Option, Some, None, option_map, if◌then◌else◌}
 use Rattle.{event_log.specs.{declared.ids.{LockId.LockId, Tid.Tid}, History.IsLawful, Sections.{Section, block_after}}, thread_blocks.specs.Queues.same_tid}
-use Rattle.layer_traits.specs.{declared.moves.WaitList.WaitList, Threads.Places.{WaitChannel, At, Move, Pushed, Took, Moved, Still, Step, step, is_thread}}
+use Rattle.layer_traits.specs.{declared.moves.WaitList.WaitList, Threads.Places.{WaitChannel, At, Move, Pushed, Took, Moved, Still, Step, step_with, is_thread}}
 use Rattle.layer_traits.specs.{Threads.Places.is_wait_channel, Protocols.Protocol.Rules}
 
 -- what edits do to places: the thread that calls an edit, the line in which the answer leaves the caller asleep, and whom it wakes
@@ -23,7 +23,7 @@ section_move rules mv opening past s =
 -- the steps of these sections
 abbrev pub section_moves : {E B O : Type 0} → Rules E B O → MoveRules E O → (LockId → Option B) → List (Section E) → List Step
 section_moves rules mv opening [] = []
-section_moves rules mv opening (s ∷ past) = step s.cpu (section_move rules mv opening past s) ∷ section_moves rules mv opening past
+section_moves rules mv opening (s ∷ past) = step_with s.cpu (section_move rules mv opening past s) ∷ section_moves rules mv opening past
 
 -- where the caller of an edit sleeps after it
 abbrev pub slept_at : LockId → Option WaitList → Option WaitChannel → Option WaitChannel

@@ -17,8 +17,8 @@ abbrev pub running : (ℕ → Threads) → ℕ → Tid → ℕ
 running own n t = total (λ k. one_if (is_thread t (own k).current) + count_in t (own k).ready) n
 
 -- how often a thread is in the hand of one of n CPUs
-abbrev pub held : (ℕ → Threads) → ℕ → Tid → ℕ
-held own n t = total (λ k. one_if (is_thread t (own k).hand)) n
+abbrev pub in_any_hand : (ℕ → Threads) → ℕ → Tid → ℕ
+in_any_hand own n t = total (λ k. one_if (is_thread t (own k).hand)) n
 
 -- how often a thread stands in the pending queue of one of n CPUs
 abbrev pub pending : List Step → ℕ → Tid → ℕ
@@ -37,11 +37,11 @@ pub record AllStand (homes : List CpuId) (n : ℕ) (moves : List Step) (own : �
   pub sleep : (t : Tid) → sleeping t ≡ one_if (is_asleep (where_is homes moves t))
 
 -- a thread that exists stands once among all places, and one that does not stands nowhere
-abbrev pub StandsOnce : List CpuId → ℕ → List Step → (ℕ → Threads) → (Tid → ℕ) → Tid → Type 0
-StandsOnce homes n moves own sleeping t =
-    running own n t + held own n t + pending moves n t + sleeping t + over own n t ≡ one_if (is_some (home_of homes t))
+abbrev pub InOnePlace : List CpuId → ℕ → List Step → (ℕ → Threads) → (Tid → ℕ) → Tid → Type 0
+InOnePlace homes n moves own sleeping t =
+    running own n t + in_any_hand own n t + pending moves n t + sleeping t + over own n t ≡ one_if (is_some (home_of homes t))
 
 -- where all of a machine agrees with the places, each thread stands in exactly one of them
 abbrev pub OnePlace : Type 0
 OnePlace = (homes : List CpuId) (n : ℕ) (moves : List Step) (own : ℕ → Threads) (sleeping : Tid → ℕ)
-    → AllStand homes n moves own sleeping → (t : Tid) → StandsOnce homes n moves own sleeping t
+    → AllStand homes n moves own sleeping → (t : Tid) → InOnePlace homes n moves own sleeping t

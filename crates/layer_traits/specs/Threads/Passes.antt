@@ -3,7 +3,7 @@
 use Rattle.std.specs.Prelude.{◌≡◌, ◌≢◌, List, [], ◌∷◌, ◌++◌, Option, Some, None, IsSome, is_some, if◌then◌else◌}
 use Rattle.{event_log.specs.{declared.ids.{CpuId.CpuId, Tid.Tid}, History.AreForeign}, thread_blocks.specs.Queues.{first, rest}}
 use Rattle.layer_traits.specs.declared.{moves.WaitList.WaitList, passes.Pass.{Pass, TheVariants.{Switch, YieldNow, Drain, MakeReady, End}}}
-use Rattle.layer_traits.specs.Threads.Places.{Threads, Step, Pushed, Took, step, cpu_of_step, home_of, is_cpu, pending_by}
+use Rattle.layer_traits.specs.Threads.Places.{Threads, Step, Pushed, Took, step_with, cpu_of_step, home_of, is_cpu, pending_by}
 
 -- the home, or this CPU where there is none
 abbrev pub or_else : CpuId → Option CpuId → CpuId
@@ -24,8 +24,8 @@ abbrev pub switched : Threads → Threads
 switched own = record { current = first own.ready; hand = own.hand; ready = rest own.ready; ended = own.ended }
 
 -- who was pending joins the ready threads, and behind them the thread that ran
-abbrev pub took : List Tid → Threads → Threads
-took queue own = record { current = None; hand = own.hand; ready = (own.ready ++ queue) ++ as_list own.current; ended = own.ended }
+abbrev pub took_pending : List Tid → Threads → Threads
+took_pending queue own = record { current = None; hand = own.hand; ready = (own.ready ++ queue) ++ as_list own.current; ended = own.ended }
 
 -- the hand has passed its thread on
 abbrev pub passed_on : Threads → Threads
@@ -53,8 +53,8 @@ own_woken homes c (Some u) own = record {
 -- what a CPU has of its own after a pass, where this was its pending queue
 abbrev pub pass_after : Pass → List Tid → Threads → Threads
 pass_after Switch queue own = switched own
-pass_after YieldNow queue own = took queue own
-pass_after Drain queue own = took queue own
+pass_after YieldNow queue own = took_pending queue own
+pass_after Drain queue own = took_pending queue own
 pass_after (MakeReady t) queue own = passed_on own
 pass_after End queue own = finished own
 
@@ -70,9 +70,9 @@ MayPass End own = IsSome own.current × (own.hand ≡ None)
 -- the steps of a pass, where it is done
 abbrev pub pass_steps : List CpuId → CpuId → Pass → List Step
 pass_steps homes c Switch = []
-pass_steps homes c YieldNow = step c (Took c) ∷ []
-pass_steps homes c Drain = step c (Took c) ∷ []
-pass_steps homes c (MakeReady t) = step c (Pushed (queue_for homes c t) t) ∷ []
+pass_steps homes c YieldNow = step_with c (Took c) ∷ []
+pass_steps homes c Drain = step_with c (Took c) ∷ []
+pass_steps homes c (MakeReady t) = step_with c (Pushed (queue_for homes c t) t) ∷ []
 pass_steps homes c End = []
 
 -- a pass that touches nothing shared

@@ -26,7 +26,7 @@ pub data WaitChannel : Type 0 where
 pub data Where : Type 0 where
   Home : Where
   Hand : (cpu : CpuId) → Where
-  Pend : (queue : CpuId) → Where
+  IsPending : (queue : CpuId) → Where
   Asleep : (wait_channel : WaitChannel) → Where
 
 -- what an event may do to places: push a thread into a pending queue, take all of one, edit what a lock guards, where the caller
@@ -43,8 +43,8 @@ pub record Step : Type 0 where
   pub move : Move
 
 -- the step of this CPU with this move
-abbrev pub step : CpuId → Move → Step
-step cpu move = record { cpu = cpu; move = move }
+abbrev pub step_with : CpuId → Move → Step
+step_with cpu move = record { cpu = cpu; move = move }
 
 -- the CPU that made a step
 abbrev pub cpu_of_step : Step → CpuId
@@ -58,7 +58,7 @@ where_woken c home = if is_cpu c home then Home else Hand c
 abbrev pub where_taken : CpuId → Where → Where
 where_taken d Home = Home
 where_taken d (Hand c) = Hand c
-where_taken d (Pend c) = if same_cpu d c then Home else Pend c
+where_taken d (IsPending c) = if same_cpu d c then Home else IsPending c
 where_taken d (Asleep p) = Asleep p
 
 -- where the caller of an edit stands after it: asleep in the line that it joined, if it joined one
@@ -68,7 +68,7 @@ where_slept lock (Some wait_list) w = Asleep (At lock wait_list)
 
 -- where a thread stands after a move of this CPU
 abbrev pub where_after : List CpuId → CpuId → Move → Tid → Where → Where
-where_after homes c (Pushed d u) t w = if same_tid u t then Pend d else w
+where_after homes c (Pushed d u) t w = if same_tid u t then IsPending d else w
 where_after homes c (Took d) t w = where_taken d w
 where_after homes c (Moved lock caller slept woke) t w =
     if is_thread t woke then where_woken c (home_of homes t) else (if same_tid caller t then where_slept lock slept w else w)
@@ -105,7 +105,7 @@ is_hand c w = false
 
 -- whether it is in the pending queue of this CPU
 abbrev pub is_pend : CpuId → Where → Bool
-is_pend c (Pend d) = same_cpu d c
+is_pend c (IsPending d) = same_cpu d c
 is_pend c w = false
 
 -- the pending queue of a CPU after a move
@@ -121,7 +121,7 @@ pending_by [] c = []
 pending_by (s ∷ past) c = pending_after s.move c (pending_by past c)
 
 -- a CPU may edit for a caller: the caller stands at home with it, and nobody is in its hand
-pub record MayEdit (homes : List CpuId) (past : List Step) (c : CpuId) (caller : Tid) : Type 0 where
+pub record MayEditFor (homes : List CpuId) (past : List Step) (c : CpuId) (caller : Tid) : Type 0 where
   pub at_home : where_is homes past caller ≡ Home
   pub home : home_of homes caller ≡ Some c
   pub empty : (t : Tid) → where_is homes past t ≢ Hand c
@@ -136,7 +136,7 @@ abbrev pub MayMove : List CpuId → List Step → CpuId → Move → Type 0
 MayMove homes past c (Pushed d t) = MayPush homes past c d t
 MayMove homes past c (Took d) = d ≡ c
 MayMove homes past c (Moved lock caller slept woke) =
-    MayEdit homes past c caller × MatchOption woke (Unit {0}) (λ u. is_asleep (where_is homes past u) ≡ true)
+    MayEditFor homes past c caller × MatchOption woke (Unit {0}) (λ u. is_asleep (where_is homes past u) ≡ true)
 MayMove homes past c Still = Unit {0}
 
 -- each of these steps may follow those before it

@@ -1,8 +1,8 @@
 -- What a machine and its parts tell: of a block, what is true of it; of a thread, where it stands.
 use Rattle.std.specs.Prelude.{◌≡◌, ◌⊎◌, ◌<◌, true, Option, Some, None}
 use Rattle.{event_log.specs.declared.ids.{CpuId.CpuId, Tid.Tid, TheConstants.CPUS}, layer_traits.specs.declared.calls.Place.Place}
-use Rattle.layer_traits.specs.{declared.moves.WaitList.TheVariants.{Sleepers, Receivers, Senders}, Views.Owned.IsHeld, Threads.Places.{Where, Home, Hand, Pend}}
-use Rattle.{layer_traits.specs.Threads.Places.{Asleep, At, Threads}, thread_blocks.specs.Queues.is_in}
+use Rattle.layer_traits.specs.{declared.moves.WaitList.TheVariants.{Sleepers, Receivers, Senders}, Views.Owned.IsHeld, Threads.Places.{Where, Home, Hand}}
+use Rattle.{layer_traits.specs.Threads.Places.{IsPending, Asleep, At, Threads}, thread_blocks.specs.Queues.is_in}
 use Rattle.event_log.specs.declared.ids.LockId.TheVariants as lock
 use Rattle.layer_traits.specs.declared.calls.Place.TheVariants as place
 
@@ -28,7 +28,7 @@ pub record ReadsPlace {P : Type 0} (Fits : P → Type 0) (cpu_of : P → CpuId) 
 abbrev pub queue_place : Where → Option Place
 queue_place Home = None
 queue_place (Hand c) = None
-queue_place (Pend c) = Some (place.Pending c)
+queue_place (IsPending c) = Some (place.Pending c)
 queue_place (Asleep (At (lock.Pending c) line)) = None
 queue_place (Asleep (At (lock.Buffer b) Sleepers)) = Some (place.LockSleeper b)
 queue_place (Asleep (At (lock.Buffer b) Receivers)) = Some (place.WaitRecv b)

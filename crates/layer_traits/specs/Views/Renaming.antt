@@ -42,6 +42,6 @@ renamed_sched name (call.Pass p) = call.Pass p
 renamed_sched name (call.OnBuffer b d) = call.OnBuffer b (name d)
 
 -- a plan, its section under another name
-abbrev pub named : {M N R S A : Type 0} → (M → N) → Plan M R S A → Plan N R S A
-named name (Now left) = Now left
-named name (Act lock m react) = Act lock (name m) react
+abbrev pub plan_named : {M N R S A : Type 0} → (M → N) → Plan M R S A → Plan N R S A
+plan_named name (Now left) = Now left
+plan_named name (Act lock m react) = Act lock (name m) react

@@ -9,34 +9,34 @@ use Rattle.layer_traits.specs.{Blocks.BufferEffects.MayTakeEffect, Layers.{Buffe
 use Rattle.{thread_blocks.{specs.Queues.same_tid, proofs.Members.same_tid_self}, fifo_buffer.specs.Laws.BlockSteps.{put_step, shut_step, take_step}}
 use Rattle.fifo_buffer.specs.{Laws.BlockTallies.{Agree, Kept, Steps, enters, kept_start, kept_step, stays, takes}, Tallies.{Tally, by_side}}
 use Rattle.plain_layers.specs.declared.attempts.{Ask.{Ask, TheVariants.{Send, Receive, Close}}, Attempt.Attempt, Tried.{Tried, TheVariants.{Acted, Refused}}}
-use Rattle.plain_layers.specs.{Attempts.{PlainState, allows, attempt_side, attempts, done, effect_at, effect_in, waits, wakes}, Fifos.{PlainLocked, entries_in}}
-use Rattle.plain_layers.specs.Fifos.{entry_at, fresh_buffer, fresh_buffers, locked_after, shown}
+use Rattle.plain_layers.specs.Attempts.{PlainState, allows, attempt_side, attempts, done, attempt_effect, effect_in, with_waiter, attempt_wakes}
+use Rattle.plain_layers.specs.Fifos.{PlainLocked, plain_entries_in, entry_at, fresh_buffer, fresh_buffers, locked_after, plain_shown}
 
 -- the block that the layer's trait shows of a buffer: nobody stands in its lines, so no position matters
-abbrev pub block_of : PlainState → BufferState
-block_of x = (shown (record { sleepers = []; receivers = []; senders = []; above = x })).above
+abbrev pub plain_block : PlainState → BufferState
+plain_block x = (plain_shown (record { sleepers = []; receivers = []; senders = []; above = x })).above
 
 abbrev pub no_position : Group → Tid → ℕ
 no_position g t = 0
 
 -- what an attempt answers that the buffer allows, or does not, and what it leaves
 abbrev pub reported_if : Bool → Attempt → PlainState → Tried
-reported_if v a x = if v then Acted (effect_at a.ask x) (wakes a.ask x) else Refused (attempt_side a.ask)
+reported_if v a x = if v then Acted (attempt_effect a.ask x) (attempt_wakes a.ask x) else Refused (attempt_side a.ask)
 
 abbrev left_if : Bool → Attempt → PlainState → PlainState
-left_if v a x = if v then done a.ask x else waits a.thread (attempt_side a.ask) x
+left_if v a x = if v then done a.ask x else with_waiter a.thread (attempt_side a.ask) x
 
-agree : (p q : Group → Tid → ℕ) (x : PlainState) → Agree p q (block_of x)
+agree : (p q : Group → Tid → ℕ) (x : PlainState) → Agree p q (plain_block x)
 agree p q x Sends = tt
 agree p q x Receives = tt
 agree p q x Closes = tt
 
-module _ (caps : List ℕ) (es : List Entry) (c : CpuId) (d : BufId) (t : Tid) (x : PlainState) (tally : Tally caps d.0 es no_position (block_of x)) where
+module _ (caps : List ℕ) (es : List Entry) (c : CpuId) (d : BufId) (t : Tid) (x : PlainState) (tally : Tally caps d.0 es no_position (plain_block x)) where
   -- the caller draws the next position of its side, and stands in its line alone
   abbrev next : Side → Tid → ℕ
-  next side u = drawn_of side (block_of x)
+  next side u = drawn_of side (plain_block x)
 
-  in_line : (side : Side) → Tally caps d.0 es (by_side next) (entered side t (block_of x))
+  in_line : (side : Side) → Tally caps d.0 es (by_side next) (entered side t (plain_block x))
   in_line side = enters tally next side t (agree no_position (by_side next) x) refl
 
   first : (may : Bool) → may ≡ true → (same_tid t t && may) ≡ true
@@ -44,14 +44,14 @@ module _ (caps : List ℕ) (es : List Entry) (c : CpuId) (d : BufId) (t : Tid) (
 
   here_step : (ask : Ask) (v : Bool) → allows ask x ≡ v
       → Steps caps d.0 es (option_map (entry_of c t d) (effect_in (reported_if v (record { thread = t; ask = ask }) x))) no_position
-      (block_of (left_if v (record { thread = t; ask = ask }) x))
+      (plain_block (left_if v (record { thread = t; ask = ask }) x))
   here_step (Send m) true is =
-      takes (put_step c d t (by_side next) (entered Senders t (block_of x)) m (first (allows (Send m) x) is)) (in_line Senders) no_position
+      takes (put_step c d t (by_side next) (entered Senders t (plain_block x)) m (first (allows (Send m) x) is)) (in_line Senders) no_position
       (agree (by_side next) no_position (done (Send m) x))
   here_step Receive true is =
-      takes (take_step c d t (by_side next) (entered Receivers t (block_of x)) (first (allows Receive x) is)) (in_line Receivers) no_position
+      takes (take_step c d t (by_side next) (entered Receivers t (plain_block x)) (first (allows Receive x) is)) (in_line Receivers) no_position
       (agree (by_side next) no_position (done Receive x))
-  here_step Close true is = takes (shut_step c d t no_position (block_of x)) tally no_position (agree no_position no_position (done Close x))
+  here_step Close true is = takes (shut_step c d t no_position (plain_block x)) tally no_position (agree no_position no_position (done Close x))
   here_step (Send m) false is = stays tally no_position (agree no_position no_position x)
   here_step Receive false is = stays tally no_position (agree no_position no_position x)
   here_step Close false is = absurd cc
@@ -66,31 +66,32 @@ placed_at c a d (Some state) e is = placed c a.thread d (effect_in (reported_if 
 
 module _ (locks : LockId → Option PlainLocked) (caps : List ℕ) (fresh : locks ≡ fresh_buffers caps) where
   -- after these sections the buffers tell these effects, each of which may come after those before it
-  abbrev AreKept : List (Section Attempt) → List Entry → Type 0
-  AreKept past es = Kept (sleep_edited attempts) locks caps (λ (state : PlainLocked). block_of state.above) (λ b past. no_position) past es
+  abbrev AttemptsAreKept : List (Section Attempt) → List Entry → Type 0
+  AttemptsAreKept past es = Kept (sleep_edited attempts) locks caps (λ (state : PlainLocked). plain_block state.above) (λ b past. no_position) past es
 
-  all_kept : (past : List (Section Attempt)) → AreKept past (entries_in locks past)
+  all_kept : (past : List (Section Attempt)) → AttemptsAreKept past (plain_entries_in locks past)
   all_kept [] =
-      kept_start (sleep_edited attempts) locks caps (λ (state : PlainLocked). block_of state.above) (λ b past. no_position) fresh_buffer
+      kept_start (sleep_edited attempts) locks caps (λ (state : PlainLocked). plain_block state.above) (λ b past. no_position) fresh_buffer
       (λ b. ap (λ (o : LockId → Option PlainLocked). o (Buffer b)) fresh) (λ n. refl)
   all_kept (s ∷ past) = go s.lock (all_kept past)
     where
-      go : (lock : LockId) → AreKept past (entries_in locks past)
-          → AreKept (section s.cpu lock s.edit ∷ past)
-          (option_to_list (entry_at s.cpu lock s.edit (locked_after locks lock past)) ++ entries_in locks past)
+      go : (lock : LockId) → AttemptsAreKept past (plain_entries_in locks past)
+          → AttemptsAreKept (section s.cpu lock s.edit ∷ past)
+          (option_to_list (entry_at s.cpu lock s.edit (locked_after locks lock past)) ++ plain_entries_in locks past)
       go (Pending d) kept = kept
       go (Buffer d) kept =
-          kept_step (sleep_edited attempts) locks caps (λ (state : PlainLocked). block_of state.above) (λ b past. no_position)
-          (entries_in locks past) past kept s.cpu d s.edit (entry_at s.cpu (Buffer d) s.edit) refl (placed_at s.cpu s.edit d) (λ b other g t. refl)
-          (λ state at tally. here_step caps (entries_in locks past) s.cpu d s.edit.thread state.above tally s.edit.ask (allows s.edit.ask state.above) refl)
+          kept_step (sleep_edited attempts) locks caps (λ (state : PlainLocked). plain_block state.above) (λ b past. no_position)
+          (plain_entries_in locks past) past kept s.cpu d s.edit (entry_at s.cpu (Buffer d) s.edit) refl (placed_at s.cpu s.edit d) (λ b other g t. refl)
+          (λ state at tally. here_step caps (plain_entries_in locks past) s.cpu d s.edit.thread state.above tally s.edit.ask
+          (allows s.edit.ask state.above) refl)
 
 -- each effect may come after those before it
 pub plain_lawful : (locks : LockId → Option PlainLocked) (caps : List ℕ) (past : List (Section Attempt)) → locks ≡ fresh_buffers caps
-    → IsLawful (MayTakeEffect caps) (entries_in locks past)
+    → IsLawful (MayTakeEffect caps) (plain_entries_in locks past)
 plain_lawful locks caps past fresh = (all_kept locks caps fresh past).1
 
 -- and a buffer tells them
 pub plain_tally : (locks : LockId → Option PlainLocked) (caps : List ℕ) (past : List (Section Attempt)) → locks ≡ fresh_buffers caps
     → (b : BufId) (state : PlainLocked) → locked_after locks (Buffer b) past ≡ Some state
-    → Tally caps b.0 (entries_in locks past) no_position (block_of state.above)
+    → Tally caps b.0 (plain_entries_in locks past) no_position (plain_block state.above)
 plain_tally locks caps past fresh = (all_kept locks caps fresh past).0

@@ -3,9 +3,9 @@ use Rattle.std.proofs.Common.{◌≡◌, false, List, Option, Some, None, refl}
 use Rattle.{event_log.specs.declared.ids.Tid.Tid, layer_traits.specs.declared.locked.QEdit.{QEdit, TheVariants.{Acquire, Inside, Release}}}
 use Rattle.layer_traits.specs.declared.{locked.{QOut.TheVariants.Did, Side.Side, WakeWaiter.WakeWaiter}, moves.WaitList.TheVariants.{Sleepers, Receivers}}
 use Rattle.layer_traits.specs.{declared.moves.WaitList.TheVariants.Senders, Layers.QLocking.{LockRules, wait_list_for, lock_answer, lock_edited, signalled}}
-use Rattle.layer_traits.specs.Layers.{QLocking.{waiting_with, waiting_without}, Sleeping.{SleepState, left, wait_list_joined, sleep_answer, sleep_edited}}
-use Rattle.{layer_traits.specs.Layers.Sleeping.woken, queuing_lock.specs.{declared.edits.{QBlock.QBlock, QLockEdit.QLockEdit}, Nested.{busy_rules, edit_in}}}
-use Rattle.{queuing_lock.specs.Nested.{leaving, nested_lock_of}, thread_blocks.specs.Queues.{first, rest}}
+use Rattle.layer_traits.specs.Layers.{QLocking.{list_with_waiter, waiting_without}, Sleeping.{SleepState, left, wait_list_joined, sleep_answer, sleep_edited}}
+use Rattle.{layer_traits.specs.Layers.Sleeping.woken_by, queuing_lock.specs.{declared.edits.{QBlock.QBlock, QLockEdit.QLockEdit}, Nested.busy_rules}}
+use Rattle.{queuing_lock.specs.Nested.{lock_call, leaving, nested_lock_of}, thread_blocks.specs.Queues.{first, rest}}
 use Rattle.layer_traits.specs.declared.locked.Side.TheVariants as side
 use Rattle.layer_traits.specs.declared.locked.WakeWaiter.TheVariants as signal
 
@@ -35,15 +35,15 @@ module _ {B : Type 0} (owner : Option Tid) (sleepers receivers senders : List Ti
   }) ≡ record {
     owner = owner;
     sleepers = sleepers;
-    receivers = waiting_with side.Receivers w t receivers;
-    senders = waiting_with side.Senders w t senders;
+    receivers = list_with_waiter side.Receivers w t receivers;
+    senders = list_with_waiter side.Senders w t senders;
     above = above;
   }
   wait_joins None t = refl
   wait_joins (Some side.Receivers) t = refl
   wait_joins (Some side.Senders) t = refl
 
-signal_wakes : (s : WakeWaiter) (sleepers receivers senders : List Tid) → woken (leaving s) sleepers receivers senders ≡ signalled s receivers senders
+signal_wakes : (s : WakeWaiter) (sleepers receivers senders : List Tid) → woken_by (leaving s) sleepers receivers senders ≡ signalled s receivers senders
 signal_wakes signal.Nobody sleepers receivers senders = refl
 signal_wakes other sleepers receivers senders = refl
 
@@ -65,7 +65,7 @@ module _ {F R B O : Type 0} (rules : LockRules F R B O) where
 
   -- a section leaves the lock that the call leaves
   pub edits : (d : QLockEdit F R) (a : SleepState (QBlock B)) → nested_lock_of (sleep_edited (busy_rules rules) d a)
-      ≡ lock_edited rules (edit_in d) (nested_lock_of a)
+      ≡ lock_edited rules (lock_call d) (nested_lock_of a)
   edits d a = edits_by d.edit a
 
   answers_asked : (t : Tid) (busy : Option Tid) (sleepers receivers senders : List Tid) (above : B) →
@@ -85,5 +85,5 @@ module _ {F R B O : Type 0} (rules : LockRules F R B O) where
   answers_by (Release r) a = refl
 
   -- and answers what the call answers
-  pub answers : (d : QLockEdit F R) (a : SleepState (QBlock B)) → sleep_answer (busy_rules rules) d a ≡ lock_answer rules (edit_in d) (nested_lock_of a)
+  pub answers : (d : QLockEdit F R) (a : SleepState (QBlock B)) → sleep_answer (busy_rules rules) d a ≡ lock_answer rules (lock_call d) (nested_lock_of a)
   answers d a = answers_by d.edit a

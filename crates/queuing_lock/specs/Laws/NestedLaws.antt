@@ -10,27 +10,27 @@ use Rattle.layer_traits.specs.Layers.{Queues.{QueueAllowed, buffer_sections, mov
 use Rattle.layer_traits.specs.{Layers.Sleeping.sleep_edited, Polling.Plans.is_in_section, Blocks.QueueBlocks.{homes_in, inner}, Views.Renaming.renamed_edit}
 use Rattle.layer_traits.{specs.Views.Renaming.{renamed_events, renamed_sched, viewed}, proofs.KernelRenaming.{Wraps, block_renamed, homes_viewed, inner_viewed}}
 use Rattle.{layer_traits.proofs.KernelRenaming.{lawful_renamed, moves_renamed, sections_renamed}, queuing_lock.specs.declared.edits.QBlock.QBlock}
-use Rattle.queuing_lock.specs.{declared.edits.QLockEdit.QLockEdit, Laws.Edits.{answers, edits}, Nested.{busy_rules, edit_in, nested_lock_of, locks}}
+use Rattle.queuing_lock.specs.{declared.edits.QLockEdit.QLockEdit, Laws.Edits.{answers, edits}, Nested.{busy_rules, lock_call, nested_lock_of, locks}}
 
 module _ {F R B O : Type 0} (rules : LockRules F R B O) (opening : LockId → Option (QueueBlock (SleepState (QBlock B)))) where
   -- what stands beneath
-  abbrev pub beneath : Kernel (QLockEdit F R) (SleepState (QBlock B)) (Outcome (QOut O))
-  beneath = sleep_kernel (busy_rules rules) opening
+  abbrev pub beneath_the_lock : Kernel (QLockEdit F R) (SleepState (QBlock B)) (Outcome (QOut O))
+  beneath_the_lock = sleep_kernel (busy_rules rules) opening
 
   -- what stands here
-  abbrev pub here : Kernel (QEdit F R) (LockState B) (Outcome (QOut O))
-  here = lock_kernel rules (viewed nested_lock_of opening)
+  abbrev pub at_the_lock : Kernel (QEdit F R) (LockState B) (Outcome (QOut O))
+  at_the_lock = lock_kernel rules (viewed nested_lock_of opening)
 
   pub inner_locks : (λ (lock : LockId). inner (viewed nested_lock_of opening) lock) ≡ locks (inner opening)
   inner_locks = λ i lock. inner_viewed nested_lock_of opening lock i
 
   pub allowed_here : (past : List (Section (QLockEdit F R))) (s : Section (QLockEdit F R))
-      → LockAllowed rules (locks (inner opening)) (map (renamed_section edit_in) past) (renamed_section edit_in s)
-      → LockAllowed rules (inner (viewed nested_lock_of opening)) (map (renamed_section edit_in) past) (renamed_section edit_in s)
+      → LockAllowed rules (locks (inner opening)) (map (renamed_section lock_call) past) (renamed_section lock_call s)
+      → LockAllowed rules (inner (viewed nested_lock_of opening)) (map (renamed_section lock_call) past) (renamed_section lock_call s)
   allowed_here past s allowed =
-      subst (λ o. LockAllowed rules o (map (renamed_section edit_in) past) (renamed_section edit_in s)) (sym inner_locks) allowed
+      subst (λ o. LockAllowed rules o (map (renamed_section lock_call) past) (renamed_section lock_call s)) (sym inner_locks) allowed
 
-  pub locks_wrap : Wraps beneath here edit_in nested_lock_of
+  pub locks_wrap : Wraps beneath_the_lock at_the_lock lock_call nested_lock_of
   locks_wrap = record {
     edits = edits rules;
     answers = answers rules;
@@ -42,28 +42,28 @@ module _ {F R B O : Type 0} (rules : LockRules F R B O) (opening : LockId → Op
     allowed = allowed_here;
   }
 
-  pub locks_lawful : (past : List (QueueEvent (QLockEdit F R))) → IsLawful (QueueAllowed beneath) past
-      → IsLawful (QueueAllowed here) (renamed_events edit_in past)
+  pub locks_lawful : (past : List (QueueEvent (QLockEdit F R))) → IsLawful (QueueAllowed beneath_the_lock) past
+      → IsLawful (QueueAllowed at_the_lock) (renamed_events lock_call past)
   locks_lawful past lawful = lawful_renamed _ _ _ _ locks_wrap past lawful
 
-  pub same_moves : (past : List (QueueEvent (QLockEdit F R))) → moves_in here (renamed_events edit_in past) ≡ moves_in beneath past
+  pub same_moves : (past : List (QueueEvent (QLockEdit F R))) → moves_in at_the_lock (renamed_events lock_call past) ≡ moves_in beneath_the_lock past
   same_moves past = moves_renamed _ _ _ _ locks_wrap past
 
   -- the threads stand here as they stand beneath
-  pub locks_stand : (c : CpuId) (past : List (QueueEvent (QLockEdit F R))) (own : Threads) → Stands (homes_in opening) c (moves_in beneath past) own
-      → Stands (homes_in (viewed nested_lock_of opening)) c (moves_in here (renamed_events edit_in past)) own
+  pub locks_stand : (c : CpuId) (past : List (QueueEvent (QLockEdit F R))) (own : Threads) → Stands (homes_in opening) c (moves_in beneath_the_lock past) own
+      → Stands (homes_in (viewed nested_lock_of opening)) c (moves_in at_the_lock (renamed_events lock_call past)) own
   locks_stand c past own stands = transport (λ i. Stands (sym (homes_viewed nested_lock_of opening) i) c (sym (same_moves past) i) own) stands
 
   -- they move from where they stand
-  pub locks_moves_legal : (past : List (QueueEvent (QLockEdit F R))) → AreMoves (homes_in opening) (moves_in beneath past)
-      → AreMoves (homes_in (viewed nested_lock_of opening)) (moves_in here (renamed_events edit_in past))
+  pub locks_moves_legal : (past : List (QueueEvent (QLockEdit F R))) → AreMoves (homes_in opening) (moves_in beneath_the_lock past)
+      → AreMoves (homes_in (viewed nested_lock_of opening)) (moves_in at_the_lock (renamed_events lock_call past))
   locks_moves_legal past moving = transport (λ i. AreMoves (sym (homes_viewed nested_lock_of opening) i) (sym (same_moves past) i)) moving
 
   -- a lock is the view of the block beneath
   pub lock_is : (lock : LockId) (past : List (QueueEvent (QLockEdit F R)))
-      → lock_after rules (inner (viewed nested_lock_of opening)) lock (buffer_sections (renamed_events edit_in past))
+      → lock_after rules (inner (viewed nested_lock_of opening)) lock (buffer_sections (renamed_events lock_call past))
       ≡ option_map nested_lock_of (block_after (sleep_edited (busy_rules rules)) (inner opening) lock (buffer_sections past))
-  lock_is lock past = ap (lock_after rules (inner (viewed nested_lock_of opening)) lock) (sections_renamed edit_in past)
+  lock_is lock past = ap (lock_after rules (inner (viewed nested_lock_of opening)) lock) (sections_renamed lock_call past)
       ∙ block_renamed _ _ _ _ locks_wrap lock (buffer_sections past)
 
   wait_list_seen : (line : WaitList) (o : Option (SleepState (QBlock B))) → wait_list_in line (option_map nested_lock_of o) ≡ wait_list_at line o
@@ -74,7 +74,7 @@ module _ {F R B O : Type 0} (rules : LockRules F R B O) (opening : LockId → Op
 
   -- the waiting lists agree with the places
   pub locks_lists : (past : List (QueueEvent (QLockEdit F R))) → ListsAgree (busy_rules rules) opening past
-      → LocksAgree rules (viewed nested_lock_of opening) (renamed_events edit_in past)
+      → LocksAgree rules (viewed nested_lock_of opening) (renamed_events lock_call past)
   locks_lists past lists lock line t =
       ap (λ o. count_in t (wait_list_in line o)) (lock_is lock past)
       ∙ (ap (count_in t) (wait_list_seen line (block_after (sleep_edited (busy_rules rules)) (inner opening) lock (buffer_sections past)))
@@ -82,16 +82,16 @@ module _ {F R B O : Type 0} (rules : LockRules F R B O) (opening : LockId → Op
       ∙ λ i. one_if (is_at lock line (wait_channel_of (where_is (sym (homes_viewed nested_lock_of opening) i) (sym (same_moves past) i) t)))))
 
 -- a layer with no history beneath has none here
-pub nothing_seen : {F R : Type 0} (past : List (QueueEvent (QLockEdit F R))) → renamed_events edit_in past ≡ [] → past ≡ []
-nothing_seen [] none = refl
-nothing_seen (e ∷ past) none = absurd cc
+pub nothing_seen_at_the_lock : {F R : Type 0} (past : List (QueueEvent (QLockEdit F R))) → renamed_events lock_call past ≡ [] → past ≡ []
+nothing_seen_at_the_lock [] none = refl
+nothing_seen_at_the_lock (e ∷ past) none = absurd cc
 
 -- while no call is under way here none is beneath
-pub none_beneath : {F R : Type 0} (under : Option (SchedCall (QLockEdit F R))) → option_map (renamed_sched edit_in) under ≡ None → under ≡ None
+pub none_beneath : {F R : Type 0} (under : Option (SchedCall (QLockEdit F R))) → option_map (renamed_sched lock_call) under ≡ None → under ≡ None
 none_beneath None none = refl
 none_beneath (Some s) none = absurd cc
 
 -- a CPU waits or holds here as it does beneath
 pub locks_busy : {F R : Type 0} (c : CpuId) (acts : List (Action (QueueEdit (QLockEdit F R)))) (b : Bool) → b ≡ is_in_section (phase c acts)
-    → b ≡ is_in_section (phase c (map (renamed (renamed_edit edit_in)) acts))
-locks_busy c acts b is = is ∙ ap is_in_section (sym (phase_renamed (renamed_edit edit_in) c acts))
+    → b ≡ is_in_section (phase c (map (renamed (renamed_edit lock_call)) acts))
+locks_busy c acts b is = is ∙ ap is_in_section (sym (phase_renamed (renamed_edit lock_call) c acts))

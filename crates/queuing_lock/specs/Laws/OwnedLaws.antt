@@ -5,7 +5,7 @@ use Rattle.layer_traits.specs.{declared.{queue_edits.QueueBlock.QueueBlock, queu
 use Rattle.layer_traits.specs.{Layers.{Queues.{buffer_sections, moves_in}, Sleeping.{SleepState, sleep_edited}}, Views.Owned.IsObserved}
 use Rattle.layer_traits.{specs.{Views.Renaming.{renamed_events, viewed}, Threads.Places.pending_by, Blocks.QueueBlocks.inner}, proofs.OwnedLemmas.PartsOn}
 use Rattle.{layer_traits.proofs.OwnedLemmas.{same_shown, shown_on, viewed_shown}, queuing_lock.specs.declared.edits.{QBlock.QBlock, QLockEdit.QLockEdit}}
-use Rattle.queuing_lock.specs.{Laws.NestedLaws.{beneath, here, lock_is, same_moves}, Nested.{busy_rules, edit_in, nested_lock_of}}
+use Rattle.queuing_lock.specs.{Laws.NestedLaws.{beneath_the_lock, at_the_lock, lock_is, same_moves}, Nested.{busy_rules, lock_call, nested_lock_of}}
 
 module _ {P Q F R B O : Type 0} (rules : LockRules F R B O) (opening : LockId → Option (QueueBlock (SleepState (QBlock B))))
     (past : List (QueueEvent (QLockEdit F R))) (parts : PartsOn P Q) where
@@ -15,7 +15,7 @@ module _ {P Q F R B O : Type 0} (rules : LockRules F R B O) (opening : LockId �
   pub locks_shown : (b : BufId) (tells : P → Option (SleepState (QBlock B))) (home : Option (SleepState (QBlock B)))
       → IsObserved FitsP cpu_below MayHold tells home (block_after (sleep_edited (busy_rules rules)) (inner opening) (Buffer b) (buffer_sections past))
       → IsObserved FitsQ (λ q. cpu_below (below q)) MayHold (λ q. option_map nested_lock_of (tells (below q))) (option_map nested_lock_of home)
-      (lock_after rules (inner (viewed nested_lock_of opening)) (Buffer b) (buffer_sections (renamed_events edit_in past)))
+      (lock_after rules (inner (viewed nested_lock_of opening)) (Buffer b) (buffer_sections (renamed_events lock_call past)))
   locks_shown b tells home shown =
       let truth = block_after (sleep_edited (busy_rules rules)) (inner opening) (Buffer b) (buffer_sections past) in
       viewed_shown nested_lock_of FitsQ _ MayHold (λ q. tells (below q)) home truth _ (lock_is rules opening (Buffer b) past)
@@ -23,9 +23,9 @@ module _ {P Q F R B O : Type 0} (rules : LockRules F R B O) (opening : LockId �
 
   -- and what is told of a pending queue is told of it here
   pub locks_queues : (d : CpuId) (tells : P → Option (List Tid)) (home : Option (List Tid))
-      → IsObserved FitsP cpu_below MayHold tells home (Some (pending_by (moves_in (beneath rules opening) past) d))
+      → IsObserved FitsP cpu_below MayHold tells home (Some (pending_by (moves_in (beneath_the_lock rules opening) past) d))
       → IsObserved FitsQ (λ q. cpu_below (below q)) MayHold (λ q. tells (below q)) home
-      (Some (pending_by (moves_in (here rules opening) (renamed_events edit_in past)) d))
+      (Some (pending_by (moves_in (at_the_lock rules opening) (renamed_events lock_call past)) d))
   locks_queues d tells home shown =
       same_shown FitsQ _ MayHold (λ q. tells (below q)) home _ _ (ap (λ moves. Some (pending_by moves d)) (sym (same_moves rules opening past)))
-      (shown_on parts tells home (Some (pending_by (moves_in (beneath rules opening) past) d)) shown)
+      (shown_on parts tells home (Some (pending_by (moves_in (beneath_the_lock rules opening) past) d)) shown)

@@ -5,11 +5,11 @@ use Rattle.event_log.specs.{declared.ids.{BufId.BufId, CpuId.CpuId, LockId.{Lock
 use Rattle.event_log.{specs.History.{IsLawful, same_cpu, same_lock}, proofs.Same.{same_cpu_self, same_lock_true}}
 use Rattle.layer_traits.specs.declared.{locked.QEdit.{QEdit, TheVariants.{Acquire, Inside, Release}}, queue_edits.QueueBlock.QueueBlock}
 use Rattle.layer_traits.specs.{declared.queues.{QueueCall.{QueueCall, TheVariants.{Push, TakeAll, OnBuffer}}, QueueEvent.QueueEvent}, Layers.QLocking.IsOwners}
-use Rattle.layer_traits.specs.Layers.{QLocking.{LockRules, LockState, lock_after, asked, lock_caller, lock_edited, owner_in}, QLockLaw.HasOrAwaits}
+use Rattle.layer_traits.specs.Layers.{QLocking.{LockRules, LockState, lock_after, lock_asked_by, lock_caller, lock_edited, owner_in}, QLockLaw.HasOrAwaits}
 use Rattle.layer_traits.specs.Layers.{QLockLaw.lock_kernel, Queues.{CallAllowed, QueueAllowed, buffer_sections, cpu_of_queue_event, with_section}}
 use Rattle.{layer_traits.specs.{Layers.Sleeping.joined, Threads.Places.home_of, Blocks.QueueBlocks.{homes_in, inner}}, thread_blocks.specs.Queues.first}
 use Rattle.thread_blocks.{specs.Queues.{is_in, rest, same_tid}, proofs.{Distinct.{out_of_rest, pushed_in}, Members.same_tid_true}}
-use Rattle.queuing_lock.specs.Steady.{HasNothing, IsOwner, IsPreserved, Keeps}
+use Rattle.queuing_lock.specs.Steady.{HasNothing, IsOwner, IsPreserved, IsKeptByOwners}
 
 module _ {F R B O : Type 0} (rules : LockRules F R B O) (opening : LockId → Option (QueueBlock (LockState B))) (kept : IsPreserved rules opening) where
   open kept use {t, P, keeps, c, at_home, lock}
@@ -86,7 +86,7 @@ front_or_behind t (x ∷ queue) stands = go (same_tid t x) refl stands
 
 module _ {F R B O : Type 0} (rules : LockRules F R B O) (t : Tid) where
   asked_awaits : (u : Tid) (owner : Option Tid) (state : LockState B) → (owner ≡ Some t) ⊎ (is_in t state.sleepers ≡ true)
-      → HasOrAwaits t (Some (asked u owner state))
+      → HasOrAwaits t (Some (lock_asked_by u owner state))
   asked_awaits u None state (inl owns) = absurd cc
   asked_awaits u None state (inr waits) = inr waits
   asked_awaits u (Some o) state (inl owns) = inl owns
@@ -102,28 +102,28 @@ module _ {F R B O : Type 0} (rules : LockRules F R B O) (t : Tid) where
   released_awaits r state owner apart (inr waits) = front_or_behind t state.sleepers waits
 
   -- whoever owns a lock or sleeps for it goes on to do so while others call
-  pub keeps_awaits : Keeps rules t (HasOrAwaits t)
+  pub keeps_awaits : IsKeptByOwners rules t (HasOrAwaits t)
   keeps_awaits (Acquire u) state owners apart holds = asked_awaits u state.owner state holds
   keeps_awaits (Inside f) state owners apart holds = holds
   keeps_awaits (Release r) state owners apart holds = released_awaits r state owners apart holds
 
   asked_nothing : (u : Tid) (owner : Option Tid) (state : LockState B) → (u ≡ t → ⊥) → (owner ≢ Some t) × (is_in t state.sleepers ≡ false)
-      → HasNothing rules t (Some (asked u owner state))
+      → HasNothing rules t (Some (lock_asked_by u owner state))
   asked_nothing u None state apart nothing = (λ same. let one : u ≡ t = cc in apart one, nothing.1)
   asked_nothing u (Some o) state apart nothing = (nothing.0, joined_only t u state.sleepers apart nothing.1)
 
   -- whoever has no part in a lock goes on to have none
-  pub keeps_nothing : Keeps rules t (HasNothing rules t)
+  pub keeps_nothing : IsKeptByOwners rules t (HasNothing rules t)
   keeps_nothing (Acquire u) state owners apart holds = asked_nothing u state.owner state apart holds
   keeps_nothing (Inside f) state owners apart holds = holds
   keeps_nothing (Release r) state owners apart holds = out_of_rest t state.sleepers holds.1
 
-  asked_owned : (u : Tid) (owner : Option Tid) (state : LockState B) → owner ≡ Some t → owner_in (Some (asked u owner state)) ≡ Some t
+  asked_owned : (u : Tid) (owner : Option Tid) (state : LockState B) → owner ≡ Some t → owner_in (Some (lock_asked_by u owner state)) ≡ Some t
   asked_owned u None state owns = absurd cc
   asked_owned u (Some o) state owns = owns
 
   -- and an owner owns it until it releases it
-  pub keeps_owned : Keeps rules t (IsOwner rules t)
+  pub keeps_owned : IsKeptByOwners rules t (IsOwner rules t)
   keeps_owned (Acquire u) state owners apart holds = asked_owned u state.owner state holds
   keeps_owned (Inside f) state owners apart holds = holds
   keeps_owned (Release r) state owners apart holds =

@@ -6,6 +6,6 @@ same_busy f None = refl
 same_busy f (Some s) = refl
 
 -- no call is under way exactly if no section is
-pub none_beneath : {A B : Type 0} (f : A → B) (under : Option A) → option_map f under ≡ None → under ≡ None
-none_beneath f None none = refl
-none_beneath f (Some s) none = absurd (none-some (f s) (sym none))
+pub no_section_beneath : {A B : Type 0} (f : A → B) (under : Option A) → option_map f under ≡ None → under ≡ None
+no_section_beneath f None none = refl
+no_section_beneath f (Some s) none = absurd (none-some (f s) (sym none))

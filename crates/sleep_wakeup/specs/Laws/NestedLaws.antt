@@ -5,8 +5,8 @@ use Rattle.event_log.specs.{declared.ids.{BufId.BufId, CpuId.CpuId, LockId.{Lock
 use Rattle.event_log.{specs.{Actions.renamed, Sections.{Section, block_after, renamed_section}}, proofs.Renaming.phase_renamed}
 use Rattle.layer_traits.specs.declared.{queue_edits.{QueueBlock.QueueBlock, QueueEdit.QueueEdit}, queues.QueueEvent.QueueEvent, scheds.SchedCall.SchedCall}
 use Rattle.layer_traits.specs.{declared.sleeps.Outcome.Outcome, Threads.{ListsAgree.{ListsAgree, is_at}, MoveRules.{WakesSleepers, asleep_by, edit_move}}}
-use Rattle.layer_traits.specs.Threads.{MoveRules.section_moves, Places.{AreMoves, Stands, count_in, Threads, is_wait_channel, one_if, wait_channel_of, step}}
-use Rattle.layer_traits.specs.{Threads.Places.where_is, Polling.Plans.{is_in_section, table_of}, Blocks.QueueBlocks.{StartsWell, homes_in, inner}}
+use Rattle.layer_traits.specs.Threads.{MoveRules.section_moves, Places.{AreMoves, Stands, count_in, Threads, is_wait_channel, one_if, wait_channel_of}}
+use Rattle.layer_traits.specs.{Threads.Places.{step_with, where_is}, Polling.Plans.{is_in_section, table_of}, Blocks.QueueBlocks.{StartsWell, homes_in, inner}}
 use Rattle.layer_traits.specs.Layers.{Queues.{Kernel, QueueAllowed, buffer_sections, kernel, moves_in}, Scheds.EditStays, SleepLaw.{MaySleep, sleep_kernel}}
 use Rattle.layer_traits.specs.Layers.Sleeping.{IsAwake, NobodySleeps, SleepRules, SleepState, wait_list_at, sleep_answer, sleep_edited, sleep_moves}
 use Rattle.layer_traits.{specs.{Layers.Sleeping.sleep_rules, Views.Renaming.{renamed_edit, renamed_events, viewed}}, proofs.CallLemmas.asleep_wait_channel}
@@ -14,7 +14,7 @@ use Rattle.layer_traits.proofs.{CallLemmas.{moves_append, moves_lawful, moves_ot
 use Rattle.layer_traits.proofs.{ListsLemmas.section_wakes, PlaceLemmas.{current_at, stands_others}, PlanRenaming.block_viewed, KernelRenaming.Wraps}
 use Rattle.layer_traits.proofs.KernelRenaming.{homes_viewed, inner_viewed, lawful_renamed, moves_renamed, sections_renamed, stays_renamed}
 use Rattle.sleep_wakeup.specs.{declared.edits.{SleepBlock.SleepBlock, SleepEdit.SleepEdit}, Parts.{Deferred, as_edit, under_of}, Nested.NestedAllowed}
-use Rattle.sleep_wakeup.specs.Nested.{edit_in, nested_answer, nested_edited, nested_moves, nested_rules, state_of, states}
+use Rattle.sleep_wakeup.specs.Nested.{slept_edit, nested_answer, nested_edited, nested_moves, nested_rules, state_of, states}
 use Rattle.layer_traits.specs.declared.scheds.SchedCall.TheVariants as call
 
 -- Sections.
@@ -22,29 +22,29 @@ use Rattle.layer_traits.specs.declared.scheds.SchedCall.TheVariants as call
 module _ {E B O : Type 0} (rules : SleepRules E B O) (opening : LockId → Option (SleepBlock B)) where
   -- the sections under the names of the layer above
   abbrev above : List (Section (SleepEdit E)) → List (Section E)
-  above past = map (renamed_section edit_in) past
+  above past = map (renamed_section slept_edit) past
 
   -- the block of a lock is the view of the block beneath
   state_after : (lock : LockId) (past : List (Section (SleepEdit E)))
       → block_after (sleep_edited rules) (states opening) lock (above past) ≡ option_map state_of (block_after (nested_edited rules) opening lock past)
   state_after lock past =
       block_viewed (table_of (nested_rules rules)) (table_of (sleep_rules rules))
-      (record { name = edit_in; view = state_of; told = λ (o : Outcome O). o; edits = λ d a. refl; answers = λ d a. refl }) opening lock past
+      (record { name = slept_edit; view = state_of; told = λ (o : Outcome O). o; edits = λ d a. refl; answers = λ d a. refl }) opening lock past
 
   answer_seen : (d : SleepEdit E) (o : Option (SleepBlock B))
-      → option_map (sleep_answer rules (edit_in d)) (option_map state_of o) ≡ option_map (nested_answer rules d) o
+      → option_map (sleep_answer rules (slept_edit d)) (option_map state_of o) ≡ option_map (nested_answer rules d) o
   answer_seen d None = refl
   answer_seen d (Some a) = refl
 
   -- and so is its answer
   out_after : (past : List (Section (SleepEdit E))) (s : Section (SleepEdit E))
-      → option_map (sleep_answer rules (edit_in s.edit)) (block_after (sleep_edited rules) (states opening) s.lock (above past))
+      → option_map (sleep_answer rules (slept_edit s.edit)) (block_after (sleep_edited rules) (states opening) s.lock (above past))
       ≡ option_map (nested_answer rules s.edit) (block_after (nested_edited rules) opening s.lock past)
-  out_after past s = ap (option_map (sleep_answer rules (edit_in s.edit))) (state_after s.lock past)
+  out_after past s = ap (option_map (sleep_answer rules (slept_edit s.edit))) (state_after s.lock past)
       ∙ answer_seen s.edit (block_after (nested_edited rules) opening s.lock past)
 
   move_out : (lock : LockId) (d : SleepEdit E) (o : Option (Outcome O))
-      → edit_move (sleep_moves rules) lock (edit_in d) o ≡ edit_move (nested_moves rules) lock d o
+      → edit_move (sleep_moves rules) lock (slept_edit d) o ≡ edit_move (nested_moves rules) lock d o
   move_out lock d None = refl
   move_out lock d (Some out) = refl
 
@@ -53,7 +53,7 @@ module _ {E B O : Type 0} (rules : SleepRules E B O) (opening : LockId → Optio
       → section_moves (sleep_rules rules) (sleep_moves rules) (states opening) (above past)
       ≡ section_moves (nested_rules rules) (nested_moves rules) opening past
   moves_above [] = refl
-  moves_above (s ∷ past) = λ i. step s.cpu ((ap (edit_move (sleep_moves rules) s.lock (edit_in s.edit)) (out_after past s)
+  moves_above (s ∷ past) = λ i. step_with s.cpu ((ap (edit_move (sleep_moves rules) s.lock (slept_edit s.edit)) (out_after past s)
       ∙ move_out s.lock s.edit (option_map (nested_answer rules s.edit) (block_after (nested_edited rules) opening s.lock past))) i) ∷ moves_above past i
 
   -- the callers of allowed sections are awake
@@ -65,7 +65,7 @@ module _ {E B O : Type 0} (rules : SleepRules E B O) (opening : LockId → Optio
 pub nested_wakes : {E B O : Type 0} (rules : SleepRules E B O) → WakesSleepers (nested_rules rules) (nested_moves rules)
 nested_wakes rules opening past s out u lawful allowed answers wakes =
     subst (λ moves. is_wait_channel (asleep_by moves u) ≡ true) (moves_above rules opening past)
-    (section_wakes rules (states opening) (map (renamed_section edit_in) past) (renamed_section edit_in s) out u
+    (section_wakes rules (states opening) (map (renamed_section slept_edit) past) (renamed_section slept_edit s) out u
     (awake_above rules opening past lawful) allowed.start
     (out_after rules opening past s ∙ answers) wakes)
 
@@ -84,12 +84,12 @@ module _ {E B O : Type 0} (rules : SleepRules E B O) (opening : LockId → Optio
   inner_states = λ i lock. inner_viewed state_of opening lock i
 
   pub allowed_here : (past : List (Section (SleepEdit E))) (s : Section (SleepEdit E)) → NestedAllowed rules (inner opening) past s
-      → rules.allowed (inner (viewed state_of opening)) (map (renamed_section edit_in) past) (renamed_section edit_in s)
+      → rules.allowed (inner (viewed state_of opening)) (map (renamed_section slept_edit) past) (renamed_section slept_edit s)
   allowed_here past s allowed =
-      subst (λ (o : LockId → Option (SleepState B)). rules.allowed o (map (renamed_section edit_in) past) (renamed_section edit_in s))
+      subst (λ (o : LockId → Option (SleepState B)). rules.allowed o (map (renamed_section slept_edit) past) (renamed_section slept_edit s))
       (sym inner_states) allowed.upper
 
-  pub nested_wraps : Wraps beneath here edit_in state_of
+  pub nested_wraps : Wraps beneath here slept_edit state_of
   nested_wraps = record {
     edits = λ d a. refl;
     answers = λ d a. refl;
@@ -102,40 +102,40 @@ module _ {E B O : Type 0} (rules : SleepRules E B O) (opening : LockId → Optio
   }
 
   pub nested_lawful : (past : List (QueueEvent (SleepEdit E))) → IsLawful (QueueAllowed beneath) past
-      → IsLawful (QueueAllowed here) (renamed_events edit_in past)
+      → IsLawful (QueueAllowed here) (renamed_events slept_edit past)
   nested_lawful past lawful = lawful_renamed _ _ _ _ nested_wraps past lawful
 
-  pub same_moves : (past : List (QueueEvent (SleepEdit E))) → moves_in here (renamed_events edit_in past) ≡ moves_in beneath past
+  pub same_moves : (past : List (QueueEvent (SleepEdit E))) → moves_in here (renamed_events slept_edit past) ≡ moves_in beneath past
   same_moves past = moves_renamed _ _ _ _ nested_wraps past
 
   -- the threads stand here as they stand beneath
   pub nested_stands : (c : CpuId) (past : List (QueueEvent (SleepEdit E))) (own : Threads) → Stands (homes_in opening) c (moves_in beneath past) own
-      → Stands (homes_in (viewed state_of opening)) c (moves_in here (renamed_events edit_in past)) own
+      → Stands (homes_in (viewed state_of opening)) c (moves_in here (renamed_events slept_edit past)) own
   nested_stands c past own stands = transport (λ i. Stands (sym (homes_viewed state_of opening) i) c (sym (same_moves past) i) own) stands
 
   -- they move from where they stand
   pub nested_moves_legal : (past : List (QueueEvent (SleepEdit E))) → IsLawful (QueueAllowed beneath) past
-      → AreMoves (homes_in (viewed state_of opening)) (moves_in here (renamed_events edit_in past))
+      → AreMoves (homes_in (viewed state_of opening)) (moves_in here (renamed_events slept_edit past))
   nested_moves_legal past lawful =
       transport (λ i. AreMoves (sym (homes_viewed state_of opening) i) (sym (same_moves past) i)) (moves_lawful beneath (nested_wakes rules) past lawful)
 
   -- where a thread sleeps by the sections of the layer above is where its place says
   asleep_here : (past : List (QueueEvent (SleepEdit E))) (t : Tid) → IsLawful (QueueAllowed beneath) past
       → wait_channel_of (where_is (homes_in opening) (moves_in beneath past) t)
-      ≡ asleep_by (section_moves (sleep_rules rules) (sleep_moves rules) (states (inner opening)) (map (renamed_section edit_in) (buffer_sections past))) t
+      ≡ asleep_by (section_moves (sleep_rules rules) (sleep_moves rules) (states (inner opening)) (map (renamed_section slept_edit) (buffer_sections past))) t
   asleep_here past t lawful =
       asleep_wait_channel (homes_in opening) (moves_in beneath past) t (moves_lawful beneath (nested_wakes rules) past lawful)
       ∙ (sym (sections_asleep beneath past t) ∙ ap (λ moves. asleep_by moves t) (sym (moves_above rules (inner opening) (buffer_sections past))))
 
   -- the waiting lists agree with the places
   pub nested_lists : (past : List (QueueEvent (SleepEdit E))) → IsLawful (QueueAllowed beneath) past → NobodySleeps (states (inner opening))
-      → ListsAgree rules (viewed state_of opening) (renamed_events edit_in past)
+      → ListsAgree rules (viewed state_of opening) (renamed_events slept_edit past)
   nested_lists past lawful nobody lock line t =
       ap (λ (o : LockId → Option (SleepState B)). count_in t
-      (wait_list_at line (block_after (sleep_edited rules) o lock (buffer_sections (renamed_events edit_in past))))) inner_states
+      (wait_list_at line (block_after (sleep_edited rules) o lock (buffer_sections (renamed_events slept_edit past))))) inner_states
       ∙ (ap (λ sections. count_in t (wait_list_at line (block_after (sleep_edited rules) (states (inner opening)) lock sections)))
-      (sections_renamed edit_in past)
-      ∙ (lists_agree rules (states (inner opening)) (map (renamed_section edit_in) (buffer_sections past))
+      (sections_renamed slept_edit past)
+      ∙ (lists_agree rules (states (inner opening)) (map (renamed_section slept_edit) (buffer_sections past))
       (awake_above rules (inner opening) (buffer_sections past) (upper_lawful beneath past lawful)) nobody lock line t
       ∙ (ap (λ p. one_if (is_at lock line p)) (sym (asleep_here past t lawful))
       ∙ λ i. one_if (is_at lock line (wait_channel_of (where_is (sym (homes_viewed state_of opening) i) (sym (same_moves past) i) t))))))
@@ -145,7 +145,7 @@ module _ {E B O : Type 0} (rules : SleepRules E B O) (opening : LockId → Optio
   pub nested_stays : (c : CpuId) (past : List (QueueEvent (SleepEdit E))) (own : Threads) (b : BufId) (e : E) → StartsWell opening
       → IsLawful (QueueAllowed beneath) past
       → NobodySleeps (states (inner opening)) → Stands (homes_in opening) c (moves_in beneath past) own
-      → MaySleep here c (renamed_events edit_in past) own b e → EditStays beneath c past (call.OnBuffer b (as_edit e))
+      → MaySleep here c (renamed_events slept_edit past) own b e → EditStays beneath c past (call.OnBuffer b (as_edit e))
   nested_stays c past own b e starts lawful nobody stands may more others legal =
       let moving = moves_lawful beneath (nested_wakes rules) (more ++ past) legal in
       let now = subst (λ moves. Stands (homes_in opening) c moves own) (sym (moves_append beneath more past))
@@ -158,14 +158,14 @@ module _ {E B O : Type 0} (rules : SleepRules E B O) (opening : LockId → Optio
           awake = sym (asleep_here (more ++ past) (rules.caller e) legal) ∙ ap wait_channel_of at.1;
           small = omega (arith, slice_get_within (homes_in opening) (rules.caller e).0 c at.0, starts.room);
         };
-        upper = subst (λ (o : LockId → Option (SleepState B)). rules.allowed o (map (renamed_section edit_in) (buffer_sections (more ++ past)))
+        upper = subst (λ (o : LockId → Option (SleepState B)). rules.allowed o (map (renamed_section slept_edit) (buffer_sections (more ++ past)))
             (record { cpu = c; lock = Buffer b; edit = e })) inner_states (stays_renamed _ _ _ _ nested_wraps c past b (as_edit e) may.stays more others legal);
       }
 
 -- The part.
 
 -- a layer with no history beneath has none here
-pub nothing_seen : {E : Type 0} (past : List (QueueEvent (SleepEdit E))) → renamed_events edit_in past ≡ [] → past ≡ []
+pub nothing_seen : {E : Type 0} (past : List (QueueEvent (SleepEdit E))) → renamed_events slept_edit past ≡ [] → past ≡ []
 nothing_seen [] none = refl
 nothing_seen (e ∷ past) none = absurd cc
 
@@ -178,5 +178,5 @@ nested_idle (Some k) under none = absurd cc
 
 -- a CPU waits or holds here as it does beneath
 pub nested_busy : {E : Type 0} (c : CpuId) (acts : List (Action (QueueEdit (SleepEdit E)))) (b : Bool) → b ≡ is_in_section (phase c acts)
-    → b ≡ is_in_section (phase c (map (renamed (renamed_edit edit_in)) acts))
-nested_busy c acts b is = is ∙ ap is_in_section (sym (phase_renamed (renamed_edit edit_in) c acts))
+    → b ≡ is_in_section (phase c (map (renamed (renamed_edit slept_edit)) acts))
+nested_busy c acts b is = is ∙ ap is_in_section (sym (phase_renamed (renamed_edit slept_edit) c acts))

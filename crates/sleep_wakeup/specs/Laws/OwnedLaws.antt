@@ -5,17 +5,17 @@ use Rattle.layer_traits.specs.{declared.{queue_edits.QueueBlock.QueueBlock, queu
 use Rattle.layer_traits.specs.{Views.Renaming.viewed, Threads.Places.pending_by, Blocks.QueueBlocks.inner, Layers.Queues.{buffer_sections, moves_in}}
 use Rattle.layer_traits.{specs.Layers.Sleeping.{SleepRules, sleep_edited}, proofs.{KernelRenaming.{block_renamed, sections_renamed}, OwnedLemmas.PartsOn}}
 use Rattle.{layer_traits.proofs.OwnedLemmas.{same_shown, shown_on, viewed_shown}, sleep_wakeup.specs.declared.edits.SleepBlock.SleepBlock}
-use Rattle.sleep_wakeup.specs.{declared.edits.SleepEdit.SleepEdit, Laws.NestedLaws.{beneath, here, nested_wraps, same_moves}, Nested.{edit_in, nested_edited}}
-use Rattle.sleep_wakeup.specs.Nested.{state_of}
+use Rattle.sleep_wakeup.specs.{declared.edits.SleepEdit.SleepEdit, Laws.NestedLaws.{beneath, here, nested_wraps, same_moves}, Nested.slept_edit}
+use Rattle.sleep_wakeup.specs.Nested.{nested_edited, state_of}
 
 module _ {P Q E B O : Type 0} (rules : SleepRules E B O) (opening : LockId → Option (QueueBlock (SleepBlock B))) (past : List (QueueEvent (SleepEdit E)))
     (parts : PartsOn P Q) where
   open parts use {below, FitsP, FitsQ, cpu_below, MayHold}
 
   -- the block of a buffer with its waiting lists is the view of the block beneath
-  state_is : (b : BufId) → block_after (sleep_edited rules) (inner (viewed state_of opening)) (Buffer b) (buffer_sections (renamed_events edit_in past))
+  state_is : (b : BufId) → block_after (sleep_edited rules) (inner (viewed state_of opening)) (Buffer b) (buffer_sections (renamed_events slept_edit past))
       ≡ option_map state_of (block_after (nested_edited rules) (inner opening) (Buffer b) (buffer_sections past))
-  state_is b = ap (λ sections. block_after (sleep_edited rules) (inner (viewed state_of opening)) (Buffer b) sections) (sections_renamed edit_in past)
+  state_is b = ap (λ sections. block_after (sleep_edited rules) (inner (viewed state_of opening)) (Buffer b) sections) (sections_renamed slept_edit past)
       ∙ block_renamed _ _ _ _ (nested_wraps rules opening) (Buffer b) (buffer_sections past)
 
   -- so what is told of that block is told of its waiting lists
@@ -23,7 +23,7 @@ module _ {P Q E B O : Type 0} (rules : SleepRules E B O) (opening : LockId → O
       → IsObserved FitsP cpu_below MayHold tells home (block_after (nested_edited rules) (inner opening) (Buffer b) (buffer_sections past))
       → IsObserved FitsQ (λ q. cpu_below (below q)) MayHold
       (λ q. option_map state_of (tells (below q))) (option_map state_of home)
-      (block_after (sleep_edited rules) (inner (viewed state_of opening)) (Buffer b) (buffer_sections (renamed_events edit_in past)))
+      (block_after (sleep_edited rules) (inner (viewed state_of opening)) (Buffer b) (buffer_sections (renamed_events slept_edit past)))
   nested_shown b tells home shown =
       let truth = block_after (nested_edited rules) (inner opening) (Buffer b) (buffer_sections past) in
       viewed_shown state_of FitsQ _ MayHold (λ q. tells (below q)) home truth _ (state_is b) (shown_on parts tells home truth shown)
@@ -32,7 +32,7 @@ module _ {P Q E B O : Type 0} (rules : SleepRules E B O) (opening : LockId → O
   pub nested_queues : (d : CpuId) (tells : P → Option (List Tid)) (home : Option (List Tid))
       → IsObserved FitsP cpu_below MayHold tells home (Some (pending_by (moves_in (beneath rules opening) past) d))
       → IsObserved FitsQ (λ q. cpu_below (below q)) MayHold (λ q. tells (below q)) home
-      (Some (pending_by (moves_in (here rules opening) (renamed_events edit_in past)) d))
+      (Some (pending_by (moves_in (here rules opening) (renamed_events slept_edit past)) d))
   nested_queues d tells home shown =
       same_shown FitsQ _ MayHold (λ q. tells (below q)) home _ _ (ap (λ moves. Some (pending_by moves d)) (sym (same_moves rules opening past)))
       (shown_on parts tells home (Some (pending_by (moves_in (beneath rules opening) past) d)) shown)

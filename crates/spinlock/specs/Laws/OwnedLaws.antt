@@ -1,7 +1,7 @@
 -- What a machine of locks and the stages of its CPUs tell of a block is what the sections make of it.
 use Rattle.std.{specs.Prelude.{◌≡◌, Bool, true, false, List, Option, Some, None, MatchOption, if◌then◌else◌, refl}, proofs.Common.{arith, ap, sym, ◌∙◌, subst}}
 use Rattle.event_log.specs.{declared.ids.{CpuId.CpuId, LockId.LockId}, Actions.{Action, Holds, AreLegal, phase}, History.same_lock, Sections.block_after}
-use Rattle.event_log.{specs.Sections.sections_in, proofs.{Exclusion.{is_at, knows}, Same.{same_lock_self, same_lock_true}}}
+use Rattle.event_log.{specs.Sections.sections_in, proofs.{Exclusion.{is_at, cpu_is_known}, Same.{same_lock_self, same_lock_true}}}
 use Rattle.layer_traits.specs.{Views.Owned.{IsHeld, IsObserved}, Polling.Plans.is_in_section, Protocols.Protocol.Rules}
 use Rattle.spinlock.specs.{declared.stages.TicketPhase.{TicketPhase, TheVariants.{Out, Waiting, Holding}}, OwnedLaws.SomeoneHolds, Stages.StageFits}
 use Rattle.spinlock.specs.Stages.{held_block}
@@ -51,7 +51,7 @@ module _ {E B O : Type 0} (rules : Rules E B O) (opening : LockId → Option B) 
           (λ d. is_in_section (phase d acts) ≡ true) (λ p. held_block lock (stage_of p))
       held holds = record {
         cpu = holds.0;
-        known = knows acts legal holds.0 lock (ap (is_at lock) holds.1 ∙ same_lock_self lock);
+        known = cpu_is_known acts legal holds.0 lock (ap (is_at lock) holds.1 ∙ same_lock_self lock);
         inside = ap is_in_section holds.1;
         has = λ p same fits none. holder_has holds.0 holds.1 (stage_of p)
             (subst (λ c. StageFits rules opening acts c (stage_of p)) same fits.1) none;

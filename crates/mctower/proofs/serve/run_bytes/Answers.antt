@@ -3,8 +3,8 @@ use Rattle.std.specs.{Prelude.if◌then◌else◌, Io.KnownBytes.Appends}
 use Rattle.{event_log.{specs.declared.ids.CpuId.CpuId, proofs.BoolLemmas.refuted}, boot.specs.{declared.refusals.BootError.BootError, Plan.{BootPlan, plan_of}}}
 use Rattle.{tracer.{specs.Sinks.Outs, proofs.SinkLemmas.{all_out, outs_then}}, mctower.specs.declared.refusals.Refusal.{Refusal, TheVariants.WriteFault}}
 use Rattle.mctower.specs.declared.{refusals.Refusal.TheVariants.Plan as BadPlan, serve.outcomes.Done.{Done, TheVariants.Ran}, tell.state_lines.State.State}
-use Rattle.mctower.specs.{declared.run.run_faults.Fault.Fault, State.IsStateOf, Running.{IsRunOf, NoCondition, RunsOn, Tells}, Output.{Output, between}}
-use Rattle.mctower.{specs.{Serve.{OfPlan, RefusedBy, RunsPlan, ReportsRun}, Refusals.{from_fault, lacks_memory}}, proofs.TabledLemmas.state_of_run}
+use Rattle.mctower.specs.{declared.run.run_faults.Fault.Fault, State.IsStateOf, Running.{IsRunOf, NoCondition, RunsTextOn, Tells}, Output.{Output, between}}
+use Rattle.mctower.{specs.{Serve.{OfPlan, RefusedBy, ServesPlan, ReportsRun}, Refusals.{from_fault, lacks_memory}}, proofs.TabledLemmas.state_of_run}
 use Rattle.cpu.specs.Claims.{Shown}
 use Rattle.mctower.specs.declared.run.run_faults.Fault.TheVariants as run
 use Rattle.mctower.proofs.serve.run_bytes.Goals as goal
@@ -18,10 +18,10 @@ told plan steps s state answer true ran is given = given
 
 -- the text of a run is out, and then nothing more was put out
 ran_out : (steps : List CpuId) (ran : Result Shown Fault) (state : State) (read : Result BootPlan BootError)
-    (answer : Result Done Refusal) (first whole : Output) → RunsOn NoCondition read steps ran first
+    (answer : Result Done Refusal) (first whole : Output) → RunsTextOn NoCondition read steps ran first
     → Tells ran (Ok state) → answer ≡ (if whole.failed then Err WriteFault else Ok (Ran state))
     → Outs whole.failed first.new whole.new [] → first.old ≡ whole.old → (whole.failed ≡ false → whole.flushed ≡ true)
-    → OfPlan (RunsPlan steps) read answer whole
+    → OfPlan (ServesPlan steps) read answer whole
 ran_out steps (Ok s) state (Ok plan) answer first whole runs is given more same passed_on =
     let trace = runs.1.out.text in
     let out : Appends first.old first.new trace = all_out first.failed first.old first.new trace runs.0 runs.1.out.out in
@@ -50,8 +50,8 @@ reported_fault plan steps s true is = refl
 
 -- a run that had a fault
 fault_ran : (steps : List CpuId) (read : Result BootPlan BootError) (fault : Fault) (out : Output)
-    → RunsOn NoCondition read steps (Err fault) out
-    → RefusedBy lacks_memory (Err (from_fault fault)) out ⊎ OfPlan (RunsPlan steps) read (Err (from_fault fault)) out
+    → RunsTextOn NoCondition read steps (Err fault) out
+    → RefusedBy lacks_memory (Err (from_fault fault)) out ⊎ OfPlan (ServesPlan steps) read (Err (from_fault fault)) out
 fault_ran steps (Ok plan) (run.NoMemory refused) out runs = inl (refl, runs)
 fault_ran steps (Ok plan) (run.Boot e) out runs = absurd runs
 fault_ran steps (Ok plan) run.BadCpu out runs = inr (inl (runs.0, (refl, runs.1)))
@@ -75,11 +75,11 @@ fault_ran steps (Err e) run.WriteFault out runs = absurd runs
 
 -- and one of which a fault is told
 fault_told : (steps : List CpuId) (ran : Result Shown Fault) (read : Result BootPlan BootError) (fault : Fault) (out : Output)
-    → RunsOn NoCondition read steps ran out → Tells ran (Err fault)
-    → RefusedBy lacks_memory (Err (from_fault fault)) out ⊎ OfPlan (RunsPlan steps) read (Err (from_fault fault)) out
+    → RunsTextOn NoCondition read steps ran out → Tells ran (Err fault)
+    → RefusedBy lacks_memory (Err (from_fault fault)) out ⊎ OfPlan (ServesPlan steps) read (Err (from_fault fault)) out
 fault_told steps (Ok s) read fault out runs is = absurd is
 fault_told steps (Err f) read fault out runs is =
-    subst (λ e. RefusedBy lacks_memory (Err (from_fault e)) out ⊎ OfPlan (RunsPlan steps) read (Err (from_fault e)) out) (sym is)
+    subst (λ e. RefusedBy lacks_memory (Err (from_fault e)) out ⊎ OfPlan (ServesPlan steps) read (Err (from_fault e)) out) (sym is)
     (fault_ran steps read f out runs)
 
 pub returns-in-Err-clause-runs : goal.returns-in-Err-clause-runs
@@ -90,7 +90,7 @@ returns-in-Err-clause-runs g c =
       | inl refused ↦ inl refused
       | inr runs ↦ inr (inr (
         c.in-Ok.ensures.cases.1,
-        subst (λ t. OfPlan (RunsPlan c.args.steps.now) (plan_of t) (Err (from_fault c.in-Err.fault))
+        subst (λ t. OfPlan (ServesPlan c.args.steps.now) (plan_of t) (Err (from_fault c.in-Err.fault))
             (between g.O.Write.contents c.args.out.now c.run_plan.new.out)) same runs,
       ))
     ])
@@ -100,7 +100,7 @@ returns-in-Ok-run_plan-clause-runs g c =
     let same = c.in-Ok.ensures.cases.0 in
     inr (inr (
       c.in-Ok.ensures.cases.1,
-      subst (λ t. OfPlan (RunsPlan c.args.steps.now) (plan_of t) c.put_out.result
+      subst (λ t. OfPlan (ServesPlan c.args.steps.now) (plan_of t) c.put_out.result
           (between g.O.Write.contents c.args.out.now c.put_out.new.out)) same
           (ran_out c.args.steps.now _ c.in-Ok-run_plan.state (plan_of c.in-Ok.plan.now) c.put_out.result
           (between g.O.Write.contents c.args.out.now c.run_plan.new.out) (between g.O.Write.contents c.args.out.now c.put_out.new.out)

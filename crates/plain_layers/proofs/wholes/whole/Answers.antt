@@ -1,5 +1,5 @@
 use Rattle.{std.proofs.Common.{Option, inl, inr, refl, ap, subst}, layer_traits.specs.{declared.sleeps.Outcome.Outcome, Blocks.Payloads.outcome_told}}
-use Rattle.{layer_traits.specs.{Blocks.Payloads.told_by, Layers.SleepLaw.{SleepPolled, Sleeping, sleep_kernel}}, plain_layers.specs.Wholes.asked}
+use Rattle.{layer_traits.specs.{Blocks.Payloads.told_by, Layers.SleepLaw.{SleepPolled, Sleeping, sleep_kernel}}, plain_layers.specs.Wholes.asked_edit}
 use Rattle.plain_layers.proofs.WholeLemmas.{first_answers, first_sends, second_sends, both_polls}
 use Rattle.plain_layers.proofs.wholes.whole.Goals as goal
 
@@ -13,7 +13,7 @@ returns-in-Some-clause-done g c =
     let said = c.in-Some.ensures in
     let known = g.met.S.ThreadLayer.known n (S.cpu_of part) (said.framed.stays.acts (S.cpu_of part) (g.met.S.ThreadLayer.own_cpu part m c.requires.fits)) in
     let edit = g.E.Sleeps.meant c.args.edit c.args.payload.now.parcel in
-    inl (first_answers (asked (sleep_kernel g.E.Sleeps.rules (S.opening m)) (S.cpu_of part) c.args.buffer edit) (λ d. S.ActsFor m d) c.requires.all
+    inl (first_answers (asked_edit (sleep_kernel g.E.Sleeps.rules (S.opening m)) (S.cpu_of part) c.args.buffer edit) (λ d. S.ActsFor m d) c.requires.all
     (S.seen m) (S.seen n) (S.own part) (S.own c.poll.new.self) (outcome_told g.E.Sleeps.told c.in-Some.outcome c.poll.new.payload.parcel)
     c.requires.deferred known said.seen)
 
@@ -29,7 +29,7 @@ returns-in-None-clause-done g c =
     let more = c.poll-in-None.ensures in
     let k = sleep_kernel g.E.Sleeps.rules (S.opening m) in
     let edit = g.E.Sleeps.meant c.args.edit c.args.payload.now.parcel in
-    let section = asked k (S.cpu_of part) c.args.buffer edit in
+    let section = asked_edit k (S.cpu_of part) c.args.buffer edit in
     let acts = said.framed.stays.acts (S.cpu_of part) (g.met.S.ThreadLayer.own_cpu part m c.requires.fits) in
     let known = g.met.S.ThreadLayer.known n (S.cpu_of part) acts in
     let keeps = (said.prompt c.requires.whole refl).after in

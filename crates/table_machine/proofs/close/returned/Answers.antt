@@ -1,6 +1,6 @@
 use Rattle.std.proofs.{Common.{◌<◌, ◌≡◌, ◌+◌, length, arith, sym, ap, ◌∙◌, length-append}, lemmas.Option.slice_get_within}
 use Rattle.{std.specs.Mem.Slots.{slots_items, slots_filled, slots_len, slots_counts}, table_machine.specs.declared.views.Home.Home}
-use Rattle.table_machine.proofs.{Returning.{stays_filled, stays_empty, a_block, given_more}, Elements.got}
+use Rattle.table_machine.proofs.{Returning.{stays_filled, stays_empty, a_block, given_more}, Elements.element_got}
 use Rattle.table_machine.proofs.close.returned.Goals as goal
 
 pub unreachable-requires : goal.unreachable-requires
@@ -33,5 +33,5 @@ loop-i-preserved g c =
 
 pub returns-clause-blocks : goal.returns-clause-blocks
 returns-clause-blocks g c i lock y b at_lock at_home is =
-    let below = slice_get_within c.args.locks.items i lock (got c.args.locks.items i lock at_lock) in
+    let below = slice_get_within c.args.locks.items i lock (element_got c.args.locks.items i lock at_lock) in
     c.loop-i.invariant.done i lock y b (omega arith) at_lock at_home is

@@ -1,6 +1,6 @@
 use Rattle.std.proofs.Common.{◌≡◌, ◌++◌, if◌then◌else◌, Option, None, refl, ap, sym, ◌∙◌, subst, arith}
 use Rattle.{layer_traits.specs.{declared.calls.Effect.Effect, Layers.BufferLaw.{answer_in, buffer_of, call_state_of}}, cpu.specs.Guests.{entries_of, polled}}
-use Rattle.cpu.{specs.Cpus.{fresh_at, guest_at, stands_at, with_guest}, proofs.CpuSteps.{CallRuns.{call_runs, fresh_room}, CallSteps.poll_call_states}}
+use Rattle.cpu.{specs.Cpus.{fresh_at, guest_at, stands_at_call, with_guest}, proofs.CpuSteps.{CallRuns.{call_runs, fresh_room}, CallSteps.poll_call_states}}
 use Rattle.cpu.proofs.{CpuSteps.{CallSteps.{poll_number, poll_within, polls_at}, CpuStates.valid_cpu}, OverLayer.CpuOverLayer.{IsLayered, laws_of, layered}}
 use Rattle.cpu.proofs.cpus.Cpu.call.{Given.Over, Goals.{Start, After-note_poll-fresh}}
 use Rattle.cpu.proofs.cpus.Cpu.call.Goals as goal
@@ -15,7 +15,7 @@ call_of-call-requires-clause-within g c = poll_within (valid_cpu c.requires.is) 
 pub call_of-call-requires-clause-asked : goal.call_of-call-requires-clause-asked
 call_of-call-requires-clause-asked g c =
     let polls = polls_at (valid_cpu c.requires.is) c.args.thread c.args.asked c.requires.chosen in
-    subst (λ guest. stands_at guest c.args.asked) (sym polls.at) polls.asks
+    subst (λ guest. stands_at_call guest c.args.asked) (sym polls.at) polls.asks
 
 pub poll_on-run-requires-clause-same : goal.poll_on-run-requires-clause-same
 poll_on-run-requires-clause-same g c =

@@ -1,6 +1,6 @@
 use Rattle.std.proofs.{Common.{◌≡◌, true, length, ap, sym, ◌∙◌, arith}, lemmas.List.length-map}
 use Rattle.{layer_traits.specs.Views.OwnParts.threads_in, cpu.specs.{declared.cpus.Cpu.Cpu, Calm.calm_in, Claims.{Shown, cpu_shown}}}
-use Rattle.cpu.proofs.WholeSystems.NobodyPending.{clash, up_more}
+use Rattle.cpu.proofs.WholeSystems.NobodyPending.{true_is_not_false, up_more}
 use Rattle.cpu.proofs.systems.System.are_calm.Goals as goal
 
 pub returns-then-not-is_calm : goal.returns-then-not-is_calm
@@ -11,7 +11,7 @@ returns-then-not-is_calm g c =
     let shown = ap (λ (s : Shown). length s.cpus) c.self.view_is in
     let end = c.len-number-end.ensures in (
       (λ is. absurd (cc is)),
-      (λ all. clash c.is_calm.result (c.is_calm.ensures ∙ all (record { 0 = c.loop-number.number }) (omega (
+      (λ all. true_is_not_false c.is_calm.result (c.is_calm.ensures ∙ all (record { 0 = c.loop-number.number }) (omega (
         arith,
         count,
         shown,

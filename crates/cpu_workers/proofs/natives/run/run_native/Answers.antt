@@ -1,8 +1,8 @@
 use Rattle.std.proofs.Common.{◌≡◌, List, length, ap, sym, ◌∙◌, subst, arith}
 use Rattle.{event_log.specs.declared.ids.CpuId.CpuId, layer_traits.specs.{Protocols.OneLock.opened, Threads.OnePlace.cpu_at, Views.Openings.AreOpenable}}
-use Rattle.{table_machine.specs.SeatViews.new_seat_views, cpu.proofs.ListFacts.ListReads.listed_length, cpu_workers.specs.Natives.{HaveRun, OpensWith, left_of}}
-use Rattle.cpu_workers.{specs.Natives.own_homes, proofs.{NativeKeys.natives_back, NativeLists.are_openable, NativeRuns.have_run, TableKeys.all_covered}}
-use Rattle.cpu_workers.proofs.TableKeys.{all_over}
+use Rattle.{table_machine.specs.SeatViews.new_seat_views, cpu.proofs.ListFacts.ListReads.listed_length, cpu_workers.specs.Natives.{HaveRun, OpensWith}}
+use Rattle.cpu_workers.{specs.Natives.{left_among, own_homes}, proofs.{NativeKeys.natives_back, NativeLists.are_openable, NativeRuns.have_run}}
+use Rattle.cpu_workers.proofs.TableKeys.{all_covered, all_over}
 use Rattle.cpu_workers.proofs.natives.run.run_native.Goals as goal
 
 pub table_for-requires : goal.table_for-requires
@@ -47,6 +47,6 @@ returns g c =
     let opens = subst (λ m. OpensWith m caps (own_homes m) (opened table_view.start)) count
     (subst (λ (h : List CpuId). OpensWith c.len-count.result caps h (opened table_view.start)) (c.as_slice.ensures.value ∙ c.native_homes-homes.ensures)
     c.in_ok-open.ensures.opens) in
-    subst (λ v. HaveRun g.N.Native.Kept caps c.args.natives.items v.items (left_of (length caps) r.blocks.items)) (sym c.closed.ensures.natives)
+    subst (λ v. HaveRun g.N.Native.Kept caps c.args.natives.items v.items (left_among (length caps) r.blocks.items)) (sym c.closed.ensures.natives)
     (have_run g.N.Native.Kept caps c.args.natives.items back.natives.items table_view back.keys.items r.blocks.items c.requires.some c.requires.few
     c.requires.buffers (c.in_ok-open.ensures.cpus ∙ count) opens c.in_ok-back.ensures c.closed.ensures.closes)

@@ -1,19 +1,19 @@
 use Rattle.std.proofs.Common.{◌≡◌, length, ap, sym, ◌∙◌, arith}
-use Rattle.cpu_workers.proofs.Filling.{numbered_one, numbered_room, some_left, taken_at, taken_one, within}
+use Rattle.cpu_workers.proofs.Filling.{numbered_one, numbered_room, some_left, taken_at, taken_one, is_below}
 use Rattle.cpu_workers.proofs.natives.seating.tasks_over.Goals as goal
 
 pub remove-machine-requires : goal.remove-machine-requires
 remove-machine-requires g c =
-    some_left _ _ c.loop-number.invariant.machines_left (within c.loop-number-test.true c.len-count.ensures c.args.machines.ok.0) c.loop-number.machines.ok.0
+    some_left _ _ c.loop-number.invariant.machines_left (is_below c.loop-number-test.true c.len-count.ensures c.args.machines.ok.0) c.loop-number.machines.ok.0
 
 pub remove-native-requires : goal.remove-native-requires
 remove-native-requires g c =
-    some_left _ _ c.loop-number.invariant.natives_left (within c.loop-number-test.true c.len-count.ensures (c.args.machines.ok.0 ∙ sym c.requires.count))
+    some_left _ _ c.loop-number.invariant.natives_left (is_below c.loop-number-test.true c.len-count.ensures (c.args.machines.ok.0 ∙ sym c.requires.count))
     c.loop-number.natives.ok.0
 
 pub new-caller-requires : goal.new-caller-requires
 new-caller-requires g c =
-    let below = within c.loop-number-test.true c.len-count.ensures c.args.machines.ok.0 in
+    let below = is_below c.loop-number-test.true c.len-count.ensures c.args.machines.ok.0 in
     let unused = c.requires.unused c.loop-number.number _ (taken_at _ _ c.loop-number.invariant.machines_left below _ c.remove-machine.ensures.value) in
     record {
       threads = c.requires.threads;
@@ -26,7 +26,7 @@ new-caller-requires g c =
 
 pub push_reserved-requires : goal.push_reserved-requires
 push_reserved-requires g c =
-    numbered_room c.loop-number.invariant.tasks (within c.loop-number-test.true c.len-count.ensures c.args.machines.ok.0) c.loop-number.tasks.ok.0
+    numbered_room c.loop-number.invariant.tasks (is_below c.loop-number-test.true c.len-count.ensures c.args.machines.ok.0) c.loop-number.tasks.ok.0
 
 pub loop-number-preserved : goal.loop-number-preserved
 loop-number-preserved g c =
@@ -35,8 +35,8 @@ loop-number-preserved g c =
     let natives = c.args.natives.items in
     let n = c.loop-number.number in
     let e = c.new-caller.ensures in
-    let below = within c.loop-number-test.true c.len-count.ensures c.args.machines.ok.0 in
-    let below_too = within c.loop-number-test.true c.len-count.ensures (c.args.machines.ok.0 ∙ sym c.requires.count) in
+    let below = is_below c.loop-number-test.true c.len-count.ensures c.args.machines.ok.0 in
+    let below_too = is_below c.loop-number-test.true c.len-count.ensures (c.args.machines.ok.0 ∙ sym c.requires.count) in
     let here = taken_at machines n inv.machines_left below c.remove-machine.result c.remove-machine.ensures.value in
     let there = taken_at natives n inv.natives_left below_too c.remove-native.result c.remove-native.ensures.value in
     let caps = (c.requires.unused n c.remove-machine.result here).caps in

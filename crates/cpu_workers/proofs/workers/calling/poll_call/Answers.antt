@@ -1,5 +1,6 @@
 use Rattle.std.proofs.Common.{◌≡◌, is_some, true, false, rules, ◌∙◌}
-use Rattle.{layer_traits.specs.Views.OwnParts.threads_in, cpu_workers.proofs.Going.{answers_run, calls_on, done_rests, ends, goes, idles, runs_on, sleeps}}
+use Rattle.{layer_traits.specs.Views.OwnParts.threads_in, cpu_workers.proofs.Going.{answers_run, calls_on, done_rests, call_ends, called_on, ended_idles}}
+use Rattle.cpu_workers.proofs.Going.{runs_on, asleep_calls_no_more}
 use Rattle.cpu_workers.proofs.workers.calling.poll_call.Goals as goal
 
 pub returns-in-Some-clause-ends : goal.returns-in-Some-clause-ends
@@ -8,7 +9,7 @@ returns-in-Some-clause-ends g c =
     let e = c.poll.ensures in
     let some = c.in-Some.is in
     let called = e.called c.requires.buffer in
-    (e.under_way c.requires.buffer ∙ done_rests c.args.t _ _ _ some, idles _ _ acts some called, ends _ _ acts some called)
+    (e.under_way c.requires.buffer ∙ done_rests c.args.t _ _ _ some, ended_idles _ _ acts some called, call_ends _ _ acts some called)
 
 pub returns-in-None-clause-goes : goal.returns-in-None-clause-goes
 returns-in-None-clause-goes g c =
@@ -17,16 +18,16 @@ returns-in-None-clause-goes g c =
     let runs = runs_on c.args.t _ _ _ (e.runs c.requires.buffer) some in (
       e.under_way c.requires.buffer ∙ calls_on c.args.t _ _ c.in-None.is runs,
       runs,
-      goes _ _ (g.met.I.CallLayer.own_cpu _ _ c.requires.fits) c.in-None.is (e.called c.requires.buffer),
+      called_on _ _ (g.met.I.CallLayer.own_cpu _ _ c.requires.fits) c.in-None.is (e.called c.requires.buffer),
     )
 
 pub returns-in-None-2-clause-goes : goal.returns-in-None-2-clause-goes
 returns-in-None-2-clause-goes g c =
     let e = c.poll.ensures in
     let none : is_some ((threads_in (g.I.CallLayer.own c.poll.new.self)).current) ≡ false = search rules in (
-      e.under_way c.requires.buffer ∙ sleeps c.args.t _ _ c.in-None-2.is none,
+      e.under_way c.requires.buffer ∙ asleep_calls_no_more c.args.t _ _ c.in-None-2.is none,
       tt,
-      goes _ _ (g.met.I.CallLayer.own_cpu _ _ c.requires.fits) c.in-None-2.is (e.called c.requires.buffer),
+      called_on _ _ (g.met.I.CallLayer.own_cpu _ _ c.requires.fits) c.in-None-2.is (e.called c.requires.buffer),
     )
 
 pub returns-in-Some-clause-runs : goal.returns-in-Some-clause-runs

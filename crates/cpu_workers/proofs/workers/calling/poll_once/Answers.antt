@@ -1,5 +1,5 @@
 use Rattle.std.proofs.Common.{ap, subst, sym, ◌∙◌}
-use Rattle.{layer_traits.specs.{Layers.BufferLaw.Buffering, Views.OwnParts.threads_in}, cpu_workers.{specs.Calls.MayPoll, proofs.Going.keeps_on}}
+use Rattle.{layer_traits.specs.{Layers.BufferLaw.Buffering, Views.OwnParts.threads_in}, cpu_workers.{specs.Calls.MayPollBegun, proofs.Going.keeps_on}}
 use Rattle.cpu_workers.proofs.workers.calling.poll_once.Goals as goal
 
 -- a look leaves what is under way, and the call
@@ -7,7 +7,7 @@ pub returns-then-look-clause-goes : goal.returns-then-look-clause-goes
 returns-then-look-clause-goes g c =
     let e = c.look.ensures in (
       e.under_way ∙ c.requires.under_way,
-      subst (λ (own : Buffering). MayPoll c.args.t (threads_in own) c.args.begun) (sym e.own) c.requires.may,
+      subst (λ (own : Buffering). MayPollBegun c.args.t (threads_in own) c.args.begun) (sym e.own) c.requires.may,
       keeps_on _ _ (g.met.I.CallLayer.own_cpu _ _ c.requires.fits) c.args.t c.args.call.now e.seen (ap (λ (own : Buffering). own.call_states) e.own),
     )
 

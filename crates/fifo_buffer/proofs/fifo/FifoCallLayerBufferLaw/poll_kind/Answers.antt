@@ -2,15 +2,15 @@ use Rattle.std.proofs.Common.{rules, ◌≡◌, ◌≢◌, ◌∙◌, List, ap, 
 use Rattle.std.proofs.Common.{slice_set, arith}
 use Rattle.{event_log.specs.declared.ids.{CpuId.CpuId, LockId.TheVariants.Buffer, Tid.Tid}, layer_traits.specs.declared.calls.Reply.Reply}
 use Rattle.layer_traits.specs.{declared.call_states.{Stage.Stage, CallState.CallState}, Layers.BufferLaw.{Buffering, answer_in, buffer_of, buffering}}
-use Rattle.layer_traits.specs.Layers.{BufferLaw.{fifo_plan, going, plan_of, replied, call_state_of}, QLockLaw.{is_handed, slept_for}, QLocking.lock_moves}
+use Rattle.layer_traits.specs.Layers.{BufferLaw.{fifo_plan, going, stage_plan, replied, call_state_of}, QLockLaw.{is_handed, slept_for}, QLocking.lock_moves}
 use Rattle.layer_traits.specs.{Layers.{QLocking.lock_rules, Queues.buffer_sections}, Blocks.{BufferProtocol.buffer_rules, QueueRules.queue_rules}}
 use Rattle.layer_traits.specs.{Blocks.QueueBlocks.{homes_in, inner}, Polling.{Framed.Framed, Plans.{Follows, Left, table_of}}, Threads.Places.home_of}
 use Rattle.{thread_blocks.specs.Queues.same_tid, fifo_buffer.proofs.{Frames.framed_over, Chains.{follows_for, one_follows, two_follows}, Finish.called_by}}
-use Rattle.fifo_buffer.proofs.{Finish.{finish, others_after}, First.{acquires_at, first_may, goes_called}, Recorded.runs_home, Parts.{moves_grown, other_part}}
-use Rattle.fifo_buffer.proofs.{SectionPollTaken.{SectionPollTaken, taken}, Twice.{apart_call_state, ended_of, next_going, completes_as, exit_free, marks_of}}
-use Rattle.fifo_buffer.proofs.{Twice.{later_effect, next_may, other_call_state, sizes_of, why, why_slept}, fifo.FifoCallLayerBufferLaw.poll_kind.Given.Over}
-use Rattle.fifo_buffer.proofs.fifo.FifoCallLayerBufferLaw.poll_kind.Goals.{Start, After-complete, in-Idle, in-Enters, in-Tries, in-Waits, in-AcquiresAgain}
-use Rattle.fifo_buffer.proofs.fifo.FifoCallLayerBufferLaw.poll_kind.Goals.{in-Signals, in-SignalsOwn, in-Releases}
+use Rattle.fifo_buffer.proofs.{Finish.{poll_done, others_after}, First.{acquires_at, first_may, goes_called}, Recorded.runs_home, Parts.moves_grown}
+use Rattle.fifo_buffer.proofs.{Parts.other_part, SectionPollTaken.{SectionPollTaken, taken}, Twice.{apart_call_state, ended_of, next_going, completes_as}}
+use Rattle.fifo_buffer.proofs.Twice.{exit_free, marks_of, later_effect, next_may, other_call_state, sizes_of, why_nothing_done, why_slept}
+use Rattle.fifo_buffer.proofs.fifo.FifoCallLayerBufferLaw.poll_kind.{Given.Over, Goals.{Start, After-complete, in-Idle, in-Enters, in-Tries, in-Waits}}
+use Rattle.fifo_buffer.proofs.fifo.FifoCallLayerBufferLaw.poll_kind.Goals.{in-AcquiresAgain, in-Signals, in-SignalsOwn, in-Releases}
 use Rattle.fifo_buffer.proofs.fifo.FifoCallLayerBufferLaw.poll_kind.Goals.{else-first-via-then-first+then-polled+else-polled-2}
 use Rattle.fifo_buffer.proofs.fifo.FifoCallLayerBufferLaw.poll_kind.Goals.{else-first-via-then-first+else-polled, else-first-via-else-first}
 use Rattle.fifo_buffer.specs.{declared.fifo.{Fifo.Fifo, SectionPoll.SectionPoll}, SectionPolls.{FitsAt, MayPollSection, SectionPolled, is_at_once}}
@@ -79,7 +79,7 @@ module _ (g : Over) (c : Start g) (p p1 : Fifo g.row.C.Denot) (m1 : g.row.C-Mach
     cpu : cpu_of p1.lower ≡ cpu_of c.args.self.now.lower
     followed : IsStepwise → Follows (λ d. ActsFor c.args.m.now d) (table_of (queue_rules (lock_rules buffer_rules) (lock_moves buffer_rules)))
         (opening c.args.m.now) (cpu_of c.args.self.now.lower)
-        (plan_of (homes_in (opening c.args.m.now)) (cpu_of c.args.self.now.lower) c.args.t c.args.call.now goes.stage goes (buffering (own p.lower) before))
+        (stage_plan (homes_in (opening c.args.m.now)) (cpu_of c.args.self.now.lower) c.args.t c.args.call.now goes.stage goes (buffering (own p.lower) before))
         (acts c.args.m.now) (acts m1)
         (record { own = buffering (own p1.lower) after; answer = if report.ended then replied c.args.call.now goes goes.stage else None })
 
@@ -109,7 +109,7 @@ did_of : (g : Over) (c : Start g) (p : Fifo g.row.C.Denot) (m : g.row.C-Machine.
     (framed : Framed (λ q k. C.Fits q k) (λ q. C.cpu_of q) (λ k. C.opening k) (λ k. C.site k) (λ k. C.room k) (λ k d. C.ActsFor k d)
     (λ k d. C.MayHold k d) p.lower l.lower m n)
     (followed : C.IsStepwise → Follows (C.ActsFor m) (table_of (queue_rules (lock_rules buffer_rules) (lock_moves buffer_rules))) (C.opening m)
-    (C.cpu_of p.lower) (plan_of (homes_in (C.opening m)) (C.cpu_of p.lower) c.args.t c.args.call.now goes.stage goes (buffering (C.own p.lower) states))
+    (C.cpu_of p.lower) (stage_plan (homes_in (C.opening m)) (C.cpu_of p.lower) c.args.t c.args.call.now goes.stage goes (buffering (C.own p.lower) states))
     (C.acts m) (C.acts n)
     (record { own = buffering (C.own l.lower) l.call_states.call_states; answer = if r.ended then replied c.args.call.now goes goes.stage else None }))
     → Did g c p p1 m1 report)
@@ -170,7 +170,7 @@ sections-preserved g c =
     let at_once = sym did.again_is ∙ c.if-polled-2.true in
     let called = before.on.may.called in
     let next = next_going section handed c.if-polled.true at_once called in
-    let still : m1 ≡ m = elim (why section handed c.if-polled.true at_once called before.on.may.current refl)
+    let still : m1 ≡ m = elim (why_nothing_done section handed c.if-polled.true at_once called before.on.may.current refl)
     [ inl some ↦ did.woken some | inr some ↦ did.handed some ] in
     let same1 = same1 g at c.sections.self c.match-stage.self m1 c.match-stage.polled did in
     let apart1 = apart1 g at c.sections.self c.match-stage.self m1 c.match-stage.polled did in
@@ -197,7 +197,7 @@ sections-preserved g c =
           let table = table_of (queue_rules (lock_rules buffer_rules) (lock_moves buffer_rules)) in
           let end = ended_of section c.if-polled.true in
           let own1 = buffering (C.own p1) states1 in
-          let second1 = subst (λ (x : CallState). Follows Acts0 table (C.opening m) cpu (plan_of homes cpu t call x.stage x own1) (C.acts m) new got) next
+          let second1 = subst (λ (x : CallState). Follows Acts0 table (C.opening m) cpu (stage_plan homes cpu t call x.stage x own1) (C.acts m) new got) next
           second in
           subst (λ (o : Buffering). Follows Acts0 table (C.opening m) cpu (fifo_plan homes cpu t call o) (C.acts m) new got)
           (rw c.if-first.true at before.begins)
@@ -209,7 +209,8 @@ sections-preserved g c =
           (marks_of O (buffer_sections (C.seen m)) t call goes (C.own c.sections.self.lower) (C.under_way c.sections.self.lower) before.on.may.goes)
           before.on.may.current refl)
           end.free.0 end.free.1 (did.followed stepwise)
-          (subst (λ log. Follows Acts0 table (C.opening m) cpu (plan_of homes cpu t call later.stage later own1) log new got) (sym (ap C.acts still)) second1));
+          (subst (λ log. Follows Acts0 table (C.opening m) cpu (stage_plan homes cpu t call later.stage later own1) log new got)
+          (sym (ap C.acts still)) second1));
     }
 
 -- the poll's last section
@@ -304,7 +305,7 @@ returns-in-sections g c = record {
       (record {
         boots = c.requires.fits.1.boots;
         sizes = sizes_of (last g c) (states g c) (states1 g c) did.states_are before.on.sizes;
-        calls = finish (last g c) (home g (at g c)) before.on.may.called (states g c) (states1 g c) refl (same g c) before.on.others
+        calls = poll_done (last g c) (home g (at g c)) before.on.may.called (states g c) (states1 g c) refl (same g c) before.on.others
             (answer g c) (replies g c);
       }))
       (λ q other fits part. rw (opens g c)

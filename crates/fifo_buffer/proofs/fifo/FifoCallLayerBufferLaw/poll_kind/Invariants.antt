@@ -1,6 +1,6 @@
 use Rattle.std.proofs.Common.{◌≡◌, List, IsSome, if◌then◌else◌}
 use Rattle.{event_log.specs.{declared.ids.LockId.TheVariants.Buffer, Actions.Action}, layer_traits.specs.Layers.BufferLaw.{buffer_of, Buffering, buffering}}
-use Rattle.layer_traits.specs.Layers.{BufferLaw.{call_state_of, fifo_plan, going, plan_of}, Conditions.CvCall, QLocking.{lock_moves, lock_rules}}
+use Rattle.layer_traits.specs.Layers.{BufferLaw.{call_state_of, fifo_plan, going, stage_plan}, Conditions.CvCall, QLocking.{lock_moves, lock_rules}}
 use Rattle.layer_traits.specs.{Layers.Queues.buffer_sections, Blocks.{BufferProtocol.buffer_rules, QueueBlocks.{homes_in, inner}, QueueRules.queue_rules}}
 use Rattle.layer_traits.specs.{declared.{buffer_edits.BufferEdit.BufferEdit, calls.Reply.Reply, queue_edits.QueueEdit.QueueEdit}, Polling.Plans.{Follows, Left}}
 use Rattle.{layer_traits.specs.Polling.Plans.table_of, fifo_buffer.proofs.Goings.{AfterFirst, AtFirst, IsGoing}}
@@ -22,7 +22,7 @@ invariant-sections g l = record {
   follows : AfterFirst l.first (g.C.ThreadLayer.IsStepwise → (new : List (Action (QueueEdit (CvCall BufferEdit)))) (got : Left Buffering Reply)
       → Follows (g.C.ThreadLayer.ActsFor l.initial.m) (table_of (queue_rules (lock_rules buffer_rules) (lock_moves buffer_rules)))
       (g.C.ThreadLayer.opening l.initial.m) (g.C.ThreadLayer.cpu_of l.initial.self.lower)
-      (plan_of (homes_in (g.C.ThreadLayer.opening l.initial.m)) (g.C.ThreadLayer.cpu_of l.initial.self.lower) l.t l.call
+      (stage_plan (homes_in (g.C.ThreadLayer.opening l.initial.m)) (g.C.ThreadLayer.cpu_of l.initial.self.lower) l.t l.call
       (going (call_state_of l.self.call_states.call_states l.t) l.call).stage (going (call_state_of l.self.call_states.call_states l.t) l.call)
       (buffering (g.C.ThreadLayer.own l.self.lower) l.self.call_states.call_states)) (g.C.ThreadLayer.acts l.initial.m) new got
       → Follows (g.C.ThreadLayer.ActsFor l.initial.m) (table_of (queue_rules (lock_rules buffer_rules) (lock_moves buffer_rules)))

@@ -1,8 +1,8 @@
 use mathlib.Core.Bool.{beq}
 use Rattle.std.proofs.Common.{◌≡◌, ◌≢◌, ◌∙◌, ◌+◌, ◌<◌, ◌≤◌, ℕ, Bool, true, false, not, ap, sym, subst, List, Option, None, is_some, arith, rules}
 use Rattle.{event_log.specs.declared.ids.{CpuId.CpuId, Tid.Tid}, layer_traits.specs.{declared.calls.{Call.Call, Reply.Reply}, Layers.BufferLaw.BufferPlan}}
-use Rattle.layer_traits.specs.{Layers.BufferLaw.{Buffering, fifo_plan}, Polling.LayerPolls.{IsQuietAt, LookedAt, PolledAt, PolledOnAt}}
-use Rattle.layer_traits.proofs.PollRunLemmas.{MayPoll, SoFar, kept, left, may_poll, nothing_yet, quiet_yet, one_look, one_more, quiet_after_look}
+use Rattle.layer_traits.specs.{Layers.BufferLaw.{Buffering, fifo_plan}, Polling.LayerPolls.{IsBegunAt, LookedAt, PolledAt, PolledOnAt}}
+use Rattle.layer_traits.proofs.PollRunLemmas.{MayPoll, SoFar, run_kept, run_left, may_poll, nothing_yet, quiet_yet, one_look, one_more, quiet_after_look}
 use Rattle.{layer_traits.proofs.PollRunLemmas.quiet_after_poll, fifo_buffer.specs.declared.fifo.Fifo.Fifo}
 use Rattle.fifo_buffer.proofs.fifo.FifoCallLayerBufferLaw.poll_on.{Given.Over, Invariants.tells, Goals.{Start, Then-look, After-poll_kind-reply}}
 use Rattle.fifo_buffer.proofs.fifo.FifoCallLayerBufferLaw.poll_on.Goals.{Else-is_some-had}
@@ -33,7 +33,7 @@ module _ (g : Over) (c : Start g) (actions : ℕ) (p : Fifo g.row.C.Denot) (m : 
   })
 
   left_so_far : (g.C.ThreadLayer.room c.args.m.now ≤ g.C.ThreadLayer.room m + actions) × (g.C.ThreadLayer.opening m ≡ g.C.ThreadLayer.opening c.args.m.now)
-  left_so_far = left (tells g) plan c.args.t c.args.call.now c.args.self.now c.args.m.now actions p m so_far
+  left_so_far = run_left (tells g) plan c.args.t c.args.call.now c.args.self.now c.args.m.now actions p m so_far
 
   has_room : actions < c.args.most → 0 < g.C.ThreadLayer.room m
   has_room few = room_left c.args.most actions (g.C.ThreadLayer.room c.args.m.now) (g.C.ThreadLayer.room m) few c.requires.room left_so_far.0
@@ -92,7 +92,7 @@ module _ (g : Over) (c : Else-is_some-had g) (polled : PolledAt (tells g) plan c
   polled_on = subst (λ told. PolledAt (tells g) plan c.args.t c.args.call.now c.loop-actions.self c.loop-actions.m c.poll_kind-reply.new.self
       c.poll_kind-reply.new.m told) no_reply polled
 
-  quiet : IsQuietAt (tells g) plan c.args.t c.args.call.now c.args.self.now c.poll_kind-reply.new.self
+  quiet : IsBegunAt (tells g) plan c.args.t c.args.call.now c.args.self.now c.poll_kind-reply.new.self
   quiet = quiet_after_poll (tells g) plan c.args.t c.args.call.now c.args.self.now c.args.m.now c.loop-actions.actions c.loop-actions.self
       c.loop-actions.m c.poll_kind-reply.new.self c.poll_kind-reply.new.m c.loop-actions.invariant.so_far
       polled_on (λ none. some_of c.current.result c.if-is_none.ensures (c.current.ensures ∙ none))

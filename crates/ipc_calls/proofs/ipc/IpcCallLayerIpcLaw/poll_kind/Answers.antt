@@ -1,11 +1,11 @@
 use Rattle.std.proofs.Common.{◌<◌, sym}
-use Rattle.ipc_calls.proofs.CallRuns.{polled_over, refused}
+use Rattle.ipc_calls.proofs.CallRuns.{polled_over, bad_number_refused}
 use Rattle.ipc_calls.proofs.ipc.IpcCallLayerIpcLaw.poll_kind.Goals as goal
 
 -- a number that is no buffer's is refused
 pub returns-then-buffer-self : goal.returns-then-buffer-self
 returns-then-buffer-self g c =
-    refused g.B.CallLayer c.args.self.now c.args.t c.args.call.now c.args.self.now c.args.m.now
+    bad_number_refused g.B.CallLayer c.args.self.now c.args.t c.args.call.now c.args.self.now c.args.m.now
     (rw (c.requires.fits.1.count_is, sym c.buffer-buffer.ensures) c.if-buffer-self.true) c.requires.fits
 
 -- any other call is the buffers'

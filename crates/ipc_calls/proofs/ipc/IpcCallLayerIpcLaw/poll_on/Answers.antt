@@ -1,11 +1,11 @@
 use Rattle.std.proofs.Common.{◌<◌, sym}
-use Rattle.{layer_traits.specs.Polling.PollRuns.once, ipc_calls.proofs.CallRuns.{ran_over, refused}}
+use Rattle.{layer_traits.specs.Polling.PollRuns.once, ipc_calls.proofs.CallRuns.{ran_over, bad_number_refused}}
 use Rattle.ipc_calls.proofs.ipc.IpcCallLayerIpcLaw.poll_on.Goals as goal
 
 -- a number that is no buffer's is refused
 pub returns-then-buffer-self-clause-polled_on : goal.returns-then-buffer-self-clause-polled_on
 returns-then-buffer-self-clause-polled_on g c =
-    once (refused g.B.CallLayer c.args.self.now c.args.t c.args.call.now c.args.self.now c.args.m.now
+    once (bad_number_refused g.B.CallLayer c.args.self.now c.args.t c.args.call.now c.args.self.now c.args.m.now
     (rw (c.requires.fits.1.count_is, sym c.buffer.ensures) c.if-buffer-self.true) c.requires.fits)
 
 -- any other call is the buffers'

@@ -1,5 +1,5 @@
 use Rattle.std.proofs.{Common.{◌≡◌, false, length, Some, inr, refl, ap, sym, ◌∙◌, subst}, lemmas.Option.same_Some}
-use Rattle.layer_traits.specs.{Blocks.{Capacities.caps_in, QueueBlocks.homes_in}, Threads.Places.{Asleep, At, Pend, home_of, where_is}}
+use Rattle.layer_traits.specs.{Blocks.{Capacities.caps_in, QueueBlocks.homes_in}, Threads.Places.{Asleep, At, IsPending, home_of, where_is}}
 use Rattle.{layer_traits.specs.Views.Observed.queue_place, event_log.specs.declared.ids.LockId.TheVariants.Buffer, ipc_calls.specs.Laws.PlaceLaws.sleeps_there}
 use Rattle.ipc_calls.specs.{Laws.PlaceLaws.{read_pends, read_sleeps}, Parts.pends_read}
 use Rattle.ipc_calls.proofs.ipc.IpcOwned.place_at.Goals as goal
@@ -24,7 +24,7 @@ returns-then-pends-clause-observed g c x is =
     let fits = c.requires.fits in
     let acts = law.own_cpu p m fits.0 in
     let home = c.home-home.result in
-    let pends : where_is (homes_in (B.opening m)) (B.moves m) c.args.t ≡ Pend home
+    let pends : where_is (homes_in (B.opening m)) (B.moves m) c.args.t ≡ IsPending home
     = read_pends (λ q. B.Fits q m) (λ q. B.cpu_of q) (B.MayHold m) (homes_in (B.opening m)) (B.moves m)
     c.args.t home p (λ q. O.queue_with q home) (O.queue_at m home) (law.moves_legal m (B.cpu_of p) acts) fits.0
     (g.met.B.OwnedBuffers.queues m (B.cpu_of p) home acts ((law.starts m (B.cpu_of p) acts).queues c.args.t home

@@ -1,5 +1,5 @@
 use Rattle.std.proofs.Common.{◌%◌, ◌++◌, replicate, ap, sym, ◌∙◌}
-use Rattle.{event_log.specs.{declared.{ids.TheConstants.CPUS, events.Event.TheVariants.Look}, Grants.grant_word}, layer_traits.proofs.SpinLemmas.peeked}
+use Rattle.{event_log.specs.{declared.{ids.TheConstants.CPUS, events.Event.TheVariants.Look}, Grants.grant_word}, layer_traits.proofs.SpinLemmas.as_peeks}
 use Rattle.layer_traits.specs.{Protocols.{AsGrants.as_grants, WordsProtocol.words_legal}, Laws.AsGrants.stands_as_grants}
 use Rattle.layer_traits.proofs.uses_grant_words.AnyGrantWords.spin.Goals as goal
 
@@ -17,7 +17,7 @@ returns-clause-adds g c =
     let adds = c.spin.ensures.adds in (
       grant_word c.args.lock (c.args.ticket % CPUS) (as_grants (W.seen m)),
       ap as_grants {y = replicate c.spin.result (Look c.args.cpu c.args.lock c.args.ticket adds.0) ++ W.seen m} adds.1
-          ∙ peeked c.args.cpu c.args.lock c.args.ticket adds.0 (W.seen m) c.spin.result,
+          ∙ as_peeks c.args.cpu c.args.lock c.args.ticket adds.0 (W.seen m) c.spin.result,
     )
 
 pub returns-clause-waits : goal.returns-clause-waits

@@ -1,6 +1,6 @@
 use Rattle.std.proofs.Common.{inr, ℕ, length, map, Ok, Err, refl, ap, sym, ◌∙◌, subst}
 use Rattle.{boot.specs.Plan.plan_of, cpu.specs.Claims.{buffer_at, listed}, cpu_workers.specs.Seating.items_of_block, mctower.specs.Output.between}
-use Rattle.mctower.{specs.{Serve.WorksPlan, Texts.{HaveText, Writes}}, proofs.ThreadsLemmas.{not_written, of_read, report_has, worked}}
+use Rattle.mctower.{specs.{Serve.WorksPlan, Texts.{HaveText, Writes}}, proofs.ThreadsLemmas.{not_written, of_read, report_has, plan_worked}}
 use Rattle.mctower.proofs.serve.worker_runs.work_plan.Goals as goal
 
 pub write_lists-requires-clause-text : goal.write_lists-requires-clause-text
@@ -34,7 +34,7 @@ returns-clause-works g c =
     ∙ ap (λ (n : ℕ). listed (λ b. items_of_block c.in-Ok-run_workers.report.blocks.items (buffer_at b)) 0 n)
     (c.len.ensures.value ∙ ap length c.caps-caps.ensures.caps) in
     of_read (WorksPlan c.args.turns) c.in-Ok.boot (plan_of c.args.plan.now) _ _ c.in-Ok.ensures.plan
-    (inr (worked c.args.turns c.in-Ok.boot _ c.into_parts-traces.result.1 c.put_out.result
+    (inr (plan_worked c.args.turns c.in-Ok.boot _ c.into_parts-traces.result.1 c.put_out.result
     (between g.O.Write.contents c.args.out.now c.write_lists.new.sink) (between g.O.Write.contents c.args.out.now c.put_out.new.out)
     c.in-Ok-run_workers.ensures.lawful (ap (λ v. v.items) c.into_parts-traces.ensures.stops)
     (subst (λ x. x) (λ i. Writes {A = Unit {0}} (caps i) (traces i) (left i) (Ok c.in_default.field-0)

@@ -1,7 +1,8 @@
 use Rattle.std.proofs.{Common.{◌≡◌, ◌≢◌, ◌∙◌, List, None, ap, length, subst, sym}, lemmas.List.length-replicate}
 use Rattle.{event_log.specs.declared.ids.{Tid.Tid, TheConstants.THREADS}, layer_traits.specs.declared.call_states.{CallState.CallState, Stage.TheVariants.Idle}}
 use Rattle.layer_traits.{specs.Layers.{BufferLaw.{call_state_of, no_call}, SleepLaw.{Sleeping, sleep_kernel}}, proofs.KernelRenaming.homes_viewed}
-use Rattle.plain_layers.{specs.{declared.attempts.Tried.Tried, Attempts.attempts, Fifos.shown}, proofs.FifoLemmas.{no_events, nobody_waits, no_call_waits}}
+use Rattle.plain_layers.{specs.{declared.attempts.Tried.Tried, Attempts.attempts, Fifos.plain_shown}, proofs.FifoLemmas.{no_events, nobody_waits}}
+use Rattle.plain_layers.proofs.FifoLemmas.{no_call_waits}
 use Rattle.plain_layers.proofs.fifos.PlainFifoCallLayerBufferLaw.part.Goals as goal
 
 pub returns-clause-fits : goal.returns-clause-fits
@@ -9,7 +10,7 @@ returns-clause-fits g c m fresh count =
     let S = g.S.ThreadLayer in (
       c.part.ensures.fits m fresh.0.0 fresh.1 (
         no_events (sleep_kernel attempts (S.opening m)) (S.seen m) fresh.3,
-        sym (homes_viewed shown (S.opening m)) ∙ fresh.4,
+        sym (homes_viewed plain_shown (S.opening m)) ∙ fresh.4,
         fresh.5,
         nobody_waits _ _ fresh.0.2.fresh,
       ),

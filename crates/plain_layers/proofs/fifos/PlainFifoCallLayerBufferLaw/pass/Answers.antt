@@ -1,7 +1,7 @@
 use Rattle.std.proofs.Common.{ℕ, ◌+◌, ◌/◌, ◌≤◌, ap, arith, subst, sym, ◌∙◌}
 use Rattle.layer_traits.{proofs.KernelRenaming.at_viewed, specs.Layers.{BufferLaw.OthersSeen, Queues.{buffer_sections, moves_in}, SleepLaw.sleep_kernel}}
 use Rattle.layer_traits.specs.{Threads.Passes.PassPolled, Blocks.QueueBlocks.{homes_in, inner}, Views.Renaming.viewed}
-use Rattle.{event_log.specs.declared.ids.CpuId.CpuId, plain_layers.specs.{Attempts.attempts, Fifos.{IsOwned, entries_in, shown}}}
+use Rattle.{event_log.specs.declared.ids.CpuId.CpuId, plain_layers.specs.{Attempts.attempts, Fifos.{IsOwned, plain_entries_in, plain_shown}}}
 use Rattle.plain_layers.proofs.FifoLemmas.{nothing_under, owned_after, passed_seen, passed_moves}
 use Rattle.plain_layers.proofs.fifos.PlainFifoCallLayerBufferLaw.pass.Goals as goal
 
@@ -29,7 +29,7 @@ returns-clause-framed g c =
       );
       cpu = said.framed.cpu;
       stays = record {
-        opening = ap (viewed shown) said.framed.stays.opening;
+        opening = ap (viewed plain_shown) said.framed.stays.opening;
         site = said.framed.stays.site;
         room = half_of_one _ _ said.framed.stays.room;
         acts = λ d acts. (
@@ -57,7 +57,7 @@ returns-clause-seen g c =
     let said = c.pass.ensures in
     let Acts = λ (d : CpuId). S.ActsFor m d × S.IsWhole × IsOwned (λ e. S.ActsFor m e) (S.opening m) in
     let known = g.met.S.ThreadLayer.known n (S.cpu_of lower) (said.framed.stays.acts (S.cpu_of lower) (g.met.S.ThreadLayer.own_cpu lower m fits.0)) in
-    subst (λ o. OthersSeen Acts (entries_in (inner (S.opening m)) (buffer_sections (S.seen m))) (entries_in (inner o) (buffer_sections (S.seen n))))
+    subst (λ o. OthersSeen Acts (plain_entries_in (inner (S.opening m)) (buffer_sections (S.seen m))) (plain_entries_in (inner o) (buffer_sections (S.seen n))))
     (sym said.framed.stays.opening)
     (passed_seen (S.opening m) (λ d. S.ActsFor m d) (S.cpu_of lower) c.args.call c.pass.result (S.seen m) (S.seen n)
     (S.own lower).threads (S.own c.pass.new.self).threads (record { all = fits.2.all; known = known; polled = said.seen }) Acts)
@@ -72,7 +72,7 @@ returns-clause-passed g c =
     let said = c.pass.ensures in
     let Acts = λ (d : CpuId). S.ActsFor m d × S.IsWhole × IsOwned (λ e. S.ActsFor m e) (S.opening m) in
     let known = g.met.S.ThreadLayer.known n (S.cpu_of lower) (said.framed.stays.acts (S.cpu_of lower) (g.met.S.ThreadLayer.own_cpu lower m fits.0)) in
-    at_viewed shown (S.opening m) (λ homes. PassPolled homes Acts (S.cpu_of lower) c.args.call c.pass.result
+    at_viewed plain_shown (S.opening m) (λ homes. PassPolled homes Acts (S.cpu_of lower) c.args.call c.pass.result
     (moves_in (sleep_kernel attempts (S.opening m)) (S.seen m)) (moves_in (sleep_kernel attempts (S.opening n)) (S.seen n)) (S.own lower).threads
     (S.own c.pass.new.self).threads)
     (subst (λ o. PassPolled (homes_in (S.opening m)) Acts (S.cpu_of lower) c.args.call c.pass.result

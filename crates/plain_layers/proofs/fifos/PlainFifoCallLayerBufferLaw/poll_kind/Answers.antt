@@ -4,8 +4,8 @@ use Rattle.{event_log.specs.declared.ids.{CpuId.CpuId, Tid.Tid, TheConstants.THR
 use Rattle.layer_traits.specs.Layers.{BufferLaw.{answer_in, call_state_of, reply_with}, Queues.{buffer_sections, moves_in}, SleepLaw.sleep_kernel}
 use Rattle.layer_traits.specs.{Blocks.{Capacities.caps_in, QueueBlocks.{homes_in, inner}}, Views.Renaming.viewed, declared.calls.Effect.Effect}
 use Rattle.{layer_traits.specs.declared.call_states.{Stage.TheVariants.Idle, CallState.CallState}, plain_layers.specs.Attempts.{attempts, effect_in}}
-use Rattle.plain_layers.{specs.Fifos.{IsOwned, entries_in, reply_to, call_state_after, shown}, proofs.FifoLemmas.{buffer_there, done_called, done_deferred}}
-use Rattle.plain_layers.proofs.FifoLemmas.{done_moves, done_refused, done_sleeps, owned_after, reply_left, reply_none, runs_small, set_waits}
+use Rattle.plain_layers.{specs.Fifos.{IsOwned, plain_entries_in, reply_to, call_state_after, plain_shown}, proofs.FifoLemmas.{buffer_there, done_called}}
+use Rattle.plain_layers.proofs.FifoLemmas.{done_deferred, done_moves, done_refused, done_sleeps, owned_after, reply_left, reply_none, runs_small, set_waits}
 use Rattle.plain_layers.proofs.fifos.PlainFifoCallLayerBufferLaw.poll_kind.{Given.Over, Goals.After-from}
 use Rattle.plain_layers.proofs.fifos.PlainFifoCallLayerBufferLaw.poll_kind.Goals as goal
 
@@ -18,7 +18,7 @@ whole-outcome-requires-clause-buffer g c =
     let m = c.args.m.now in
     let fits = c.requires.fits in
     buffer_there (S.opening m) c.buffer.result fits.2.fresh
-    (subst (λ b. b.0 < length (caps_in (viewed shown (S.opening m)))) (sym c.buffer.ensures) c.requires.there)
+    (subst (λ b. b.0 < length (caps_in (viewed plain_shown (S.opening m)))) (sym c.buffer.ensures) c.requires.there)
 
 -- the thread that runs is one of the table
 module _ (g : Over) (c : After-from g) where
@@ -67,7 +67,8 @@ returns g c =
     record {
       nothing = λ none. let there = c.requires.there in absurd (omega (arith, none, there));
       called = λ there. subst (λ o. Called Acts (S.cpu_of lower) c.args.t call before states
-          (entries_in (inner (S.opening m)) (buffer_sections (S.seen m))) (entries_in (inner o) (buffer_sections (S.seen n))) answer) (sym said.opening)
+          (plain_entries_in (inner (S.opening m)) (buffer_sections (S.seen m))) (plain_entries_in (inner o) (buffer_sections (S.seen n))) answer)
+          (sym said.opening)
           (done_called (S.opening m) (S.cpu_of lower) c.buffer.result c.attempt_in.result (S.seen m) (S.seen n) (S.own lower).threads
           (S.own c.whole-outcome.new.part) c.whole-outcome.result said.done Acts c.args.t call before states
           c.attempt_in.ensures c.buffer.ensures within c.requires.same fits.3.waits set answer answered);
@@ -79,7 +80,8 @@ returns g c =
           (S.own c.whole-outcome.new.part) c.whole-outcome.result said.done Acts);
       prompt = λ whole none.
           let nothing = reply_none call effect (sym answered ∙ none) in (
-            subst (λ o. IsRefused call (caps_in (viewed shown (S.opening m))) (entries_in (inner o) (buffer_sections (S.seen n)))) (sym said.opening)
+            subst (λ o. IsRefused call (caps_in (viewed plain_shown (S.opening m))) (plain_entries_in (inner o) (buffer_sections (S.seen n))))
+                (sym said.opening)
                 (done_refused (S.opening m) (S.cpu_of lower) c.buffer.result c.attempt_in.result (S.seen m) (S.seen n) (S.own lower).threads
                 (S.own c.whole-outcome.new.part) c.whole-outcome.result said.done c.args.t call
                 c.attempt_in.ensures c.buffer.ensures fits.2.fresh nothing),
@@ -102,7 +104,7 @@ returns g c =
         );
         cpu = said.cpu;
         stays = record {
-          opening = ap (viewed shown) said.opening;
+          opening = ap (viewed plain_shown) said.opening;
           site = said.site;
           room = half_of_two _ _ said.room;
           acts = λ d acts. (said.acts d acts.0, acts.1, owned acts.2);

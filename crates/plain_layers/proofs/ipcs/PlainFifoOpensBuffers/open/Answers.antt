@@ -1,6 +1,6 @@
 use Rattle.std.proofs.{Common.{◌≡◌, ◌∙◌, [], ◌<◌, ◌≤◌, ◌*◌, IsSome, length, refl, rules, arith}, lemmas.Result.IfOk-weaker}
 use Rattle.{event_log.specs.declared.ids.{CpuId.CpuId, LockId.TheVariants.Pending, TheConstants.CPUS}, layer_traits.specs.Blocks.QueueBlocks.{homes_in, inner}}
-use Rattle.{layer_traits.proofs.KernelRenaming.homes_viewed, plain_layers.{specs.Fifos.{fresh_buffers, shown}, proofs.OpeningLemmas.both_ok}}
+use Rattle.{layer_traits.proofs.KernelRenaming.homes_viewed, plain_layers.{specs.Fifos.{fresh_buffers, plain_shown}, proofs.OpeningLemmas.both_ok}}
 use Rattle.plain_layers.proofs.PlainOpenings.{boots_shown, caps_observed, fresh_read, half_room}
 use Rattle.plain_layers.proofs.ipcs.PlainFifoOpensBuffers.open.Goals as goal
 
@@ -24,7 +24,7 @@ returns g c =
           (both_ok r (λ m. S.seen m ≡ []) (λ m. c.args.room * 2 ≤ S.room m) _ opens.seen opens.room (λ m one other. (one, other)))
           (λ m it been. record {
             caps_are = caps_observed (S.opening m) caps it.0 few;
-            homes_are = homes_viewed shown (S.opening m) ∙ it.1;
+            homes_are = homes_viewed plain_shown (S.opening m) ∙ it.1;
             none_seen = rw been.0 refl;
             none_moved = rw been.0 refl;
             room_is = half_room c.args.room (S.room m) been.1;
@@ -46,7 +46,7 @@ returns g c =
             may.1 d,
             rw it.1.0 refl,
             rw it.1.0 refl,
-            homes_viewed shown (S.opening m) ∙ it.0.1,
+            homes_viewed plain_shown (S.opening m) ∙ it.0.1,
             it.1.1 d within,
           ));
       acts = both_ok r (λ m. (d : CpuId) → d.0 < CPUS → S.ActsFor m d) (λ m. inner (S.opening m) ≡ fresh_buffers caps) _ opens.acts opens.buffers

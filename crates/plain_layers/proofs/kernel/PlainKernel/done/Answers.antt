@@ -1,6 +1,6 @@
 use Rattle.std.proofs.Common.{◌≡◌, ◌∷◌, IsSome, ap, reverse, subst, sym, ◌∙◌}
 use Rattle.{event_log.specs.Log.events_in, layer_traits.specs.{Blocks.Payloads.{call_meant, queue_told}, Layers.Queues.event}}
-use Rattle.plain_layers.{proofs.KernelLemmas.{can_do, can_handed, grown, kernel_after, kernel_answers, lock_handed}, specs.Kernels.{IsKernel, calls_in}}
+use Rattle.plain_layers.{proofs.KernelLemmas.{can_do, can_handed, log_grown, kernel_after, kernel_answers, lock_handed}, specs.Kernels.{IsKernel, calls_in}}
 use Rattle.plain_layers.specs.Kernels.{opening_of}
 use Rattle.plain_layers.proofs.kernel.PlainKernel.done.Goals as goal
 
@@ -17,7 +17,7 @@ do_call-answer-requires g c =
 pub returns-clause-seen : goal.returns-clause-seen
 returns-clause-seen g c =
     let m = c.args.self.now in
-    grown c.push.result c.unwrap.result (events_in m.log) (events_in c.push.new.self) (event c.args.cpu c.whole_call-meant.result) c.unwrap.ensures
+    log_grown c.push.result c.unwrap.result (events_in m.log) (events_in c.push.new.self) (event c.args.cpu c.whole_call-meant.result) c.unwrap.ensures
     c.push.ensures.pushed
     ∙ ap (λ k. event c.args.cpu k ∷ calls_in m) c.whole_call-meant.ensures
 
@@ -28,7 +28,7 @@ returns-clause-sound g c =
     let payload = c.args.payload.now in
     let call = call_meant meant c.args.call payload in
     let seen : reverse (events_in c.push.new.self) ≡ event c.args.cpu call ∷ calls_in m
-    = grown c.push.result c.unwrap.result (events_in m.log) (events_in c.push.new.self) (event c.args.cpu c.whole_call-meant.result) c.unwrap.ensures
+    = log_grown c.push.result c.unwrap.result (events_in m.log) (events_in c.push.new.self) (event c.args.cpu c.whole_call-meant.result) c.unwrap.ensures
     c.push.ensures.pushed
     ∙ ap (λ k. event c.args.cpu k ∷ calls_in m) c.whole_call-meant.ensures in
     let there = subst (λ l. IsSome (opening_of m.opening l)) (sym (lock_handed meant c.args.call payload)) c.requires.lock in

@@ -3,7 +3,7 @@ use Rattle.event_log.{specs.{History.{IsLawful, same_cpu}, declared.ids.{CpuId.C
 use Rattle.layer_traits.specs.declared.{queue_edits.QueueAnswer.QueueAnswer, queues.QueueCall.QueueCall, scheds.SchedAnswer.TheVariants.Done}
 use Rattle.layer_traits.specs.{declared.scheds.SchedCall.SchedCall, Blocks.{Payloads.{call_meant, queue_told, sched_meant}, QueueBlocks.homes_in}}
 use Rattle.layer_traits.specs.Layers.{Queues.{Kernel, QueueAllowed, QueuePolled, event, kernel}, Scheds.{SchedPolled, own_by, queue_call}}
-use Rattle.{layer_traits.proofs.FrameLemmas.untouched, scheduler.{specs.{Owns.local_after, Parts.PartFits}, proofs.StepLemmas.{call_may, done_fits}}}
+use Rattle.{layer_traits.proofs.FrameLemmas.untouched_stays, scheduler.{specs.{Owns.local_after, Parts.SchedPartFits}, proofs.StepLemmas.{call_may, done_fits}}}
 use Rattle.scheduler.proofs.StepLemmas.{done_polled, finish_ok, local_fits, local_polled, lock_is_there, may_take, other_fits}
 use Rattle.plain_layers.proofs.{KernelLemmas.{lock_handed, there_meant}, scheds.PlainSchedLayerSchedLaw.poll.{Given.Over, Goals.{Start, In-Err, In-Ok}}}
 use Rattle.plain_layers.{proofs.scheds.PlainSchedLayerSchedLaw.poll.Goals.{After-pass_locally, After-done-answer, After-take_answer}, specs.Kernels.HasKernel}
@@ -100,11 +100,11 @@ returns-in-Err-clause-framed g c =
       fits = (
         fits.0,
         fits.1,
-        subst (λ o. PartFits rules mv (opening_of m.opening) self.cpu self.cpu self.homes.items None (calls_in m) o)
+        subst (λ o. SchedPartFits rules mv (opening_of m.opening) self.cpu self.cpu self.homes.items None (calls_in m) o)
             (sym (passed g at.After-pass_locally)) kept,
       );
       cpu = refl;
-      stays = untouched (λ k. opening_of k.opening) (λ k. no_site) (λ k. call_room k) (λ k c. HasKernel rules mv k c) m;
+      stays = untouched_stays (λ k. opening_of k.opening) (λ k. no_site) (λ k. call_room k) (λ k c. HasKernel rules mv k c) m;
       others = λ p other fits. fits;
       holders = λ d other acts held. held;
     }
@@ -144,7 +144,7 @@ returns-in-Ok-clause-framed g c =
       fits = (
         fits.0,
         said.sound,
-        subst₂ (λ o x. PartFits rules mv (opening_of o) self.cpu self.cpu self.homes.items None (calls_in n) x) (sym said.opening)
+        subst₂ (λ o x. SchedPartFits rules mv (opening_of o) self.cpu self.cpu self.homes.items None (calls_in n) x) (sym said.opening)
             (sym (taken g at.After-take_answer))
             (done_fits _ _ _ wakes fits.1.starts fits.1.lawful fits.2 (call_of g at.Start) c.requires.call (step_of g at.In-Ok) (is_shared g at.In-Ok)
             {ActsFor = Acts g at.Start} (fits.0, fits.1) (polled g done) (legal g done) self.cpu None refl refl),
@@ -160,7 +160,7 @@ returns-in-Ok-clause-framed g c =
           let apart : same_cpu self.cpu p.cpu ≡ false = ne_eqb self.cpu.0 p.cpu.0 (λ e. other (sym (ap cpu_numbered e))) in (
             theirs.0,
             said.sound,
-            subst (λ o. PartFits rules mv (opening_of o) p.cpu p.cpu p.homes.items None (calls_in n) p.own) (sym said.opening)
+            subst (λ o. SchedPartFits rules mv (opening_of o) p.cpu p.cpu p.homes.items None (calls_in n) p.own) (sym said.opening)
                 (other_fits _ _ _ wakes fits.1.starts (Acts g at.Start) self.cpu p.cpu _ _ _ (step_of g at.In-Ok) (Some (answer g done))
                 _ _ p.own (theirs.0, fits.1) apart (polled g done) (legal g done) theirs.2),
           );

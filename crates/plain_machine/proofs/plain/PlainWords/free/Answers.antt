@@ -1,4 +1,4 @@
-use Rattle.{std.proofs.Common.{[]}, plain_machine.{specs.Machine.history, proofs.MachineLemmas.gave}}
+use Rattle.{std.proofs.Common.{[]}, plain_machine.{specs.Machine.history, proofs.MachineLemmas.machine_frees}}
 use Rattle.plain_machine.proofs.plain.PlainWords.free.Goals as goal
 
 pub returns-clause-adds : goal.returns-clause-adds
@@ -7,6 +7,6 @@ returns-clause-adds g c = record { others = []; foreign = λ cpu acts. tt; is = 
 pub returns-clause-acts : goal.returns-clause-acts
 returns-clause-acts g c = λ cpu acts. (
   acts.0,
-  gave c.requires.cpu.1 c.args.lock c.requires.lock c.args.cpu c.requires.inside.0 c.args.mark c.args.block c.requires.inside.1 c.requires.edited
+  machine_frees c.requires.cpu.1 c.args.lock c.requires.lock c.args.cpu c.requires.inside.0 c.args.mark c.args.block c.requires.inside.1 c.requires.edited
       c.requires.allowed c.give.new.cells.items c.give.ensures (history c.free.new.self) c.free.ensures.history,
 )

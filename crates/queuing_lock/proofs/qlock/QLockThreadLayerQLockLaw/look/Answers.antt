@@ -1,6 +1,6 @@
 use Rattle.{std.proofs.{Common.{List, Option, option_map, sym, subst}, Math.Path.transport}, event_log.specs.declared.ids.{BufId.BufId, CpuId.CpuId}}
 use Rattle.layer_traits.{specs.Views.Renaming.{renamed_edit, renamed_events, renamed_sched, viewed}, proofs.KernelRenaming.grows_renamed}
-use Rattle.{layer_traits.proofs.{LookLemmas.tries_renamed, FrameLemmas.viewed_stays}, queuing_lock.specs.{Laws.NestedLaws.locks_lawful, Nested.edit_in}}
+use Rattle.{layer_traits.proofs.{LookLemmas.tries_renamed, FrameLemmas.viewed_stays}, queuing_lock.specs.{Laws.NestedLaws.locks_lawful, Nested.lock_call}}
 use Rattle.queuing_lock.{specs.{Nested.nested_lock_of, Parts.{DeferredFits, SleptFits}}, proofs.SleptLemmas.slept_goes}
 use Rattle.queuing_lock.proofs.qlock.QLockThreadLayerQLockLaw.look.Goals as goal
 
@@ -17,18 +17,18 @@ returns-clause-framed g c =
     let n = c.look.new.m in
     let part = c.look.new.self in
     let lawful = rw said.framed.stays.opening at (met.lawful n cpu (said.framed.stays.acts cpu acts)) in
-    let grown = grows_renamed edit_in (λ d. S.ActsFor m d) (S.seen m) (S.seen n) said.seen in
+    let grown = grows_renamed lock_call (λ d. S.ActsFor m d) (S.seen m) (S.seen n) said.seen in
     let after = λ (d : CpuId) (acts : S.ActsFor m d) (slept : List (Option BufId))
-    (fits : SleptFits rules (viewed nested_lock_of (S.opening m)) d (renamed_events edit_in (S.seen m)) slept).
-    transport (λ i. SleptFits rules (viewed nested_lock_of (sym said.framed.stays.opening i)) d (renamed_events edit_in (S.seen n)) slept)
-    (slept_goes rules (viewed nested_lock_of (S.opening m)) d grown.others (renamed_events edit_in (S.seen m)) (renamed_events edit_in (S.seen n))
+    (fits : SleptFits rules (viewed nested_lock_of (S.opening m)) d (renamed_events lock_call (S.seen m)) slept).
+    transport (λ i. SleptFits rules (viewed nested_lock_of (sym said.framed.stays.opening i)) d (renamed_events lock_call (S.seen n)) slept)
+    (slept_goes rules (viewed nested_lock_of (S.opening m)) d grown.others (renamed_events lock_call (S.seen m)) (renamed_events lock_call (S.seen n))
     (grown.foreign d acts) grown.is (locks_lawful rules (S.opening m) (S.seen n) lawful) slept fits) in
     record {
       fits = (
         said.framed.fits,
-        subst (λ d. SleptFits rules (viewed nested_lock_of (S.opening n)) d (renamed_events edit_in (S.seen n)) self.slept.buffers) (sym said.framed.cpu)
+        subst (λ d. SleptFits rules (viewed nested_lock_of (S.opening n)) d (renamed_events lock_call (S.seen n)) self.slept.buffers) (sym said.framed.cpu)
             (after cpu acts self.slept.buffers c.requires.fits.1),
-        transport (λ i. DeferredFits (option_map (renamed_sched edit_in) (sym said.call i)) (sym said.own i).deferred
+        transport (λ i. DeferredFits (option_map (renamed_sched lock_call) (sym said.call i)) (sym said.own i).deferred
             (sym said.own i).threads.hand) c.requires.fits.2,
       );
       cpu = said.framed.cpu;
@@ -45,11 +45,11 @@ pub returns-clause-seen : goal.returns-clause-seen
 returns-clause-seen g c =
     let S = g.S.ThreadLayer in
     let m = c.args.m.now in
-    grows_renamed edit_in (λ d. S.ActsFor m d) (S.seen m) (S.seen c.look.new.m) c.look.ensures.seen
+    grows_renamed lock_call (λ d. S.ActsFor m d) (S.seen m) (S.seen c.look.new.m) c.look.ensures.seen
 
 pub returns-clause-tries : goal.returns-clause-tries
 returns-clause-tries g c = λ step looked.
     let S = g.S.ThreadLayer in
     let m = c.args.m.now in
-    tries_renamed (renamed_edit edit_in) (λ d. S.ActsFor m d) (S.cpu_of c.args.self.now.lower) (S.acts m) (S.acts c.look.new.m)
+    tries_renamed (renamed_edit lock_call) (λ d. S.ActsFor m d) (S.cpu_of c.args.self.now.lower) (S.acts m) (S.acts c.look.new.m)
     (c.look.ensures.tries step looked)

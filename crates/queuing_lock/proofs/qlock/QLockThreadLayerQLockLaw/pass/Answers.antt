@@ -1,7 +1,7 @@
 use Rattle.{std.proofs.{Common.{List, Option, option_map, sym, subst}, Math.Path.transport}, event_log.specs.declared.ids.{BufId.BufId, CpuId.CpuId}}
 use Rattle.layer_traits.specs.{Threads.Passes.MayPass, Views.Renaming.{renamed_events, renamed_sched, viewed}, Layers.SleepLaw.done_if}
 use Rattle.{layer_traits.proofs.{FrameLemmas.viewed_stays, KernelRenaming.polled_renamed}, queuing_lock.specs.Laws.NestedLaws.{locks_wrap, locks_lawful}}
-use Rattle.queuing_lock.{specs.{Nested.{edit_in, nested_lock_of}, Parts.{DeferredFits, SleptFits}}, proofs.DeferredLemmas.deferred_passed}
+use Rattle.queuing_lock.{specs.{Nested.{lock_call, nested_lock_of}, Parts.{DeferredFits, SleptFits}}, proofs.DeferredLemmas.deferred_passed}
 use Rattle.queuing_lock.proofs.{PartLemmas.{locks_pass_follow, under_is}, PollLemmas.slept_passed}
 use Rattle.queuing_lock.proofs.qlock.QLockThreadLayerQLockLaw.pass.Goals as goal
 use Rattle.layer_traits.specs.declared.scheds.SchedCall.TheVariants as call
@@ -20,20 +20,20 @@ returns-clause-framed g c =
     let part = c.pass.new.self in
     let lawful = rw said.framed.stays.opening at (met.lawful n cpu (said.framed.stays.acts cpu acts)) in
     let after = λ (d : CpuId) (acts : S.ActsFor m d) (slept : List (Option BufId))
-    (fits : SleptFits rules (viewed nested_lock_of (S.opening m)) d (renamed_events edit_in (S.seen m)) slept).
-    transport (λ i. SleptFits rules (viewed nested_lock_of (sym said.framed.stays.opening i)) d (renamed_events edit_in (S.seen n)) slept)
+    (fits : SleptFits rules (viewed nested_lock_of (S.opening m)) d (renamed_events lock_call (S.seen m)) slept).
+    transport (λ i. SleptFits rules (viewed nested_lock_of (sym said.framed.stays.opening i)) d (renamed_events lock_call (S.seen n)) slept)
     (slept_passed rules (viewed nested_lock_of (S.opening m)) c.args.call (done_if c.pass.result)
     (polled_renamed _ _ _ _ (locks_wrap rules (S.opening m)) _ _ (call.Pass c.args.call) _ _ _ _ _ said.seen) d acts
     (locks_lawful rules (S.opening m) (S.seen n) lawful) slept fits) in
     record {
       fits = (
         said.framed.fits,
-        subst (λ d. SleptFits rules (viewed nested_lock_of (S.opening n)) d (renamed_events edit_in (S.seen n)) self.slept.buffers) (sym said.framed.cpu)
+        subst (λ d. SleptFits rules (viewed nested_lock_of (S.opening n)) d (renamed_events lock_call (S.seen n)) self.slept.buffers) (sym said.framed.cpu)
             (after cpu acts self.slept.buffers c.requires.fits.1),
         transport (λ i. DeferredFits (sym (under_is (λ (u : Unit {0}). u) (S.under_way part) c.pass.result (call.Pass c.args.call) said.call) i)
             (sym said.rest i)
             (S.own part).threads.hand)
-            (deferred_passed (option_map (renamed_sched edit_in) (S.under_way self.lower)) (S.own self.lower).deferred (S.own self.lower).threads.hand
+            (deferred_passed (option_map (renamed_sched lock_call) (S.under_way self.lower)) (S.own self.lower).deferred (S.own self.lower).threads.hand
             (S.own part).threads.hand c.args.call (MayPass c.args.call (S.own self.lower).threads) _ c.requires.fits.2 c.requires.call),
       );
       cpu = said.framed.cpu;

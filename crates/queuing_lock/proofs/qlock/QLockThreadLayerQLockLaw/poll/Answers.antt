@@ -3,11 +3,12 @@ use Rattle.std.proofs.Math.Path.{transport}
 use Rattle.{event_log.specs.{declared.ids.{BufId.BufId, CpuId.CpuId, TheConstants.THREADS}, History.IsLawful}, layer_traits.specs.declared.locked.QOut.QOut}
 use Rattle.layer_traits.specs.{declared.sleeps.Outcome.Outcome, Layers.{QLocking.lock_caller, QLockLaw.{left_after, locking, slept_for}, Queues.QueueAllowed}}
 use Rattle.layer_traits.specs.{Layers.SleepLaw.Sleeping, Blocks.Payloads.{lock_meant, lock_told, outcome_told}, Polling.Plans.Left}
-use Rattle.layer_traits.{specs.Views.Renaming.{renamed_events, renamed_sched, viewed}, proofs.FrameLemmas.{untouched, viewed_stays}}
-use Rattle.queuing_lock.specs.{Laws.NestedLaws.beneath, Nested.{as_section, edit_in, nested_lock_of}, Parts.{DeferredFits, SleptFits, slept_left_by}}
-use Rattle.queuing_lock.proofs.PartLemmas.{Before, caller_small, handed, deferred_after, locks, locks_follow, none, others_after, owed, slept_after, slept_asks}
-use Rattle.queuing_lock.proofs.{PartLemmas.{slept_reported, under_is}, PollLemmas.{reported_is, reported_told, slept_told}, SleptLemmas.slept_less}
-use Rattle.queuing_lock.proofs.qlock.QLockThreadLayerQLockLaw.poll.{Given.Over, Goals.{Start, After-poll, After-complete}}
+use Rattle.layer_traits.{specs.Views.Renaming.{renamed_events, renamed_sched, viewed}, proofs.FrameLemmas.{untouched_stays, viewed_stays}}
+use Rattle.queuing_lock.specs.{Laws.NestedLaws.beneath_the_lock, Nested.{as_section, lock_call, nested_lock_of}, Parts.{DeferredFits, SleptFits, slept_left_by}}
+use Rattle.queuing_lock.proofs.PartLemmas.{Before, caller_small, sleeper_handed, deferred_after, locks, locks_follow, sleeps_for_none, others_after}
+use Rattle.queuing_lock.proofs.{PartLemmas.{beneath_owed, slept_after, slept_asks, slept_reported, under_is}, PollLemmas.{reported_is, reported_told}}
+use Rattle.queuing_lock.proofs.{PollLemmas.slept_told, SleptLemmas.slept_less, qlock.QLockThreadLayerQLockLaw.poll.{Given.Over, Goals.{Start, After-poll}}}
+use Rattle.queuing_lock.proofs.qlock.QLockThreadLayerQLockLaw.poll.Goals.{After-complete}
 use Rattle.layer_traits.specs.declared.scheds.SchedCall.TheVariants as call
 use Rattle.queuing_lock.proofs.qlock.QLockThreadLayerQLockLaw.poll.Goals as goal
 
@@ -49,12 +50,13 @@ returns-then-asks_again-clause-framed g c =
     record {
       fits = (
         c.requires.fits.0,
-        rw c.over.ensures (slept_less g.F.Locked.rules (viewed nested_lock_of (S.opening m)) was.c c.caller-t.result (renamed_events edit_in was.past) was.slept
+        rw c.over.ensures (slept_less g.F.Locked.rules (viewed nested_lock_of (S.opening m)) was.c c.caller-t.result
+            (renamed_events lock_call was.past) was.slept
             was.fits),
         was.deferred,
       );
       cpu = refl;
-      stays = untouched (λ k. viewed nested_lock_of (S.opening k)) S.site S.room S.ActsFor m;
+      stays = untouched_stays (λ k. viewed nested_lock_of (S.opening k)) S.site S.room S.ActsFor m;
       others = λ p other fits. fits;
       holders = λ d other acts held. held;
     }
@@ -64,7 +66,7 @@ returns-then-asks_again-clause-seen g c =
     let was = before g (goal.at.returns-then-asks_again-clause-seen g c).Start in
     let some = slept_asks was g.F.Locked.meant c.args.payload.now.parcel c.args.call.edit refl ∙ (sym c.asks_again.ensures ∙ c.if-asks_again.true) in
     let over = c.over.ensures ∙ ap (λ t. slice_set was.slept t.0 None) (c.caller-t.ensures c.args.payload.now.parcel) in
-    rw over (handed was (λ d. g.S.ThreadLayer.ActsFor c.args.m.now d) _ refl some was.may)
+    rw over (sleeper_handed was (λ d. g.S.ThreadLayer.ActsFor c.args.m.now d) _ refl some was.may)
 
 -- it calls beneath
 
@@ -75,7 +77,7 @@ awake g c = slept_asks (before g (goal.at.poll-requires-clause-call g c).Start) 
     ∙ (sym c.asks_again.ensures ∙ c.if-asks_again.false)
 
 pub poll-requires-clause-call : goal.poll-requires-clause-call
-poll-requires-clause-call g c = owed (before g (goal.at.poll-requires-clause-call g c).Start) (awake g c)
+poll-requires-clause-call g c = beneath_owed (before g (goal.at.poll-requires-clause-call g c).Start) (awake g c)
 
 pub complete-requires : goal.complete-requires
 complete-requires g c =
@@ -101,24 +103,25 @@ module _ (g : Over) (c : After-poll g) where
   acts = g.met.S.ThreadLayer.own_cpu c.args.self.now.lower c.args.m.now c.requires.fits.0
 
   -- the log is lawful still
-  lawful : IsLawful (QueueAllowed (beneath rules (opening c.args.m.now))) (seen c.poll.new.m)
+  lawful : IsLawful (QueueAllowed (beneath_the_lock rules (opening c.args.m.now))) (seen c.poll.new.m)
   lawful = rw c.poll.ensures.framed.stays.opening at (g.met.S.ThreadLayer.lawful c.poll.new.m was.c
       (c.poll.ensures.framed.stays.acts was.c acts))
 
   -- the call that is under way beneath is under way here
-  call_here : option_map (renamed_sched edit_in) (under_way c.poll.new.self) ≡ (if is_some gave.answer then None else Some (call.OnBuffer was.b was.e))
+  call_here : option_map (renamed_sched lock_call) (under_way c.poll.new.self) ≡ (if is_some gave.answer then None else Some (call.OnBuffer was.b was.e))
   call_here = under_is told (under_way c.poll.new.self) c.poll.result (call.OnBuffer was.b (as_section was.e)) c.poll.ensures.call
 
   -- what is deferred agrees with it
-  deferred : DeferredFits (option_map (renamed_sched edit_in) (under_way c.poll.new.self)) gave.own.deferred gave.own.threads.hand
+  deferred : DeferredFits (option_map (renamed_sched lock_call) (under_way c.poll.new.self)) gave.own.deferred gave.own.threads.hand
   deferred = subst (λ u. DeferredFits u gave.own.deferred gave.own.threads.hand) (sym call_here) (deferred_after was (awake g c.before) c.poll.ensures.seen)
 
   -- what other CPUs note of sleepers agrees still
   others : (d : CpuId) → d ≢ was.c → ActsFor c.args.m.now d → (slept : List (Option BufId))
-      → SleptFits rules (viewed nested_lock_of (opening c.args.m.now)) d (renamed_events edit_in was.past) slept
-      → SleptFits rules (viewed nested_lock_of (opening c.poll.new.m)) d (renamed_events edit_in (seen c.poll.new.m)) slept
+      → SleptFits rules (viewed nested_lock_of (opening c.args.m.now)) d (renamed_events lock_call was.past) slept
+      → SleptFits rules (viewed nested_lock_of (opening c.poll.new.m)) d (renamed_events lock_call (seen c.poll.new.m)) slept
   others d apart acts slept fits =
-      transport (λ i. SleptFits rules (viewed nested_lock_of (sym c.poll.ensures.framed.stays.opening i)) d (renamed_events edit_in (seen c.poll.new.m)) slept)
+      transport (λ i. SleptFits rules (viewed nested_lock_of (sym c.poll.ensures.framed.stays.opening i)) d
+      (renamed_events lock_call (seen c.poll.new.m)) slept)
       (others_after rules (opening c.args.m.now) d was.c apart c.poll.ensures.seen acts lawful slept fits)
 
 -- the call goes on
@@ -138,7 +141,7 @@ returns-in-None-clause-framed g c =
       fits = (
         said.framed.fits,
         transport (λ i. SleptFits g.F.Locked.rules (viewed nested_lock_of (sym said.framed.stays.opening i)) (sym said.framed.cpu i)
-            (renamed_events edit_in (S.seen c.poll.new.m)) (was g p).slept)
+            (renamed_events lock_call (S.seen c.poll.new.m)) (was g p).slept)
             (slept_after (was g p) (awake g p.before) said.seen (acts g p) (lawful g p)),
         deferred g p,
       );
@@ -164,7 +167,7 @@ returns-in-None-clause-follows g c = λ step.
     let was = was g p in
     locks_follow g.F.Locked.rules (S.opening c.args.m.now) (S.ActsFor c.args.m.now) was.c (S.acts c.args.m.now)
     (S.acts c.poll.new.m) was.own was.slept was.b was.e
-    (gave g p) (none was (awake g p.before)) _ (went_on g c) (c.poll.ensures.follows step)
+    (gave g p) (sleeps_for_none was (awake g p.before)) _ (went_on g c) (c.poll.ensures.follows step)
 
 -- the section answers
 
@@ -197,7 +200,7 @@ returns-in-Some-clause-framed g c =
       fits = (
         said.framed.fits,
         transport (λ i. SleptFits g.F.Locked.rules (viewed nested_lock_of (sym said.framed.stays.opening i)) (sym said.framed.cpu i)
-            (renamed_events edit_in (S.seen c.poll.new.m)) (sym (keeps g c) i))
+            (renamed_events lock_call (S.seen c.poll.new.m)) (sym (keeps g c) i))
             (slept_reported was (awake g p.before) said.seen (acts g p) (lawful g p) (told g p c.in-Some.outcome) (ap (option_map (told g p)) c.in-Some.is)),
         deferred g p,
       );
@@ -223,4 +226,4 @@ returns-in-Some-clause-follows g c = λ step.
     let was = was g p in
     locks_follow g.F.Locked.rules (S.opening c.args.m.now) (S.ActsFor c.args.m.now) was.c (S.acts c.args.m.now)
     (S.acts c.poll.new.m) was.own was.slept was.b was.e
-    (gave g p) (none was (awake g p.before)) _ (answers g c) (c.poll.ensures.follows step)
+    (gave g p) (sleeps_for_none was (awake g p.before)) _ (answers g c) (c.poll.ensures.follows step)

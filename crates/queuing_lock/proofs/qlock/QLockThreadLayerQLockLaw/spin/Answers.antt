@@ -1,5 +1,5 @@
 use Rattle.{std.proofs.{Common.{ap, sym}, Math.Path.transport}, layer_traits.specs.Views.Renaming.{renamed_edit, renamed_events, viewed}}
-use Rattle.{layer_traits.proofs.SpinLemmas.misses_renamed, queuing_lock.specs.{Nested.{edit_in, nested_lock_of}, Parts.SleptFits}}
+use Rattle.{layer_traits.proofs.SpinLemmas.misses_renamed, queuing_lock.specs.{Nested.{lock_call, nested_lock_of}, Parts.SleptFits}}
 use Rattle.queuing_lock.proofs.qlock.QLockThreadLayerQLockLaw.spin.Goals as goal
 
 pub returns-clause-spun : goal.returns-clause-spun
@@ -9,12 +9,12 @@ returns-clause-spun g c =
     record {
       opening = ap (viewed nested_lock_of) spun.opening;
       site = spun.site;
-      seen = ap (renamed_events edit_in) spun.seen;
+      seen = ap (renamed_events lock_call) spun.seen;
       room = spun.room;
       acts = spun.acts;
       fits = λ p fits. (
         spun.fits p.lower fits.0,
-        transport (λ i. SleptFits g.F.Locked.rules (viewed nested_lock_of (sym spun.opening i)) (S.cpu_of p.lower) (renamed_events edit_in (sym spun.seen i))
+        transport (λ i. SleptFits g.F.Locked.rules (viewed nested_lock_of (sym spun.opening i)) (S.cpu_of p.lower) (renamed_events lock_call (sym spun.seen i))
             p.slept.buffers) fits.1,
         fits.2,
       );
@@ -24,5 +24,5 @@ returns-clause-spun g c =
 pub returns-clause-tries : goal.returns-clause-tries
 returns-clause-tries g c = λ step.
     let S = g.S.ThreadLayer in
-    misses_renamed (renamed_edit edit_in) (S.cpu_of c.args.self.now.lower) c.spin.result (S.acts c.args.m.now) (S.acts c.spin.new.m)
+    misses_renamed (renamed_edit lock_call) (S.cpu_of c.args.self.now.lower) c.spin.result (S.acts c.args.m.now) (S.acts c.spin.new.m)
     (c.spin.ensures.tries step)

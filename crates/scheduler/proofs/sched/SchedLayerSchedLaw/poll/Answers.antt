@@ -2,8 +2,8 @@ use Rattle.std.proofs.{Common.{◌≡◌, ◌≢◌, List, Option, false, Some, 
 use Rattle.event_log.{specs.{History.{IsLawful, same_cpu}, declared.ids.CpuId.CpuId}, proofs.Same.cpu_numbered}
 use Rattle.layer_traits.specs.declared.{queue_edits.QueueAnswer.QueueAnswer, queues.QueueCall.QueueCall, scheds.SchedCall.SchedCall}
 use Rattle.layer_traits.specs.{Blocks.{Payloads.{call_meant, queue_told, sched_meant, told_by}, QueueBlocks.{StartsWell, homes_in}}, Threads.Places.Threads}
-use Rattle.layer_traits.{specs.Layers.{Queues.{QueueAllowed, kernel}, Scheds.{own_by, queue_call}}, proofs.FrameLemmas.untouched}
-use Rattle.scheduler.{specs.{Owns.local_after, Parts.PartFits}, proofs.StepLemmas.{call_may, done_fits, finish_ok, local_fits, local_polled, may_take}}
+use Rattle.layer_traits.{specs.Layers.{Queues.{QueueAllowed, kernel}, Scheds.{own_by, queue_call}}, proofs.FrameLemmas.untouched_stays}
+use Rattle.scheduler.{specs.{Owns.local_after, Parts.SchedPartFits}, proofs.StepLemmas.{call_may, done_fits, finish_ok, local_fits, local_polled, may_take}}
 use Rattle.scheduler.proofs.{StepLemmas.{other_fits, waiting_fits}, sched.SchedLayerSchedLaw.poll.{Given.Over, Goals.{Start, In-Err, In-Ok}}}
 use Rattle.scheduler.proofs.sched.SchedLayerSchedLaw.poll.Goals.{After-pass_locally, After-poll}
 use Rattle.scheduler.proofs.sched.SchedLayerSchedLaw.poll.Goals as goal
@@ -62,9 +62,9 @@ module _ (g : Over) (c : After-poll g) where
 
   -- the parts of other CPUs agree still
   others : (lower : g.row.Q.Denot) (cpu : CpuId) (homes : List CpuId) (own : Threads) → cpu ≢ c.args.self.now.cpu → Fits lower c.args.m.now
-      → PartFits g.E.SplitEdit.rules g.E.Moves.moves (opening c.args.m.now) cpu (cpu_of lower) homes (under_way lower) (seen c.args.m.now) own
+      → SchedPartFits g.E.SplitEdit.rules g.E.Moves.moves (opening c.args.m.now) cpu (cpu_of lower) homes (under_way lower) (seen c.args.m.now) own
       → Fits lower c.poll.new.m
-      × PartFits g.E.SplitEdit.rules g.E.Moves.moves (opening c.poll.new.m) cpu (cpu_of lower) homes (under_way lower) (seen c.poll.new.m) own
+      × SchedPartFits g.E.SplitEdit.rules g.E.Moves.moves (opening c.poll.new.m) cpu (cpu_of lower) homes (under_way lower) (seen c.poll.new.m) own
   others lower cpu homes own other fits part =
       let at = goal.at.poll-requires-clause-call g c.before in
       let self = c.args.self.now in
@@ -110,7 +110,7 @@ returns-in-Err-clause-framed g c =
             (is_local g at.In-Err)),
       );
       cpu = refl;
-      stays = untouched Q.opening Q.site Q.room Q.ActsFor c.args.m.now;
+      stays = untouched_stays Q.opening Q.site Q.room Q.ActsFor c.args.m.now;
       others = λ p other fits. fits;
       holders = λ d other acts held. held;
     }

@@ -1,5 +1,5 @@
 use Rattle.{std.proofs.{Common.{subst, sym}, Math.Path.transport}, event_log.specs.declared.ids.CpuId.CpuId, layer_traits.specs.Polling.Spins.BeginWith}
-use Rattle.{layer_traits.specs.Polling.Spins.Misses, scheduler.specs.Parts.PartFits}
+use Rattle.{layer_traits.specs.Polling.Spins.Misses, scheduler.specs.Parts.SchedPartFits}
 use Rattle.scheduler.proofs.sched.SchedLayerSchedLaw.spin.Goals as goal
 
 pub returns-clause-few : goal.returns-clause-few
@@ -17,7 +17,7 @@ returns-clause-spun g c =
       acts = spun.acts;
       fits = λ p fits. (
         spun.fits p.lower fits.0,
-        transport (λ i. PartFits g.E.SplitEdit.rules g.E.Moves.moves (sym spun.opening i) p.cpu (Q.cpu_of p.lower) p.homes.items (Q.under_way p.lower)
+        transport (λ i. SchedPartFits g.E.SplitEdit.rules g.E.Moves.moves (sym spun.opening i) p.cpu (Q.cpu_of p.lower) p.homes.items (Q.under_way p.lower)
             (sym spun.seen i) p.own) fits.1,
       );
       holders = spun.holders;

@@ -1,5 +1,5 @@
 use Rattle.{std.proofs.Common.{subst, sym}, layer_traits.{proofs.NestedLemmas.event_grows, specs.Blocks.{QueueBlocks.StartsWell, QueueRules.IsProperCall}}}
-use Rattle.shared_queue.proofs.FrameLemmas.{raised}
+use Rattle.shared_queue.proofs.FrameLemmas.{frame_raised}
 use Rattle.shared_queue.proofs.shared.SharedQueuesLayerQueueLaw.look.Goals as goal
 
 -- foreign sections are foreign calls
@@ -13,4 +13,4 @@ returns-clause-seen g c =
 pub returns-clause-framed : goal.returns-clause-framed
 returns-clause-framed g c =
     let L = g.L.Layer in
-    raised L.opening L.under_way c.requires.fits.1 c.look.ensures.framed (subst IsProperCall (sym c.look.ensures.call) c.requires.fits.2)
+    frame_raised L.opening L.under_way c.requires.fits.1 c.look.ensures.framed (subst IsProperCall (sym c.look.ensures.call) c.requires.fits.2)

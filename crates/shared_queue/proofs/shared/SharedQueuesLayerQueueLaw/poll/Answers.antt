@@ -1,7 +1,7 @@
 use Rattle.std.proofs.Common.{◌≡◌, None, Some, if◌then◌else◌, is_some, sym, subst}
 use Rattle.layer_traits.{proofs.NestedLemmas.{may_section, polled_event}, specs.Blocks.{Payloads.{call_meant, queue_told, told_by}, QueueBlocks.StartsWell}}
-use Rattle.{layer_traits.specs.{Blocks.QueueRules.{SectionAllowed, queue_rules}, Polling.Polls.{MayPoll, Polled}}, shared_queue.proofs.FrameLemmas.call_proper}
-use Rattle.shared_queue.proofs.{FrameLemmas.raised, MeantLemmas.meant_section}
+use Rattle.layer_traits.specs.{Blocks.QueueRules.{SectionAllowed, queue_rules}, Polling.Polls.{MayPoll, PolledAtLock}}
+use Rattle.shared_queue.proofs.{FrameLemmas.{call_proper, frame_raised}, MeantLemmas.meant_section}
 use Rattle.shared_queue.proofs.shared.SharedQueuesLayerQueueLaw.poll.Goals as goal
 
 -- a call that may be polled is a section that may
@@ -34,7 +34,7 @@ returns-clause-seen g c =
     let acts = said.framed.stays.acts cpu (g.met.L.Layer.own_cpu c.args.self.now.lower m c.requires.fits.0) in
     polled_event rules mv (L.opening m) c.requires.fits.1 g.met.E.Moves.wakes_sleepers (L.ActsFor m) (λ d. L.ActsFor m d × StartsWell (L.opening m))
     (λ d both. both.0) cpu call result (L.seen m) (L.seen n) (rw said.framed.stays.opening at (g.met.L.Layer.lawful n cpu acts))
-    (subst (λ s. Polled (queue_rules rules mv) (L.opening m) (L.ActsFor m) s result (L.seen m) (L.seen n))
+    (subst (λ s. PolledAtLock (queue_rules rules mv) (L.opening m) (L.ActsFor m) s result (L.seen m) (L.seen n))
     (meant_section g.E.SplitEdit.meant c.args.payload.now cpu c.args.call _ _ is.lock is.edit) said.seen)
 
 -- the queues keep nothing of their own
@@ -46,6 +46,6 @@ returns-clause-framed g c =
     let call = call_meant g.E.SplitEdit.meant c.args.call c.args.payload.now in
     let under = L.under_way c.poll.new.self in
     let ends = is_some c.poll.result in
-    raised L.opening L.under_way c.requires.fits.1 c.poll.ensures.framed (call_proper cpu call ends under
+    frame_raised L.opening L.under_way c.requires.fits.1 c.poll.ensures.framed (call_proper cpu call ends under
     (subst (λ s. under ≡ (if ends then None else Some s)) (meant_section g.E.SplitEdit.meant c.args.payload.now cpu c.args.call _ _ is.lock is.edit)
     c.poll.ensures.call))

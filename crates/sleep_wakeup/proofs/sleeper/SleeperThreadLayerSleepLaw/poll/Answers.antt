@@ -2,13 +2,13 @@ use Rattle.std.proofs.Common.{◌≡◌, Option, Some, None, refl, option_map, a
 use Rattle.{event_log.specs.declared.ids.{BufId.BufId, Tid.Tid}, layer_traits.specs.declared.{payloads.Payload.Payload, scheds.SchedAnswer.SchedAnswer}}
 use Rattle.layer_traits.specs.{declared.{scheds.SchedCall.SchedCall, sleeps.Outcome.Outcome}, Blocks.Payloads.{sched_meant, sched_told, told_by}}
 use Rattle.layer_traits.specs.{Blocks.QueueBlocks.homes_in, Threads.Places.Threads, Polling.Plans.Left, Views.Renaming.{renamed_events, viewed}}
-use Rattle.layer_traits.specs.Layers.{Scheds.{MaySched, SchedPolled, sched_plan, left as sched_left}, SleepLaw.{MaySleep, SleepPolled, Sleeping, due}}
-use Rattle.layer_traits.specs.Layers.{SleepLaw.{left_reported, sleep_plan}, Sleeping.sleep_moves}
-use Rattle.sleep_wakeup.specs.{declared.{deferred.DeferredOutcome.DeferredOutcome, edits.SleepEdit.SleepEdit}, Laws.NestedLaws.{beneath, here}, Nested.edit_in}
-use Rattle.sleep_wakeup.specs.{Nested.{nested_meant, nested_moves, nested_told, state_of}, Parts.{Deferred, DeferredFits, as_edit, deferred_told, outcome_in}}
-use Rattle.sleep_wakeup.{specs.Parts.own_of, proofs.PollLemmas.{FollowsBeneath, FollowsHere, hand_defers, nested_may, nested_sleep_follows, nested_sleeps}}
-use Rattle.sleep_wakeup.proofs.{PollLemmas.reported_is, sleeper.SleeperThreadLayerSleepLaw.poll.{Given.Over, Goals.{Start, In-None, In-Some, After-poll}}}
-use Rattle.sleep_wakeup.proofs.sleeper.SleeperThreadLayerSleepLaw.poll.Goals.{After-complete, After-complete_home}
+use Rattle.layer_traits.specs.Layers.{Scheds.{MaySched, SchedPolled, sched_plan, sched_left}, SleepLaw.{MaySleep, SleepPolled, Sleeping, due, left_reported}}
+use Rattle.{layer_traits.specs.Layers.{SleepLaw.sleep_plan, Sleeping.sleep_moves}, sleep_wakeup.specs.declared.deferred.DeferredOutcome.DeferredOutcome}
+use Rattle.sleep_wakeup.specs.{declared.edits.SleepEdit.SleepEdit, Laws.NestedLaws.{beneath, here}, Nested.{slept_edit, nested_meant, nested_moves}}
+use Rattle.sleep_wakeup.specs.{Nested.{nested_told, state_of}, Parts.{Deferred, SectionDeferredFits, as_edit, deferred_told, outcome_in, own_of}}
+use Rattle.sleep_wakeup.proofs.PollLemmas.{FollowsBeneath, FollowsHere, hand_defers, nested_may, nested_sleep_follows, nested_sleeps, reported_is}
+use Rattle.sleep_wakeup.proofs.sleeper.SleeperThreadLayerSleepLaw.poll.{Given.Over, Goals.{Start, In-None, In-Some, After-poll, After-complete}}
+use Rattle.sleep_wakeup.proofs.sleeper.SleeperThreadLayerSleepLaw.poll.Goals.{After-complete_home}
 use Rattle.sleep_wakeup.proofs.sleeper.SleeperThreadLayerSleepLaw.poll.Goals as goal
 
 -- the thread in the hand of these threads
@@ -35,8 +35,8 @@ module _ (g : Over) (c : Start g) (hand : Option Tid) (is : hand ≡ (g.S.Layer.
   abbrev deferred : Option (Deferred g.row.E.Denot g.row.E-Out.Denot)
   deferred = option_map (deferred_told g.E.Sleeps.told) c.args.self.now.deferred
 
-  fits : DeferredFits deferred (under_way lower) hand
-  fits = subst (λ h. DeferredFits deferred (under_way lower) h) (sym is) c.requires.fits.2
+  fits : SectionDeferredFits deferred (under_way lower) hand
+  fits = subst (λ h. SectionDeferredFits deferred (under_way lower) h) (sym is) c.requires.fits.2
 
   -- the call that is due may be polled
   may : MaySched (beneath rules (opening m)) (cpu_of lower) (seen m) (own lower) (under_way lower) (due hand buffer (as_edit edit))
@@ -59,11 +59,12 @@ module _ (g : Over) (c : Start g) (hand : Option Tid) (is : hand ≡ (g.S.Layer.
     module _ {call : SchedCall (SleepEdit g.row.E.Denot)} {left : Left (Sleeping g.row.E-Out.Denot) (Outcome g.row.E-Out.Denot)} (n : g.row.S-Machine.Denot)
         (calls : call ≡ due hand buffer (as_edit edit)) (leaves : left_reported (outcome_in deferred) (own after) answer ≡ left) where
       sleeps : SchedPolled (beneath rules (opening m)) (ActsFor m) (cpu_of lower) call answer (seen m) (seen n) (own lower) (own after)
-          → SleepPolled (here rules (opening m)) (ActsFor m) (cpu_of lower) buffer edit (renamed_events edit_in (seen m)) (renamed_events edit_in (seen n))
+          → SleepPolled (here rules (opening m)) (ActsFor m) (cpu_of lower) buffer edit (renamed_events slept_edit (seen m))
+          (renamed_events slept_edit (seen n))
           (own_of deferred (own lower)) left
       sleeps polled = rw (← leaves) (nested_sleeps rules (opening m) (ActsFor m) (cpu_of lower) answer (seen m) (seen n) (own lower) (own after) buffer edit
           deferred hand is (hand_defers deferred (under_way lower) hand buffer edit
-          (MaySleep (here rules (opening m)) (cpu_of lower) (renamed_events edit_in (seen m)) (own lower) buffer edit) fits c.requires.call
+          (MaySleep (here rules (opening m)) (cpu_of lower) (renamed_events slept_edit (seen m)) (own lower) buffer edit) fits c.requires.call
           (λ may. is ∙ may.hand))
           (rw calls at polled))
 

@@ -1,5 +1,5 @@
 use Rattle.{std.proofs.Common.{ap, subst, sym}, layer_traits.specs.{Blocks.QueueBlocks.inner, Views.Renaming.{renamed_edit, renamed_events, viewed}}}
-use Rattle.{layer_traits.{specs.Layers.Sleeping.NobodySleeps, proofs.SpinLemmas.misses_renamed}, sleep_wakeup.specs.Nested.{edit_in, state_of, states}}
+use Rattle.{layer_traits.{specs.Layers.Sleeping.NobodySleeps, proofs.SpinLemmas.misses_renamed}, sleep_wakeup.specs.Nested.{slept_edit, state_of, states}}
 use Rattle.sleep_wakeup.proofs.sleeper.SleeperThreadLayerSleepLaw.spin.Goals as goal
 
 pub returns-clause-spun : goal.returns-clause-spun
@@ -8,7 +8,7 @@ returns-clause-spun g c =
     record {
       opening = ap (viewed state_of) spun.opening;
       site = spun.site;
-      seen = ap (renamed_events edit_in) spun.seen;
+      seen = ap (renamed_events slept_edit) spun.seen;
       room = spun.room;
       acts = spun.acts;
       fits = λ p fits. (spun.fits p.lower fits.0, subst (λ o. NobodySleeps (states (inner o))) (sym spun.opening) fits.1, fits.2);
@@ -18,5 +18,5 @@ returns-clause-spun g c =
 pub returns-clause-tries : goal.returns-clause-tries
 returns-clause-tries g c = λ step.
     let S = g.S.Layer in
-    misses_renamed (renamed_edit edit_in) (S.cpu_of c.args.self.now.lower) c.spin.result (S.acts c.args.m.now) (S.acts c.spin.new.m)
+    misses_renamed (renamed_edit slept_edit) (S.cpu_of c.args.self.now.lower) c.spin.result (S.acts c.args.m.now) (S.acts c.spin.new.m)
     (c.spin.ensures.tries step)

@@ -1,6 +1,6 @@
 use Rattle.std.proofs.Common.{refl, ap, ◌∙◌}
 use Rattle.{event_log.specs.{Actions.{Take, Try, Give}, Sections.Section}, spinlock.proofs.StageLemmas.{acted_framed, joined_fits, joined_follows}}
-use Rattle.spinlock.proofs.StageLemmas.{tried_fits, tried_follows, left_fits, left_polled, left_follows, unended, unanswered}
+use Rattle.spinlock.proofs.StageLemmas.{tried_fits, tried_follows, left_fits, left_polled, left_follows, unended, poll_unanswered}
 use Rattle.spinlock.proofs.spin_lock.SpinLockLayerLockLawEdit.poll.Goals as goal
 
 -- a section begins, which stays allowed: its CPU joins the line
@@ -15,7 +15,7 @@ returns-in-Out-clause-framed g c =
     said.ticket c.requires.fits.0 (rw c.in-Out.is at c.requires.call) c.requires.there))
 
 pub returns-in-Out-clause-seen : goal.returns-in-Out-clause-seen
-returns-in-Out-clause-seen g c = unanswered g.M.Edit.SplitEdit.rules (g.M.FairLock.opening c.args.m.now) _
+returns-in-Out-clause-seen g c = poll_unanswered g.M.Edit.SplitEdit.rules (g.M.FairLock.opening c.args.m.now) _
     (unended (Take c.args.self.now.cpu c.args.call.lock) (λ past. refl) c.join-ticket.ensures.adds)
 
 pub returns-in-Out-clause-follows : goal.returns-in-Out-clause-follows
@@ -38,7 +38,7 @@ returns-in-Waiting-clause-framed g c =
     c.requires.fits.0 fits.1 fits.2 said.hits.0 said.hits.2 c.enters.new.stage (rw c.in-Waiting.is at said.hits.1))
 
 pub returns-in-Waiting-clause-seen : goal.returns-in-Waiting-clause-seen
-returns-in-Waiting-clause-seen g c = unanswered g.M.Edit.SplitEdit.rules (g.M.FairLock.opening c.args.m.now) _
+returns-in-Waiting-clause-seen g c = poll_unanswered g.M.Edit.SplitEdit.rules (g.M.FairLock.opening c.args.m.now) _
     (unended (Try c.args.self.now.cpu c.in-Waiting.lock c.enters.ensures.adds.0) (λ past. refl) c.enters.ensures.adds.1)
 
 pub returns-in-Waiting-clause-follows : goal.returns-in-Waiting-clause-follows

@@ -1,13 +1,13 @@
 use Rattle.std.proofs.Common.{refl, [], ◌≡◌}
-use Rattle.table_machine.{specs.{Views.{viewed, cpus_from}, SeatViews.IsOver}, proofs.{Stepping.enters, Meeting.has_words, Returning.{yield_more, no_more}}}
-use Rattle.table_machine.proofs.Returning.{all_tail}
+use Rattle.table_machine.{specs.{Views.{caught_up, cpus_from}, SeatViews.IsOver}, proofs.{Stepping.seat_enters, Meeting.has_words, Returning.yield_more}}
+use Rattle.table_machine.proofs.Returning.{no_more, all_tail}
 use Rattle.table_machine.proofs.shared.Shared.gathered.Goals as goal
 
 pub load_new_seat-seat-requires : goal.load_new_seat-seat-requires
 load_new_seat-seat-requires g c = (
   has_words _ _ _ _ _ c.self.invariant.0,
-  enters g.K.TableWords.kind g.E.SplitEdit.rules c.self.inside.table.shared.key.cpus c.self.inside.table.shared.key.blocks.value.items
-      _ (viewed c.self.inside.table.shared.key.blocks.value.items (cpus_from 0 c.self.inside.table.shared.key.cpus) []) refl,
+  seat_enters g.K.TableWords.kind g.E.SplitEdit.rules c.self.inside.table.shared.key.cpus c.self.inside.table.shared.key.blocks.value.items
+      _ (caught_up c.self.inside.table.shared.key.blocks.value.items (cpus_from 0 c.self.inside.table.shared.key.cpus) []) refl,
 )
 
 pub loop-key-preserved : goal.loop-key-preserved

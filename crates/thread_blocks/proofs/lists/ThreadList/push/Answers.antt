@@ -1,5 +1,5 @@
 use Rattle.std.proofs.Common.{◌≡◌, ◌<◌, false, length, sym, subst, arith}
-use Rattle.{event_log.specs.declared.ids.TheConstants.THREADS, thread_blocks.{specs.Queues.{is_in, IsQueue}, proofs.Distinct.{has_room, pushed}}}
+use Rattle.{event_log.specs.declared.ids.TheConstants.THREADS, thread_blocks.{specs.Queues.{is_in, IsQueue}, proofs.Distinct.{has_room, queue_pushed}}}
 use Rattle.thread_blocks.proofs.lists.ThreadList.push.Goals as goal
 
 pub push-requires : goal.push-requires
@@ -11,4 +11,4 @@ push-requires c =
 pub invariant_of-self : goal.invariant_of-self
 invariant_of-self c =
     let new : is_in c.args.t c.self.inside.threads.items ≡ false = rw c.self.view_is c.requires.new in
-    subst IsQueue (sym c.push.ensures.items) (pushed _ c.args.t c.self.invariant c.requires.known new)
+    subst IsQueue (sym c.push.ensures.items) (queue_pushed _ c.args.t c.self.invariant c.requires.known new)

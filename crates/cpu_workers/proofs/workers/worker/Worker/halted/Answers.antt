@@ -1,7 +1,7 @@
 use Rattle.std.proofs.Common.{◌≡◌, sym, ◌∙◌, subst}
 use Rattle.{layer_traits.specs.{Blocks.{Capacities.caps_in, QueueBlocks.homes_in}, Views.OwnParts.threads_in}, cpu.specs.Table.Steps.halted_at}
 use Rattle.cpu.proofs.{CpuSteps.{CpuStates.valid_cpu, PassSteps.current_within}, OverLayer.CpuOverLayer.{laws_of, layered, runs_home, tabled_cpu}}
-use Rattle.{cpu.proofs.StepTable.TableRows.halted_same, cpu_workers.{specs.Working.{IsPlanned, Working}, proofs.Planning.{own_reason, planned}}}
+use Rattle.{cpu.proofs.StepTable.TableRows.halted_same, cpu_workers.{specs.Working.{IsPlanned, Working}, proofs.Planning.{own_reason, table_planned}}}
 use Rattle.cpu_workers.proofs.workers.worker.Worker.halted.Goals as goal
 
 pub halted-requires : goal.halted-requires
@@ -20,7 +20,7 @@ returns-clause-is g c = λ setup of.
     let is = c.self.invariant in
     let cpu = layered (laws_of g.met.I.CallLayer) m p is.fits is.number is.is (λ step. is.tabled) in
     let same = halted_same (tabled_cpu cpu is.stepwise) setup
-    (planned setup (homes_in (I.opening m)) (caps_in (I.opening m)) p.guests.items p.limit
+    (table_planned setup (homes_in (I.opening m)) (caps_in (I.opening m)) p.guests.items p.limit
     (subst (λ (w : Working). IsPlanned setup w.plan) (sym c.self.view_is) of)) in
     subst (λ (w : Working). halted_at setup w.cpu w.private ≡ c.halted.result) c.self.view_is (same ∙ sym c.halted.ensures)
 

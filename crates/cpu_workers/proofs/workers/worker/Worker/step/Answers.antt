@@ -1,6 +1,6 @@
 use Rattle.std.proofs.Common.{sym, ◌∙◌, subst}
 use Rattle.{layer_traits.specs.Blocks.{Capacities.caps_in, QueueBlocks.homes_in}, event_log.specs.declared.ids.CpuId.CpuId, cpu.specs.Table.Steps.cpu_step}
-use Rattle.{cpu.specs.{Tables.private, Tower.Composed.named}, cpu_workers.proofs.Planning.{planned, step_behind}}
+use Rattle.{cpu.specs.{Tables.private, Tower.Composed.named}, cpu_workers.proofs.Planning.{table_planned, step_behind}}
 use Rattle.cpu_workers.proofs.workers.worker.Worker.step.Goals as goal
 
 pub invariant_of-self : goal.invariant_of-self
@@ -28,4 +28,4 @@ returns-clause-turned g c =
     let acts = subst (λ (d : CpuId). I.ActsFor m d) is.number (law.own_cpu p.part m is.fits) in
     rw (← c.self.view_is) (λ setup of. step_behind (λ d. I.ActsFor m d) p.number (cpu_step setup p.number) (private (I.own p.part) p.guests.items p.trace.items)
     (private (I.own q.part) q.guests.items q.trace.items) (named (I.acts m)) (named (I.acts c.step.new.m)) c.step.result acts
-    (c.step.ensures.steps is.stepwise setup (planned setup (homes_in (I.opening m)) (caps_in (I.opening m)) p.guests.items p.limit of)))
+    (c.step.ensures.steps is.stepwise setup (table_planned setup (homes_in (I.opening m)) (caps_in (I.opening m)) p.guests.items p.limit of)))
