@@ -453,7 +453,7 @@ texts() {
     else
       failed=$((failed + 1)); echo "edge: an error says $text of itself, and mctower's $file has no such text"
     fi
-  done < <(errors | sed -nE 's/^mctower /refusals /p; s/^(boot|guest) /plan_faults /p')
+  done < <(errors | sed -nE 's/^mctower /tell\/refusal_lines /p; s/^(boot|guest) /tell\/plan_lines /p')
 }
 # Counts a row about the sources: $1 says what it looks at, $2 is wanted and $3 found.
 source_row() {
