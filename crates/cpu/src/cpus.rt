@@ -296,7 +296,7 @@ impl<I: CallLayer<IpcLaw>> Cpu<I> {
     ///
     /// Requires: as `go`.
     #[inline(always)]
-    pub(crate) fn go_on(&mut self, m: &mut I::Machine, most: usize) -> usize
+    pub fn go_on(&mut self, m: &mut I::Machine, most: usize) -> usize
         requires fits { I.Fits self.old.part m.old }
         requires some { 0 < most }
         requires room { most ≤ I.room m.old }

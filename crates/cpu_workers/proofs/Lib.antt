@@ -1,5 +1,6 @@
 pub mod Turning
 pub mod Planning
+pub mod RunsOfTurns
 pub mod Joining
 pub mod Filling
 pub mod TableKeys

@@ -1,14 +1,13 @@
 -- A worker's turns along one list of actions.
-use Rattle.std.proofs.Common.{◌≡◌, ◌⊎◌, inl, inr, ℕ, ◌+◌, ◌<◌, ◌≤◌, Bool, true, false, List, [], ◌∷◌, ◌++◌, Option, refl, ap, sym, ◌∙◌, subst, arith}
+use Rattle.std.proofs.Common.{◌≡◌, ◌⊎◌, inl, inr, ℕ, ◌+◌, ◌<◌, ◌≤◌, min, Bool, true, false, List, [], ◌∷◌, ◌++◌, Option, refl, ap, sym, ◌∙◌, subst, arith}
 use Rattle.std.proofs.lemmas.Bool.{cases_lt}
 use Rattle.event_log.{specs.{declared.ids.CpuId.CpuId, History.AreOthers, Actions.{Action, cpu_of_action, phase}}, proofs.Foreign.phase_others}
-use Rattle.layer_traits.specs.{declared.steps.{Reason.Reason, Step.{Step, TheVariants.Stepped}}, Polling.Along.{Outcome, Along, starts, others, steps, IsStep}}
-use Rattle.{layer_traits.specs.Polling.Plans.is_in_section, cpu.specs.Table.{Blocks.Name, Setups.{Setup, Private}, Steps.{cpu_step, halted_at}}}
-use Rattle.cpu.{specs.Tower.{Composed.{busy_step_answer, named}, Views.TowerName}, proofs.Tower.Polls.halts_exactly}
-use Rattle.cpu_workers.specs.declared.workers.{gates.Go.{Go, TheVariants.{Limit, Pass}}, stops.Stop.{Stop, TheVariants.{AllEnded, TurnsUsed, TraceFull, Held}}}
-use Rattle.cpu_workers.specs.{Working.{IsPlanned, IsSame, MayStep, Charge, Turned, Working, is_inside, log}, Reports.{CountsTurns, HasRun, IsTrueStop, MayHold}}
-use Rattle.cpu_workers.specs.Reports.{Walked, TookWithin, Within, another, below, counted_on, most, MayTakeTurn, none_taken, one_taken, PassedAtEach}
-use Rattle.cpu_workers.specs.Reports.{AskedAtEach, WasHeld}
+use Rattle.layer_traits.specs.{declared.steps.{Reason.Reason, Step.TheVariants.Stepped}, Polling.Along.{Outcome, Along, starts, others, steps, IsStep}}
+use Rattle.{layer_traits.specs.Polling.Plans.is_in_section, cpu.specs.{Table.{Setups.Setup, Steps.{cpu_step, halted_at}}, Tower.Composed.named}}
+use Rattle.{cpu.specs.Tower.Views.TowerName, cpu_workers.specs.declared.workers.{gates.Go.{Go, TheVariants.{Limit, Pass}}, stops.Stop.Stop}}
+use Rattle.cpu_workers.specs.{declared.workers.stops.Stop.TheVariants.{AllEnded, TurnsUsed, TraceFull, Held}, Working.{IsPlanned, IsSame, TookTurns, Charge}}
+use Rattle.cpu_workers.specs.{Working.{Turned, Working, is_inside, log}, Reports.{CountsTurns, HasRun, IsTrueStop, MayHold, Walked, TookWithin, Within}}
+use Rattle.cpu_workers.specs.Reports.{another, below, counted_on, most, MayTakeTurn, none_taken, one_taken, PassedAtEach, AskedAtEach, WasHeld}
 
 -- Numbers of turns.
 
@@ -69,14 +68,13 @@ module _ {P N : Type 0} {table : P → List (Action N) → Outcome P N} {cpu : C
   within_up bound short (one_taken way may stepped) = one_taken (within_up bound (omega (arith, short)) way) (inr (omega (arith, short))) stepped
 
   -- one step of the table more, inside a section or where it is allowed
-  took_one : {May : ℕ → Type 0} {p q : P} {old new : List (Action N)} {answer : Step} {shown : ℕ} → TookWithin table cpu May first p old shown
-      → (went : IsStep (λ c. c ≡ cpu) table p q old new answer) → (table p (went.others ++ old)).answer ≡ Stepped
-      → (is_in_section (phase cpu old) ≡ true) ⊎ ((count : ℕ) → CountsTurns shown count → May count) → TookWithin table cpu May first q new (counted_on shown)
-  took_one {May} {p} {q} {old} {new} {shown = shown} took went stepped may = record {
+  took_one : {May : ℕ → Type 0} {p q : P} {old new : List (Action N)} {shown : ℕ} → TookWithin table cpu May first p old shown
+      → IsStep (λ c. c ≡ cpu) table p q old new Stepped → (is_in_section (phase cpu old) ≡ true) ⊎ ((count : ℕ) → CountsTurns shown count → May count) → TookWithin table cpu May first q new (counted_on shown)
+  took_one {May} {p} {q} {old} {new} {shown = shown} took went may = record {
     count = took.count + 1;
     steps = subst (λ (x : P). Within table cpu May first (took.count + 1) x new) (sym went.next)
         (subst (λ (l : List (Action N)). Within table cpu May first (took.count + 1) (table p (went.others ++ old)).next l) (sym went.grows)
-        (one_taken (within_others went.others (went.foreign cpu refl) took.steps) (go may) stepped));
+        (one_taken (within_others went.others (went.foreign cpu refl) took.steps) (go may) (sym went.answers)));
     counted = counts_more shown took.count took.counted;
   }
     where
@@ -140,17 +138,8 @@ asked_on May taken held asked free holds k before = elim (cases_lt k taken) [
 
 -- one turn of the CPU by the step table, inside a section or where it is free to
 record Turn (setup : Setup) (cpu : CpuId) (now next : Working) (Free : Type 0) : Type 0 where
-  pub answer : Step
-  pub went : IsStep (λ c. c ≡ cpu) (cpu_step setup cpu) now.private next.private (log now) (log next) answer
-  pub stepped : (cpu_step setup cpu now.private (went.others ++ log now)).answer ≡ Stepped
+  pub went : IsStep (λ c. c ≡ cpu) (cpu_step setup cpu) now.private next.private (log now) (log next) Stepped
   pub may : (is_in_section (phase cpu (log now)) ≡ true) ⊎ Free
-
--- the table's step is taken, whatever other CPUs did before it
-goes_on : (setup : Setup) (c : CpuId) (p : Private) (past more : List (Action Name)) → AreOthers cpu_of_action c more
-    → busy_step_answer (is_in_section (phase c past)) (halted_at setup c p) ≡ Stepped → (cpu_step setup c p (more ++ past)).answer ≡ Stepped
-goes_on setup c p past more theirs goes =
-    halts_exactly setup c p (more ++ past)
-    ∙ (ap (λ f. busy_step_answer (is_in_section f) (halted_at setup c p)) (phase_others c more past theirs) ∙ goes)
 
 -- the gate was asked, and holds the worker now or does not
 module _ {May : CpuId → Go → ℕ → Type 0} {turns : ℕ} {start now : Working} {taken : ℕ} {held : Bool} (ran : Ran May turns start now taken held) (new : Bool)
@@ -162,23 +151,34 @@ module _ {May : CpuId → Go → ℕ → Type 0} {turns : ℕ} {start now : Work
   passed : (setup : Setup) → IsPlanned setup start.plan → new ≡ false → PassedAtEach (May start.cpu Pass) taken
   passed setup of free = (ran.goes setup of).passed (grind (arith, kept))
 
+  -- it takes no turn
+  ran_still : Ran May turns start now taken new
+  ran_still = record {
+    same = ran.same;
+    goes = λ setup of. let goes = ran.goes setup of in record {
+      within = goes.within;
+      was_held = holds setup of;
+      asked = goes.asked;
+      passed = passed setup of;
+    };
+  }
+
   -- it takes one turn more
-  pub ran_on : {next : Working} {answer : Step} → turns ≤ most → (new ≡ false → May now.cpu Pass taken)
-      → (is_inside now ≡ true) ⊎ ((new ≡ false) × (taken < turns)) → ((setup : Setup) → IsPlanned setup now.plan → MayStep setup now) → IsSame now next
-      → Turned now next answer → Ran May turns start next (counted_on taken) new
-  ran_on {next} {answer} small passes may goes_by same turned = record {
+  ran_on : {next : Working} → turns ≤ most → (new ≡ false → May now.cpu Pass taken) → (is_inside now ≡ true) ⊎ ((new ≡ false) × (taken < turns))
+      → IsSame now next → Turned now next Stepped → Ran May turns start next (counted_on taken) new
+  ran_on {next} small passes may same turned = record {
     same = record { cpu = same.cpu ∙ ran.same.cpu; plan = same.plan ∙ ran.same.plan; site = same.site ∙ ran.same.site };
     goes = λ setup of.
         let goes = ran.goes setup of in
         let turn = turn_of setup of in record {
-          within = took_one goes.within turn.went turn.stepped (allowed (passed_now setup of) turn.may);
+          within = took_one goes.within turn.went (allowed (passed_now setup of) turn.may);
           was_held = λ is. let was = holds setup of is in let before = was.before in record {
             turn = was.turn;
             before = taken_after taken was.turn before;
             may = was.may;
             count = was.count;
             counted = was.counted;
-            within = took_one was.within turn.went turn.stepped (inl (inside is turn.may));
+            within = took_one was.within turn.went (inl (inside is turn.may));
           };
           asked = asked_on (May start.cpu) taken new goes.asked pass (λ is. let was = holds setup of is in (was.turn, was.before, was.may));
           passed = λ free k before. passed_now setup of free k (taken_last taken k before);
@@ -188,13 +188,7 @@ module _ {May : CpuId → Go → ℕ → Type 0} {turns : ℕ} {start now : Work
       turn_of : (setup : Setup) → IsPlanned setup start.plan → Turn setup start.cpu now next ((new ≡ false) × (taken < turns))
       turn_of setup of =
           let planned = subst (λ (p : Charge). IsPlanned setup p) (sym ran.same.plan) of in
-          let went = turned setup planned in
-          subst (λ (d : CpuId). Turn setup d now next ((new ≡ false) × (taken < turns))) ran.same.cpu (record {
-            answer = answer;
-            went = went;
-            stepped = goes_on setup now.cpu now.private (log now) went.others (went.foreign now.cpu refl) (goes_by setup planned);
-            may = may;
-          })
+          subst (λ (d : CpuId). Turn setup d now next ((new ≡ false) × (taken < turns))) ran.same.cpu (record { went = turned setup planned; may = may })
 
       pass : new ≡ false → May start.cpu Pass taken
       pass free = subst (λ (d : CpuId). May d Pass taken) ran.same.cpu (passes free)
@@ -237,3 +231,47 @@ module _ {May : CpuId → Go → ℕ → Type 0} {turns : ℕ} {start now : Work
               (λ turn is. let was = holds setup of is in (was.turn, was.before, was.may)) is_true;
         };
   }
+
+-- so many turns as are shown
+abbrev pub shown_after : ℕ → ℕ → ℕ
+shown_after taken k = min (taken + k) most
+
+-- of more turns than one each is allowed: the gate does not hold the worker and lets it pass at each
+pub record AllAllowed (May : ℕ → Type 0) (turns taken k : ℕ) (held : Bool) : Type 0 where
+  pub free : held ≡ false
+  pub below : taken + k ≤ turns
+  pub passes : (j : ℕ) → taken ≤ j → j < taken + k → May j
+
+module _ {May : CpuId → Go → ℕ → Type 0} {turns : ℕ} {start now : Working} {taken : ℕ} {held : Bool} (ran : Ran May turns start now taken held) (new : Bool)
+    (limits : new ≡ true → (held ≡ true) ⊎ May now.cpu Limit taken) (kept : held ≡ true → new ≡ true) (small : turns ≤ most) (fits : taken ≤ most)
+    (passes : new ≡ false → May now.cpu Pass taken) (may : (is_inside now ≡ true) ⊎ ((new ≡ false) × (taken < turns))) where
+  -- it may take the turn behind so many: the first as the gate was asked for it, each further one as it is allowed
+  next_turn : {k : ℕ} {w : Working} → TookTurns now k w → IsSame start w → (1 < k + 1 → AllAllowed (May now.cpu Pass) turns taken (k + 1) new)
+      → (new ≡ false → May w.cpu Pass (shown_after taken k)) × ((is_inside w ≡ true) ⊎ ((new ≡ false) × (shown_after taken k < turns)))
+  next_turn TookTurns.no_turns same all =
+      let is : taken ≡ shown_after taken 0 = grind (arith, fits) in
+      subst (λ n. (new ≡ false → May now.cpu Pass n) × ((is_inside now ≡ true) ⊎ ((new ≡ false) × (n < turns)))) is (passes, may)
+  next_turn {w = w} (TookTurns.one_more {k = k} runs s t) same all =
+      let allowed = all (omega arith) in
+      let below = allowed.below in
+      let is : taken + (k + 1) ≡ shown_after taken (k + 1) = grind (arith, below, small) in
+      let pass = subst (λ (d : CpuId). May d Pass (taken + (k + 1))) (ran.same.cpu ∙ sym same.cpu)
+      (allowed.passes (taken + (k + 1)) (omega arith) (omega arith)) in
+      subst (λ n. (new ≡ false → May w.cpu Pass n) × ((is_inside w ≡ true) ⊎ ((new ≡ false) × (n < turns)))) is
+      ((λ free. pass), inr (allowed.free, omega (arith, below)))
+
+  -- it takes so many turns more
+  pub ran_through : {k : ℕ} {next : Working} → TookTurns now k next → (1 < k → AllAllowed (May now.cpu Pass) turns taken k new)
+      → Ran May turns start next (shown_after taken k) new
+  ran_through TookTurns.no_turns all =
+      let is : taken ≡ shown_after taken 0 = grind (arith, fits) in
+      subst (λ n. Ran May turns start now n new) is (ran_still ran new limits kept)
+  ran_through {next = next} (TookTurns.one_more {k = k} runs same turned) all =
+      let before = ran_through runs (λ many. let allowed = all (omega (arith, many)) in let below = allowed.below in record {
+        free = allowed.free;
+        below = omega (arith, below);
+        passes = λ j least short. allowed.passes j least (omega (arith, short));
+      }) in
+      let turn = next_turn runs before.same all in
+      let is : counted_on (shown_after taken k) ≡ shown_after taken (k + 1) = grind arith in
+      subst (λ n. Ran May turns start next n new) is (ran_on before new (λ holds. inl holds) (λ holds. holds) small turn.0 turn.1 same turned)

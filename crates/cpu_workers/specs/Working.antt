@@ -1,5 +1,5 @@
 -- A worker: one CPU with its machine, and one turn of it.
-use Rattle.std.specs.Prelude.{◌≡◌, ℕ, Bool, List, Option, Some, None, slice_index_or}
+use Rattle.std.specs.Prelude.{◌≡◌, ℕ, ◌+◌, Bool, List, Option, Some, None, slice_index_or}
 use Rattle.{event_log.specs.{declared.ids.{CpuId.CpuId, Tid.Tid}, Actions.{Action, phase}}, guest.specs.declared.instructions.Instruction.Instruction}
 use Rattle.{layer_traits.specs.{declared.steps.Step.{Step, TheVariants.Stepped}, Polling.{Along.IsStep, Plans.is_in_section}}, cpu.specs.Table.Blocks.Name}
 use Rattle.cpu.specs.{Table.{Setups.{Setup, Private, program_of}, Steps.{cpu_step, halted_at}}, Tower.{Composed.{busy_step_answer, named}, Views.TowerName}}
@@ -46,6 +46,11 @@ pub record IsSame (old new : Working) : Type 0 where
 abbrev pub Turned : Working → Working → Step → Type 0
 Turned old new answer = (setup : Setup) → IsPlanned setup old.plan
     → IsStep (λ c. c ≡ old.cpu) (cpu_step setup old.cpu) old.private new.private (log old) (log new) answer
+
+-- so many turns, one behind the other, each with a step of the table
+pub data TookTurns (old : Working) : ℕ → Working → Type 0 where
+  no_turns : TookTurns old 0 old
+  one_more : {k : ℕ} {now new : Working} → TookTurns old k now → IsSame now new → Turned now new Stepped → TookTurns old (k + 1) new
 
 -- the step table takes a step of the worker's CPU, whatever other CPUs do before it: a section of it is under way, or it is not halted
 abbrev pub MayStep : Setup → Working → Type 0

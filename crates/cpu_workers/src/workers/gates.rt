@@ -1,7 +1,7 @@
 //! Gates: what may hold a CPU between two of its turns. `OpenGate` takes no memory and does not
 //! wait.
 
-ghost use Rattle.std.specs.Prelude.{◌≡◌, ℕ};
+ghost use Rattle.std.specs.Prelude.{◌≡◌, ℕ, ◌+◌, ◌<◌, ◌≤◌};
 
 use event_log::CpuId;
 
@@ -14,11 +14,11 @@ pub enum Go {
     Limit,
 }
 
-/// What a worker asks before each turn of its CPU, with the number of turns that the CPU has taken. A
-/// gate that wants to hold the CPU does so inside `pass`, up to a limit of its own, and then answers
+/// What a worker asks before each turn of its CPU, with the number of turns that the CPU has taken,
+/// except where the gate has told that it need not be asked. A gate that wants to hold the CPU does so inside `pass`, up to a limit of its own, and then answers
 /// `Limit`; after that the CPU takes no turn but to end its section.
 pub trait Gate {
-    ghost use Rattle.{event_log.specs.declared.ids.CpuId.CpuId, cpu_workers.specs.declared.workers.gates.Go.Go};
+    ghost use Rattle.{event_log.specs.declared.ids.CpuId.CpuId, cpu_workers.specs.declared.workers.gates.Go.{Go, TheVariants.Pass}};
 
     /// For which CPU, and at which of its turns, the gate may give an answer.
     ghost MayAnswer: { Self → CpuId → Go → ℕ → Type 0 };
@@ -26,6 +26,14 @@ pub trait Gate {
     /// Whether `cpu`, which has taken `turn` turns, may take one more.
     fn pass(&self, cpu: CpuId, turn: u64) -> Go
         ensures { MayAnswer self.now cpu result turn };
+
+    /// For how many turns from this one on the gate need not be asked, since it lets `cpu` pass at each. A
+    /// gate that wants to be asked before each turn tells 0.
+    fn open_for(&self, _cpu: CpuId, _turn: u64) -> u64
+        ensures { (k : ℕ) → _turn ≤ k → k < _turn + result → MayAnswer self.now _cpu Pass k }
+    {
+        0
+    }
 }
 
 /// The gate that is always open.
@@ -39,5 +47,9 @@ impl Gate for OpenGate {
 
     fn pass(&self, _cpu: CpuId, _turn: u64) -> Go {
         Go::Pass
+    }
+
+    fn open_for(&self, _cpu: CpuId, _turn: u64) -> u64 {
+        u64::MAX
     }
 }

@@ -4,10 +4,11 @@
 ghost use Rattle.std.specs.Prelude.{◌≡◌, ℕ, ◌<◌, ◌≤◌, Some, [], IfOk, length, slice_get, vec_capacity};
 ghost use Rattle.layer_traits.specs.{Blocks.{Capacities.caps_in, QueueBlocks.{homes_in, inner}, BufferEffects.opening_locks}, Threads.OnePlace.cpu_at};
 ghost use Rattle.{event_log.specs.declared.ids.TheConstants.CPUS, boot.specs.Plan.IsPlan, cpu.specs.Boots.homes_for, cpu_workers.specs.Reports.Both};
-ghost use Rattle.cpu_workers.specs.Seating.{HasLeft, IsApart, IsAtBoot, IsReadySeat, IsUnused, OpensPlan, tower_acts};
+ghost use Rattle.cpu_workers.specs.{declared.workers.seats.TheConstants.STRETCH, Seating.{HasLeft, IsApart, IsAtBoot, IsReadySeat, IsUnused, OpensPlan, tower_acts}};
 
 use crate::refusals::WorkerError;
 use crate::workers::gates::Gate;
+use crate::workers::seats::STRETCH;
 use crate::workers::starting::{Came, work_all};
 use crate::workers::turns::Did;
 use crate::workers::worker::Worker;
@@ -70,7 +71,7 @@ fn workers_over<I: CallLayer<IpcLaw> + Drop>(
 where
     I::Machine: Drop,
     requires stepwise { I.IsStepwise }
-    requires room { (m : I.Machine) → 0 < I.room m }
+    requires room { (m : I.Machine) → STRETCH ≤ I.room m }
     requires few { length machines.items ≤ CPUS }
     requires unused { (k : ℕ) (m : I.Machine) → slice_get machines.items k ≡ Some m
         → IsUnused (I.IsFresh m (homes_for boot.now) (cpu_at k)) (homes_in (I.opening m) ≡ homes_for boot.now) (caps_in (I.opening m) ≡ boot.now.caps)
@@ -85,10 +86,11 @@ where
     for number in 0..count {
         let machine = machines.remove(0);
         // No `?`, which would move the worker's many bytes three times more.
-        let worker = match worker_over::<I>(alloc, boot, CpuId(number as u8), machine) {
+        let mut worker = match worker_over::<I>(alloc, boot, CpuId(number as u8), machine) {
             Ok(worker) => worker,
             Err(error) => return Err(error),
         };
+        worker.stretch_to(STRETCH);
         workers.push_reserved(worker);
     }
     Ok(workers)
@@ -148,7 +150,7 @@ pub(crate) fn run_each<
 where
     I::Machine: Drop + Send,
     requires stepwise { I.IsStepwise }
-    requires room { (m : I.Machine) → 0 < I.room m }
+    requires room { (m : I.Machine) → STRETCH ≤ I.room m }
     requires few { length machines.items ≤ CPUS }
     requires unused { (k : ℕ) (m : I.Machine) → slice_get machines.items k ≡ Some m
         → IsUnused (I.IsFresh m (homes_for boot.now) (cpu_at k)) (homes_in (I.opening m) ≡ homes_for boot.now) (caps_in (I.opening m) ≡ boot.now.caps)
@@ -187,7 +189,7 @@ pub(crate) fn run_over<
 where
     L::Machine: Drop + Send,
     requires stepwise { L.IsStepwise }
-    requires room { (m : L.Machine) → 0 < L.room m }
+    requires room { (m : L.Machine) → STRETCH ≤ L.room m }
     requires plan { IsPlan boot.now }
     requires count { length machines.items ≤ boot.now.cpus }
     requires few { length machines.items ≤ CPUS }

@@ -9,6 +9,9 @@ use layer_traits::{Mark, UsesGrantWords, Words};
 use std::marker::Model;
 use table_machine::{Key, Seat, Shared, TableWords, WaiterWords};
 
+/// How many turns a worker at a seat takes at once, at most: so long an idle CPU may keep its processor.
+pub(crate) const STRETCH: usize = 16;
+
 /// A seat at a table of the tower's locks, whatever their words are: a [`Seat`] under a name of its
 /// own, so that no proof above it has to compare the tower's edits.
 #[derive(Drop)]
@@ -47,7 +50,7 @@ impl<'a, K: TableWords> TowerSeat<'a, K> {
 impl<'a, K: TableWords> Words for TowerSeat<'a, K> {
     ghost use Rattle.std.specs.Prelude.{◌≡◌, ℕ};
     ghost use Rattle.{event_log.specs.History.IsLawful, layer_traits.specs.Protocols.{WordsProtocol.{MayCome, edit_of}, OneLock.opened}};
-    ghost use Rattle.{table_machine.specs.SeatViews.site_of, cpu_workers.specs.Closing.tower_rules};
+    ghost use Rattle.{table_machine.specs.SeatViews.site_of, cpu_workers.specs.{Closing.tower_rules, declared.workers.seats.TheConstants.STRETCH}};
 
     type Edit = TowerEdit;
 
@@ -61,7 +64,7 @@ impl<'a, K: TableWords> Words for TowerSeat<'a, K> {
 
     ghost ActsFor = { λ s c. (c ≡ s.cpu) × IsLawful (MayCome (tower_rules.allowed (opened s.start))) s.seen };
 
-    ghost room = { λ s. 1 };
+    ghost room = { λ s. STRETCH };
 
     ghost site = { λ s. site_of s.table };
 

@@ -1,14 +1,15 @@
 //! The turns of one worker. `work` takes no memory, and waits for other CPUs.
 
-ghost use Rattle.std.specs.Prelude.{◌≡◌, ◌≢◌, ◌<◌, ◌⊎◌, true, false, [], None, Some, MatchOption};
+ghost use Rattle.std.specs.Prelude.{◌≡◌, ◌≢◌, ℕ, ◌+◌, ◌<◌, ◌≤◌, ◌⊎◌, true, false, [], None, Some, MatchOption};
 ghost use Rattle.{layer_traits.specs.declared.steps.Reason.TheVariants.StepsUsed, cpu.specs.Table.{Setups.Setup, Steps.halted_at}};
-ghost use Rattle.cpu_workers.specs.{Working.{IsPlanned, MayStep, is_inside}, Reports.{HasRun, IsTrueStop, counted_on}};
+ghost use Rattle.cpu_workers.specs.{Working.{IsPlanned, MayStep, is_inside}, Reports.{HasRun, IsTrueStop}};
 ghost use Rattle.cpu_workers.specs.declared.workers.{gates.Go.TheVariants.{Limit, Pass}, stops.Stop.TheVariants.TurnsUsed};
 
 use crate::pauses::{SPINS, pause};
 use crate::workers::gates::{Gate, Go};
 use crate::workers::stops::Stop;
 use crate::workers::worker::Worker;
+use event_log::CpuId;
 use layer_traits::{CallLayer, IpcLaw, Reason};
 use std::sync::Wait;
 
@@ -21,11 +22,18 @@ pub struct Did {
     pub stop: Stop,
 }
 
-// One turn more.
-fn one_more(taken: u64) -> u64
-    ensures { result ≡ counted_on taken }
+// How many turns a worker takes before it asks the gate again: more than one only where the gate, which has
+// not answered `Limit`, lets the CPU pass at each, and `turns` allow them.
+fn at_once<G: Gate>(gate: &G, cpu: CpuId, taken: u64, turns: u64, held: bool) -> usize
+    ensures some { 0 < result }
+    ensures free { 1 < result → (held ≡ false) × (taken + result ≤ turns) }
+    ensures open { 1 < result → (k : ℕ) → taken ≤ k → k < taken + result → G.MayAnswer gate.now cpu Pass k }
 {
-    if taken == u64::MAX { taken } else { taken + 1 }
+    if held || turns <= taken {
+        return 1;
+    }
+    let open = gate.open_for(cpu, taken).min(turns - taken);
+    if open == 0 { 1 } else { open as usize }
 }
 
 // Why a worker whose CPU has no section under way stops, if it does.
@@ -120,7 +128,8 @@ where
 /// looks whether a section is under way. Where none is, it stops if its CPU is halted, else if the
 /// gate has answered `Limit`, else if `turns` turns are taken; and else it asks the gate, whose
 /// `Limit` stops it without that turn. Inside a section it asks the gate too, but goes on to the
-/// section's end. After a `Limit` it asks no more, takes no turn but to end the section, and stops as
+/// section's end. Where the gate tells for how many turns it need not be asked, it counts as asked at
+/// each of them. After a `Limit` it asks no more, takes no turn but to end the section, and stops as
 /// `TurnsUsed` in no case.
 ///
 /// It may wait for other CPUs' sections and inside the gate, so it need not return.
@@ -144,8 +153,9 @@ where
         if let Some(stop) = before(gate, worker, taken, turns, &mut held) {
             return Did { taken, stop };
         }
-        let _ = worker.step();
-        taken = one_more(taken);
+        let most = at_once(gate, worker.number(), taken, turns, held);
+        let gone = worker.turns(most);
+        taken = taken.saturating_add(gone as u64);
         spins = pause(worker.is_busy(), worker.is_idle(), spins);
     }
     unreachable!()

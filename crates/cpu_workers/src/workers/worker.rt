@@ -19,13 +19,15 @@ where
 {
     cpu: Cpu<I>,
     machine: I::Machine,
+    // How many events the machine has room for at any time.
+    stretch: usize,
 }
 
 impl<I: CallLayer<IpcLaw> + Drop> Model for Worker<I>
 where
     I::Machine: Drop,
 {
-    ghost use Rattle.std.specs.Prelude.{◌≡◌, ◌<◌, length, vec_capacity};
+    ghost use Rattle.std.specs.Prelude.{◌≡◌, ◌<◌, ◌≤◌, length, vec_capacity};
     ghost use Rattle.{cpu.specs.{Cpus.{IsCpu, programs_of}, Tables.{IsTabled, private}}, cpu_workers.specs.{Working.Working, Seats.IsWorker}};
     ghost use Rattle.layer_traits.specs.{Blocks.{BufferEffects.opening_locks, Capacities.caps_in, QueueBlocks.{homes_in, inner}}, Views.OwnParts.threads_in};
 
@@ -49,7 +51,8 @@ where
         (I.own w.cpu.part).call_states (I.under_way w.cpu.part) w.cpu.number w.cpu.guests.items w.cpu.trace.items w.cpu.limit (vec_capacity w.cpu.trace))
         (IsTabled (homes_in (I.opening w.machine)) (caps_in (I.opening w.machine)) w.cpu.number (I.own w.cpu.part) (I.under_way w.cpu.part)
         w.cpu.guests.items (I.opening w.machine))
-        ((m : I.Machine) → 0 < I.room m) (inner (I.opening w.machine) ≡ opening_locks (caps_in (I.opening w.machine))) };
+        ((0 < w.stretch) × ((m : I.Machine) → w.stretch ≤ I.room m))
+        (inner (I.opening w.machine) ≡ opening_locks (caps_in (I.opening w.machine))) };
 }
 
 impl<I: CallLayer<IpcLaw> + Drop> Worker<I>
@@ -59,7 +62,7 @@ where
     ghost use Rattle.layer_traits.specs.{declared.steps.Reason.TheVariants.StepsUsed, Blocks.{BufferEffects.opening_locks, QueueBlocks.inner}};
     ghost use Rattle.{event_log.specs.{Actions.AreLegal, declared.ids.TheConstants.THREADS}, cpu.specs.{Cpus.{IsCpu, programs_of}, Tables.{IsTabled, private}}};
     ghost use Rattle.{cpu.specs.{Boots.AreGuests, Table.{Setups.{Setup, boot_of}, Steps.halted_at}}, cpu_workers.specs.Idling.is_idle};
-    ghost use Rattle.cpu_workers.specs.{Working.{IsPlanned, IsSame, Turned, is_inside}, Orders.{HasFollowed, IsTraceOf}};
+    ghost use Rattle.cpu_workers.specs.{Working.{IsPlanned, IsSame, TookTurns, Turned, is_inside}, Orders.{HasFollowed, IsTraceOf}};
 
     /// The worker of a CPU and its machine, which agree. The machine does one action a step and has
     /// room for one at any time, and each of its buffers opened empty.
@@ -83,7 +86,20 @@ where
         ensures acts { result.acts ≡ I.acts machine }
         ensures site { result.site ≡ I.site machine }
     {
-        Worker { cpu, machine }
+        Worker {
+            cpu,
+            machine,
+            stretch: 1,
+        }
+    }
+
+    // Lets it take up to so many turns at once from here on.
+    pub(crate) fn stretch_to(&mut self, stretch: usize)
+        requires some { 0 < stretch }
+        requires room { (m : I.Machine) → stretch ≤ I.room m }
+        ensures { self.new ≡ self.old }
+    {
+        self.stretch = stretch;
     }
 
     /// The worker of a CPU before its first turn, with the guests of its home threads, over a
@@ -134,7 +150,7 @@ where
         ensures site { I.site result.1 ≡ self.site }
         ensures owns { I.ActsFor result.1 self.cpu }
     {
-        let Worker { cpu, machine } = self;
+        let Worker { cpu, machine, .. } = self;
         (cpu.trace, machine)
     }
 
@@ -176,6 +192,21 @@ where
         ensures own { result ≢ Some StepsUsed }
     {
         self.cpu.halted()
+    }
+
+    /// Turns of the CPU, one behind the other, up to `most`: none where it is halted, and just one where no
+    /// thread runs, so that other threads may run after it. Returns how many it took.
+    pub(crate) fn turns(&mut self, most: usize) -> usize
+        requires { 0 < most }
+        ensures few { result ≤ most }
+        ensures took { TookTurns self.old result self.new }
+    {
+        if self.cpu.reason().is_some() {
+            return 0;
+        }
+        let runs = self.cpu.part.current().is_some();
+        let most = if runs { most.min(self.stretch) } else { 1 };
+        self.cpu.go_on(&mut self.machine, most)
     }
 
     /// One step of the CPU: one local action or one atomic action. `Halted` where it took none.

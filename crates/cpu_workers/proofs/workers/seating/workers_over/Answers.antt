@@ -11,6 +11,9 @@ worker_over-requires-clause-unused g c =
     let below = is_below c.loop-number-test.true c.len-count.ensures c.args.machines.ok.0 in
     c.requires.unused c.loop-number.number _ (taken_at _ _ c.loop-number.invariant.machines_left below _ c.remove-machine.ensures.value)
 
+pub worker_over-requires-clause-room : goal.worker_over-requires-clause-room
+worker_over-requires-clause-room g c = λ m. let room = c.requires.room m in omega (arith, room)
+
 pub push_reserved-requires : goal.push_reserved-requires
 push_reserved-requires g c =
     numbered_room c.loop-number.invariant.workers (is_below c.loop-number-test.true c.len-count.ensures c.args.machines.ok.0) c.loop-number.workers.ok.0
@@ -26,7 +29,7 @@ loop-number-preserved g c =
     record {
       machines_left = taken_one machines n inv.machines_left below c.remove-machine.ensures.items;
       workers = numbered_one inv.workers c.push_reserved.ensures.items c.push_reserved.ensures.capacity
-          (e.at_boot, λ m there. let same : c.remove-machine.result ≡ m = cc (here, there) in e.site ∙ ap (λ x. g.I.CallLayer.site x) same);
+          (rw c.stretch_to.ensures (e.at_boot, λ m there. let same : c.remove-machine.result ≡ m = cc (here, there) in e.site ∙ ap (λ x. g.I.CallLayer.site x) same));
     }
 
 pub returns-clause-count : goal.returns-clause-count

@@ -1,7 +1,11 @@
-use Rattle.std.proofs.Common.{sym, ◌∙◌, subst}
+use Rattle.std.proofs.Common.{sym, ◌∙◌, subst, arith}
 use Rattle.{layer_traits.specs.Blocks.{Capacities.caps_in, QueueBlocks.homes_in}, event_log.specs.declared.ids.CpuId.CpuId, cpu.specs.Table.Steps.cpu_step}
 use Rattle.{cpu.specs.{Tables.private, Tower.Composed.named}, cpu_workers.proofs.Planning.{table_planned, step_behind}}
 use Rattle.cpu_workers.proofs.workers.worker.Worker.step.Goals as goal
+
+pub step-requires-clause-room : goal.step-requires-clause-room
+step-requires-clause-room g c =
+    let some = c.self.invariant.room.0 in let room = c.self.invariant.room.1 c.self.inside.machine in omega (arith, some, room)
 
 pub invariant_of-self : goal.invariant_of-self
 invariant_of-self g c =

@@ -1,0 +1,46 @@
+-- A run of a worker's CPU is turns of the worker, one behind the other.
+use Rattle.std.proofs.Common.{◌≡◌, ℕ, refl, ◌∙◌, subst}
+use Rattle.{layer_traits.specs.{Blocks.{Capacities.caps_in, QueueBlocks.homes_in}, declared.call_layers.CallLayer.Ghosts}, cpu.specs.Table.Steps.cpu_step}
+use Rattle.{layer_traits.specs.declared.steps.Step.TheVariants.Stepped, event_log.specs.declared.ids.CpuId.CpuId, cpu.specs.{Cpus.programs_of, Tables.private}}
+use Rattle.cpu.{specs.{declared.cpus.Cpu.Cpu, CpuSteps.RunsAt, Tower.Composed.named}, proofs.CpuSteps.CpuRuns.{AgreesAt, runs_agree}}
+use Rattle.cpu_workers.{specs.Working.{TookTurns, Working}, proofs.Planning.{step_behind, table_planned}}
+
+module _ {P L M : Type 0} (I : Ghosts P L M) where
+  -- the worker of a CPU and its machine
+  abbrev pub worker_at : M → Cpu P M → Working
+  worker_at m p = record {
+    cpu = p.number;
+    plan = record {
+      homes = homes_in (I.opening m);
+      caps = caps_in (I.opening m);
+      programs = programs_of p.guests.items;
+      limit = p.limit;
+    };
+    private = private (I.own p.part) p.guests.items p.trace.items;
+    acts = I.acts m;
+    site = I.site m;
+  }
+
+  module _ {m : M} {p : Cpu P M} where
+    pub opens_same : {k : ℕ} {n : M} {q : Cpu P M} → RunsAt I m p k n q → I.opening n ≡ I.opening m
+    opens_same RunsAt.none = refl
+    opens_same (RunsAt.more runs s) = s.leaves.opening ∙ opens_same runs
+
+    module _ (own_cpu : (q : P) (n : M) → I.Fits q n → I.ActsFor n (I.cpu_of q)) (stepwise : I.IsStepwise) (agrees : AgreesAt I m p) where
+      pub turns_of : {k : ℕ} {n : M} {q : Cpu P M} → RunsAt I m p k n q → TookTurns (worker_at m p) k (worker_at n q)
+      turns_of RunsAt.none = TookTurns.no_turns
+      turns_of {n = o} {q = r} (RunsAt.more {n = n} {q = q} runs s) =
+          let at = runs_agree agrees runs in
+          let acts = subst (λ (d : CpuId). I.ActsFor n d) at.number (own_cpu q.part n at.fits) in
+          TookTurns.one_more (turns_of runs) (record {
+            cpu = s.leaves.number;
+            plan = λ i. record {
+              homes = homes_in (s.leaves.opening i);
+              caps = caps_in (s.leaves.opening i);
+              programs = s.leaves.programs i;
+              limit = s.leaves.limit i;
+            };
+            site = s.leaves.site;
+          }) (λ setup of. step_behind (λ d. I.ActsFor n d) q.number (cpu_step setup q.number) (private (I.own q.part) q.guests.items q.trace.items)
+          (private (I.own r.part) r.guests.items r.trace.items) (named (I.acts n)) (named (I.acts o)) Stepped acts
+          (s.steps stepwise setup (table_planned setup (homes_in (I.opening n)) (caps_in (I.opening n)) q.guests.items q.limit of)))
