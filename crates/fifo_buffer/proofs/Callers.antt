@@ -1,9 +1,21 @@
 -- A thread that runs on a CPU and whose call takes a section poll there: its CPU's part and the log before the section poll.
 use Rattle.std.proofs.Common.{◌≡◌, ◌<◌, List, length, Option, Some}
+use Rattle.{fifo_buffer.specs.SectionPolls.{BufferOutcome, BufferEvent}, layer_traits.specs.Blocks.BufferBlocks.BufferState}
+use Rattle.layer_traits.specs.{Blocks.{BufferProtocol.{buffer_monitor_rules, BufferLock}, QueueBlocks.homes_in}, Layers.QLockLaw.lock_kernel}
+use Rattle.layer_traits.specs.Layers.{QLocking.LockRules, Conditions.{CvCall, cv_rules}, Queues.{QueueAllowed, Kernel}, CvLaw.Waiting}
+use Rattle.layer_traits.specs.declared.{conditions.{CvOut.CvOut, CvLeave.CvLeave, CvEdit.CvEdit}, buffer_edits.{BufferEdit.BufferEdit, BufferOut.BufferOut}}
+use Rattle.{layer_traits.specs.{declared.{calls.Call.Call, queue_edits.QueueBlock.QueueBlock}, Threads.Places.home_of}, event_log.specs.History.IsLawful}
 use Rattle.event_log.specs.declared.ids.{CpuId.CpuId, LockId.LockId, Tid.Tid, TheConstants.THREADS}
-use Rattle.layer_traits.specs.declared.{buffer_edits.BufferOut.BufferOut, calls.Call.Call, queue_edits.QueueBlock.QueueBlock}
-use Rattle.layer_traits.specs.{Blocks.{BufferProtocol.BufferLock, QueueBlocks.homes_in}, Layers.CvLaw.Waiting, Threads.Places.home_of}
-use Rattle.fifo_buffer.specs.SectionPolls.{BufferEvent}
+
+-- what the calls of the conditions mean with the protocol of buffers, and which events a machine allows that opened so
+abbrev pub monitored : LockRules (CvEdit BufferEdit) CvLeave BufferState (CvOut BufferOut)
+monitored = cv_rules buffer_monitor_rules
+
+abbrev pub kernel_of : (LockId → Option (QueueBlock BufferLock)) → Kernel (CvCall BufferEdit) BufferLock BufferOutcome
+kernel_of opening = lock_kernel monitored opening
+
+abbrev pub AreLawful : (LockId → Option (QueueBlock BufferLock)) → List BufferEvent → Type 0
+AreLawful opening past = IsLawful (QueueAllowed (kernel_of opening)) past
 
 pub record Caller : Type 1 where
   pub opening : LockId → Option (QueueBlock BufferLock)

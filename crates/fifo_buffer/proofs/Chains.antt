@@ -34,10 +34,9 @@ module _ (homes : List CpuId) (c : CpuId) (t : Tid) (call : Call) (stage : Stage
   beneath_acts slept waits = grind (arith, same_caller, act_raised, sched_acts)
 
 -- a plan that acts goes on to nothing
-chained_act : {N B R S T A Q : Type 0} (ActsFor : CpuId → Type 0) (table : Table N B R) (opening : LockId → Option B) (cpu : CpuId)
-    (next : T → Plan N R T Q) (f : Left S A → Left T Q)
-    (plan : Plan N R S A) (old new : List (Action N)) (got : Left T Q) → IsAct plan → Follows ActsFor table opening cpu (raised f plan) old new got
-    → Follows ActsFor table opening cpu (chained next f plan) old new got
+chained_act : {N B R S T A Q : Type 0} (ActsFor : CpuId → Type 0) (table : Table N B R) (opening : LockId → Option B) (cpu : CpuId) (next : T → Plan N R T Q)
+    (f : Left S A → Left T Q) (plan : Plan N R S A) (old new : List (Action N)) (got : Left T Q) → IsAct plan
+    → Follows ActsFor table opening cpu (raised f plan) old new got → Follows ActsFor table opening cpu (chained next f plan) old new got
 chained_act ActsFor table opening cpu next f plan old new got acts follows = grind arith
 
 module _ {B : Type 0} (ActsFor : CpuId → Type 0) (table : Table (QueueEdit (CvCall BufferEdit)) B (QueueAnswer BufferOutcome))
@@ -45,11 +44,9 @@ module _ {B : Type 0} (ActsFor : CpuId → Type 0) (table : Table (QueueEdit (Cv
     (homes : List CpuId) (t : Tid) (call : Call) where
   -- one section poll of a thread that neither sleeps for the lock nor waits
   pub one_follows : (stage : Stage) (call_state : CallState) (own : Buffering) (old new : List (Action (QueueEdit (CvCall BufferEdit))))
-      (got : Left Buffering Reply)
-      → called_at stage ≡ true
-      → slept_for own.cv.lock.slept t ≡ None → slept_for own.cv.waits t ≡ None
-      → Follows ActsFor table opening cpu (stage_plan homes cpu t call stage call_state own) old new got → Follows ActsFor table opening cpu
-      (plan_at homes cpu t call stage call_state own) old new got
+      (got : Left Buffering Reply) → called_at stage ≡ true → slept_for own.cv.lock.slept t ≡ None → slept_for own.cv.waits t ≡ None
+      → Follows ActsFor table opening cpu (stage_plan homes cpu t call stage call_state own) old new got
+      → Follows ActsFor table opening cpu (plan_at homes cpu t call stage call_state own) old new got
   one_follows Idle call_state own old new got called slept waits follows = grind arith
   one_follows Acquires call_state own old new got called slept waits follows = grind (arith, chained_act, beneath_acts)
   one_follows Enters call_state own old new got called slept waits follows = follows
@@ -73,14 +70,13 @@ module _ {B : Type 0} (ActsFor : CpuId → Type 0) (table : Table (QueueEdit (Cv
   two_chain next f plan old mid new one two answers first second = grind arith
 
   pub two_follows : (stage : Stage) (call_state : CallState) (own : Buffering) (old mid new : List (Action (QueueEdit (CvCall BufferEdit))))
-      (one two : Left Buffering Reply) (handed : Bool)
-      (out : QOut (CvOut BufferOut)) → is_at_once stage handed ≡ true → call_state_of one.own.call_states t ≡ recorded call_state stage out
-      → (waits_at stage ≡ true → is_some (slept_for own.cv.waits t) ≡ true)
+      (one two : Left Buffering Reply) (handed : Bool) (out : QOut (CvOut BufferOut)) → is_at_once stage handed ≡ true
+      → call_state_of one.own.call_states t ≡ recorded call_state stage out → (waits_at stage ≡ true → is_some (slept_for own.cv.waits t) ≡ true)
       → (waits_at stage ≡ false → (slept_for own.cv.waits t ≡ None) × (is_some (slept_for own.cv.lock.slept t) ≡ true))
       → slept_for one.own.cv.lock.slept t ≡ None → slept_for one.own.cv.waits t ≡ None
       → Follows ActsFor table opening cpu (stage_plan homes cpu t call stage call_state own) old mid one
-      → Follows ActsFor table opening cpu (stage_plan homes cpu t call (call_state_of one.own.call_states t).stage
-      (call_state_of one.own.call_states t) one.own) mid new two
+      → Follows ActsFor table opening cpu
+      (stage_plan homes cpu t call (call_state_of one.own.call_states t).stage (call_state_of one.own.call_states t) one.own) mid new two
       → Follows ActsFor table opening cpu (plan_at homes cpu t call stage call_state own) old new two
   two_follows Acquires call_state own old mid new one two handed out once is waits slept free freed first second = grind (arith, some_of, two_chain)
   two_follows AcquiresAgain call_state own old mid new one two handed out once is waits slept free freed first second = grind (arith, some_of, two_chain)
@@ -88,8 +84,7 @@ module _ {B : Type 0} (ActsFor : CpuId → Type 0) (table : Table (QueueEdit (Cv
   two_follows other call_state own old mid new one two handed out once is waits slept free freed first second = absurd cc
 
 -- a plan followed by a holder that acts for fewer CPUs
-pub follows_for : {N B R S A : Type 0} (ActsFor Acts : CpuId → Type 0) → ((d : CpuId) → Acts d → ActsFor d)
-    → (table : Table N B R) (opening : LockId → Option B) (cpu : CpuId)
-    (plan : Plan N R S A) (old new : List (Action N)) (got : Left S A) → Follows ActsFor table opening cpu plan old new got
-    → Follows Acts table opening cpu plan old new got
+pub follows_for : {N B R S A : Type 0} (ActsFor Acts : CpuId → Type 0) → ((d : CpuId) → Acts d → ActsFor d) → (table : Table N B R)
+    (opening : LockId → Option B) (cpu : CpuId) (plan : Plan N R S A) (old new : List (Action N)) (got : Left S A)
+    → Follows ActsFor table opening cpu plan old new got → Follows Acts table opening cpu plan old new got
 follows_for ActsFor Acts weaker table opening cpu plan old new got follows = grind arith

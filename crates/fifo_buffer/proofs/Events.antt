@@ -1,28 +1,27 @@
 -- What holds of a thread's call state over events, where none of them is of its CPU; and what its stance lets it do.
-use Rattle.std.proofs.{Common.{◌≡◌, ◌≢◌, ℕ, Bool, true, false, ◌&&◌, List, [], ◌∷◌, ◌++◌, Option, Some, None, refl, ap, ◌∙◌, subst, arith}, Math.Bool.and-true}
-use Rattle.event_log.specs.{declared.ids.{BufId.BufId, CpuId.CpuId, LockId.{LockId, TheVariants.Buffer}, Tid.Tid}, History.{AreOthers, IsLawful, same_cpu}}
-use Rattle.{event_log.proofs.Same.{same_cpu_self, same_lock_self}, layer_traits.specs.declared.{buffer_edits.BufferEdit.BufferEdit, calls.Call.Call}}
-use Rattle.layer_traits.specs.declared.{calls.{Call.TheVariants.{Send, Recv, Close}, Effect.Effect}, locked.Side.{Side, TheVariants.{Receivers, Senders}}}
-use Rattle.layer_traits.specs.declared.{queue_edits.QueueBlock.QueueBlock, queues.QueueCall.{QueueCall, TheVariants.{Push, TakeAll, OnBuffer}}}
-use Rattle.layer_traits.specs.declared.call_states.{Stage.{Stage, TheVariants.{Idle, Acquires, Enters, Tries, Waits, AcquiresAgain}}, CallState.CallState}
-use Rattle.layer_traits.specs.Layers.{BufferLaw.{buffer_of, section_at, side_of}, Conditions.{CvCall, cv_rules}, QLockLaw.lock_kernel, QLocking.IsOwners}
-use Rattle.layer_traits.specs.Layers.{QLocking.{lock_caller, owner_in}, Queues.{QueueAllowed, buffer_sections, cpu_of_queue_event, with_section}}
-use Rattle.layer_traits.specs.{Threads.Places.{count_in, home_of, one_if}, Protocols.Protocol.section, Blocks.QueueBlocks.{homes_in, inner}}
-use Rattle.layer_traits.specs.Blocks.BufferProtocol.{BufferLock, BufferSection, IsDue, buffer_lock_at, buffer_monitor_rules, buffer_rules, is_in_line}
-use Rattle.{layer_traits.proofs.{CountLemmas.not_counted, ListsLemmas.counted_in}, thread_blocks.{specs.Queues.same_tid, proofs.Members.same_tid_true}}
-use Rattle.fifo_buffer.{specs.{Stances.{Grip, InCall, Stance, CallStateFits, line_at, same_side}, SectionPolls.BufferEvent}, proofs.Apart.fits_apart}
-use Rattle.fifo_buffer.proofs.Apart.{side_self}
+use Rattle.std.proofs.{Common.{ℕ, ◌≡◌, ◌≢◌, Bool, true, false, ◌&&◌, List, [], ◌∷◌, ◌++◌, Option, Some, None, refl, ap, ◌∙◌, subst, arith}, Math.Bool.and-true}
+use Rattle.fifo_buffer.{proofs.{Callers.{monitored, kernel_of, AreLawful}, Apart.{fits_apart, side_self}}, specs.Stances.{Grip, InCall, Stance, CallStateFits}}
+use Rattle.{fifo_buffer.specs.{Stances.{line_at, same_side}, SectionPolls.BufferEvent}, event_log.specs.declared.ids.{BufId.BufId, CpuId.CpuId, LockId.LockId}}
+use Rattle.event_log.{specs.{declared.ids.{LockId.TheVariants.Buffer, Tid.Tid}, History.{AreOthers, same_cpu}}, proofs.Same.{same_cpu_self, same_lock_self}}
+use Rattle.layer_traits.specs.declared.{buffer_edits.BufferEdit.BufferEdit, calls.{Call.{Call, TheVariants.{Send, Recv, Close}}, Effect.Effect}}
+use Rattle.layer_traits.specs.declared.{locked.Side.{Side, TheVariants.{Receivers, Senders}}, queue_edits.QueueBlock.QueueBlock, queues.QueueCall.QueueCall}
+use Rattle.layer_traits.specs.declared.{queues.QueueCall.TheVariants.{Push, TakeAll, OnBuffer}, call_states.Stage.{Stage, TheVariants.{Idle, Acquires, Enters}}}
+use Rattle.layer_traits.specs.{declared.call_states.{Stage.TheVariants.{Tries, Waits, AcquiresAgain}, CallState.CallState}, Layers.BufferLaw.buffer_of}
+use Rattle.layer_traits.specs.Layers.{BufferLaw.{section_at, side_of}, Conditions.CvCall, QLocking.{IsOwners, lock_caller, owner_in}, Queues.QueueAllowed}
+use Rattle.layer_traits.specs.{Layers.Queues.{buffer_sections, cpu_of_queue_event, with_section}, Threads.Places.{count_in, home_of, one_if}}
+use Rattle.layer_traits.specs.{Protocols.Protocol.section, Blocks.{QueueBlocks.{homes_in, inner}, BufferProtocol.{BufferLock, BufferSection, IsDue}}}
+use Rattle.layer_traits.{specs.Blocks.BufferProtocol.{buffer_lock_at, buffer_rules, is_in_line}, proofs.{CountLemmas.not_counted, ListsLemmas.counted_in}}
+use Rattle.thread_blocks.{specs.Queues.same_tid, proofs.Members.same_tid_true}
 
 module _ (opening : LockId → Option (QueueBlock BufferLock)) where
   -- one event, none of whose callers is this thread
-  pub one_event : (past : List BufferEvent) (e : BufferEvent) (u : Tid) → QueueAllowed (lock_kernel (cv_rules buffer_monitor_rules) opening) past e
-      → ((t : Tid) → home_of (homes_in opening) t ≡ Some e.cpu → same_tid t u ≡ false)
-      → (of : Option Call) (slept waits : Option BufId) (call_state : CallState)
-      → CallStateFits (inner opening) (buffer_sections past) u of slept waits call_state
+  pub one_event : (past : List BufferEvent) (e : BufferEvent) (u : Tid) → QueueAllowed (kernel_of opening) past e
+      → ((t : Tid) → home_of (homes_in opening) t ≡ Some e.cpu → same_tid t u ≡ false) → (of : Option Call) (slept waits : Option BufId)
+      (call_state : CallState) → CallStateFits (inner opening) (buffer_sections past) u of slept waits call_state
       → CallStateFits (inner opening) (buffer_sections (e ∷ past)) u of slept waits call_state
   one_event past e u allowed other of slept waits call_state fits = go e.call allowed
     where
-      go : (call : QueueCall (CvCall BufferEdit)) → QueueAllowed (lock_kernel (cv_rules buffer_monitor_rules) opening) past
+      go : (call : QueueCall (CvCall BufferEdit)) → QueueAllowed (kernel_of opening) past
           (record { cpu = e.cpu; call = call })
           → CallStateFits (inner opening) (with_section e.cpu call (buffer_sections past)) u of slept waits call_state
       go (Push d t) may = fits
@@ -37,8 +36,7 @@ module _ (opening : LockId → Option (QueueBlock BufferLock)) where
 
   -- events of other CPUs
   pub keeps_fits : (c : CpuId) (u : Tid) → home_of (homes_in opening) u ≡ Some c → (more past : List BufferEvent) → AreOthers cpu_of_queue_event c more
-      → IsLawful (QueueAllowed (lock_kernel (cv_rules buffer_monitor_rules) opening)) (more ++ past)
-      → (of : Option Call) (slept waits : Option BufId) (call_state : CallState)
+      → AreLawful opening (more ++ past) → (of : Option Call) (slept waits : Option BufId) (call_state : CallState)
       → CallStateFits (inner opening) (buffer_sections past) u of slept waits call_state
       → CallStateFits (inner opening) (buffer_sections (more ++ past)) u of slept waits call_state
   keeps_fits c u home [] past others lawful of slept waits call_state fits = fits
@@ -47,7 +45,7 @@ module _ (opening : LockId → Option (QueueBlock BufferLock)) where
       (keeps_fits c u home more past others.1 lawful.1 of slept waits call_state fits)
 
 -- the thread that calls
-pub caller_is : (t : Tid) (call : Call) (stage : Stage) → lock_caller (cv_rules buffer_monitor_rules) (section_at t call stage) ≡ t
+pub caller_is : (t : Tid) (call : Call) (stage : Stage) → lock_caller monitored (section_at t call stage) ≡ t
 caller_is t call stage = grind arith
 
 -- what a stance lets its thread do
@@ -55,9 +53,8 @@ module _ (O : LockId → Option BufferLock) (past : List BufferSection) (t : Tid
   grip_here : (b : BufId) (side : Side) (holds asks lined : Bool) (position : ℕ) → Stance O past t b side holds asks lined position
       → Grip t holds asks (buffer_lock_at O past (Buffer b))
   grip_here b side holds asks lined position stance =
-      subst (λ v. Grip t v asks (buffer_lock_at O past (Buffer b))) (and-true holds)
-      (subst (λ v. Grip t (holds && true) v (buffer_lock_at O past (Buffer b))) (and-true asks)
-      (subst (λ v. Grip t (holds && v) (asks && v) (buffer_lock_at O past (Buffer b))) (same_lock_self (Buffer b)) (stance.grip (Buffer b))))
+      subst (λ v. Grip t v asks (buffer_lock_at O past (Buffer b))) (and-true holds) (subst (λ v. Grip t (holds && true) v (buffer_lock_at O past (Buffer b)))
+      (and-true asks) (subst (λ v. Grip t (holds && v) (asks && v) (buffer_lock_at O past (Buffer b))) (same_lock_self (Buffer b)) (stance.grip (Buffer b))))
 
   owned : (x : Option BufferLock) → Grip t true false x → owner_in x ≡ Some t
   owned x grip = grind arith

@@ -44,17 +44,15 @@ module _ (O : LockId → Option BufferLock) (past : List BufferSection) (t : Tid
 
 -- a call that goes on is begun
 pub goes_called : (O : LockId → Option BufferLock) (past : List BufferSection) (t : Tid) (k : Call) (call_state : CallState) (own : Waiting BufferOut)
-    (w : Option (SchedCall (CvCall BufferEdit)))
-    → SectionGoes O past t k call_state own w → called_at call_state.stage ≡ true
+    (w : Option (SchedCall (CvCall BufferEdit))) → SectionGoes O past t k call_state own w → called_at call_state.stage ≡ true
 goes_called O past t k call_state own w goes = grind arith
 
 -- the first section poll of a poll
 pub first_may : (homes : List CpuId) (c : CpuId) (O : LockId → Option BufferLock) (past : List BufferSection) (own : Waiting BufferOut)
-    (call_states : List CallState)
-    (under_way : Option (SchedCall (CvCall BufferEdit))) (calling : Option Tid) (t : Tid) (call : Call) → home_of homes t ≡ Some c
-    → CallsFit homes c O past own call_states under_way calling → own.lock.sleep.threads.current ≡ Some t
-    → (under_way_at calling under_way ≡ None → own.lock.sleep.threads.hand ≡ None)
-    → MayPollCall (call_state_of call_states t) call → MayGoOn (under_way_at calling under_way) (Calling t)
+    (call_states : List CallState) (under_way : Option (SchedCall (CvCall BufferEdit))) (calling : Option Tid) (t : Tid) (call : Call)
+    → home_of homes t ≡ Some c → CallsFit homes c O past own call_states under_way calling → own.lock.sleep.threads.current ≡ Some t
+    → (under_way_at calling under_way ≡ None → own.lock.sleep.threads.hand ≡ None) → MayPollCall (call_state_of call_states t) call
+    → MayGoOn (under_way_at calling under_way) (Calling t)
     → MayPollSection O past t call (going (call_state_of call_states t) call) own under_way
     × ((u : Tid) → home_of homes u ≡ Some c → same_tid t u ≡ false → FitsAt O past own call_states u)
 first_may homes c O past own call_states None None t call home fits runs hand call_state_may may =

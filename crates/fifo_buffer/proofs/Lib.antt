@@ -17,5 +17,4 @@ pub mod Chains
 pub mod Opening
 pub mod PositionLemmas
 pub mod ServedLemmas
-pub mod Within
 pub mod Frames

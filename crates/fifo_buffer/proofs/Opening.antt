@@ -34,6 +34,5 @@ caps_are opening caps boots few =
     ap (caps_from capacity 256 0) boots ∙ caps_observed capacity fresh_lock (λ n. refl) caps (opening_locks caps) (λ n. refl) 256 few
 
 -- so the machine boots as the layer wants it
-pub boots_well : (opening : LockId → Option (QueueBlock BufferLock)) (caps : List ℕ) → inner opening ≡ opening_locks caps → length caps ≤ 256
-    → BootsSo opening
+pub boots_well : (opening : LockId → Option (QueueBlock BufferLock)) (caps : List ℕ) → inner opening ≡ opening_locks caps → length caps ≤ 256 → BootsSo opening
 boots_well opening caps boots few = boots ∙ ap opening_locks (sym (caps_are opening caps boots few))

@@ -1,17 +1,17 @@
 -- How the effects and the moves of the buffers grow with events, and that a part keeps fitting over events of other CPUs.
-use Rattle.std.proofs.Common.{◌≡◌, ◌≢◌, ℕ, Bool, false, List, [], ◌∷◌, ◌++◌, Option, Some, None, option_to_list, refl, ap, sym, ◌∙◌, subst, append_assoc, arith}
-use Rattle.std.specs.List.{AllByRecursion}
+use Rattle.std.proofs.Common.{ℕ, ◌≡◌, ◌≢◌, Bool, false, List, [], ◌∷◌, ◌++◌, Option, Some, None, option_to_list, refl, ap, sym, ◌∙◌, subst, append_assoc, arith}
+use Rattle.std.{proofs.Common.rules, specs.List.AllByRecursion}
+use Rattle.fifo_buffer.{proofs.{Callers.{kernel_of, AreLawful}, Events.keeps_fits}, specs.{FifoFits.PartFits, Stances.CallStateFits}}
+use Rattle.fifo_buffer.specs.{Laws.Tallies.effect_position, SectionPolls.{BufferEvent, BufferOutcome, CallsFit, SectionGoes, IsDeferred, Midway}}
 use Rattle.event_log.specs.{declared.{entries.Entry.Entry, ids.{BufId.BufId, CpuId.CpuId, LockId.{LockId, TheVariants.Buffer}, Tid.Tid}}, History.AreForeign}
-use Rattle.event_log.{specs.History.{AreOthers, IsLawful, same_cpu}, proofs.{Same.same_cpu_true, Foreign.others_both}}
+use Rattle.event_log.{specs.History.{AreOthers, same_cpu}, proofs.{Same.same_cpu_true, Foreign.others_both}}
 use Rattle.layer_traits.specs.declared.{buffer_edits.{BufferEdit.BufferEdit, BufferOut.BufferOut}, calls.Call.Call, locked.Side.Side}
 use Rattle.layer_traits.specs.declared.{queue_edits.QueueBlock.QueueBlock, queues.QueueCall.{QueueCall, TheVariants.{Push, TakeAll, OnBuffer}}}
 use Rattle.layer_traits.specs.{declared.{scheds.SchedCall.SchedCall, call_states.CallState.CallState}, Blocks.BufferEffects.{effect_of, effect_on, effects_in}}
-use Rattle.layer_traits.specs.Blocks.{BufferProtocol.{BufferLock, BufferSection, buffer_monitor_rules}, QueueBlocks.{homes_in, inner}}
-use Rattle.layer_traits.specs.Layers.{BufferLaw.{MovesGrow, OthersSeen, cpu_of_entry, recorded, call_state_of}, Conditions.{CvCall, cv_rules}, CvLaw.Waiting}
-use Rattle.layer_traits.specs.Layers.{QLockLaw.{lock_kernel, slept_for}, Queues.{QueueAllowed, buffer_sections, cpu_of_queue_event, moves_in, with_section}}
-use Rattle.layer_traits.{specs.{Threads.Places.home_of, Protocols.Protocol.section}, proofs.CallLemmas.{moves_append, moves_others, moves_over}}
-use Rattle.fifo_buffer.specs.{FifoFits.PartFits, Stances.CallStateFits, Laws.Tallies.effect_position, SectionPolls.{BufferEvent, BufferOutcome, CallsFit}}
-use Rattle.fifo_buffer.{specs.SectionPolls.{SectionGoes, IsDeferred, Midway}, proofs.Events.keeps_fits}
+use Rattle.layer_traits.specs.{Blocks.{BufferProtocol.{BufferLock, BufferSection}, QueueBlocks.{homes_in, inner}}, Layers.BufferLaw.{MovesGrow, OthersSeen}}
+use Rattle.layer_traits.specs.Layers.{BufferLaw.{cpu_of_entry, recorded, call_state_of}, Conditions.CvCall, CvLaw.Waiting, QLockLaw.slept_for}
+use Rattle.layer_traits.specs.{Layers.Queues.{buffer_sections, cpu_of_queue_event, moves_in, with_section}, Threads.Places.home_of, Protocols.Protocol.section}
+use Rattle.layer_traits.proofs.CallLemmas.{moves_append, moves_others, moves_over}
 
 -- an effect has its section's CPU
 one_entry : (d cpu : CpuId) (b : BufId) (call : CvCall BufferEdit) (position : Side → Tid → ℕ) (x : Option BufferLock) → same_cpu cpu d ≡ false
@@ -57,24 +57,16 @@ module _ (O : LockId → Option BufferLock) where
       go (OnBuffer b call) = one_entry d e.cpu b call _ _ others.0
 
 module _ (opening : LockId → Option (QueueBlock BufferLock)) (d : CpuId) (more past : List BufferEvent) (others : AreOthers cpu_of_queue_event d more)
-    (lawful : IsLawful (QueueAllowed (lock_kernel (cv_rules buffer_monitor_rules) opening)) (more ++ past)) where
+    (lawful : AreLawful opening (more ++ past)) where
   call_state_on : (u : Tid) → home_of (homes_in opening) u ≡ Some d → (of : Option Call) (slept waits : Option BufId) (call_state : CallState)
       → CallStateFits (inner opening) (buffer_sections past) u of slept waits call_state
       → CallStateFits (inner opening) (buffer_sections (more ++ past)) u of slept waits call_state
   call_state_on u home = keeps_fits opening d u home more past others lawful
 
-  deferred_on : (t : Tid) (home : home_of (homes_in opening) t ≡ Some d) (call_state : CallState) (outcome : BufferOutcome)
+  pub deferred_on : (t : Tid) (home : home_of (homes_in opening) t ≡ Some d) (call_state : CallState) (outcome : BufferOutcome)
       → IsDeferred (inner opening) (buffer_sections past) t call_state.stage call_state outcome
       → IsDeferred (inner opening) (buffer_sections (more ++ past)) t call_state.stage call_state outcome
-  deferred_on t home call_state outcome deferred = record {
-    plain = deferred.plain;
-    fits = call_state_on t home (recorded call_state call_state.stage outcome.out).call None None
-        (recorded call_state call_state.stage outcome.out) deferred.fits;
-    effect = deferred.effect;
-    done = deferred.done;
-    no_wait = deferred.no_wait;
-    called = deferred.called;
-  }
+  deferred_on t home call_state outcome deferred = search (rules, call_state_on t home (recorded call_state call_state.stage outcome.out).call)
 
   midway_on : (t : Tid) → home_of (homes_in opening) t ≡ Some d → (call : Call) (call_state : CallState) (deferred : Option BufferOutcome) (hand : Option Tid)
       → Midway (inner opening) (buffer_sections past) t call call_state deferred hand
@@ -82,32 +74,17 @@ module _ (opening : LockId → Option (QueueBlock BufferLock)) (d : CpuId) (more
   midway_on t home call call_state None hand midway = (midway.0, call_state_on t home (Some call) None None call_state midway.1)
   midway_on t home call call_state (Some outcome) hand midway = deferred_on t home call_state outcome midway
 
-  goes_on : (t : Tid) → home_of (homes_in opening) t ≡ Some d
-      → (call : Call) (call_state : CallState) (own : Waiting BufferOut) (under_way : Option (SchedCall (CvCall BufferEdit)))
-      → SectionGoes (inner opening) (buffer_sections past) t call call_state own under_way
+  goes_on : (t : Tid) → home_of (homes_in opening) t ≡ Some d → (call : Call) (call_state : CallState) (own : Waiting BufferOut)
+      (under_way : Option (SchedCall (CvCall BufferEdit))) → SectionGoes (inner opening) (buffer_sections past) t call call_state own under_way
       → SectionGoes (inner opening) (buffer_sections (more ++ past)) t call call_state own under_way
-  goes_on t home call call_state own None goes = record {
-    hand = goes.hand;
-    deferred = goes.deferred;
-    fits = call_state_on t home (Some call) (slept_for own.lock.slept t) (slept_for own.waits t) call_state goes.fits;
-  }
-  goes_on t home call call_state own (Some s) goes = record {
-    is = goes.is;
-    slept = goes.slept;
-    waits = goes.waits;
-    midway = midway_on t home call call_state own.lock.sleep.deferred own.lock.sleep.threads.hand goes.midway;
-  }
+  goes_on t home call call_state own None goes = search (rules, call_state_on t home (Some call))
+  goes_on t home call call_state own (Some s) goes = search (rules, midway_on t home call call_state)
 
   -- a part keeps fitting over events of other CPUs
   pub calls_on : (own : Waiting BufferOut) (call_states : List CallState) (under_way : Option (SchedCall (CvCall BufferEdit))) (calling : Option Tid)
       → CallsFit (homes_in opening) d (inner opening) (buffer_sections past) own call_states under_way calling
       → CallsFit (homes_in opening) d (inner opening) (buffer_sections (more ++ past)) own call_states under_way calling
-  calls_on own call_states under_way None fits = record {
-    none = fits.none;
-    deferred = fits.deferred;
-    fit = λ u home. call_state_on u home (call_state_of call_states u).call (slept_for own.lock.slept u) (slept_for own.waits u)
-        (call_state_of call_states u) (fits.fit u home);
-  }
+  calls_on own call_states under_way None fits = search (rules, call_state_on)
   calls_on own call_states under_way (Some t) fits = record {
     call = fits.call;
     home = fits.home;
@@ -121,24 +98,17 @@ module _ (opening : LockId → Option (QueueBlock BufferLock)) (d : CpuId) (more
         (call_state_of call_states u) (fits.others u home other);
   }
 
-  pub part_on : (own : Waiting BufferOut) (call_states : List CallState) (under_way : Option (SchedCall (CvCall BufferEdit))) (calling : Option Tid)
+  pub part_on : {own : Waiting BufferOut} {call_states : List CallState} {under_way : Option (SchedCall (CvCall BufferEdit))} {calling : Option Tid}
       → PartFits opening d past own call_states under_way calling → PartFits opening d (more ++ past) own call_states under_way calling
-  part_on own call_states under_way calling fits = record {
-    boots = fits.boots;
-    sizes = fits.sizes;
-    calls = calls_on own call_states under_way calling fits.calls;
-  }
+  part_on {own} {call_states} {under_way} {calling} fits = search (rules, calls_on own call_states under_way calling)
 
 -- the same at a log that grew so
 pub part_grown : (opening : LockId → Option (QueueBlock BufferLock)) (d : CpuId) (more past new : List BufferEvent) → AreOthers cpu_of_queue_event d more
-    → IsLawful (QueueAllowed (lock_kernel (cv_rules buffer_monitor_rules) opening)) new → new ≡ more ++ past
-    → (own : Waiting BufferOut) (call_states : List CallState) (under_way : Option (SchedCall (CvCall BufferEdit))) (calling : Option Tid)
-    → PartFits opening d past own call_states under_way calling → PartFits opening d new own call_states under_way calling
-part_grown opening d more past new others lawful is own call_states under_way calling fits =
+    → AreLawful opening new → new ≡ more ++ past → {own : Waiting BufferOut} {call_states : List CallState} {under_way : Option (SchedCall (CvCall BufferEdit))}
+    {calling : Option Tid} → PartFits opening d past own call_states under_way calling → PartFits opening d new own call_states under_way calling
+part_grown opening d more past new others lawful is {own} {call_states} {under_way} {calling} fits =
     subst (λ log. PartFits opening d log own call_states under_way calling) (sym is)
-    (part_on opening d more past others (subst (IsLawful (QueueAllowed (lock_kernel
-    (cv_rules buffer_monitor_rules) opening))) is lawful) own call_states under_way
-    calling fits)
+    (part_on opening d more past others (subst (AreLawful opening) is lawful) fits)
 
 -- effects of other CPUs alone, and moves of other CPUs alone
 pub seen_grown : (ActsFor Acts : CpuId → Type 0) (O : LockId → Option BufferLock) (others old new : List BufferEvent) → ((d : CpuId) → Acts d → ActsFor d)
@@ -151,23 +121,21 @@ seen_grown ActsFor Acts O others old new weaker foreign is = record {
 }
 
 all_own : (opening : LockId → Option (QueueBlock BufferLock)) (c : CpuId) (mine past : List BufferEvent) → AllByRecursion (λ (e : BufferEvent). e.cpu ≡ c) mine
-    → AllByRecursion (λ s. s.cpu ≡ c) (moves_over (lock_kernel (cv_rules buffer_monitor_rules) opening) mine past)
+    → AllByRecursion (λ s. s.cpu ≡ c) (moves_over (kernel_of opening) mine past)
 all_own opening c [] past own = tt
 all_own opening c (e ∷ mine) past own = (own.0, all_own opening c mine past own.1)
 
 pub moves_grown : (opening : LockId → Option (QueueBlock BufferLock)) (ActsFor Acts : CpuId → Type 0) (c : CpuId) (mine others old new : List BufferEvent)
-    → ((d : CpuId) → Acts d → ActsFor d) → AreForeign ActsFor cpu_of_queue_event others → AllByRecursion (λ (e : BufferEvent). e.cpu ≡ c) mine → new
-    ≡ mine ++ (others ++ old)
-    → MovesGrow Acts c (moves_in (lock_kernel (cv_rules buffer_monitor_rules) opening) old) (moves_in (lock_kernel (cv_rules buffer_monitor_rules) opening) new)
+    → ((d : CpuId) → Acts d → ActsFor d) → AreForeign ActsFor cpu_of_queue_event others → AllByRecursion (λ (e : BufferEvent). e.cpu ≡ c) mine
+    → new ≡ mine ++ (others ++ old) → MovesGrow Acts c (moves_in (kernel_of opening) old) (moves_in (kernel_of opening) new)
 moves_grown opening ActsFor Acts c mine others old new weaker foreign own is = record {
-  others = moves_over (lock_kernel (cv_rules buffer_monitor_rules) opening) others old;
-  mine = moves_over (lock_kernel (cv_rules buffer_monitor_rules) opening) mine (others ++ old);
-  foreign = λ d acts. moves_others (lock_kernel (cv_rules buffer_monitor_rules) opening) d others old (foreign d (weaker d acts));
+  others = moves_over (kernel_of opening) others old;
+  mine = moves_over (kernel_of opening) mine (others ++ old);
+  foreign = λ d acts. moves_others (kernel_of opening) d others old (foreign d (weaker d acts));
   own = all_own opening c mine (others ++ old) own;
-  is = ap (moves_in (lock_kernel (cv_rules buffer_monitor_rules) opening)) is
-      ∙ moves_append (lock_kernel (cv_rules buffer_monitor_rules) opening) mine (others ++ old)
-      ∙ ap (λ steps. moves_over (lock_kernel (cv_rules buffer_monitor_rules) opening) mine (others ++ old) ++ steps)
-      (moves_append (lock_kernel (cv_rules buffer_monitor_rules) opening) others old);
+  is = ap (moves_in (kernel_of opening)) is
+      ∙ moves_append (kernel_of opening) mine (others ++ old) ∙ ap (λ steps. moves_over (kernel_of opening) mine (others ++ old) ++ steps)
+      (moves_append (kernel_of opening) others old);
 }
 
 -- the part of another CPU keeps fitting over a section poll
@@ -179,10 +147,9 @@ own_others c d other (e ∷ mine) own = (go (same_cpu e.cpu d) refl, own_others 
     go b is = grind (arith, same_cpu_true)
 
 pub other_part : (opening : LockId → Option (QueueBlock BufferLock)) (c d : CpuId) → d ≢ c → (mine others past new : List BufferEvent)
-    → AllByRecursion (λ (e : BufferEvent). e.cpu ≡ c) mine → AreOthers cpu_of_queue_event d others → new ≡ mine ++ (others ++ past)
-    → IsLawful (QueueAllowed (lock_kernel (cv_rules buffer_monitor_rules) opening)) new
-    → (own : Waiting BufferOut) (call_states : List CallState) (under_way : Option (SchedCall (CvCall BufferEdit))) (calling : Option Tid)
+    → AllByRecursion (λ (e : BufferEvent). e.cpu ≡ c) mine → AreOthers cpu_of_queue_event d others → new ≡ mine ++ (others ++ past) → AreLawful opening new
+    → {own : Waiting BufferOut} {call_states : List CallState} {under_way : Option (SchedCall (CvCall BufferEdit))} {calling : Option Tid}
     → PartFits opening d past own call_states under_way calling → PartFits opening d new own call_states under_way calling
-other_part opening c d apart mine others past new own_events foreign is lawful own call_states under_way calling fits =
+other_part opening c d apart mine others past new own_events foreign is lawful fits =
     part_grown opening d (mine ++ others) past new (others_both cpu_of_queue_event d mine others (own_others c d apart mine own_events) foreign) lawful
-    (is ∙ sym (append_assoc mine others past)) own call_states under_way calling fits
+    (is ∙ sym (append_assoc mine others past)) fits

@@ -1,14 +1,13 @@
 -- A call that is passed on to the scheduler has no effect, and leaves the call states as they fit.
 use Rattle.std.proofs.Common.{◌≡◌, Bool, true, false, List, [], ◌++◌, Option, Some, None, is_some, if◌then◌else◌, ap, sym, ◌∙◌, arith}
-use Rattle.event_log.specs.{declared.ids.{CpuId.CpuId, LockId.LockId, Tid.Tid}, History.{AreOthers, IsLawful}}
-use Rattle.layer_traits.specs.declared.{buffer_edits.{BufferEdit.BufferEdit, BufferOut.BufferOut}, passes.Pass.Pass, queue_edits.QueueBlock.QueueBlock}
-use Rattle.layer_traits.specs.{declared.{scheds.SchedCall.SchedCall, call_states.CallState.CallState}, Blocks.BufferEffects.effects_in}
-use Rattle.layer_traits.specs.{Blocks.{BufferProtocol.{BufferLock, buffer_monitor_rules}, QueueBlocks.{homes_in, inner}}, Layers.BufferLaw.{Calling, MayGoOn}}
-use Rattle.layer_traits.specs.Layers.{BufferLaw.{OthersSeen, Passing}, Conditions.{CvCall, cv_rules}, CvLaw.Waiting, QLockLaw.lock_kernel, Queues.QueueAllowed}
-use Rattle.layer_traits.specs.Layers.{Queues.{buffer_sections, cpu_of_queue_event, moves_in}, Scheds.{SchedPolled, events_of, pass_call}, SleepLaw.done_if}
-use Rattle.layer_traits.{specs.Threads.{Passes.PassPolled, Places.Threads}, proofs.{CallLemmas.pass_polled, SleepLemmas.done_same, Seen.lawful_rest}}
-use Rattle.fifo_buffer.{specs.{FifoFits.PartFits, SectionPolls.{BufferEvent, BufferOutcome, NoSection, under_way_at}}, proofs.Parts.effects_append}
-use Rattle.fifo_buffer.proofs.Parts.{effects_others, effects_over, part_on}
+use Rattle.fifo_buffer.{proofs.{Callers.{kernel_of, AreLawful}, Parts.{effects_append, effects_others, effects_over, part_on}}, specs.FifoFits.PartFits}
+use Rattle.{fifo_buffer.specs.SectionPolls.{BufferEvent, BufferOutcome, NoSection, under_way_at}, event_log.specs.declared.ids.{CpuId.CpuId, LockId.LockId}}
+use Rattle.{event_log.specs.{declared.ids.Tid.Tid, History.AreOthers}, layer_traits.specs.declared.buffer_edits.{BufferEdit.BufferEdit, BufferOut.BufferOut}}
+use Rattle.layer_traits.specs.declared.{passes.Pass.Pass, queue_edits.QueueBlock.QueueBlock, scheds.SchedCall.SchedCall, call_states.CallState.CallState}
+use Rattle.layer_traits.specs.{Blocks.{BufferEffects.effects_in, BufferProtocol.BufferLock, QueueBlocks.{homes_in, inner}}, Layers.BufferLaw.{Calling, MayGoOn}}
+use Rattle.layer_traits.specs.Layers.{BufferLaw.{OthersSeen, Passing}, Conditions.CvCall, CvLaw.Waiting, Queues.{buffer_sections, cpu_of_queue_event, moves_in}}
+use Rattle.layer_traits.specs.{Layers.{Scheds.{SchedPolled, events_of, pass_call}, SleepLaw.done_if}, Threads.{Passes.PassPolled, Places.Threads}}
+use Rattle.layer_traits.proofs.{CallLemmas.pass_polled, SleepLemmas.done_same, Seen.lawful_rest}
 use Rattle.layer_traits.specs.declared.scheds.SchedCall.TheVariants as sched
 
 -- its event, where it has one, is no section of a buffer
@@ -34,12 +33,11 @@ pub record PassDone : Type 1 where
   pub new : List BufferEvent
   pub own : Threads
   pub own' : Threads
-  pub polled : SchedPolled (lock_kernel (cv_rules buffer_monitor_rules) opening) ActsFor c (sched.Pass p) (done_if result) old new own own'
+  pub polled : SchedPolled (kernel_of opening) ActsFor c (sched.Pass p) (done_if result) old new own own'
 
 -- the pass of which this is told
 abbrev pub pass_done : (opening : LockId → Option (QueueBlock BufferLock)) {ActsFor : CpuId → Type 0} {c : CpuId} (p : Pass) (result : Option (Unit {0}))
-    {old new : List BufferEvent} {own own' : Threads}
-    → SchedPolled (lock_kernel (cv_rules buffer_monitor_rules) opening) ActsFor c (sched.Pass p) (done_if result) old new own own' → PassDone
+    {old new : List BufferEvent} {own own' : Threads} → SchedPolled (kernel_of opening) ActsFor c (sched.Pass p) (done_if result) old new own own' → PassDone
 pass_done opening {ActsFor} {c} p result {old} {new} {own} {own'} polled = record {
   opening = opening;
   ActsFor = ActsFor;
@@ -71,10 +69,9 @@ module _ (pass : PassDone) where
   }
 
   pub pass_moved : (Acts : CpuId → Type 0) → ((d : CpuId) → Acts d → ActsFor d)
-      → PassPolled (homes_in opening) Acts c p result (moves_in (lock_kernel (cv_rules buffer_monitor_rules) opening) old)
-      (moves_in (lock_kernel (cv_rules buffer_monitor_rules) opening) new) own own'
+      → PassPolled (homes_in opening) Acts c p result (moves_in (kernel_of opening) old) (moves_in (kernel_of opening) new) own own'
   pass_moved Acts weaker =
-      let moved = pass_polled (lock_kernel (cv_rules buffer_monitor_rules) opening) ActsFor c p (done_if result) old new own own' polled in
+      let moved = pass_polled (kernel_of opening) ActsFor c p (done_if result) old new own own' polled in
       let same : is_some (done_if {O = BufferOutcome} result) ≡ is_some result = done_same BufferOutcome result in
       record {
         others = moved.others;
@@ -85,17 +82,15 @@ module _ (pass : PassDone) where
       }
 
   -- the part of this CPU, and those of other CPUs
-  pub part_passed : (d : CpuId) → AreOthers cpu_of_queue_event d polled.others
-      → IsLawful (QueueAllowed (lock_kernel (cv_rules buffer_monitor_rules) opening)) (polled.others ++ old)
-      → (cv : Waiting BufferOut) (call_states : List CallState) (under_way : Option (SchedCall (CvCall BufferEdit))) (calling : Option Tid)
+  pub part_passed : (d : CpuId) → AreOthers cpu_of_queue_event d polled.others → AreLawful opening (polled.others ++ old)
+      → {cv : Waiting BufferOut} {call_states : List CallState} {under_way : Option (SchedCall (CvCall BufferEdit))} {calling : Option Tid}
       → PartFits opening d old cv call_states under_way calling → PartFits opening d new cv call_states under_way calling
-  part_passed d others lawful cv call_states under_way calling fits =
-      let on = part_on opening d polled.others old others lawful cv call_states under_way calling fits in
+  part_passed d others lawful fits =
+      let on = part_on opening d polled.others old others lawful fits in
       record { boots = on.boots; sizes = on.sizes; calls = rw same_sections on.calls }
 
-pub lawful_before : (opening : LockId → Option (QueueBlock BufferLock)) (mine past new : List BufferEvent) → new ≡ mine ++ past
-    → IsLawful (QueueAllowed (lock_kernel (cv_rules buffer_monitor_rules) opening)) new
-    → IsLawful (QueueAllowed (lock_kernel (cv_rules buffer_monitor_rules) opening)) past
+pub lawful_before : (opening : LockId → Option (QueueBlock BufferLock)) (mine past new : List BufferEvent) → new ≡ mine ++ past → AreLawful opening new
+    → AreLawful opening past
 lawful_before opening mine past new is lawful = grind (arith, lawful_rest)
 
 -- what a pass changes of the part: its threads, and which pass is under way

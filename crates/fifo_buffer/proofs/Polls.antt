@@ -1,24 +1,23 @@
 -- One poll of the conditions, for a call at a stage: what it may be, and what it leaves.
-use Rattle.std.proofs.Common.{◌≡◌, ◌⊎◌, inl, inr, ◌<◌, ℕ, Bool, true, false, not, ◌&&◌, List, [], ◌∷◌, ◌++◌, length, Option, Some, None, IsSome, option_map}
+use Rattle.std.proofs.Common.{ℕ, ◌≡◌, ◌⊎◌, inl, inr, ◌<◌, Bool, true, false, not, ◌&&◌, List, [], ◌∷◌, ◌++◌, length, Option, Some, None, option_map}
 use Rattle.std.proofs.{Common.{option_to_list, is_some, slice_set, if◌then◌else◌, refl, ap, sym, ◌∙◌, subst, arith}, lemmas.Bool.eqb-false}
 use Rattle.std.proofs.lemmas.List.{get_or-set_other, get_or-set_same, length-set}
-use Rattle.event_log.specs.{declared.ids.{BufId.BufId, CpuId.CpuId, LockId.{LockId, TheVariants.Buffer}, Tid.Tid, TheConstants.THREADS}, History.AreForeign}
-use Rattle.{event_log.{specs.History.IsLawful, proofs.BoolLemmas.none_of}, layer_traits.specs.declared.buffer_edits.BufferEdit.BufferEdit}
-use Rattle.layer_traits.specs.declared.{buffer_edits.BufferOut.BufferOut, calls.{Call.Call, Effect.Effect}, conditions.{CvLeave.TheVariants.Wait, CvOut.CvOut}}
-use Rattle.layer_traits.specs.declared.locked.{QEdit.TheVariants.{Acquire, Release}, QOut.{QOut, TheVariants.{Acquired, Queued, Did, Released}}}
-use Rattle.layer_traits.specs.declared.{moves.WaitList.WaitList, queue_edits.QueueBlock.QueueBlock, scheds.SchedCall.SchedCall, call_states.Stage.Stage}
-use Rattle.layer_traits.specs.{declared.call_states.CallState.CallState, Blocks.{BufferEffects.effects_in, BufferProtocol.{BufferLock, BufferSection}}}
-use Rattle.layer_traits.specs.Blocks.{BufferProtocol.{buffer_lock_at, buffer_monitor_rules, buffer_rules}, QueueBlocks.{homes_in, inner}}
-use Rattle.layer_traits.specs.Layers.{BufferLaw.{IsEffectOf, buffer_of, recorded, section_at, side_of}, Conditions.{CvCall, cv_rules}, CvLaw.MayCallCond}
-use Rattle.layer_traits.specs.Layers.{CvLaw.{MayWait, Waiting, left_waiting}, QLockLaw.{MayGo, MayLock, Locking, left_after, lock_kernel, slept_for}}
-use Rattle.layer_traits.specs.Layers.{QLocking.{wait_list_asked, wait_list_slept, lock_answer, lock_out, asker_report}, Queues.{QueueAllowed, buffer_sections}}
-use Rattle.layer_traits.specs.Layers.{Queues.{event, cpu_of_queue_event, out_at}, SleepLaw.{PollResult, Does, SendsHome, Sleeping, WaitsStill, MayDo}}
-use Rattle.layer_traits.specs.{Layers.SleepLaw.{left_with, must_send, seen_with}, Threads.{Passes.{own_slept, own_woken, passed_on, queue_for}, Places.Threads}}
-use Rattle.layer_traits.{specs.{Threads.Places.home_of, Polling.Plans.Left, Protocols.Protocol.section}, proofs.PlaceLemmas.woken_current}
-use Rattle.{thread_blocks.specs.Queues.same_tid, fifo_buffer.specs.Stances.{InCall, CallStateFits, asks_at, recorded_by, slept_by, call_state_in, waits_at}}
-use Rattle.fifo_buffer.specs.{Stances.waits_by, SectionPolls.{After, BufferEvent, BufferOutcome, SectionGoes, IsDeferred, MayPollSection, Midway}}
-use Rattle.fifo_buffer.{specs.SectionPolls.{SectionPolled, recorded_if, is_plain}, proofs.{Apart.fits_apart, Callers.Caller, Events.{caller_is, due_now}}}
-use Rattle.fifo_buffer.proofs.{Events.{keeps_fits, owner_due}, OwnSteps.{Stepped, own_step}}
+use Rattle.fifo_buffer.proofs.{Callers.{monitored, kernel_of, AreLawful, Caller}, Parts.deferred_on, Apart.fits_apart, Events.{caller_is, due_now, keeps_fits}}
+use Rattle.fifo_buffer.{proofs.{Events.owner_due, OwnSteps.{Stepped, own_step}}, specs.Stances.{InCall, CallStateFits, asks_at, recorded_by, slept_by}}
+use Rattle.fifo_buffer.specs.{Stances.{call_state_in, waits_at, waits_by}, SectionPolls.{After, BufferEvent, BufferOutcome, SectionGoes, IsDeferred}}
+use Rattle.{fifo_buffer.specs.SectionPolls.{MayPollSection, Midway, SectionPolled, recorded_if, is_plain}, event_log.specs.declared.ids.BufId.BufId}
+use Rattle.event_log.specs.{declared.ids.{CpuId.CpuId, LockId.{LockId, TheVariants.Buffer}, Tid.Tid, TheConstants.THREADS}, History.AreForeign}
+use Rattle.{event_log.proofs.BoolLemmas.none_of, layer_traits.specs.declared.{buffer_edits.{BufferEdit.BufferEdit, BufferOut.BufferOut}, calls.Call.Call}}
+use Rattle.layer_traits.specs.declared.{calls.Effect.Effect, conditions.{CvLeave.TheVariants.Wait, CvOut.CvOut}, locked.QEdit.TheVariants.{Acquire, Release}}
+use Rattle.layer_traits.specs.declared.{locked.QOut.{QOut, TheVariants.{Acquired, Queued, Did, Released}}, moves.WaitList.WaitList}
+use Rattle.layer_traits.specs.declared.{queue_edits.QueueBlock.QueueBlock, scheds.SchedCall.SchedCall, call_states.{Stage.Stage, CallState.CallState}}
+use Rattle.layer_traits.specs.Blocks.{BufferEffects.effects_in, BufferProtocol.{BufferLock, BufferSection, buffer_lock_at, buffer_monitor_rules, buffer_rules}}
+use Rattle.layer_traits.specs.{Blocks.QueueBlocks.{homes_in, inner}, Layers.{BufferLaw.{buffer_of, recorded, section_at, side_of}, Conditions.CvCall}}
+use Rattle.layer_traits.specs.Layers.{CvLaw.{MayCallCond, MayWait, Waiting, left_waiting}, QLockLaw.{MayGo, MayLock, Locking, left_after, slept_for}}
+use Rattle.layer_traits.specs.Layers.{QLocking.{wait_list_asked, wait_list_slept, lock_answer, lock_out, asker_report}, Queues.{buffer_sections, event}}
+use Rattle.layer_traits.specs.Layers.{Queues.{cpu_of_queue_event, out_at}, SleepLaw.{PollResult, Does, SendsHome, Sleeping, WaitsStill, MayDo, left_with}}
+use Rattle.layer_traits.specs.{Layers.SleepLaw.{must_send, seen_with}, Threads.{Passes.{own_slept, own_woken, passed_on, queue_for}, Places.{Threads, home_of}}}
+use Rattle.{layer_traits.{specs.{Polling.Plans.Left, Protocols.Protocol.section}, proofs.PlaceLemmas.woken_current}, thread_blocks.specs.Queues.same_tid}
 use Rattle.layer_traits.specs.declared.conditions.CvOut.TheVariants as answer
 use Rattle.layer_traits.specs.declared.queues.QueueCall.TheVariants as queue
 use Rattle.layer_traits.specs.declared.scheds.SchedCall.TheVariants as sched
@@ -38,8 +37,7 @@ module _ (opening : LockId → Option (QueueBlock BufferLock)) (c : CpuId) (t : 
       → SectionGoes (inner opening) (buffer_sections past) t call call_state own under_way
       → MayWait waits under_way (buffer_of call) (section_at t call call_state.stage) t
       (MayGo slept under_way (buffer_of call) (section_at t call call_state.stage) t
-      (MayLock (cv_rules buffer_monitor_rules) (lock_kernel (cv_rules buffer_monitor_rules) opening) c past own.lock.sleep.threads.hand (buffer_of call)
-      (section_at t call call_state.stage)))
+      (MayLock monitored (kernel_of opening) c past own.lock.sleep.threads.hand (buffer_of call) (section_at t call call_state.stage)))
   may_for own None slept (Some at) slept_is waits_is goes = grind (arith, waits_section)
   may_for own None (Some at) None slept_is waits_is goes = grind (arith, asks_section)
   may_for own None None None slept_is waits_is goes =
@@ -59,8 +57,7 @@ module _ (opening : LockId → Option (QueueBlock BufferLock)) (c : CpuId) (t : 
 
   pub may_poll_section : (own : Waiting BufferOut) (under_way : Option (SchedCall (CvCall BufferEdit)))
       → MayPollSection (inner opening) (buffer_sections past) t call call_state own under_way
-      → MayCallCond buffer_monitor_rules (lock_kernel (cv_rules buffer_monitor_rules) opening) c past own under_way (buffer_of call)
-      (section_at t call call_state.stage)
+      → MayCallCond buffer_monitor_rules (kernel_of opening) c past own under_way (buffer_of call) (section_at t call call_state.stage)
   may_poll_section own under_way may = grind (arith, caller_is, may_for)
 
 -- the marks after an answer
@@ -92,8 +89,7 @@ both_left : (t : Tid) (b : BufId) (waits slept : List (Option BufId)) (sleep : S
 both_left t b waits slept sleep out outcome is = grind arith
 
 plain_marks : (O : LockId → Option BufferLock) (past : _) (t : Tid) (b : BufId) (call_state : CallState) (stage : Stage) (out : QOut (CvOut BufferOut))
-    → is_plain out ≡ true
-    → CallStateFits O past t (recorded_by call_state stage out).call (slept_by b out) (waits_by b out) (recorded_by call_state stage out)
+    → is_plain out ≡ true → CallStateFits O past t (recorded_by call_state stage out).call (slept_by b out) (waits_by b out) (recorded_by call_state stage out)
     → CallStateFits O past t (recorded call_state stage out).call None None (recorded call_state stage out)
 plain_marks O past t b call_state stage Acquired plain fits = fits
 plain_marks O past t b call_state stage Queued plain fits = absurd cc
@@ -107,16 +103,15 @@ plain_recorded : (call_state : CallState) (stage : Stage) (out : QOut (CvOut Buf
     → recorded_by call_state stage out ≡ recorded call_state stage out
 plain_recorded call_state stage out plain = grind arith
 
-asked_sleeps : (owner : Option Tid) → is_some (wait_list_asked owner) ≡ is_some (wait_list_slept (cv_rules buffer_monitor_rules) (asker_report owner))
+asked_sleeps : (owner : Option Tid) → is_some (wait_list_asked owner) ≡ is_some (wait_list_slept monitored (asker_report owner))
 asked_sleeps owner = grind arith
 
 -- whether a section puts its caller to sleep: its answer tells
 sleeps_as : (e : CvCall BufferEdit) (lock : BufferLock)
-    → (lock_answer (cv_rules buffer_monitor_rules) e lock).slept ≡ is_some (wait_list_slept (cv_rules buffer_monitor_rules) (lock_answer
-    (cv_rules buffer_monitor_rules) e lock).out)
+    → (lock_answer monitored e lock).slept ≡ is_some (wait_list_slept monitored (lock_answer monitored e lock).out)
 sleeps_as e lock = grind (arith, asked_sleeps)
 
-plain_stays : (out : QOut (CvOut BufferOut)) → is_plain out ≡ true → wait_list_slept (cv_rules buffer_monitor_rules) out ≡ None
+plain_stays : (out : QOut (CvOut BufferOut)) → is_plain out ≡ true → wait_list_slept monitored out ≡ None
 plain_stays out plain = grind arith
 
 -- a wait's answer is not handed on at once
@@ -148,13 +143,11 @@ plain_lists : (t : Tid) (b : BufId) (slept waits : List (Option BufId)) (out : Q
 plain_lists t b slept waits out plain = grind arith
 
 slept_mark : (t : Tid) (b : BufId) (slept : List (Option BufId)) (out : QOut (CvOut BufferOut)) → length slept ≡ THREADS → t.0 < THREADS
-    → slept_for slept t ≡ None
-    → slept_for (slept_list t b slept out) t ≡ slept_by b out
+    → slept_for slept t ≡ None → slept_for (slept_list t b slept out) t ≡ slept_by b out
 slept_mark t b slept out size small none = grind (arith, own_mark)
 
 waits_mark : (t : Tid) (b : BufId) (waits : List (Option BufId)) (out : QOut (CvOut BufferOut)) → length waits ≡ THREADS → t.0 < THREADS
-    → slept_for waits t ≡ None
-    → slept_for (waits_list t b waits out) t ≡ waits_by b out
+    → slept_for waits t ≡ None → slept_for (waits_list t b waits out) t ≡ waits_by b out
 waits_mark t b waits out size small none = grind (arith, own_mark)
 
 -- the marks of others, and the lengths
@@ -167,7 +160,7 @@ marks_sizes : (t : Tid) (b : BufId) (slept waits : List (Option BufId)) (out : Q
 marks_sizes t b slept waits out = grind (arith, length-set)
 
 -- an answer that is not handed on at once puts its caller to sleep
-sleeping_wait_list : (out : QOut (CvOut BufferOut)) → is_plain out ≡ false → is_some (wait_list_slept (cv_rules buffer_monitor_rules) out) ≡ true
+sleeping_wait_list : (out : QOut (CvOut BufferOut)) → is_plain out ≡ false → is_some (wait_list_slept monitored out) ≡ true
 sleeping_wait_list out plain = grind arith
 
 sleeping_recorded : (call_state : CallState) (stage : Stage) (out : QOut (CvOut BufferOut)) → is_plain out ≡ false
@@ -193,16 +186,25 @@ module _ (caller : Caller) (stage : Stage) (position : ℕ) (effect : Option Eff
   abbrev call_state : CallState
   call_state = call_state_in stage call position effect
 
+  abbrev b : BufId
+  b = buffer_of call
+
   abbrev e : CvCall BufferEdit
   e = section_at t call stage
+
+  -- the log after foreign events, and after the section
+  abbrev seen : List BufferEvent
+  seen = others ++ old
+
+  abbrev acted : List BufferEvent
+  acted = event c (queue.OnBuffer b e) ∷ seen
 
   -- a section poll that left this
   abbrev SectionPolledTo : List BufferEvent → Waiting BufferOut → Option (SchedCall (CvCall BufferEdit)) → Bool → CallState → Type 0
   SectionPolledTo new left under_way done later = SectionPolled (homes_in opening) ActsFor O c t call call_state old new own left under_way done later
 
-  apart_old : IsLawful (QueueAllowed (lock_kernel (cv_rules buffer_monitor_rules) opening)) (others ++ old)
-      → (u : Tid) → home_of (homes_in opening) u ≡ Some c → (of : Option Call) (slept waits : Option BufId) (its : CallState)
-      → CallStateFits O (buffer_sections old) u of slept waits its → CallStateFits O (buffer_sections (others ++ old)) u of slept waits its
+  apart_old : AreLawful opening seen → (u : Tid) → home_of (homes_in opening) u ≡ Some c → (of : Option Call) (slept waits : Option BufId) (its : CallState)
+      → CallStateFits O (buffer_sections old) u of slept waits its → CallStateFits O (buffer_sections seen) u of slept waits its
   apart_old lawful u there = keeps_fits opening c u there others old (foreign c acts) lawful
 
   abbrev Fresh : Type 0
@@ -221,29 +223,15 @@ module _ (caller : Caller) (stage : Stage) (position : ℕ) (effect : Option Eff
     not_slept : is_some (slept_for own.lock.slept t) ≡ true → ⊥
     not_slept some = let none : is_some (slept_for own.lock.slept t) ≡ false = ap is_some slept_none in absurd (cc (none, some))
 
-    deferred_later : IsLawful (QueueAllowed (lock_kernel (cv_rules buffer_monitor_rules) opening)) (others ++ old) → (outcome : BufferOutcome)
-        → IsDeferred O (buffer_sections old) t stage call_state outcome
-        → IsDeferred O (buffer_sections (others ++ old)) t stage call_state outcome
-    deferred_later lawful outcome deferred = record {
-      plain = deferred.plain;
-      fits = apart_old lawful t home (recorded call_state stage outcome.out).call None None (recorded call_state stage outcome.out) deferred.fits;
-      effect = deferred.effect;
-      done = deferred.done;
-      no_wait = deferred.no_wait;
-      called = deferred.called;
-    }
+    abbrev MidwayWith : Option BufferOutcome → Type 0
+    MidwayWith o = Midway O (buffer_sections seen) t call call_state o own.lock.sleep.threads.hand
 
-    midway_later : IsLawful (QueueAllowed (lock_kernel (cv_rules buffer_monitor_rules) opening)) (others ++ old) → Fresh ⊎ Keeping
-        → Midway O (buffer_sections (others ++ old)) t call call_state own.lock.sleep.deferred own.lock.sleep.threads.hand
-    midway_later lawful (inl now) =
-        subst (λ o. Midway O (buffer_sections (others ++ old)) t call call_state o own.lock.sleep.threads.hand) (sym now.0)
-        (now.1, apart_old lawful t home (Some call) None None call_state now.2)
-    midway_later lawful (inr now) =
-        subst (λ o. Midway O (buffer_sections (others ++ old)) t call call_state o own.lock.sleep.threads.hand) (sym now.1) (deferred_later lawful now.0 now.2)
+    midway_later : AreLawful opening seen → Fresh ⊎ Keeping → MidwayWith own.lock.sleep.deferred
+    midway_later lawful (inl now) = subst MidwayWith (sym now.0) (now.1, apart_old lawful t home (Some call) None None call_state now.2)
+    midway_later lawful (inr now) = subst MidwayWith (sym now.1) (deferred_on opening c others old (foreign c acts) lawful t home call_state now.0 now.2)
 
     -- nothing of this CPU came
-    still_polled : IsLawful (QueueAllowed (lock_kernel (cv_rules buffer_monitor_rules) opening)) (others ++ old) → Fresh ⊎ Keeping
-        → SectionPolledTo (others ++ old) own (Some (sched.OnBuffer (buffer_of call) e)) false call_state
+    still_polled : AreLawful opening seen → Fresh ⊎ Keeping → SectionPolledTo seen own (Some (sched.OnBuffer b e)) false call_state
     still_polled lawful now = record {
       others = others;
       mine = [];
@@ -271,12 +259,12 @@ module _ (caller : Caller) (stage : Stage) (position : ℕ) (effect : Option Eff
     }
 
     -- the thread that the section woke was sent home
-    sends_polled : (q : CpuId) (u : Tid) → IsLawful (QueueAllowed (lock_kernel (cv_rules buffer_monitor_rules) opening)) (others ++ old) → (now : Keeping)
-        → SectionPolledTo (event c (queue.Push q u) ∷ (others ++ old))
+    sends_polled : (q : CpuId) (u : Tid) → AreLawful opening seen → (now : Keeping)
+        → SectionPolledTo (event c (queue.Push q u) ∷ seen)
         (record { lock = record { sleep = record { threads = passed_on own.lock.sleep.threads; deferred = None }; slept = own.lock.slept }; waits = own.waits })
         None true (recorded call_state stage now.0.out)
     sends_polled q u lawful now =
-        let deferred = deferred_later lawful now.0 now.2 in
+        let deferred = deferred_on opening c others old (foreign c acts) lawful t home call_state now.0 now.2 in
         let later = recorded call_state stage now.0.out in
         record {
           others = others;
@@ -297,66 +285,71 @@ module _ (caller : Caller) (stage : Stage) (position : ℕ) (effect : Option Eff
             current = runs;
             hand = refl;
             deferred = refl;
-            fits = subst (λ w. CallStateFits O (buffer_sections (others ++ old)) t later.call (slept_for own.lock.slept t) w later) (sym waits_none)
-                (subst (λ s. CallStateFits O (buffer_sections (others ++ old)) t later.call s None later) (sym slept_none) deferred.fits);
+            fits = subst (λ w. CallStateFits O (buffer_sections seen) t later.call (slept_for own.lock.slept t) w later) (sym waits_none)
+                (subst (λ s. CallStateFits O (buffer_sections seen) t later.call s None later) (sym slept_none) deferred.fits);
             recorded_is = (now.0.out, refl);
             reply = deferred.done;
             free = (slept_none, waits_none);
           };
-          over = λ w. absurd (both w deferred.no_wait);
+          over = λ w. absurd (cc (w, deferred.no_wait));
           handed = λ some. refl;
         }
-      where
-        both : waits_at stage ≡ true → waits_at stage ≡ false → ⊥
-        both w out = absurd cc
+
+    -- a section poll that left what a poll got, and one that left what the layers between made of it
+    abbrev SectionPolledBy : List BufferEvent → Left (Waiting BufferOut) BufferOutcome → Option (SchedCall (CvCall BufferEdit)) → Type 0
+    SectionPolledBy new got under_way = SectionPolledTo new got.own under_way (is_some got.answer) (recorded_if call_state stage got.answer)
+
+    abbrev under_left : Left (Sleeping (QOut (CvOut BufferOut))) BufferOutcome → Option (SchedCall (CvCall BufferEdit))
+    under_left l = if is_some l.answer then None else Some (sched.OnBuffer b e)
+
+    abbrev PolledFrom : List BufferEvent → Left (Sleeping (QOut (CvOut BufferOut))) BufferOutcome → Type 0
+    PolledFrom new l = SectionPolledBy new (both t b own.waits own.lock.slept l) (under_left l)
+
+    abbrev left_by : PollResult (QOut (CvOut BufferOut)) → Left (Sleeping (QOut (CvOut BufferOut))) BufferOutcome
+    left_by poll_result = left_with (kernel_of opening) c b e poll_result own.lock.sleep
 
     -- the section was done: its effect, and what it leaves
-    module _ (lawful : IsLawful (QueueAllowed (lock_kernel (cv_rules buffer_monitor_rules) opening)) (event c (queue.OnBuffer (buffer_of call) e) ∷
-        (others ++ old)))
-        (now : Fresh) (lock : BufferLock) (at : buffer_lock_at O (buffer_sections (others ++ old)) (Buffer (buffer_of call)) ≡ Some lock) where
+    module _ (lawful : AreLawful opening acted) (now : Fresh) (lock : BufferLock) (at : buffer_lock_at O (buffer_sections seen) (Buffer b) ≡ Some lock) where
       abbrev outcome : BufferOutcome
-      outcome = lock_answer (cv_rules buffer_monitor_rules) e lock
+      outcome = lock_answer monitored e lock
 
       abbrev gone_on : Threads
-      gone_on = own_slept (wait_list_slept (cv_rules buffer_monitor_rules) outcome.out) own.lock.sleep.threads
+      gone_on = own_slept (wait_list_slept monitored outcome.out) own.lock.sleep.threads
 
       abbrev after_it : List BufferSection
-      after_it = buffer_sections (event c (queue.OnBuffer (buffer_of call) e) ∷ (others ++ old))
+      after_it = buffer_sections acted
 
       abbrev threads : Threads
-      threads = own_woken (homes_in opening) c outcome.woke (own_slept (wait_list_slept (cv_rules buffer_monitor_rules) outcome.out) own.lock.sleep.threads)
+      threads = own_woken (homes_in opening) c outcome.woke (own_slept (wait_list_slept monitored outcome.out) own.lock.sleep.threads)
 
-      here : InCall O (buffer_sections (others ++ old)) t call None None stage position effect
+      here : InCall O (buffer_sections seen) t call None None stage position effect
       here = apart_old lawful.1 t home (Some call) None None call_state now.2
 
-      done : Stepped O (buffer_sections (others ++ old)) c t call stage position effect outcome.out
-      done = own_step O (buffer_sections (others ++ old)) c t lock position effect call stage small at here
+      done : Stepped O (buffer_sections seen) c t call stage position effect outcome.out
+      done = own_step O (buffer_sections seen) c t lock position effect call stage small at here
 
       -- what all its outcomes have in common
       to_done : (left : Waiting BufferOut) (under_way : Option (SchedCall (CvCall BufferEdit))) (ends : Bool) (later : CallState)
           → left.lock.sleep.threads ≡ threads
           → ((u : Tid) → same_tid t u ≡ false → (slept_for left.lock.slept u ≡ slept_for own.lock.slept u) × (slept_for left.waits u ≡ slept_for own.waits u))
           → (length left.lock.slept ≡ length own.lock.slept) × (length left.waits ≡ length own.waits)
-          → ((f : Effect) → done.mine ≡ Some f → (call_state.effect ≡ None) × (later.effect ≡ Some f) × IsEffectOf call f)
-          → (done.mine ≡ None → later.effect ≡ call_state.effect)
-          → After O (buffer_sections (event c (queue.OnBuffer (buffer_of call) e) ∷ (others ++ old))) t call call_state left under_way ends later
-          → (waits_at stage ≡ true → ends ≡ is_some (slept_for own.waits t))
-          → SectionPolledTo (event c (queue.OnBuffer (buffer_of call) e) ∷ (others ++ old)) left under_way ends later
-      to_done left under_way ends later same marks sizes fresh stays after over = record {
+          → later.effect ≡ (recorded_by call_state stage outcome.out).effect → After O after_it t call call_state left under_way ends later
+          → (waits_at stage ≡ true → ends ≡ is_some (slept_for own.waits t)) → SectionPolledTo acted left under_way ends later
+      to_done left under_way ends later same marks sizes keeps after over = record {
         others = others;
-        mine = event c (queue.OnBuffer (buffer_of call) e) ∷ [];
+        mine = event c (queue.OnBuffer b e) ∷ [];
         foreign = foreign;
         own_events = (refl, tt);
         is = refl;
         effect = done.mine;
-        effects = ap (λ o. option_to_list o ++ effects_in O (buffer_sections (others ++ old))) done.is;
-        fresh = fresh;
-        stays = stays;
+        effects = ap (λ o. option_to_list o ++ effects_in O (buffer_sections seen)) done.is;
+        fresh = λ f same. ((done.fresh f same).0, keeps ∙ (done.fresh f same).1, (done.fresh f same).2);
+        stays = λ none. keeps ∙ done.stays none;
         marks = marks;
         sizes = sizes;
         ended = ap (λ (o : Threads). o.ended) same ∙ woken_ended (homes_in opening) c outcome.woke gone_on
-            ∙ slept_ended (wait_list_slept (cv_rules buffer_monitor_rules) outcome.out) own.lock.sleep.threads;
-        apart = λ u there other of slept waits its fits. fits_apart O (buffer_sections (others ++ old)) (section c (Buffer (buffer_of call)) e) u
+            ∙ slept_ended (wait_list_slept monitored outcome.out) own.lock.sleep.threads;
+        apart = λ u there other of slept waits its fits. fits_apart O (buffer_sections seen) (section c (Buffer b) e) u
             (ap (λ v. same_tid v u) (caller_is t call stage) ∙ other) lawful.0.upper.owners of slept waits its
             (apart_old lawful.1 u there of slept waits its fits);
         after = after;
@@ -364,20 +357,26 @@ module _ (caller : Caller) (stage : Stage) (position : ℕ) (effect : Option Eff
         handed = λ some. absurd (not_slept some);
       }
 
+      -- where its answer is handed on at once, the caller runs on
+      runs_on : is_plain outcome.out ≡ true → threads.current ≡ Some t
+      runs_on plain = woken_current (homes_in opening) c outcome.woke gone_on
+          ∙ ap (λ line. (own_slept line own.lock.sleep.threads).current) (plain_stays outcome.out plain) ∙ runs
+
+      abbrev sent : Left (Sleeping (QOut (CvOut BufferOut))) BufferOutcome
+      sent = record { own = record { threads = threads; deferred = Some outcome }; answer = None }
+
+      abbrev stayed : Left (Sleeping (QOut (CvOut BufferOut))) BufferOutcome
+      stayed = record { own = record { threads = threads; deferred = None }; answer = Some outcome }
+
       -- it woke a thread of another CPU, and its caller goes on
-      deferred_polled : must_send outcome threads ≡ true
-          → SectionPolledTo (event c (queue.OnBuffer (buffer_of call) e) ∷ (others ++ old))
-          (record { lock = record { sleep = record { threads = threads; deferred = Some outcome }; slept = own.lock.slept }; waits = own.waits })
-          (Some (sched.OnBuffer (buffer_of call) e)) false call_state
+      deferred_polled : must_send outcome threads ≡ true → PolledFrom acted sent
       deferred_polled sends =
           to_done (record { lock = record { sleep = record { threads = threads; deferred = Some outcome }; slept = own.lock.slept }; waits = own.waits })
-          (Some (sched.OnBuffer (buffer_of call) e)) false call_state refl (λ u other. (refl, refl)) (refl, refl)
-          (λ f same. absurd (none_some (done.fresh f same).0
-          (sym quiet ∙ sym (ap (λ (o : CallState). o.effect) (plain_recorded call_state stage outcome.out plain)) ∙ (done.fresh f same).1)))
-          (λ w. refl) (
+          (Some (sched.OnBuffer b e)) false call_state refl (λ u other. (refl, refl)) (refl, refl)
+          (sym quiet ∙ sym (ap (λ (o : CallState). o.effect) (plain_recorded call_state stage outcome.out plain))) (
             refl,
             inr (record {
-              current = woken_current (homes_in opening) c outcome.woke gone_on ∙ ap (λ line. (own_slept line own.lock.sleep.threads).current) stays_up ∙ runs;
+              current = runs_on plain;
               section_is = refl;
               goes = record {
                 is = refl;
@@ -385,7 +384,7 @@ module _ (caller : Caller) (stage : Stage) (position : ℕ) (effect : Option Eff
                 waits = waits_none;
                 midway = record {
                   plain = plain;
-                  fits = plain_marks O after_it t (buffer_of call) call_state stage outcome.out plain done.fits;
+                  fits = plain_marks O after_it t b call_state stage outcome.out plain done.fits;
                   effect = quiet;
                   done = here.effect_is;
                   no_wait = no_wait_plain t call stage lock plain;
@@ -393,8 +392,7 @@ module _ (caller : Caller) (stage : Stage) (position : ℕ) (effect : Option Eff
                 };
               };
             }),
-          )
-          never
+          ) never
         where
           parts : (outcome.slept ≡ false) × (is_some threads.hand ≡ true)
           parts = not_true outcome.slept (is_some threads.hand) sends
@@ -402,229 +400,121 @@ module _ (caller : Caller) (stage : Stage) (position : ℕ) (effect : Option Eff
           plain : is_plain outcome.out ≡ true
           plain = grind (arith, sleeps_as, sleeping_wait_list, parts)
 
-          stays_up : wait_list_slept (cv_rules buffer_monitor_rules) outcome.out ≡ None
+          stays_up : wait_list_slept monitored outcome.out ≡ None
           stays_up = plain_stays outcome.out plain
 
           quiet : (recorded call_state stage outcome.out).effect ≡ call_state.effect
           quiet = grind (arith, same_effect_or_none, stays_up, parts)
 
-          none_some : {f : Effect} → effect ≡ None → effect ≡ Some f → ⊥
-          none_some is_none is = absurd (cc (is_none, is))
+      -- the marks that it left
+      abbrev slept' : List (Option BufId)
+      slept' = slept_list t b own.lock.slept outcome.out
+
+      abbrev waits' : List (Option BufId)
+      waits' = waits_list t b own.waits outcome.out
 
       abbrev left_now : Waiting BufferOut
-      left_now = record {
-        lock = record { sleep = record { threads = threads; deferred = None }; slept = slept_list t (buffer_of call) own.lock.slept outcome.out };
-        waits = waits_list t (buffer_of call) own.waits outcome.out;
-      }
+      left_now = record { lock = record { sleep = record { threads = threads; deferred = None }; slept = slept' }; waits = waits' }
 
-      plain_or_sleeps : must_send outcome threads ≡ false
-          → SectionPolledTo (event c (queue.OnBuffer (buffer_of call) e) ∷ (others ++ old))
-          left_now None (is_some (if is_plain outcome.out then Some outcome else None))
-          (recorded_if call_state stage (if is_plain outcome.out then Some outcome else None))
+      plain_or_sleeps : must_send outcome threads ≡ false → SectionPolledBy acted
+          (record { own = left_now; answer = if is_plain outcome.out then Some outcome else None }) None
       plain_or_sleeps stays_here = go (is_plain outcome.out) refl
         where
-          marks : (u : Tid) → same_tid t u ≡ false
-              → (slept_for (slept_list t (buffer_of call) own.lock.slept outcome.out) u ≡ slept_for own.lock.slept u)
-              × (slept_for (waits_list t (buffer_of call) own.waits outcome.out) u ≡ slept_for own.waits u)
-          marks u other = marks_other t u (buffer_of call) own.lock.slept own.waits outcome.out other
+          marks : (u : Tid) → same_tid t u ≡ false → (slept_for slept' u ≡ slept_for own.lock.slept u) × (slept_for waits' u ≡ slept_for own.waits u)
+          marks u other = marks_other t u b own.lock.slept own.waits outcome.out other
 
-          slept_now : slept_for (slept_list t (buffer_of call) own.lock.slept outcome.out) t ≡ slept_by (buffer_of call) outcome.out
-          slept_now = slept_mark t (buffer_of call) own.lock.slept outcome.out slept_size small slept_none
+          fits_as : (o : CallState) → recorded_by call_state stage outcome.out ≡ o
+              → CallStateFits O after_it t o.call (slept_for slept' t) (slept_for waits' t) o
+          fits_as o is = subst (λ (o : CallState). CallStateFits O after_it t o.call (slept_for slept' t) (slept_for waits' t) o) is (rw (
+            slept_mark t b own.lock.slept outcome.out slept_size small slept_none,
+            waits_mark t b own.waits outcome.out waits_size small waits_none,
+          ) done.fits)
 
-          waits_now : slept_for (waits_list t (buffer_of call) own.waits outcome.out) t ≡ waits_by (buffer_of call) outcome.out
-          waits_now = waits_mark t (buffer_of call) own.waits outcome.out waits_size small waits_none
-
-          fits_now : CallStateFits O (buffer_sections (event c (queue.OnBuffer (buffer_of call) e) ∷ (others ++ old))) t
-              (recorded_by call_state stage outcome.out).call
-              (slept_for (slept_list t (buffer_of call) own.lock.slept outcome.out) t) (slept_for (waits_list t (buffer_of call) own.waits outcome.out) t)
-              (recorded_by call_state stage outcome.out)
-          fits_now = rw (slept_now, waits_now) done.fits
-
-          go : (b : Bool) → is_plain outcome.out ≡ b
-              → SectionPolledTo (event c (queue.OnBuffer (buffer_of call) e) ∷ (others ++ old))
-              left_now None (is_some (if b then Some outcome else None)) (recorded_if call_state stage (if b then Some outcome else None))
+          go : (b : Bool) → is_plain outcome.out ≡ b → SectionPolledBy acted (record { own = left_now; answer = if b then Some outcome else None }) None
           go true plain =
-              to_done left_now None true (recorded call_state stage outcome.out) refl marks (marks_sizes t
-              (buffer_of call) own.lock.slept own.waits outcome.out)
-              (λ f same. (
-                (done.fresh f same).0,
-                sym (ap (λ (o : CallState). o.effect) (plain_recorded call_state stage outcome.out plain)) ∙ (done.fresh f same).1,
-                (done.fresh f same).2,
-              ))
-              (λ w. sym (ap (λ (o : CallState). o.effect) (plain_recorded call_state stage outcome.out plain)) ∙ done.stays w)
-              (record {
+              let same = plain_recorded call_state stage outcome.out plain in
+              let lists = plain_lists t b own.lock.slept own.waits outcome.out plain in
+              to_done left_now None true (recorded call_state stage outcome.out) refl marks (marks_sizes t b own.lock.slept own.waits outcome.out)
+              (sym (ap (λ (o : CallState). o.effect) same)) (record {
                 none = refl;
-                current =
-                    woken_current (homes_in opening) c outcome.woke gone_on ∙ ap (λ line. (own_slept line own.lock.sleep.threads).current)
-                    (plain_stays outcome.out plain) ∙ runs;
+                current = runs_on plain;
                 hand = none_of threads.hand (not_false outcome.slept (is_some threads.hand) stays_here
                     (sleeps_as e lock ∙ ap is_some (plain_stays outcome.out plain)));
                 deferred = refl;
-                fits =
-                    subst (λ (o : CallState). CallStateFits O after_it t o.call (slept_for (slept_list t (buffer_of call) own.lock.slept outcome.out) t)
-                    (slept_for (waits_list t (buffer_of call) own.waits outcome.out) t) o) (plain_recorded call_state stage outcome.out plain) fits_now;
+                fits = fits_as (recorded call_state stage outcome.out) same;
                 recorded_is = (outcome.out, refl);
                 reply = here.effect_is;
-                free = (
-                  ap (λ l. slept_for l t) (plain_lists t (buffer_of call) own.lock.slept own.waits outcome.out plain).0 ∙ slept_none,
-                  ap (λ l. slept_for l t) (plain_lists t (buffer_of call) own.lock.slept own.waits outcome.out plain).1 ∙ waits_none,
-                );
-              })
-              (λ w. absurd (apart w (no_wait_plain t call stage lock plain)))
-            where
-              apart : waits_at stage ≡ true → waits_at stage ≡ false → ⊥
-              apart w out = absurd cc
+                free = (ap (λ l. slept_for l t) lists.0 ∙ slept_none, ap (λ l. slept_for l t) lists.1 ∙ waits_none);
+              }) (λ w. absurd (cc (w, no_wait_plain t call stage lock plain)))
           go false sleeps =
-              to_done left_now None false call_state refl marks (marks_sizes t (buffer_of call) own.lock.slept own.waits outcome.out)
-              (λ f same. absurd (none_some (done.fresh f same).0
-              (sym (ap (λ (o : CallState). o.effect) (sleeping_recorded call_state stage outcome.out sleeps)) ∙ (done.fresh f same).1)))
-              (λ w. refl) (
+              let same = sleeping_recorded call_state stage outcome.out sleeps in
+              to_done left_now None false call_state refl marks (marks_sizes t b own.lock.slept own.waits outcome.out)
+              (sym (ap (λ (o : CallState). o.effect) same)) (
                 refl,
                 inl (record {
                   none = refl;
-                  current =
-                      woken_current (homes_in opening) c outcome.woke gone_on ∙ sleeps_none
-                      (wait_list_slept (cv_rules buffer_monitor_rules) outcome.out) own.lock.sleep.threads (sleeping_wait_list outcome.out sleeps);
+                  current = woken_current (homes_in opening) c outcome.woke gone_on
+                      ∙ sleeps_none (wait_list_slept monitored outcome.out) own.lock.sleep.threads (sleeping_wait_list outcome.out sleeps);
                   deferred = refl;
-                  fits =
-                      subst (λ (o : CallState). CallStateFits O after_it t o.call (slept_for (slept_list t (buffer_of call) own.lock.slept outcome.out) t)
-                      (slept_for (waits_list t (buffer_of call) own.waits outcome.out) t) o) (sleeping_recorded call_state stage outcome.out sleeps) fits_now;
+                  fits = fits_as call_state same;
                 }),
-              )
-              never
-            where
-              none_some : {f : Effect} → effect ≡ None → effect ≡ Some f → ⊥
-              none_some is_none is = absurd (cc (is_none, is))
+              ) never
 
-    -- a section poll that left what a poll got
-    abbrev SectionPolledBy : List BufferEvent → Left (Waiting BufferOut) BufferOutcome → Option (SchedCall (CvCall BufferEdit)) → Type 0
-    SectionPolledBy new got under_way = SectionPolledTo new got.own under_way (is_some got.answer) (recorded_if call_state stage got.answer)
-
-    abbrev under_left : Left (Sleeping (QOut (CvOut BufferOut))) BufferOutcome → Option (SchedCall (CvCall BufferEdit))
-    under_left l = if is_some l.answer then None else Some (sched.OnBuffer (buffer_of call) e)
-
-    abbrev DoneAs : BufferOutcome → Type 0
-    DoneAs result =
-        SectionPolledBy (event c (queue.OnBuffer (buffer_of call) e) ∷ (others ++ old))
-        (both t (buffer_of call) own.waits own.lock.slept
-        (left_with (lock_kernel (cv_rules buffer_monitor_rules) opening) c (buffer_of call) e (Does result) own.lock.sleep))
-        (under_left (left_with (lock_kernel (cv_rules buffer_monitor_rules) opening) c (buffer_of call) e (Does result) own.lock.sleep))
-
-    module _ (lawful : IsLawful (QueueAllowed (lock_kernel (cv_rules buffer_monitor_rules) opening)) (event c (queue.OnBuffer (buffer_of call) e) ∷
-        (others ++ old)))
-        (now : Fresh) (lock : BufferLock) (at : buffer_lock_at O (buffer_sections (others ++ old)) (Buffer (buffer_of call)) ≡ Some lock) where
-      abbrev sent : Left (Sleeping (QOut (CvOut BufferOut))) BufferOutcome
-      sent = record {
-        own = record {
-          threads = threads lawful now lock at;
-          deferred = Some (lock_answer
-              (cv_rules buffer_monitor_rules) e lock);
-        };
-        answer = None;
-      }
-
-      abbrev stayed : Left (Sleeping (QOut (CvOut BufferOut))) BufferOutcome
-      stayed = record {
-        own = record { threads = threads lawful now lock at; deferred = None };
-        answer = Some (lock_answer
-            (cv_rules buffer_monitor_rules) e lock);
-      }
-
-      done_section_poll : DoneAs (lock_answer (cv_rules buffer_monitor_rules) e lock)
-      done_section_poll = go (must_send (lock_answer (cv_rules buffer_monitor_rules) e lock) (threads lawful now lock at)) refl
+      done_section_poll : PolledFrom acted (left_by (Does outcome))
+      done_section_poll = go (must_send outcome threads) refl
         where
-          go : (v : Bool) → must_send (lock_answer (cv_rules buffer_monitor_rules) e lock) (threads lawful now lock at) ≡ v
-              → SectionPolledBy (event c (queue.OnBuffer (buffer_of call) e) ∷ (others ++ old))
-              (both t (buffer_of call) own.waits own.lock.slept (if v then sent else stayed)) (under_left (if v then sent else stayed))
-          go true sends = deferred_polled lawful now lock at sends
-          go false stays_here =
-              subst (λ got. SectionPolledBy (event c (queue.OnBuffer (buffer_of call) e) ∷ (others ++ old)) got None)
-              (sym (both_left t (buffer_of call) own.waits own.lock.slept stayed.own (lock_out (cv_rules buffer_monitor_rules) e lock)
-              (lock_answer (cv_rules buffer_monitor_rules) e lock) refl))
-              (plain_or_sleeps lawful now lock at stays_here)
+          go : (v : Bool) → must_send outcome threads ≡ v → PolledFrom acted (if v then sent else stayed)
+          go true sends = deferred_polled sends
+          go false stays_here = subst (λ got. SectionPolledBy acted got None)
+              (sym (both_left t b own.waits own.lock.slept stayed.own outcome.out outcome refl)) (plain_or_sleeps stays_here)
 
-    does_base : (outcome : BufferOutcome)
-        → IsLawful (QueueAllowed (lock_kernel (cv_rules buffer_monitor_rules) opening)) (event c (queue.OnBuffer (buffer_of call) e) ∷ (others ++ old))
-        → Fresh → out_at (lock_kernel (cv_rules buffer_monitor_rules) opening) (others ++ old) (buffer_of call) e ≡ Some outcome → DoneAs outcome
-    does_base outcome lawful now out = there (buffer_lock_at O (buffer_sections (others ++ old)) (Buffer (buffer_of call))) refl out
+    does_base : (outcome : BufferOutcome) → AreLawful opening acted → Fresh → out_at (kernel_of opening) seen b e ≡ Some outcome
+        → PolledFrom acted (left_by (Does outcome))
+    does_base outcome lawful now out = there (buffer_lock_at O (buffer_sections seen) (Buffer b)) refl out
       where
-        there : (x : Option BufferLock) → buffer_lock_at O (buffer_sections (others ++ old)) (Buffer (buffer_of call)) ≡ x
-            → option_map (lock_answer (cv_rules buffer_monitor_rules) e) x ≡ Some outcome → DoneAs outcome
+        there : (x : Option BufferLock) → buffer_lock_at O (buffer_sections seen) (Buffer b) ≡ x
+            → option_map (lock_answer monitored e) x ≡ Some outcome → PolledFrom acted (left_by (Does outcome))
         there None at is = absurd cc
         there (Some lock) at is =
-            let same : lock_answer (cv_rules buffer_monitor_rules) e lock ≡ outcome = cc in
-            subst DoneAs same (done_section_poll lawful now lock at)
+            let same : lock_answer monitored e lock ≡ outcome = cc in
+            subst (λ o. PolledFrom acted (left_by (Does o))) same (done_section_poll lawful now lock at)
 
-    sends_base : (q : CpuId) (u : Tid) → IsLawful (QueueAllowed (lock_kernel (cv_rules buffer_monitor_rules) opening)) (others ++ old) → Keeping
-        → SectionPolledBy (event c (queue.Push q u) ∷ (others ++ old))
-        (both t (buffer_of call) own.waits own.lock.slept
-        (record { own = record { threads = passed_on own.lock.sleep.threads; deferred = None }; answer = own.lock.sleep.deferred }))
-        (if is_some own.lock.sleep.deferred then None else Some (sched.OnBuffer (buffer_of call) e))
+    abbrev left_sent : Option BufferOutcome → Left (Sleeping (QOut (CvOut BufferOut))) BufferOutcome
+    left_sent o = record { own = record { threads = passed_on own.lock.sleep.threads; deferred = None }; answer = o }
+
+    sends_base : (q : CpuId) (u : Tid) → AreLawful opening seen → Keeping → PolledFrom (event c (queue.Push q u) ∷ seen) (left_sent own.lock.sleep.deferred)
     sends_base q u lawful now =
-        subst (λ o. SectionPolledBy (event c (queue.Push q u) ∷ (others ++ old)) (both t (buffer_of call) own.waits own.lock.slept
-        (record { own = record { threads = passed_on own.lock.sleep.threads; deferred = None }; answer = o }))
-        (if is_some o then None else Some (sched.OnBuffer (buffer_of call) e))) (sym now.1)
-        (subst (λ got. SectionPolledBy (event c (queue.Push q u) ∷ (others ++ old)) got None)
-        (sym (both_left t (buffer_of call) own.waits own.lock.slept (record { threads = passed_on own.lock.sleep.threads; deferred = None }) now.0.out now.0
-        refl))
-        (rw (
-          now.2.plain,
-          (plain_lists t (buffer_of call) own.lock.slept own.waits now.0.out now.2.plain).0,
-          (plain_lists t (buffer_of call) own.lock.slept own.waits now.0.out now.2.plain).1,
-        ) (sends_polled q u lawful now)))
+        let lists = plain_lists t b own.lock.slept own.waits now.0.out now.2.plain in
+        subst (λ o. PolledFrom (event c (queue.Push q u) ∷ seen) (left_sent o)) (sym now.1)
+        (subst (λ got. SectionPolledBy (event c (queue.Push q u) ∷ seen) got None)
+        (sym (both_left t b own.waits own.lock.slept (left_sent None).own now.0.out now.0 refl))
+        (rw (now.2.plain, lists.0, lists.1) (sends_polled q u lawful now)))
 
     -- the poll of a thread that neither sleeps for the lock nor waits
-    result_of_poll : (new : List BufferEvent) (poll_result : PollResult (QOut (CvOut BufferOut)))
-        → IsLawful (QueueAllowed (lock_kernel (cv_rules buffer_monitor_rules) opening)) new
-        → new ≡ seen_with (lock_kernel (cv_rules buffer_monitor_rules) opening) c (buffer_of call) e poll_result (others ++ old)
-        → MayDo (lock_kernel (cv_rules buffer_monitor_rules) opening) c (buffer_of call) e poll_result (others ++ old) own.lock.sleep → Fresh ⊎ Keeping
-        → SectionPolledBy new (both t (buffer_of call) own.waits own.lock.slept
-        (left_with (lock_kernel (cv_rules buffer_monitor_rules) opening) c (buffer_of call) e poll_result own.lock.sleep))
-        (under_left (left_with (lock_kernel (cv_rules buffer_monitor_rules) opening) c (buffer_of call) e poll_result own.lock.sleep))
+    result_of_poll : (new : List BufferEvent) (poll_result : PollResult (QOut (CvOut BufferOut))) → AreLawful opening new
+        → new ≡ seen_with (kernel_of opening) c b e poll_result seen → MayDo (kernel_of opening) c b e poll_result seen own.lock.sleep → Fresh ⊎ Keeping
+        → PolledFrom new (left_by poll_result)
     result_of_poll new WaitsStill lawful is may now =
-        subst (λ log. SectionPolledBy log (record { own = own; answer = None }) (Some (sched.OnBuffer (buffer_of call) e))) (sym is)
-        (still_polled (subst (IsLawful (QueueAllowed (lock_kernel (cv_rules buffer_monitor_rules) opening))) is lawful) now)
+        subst (λ log. PolledFrom log (left_by WaitsStill)) (sym is) (still_polled (subst (AreLawful opening) is lawful) now)
     result_of_poll new (Does outcome) lawful is may (inl now) =
-        subst (λ log. SectionPolledBy log
-        (both t (buffer_of call) own.waits own.lock.slept
-        (left_with (lock_kernel (cv_rules buffer_monitor_rules) opening) c (buffer_of call) e (Does outcome) own.lock.sleep))
-        (under_left (left_with (lock_kernel (cv_rules buffer_monitor_rules) opening) c (buffer_of call) e (Does outcome) own.lock.sleep))) (sym is)
-        (does_base outcome (subst (IsLawful (QueueAllowed (lock_kernel (cv_rules buffer_monitor_rules) opening))) is lawful) now may.1)
-    result_of_poll new (Does outcome) lawful is may (inr now) = absurd (none (sym may.0 ∙ now.1))
-      where
-        none : {o : BufferOutcome} → None ≡ Some o → ⊥
-        none same = absurd cc
-    result_of_poll new (SendsHome u) lawful is may (inl now) = absurd (none own.lock.sleep.deferred now.0 may.0)
-      where
-        none : (o : Option BufferOutcome) → o ≡ None → IsSome o → ⊥
-        none o is some = let out : is_some o ≡ false = ap is_some is in absurd (cc (out, some))
+        subst (λ log. PolledFrom log (left_by (Does outcome))) (sym is) (does_base outcome (subst (AreLawful opening) is lawful) now may.1)
+    result_of_poll new (Does outcome) lawful is may (inr now) = absurd (cc (may.0, now.1))
+    result_of_poll new (SendsHome u) lawful is may (inl now) = absurd (let out : is_some own.lock.sleep.deferred ≡ false = ap is_some now.0 in cc (out, may.0))
     result_of_poll new (SendsHome u) lawful is may (inr now) =
-        subst (λ log. SectionPolledBy log
-        (both t (buffer_of call) own.waits own.lock.slept
-        (record { own = record { threads = passed_on own.lock.sleep.threads; deferred = None }; answer = own.lock.sleep.deferred }))
-        (if is_some own.lock.sleep.deferred then None else Some (sched.OnBuffer (buffer_of call) e))) (sym is)
-        (sends_base (queue_for (homes_in opening) c u) u (subst (IsLawful (QueueAllowed (lock_kernel
-        (cv_rules buffer_monitor_rules) opening))) is lawful).1 now)
+        subst (λ log. PolledFrom log (left_by (SendsHome u))) (sym is)
+        (sends_base (queue_for (homes_in opening) c u) u (subst (AreLawful opening) is lawful).1 now)
 
     -- the poll of the lock, and of the conditions
-    pub lock_section_poll : (new : List BufferEvent) (poll_result : PollResult (QOut (CvOut BufferOut)))
-        → IsLawful (QueueAllowed (lock_kernel (cv_rules buffer_monitor_rules) opening)) new
-        → new ≡ seen_with (lock_kernel (cv_rules buffer_monitor_rules) opening) c (buffer_of call) e poll_result (others ++ old)
-        → MayDo (lock_kernel (cv_rules buffer_monitor_rules) opening) c (buffer_of call) e poll_result (others ++ old) own.lock.sleep
+    pub lock_section_poll : (new : List BufferEvent) (poll_result : PollResult (QOut (CvOut BufferOut))) → AreLawful opening new
+        → new ≡ seen_with (kernel_of opening) c b e poll_result seen → MayDo (kernel_of opening) c b e poll_result seen own.lock.sleep
         → (before : Option (SchedCall (CvCall BufferEdit))) → SectionGoes O (buffer_sections old) t call call_state own before
         → (under_way : Option (SchedCall (CvCall BufferEdit))) (s : Left (Sleeping (QOut (CvOut BufferOut))) BufferOutcome)
-        (l : Left (Locking (CvOut BufferOut)) BufferOutcome)
-        (got : Left (Waiting BufferOut) BufferOutcome) (u : Tid) → u ≡ t
-        → s ≡ left_with (lock_kernel (cv_rules buffer_monitor_rules) opening) c (buffer_of call) e poll_result own.lock.sleep
-        → under_way ≡ (if is_some s.answer then None else Some (sched.OnBuffer (buffer_of call) e))
-        → l ≡ left_after u (buffer_of call) own.lock.slept s.own s.answer
-        → got ≡ left_waiting u (buffer_of call) own.waits l.own l.answer
+        (l : Left (Locking (CvOut BufferOut)) BufferOutcome) (got : Left (Waiting BufferOut) BufferOutcome) (u : Tid) → u ≡ t → s ≡ left_by poll_result
+        → under_way ≡ under_left s → l ≡ left_after u b own.lock.slept s.own s.answer → got ≡ left_waiting u b own.waits l.own l.answer
         → SectionPolledBy new got under_way
     lock_section_poll new poll_result lawful is may before goes under_way s l got u is_caller s_is ends l_is got_is =
-        let base = result_of_poll new poll_result lawful is may (view before goes) in
-        let got_both : got ≡ both t (buffer_of call) own.waits own.lock.slept s
-        = got_is ∙ ap (λ (x : Left (Locking (CvOut BufferOut)) BufferOutcome). left_waiting u (buffer_of call) own.waits x.own x.answer) l_is
-        ∙ ap (λ v. both v (buffer_of call) own.waits own.lock.slept s) is_caller in
-        subst (λ g. SectionPolledBy new g under_way) (sym got_both)
-        (subst (λ w. SectionPolledBy new (both t (buffer_of call) own.waits own.lock.slept s) w) (sym ends)
-        (subst (λ x. SectionPolledBy new (both t (buffer_of call) own.waits own.lock.slept x) (under_left x)) (sym s_is) base))
+        let got_both : got ≡ both t b own.waits own.lock.slept s
+        = got_is ∙ ap (λ (x : Left (Locking (CvOut BufferOut)) BufferOutcome). left_waiting u b own.waits x.own x.answer) l_is
+        ∙ ap (λ v. both v b own.waits own.lock.slept s) is_caller in
+        subst (λ g. SectionPolledBy new g under_way) (sym got_both) (subst (λ w. SectionPolledBy new (both t b own.waits own.lock.slept s) w) (sym ends)
+        (subst (PolledFrom new) (sym s_is) (result_of_poll new poll_result lawful is may (view before goes))))

@@ -1,44 +1,29 @@
 -- A line's counter counts the threads that entered it.
-use Rattle.std.proofs.Common.{◌≡◌, ℕ, ◌+◌, ◌<◌, ◌%◌, ◌^◌, Bool, true, false, not, ◌&&◌, List, [], ◌∷◌, length, Option, Some, option_map, if◌then◌else◌, get_or}
+use Rattle.std.proofs.Common.{ℕ, ◌≡◌, ◌+◌, ◌<◌, ◌%◌, ◌^◌, Bool, true, false, not, ◌&&◌, List, [], ◌∷◌, length, Option, Some, option_map, if◌then◌else◌, get_or}
 use Rattle.std.proofs.{Common.{refl, ap, sym, ◌∙◌, arith, lt-ltb}, lemmas.Option.{slice_get_within, slice_get-get_or}}
-use Rattle.layer_traits.specs.Blocks.{Capacities.caps_in, BufferEffects.{fresh_lock, drawn_in}, BufferProtocol.{BufferLock, BufferSection, IsDue}}
-use Rattle.layer_traits.specs.Blocks.{BufferProtocol.{buffer_lock_at, buffer_monitor_rules, buffer_rules}, QueueBlocks.{StartsWell, homes_in, inner}}
-use Rattle.layer_traits.specs.Blocks.BufferBlocks.{BufferState, counted, entered, may_join, drawn_of, put_in, shut, taken_out}
-use Rattle.layer_traits.specs.declared.{buffer_edits.BufferEdit.BufferEdit, locked.Side.Side, queue_edits.QueueBlock.QueueBlock, queues.QueueCall.QueueCall}
-use Rattle.layer_traits.specs.{declared.queues.QueueCall.TheVariants.{Push, TakeAll, OnBuffer}, Layers.{Conditions.{CvCall, cv_rules}, QLockLaw.lock_kernel}}
-use Rattle.layer_traits.specs.Layers.{QLocking.{lock_asked_by, lock_caller, lock_edited}, Queues.{QueueAllowed, buffer_sections, with_section}}
-use Rattle.{layer_traits.specs.{Threads.Places.home_of, Protocols.Protocol.section}, event_log.specs.declared.ids.{BufId.BufId, CpuId.CpuId, LockId.LockId}}
-use Rattle.event_log.specs.{declared.ids.{LockId.TheVariants.Buffer, Tid.Tid, TheConstants.THREADS}, History.{IsLawful, same_lock}, Messages.Message}
-use Rattle.{event_log.proofs.Same.same_lock_true, thread_blocks.specs.Queues.is_in, fifo_buffer.specs.{FifoFits.BootsSo, Laws.OwnedLaws.found}}
-use Rattle.fifo_buffer.specs.{Positions.{PositionsAreCounts, enters_side, entered_count}, Stances.same_side, SectionPolls.BufferEvent}
+use Rattle.fifo_buffer.{proofs.Callers.{kernel_of, AreLawful}, specs.{FifoFits.BootsSo, Laws.OwnedLaws.found, Positions.{PositionsAreCounts, enters_side}}}
+use Rattle.{fifo_buffer.specs.{Positions.entered_count, Stances.same_side, SectionPolls.BufferEvent}, layer_traits.specs.Blocks.Capacities.caps_in}
+use Rattle.layer_traits.specs.Blocks.{BufferEffects.{fresh_lock, drawn_in}, BufferProtocol.{BufferLock, BufferSection, IsDue, buffer_lock_at, buffer_rules}}
+use Rattle.layer_traits.specs.Blocks.{QueueBlocks.{StartsWell, homes_in, inner}, BufferBlocks.{BufferState, counted, entered, may_join, drawn_of, put_in, shut}}
+use Rattle.layer_traits.specs.{Blocks.BufferBlocks.taken_out, declared.{buffer_edits.BufferEdit.BufferEdit, locked.Side.Side}}
+use Rattle.layer_traits.specs.declared.{queue_edits.QueueBlock.QueueBlock, queues.QueueCall.{QueueCall, TheVariants.{Push, TakeAll, OnBuffer}}}
+use Rattle.layer_traits.specs.Layers.{Conditions.CvCall, QLocking.{lock_asked_by, lock_caller, lock_edited}, Queues.{QueueAllowed, buffer_sections}}
+use Rattle.{layer_traits.specs.{Layers.Queues.with_section, Threads.Places.home_of, Protocols.Protocol.section}, event_log.specs.declared.ids.BufId.BufId}
+use Rattle.event_log.specs.{declared.ids.{CpuId.CpuId, LockId.{LockId, TheVariants.Buffer}, Tid.Tid, TheConstants.THREADS}, History.same_lock, Messages.Message}
+use Rattle.{event_log.proofs.Same.same_lock_true, thread_blocks.specs.Queues.is_in}
 
 -- one more thread entered, or none
 abbrev more : Bool → ℕ → ℕ
 more v n = if v then counted n else n
 
--- a section counts a thread that enters, which may join: it is one of the machine's and stands in neither line
-asked_same : (side : Side) (t : Tid) (owner : Option Tid) (lock : BufferLock) → drawn_of side (lock_asked_by t owner lock).above ≡ drawn_of side lock.above
-asked_same side t owner lock = grind arith
-
-entered_counts : (side at : Side) (t : Tid) (x : BufferState) → drawn_of side (entered at t x) ≡ more (same_side side at) (drawn_of side x)
-entered_counts side at t x = grind arith
-
-put_same : (side : Side) (m : Message) (x : BufferState) (v : Bool) → drawn_of side (if v then put_in m x else x) ≡ drawn_of side x
-put_same side m x v = grind arith
-
-taken_same : (side : Side) (x : BufferState) (v : Bool) → drawn_of side (if v then taken_out x else x) ≡ drawn_of side x
-taken_same side x v = grind arith
-
-shut_same : (side : Side) (x : BufferState) → drawn_of side (shut x) ≡ drawn_of side x
-shut_same side x = grind arith
-
 pub joins_now : (t : Tid) (queue : List Tid) → t.0 < THREADS → is_in t queue ≡ false → may_join t queue ≡ true
 joins_now t queue small out = ap (λ v. v && not (is_in t queue)) (lt-ltb t.0 THREADS small) ∙ ap not out
 
+-- a section counts a thread that enters, which may join: it is one of the machine's and stands in neither line
 section_counts : (side : Side) (O : LockId → Option BufferLock) (past : List BufferSection) (d : BufId) (call : CvCall BufferEdit) (lock : BufferLock)
     → buffer_lock_at O past (Buffer d) ≡ Some lock → IsDue O past (Buffer d) call → (lock_caller buffer_rules call).0 < THREADS
     → drawn_of side (lock_edited buffer_rules call lock).above ≡ more (enters_side side call) (drawn_of side lock.above)
-section_counts side O past d call lock at due small = grind (arith, asked_same, joins_now, entered_counts, put_same, taken_same, shut_same)
+section_counts side O past d call lock at due small = grind (arith, joins_now)
 
 counts_more : (v : Bool) (a n : ℕ) → a ≡ n % 2 ^ 64 → more v a ≡ (if v then n + 1 else n) % 2 ^ 64
 counts_more v a n is = grind arith
@@ -51,8 +36,7 @@ module _ (opening : LockId → Option (QueueBlock BufferLock)) (starts : StartsW
   -- at the start nobody entered
   none_yet : Counted []
   none_yet =
-      ap (drawn_in side) (ap (λ locks. locks (Buffer b)) boots
-      ∙ ap (option_map fresh_lock) (slice_get-get_or (caps_in opening) b.0 0 within)) ∙ none side
+      ap (drawn_in side) (ap (λ locks. locks (Buffer b)) boots ∙ ap (option_map fresh_lock) (slice_get-get_or (caps_in opening) b.0 0 within)) ∙ none side
     where
       none : (s : Side) → drawn_in s (Some (fresh_lock (get_or (caps_in opening) b.0 0))) ≡ 0
       none s = grind arith
@@ -66,8 +50,7 @@ module _ (opening : LockId → Option (QueueBlock BufferLock)) (starts : StartsW
       else buffer_lock_at (inner opening) past (Buffer b))
 
   abbrev count_if : List BufferSection → CvCall BufferEdit → Bool → ℕ
-  count_if past call v =
-      (if v && enters_side side call then entered_count side (Buffer b) past + 1 else entered_count side (Buffer b) past) % 2 ^ 64
+  count_if past call v = (if v && enters_side side call then entered_count side (Buffer b) past + 1 else entered_count side (Buffer b) past) % 2 ^ 64
 
   one_section : (past : List BufferEvent) (c : CpuId) (d : BufId) (call : CvCall BufferEdit) → IsDue (inner opening) (buffer_sections past) (Buffer d) call
       → (lock_caller buffer_rules call).0 < THREADS → Counted (buffer_sections past) → Counted (section c (Buffer d) call ∷ buffer_sections past)
@@ -86,17 +69,20 @@ module _ (opening : LockId → Option (QueueBlock BufferLock)) (starts : StartsW
           ∙ ap (count_if (buffer_sections past) call) (sym is)
       go false is = ap (drawn_if (buffer_sections past) call) is ∙ before ∙ ap (count_if (buffer_sections past) call) (sym is)
 
-  counted_all : (past : List BufferEvent) → IsLawful (QueueAllowed (lock_kernel (cv_rules buffer_monitor_rules) opening)) past → Counted (buffer_sections past)
-  counted_all [] lawful = none_yet
-  counted_all (e ∷ past) lawful = by_call e.call lawful.0 (counted_all past lawful.1)
+  -- what each section keeps that is due, and whose caller is one of the machine's, holds after all lawful events
+  pub by_sections : (P : List BufferSection → Type 0) → P [] → ((past : List BufferEvent) (c : CpuId) (d : BufId) (call : CvCall BufferEdit)
+      → IsDue (inner opening) (buffer_sections past) (Buffer d) call → (lock_caller buffer_rules call).0 < THREADS → P (buffer_sections past)
+      → P (section c (Buffer d) call ∷ buffer_sections past)) → (past : List BufferEvent) → AreLawful opening past → P (buffer_sections past)
+  by_sections P start keeps [] lawful = start
+  by_sections P start keeps (e ∷ past) lawful = go e.call lawful.0 (by_sections P start keeps past lawful.1)
     where
-      by_call : (call : QueueCall (CvCall BufferEdit))
-          → QueueAllowed (lock_kernel (cv_rules buffer_monitor_rules) opening) past (record { cpu = e.cpu; call = call })
-          → Counted (buffer_sections past) → Counted (with_section e.cpu call (buffer_sections past))
-      by_call (Push q t) may before = before
-      by_call (TakeAll q) may before = before
-      by_call (OnBuffer d call) may before =
-          one_section past e.cpu d call may.upper.granted (small_home (lock_caller buffer_rules call) e.cpu may.caller.home) before
+      go : (call : QueueCall (CvCall BufferEdit)) → QueueAllowed (kernel_of opening) past (record { cpu = e.cpu; call = call }) → P (buffer_sections past)
+          → P (with_section e.cpu call (buffer_sections past))
+      go (Push q t) may before = before
+      go (TakeAll q) may before = before
+      go (OnBuffer d call) may before = keeps past e.cpu d call may.upper.granted (small_home (lock_caller buffer_rules call) e.cpu may.caller.home) before
 
 pub positions_are_counts : PositionsAreCounts
-positions_are_counts opening past starts boots lawful b side within = counted_all opening starts boots b side within past lawful
+positions_are_counts opening past starts boots lawful b side within =
+    by_sections opening starts boots b side within (Counted opening starts boots b side within) (none_yet opening starts boots b side within)
+    (one_section opening starts boots b side within) past lawful

@@ -1,19 +1,18 @@
 -- The calls of one side take effect in the order in which their threads joined its line.
-use Rattle.std.proofs.Common.{◌≡◌, ℕ, ◌<◌, Bool, true, false, ◌&&◌, List, [], ◌∷◌, ◌++◌, length, Option, Some, None, option_map, if◌then◌else◌, refl, ap, sym}
+use Rattle.std.proofs.Common.{ℕ, ◌≡◌, ◌<◌, Bool, true, false, ◌&&◌, List, [], ◌∷◌, ◌++◌, length, Option, Some, None, option_map, if◌then◌else◌, refl, ap, sym}
 use Rattle.std.{proofs.{Common.{◌∙◌, subst, arith, get_or, append_assoc, option_to_list}, lemmas.Option.{slice_get-get_or, same_Some}}, specs.Prelude.{◌==◌}}
-use Rattle.layer_traits.specs.Blocks.{Capacities.caps_in, BufferEffects.{effect_of, effect_on, effects_in, drawn, fresh_lock}, BufferProtocol.BufferLock}
-use Rattle.layer_traits.specs.Blocks.BufferProtocol.{BufferSection, IsDue, buffer_lock_at, buffer_monitor_rules, is_in_line, buffer_rules}
+use Rattle.fifo_buffer.{proofs.{Callers.AreLawful, PositionLemmas.{by_sections, joins_now}}, specs.Laws.{Tallies.effect_position, OwnedLaws.found}}
+use Rattle.fifo_buffer.specs.{FifoFits.BootsSo, Positions.enters_side, SectionPolls.BufferEvent, Served.{FirstComeFirstServed, group_on, joiners_of, served}}
+use Rattle.{fifo_buffer.specs.Stances.same_side, layer_traits.specs.Blocks.{Capacities.caps_in, BufferEffects.{effect_of, effect_on, effects_in, drawn}}}
+use Rattle.layer_traits.specs.Blocks.{BufferEffects.fresh_lock, BufferProtocol.{BufferLock, BufferSection, IsDue, buffer_lock_at, is_in_line, buffer_rules}}
 use Rattle.layer_traits.specs.Blocks.{QueueBlocks.{StartsWell, inner}, BufferBlocks.{BufferState, entered, is_first, is_next, line_of, may_join, shut}}
 use Rattle.layer_traits.specs.declared.{buffer_edits.BufferEdit.{BufferEdit, TheVariants.{Enter, TryPut, TryTake, Shut}}, queue_edits.QueueBlock.QueueBlock}
 use Rattle.layer_traits.specs.declared.{conditions.CvEdit.TheVariants.{Edit, SignalFront}, locked.{QEdit.TheVariants.{Acquire, Inside, Release}, Side.Side}}
-use Rattle.layer_traits.specs.declared.{locked.Side.TheVariants.{Receivers, Senders}, queues.QueueCall.{QueueCall, TheVariants.{Push, TakeAll, OnBuffer}}}
-use Rattle.layer_traits.specs.Layers.{Conditions.{CvCall, cv_rules}, QLockLaw.lock_kernel, QLocking.{lock_asked_by, lock_caller, lock_edited}}
-use Rattle.layer_traits.specs.{Layers.Queues.{QueueAllowed, buffer_sections, with_section}, Protocols.Protocol.section}
+use Rattle.layer_traits.specs.{declared.locked.Side.TheVariants.{Receivers, Senders}, Layers.{Conditions.CvCall, QLocking.{lock_asked_by, lock_caller}}}
+use Rattle.layer_traits.specs.{Layers.{QLocking.lock_edited, Queues.buffer_sections}, Protocols.Protocol.section}
 use Rattle.event_log.specs.declared.{entries.Entry.Entry, ids.{BufId.BufId, CpuId.CpuId, LockId.{LockId, TheVariants.Buffer}, Tid.Tid, TheConstants.THREADS}}
-use Rattle.event_log.{specs.{History.{IsLawful, same_lock}, Messages.Message, Runs.{group_of, same_group}}, proofs.Same.same_lock_true}
-use Rattle.fifo_buffer.specs.{Laws.{Tallies.effect_position, OwnedLaws.found}, FifoFits.BootsSo, Positions.enters_side, SectionPolls.BufferEvent}
-use Rattle.fifo_buffer.{specs.{Served.{FirstComeFirstServed, group_on, joiners_of, served}, Stances.same_side}, proofs.PositionLemmas.{joins_now, small_home}}
-use Rattle.thread_blocks.{specs.Queues.rest, proofs.Members.same_tid_true}
+use Rattle.{event_log.{specs.{History.same_lock, Messages.Message, Runs.{group_of, same_group}}, proofs.Same.same_lock_true}, thread_blocks.specs.Queues.rest}
+use Rattle.thread_blocks.proofs.Members.{same_tid_true}
 
 -- What a section makes of a line.
 
@@ -21,9 +20,6 @@ use Rattle.thread_blocks.{specs.Queues.rest, proofs.Members.same_tid_true}
 first_in_line : (t : Tid) (line : List Tid) → is_first t line ≡ true → line ≡ t ∷ rest line
 first_in_line t [] first = absurd cc
 first_in_line t (u ∷ line) first = let same = same_tid_true t u first in ap (λ x. x ∷ line) (sym same)
-
-next_is_first : (side : Side) (t : Tid) (x : BufferState) → is_next side t x ≡ true → is_first t (line_of side x) ≡ true
-next_is_first side t x next = grind arith
 
 asked_stays : (side : Side) (t : Tid) (owner : Option Tid) (lock : BufferLock) → line_of side (lock_asked_by t owner lock).above ≡ line_of side lock.above
 asked_stays side t owner lock = grind arith
@@ -40,8 +36,7 @@ joins false t all before line is = is
 
 -- and if the first in line is served
 serves : (t : Tid) (all before line : List Tid) → all ≡ before ++ line → is_first t line ≡ true → all ≡ (before ++ t ∷ []) ++ rest line
-serves t all before line is first =
-    is ∙ ap (λ l. before ++ l) (first_in_line t line first) ∙ sym (append_assoc before (t ∷ []) (rest line))
+serves t all before line is first = is ∙ ap (λ l. before ++ l) (first_in_line t line first) ∙ sym (append_assoc before (t ∷ []) (rest line))
 
 -- The lines of a buffer, and what a section makes of them.
 
@@ -63,19 +58,17 @@ module _ (side : Side) (b : BufId) (c : CpuId) (position : Side → Tid → ℕ)
 
   keeps_enter : (t : Tid) (at : Side) → may_join t (line_of at lock.above) ≡ true → Keeps (Inside (Edit (Enter t at))) (effect (Inside (Edit (Enter t at))))
   keeps_enter t at may =
-      joins (same_side side at) t all (served side b.0 es) line is
-      ∙ ap (λ l. served side b.0 es ++ l)
+      joins (same_side side at) t all (served side b.0 es) line is ∙ ap (λ l. served side b.0 es ++ l)
       (sym (ap (λ v. line_of side (if v then entered at t lock.above else lock.above)) may ∙ entered_line side at t lock.above))
 
   -- a try that is not its thread's turn changes nothing; at its turn the first in line is served
-  keeps_put : (t : Tid) (m : Message) (v : Bool) → is_next Senders t lock.above ≡ v
-      → Keeps (Inside (Edit (TryPut t m))) (effect (Inside (Edit (TryPut t m))))
+  keeps_put : (t : Tid) (m : Message) (v : Bool) → is_next Senders t lock.above ≡ v → Keeps (Inside (Edit (TryPut t m))) (effect (Inside (Edit (TryPut t m))))
   keeps_put t m v next = put side v next is
     where
       put : (s : Side) (v : Bool) → is_next Senders t lock.above ≡ v → all ≡ served s b.0 es ++ line_of s lock.above
           → all ≡ served s b.0 (option_to_list (effect (Inside (Edit (TryPut t m)))) ++ es)
           ++ line_of s (lock_edited buffer_rules (Inside (Edit (TryPut t m))) lock).above
-      put Senders true next so = grind (arith, serves t all (served Senders b.0 es) lock.above.send_line so, next_is_first Senders t lock.above next)
+      put Senders true next so = grind (arith, serves t all (served Senders b.0 es) lock.above.send_line so)
       put Receivers true next so = grind arith
       put s false next so = grind arith
 
@@ -85,7 +78,7 @@ module _ (side : Side) (b : BufId) (c : CpuId) (position : Side → Tid → ℕ)
       take : (s : Side) (v : Bool) → is_next Receivers t lock.above ≡ v → all ≡ served s b.0 es ++ line_of s lock.above
           → all ≡ served s b.0 (option_to_list (effect (Inside (Edit (TryTake t)))) ++ es)
           ++ line_of s (lock_edited buffer_rules (Inside (Edit (TryTake t))) lock).above
-      take Receivers true next so = grind (arith, serves t all (served Receivers b.0 es) lock.above.receive_line so, next_is_first Receivers t lock.above next)
+      take Receivers true next so = grind (arith, serves t all (served Receivers b.0 es) lock.above.receive_line so)
       take Senders true next so = grind arith
       take s false next so = grind arith
 
@@ -167,8 +160,7 @@ module _ (opening : LockId → Option (QueueBlock BufferLock)) (starts : StartsW
           (subst (λ (x : BufId). IsDue (inner opening) (buffer_sections past) (Buffer x) call) same due) small in
           ap (λ (v : Bool). if v && enters_side side call then joiners_of side (Buffer b) (buffer_sections past)
           ++ lock_caller buffer_rules call ∷ [] else joiners_of side (Buffer b) (buffer_sections past))
-          is
-          ∙ kept
+          is ∙ kept
           ∙ ap (λ (o : Option Entry). served side b.0 (option_to_list o ++ effects_in (inner opening) (buffer_sections past))
           ++ line_of side (lock_edited buffer_rules call was.0).above) (sym (effect_here was.0 there same))
           ∙ ap (λ (l : BufferLock). served side b.0 (effects_in (inner opening) (section c (Buffer d) call ∷ (buffer_sections past)))
@@ -188,25 +180,13 @@ module _ (opening : LockId → Option (QueueBlock BufferLock)) (starts : StartsW
           (buffer_sections past)) is) ∙ at in
           ap (λ (v : Bool). if v && enters_side side call then joiners_of side (Buffer b) (buffer_sections past)
           ++ lock_caller buffer_rules call ∷ [] else joiners_of side (Buffer b) (buffer_sections past))
-          is
-          ∙ before lock was
+          is ∙ before lock was
           ∙ ap (λ (l : List Tid). l ++ line_of side lock.above) (sym (elsewhere side b d here (effects_in (inner opening) (buffer_sections past)) is (λ e at_e.
           (effect_position c d call (λ s t. drawn (inner opening) (Buffer d) s t (buffer_sections past))
           (buffer_lock_at (inner opening) (buffer_sections past) (Buffer d)) e at_e).1)))
 
-  served_all : (past : List BufferEvent) → IsLawful (QueueAllowed (lock_kernel (cv_rules buffer_monitor_rules) opening)) past
-      → IsServed (buffer_sections past)
-  served_all [] lawful = nobody_yet
-  served_all (e ∷ past) lawful = by_call e.call lawful.0 (served_all past lawful.1)
-    where
-      by_call : (call : QueueCall (CvCall BufferEdit))
-          → QueueAllowed (lock_kernel (cv_rules buffer_monitor_rules) opening) past (record { cpu = e.cpu; call = call })
-          → IsServed (buffer_sections past) → IsServed (with_section e.cpu call (buffer_sections past))
-      by_call (Push q t) may before = before
-      by_call (TakeAll q) may before = before
-      by_call (OnBuffer d call) may before =
-          one_section past e.cpu d call may.upper.granted
-          (small_home opening starts boots b side within (lock_caller buffer_rules call) e.cpu may.caller.home) before
+  served_all : (past : List BufferEvent) → AreLawful opening past → IsServed (buffer_sections past)
+  served_all = by_sections opening starts boots b side within IsServed nobody_yet one_section
 
 pub served_in_line : FirstComeFirstServed
 unfolding IsServed

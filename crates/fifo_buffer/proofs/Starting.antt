@@ -1,12 +1,12 @@
 -- A part fits at the start.
-use Rattle.std.proofs.Common.{◌≡◌, ℕ, zero, suc, slice_index_or, List, [], ◌∷◌, length, replicate, Option, None, option_map, refl, ap, sym, ◌∙◌, subst, arith}
+use Rattle.std.proofs.Common.{ℕ, ◌≡◌, zero, suc, slice_index_or, List, [], ◌∷◌, length, replicate, Option, None, option_map, refl, ap, sym, ◌∙◌, subst, arith}
 use Rattle.std.proofs.lemmas.List.{length-replicate}
-use Rattle.{event_log.specs.declared.ids.{BufId.BufId, CpuId.CpuId, LockId.LockId, Tid.Tid, TheConstants.THREADS}, layer_traits.specs.Blocks.Capacities.caps_in}
-use Rattle.layer_traits.specs.Blocks.{BufferEffects.{fresh_lock, opening_locks}, BufferProtocol.{BufferLock, buffer_monitor_rules}, QueueBlocks.inner}
+use Rattle.fifo_buffer.{proofs.Callers.kernel_of, specs.{FifoFits.{BootsSo, PartFits}, Stances.{IsFreeOf, CallStateFits, line_at}, SectionPolls.BufferEvent}}
+use Rattle.{fifo_buffer.specs.SectionPolls.FitsAt, event_log.specs.declared.ids.{BufId.BufId, CpuId.CpuId, LockId.LockId, Tid.Tid, TheConstants.THREADS}}
+use Rattle.layer_traits.specs.Blocks.{Capacities.caps_in, BufferEffects.{fresh_lock, opening_locks}, BufferProtocol.BufferLock, QueueBlocks.inner}
 use Rattle.layer_traits.specs.declared.{buffer_edits.BufferOut.BufferOut, locked.Side.Side, queue_edits.QueueBlock.QueueBlock, call_states.CallState.CallState}
-use Rattle.layer_traits.specs.Layers.{BufferLaw.{no_call, call_state_of}, Conditions.cv_rules, CvLaw.{Waiting, waiting_at_start}, QLockLaw.lock_kernel}
-use Rattle.layer_traits.specs.{Layers.{QLockLaw.slept_for, QLocking.{AreAtRest, IsAtRest}, Queues.{buffer_sections, moves_in}}, Threads.Places.count_in}
-use Rattle.fifo_buffer.specs.{FifoFits.{BootsSo, PartFits}, Stances.{IsFreeOf, CallStateFits, line_at}, SectionPolls.{BufferEvent, FitsAt}}
+use Rattle.layer_traits.specs.Layers.{BufferLaw.{no_call, call_state_of}, CvLaw.{Waiting, waiting_at_start}, QLockLaw.slept_for, QLocking.{AreAtRest, IsAtRest}}
+use Rattle.layer_traits.specs.{Layers.Queues.{buffer_sections, moves_in}, Threads.Places.count_in}
 
 -- what a list of equal items holds anywhere
 pub same_default : {A : Type 0} (n i : ℕ) (a : A) → slice_index_or (replicate n a) i a ≡ a
@@ -15,40 +15,23 @@ same_default (suc n) zero a = refl
 same_default (suc n) (suc i) a = same_default n i a
 
 -- no moves, no events
-pub no_events : (opening : LockId → Option (QueueBlock BufferLock)) (past : List BufferEvent)
-    → moves_in (lock_kernel (cv_rules buffer_monitor_rules) opening) past ≡ [] → past ≡ []
+pub no_events : (opening : LockId → Option (QueueBlock BufferLock)) (past : List BufferEvent) → moves_in (kernel_of opening) past ≡ [] → past ≡ []
 no_events opening [] none = refl
 no_events opening (e ∷ past) none = absurd cc
 
-fresh_rests : (o : Option ℕ) → IsAtRest (option_map fresh_lock o)
-fresh_rests o = grind arith
-
-rests_at : (caps : List ℕ) (lock : LockId) → IsAtRest (opening_locks caps lock)
-rests_at caps lock = grind (arith, fresh_rests)
-
 pub all_rest : (opening : LockId → Option (QueueBlock BufferLock)) → BootsSo opening → AreAtRest (inner opening)
-all_rest opening boots = subst AreAtRest (sym boots) (rests_at (caps_in opening))
-
-fresh_free : (t : Tid) (o : Option ℕ) → IsFreeOf t (option_map fresh_lock o)
-fresh_free t o = grind arith
-
-free_at : (t : Tid) (caps : List ℕ) (lock : LockId) → IsFreeOf t (opening_locks caps lock)
-free_at t caps lock = grind (arith, fresh_free)
-
-fresh_line : (t : Tid) (side : Side) (o : Option ℕ) → count_in t (line_at side (option_map fresh_lock o)) ≡ 0
-fresh_line t side o = grind arith
+all_rest opening boots = subst AreAtRest (sym boots) (grind arith)
 
 line_none : (t : Tid) (side : Side) (caps : List ℕ) (lock : LockId) → count_in t (line_at side (opening_locks caps lock)) ≡ 0
-line_none t side caps lock = grind (arith, fresh_line)
+line_none t side caps lock = grind arith
 
 no_call_fits : (opening : LockId → Option (QueueBlock BufferLock)) → BootsSo opening → (t : Tid) (slept waits : Option BufId) (call_state : CallState)
-    → slept ≡ None → waits ≡ None → call_state ≡ no_call
-    → CallStateFits (inner opening) [] t call_state.call slept waits call_state
+    → slept ≡ None → waits ≡ None → call_state ≡ no_call → CallStateFits (inner opening) [] t call_state.call slept waits call_state
 no_call_fits opening boots t slept waits call_state slept_none waits_none is =
     subst (λ (x : CallState). CallStateFits (inner opening) [] t x.call slept waits x) (sym is) (record {
       stage_is = refl;
       stance = record {
-        grip = λ lock. subst (λ locks. IsFreeOf t (locks lock)) (sym boots) (free_at t (caps_in opening) lock);
+        grip = λ lock. subst (λ locks. IsFreeOf t (locks lock)) (sym boots) (grind arith);
         line = λ lock at. ap (λ locks. count_in t (line_at at (locks lock))) boots ∙ line_none t at (caps_in opening) lock;
         drawn_is = λ w. absurd cc;
       };
@@ -56,10 +39,9 @@ no_call_fits opening boots t slept waits call_state slept_none waits_none is =
       waits_none = waits_none;
     })
 
-pub start_fits : (opening : LockId → Option (QueueBlock BufferLock)) (homes : List CpuId) (c d : CpuId) (past : List BufferEvent)
-    (own : Waiting BufferOut) (call_states : List CallState)
-    → BootsSo opening → past ≡ []
-    → own ≡ waiting_at_start homes c → call_states ≡ replicate THREADS no_call → PartFits opening d past own call_states None None
+pub start_fits : (opening : LockId → Option (QueueBlock BufferLock)) (homes : List CpuId) (c d : CpuId) (past : List BufferEvent) (own : Waiting BufferOut)
+    (call_states : List CallState) → BootsSo opening → past ≡ [] → own ≡ waiting_at_start homes c → call_states ≡ replicate THREADS no_call
+    → PartFits opening d past own call_states None None
 start_fits opening homes c d past own call_states boots none own_is call_states_are = record {
   boots = boots;
   sizes = record {

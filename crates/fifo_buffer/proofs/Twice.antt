@@ -1,6 +1,6 @@
 -- Two section polls in one poll; which thread runs after a poll, and what its CPU is at.
-use Rattle.std.proofs.Common.{◌≡◌, ◌≢◌, ◌⊎◌, Bool, true, false, List, length, Option, Some, None, IsSome, is_some, slice_set, if◌then◌else◌, ap, ◌∙◌, subst}
-use Rattle.std.proofs.{Common.arith, lemmas.{Bool.eqb-false, List.{get_or-set_other, length-set}}}
+use Rattle.std.proofs.Common.{arith, ◌≡◌, ◌≢◌, ◌⊎◌, Bool, true, false, List, length, Option, Some, None, IsSome, is_some, slice_set, if◌then◌else◌, ap, ◌∙◌}
+use Rattle.std.proofs.{Common.subst, lemmas.{Bool.eqb-false, List.{get_or-set_other, length-set}}}
 use Rattle.{event_log.specs.declared.ids.{BufId.BufId, LockId.LockId, Tid.Tid}, layer_traits.specs.declared.buffer_edits.BufferEdit.BufferEdit}
 use Rattle.layer_traits.specs.declared.{buffer_edits.BufferOut.BufferOut, calls.{Call.Call, Reply.Reply}, conditions.CvOut.CvOut, locked.QOut.QOut}
 use Rattle.layer_traits.specs.{declared.{scheds.SchedCall.SchedCall, call_states.{Stage.Stage, CallState.CallState}}, Blocks.BufferProtocol.BufferLock}
@@ -9,19 +9,6 @@ use Rattle.layer_traits.specs.Layers.{Queues.buffer_sections, BufferLaw.{buffer_
 use Rattle.{thread_blocks.specs.Queues.same_tid, fifo_buffer.specs.{Stances.{IsMark, asks_at, waits_at}, SectionPolls.{After, Ended, SectionGoes}}}
 use Rattle.fifo_buffer.{specs.SectionPolls.{MayPollSection, Sizes, is_at_once, reply_at}, proofs.{SectionPollTaken.SectionPollTaken, First.goes_called}}
 use Rattle.fifo_buffer.proofs.First.{going_same}
-
-pub at_once_why : (stage : Stage) (handed : Bool) → is_at_once stage handed ≡ true → (waits_at stage ≡ true) ⊎ (handed ≡ true)
-at_once_why stage handed is = grind arith
-
--- the section before another one in the same poll changes neither the call nor its effect
-same_call : (call_state : CallState) (stage : Stage) (handed : Bool) (out : QOut (CvOut BufferOut)) → is_at_once stage handed ≡ true
-    → ((recorded call_state stage out).call ≡ call_state.call) × ((recorded call_state stage out).effect ≡ call_state.effect)
-same_call call_state stage handed out is = grind arith
-
--- the last section keeps the effect, of which the reply tells
-reply_kept : (stage : Stage) (call : Call) (call_state : CallState) (out : QOut (CvOut BufferOut))
-    → reply_at call stage (recorded call_state stage out).effect ≡ replied call call_state stage
-reply_kept stage call call_state out = grind arith
 
 -- a call state of another thread stays where this one's is kept
 pub other_call_state : (call_states now : List CallState) (t u : Tid) (x : CallState) → now ≡ slice_set call_states t.0 x → same_tid t u ≡ false
@@ -46,14 +33,11 @@ module _ (poll_section : SectionPollTaken) where
   }
 
   module _ (handed : Bool) (is_done : done ≡ true) (at_once : is_at_once call_state.stage handed ≡ true) (called : call_state.call ≡ Some call) where
-    pub later_call : later.call ≡ Some call
-    later_call = grind (arith, same_call)
-
     pub later_effect : later.effect ≡ call_state.effect
-    later_effect = grind (arith, same_call)
+    later_effect = grind arith
 
     pub next_may : MayPollSection O (buffer_sections new) t call later left under_way
-    next_may = grind (arith, later_call)
+    next_may = grind arith
 
     -- so the call state goes on as it is
     pub next_going : going later call ≡ later
@@ -62,20 +46,19 @@ module _ (poll_section : SectionPollTaken) where
     -- why nothing was done beneath
     pub why_nothing_done : own.lock.sleep.threads.current ≡ Some t → handed ≡ is_handed own.lock.slept own.lock.sleep.threads.current
         → (IsSome (slept_for own.waits t)) ⊎ (IsSome (slept_for own.lock.slept t))
-    why_nothing_done runs is_handed_so = grind (arith, at_once_why)
+    why_nothing_done runs is_handed_so = grind arith
 
   -- the reply is read off the call state that the section poll left
   pub completes_as : (stage : Stage) → stage ≡ call_state.stage → (answer : Option Reply) → answer ≡ (if done then reply_at call stage later.effect else None)
       → answer ≡ (if done then replied call call_state call_state.stage else None)
-  completes_as stage is answer told = grind (arith, reply_kept)
+  completes_as stage is answer told = grind arith
 
 -- the marks of a thread whose call goes on are those of its stage
 abbrev pub MarksOf : Tid → Stage → Waiting BufferOut → Type 0
 MarksOf t stage own = (is_some (slept_for own.lock.slept t) ≡ true → asks_at stage ≡ true) × (is_some (slept_for own.waits t) ≡ true → waits_at stage ≡ true)
 
 pub marks_of : (O : LockId → Option BufferLock) (past : List BufferSection) (t : Tid) (call : Call) (call_state : CallState) (own : Waiting BufferOut)
-    (w : Option (SchedCall (CvCall BufferEdit)))
-    → SectionGoes O past t call call_state own w → MarksOf t call_state.stage own
+    (w : Option (SchedCall (CvCall BufferEdit))) → SectionGoes O past t call call_state own w → MarksOf t call_state.stage own
 marks_of O past t call call_state own None goes = (
   mark (buffer_of call) (asks_at call_state.stage) (slept_for own.lock.slept t) goes.fits.slept_here,
   mark (buffer_of call) (waits_at call_state.stage)
@@ -90,22 +73,16 @@ marks_of O past t call call_state own (Some s) goes =
     none : (may : Bool) (x : Option BufId) → x ≡ None → is_some x ≡ true → may ≡ true
     none may x is some = let out : is_some x ≡ false = ap is_some is in absurd (cc (out, some))
 
-asks_once : (stage : Stage) (handed : Bool) → asks_at stage ≡ true → handed ≡ true → is_at_once stage handed ≡ true
-asks_once stage handed asks is = grind arith
-
-waits_once : (stage : Stage) (handed : Bool) → waits_at stage ≡ true → is_at_once stage handed ≡ true
-waits_once stage handed waits = grind arith
-
 -- where one section poll was all, the thread neither slept for the lock nor waited
 pub exit_free : (poll_section : SectionPollTaken) (handed : Bool) → MarksOf poll_section.t poll_section.call_state.stage poll_section.own
     → ((poll_section.done ≡ true) × (is_at_once poll_section.call_state.stage handed ≡ false)) ⊎ (poll_section.done ≡ false)
     → poll_section.own.lock.sleep.threads.current ≡ Some poll_section.t
     → handed ≡ is_handed poll_section.own.lock.slept poll_section.own.lock.sleep.threads.current
     → (slept_for poll_section.own.lock.slept poll_section.t ≡ None) × (slept_for poll_section.own.waits poll_section.t ≡ None)
-exit_free poll_section handed marks exits runs handed_is = grind (arith, asks_once, waits_once)
+exit_free poll_section handed marks exits runs handed_is = grind arith
 
 -- where another section poll follows an Acquire, the thread slept for the lock
 pub why_slept : (t : Tid) (stage : Stage) (own : Waiting BufferOut) (handed : Bool) → is_at_once stage handed ≡ true → MarksOf t stage own
     → own.lock.sleep.threads.current ≡ Some t → handed ≡ is_handed own.lock.slept own.lock.sleep.threads.current → waits_at stage ≡ false
     → (slept_for own.waits t ≡ None) × (is_some (slept_for own.lock.slept t) ≡ true)
-why_slept t stage own handed once marks runs handed_is no_wait = grind (arith, at_once_why)
+why_slept t stage own handed once marks runs handed_is no_wait = grind arith

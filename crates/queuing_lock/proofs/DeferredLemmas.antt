@@ -27,8 +27,7 @@ nobody_beneath opening rest lock line = nobody_in line (inner opening lock) (sub
 
 -- a part at boot keeps nothing
 pub fresh_deferred : {F R O : Type 0} (under : Option (SchedCall (QLockEdit F R))) (deferred : Option (Outcome (QOut O))) (hand : Option Tid) → under ≡ None
-    → deferred ≡ None
-    → DeferredFits (option_map (renamed_sched lock_call) under) deferred hand
+    → deferred ≡ None → DeferredFits (option_map (renamed_sched lock_call) under) deferred hand
 fresh_deferred None None hand none nothing = tt
 fresh_deferred None (Some outcome) hand none nothing = absurd cc
 fresh_deferred (Some s) deferred hand none nothing = absurd cc
@@ -52,22 +51,19 @@ deferred_goes (Some (OnBuffer at d)) deferred hand b e duty fits may empty = sub
 
 -- who asks for a lock finds nothing kept
 pub asks_none : {F R O : Type 0} (deferred : Option (Outcome (QOut O))) (hand : Option Tid) (b : BufId) (e : QEdit F R)
-    → DeferredFits (Some (OnBuffer b e)) deferred hand
-    → IsAcquire e → deferred ≡ None
+    → DeferredFits (Some (OnBuffer b e)) deferred hand → IsAcquire e → deferred ≡ None
 asks_none None hand b e fits asks = refl
 asks_none (Some outcome) hand b e fits asks = absurd (fits.0 asks)
 
 -- and who goes on with nothing kept has nobody in hand
 hand_empty : {F R O : Type 0} (deferred : Option (Outcome (QOut O))) (hand : Option Tid) (b : BufId) (e : QEdit F R)
-    → DeferredFits (Some (OnBuffer b e)) deferred hand
-    → deferred ≡ None → hand ≡ None
+    → DeferredFits (Some (OnBuffer b e)) deferred hand → deferred ≡ None → hand ≡ None
 hand_empty None hand b e fits none = fits
 hand_empty (Some outcome) hand b e fits none = absurd cc
 
 -- what is kept is not told to one who is queued
 pub deferred_is : {F R O : Type 0} (deferred : Option (Outcome (QOut O))) (hand : Option Tid) (b : BufId) (e : QEdit F R) (outcome : Outcome (QOut O))
-    → DeferredFits (Some (OnBuffer b e)) deferred hand
-    → deferred ≡ Some outcome → is_queued outcome.out ≡ false
+    → DeferredFits (Some (OnBuffer b e)) deferred hand → deferred ≡ Some outcome → is_queued outcome.out ≡ false
 deferred_is None hand b e outcome fits is = absurd cc
 deferred_is (Some deferred) hand b e outcome fits is = let one : deferred ≡ outcome = cc in subst (λ o. is_queued o.out ≡ false) one fits.1
 
@@ -126,10 +122,9 @@ module _ {F R B O : Type 0} (rules : LockRules F R B O) (opening : LockId → Op
   left_fits (SendsHome t) past own may fits = sent own.deferred (passed_on own.threads) may.0
 
   -- what is kept after a poll agrees with the call that goes on, or with none
-  pub deferred_result : (poll_result : PollResult (QOut O)) (past : List (QueueEvent (QEdit F R))) (own : Sleeping (QOut O)) (got : Left (Sleeping (QOut O))
-      (Outcome (QOut O)))
-      → MayDo (lock_kernel rules opening) c b e poll_result past own → got ≡ left_with (lock_kernel rules opening) c b e poll_result own
-      → DeferredFits (Some (OnBuffer b e)) own.deferred own.threads.hand → DeferredIn got
+  pub deferred_result : (poll_result : PollResult (QOut O)) (past : List (QueueEvent (QEdit F R))) (own : Sleeping (QOut O))
+      (got : Left (Sleeping (QOut O)) (Outcome (QOut O))) → MayDo (lock_kernel rules opening) c b e poll_result past own
+      → got ≡ left_with (lock_kernel rules opening) c b e poll_result own → DeferredFits (Some (OnBuffer b e)) own.deferred own.threads.hand → DeferredIn got
   deferred_result poll_result past own got may leaves fits = subst (λ l. DeferredIn l) (sym leaves) (left_fits poll_result past own may fits)
 
 -- a pass leaves what is kept

@@ -24,12 +24,10 @@ module _ {F R B O : Type 0} (rules : LockRules F R B O) (opening : LockId → Op
   pub owners_stay : (c : CpuId) (b : BufId) (e : QEdit F R) (past : List (QueueEvent (QEdit F R))) → home_of (homes_in opening) (lock_caller rules e) ≡ Some c
       → is_in (lock_caller rules e) (wait_list_in Sleepers (lock_after rules (inner opening) (Buffer b) (buffer_sections past))) ≡ false
       → IsOwners rules e (owner_of rules (inner opening) (buffer_sections past) (Buffer b)) → (more : List (QueueEvent (QEdit F R)))
-      → AreOthers cpu_of_queue_event c more
-      → IsLawful (QueueAllowed (lock_kernel rules opening)) (more ++ past)
+      → AreOthers cpu_of_queue_event c more → IsLawful (QueueAllowed (lock_kernel rules opening)) (more ++ past)
       → IsOwners rules e (owner_of rules (inner opening) (buffer_sections (more ++ past)) (Buffer b))
   owners_stay c b (Acquire t) past at awake owners more others lawful =
-      not_owner t (lock_after rules (inner opening) (Buffer b) (buffer_sections (more ++ past)))
-      (preserved_by_others rules opening
+      not_owner t (lock_after rules (inner opening) (Buffer b) (buffer_sections (more ++ past))) (preserved_by_others rules opening
       (record { t = t; P = HasNothing rules t; keeps = keeps_nothing rules t; c = c; at_home = at; lock = Buffer b }) more past others lawful
       (nothing_at t (lock_after rules (inner opening) (Buffer b) (buffer_sections past)) owners awake))
   owners_stay c b (Inside f) past at awake owners more others lawful =

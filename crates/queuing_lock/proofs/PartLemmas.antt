@@ -66,8 +66,7 @@ pub record Before {F R B O : Type 0} (rules : LockRules F R B O) (opening : Lock
   pub may : MayGo (slept_for slept (lock_caller rules e)) (option_map (renamed_sched lock_call) under) b e (lock_caller rules e)
       (MayLock rules (at_the_lock rules opening) c (renamed_events lock_call past) own.threads.hand b e)
 
-module _ {F R B O : Type 0} {rules : LockRules F R B O} {opening : LockId → Option (QueueBlock (SleepState (QBlock B)))}
-    (before : Before rules opening) where
+module _ {F R B O : Type 0} {rules : LockRules F R B O} {opening : LockId → Option (QueueBlock (SleepState (QBlock B)))} (before : Before rules opening) where
   open before use {c, b, e, past, own, under, slept}
 
   -- the history and the opening here, the call under way here, who calls, and what the first poll of the call owes
@@ -186,10 +185,9 @@ module _ {F R B O : Type 0} {rules : LockRules F R B O} {opening : LockId → Op
 -- the part of another CPU agrees still
 pub others_after : {F R B O : Type 0} (rules : LockRules F R B O) (opening : LockId → Option (QueueBlock (SleepState (QBlock B)))) (c d : CpuId) → c ≢ d
     → {ActsFor : CpuId → Type 0} {b : BufId} {e : QEdit F R} {past new : List (QueueEvent (QLockEdit F R))} {own : Sleeping (QOut O)}
-    {got : Left (Sleeping (QOut O)) (Outcome (QOut O))}
-    → SleepPolled (beneath_the_lock rules opening) ActsFor d b (as_section e) past new own got → ActsFor c
-    → IsLawful (QueueAllowed (beneath_the_lock rules opening)) new
-    → (slept : List (Option BufId)) → SleptFits rules (viewed nested_lock_of opening) c (renamed_events lock_call past) slept
+    {got : Left (Sleeping (QOut O)) (Outcome (QOut O))} → SleepPolled (beneath_the_lock rules opening) ActsFor d b (as_section e) past new own got → ActsFor c
+    → IsLawful (QueueAllowed (beneath_the_lock rules opening)) new → (slept : List (Option BufId))
+    → SleptFits rules (viewed nested_lock_of opening) c (renamed_events lock_call past) slept
     → SleptFits rules (viewed nested_lock_of opening) c (renamed_events lock_call new) slept
 others_after rules opening c d apart polled acts lawful slept fits = slept_of_others rules (viewed nested_lock_of opening) c d apart acts slept
     (sleeps_renamed _ _ _ _ (locks_wrap rules opening) _ _ _ _ _ _ _ _ polled) (locks_lawful rules opening _ lawful) fits

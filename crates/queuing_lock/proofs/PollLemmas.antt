@@ -82,8 +82,7 @@ module _ {F R B O : Type 0} (rules : LockRules F R B O) where
 
   -- who is queued sleeps for the lock now
   pub queued_awaits : (e : QEdit F R) (o : Option (LockState B)) (outcome : Outcome (QOut O)) → (lock_caller rules e).0 < THREADS
-      → option_map (lock_answer rules e) o ≡ Some outcome
-      → outcome.out ≡ Queued → HasOrAwaits (lock_caller rules e) (option_map (lock_edited rules e) o)
+      → option_map (lock_answer rules e) o ≡ Some outcome → outcome.out ≡ Queued → HasOrAwaits (lock_caller rules e) (option_map (lock_edited rules e) o)
   queued_awaits e None outcome small is queued = absurd cc
   queued_awaits e (Some state) outcome small is queued =
       let one : lock_answer rules e state ≡ outcome = cc in
@@ -114,9 +113,8 @@ module _ {F R B O : Type 0} (rules : LockRules F R B O) (opening : LockId → Op
     pub slept_polled : SleptFits rules opening c new slept
     slept_polled =
         let after = subst Lawful polled.is lawful in
-        subst (λ l. SleptFits rules opening c l slept) (sym polled.is)
-        (slept_result rules opening c b e polled.poll_result (polled.others ++ old) slept after none
-        (slept_others rules opening c polled.others old (polled.foreign c acts) (before polled.poll_result (polled.others ++ old) after) slept fits))
+        subst (λ l. SleptFits rules opening c l slept) (sym polled.is) (slept_result rules opening c b e polled.poll_result (polled.others ++ old) slept after
+        none (slept_others rules opening c polled.others old (polled.foreign c acts) (before polled.poll_result (polled.others ++ old) after) slept fits))
 
     queued_result : (poll_result : PollResult (QOut O)) (past : List (QueueEvent (QEdit F R))) (outcome : Outcome (QOut O)) → (lock_caller rules e).0 < THREADS
         → MayDo K c b e poll_result past own → (left_with K c b e poll_result own).answer ≡ Some outcome → outcome.out ≡ Queued
@@ -160,8 +158,7 @@ module _ {F R B O : Type 0} (rules : LockRules F R B O) (opening : LockId → Op
         go : (poll_result : PollResult (QOut O)) → Lawful (seen_with K by b e poll_result (polled.others ++ old))
             → SleptFits rules opening c (seen_with K by b e poll_result (polled.others ++ old)) slept
         go WaitsStill lawful = slept_others rules opening c polled.others old (polled.foreign c acts) lawful slept fits
-        go (Does outcome) lawful =
-            slept_others rules opening c (event by (OnBuffer b e) ∷ polled.others) old (not_by, polled.foreign c acts) lawful slept fits
+        go (Does outcome) lawful = slept_others rules opening c (event by (OnBuffer b e) ∷ polled.others) old (not_by, polled.foreign c acts) lawful slept fits
         go (SendsHome t) lawful =
             slept_others rules opening c (event by (Push (queue_for (homes_in opening) by t) t) ∷ polled.others) old
             (not_by, polled.foreign c acts) lawful slept fits

@@ -26,9 +26,8 @@ pub record Settled {E B O : Type 0} (R : Rules E B O) (table_view : TableView B)
 module _ {E B O : Type 0} (R : Rules E B O) where
   -- where all keys are in, no CPU is inside a lock, and each block is at home
   pub settles : (K : WordKind) (z : TableId) (start : List (LockId × B)) (n : ℕ) (table_view : TableView B) (v : View E B) (seat_views : List (SeatView E B))
-      (id : ℕ) (words : List ℕ) (homes : List (Home E B)) → table_view_of z start n ≡ table_view
-      → AreDistinct start → Gathered table_view.start v seat_views → Covers table_view.cpus seat_views → Final (Seen (TableInv K R n start) id v) words homes
-      → Settled R table_view seat_views homes
+      (id : ℕ) (words : List ℕ) (homes : List (Home E B)) → table_view_of z start n ≡ table_view → AreDistinct start → Gathered table_view.start v seat_views
+      → Covers table_view.cpus seat_views → Final (Seen (TableInv K R n start) id v) words homes → Settled R table_view seat_views homes
   settles K z start n table_view v seat_views id words homes table_view_is distinct_there g covers final_there =
       let start_is : start ≡ table_view.start = ap (λ (b : TableView B). b.start) table_view_is in
       let distinct = rw start_is at distinct_there in
@@ -87,8 +86,7 @@ module _ {E B O : Type 0} (R : Rules E B O) where
 
   -- a key whose CPU is outside carries no slot
   pub absorb_carries : (cpu : CpuId) (ticket : ℕ) (table : TableId) (o : Me (Home E B) (View E B)) (d : SeatView E B) → seat_view_of cpu table o ≡ d
-      → IsKey R cpu ticket o
-      → lock_phase d.cpu d.seen ≡ Idle → o.1 ≡ []
+      → IsKey R cpu ticket o → lock_phase d.cpu d.seen ≡ Idle → o.1 ≡ []
   absorb_carries cpu ticket table o d d_is key over = rw (ap (λ (d : SeatView E B). lock_phase d.cpu d.seen) d_is ∙ over) at key.held
 
   -- what `close` gives
@@ -112,9 +110,8 @@ module _ {E B O : Type 0} (R : Rules E B O) where
 
   -- each slot has a block
   pub all_blocks : (table_view : TableView B) (seat_views : List (SeatView E B)) (homes : List (Home E B)) (locks : List LockId)
-      → Settled R table_view seat_views homes
-      → locks ≡ map (λ (o : LockId × B). o.0) table_view.start
-      → (i : ℕ) → i < length locks → (y : Home E B) × (get_elem? homes i ≡ some y) × IsSome y.block
+      → Settled R table_view seat_views homes → locks ≡ map (λ (o : LockId × B). o.0) table_view.start → (i : ℕ) → i < length locks
+      → (y : Home E B) × (get_elem? homes i ≡ some y) × IsSome y.block
   all_blocks table_view seat_views homes locks settled locks_are i below =
       let within : i < length table_view.start = subst (λ m. i < m) (ap length locks_are ∙ length-map table_view.start (λ (o : LockId × B). o.0)) below in
       let o = there_is table_view.start i within in

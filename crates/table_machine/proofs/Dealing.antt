@@ -34,8 +34,7 @@ module _ (K : WordKind) {E B O : Type 0} (R : Rules E B O) (n : ℕ) (start : Li
 
   -- the table that `open` makes
   pub opening_inv : IsWordKind K → (words : List ℕ) (homes : List (Home E B)) → n ≤ CPUS → AreFirst K.opens (length start) (length start) words
-      → homes ≡ map (λ (o : LockId × B). fresh_home o.1) start
-      → TableInv K R n start (opening words homes (caught_up start (cpus_from 0 n) []))
+      → homes ≡ map (λ (o : LockId × B). fresh_home o.1) start → TableInv K R n start (opening words homes (caught_up start (cpus_from 0 n) []))
   opening_inv law words homes few first are =
       let v : View E B = caught_up start (cpus_from 0 n) [] in
       record {

@@ -33,11 +33,9 @@ module _ {E B O : Type 0} (R : Rules E B O) where
   stands_after cpu e v w its moves = rw (← its) (ap (lock_phase (cpu_of_event e)) moves.adds.is ∙ lock_phase_own e (moves.adds.others ++ v.seen))
 
   pub draw_reads : (cpu : CpuId) (kept : ℕ) (table : TableId) (v w : Me (Home E B) (View E B)) (slots word found : ℕ) (lock : LockId) (d : SeatView E B)
-      (b : TableView B)
-      → seat_view_of cpu table v ≡ d → IsKey R cpu kept v
-      → IsOf b d → IsSome (opened d.start lock) → lock_phase d.cpu d.seen ≡ Idle → word ≡ word_at (rank_of b.start lock) 0
-      → Drew R (step slots word 1 0 none) v found w → (d.start ≡ w.0.start) × Adds (IsThisCpu d.cpu) cpu_of_event (Draw d.cpu lock found) d.seen w.0.seen
-      × IsKey R cpu found w
+      (b : TableView B) → seat_view_of cpu table v ≡ d → IsKey R cpu kept v → IsOf b d → IsSome (opened d.start lock) → lock_phase d.cpu d.seen ≡ Idle
+      → word ≡ word_at (rank_of b.start lock) 0 → Drew R (step slots word 1 0 none) v found w
+      → (d.start ≡ w.0.start) × Adds (IsThisCpu d.cpu) cpu_of_event (Draw d.cpu lock found) d.seen w.0.seen × IsKey R cpu found w
   draw_reads cpu kept table v w slots word found lock d b d_is key of exists outside word_is told =
       let own : owner v.0.cpus ≡ cpu = ap (λ (u : View E B). owner u.cpus) key.view in
       let started : v.0.start ≡ b.start = rw (← d_is) at of.1 in

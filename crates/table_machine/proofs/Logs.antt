@@ -52,8 +52,7 @@ module _ {E B : Type 0} (edited : E → B → B) (opening : LockId → Option B)
 
   -- while a CPU is inside, nobody else edits the block
   pub inside_keeps : (c : CpuId) (lock : LockId) (t : ℕ) (more log : List (Event (Mark E))) → IsLegalWords (more ++ log) → AreOthers cpu_of_event c more
-      → lock_phase c log ≡ Holding lock t
-      → block_after edited opening lock (sections (more ++ log)) ≡ block_after edited opening lock (sections log)
+      → lock_phase c log ≡ Holding lock t → block_after edited opening lock (sections (more ++ log)) ≡ block_after edited opening lock (sections log)
   inside_keeps c lock t [] log legal h ci = refl
   inside_keeps c lock t (Draw d l k ∷ more) log legal h ci = inside_keeps c lock t more log legal.1 h.1 ci
   inside_keeps c lock t (Look d l k r ∷ more) log legal h ci = inside_keeps c lock t more log legal.1 h.1 ci

@@ -20,9 +20,8 @@ module _ {E B O : Type 0} (R : Rules E B O) where
     pub key : IsKey R cpu ticket w
 
   pub meet_reads : (cpu : CpuId) (ticket : ℕ) (table : TableId) (v u w : Me (Home E B) (View E B)) (o : View E B) (slots found : ℕ) (d : SeatView E B)
-      → seat_view_of cpu table v ≡ d
-      → IsKey R cpu ticket v → o.cpus ≡ []
-      → u ≡ (joined v.0 o, v.1) → Met R (step slots 0 0 0 none) u found w → MeetDone d cpu ticket o.seen w
+      → seat_view_of cpu table v ≡ d → IsKey R cpu ticket v → o.cpus ≡ [] → u ≡ (joined v.0 o, v.1) → Met R (step slots 0 0 0 none) u found w
+      → MeetDone d cpu ticket o.seen w
   meet_reads cpu ticket table v u w o slots found d d_is key nobody u_is told =
       let met = rw u_is at told in
       let cpu_is : v.0.cpus ≡ cpu ∷ [] = ap (λ (u : View E B). u.cpus) key.view in
@@ -38,9 +37,8 @@ module _ {E B O : Type 0} (R : Rules E B O) where
 
   -- a load of the word that is never written
   pub meet_asks : (K : WordKind) (table z : TableId) (start : List (LockId × B)) (n id : ℕ) (ranks : List ℕ) (locks : List LockId) (now : TableId)
-      (v u : Me (Home E B) (View E B)) (o : View E B) → IsLaidOut start z.words z.slots ranks locks
-      → (table ≡ z) × (v.0.start ≡ start) → now ≡ table → u ≡ (joined v.0 o, v.1)
-      → (now ≡ z) × (0 < z.words) × Allows (TableInv K R n start) z.slots id u 0 (λ m. m) (Met R (step z.slots 0 0 0 none) u)
+      (v u : Me (Home E B) (View E B)) (o : View E B) → IsLaidOut start z.words z.slots ranks locks → (table ≡ z) × (v.0.start ≡ start) → now ≡ table
+      → u ≡ (joined v.0 o, v.1) → (now ≡ z) × (0 < z.words) × Allows (TableInv K R n start) z.slots id u 0 (λ m. m) (Met R (step z.slots 0 0 0 none) u)
   meet_asks K table z start n id ranks locks now v u o laid of now_is u_is = (
     now_is ∙ of.0,
     has_words start z.words z.slots ranks locks laid,

@@ -87,8 +87,7 @@ module _ {E B : Type 0} (n : ℕ) (views : List (View E B)) (log : List (Event (
       each_sees n (set (set views id (joined v w)) other (caught_up [] [] [])) log seat
       (all_set (FitsAt n log seat) (set views id (joined v w)) other (caught_up [] [] [])
       (fits_of [] [] log [] (ends_nil log) (λ c has. absurd has), λ c o. absurd (owns_viewed {E = E} {B = B} [] [] [] c o))
-      (λ i u away at. all_set (λ i u. i ≢ other → FitsAt n log seat i u) views id (joined v w)
-      (λ away. (
+      (λ i u away at. all_set (λ i u. i ≢ other → FitsAt n log seat i u) views id (joined v w) (λ away. (
         record { front = mine.0.front; told = given.0.front; cpus = mine.0.cpus; lent = given.0.cpus },
         λ c. ⊎_elim
             (λ has. let own = mine.1 c (inl has) in (stays c id away own.0, own.1))
@@ -109,6 +108,5 @@ module _ {E B : Type 0} (n : ℕ) (views : List (View E B)) (log : List (Event (
       → ((i : ℕ) (u : View E B) → get_elem? views i ≡ some u → (c : CpuId) → Owns c u → c.0 ≢ k) → Sees n (views ++ w ∷ []) log
   sees_dealt w fits k one below free =
       let seat : ℕ → ℕ = λ m. if m == k then length views else s.seat_of m in
-      each_sees n (views ++ w ∷ []) log seat (all_end (FitsAt n log seat) views w
-      (fits, λ c o. (rw (eq-eqb c.0 k (one c o)), rw (one c o) below))
+      each_sees n (views ++ w ∷ []) log seat (all_end (FitsAt n log seat) views w (fits, λ c o. (rw (eq-eqb c.0 k (one c o)), rw (one c o) below))
       (λ i u at. (s.fits i u at, λ c o. (rw (ne_eqb c.0 k (free i u at c o)) (s.apart i u c at o), s.known i u c at o))))

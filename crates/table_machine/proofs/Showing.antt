@@ -78,17 +78,15 @@ module _ (K : WordKind) (law : IsWordKind K) {E B : Type 0} (edited : E → B �
             home = old.home;
             at = same k away ∙ old.at;
             words_are = law.same (draws lock (e ∷ log)) (frees lock (e ∷ log)) (words_at_rank words k)
-                (words_at_rank (set words (word_at (rank_of start (event_lock e)) word) x) k)
-                (λ i small. get_or-set_other words (word_at (rank_of start (event_lock e)) word) (word_at k i) x 0
-                (locks_apart k (rank_of start (event_lock e)) i word away small within))
+                (words_at_rank (set words (word_at (rank_of start (event_lock e)) word) x) k) (λ i small. get_or-set_other words
+                (word_at (rank_of start (event_lock e)) word) (word_at k i) x 0 (locks_apart k (rank_of start (event_lock e)) i word away small within))
                 (counts_elsewhere (λ taken given. K.Fit taken given (words_at_rank words k)) e log lock other old.words_are);
             is = home_elsewhere edited (opened start) lock e log may other (home_block old.home) old.is;
           }
 
   -- before the first event the words are as at the start, and each slot has the opening block
   pub shows_opening : (words : List ℕ) (homes : List (Home E B)) → AreFirst K.opens (length start) (length start) words
-      → homes ≡ map (λ (o : LockId × B). fresh_home o.1) start
-      → Shows K edited start words (map some homes) []
+      → homes ≡ map (λ (o : LockId × B). fresh_home o.1) start → Shows K edited start words (map some homes) []
   shows_opening words homes first are = record {
     word_length = first.count;
     home_length = length-map homes some ∙ (ap length are ∙ length-map start (λ (o : LockId × B). fresh_home {E = E} o.1));

@@ -178,10 +178,9 @@ module _ (K : WordKind) {E B O : Type 0} (R : Rules E B O) (n : ℕ) (start : Li
   looks_allowed law slots id cpu seen lock ticket exists waits s kept count at fits =
       let k : ℕ = rank_of start lock in
       let serves : Bool = K.serves ticket (slice_index s.words (word_at k (K.looks_at ticket))) in
-      look_ends law s kept id cpu seen lock ticket exists at waits serves refl
-      (sym (serves_exactly kept.log (words_legal (R.allowed (opened start)) kept.log kept.legal) cpu lock ticket
-      (lock_phase_since cpu kept.log seen (since s kept id cpu seen at) ∙ waits) serves
-      (λ spot. law.hits (draws lock kept.log) (frees lock kept.log) (words_at_rank s.words k) (kept.shows.each lock exists).words_are ticket spot)))
+      look_ends law s kept id cpu seen lock ticket exists at waits serves refl (sym (serves_exactly kept.log
+      (words_legal (R.allowed (opened start)) kept.log kept.legal) cpu lock ticket (lock_phase_since cpu kept.log seen (since s kept id cpu seen at) ∙ waits)
+      serves (λ spot. law.hits (draws lock kept.log) (frees lock kept.log) (words_at_rank s.words k) (kept.shows.each lock exists).words_are ticket spot)))
 
   -- the CPU inside a lock has the ticket that is served
   served_ticket : (log : List (Event (Mark E))) → IsLegalWords log → (cpu : CpuId) (lock : LockId) (ticket : ℕ) → lock_phase cpu log ≡ Holding lock ticket
@@ -197,12 +196,9 @@ module _ (K : WordKind) {E B O : Type 0} (R : Rules E B O) (n : ℕ) (start : Li
 
   -- a CPU that is inside gives the lock on, by a store or by adding 1, whichever the words want
   pub frees_allowed : IsWordKind K → (slots id : ℕ) (cpu : CpuId) (seen : List (Event (Mark E))) (lock : LockId) (ticket : ℕ) (edit : E) (block : B)
-      (y : Home E B)
-      → IsSome (opened start lock)
-      → lock_phase cpu seen ≡ Holding lock ticket → y.block ≡ Some block → y.edit ≡ Some edit
+      (y : Home E B) → IsSome (opened start lock) → lock_phase cpu seen ≡ Holding lock ticket → y.block ≡ Some block → y.edit ≡ Some edit
       → option_map (R.edited edit) (block_after R.edited (opened start) lock (sections seen)) ≡ Some block
-      → StaysAllowed (R.allowed (opened start)) (sections seen) (section cpu lock edit)
-      → (f : ℕ → ℕ) → ((m : ℕ) → f m ≡ given_on (K.stores ticket) m)
+      → StaysAllowed (R.allowed (opened start)) (sections seen) (section cpu lock edit) → (f : ℕ → ℕ) → ((m : ℕ) → f m ≡ given_on (K.stores ticket) m)
       → Allows (TableInv K R n start) slots id (mine start cpu seen, (rank_of start lock, y) ∷ []) (word_at (rank_of start lock) (K.gives_at ticket)) f
       (λ _. Freed R (mine start cpu seen, (rank_of start lock, y) ∷ []))
   frees_allowed law slots id cpu seen lock ticket edit block y exists in_lock has_block has_edit is_edited stays f f_is s kept count at fits =
@@ -293,5 +289,4 @@ module _ (K : WordKind) {E B O : Type 0} (R : Rules E B O) (n : ℕ) (start : Li
       (sees_set n s.views kept.log kept.sees id v at [] (λ c away. tt) v fits (λ c o. o)) v.start v.seen fits.front)
 
   pub notes_join : (id : ℕ) (v : View E B) (other : ℕ) (w : View E B) → Joins (TableInv K R n start) id v other w (joined v w) (caught_up [] [] [])
-  notes_join id v other w s kept at apart there =
-      same_log s _ kept kept.shows (sees_join n s.views kept.log kept.sees id v at other w apart there)
+  notes_join id v other w s kept at apart there = same_log s _ kept kept.shows (sees_join n s.views kept.log kept.sees id v at other w apart there)

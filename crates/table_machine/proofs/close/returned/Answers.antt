@@ -25,9 +25,8 @@ loop-i-preserved g c =
       given = ap length c.push_reserved.ensures.items ∙ (length-append c.loop-i.blocks.items _ ∙ ap (λ n. n + 1) c.loop-i.invariant.given);
       room = rw c.push_reserved.ensures.capacity c.loop-i.invariant.room;
       done = given_more c.args.locks.items (slots_items c.args.closed.slots) (slots_items c.loop-i.closed.slots) c.loop-i.blocks.items
-          c.push_reserved.new.self.items c.loop-i.i c.index.result.now c.take-slot.result c.in-Some.block
-          c.loop-i.invariant.given c.push_reserved.ensures.items below
-          c.index.ensures c.take-slot.ensures.value c.loop-i.invariant.same
+          c.push_reserved.new.self.items c.loop-i.i c.index.result.now c.take-slot.result c.in-Some.block c.loop-i.invariant.given c.push_reserved.ensures.items
+          below c.index.ensures c.take-slot.ensures.value c.loop-i.invariant.same
           (ap (λ (h : Home _ _). h.block) (sym c.into_home-left.ensures) ∙ c.in-Some.is) c.loop-i.invariant.done;
     }
 

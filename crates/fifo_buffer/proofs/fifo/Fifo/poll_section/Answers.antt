@@ -1,10 +1,10 @@
 use Rattle.std.proofs.{Common.{◌≡◌, ◌∙◌, ap, arith, inl, inr, sym}, lemmas.List.get_or-set_same}
+use Rattle.fifo_buffer.proofs.{Callers.{monitored, Caller}, Recorded.{recorded_left, runs_awake, runs_home}}
+use Rattle.fifo_buffer.{proofs.{Events.caller_is, Polls.may_poll_section, ConditionPolls.polled_section}, specs.SectionPolls.{outcome_of, recorded_if}}
 use Rattle.{event_log.specs.declared.ids.LockId.TheVariants.Buffer, layer_traits.specs.Layers.BufferLaw.{buffer_of, going, left_recorded, plan_beneath}}
-use Rattle.layer_traits.specs.Layers.{BufferLaw.{no_call, section_at, call_state_of}, Conditions.cv_rules, QLocking.{lock_caller, lock_moves, lock_rules}}
-use Rattle.layer_traits.specs.Blocks.{BufferProtocol.{buffer_monitor_rules, buffer_rules}, Payloads.told_by, QueueBlocks.homes_in, QueueRules.queue_rules}
-use Rattle.{layer_traits.{specs.Polling.Plans.table_of, proofs.{CallLemmas.follows_raised, ToldLemmas.told_some}}, fifo_buffer.specs.SectionPolls.outcome_of}
-use Rattle.fifo_buffer.{specs.SectionPolls.recorded_if, proofs.{Callers.Caller, Recorded.{recorded_left, runs_awake, runs_home}, Events.caller_is}}
-use Rattle.fifo_buffer.proofs.{Polls.may_poll_section, ConditionPolls.polled_section}
+use Rattle.layer_traits.specs.Layers.{BufferLaw.{no_call, section_at, call_state_of}, QLocking.{lock_caller, lock_moves, lock_rules}}
+use Rattle.layer_traits.specs.{Blocks.{BufferProtocol.buffer_rules, Payloads.told_by, QueueBlocks.homes_in, QueueRules.queue_rules}, Polling.Plans.table_of}
+use Rattle.layer_traits.proofs.{CallLemmas.follows_raised, ToldLemmas.told_some}
 use Rattle.layer_traits.specs.declared.moves.WaitList.TheVariants as wait_list
 use Rattle.fifo_buffer.proofs.fifo.Fifo.poll_section.Goals as goal
 
@@ -19,10 +19,8 @@ poll-answer-requires-clause-call g c =
     let home = runs_home (C.opening m) cpu (C.seen m) (C.own p).lock.sleep.threads c.args.t (law.moves_legal m cpu acts)
     (law.stands p m c.requires.fits).stands c.requires.may.current in
     let edit_is = c.section-edit.ensures ∙ ap (section_at c.args.t c.args.call.now) c.requires.stage in
-    rw (edit_is, c.buffer-buffer.ensures)
-    (may_poll_section (C.opening m) cpu c.args.t home c.args.call.now (going
-    (call_state_of c.args.self.now.call_states.call_states c.args.t) c.args.call.now) (C.seen m)
-    (C.own p) (C.under_way p) c.requires.may)
+    rw (edit_is, c.buffer-buffer.ensures) (may_poll_section (C.opening m) cpu c.args.t home c.args.call.now
+    (going (call_state_of c.args.self.now.call_states.call_states c.args.t) c.args.call.now) (C.seen m) (C.own p) (C.under_way p) c.requires.may)
 
 pub returns-clause-section_polled : goal.returns-clause-section_polled
 returns-clause-section_polled g c =
@@ -68,8 +66,7 @@ returns-clause-section_polled g c =
       old = C.seen m;
     } in
     let poll_section = polled_section caller (C.seen c.poll-answer.new.m) call_state (C.under_way p) (C.under_way c.poll-answer.new.self) c.requires.may.called
-    c.requires.may.goes
-    lawful awake (lock_caller (cv_rules buffer_monitor_rules) (section_at t call call_state.stage)) (caller_is t call call_state.stage)
+    c.requires.may.goes lawful awake (lock_caller monitored (section_at t call call_state.stage)) (caller_is t call call_state.stage)
     (record { own = C.own c.poll-answer.new.self; answer = told }) seen (λ some. ap C.seen (still (inl some)))
     (λ some. ap C.seen (still (inr some))) in
     rw (c.record_answer-ended.ensures.done, ← told_some outcome_of c.poll-answer.result c.poll-answer.new.payload.parcel, later) poll_section

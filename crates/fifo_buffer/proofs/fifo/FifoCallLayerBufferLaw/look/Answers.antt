@@ -19,12 +19,9 @@ returns g c =
       waits = search rules;
       framed = framed_over _ framed refl refl
           (rw (framed.stays.opening, framed.cpu, c.look.ensures.own, c.look.ensures.call)
-          (part_grown (C.opening m) cpu grown.others (C.seen m) (C.seen n) (grown.foreign cpu acts) lawful grown.is
-          (C.own p.lower) p.call_states.call_states (C.under_way p.lower) p.calling c.requires.fits.1))
-          (λ q other fits part. rw framed.stays.opening
-          (part_grown (C.opening m) (C.cpu_of q.lower) grown.others (C.seen m) (C.seen n)
-          (grown.foreign (C.cpu_of q.lower) (law.own_cpu q.lower m fits)) lawful grown.is (C.own q.lower) q.call_states.call_states
-          (C.under_way q.lower) q.calling part));
+          (part_grown (C.opening m) cpu grown.others (C.seen m) (C.seen n) (grown.foreign cpu acts) lawful grown.is c.requires.fits.1))
+          (λ q other fits part. rw framed.stays.opening (part_grown (C.opening m) (C.cpu_of q.lower) grown.others (C.seen m) (C.seen n)
+          (grown.foreign (C.cpu_of q.lower) (law.own_cpu q.lower m fits)) lawful grown.is part));
       own = search rules;
       inside = search rules;
       under_way = search rules;

@@ -7,15 +7,13 @@ pub returns-clause-seen : goal.returns-clause-seen
 returns-clause-seen g c =
     let C = g.C.ThreadLayer in
     let m = c.args.m.now in
-    rw c.pass.ensures.framed.stays.opening
-    (pass_seen (pass_done (C.opening m) c.args.call c.pass.result c.pass.ensures.seen) _ (λ d both. both.0))
+    rw c.pass.ensures.framed.stays.opening (pass_seen (pass_done (C.opening m) c.args.call c.pass.result c.pass.ensures.seen) _ (λ d both. both.0))
 
 pub returns-clause-passed : goal.returns-clause-passed
 returns-clause-passed g c =
     let C = g.C.ThreadLayer in
     let m = c.args.m.now in
-    rw c.pass.ensures.framed.stays.opening
-    (pass_moved (pass_done (C.opening m) c.args.call c.pass.result c.pass.ensures.seen) _ (λ d both. both.0))
+    rw c.pass.ensures.framed.stays.opening (pass_moved (pass_done (C.opening m) c.args.call c.pass.result c.pass.ensures.seen) _ (λ d both. both.0))
 
 pub returns-clause-framed : goal.returns-clause-framed
 returns-clause-framed g c =
@@ -31,12 +29,8 @@ returns-clause-framed g c =
     let before = lawful_before (C.opening m) (pass_events (homes_in (C.opening m)) cpu c.args.call
     (is_some (done_if {O = BufferOutcome} c.pass.result))) (polled.others ++ C.seen m) (C.seen c.pass.new.m) (pass_grown pass)
     (rw framed.stays.opening at (law.lawful c.pass.new.m cpu (framed.stays.acts cpu acts))) in
-    let on = part_passed pass cpu (polled.foreign cpu acts) before (C.own p.lower) p.call_states.call_states
-    (C.under_way p.lower) p.calling c.requires.fits.1 in
-    framed_over _ framed refl refl
-    (rw (framed.stays.opening, framed.cpu, c.pass.ensures.call)
-    (passed_own (C.opening m) cpu (C.seen c.pass.new.m) (C.own p.lower) (C.own c.pass.new.self) p.call_states.call_states
-    (C.under_way p.lower) p.calling c.args.call (is_some c.pass.result) c.requires.goes_on c.pass.ensures.rest on))
-    (λ q other fits part. rw framed.stays.opening
-    (part_passed pass (C.cpu_of q.lower) (polled.foreign (C.cpu_of q.lower) (law.own_cpu q.lower m fits)) before
-    (C.own q.lower) q.call_states.call_states (C.under_way q.lower) q.calling part))
+    let on = part_passed pass cpu (polled.foreign cpu acts) before c.requires.fits.1 in
+    framed_over _ framed refl refl (rw (framed.stays.opening, framed.cpu, c.pass.ensures.call)
+    (passed_own (C.opening m) cpu (C.seen c.pass.new.m) (C.own p.lower) (C.own c.pass.new.self) p.call_states.call_states (C.under_way p.lower) p.calling
+    c.args.call (is_some c.pass.result) c.requires.goes_on c.pass.ensures.rest on)) (λ q other fits part. rw framed.stays.opening
+    (part_passed pass (C.cpu_of q.lower) (polled.foreign (C.cpu_of q.lower) (law.own_cpu q.lower m fits)) before part))

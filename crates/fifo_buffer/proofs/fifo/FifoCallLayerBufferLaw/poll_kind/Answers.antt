@@ -1,20 +1,20 @@
 use Rattle.std.proofs.Common.{rules, ◌≡◌, ◌≢◌, ◌∙◌, List, ap, sym, subst, refl, true, false, Option, Some, inl, inr, ◌⊎◌, None, if◌then◌else◌, IsSome}
 use Rattle.std.proofs.Common.{slice_set, arith}
+use Rattle.fifo_buffer.proofs.fifo.FifoCallLayerBufferLaw.poll_kind.Goals.{else-first-via-then-first+else-polled}
+use Rattle.fifo_buffer.proofs.fifo.FifoCallLayerBufferLaw.poll_kind.Goals.{else-first-via-then-first+then-polled+else-polled-2, Start, After-complete, in-Idle}
+use Rattle.fifo_buffer.proofs.fifo.FifoCallLayerBufferLaw.poll_kind.Goals.{in-Enters, in-Tries, in-Waits, in-AcquiresAgain, in-Signals, in-SignalsOwn}
+use Rattle.fifo_buffer.proofs.{fifo.FifoCallLayerBufferLaw.poll_kind.{Goals.{in-Releases, else-first-via-else-first}, Given.Over}, Frames.framed_over}
+use Rattle.fifo_buffer.proofs.{Chains.{follows_for, one_follows, two_follows}, Finish.{called_by, poll_done, others_after}, First.{acquires_at, first_may}}
+use Rattle.fifo_buffer.proofs.{First.goes_called, Recorded.runs_home, Parts.{moves_grown, other_part}, SectionPollTaken.{SectionPollTaken, taken}}
+use Rattle.fifo_buffer.proofs.Twice.{apart_call_state, ended_of, next_going, completes_as, exit_free, marks_of, later_effect, next_may, other_call_state}
+use Rattle.fifo_buffer.{proofs.Twice.{sizes_of, why_nothing_done, why_slept}, specs.{declared.fifo.{Fifo.Fifo, SectionPoll.SectionPoll}, SectionPolls.FitsAt}}
+use Rattle.fifo_buffer.specs.{SectionPolls.{MayPollSection, SectionPolled, is_at_once}, Laws.OwnedLaws.block_there, Stances.called_at}
 use Rattle.{event_log.specs.declared.ids.{CpuId.CpuId, LockId.TheVariants.Buffer, Tid.Tid}, layer_traits.specs.declared.calls.Reply.Reply}
 use Rattle.layer_traits.specs.{declared.call_states.{Stage.Stage, CallState.CallState}, Layers.BufferLaw.{Buffering, answer_in, buffer_of, buffering}}
 use Rattle.layer_traits.specs.Layers.{BufferLaw.{fifo_plan, going, stage_plan, replied, call_state_of}, QLockLaw.{is_handed, slept_for}, QLocking.lock_moves}
 use Rattle.layer_traits.specs.{Layers.{QLocking.lock_rules, Queues.buffer_sections}, Blocks.{BufferProtocol.buffer_rules, QueueRules.queue_rules}}
 use Rattle.layer_traits.specs.{Blocks.QueueBlocks.{homes_in, inner}, Polling.{Framed.Framed, Plans.{Follows, Left, table_of}}, Threads.Places.home_of}
-use Rattle.{thread_blocks.specs.Queues.same_tid, fifo_buffer.proofs.{Frames.framed_over, Chains.{follows_for, one_follows, two_follows}, Finish.called_by}}
-use Rattle.fifo_buffer.proofs.{Finish.{poll_done, others_after}, First.{acquires_at, first_may, goes_called}, Recorded.runs_home, Parts.moves_grown}
-use Rattle.fifo_buffer.proofs.{Parts.other_part, SectionPollTaken.{SectionPollTaken, taken}, Twice.{apart_call_state, ended_of, next_going, completes_as}}
-use Rattle.fifo_buffer.proofs.Twice.{exit_free, marks_of, later_effect, next_may, other_call_state, sizes_of, why_nothing_done, why_slept}
-use Rattle.fifo_buffer.proofs.fifo.FifoCallLayerBufferLaw.poll_kind.{Given.Over, Goals.{Start, After-complete, in-Idle, in-Enters, in-Tries, in-Waits}}
-use Rattle.fifo_buffer.proofs.fifo.FifoCallLayerBufferLaw.poll_kind.Goals.{in-AcquiresAgain, in-Signals, in-SignalsOwn, in-Releases}
-use Rattle.fifo_buffer.proofs.fifo.FifoCallLayerBufferLaw.poll_kind.Goals.{else-first-via-then-first+then-polled+else-polled-2}
-use Rattle.fifo_buffer.proofs.fifo.FifoCallLayerBufferLaw.poll_kind.Goals.{else-first-via-then-first+else-polled, else-first-via-else-first}
-use Rattle.fifo_buffer.specs.{declared.fifo.{Fifo.Fifo, SectionPoll.SectionPoll}, SectionPolls.{FitsAt, MayPollSection, SectionPolled, is_at_once}}
-use Rattle.fifo_buffer.specs.{Laws.OwnedLaws.block_there, Stances.called_at}
+use Rattle.thread_blocks.specs.Queues.{same_tid}
 use Rattle.fifo_buffer.proofs.fifo.FifoCallLayerBufferLaw.poll_kind.Goals as goal
 
 -- what is known when the poll begins
@@ -201,14 +201,11 @@ sections-preserved g c =
           second in
           subst (λ (o : Buffering). Follows Acts0 table (C.opening m) cpu (fifo_plan homes cpu t call o) (C.acts m) new got)
           (rw c.if-first.true at before.begins)
-          (two_follows Acts0 table (C.opening m) cpu homes t call goes.stage goes (buffering (C.own c.sections.self.lower) states)
-          (C.acts m) (C.acts m1) new
+          (two_follows Acts0 table (C.opening m) cpu homes t call goes.stage goes (buffering (C.own c.sections.self.lower) states) (C.acts m) (C.acts m1) new
           (record { own = own1; answer = if c.match-stage.polled.ended then replied call goes goes.stage else None }) got handed end.recorded_is.0
-          at_once end.recorded_is.1 (λ w. sym (did.polled.over w) ∙ c.if-polled.true)
-          (why_slept t goes.stage (C.own c.sections.self.lower) handed at_once
+          at_once end.recorded_is.1 (λ w. sym (did.polled.over w) ∙ c.if-polled.true) (why_slept t goes.stage (C.own c.sections.self.lower) handed at_once
           (marks_of O (buffer_sections (C.seen m)) t call goes (C.own c.sections.self.lower) (C.under_way c.sections.self.lower) before.on.may.goes)
-          before.on.may.current refl)
-          end.free.0 end.free.1 (did.followed stepwise)
+          before.on.may.current refl) end.free.0 end.free.1 (did.followed stepwise)
           (subst (λ log. Follows Acts0 table (C.opening m) cpu (stage_plan homes cpu t call later.stage later own1) log new got)
           (sym (ap C.acts still)) second1));
     }
@@ -271,83 +268,69 @@ module _ (g : Over) (c : After-complete g) where
 
 -- what the whole poll did
 pub returns-in-sections : goal.returns-in-sections
-returns-in-sections g c = record {
-  nothing = λ none. let there = c.requires.there in absurd (omega (arith, none, there));
-  called = λ there.
-      let C = g.C.ThreadLayer in
-      let m = c.args.m.now in
-      let before = c.sections.invariant in
-      rw (opens g c, c.complete.ensures.call_states)
-      (called_by (last g c) (home g (at g c)) before.on.may.called (states g c) (states1 g c) refl (same g c) _ (λ d both. both.0)
-      c.args.self.now.call_states.call_states before.on.effect (apart g c)
-      (in_call g c) (answer g c) (replies g c));
-  runs = search rules;
-  under_way = search rules;
-  moves =
-      let C = g.C.ThreadLayer in
-      let m = c.args.m.now in
-      let polled = (did g c).polled in
-      rw (opens g c) (moves_grown (C.opening m) (λ d. C.ActsFor m d) _ (C.cpu_of c.args.self.now.lower) polled.mine polled.others
-      (C.seen m) (C.seen c.match-stage.m) (λ d both. both.0) polled.foreign polled.own_events polled.is);
-  prompt = λ whole. absurd whole;
-  framed =
-      let C = g.C.ThreadLayer in
-      let law = g.met.C.ThreadLayer in
-      let m = c.args.m.now in
-      let m1 = c.match-stage.m in
-      let cpu = C.cpu_of c.args.self.now.lower in
-      let before = c.sections.invariant in
-      let did = did g c in
-      let polled = did.polled in
-      let lawful = rw (opens g c) at (law.lawful m1 cpu (did.framed.stays.acts cpu (law.own_cpu c.args.self.now.lower m c.requires.fits.0))) in
-      framed_over _ did.framed before.cpu c.complete.ensures.lower
-      (rw (c.complete.ensures.lower, c.complete.ensures.call_states, c.complete.ensures.calling, (opens g c), did.cpu)
-      (record {
-        boots = c.requires.fits.1.boots;
-        sizes = sizes_of (last g c) (states g c) (states1 g c) did.states_are before.on.sizes;
-        calls = poll_done (last g c) (home g (at g c)) before.on.may.called (states g c) (states1 g c) refl (same g c) before.on.others
-            (answer g c) (replies g c);
-      }))
-      (λ q other fits part. rw (opens g c)
-      (other_part (C.opening m) cpu (C.cpu_of q.lower) other polled.mine polled.others (C.seen m) (C.seen m1) polled.own_events
-      (polled.foreign (C.cpu_of q.lower) (law.own_cpu q.lower m fits)) polled.is lawful (C.own q.lower) q.call_states.call_states
-      (C.under_way q.lower) q.calling part));
-  follows = λ stepwise.
-      let C = g.C.ThreadLayer in
-      let m = c.args.m.now in
-      let p = c.args.self.now in
-      let cpu = C.cpu_of p.lower in
-      let t = c.args.t in
-      let call = c.args.call.now in
-      let homes = homes_in (C.opening m) in
-      let O = inner (C.opening m) in
-      let before = c.sections.invariant in
-      let m1 = c.match-stage.m in
-      let did = did g c in
-      let went = went g c in
-      let Acts0 : CpuId → Type 0 = λ d. C.ActsFor m d in
-      let table = table_of (queue_rules (lock_rules buffer_rules) (lock_moves buffer_rules)) in
-      let got : Left Buffering Reply = record {
-        own = buffering (C.own c.match-stage.self.lower) (states1 g c);
-        answer = if c.match-stage.polled.ended then replied call went went.stage else None;
-      } in
-      let handed = is_handed (C.own c.sections.self.lower).lock.slept (C.own c.sections.self.lower).lock.sleep.threads.current in
-      let marks = marks_of O (buffer_sections (C.seen m)) t call went (C.own c.sections.self.lower) (C.under_way c.sections.self.lower) before.on.may.goes in
-      let alone : c.sections.first ≡ true
-      → ((c.match-stage.polled.ended ≡ true) × (is_at_once went.stage handed ≡ false)) ⊎ (c.match-stage.polled.ended ≡ false)
-      → Follows Acts0 table (C.opening m) cpu (fifo_plan homes cpu t call (buffering (C.own p.lower) p.call_states.call_states)) (C.acts m) (C.acts m1) got
-      = λ is exits.
-      let free = exit_free (last g c) handed marks exits before.on.may.current refl in
-      subst (λ (o : Buffering). Follows Acts0 table (C.opening m) cpu (fifo_plan homes cpu t call o) (C.acts m) (C.acts m1) got) (rw is at before.begins)
-      (one_follows Acts0 table (C.opening m) cpu homes t call went.stage went
-      (buffering (C.own c.sections.self.lower) (states g c)) (C.acts m) (C.acts m1) got (in_call g c) free.0 free.1 (did.followed stepwise)) in
-      let done : Follows Acts0 table (C.opening m) cpu (fifo_plan homes cpu t call (buffering (C.own p.lower) p.call_states.call_states)) (C.acts m)
-      (C.acts m1) got = elim c.else-first.branch [
-        | else-first-via-then-first+then-polled+else-polled-2 w ↦ alone w.if-first.true (inl (w.if-polled.true, sym did.again_is ∙ w.if-polled-2.false))
-        | else-first-via-then-first+else-polled w ↦ alone w.if-first.true (inr w.if-polled.false)
-        | else-first-via-else-first w ↦ (rw w.if-first.false at before.follows) stepwise (C.acts m1) got (did.followed stepwise)
-      ] in
-      rw (c.complete.ensures.lower, c.complete.ensures.call_states, (replies g c))
-      (follows_for Acts0 _ (λ d both. both.0) table (C.opening m) cpu
-      (fifo_plan homes cpu t call (buffering (C.own p.lower) p.call_states.call_states)) (C.acts m) (C.acts m1) got done);
-}
+returns-in-sections g c =
+    let C = g.C.ThreadLayer in
+    let m = c.args.m.now in
+    let m1 = c.match-stage.m in
+    let cpu = C.cpu_of c.args.self.now.lower in
+    let before = c.sections.invariant in
+    let did = did g c in
+    let polled = did.polled in
+    record {
+      nothing = λ none. let there = c.requires.there in absurd (omega (arith, none, there));
+      called = λ there.
+          rw (opens g c, c.complete.ensures.call_states) (called_by (last g c) (home g (at g c)) before.on.may.called (states g c) (states1 g c) refl (same g c)
+          _ (λ d both. both.0) c.args.self.now.call_states.call_states before.on.effect (apart g c)
+          (in_call g c) (answer g c) (replies g c));
+      runs = search rules;
+      under_way = search rules;
+      moves = rw (opens g c) (moves_grown (C.opening m) (λ d. C.ActsFor m d) _ cpu polled.mine polled.others (C.seen m) (C.seen m1) (λ d both. both.0)
+          polled.foreign polled.own_events polled.is);
+      prompt = λ whole. absurd whole;
+      framed =
+          let law = g.met.C.ThreadLayer in
+          let lawful = rw (opens g c) at (law.lawful m1 cpu (did.framed.stays.acts cpu (law.own_cpu c.args.self.now.lower m c.requires.fits.0))) in
+          framed_over _ did.framed before.cpu c.complete.ensures.lower
+          (rw (c.complete.ensures.lower, c.complete.ensures.call_states, c.complete.ensures.calling, (opens g c), did.cpu)
+          (record {
+            boots = c.requires.fits.1.boots;
+            sizes = sizes_of (last g c) (states g c) (states1 g c) did.states_are before.on.sizes;
+            calls = poll_done (last g c) (home g (at g c)) before.on.may.called (states g c) (states1 g c) refl (same g c) before.on.others
+                (answer g c) (replies g c);
+          }))
+          (λ q other fits part. rw (opens g c)
+          (other_part (C.opening m) cpu (C.cpu_of q.lower) other polled.mine polled.others (C.seen m) (C.seen m1) polled.own_events
+          (polled.foreign (C.cpu_of q.lower) (law.own_cpu q.lower m fits)) polled.is lawful part));
+      follows = λ stepwise.
+          let p = c.args.self.now in
+          let t = c.args.t in
+          let call = c.args.call.now in
+          let homes = homes_in (C.opening m) in
+          let O = inner (C.opening m) in
+          let went = went g c in
+          let Acts0 : CpuId → Type 0 = λ d. C.ActsFor m d in
+          let table = table_of (queue_rules (lock_rules buffer_rules) (lock_moves buffer_rules)) in
+          let got : Left Buffering Reply = record {
+            own = buffering (C.own c.match-stage.self.lower) (states1 g c);
+            answer = if c.match-stage.polled.ended then replied call went went.stage else None;
+          } in
+          let handed = is_handed (C.own c.sections.self.lower).lock.slept (C.own c.sections.self.lower).lock.sleep.threads.current in
+          let marks = marks_of O (buffer_sections (C.seen m)) t call went (C.own c.sections.self.lower) (C.under_way c.sections.self.lower)
+          before.on.may.goes in
+          let alone : c.sections.first ≡ true
+          → ((c.match-stage.polled.ended ≡ true) × (is_at_once went.stage handed ≡ false)) ⊎ (c.match-stage.polled.ended ≡ false)
+          → Follows Acts0 table (C.opening m) cpu (fifo_plan homes cpu t call (buffering (C.own p.lower) p.call_states.call_states)) (C.acts m) (C.acts m1) got
+          = λ is exits.
+          let free = exit_free (last g c) handed marks exits before.on.may.current refl in
+          subst (λ (o : Buffering). Follows Acts0 table (C.opening m) cpu (fifo_plan homes cpu t call o) (C.acts m) (C.acts m1) got) (rw is at before.begins)
+          (one_follows Acts0 table (C.opening m) cpu homes t call went.stage went
+          (buffering (C.own c.sections.self.lower) (states g c)) (C.acts m) (C.acts m1) got (in_call g c) free.0 free.1 (did.followed stepwise)) in
+          let done : Follows Acts0 table (C.opening m) cpu (fifo_plan homes cpu t call (buffering (C.own p.lower) p.call_states.call_states)) (C.acts m)
+          (C.acts m1) got = elim c.else-first.branch [
+            | else-first-via-then-first+then-polled+else-polled-2 w ↦ alone w.if-first.true (inl (w.if-polled.true, sym did.again_is ∙ w.if-polled-2.false))
+            | else-first-via-then-first+else-polled w ↦ alone w.if-first.true (inr w.if-polled.false)
+            | else-first-via-else-first w ↦ (rw w.if-first.false at before.follows) stepwise (C.acts m1) got (did.followed stepwise)
+          ] in
+          rw (c.complete.ensures.lower, c.complete.ensures.call_states, (replies g c)) (follows_for Acts0 _ (λ d both. both.0) table (C.opening m) cpu
+          (fifo_plan homes cpu t call (buffering (C.own p.lower) p.call_states.call_states)) (C.acts m) (C.acts m1) got done);
+    }

@@ -31,9 +31,8 @@ returns-clause-framed g c =
         subst (λ d. SleptFits rules (viewed nested_lock_of (S.opening n)) d (renamed_events lock_call (S.seen n)) self.slept.buffers) (sym said.framed.cpu)
             (after cpu acts self.slept.buffers c.requires.fits.1),
         transport (λ i. DeferredFits (sym (under_is (λ (u : Unit {0}). u) (S.under_way part) c.pass.result (call.Pass c.args.call) said.call) i)
-            (sym said.rest i)
-            (S.own part).threads.hand)
-            (deferred_passed (option_map (renamed_sched lock_call) (S.under_way self.lower)) (S.own self.lower).deferred (S.own self.lower).threads.hand
+            (sym said.rest i) (S.own part).threads.hand) (deferred_passed (option_map (renamed_sched lock_call) (S.under_way self.lower))
+            (S.own self.lower).deferred (S.own self.lower).threads.hand
             (S.own part).threads.hand c.args.call (MayPass c.args.call (S.own self.lower).threads) _ c.requires.fits.2 c.requires.call),
       );
       cpu = said.framed.cpu;

@@ -120,9 +120,8 @@ module _ (g : Over) (c : After-poll g) where
       → SleptFits rules (viewed nested_lock_of (opening c.args.m.now)) d (renamed_events lock_call was.past) slept
       → SleptFits rules (viewed nested_lock_of (opening c.poll.new.m)) d (renamed_events lock_call (seen c.poll.new.m)) slept
   others d apart acts slept fits =
-      transport (λ i. SleptFits rules (viewed nested_lock_of (sym c.poll.ensures.framed.stays.opening i)) d
-      (renamed_events lock_call (seen c.poll.new.m)) slept)
-      (others_after rules (opening c.args.m.now) d was.c apart c.poll.ensures.seen acts lawful slept fits)
+      transport (λ i. SleptFits rules (viewed nested_lock_of (sym c.poll.ensures.framed.stays.opening i)) d (renamed_events lock_call (seen c.poll.new.m))
+      slept) (others_after rules (opening c.args.m.now) d was.c apart c.poll.ensures.seen acts lawful slept fits)
 
 -- the call goes on
 
@@ -165,9 +164,8 @@ returns-in-None-clause-follows g c = λ step.
     let S = g.S.ThreadLayer in
     let p = (goal.at.returns-in-None-clause-follows g c).After-poll in
     let was = was g p in
-    locks_follow g.F.Locked.rules (S.opening c.args.m.now) (S.ActsFor c.args.m.now) was.c (S.acts c.args.m.now)
-    (S.acts c.poll.new.m) was.own was.slept was.b was.e
-    (gave g p) (sleeps_for_none was (awake g p.before)) _ (went_on g c) (c.poll.ensures.follows step)
+    locks_follow g.F.Locked.rules (S.opening c.args.m.now) (S.ActsFor c.args.m.now) was.c (S.acts c.args.m.now) (S.acts c.poll.new.m) was.own was.slept was.b
+    was.e (gave g p) (sleeps_for_none was (awake g p.before)) _ (went_on g c) (c.poll.ensures.follows step)
 
 -- the section answers
 
@@ -185,9 +183,8 @@ module _ (g : Over) (c : After-complete g) where
       ≡ left_after (lock_caller rules (was g p).e) (was g p).b (was g p).slept (gave g p).own (gave g p).answer
   answers = (λ i. locking (gave g p).own (keeps i)
       ((ap (option_map (told g p)) c.complete.ensures.complete
-      ∙ reported_told g.F.Locked.told c.poll.new.payload.parcel c.in-Some.outcome.out c.in-Some.outcome) i))
-      ∙ (sym (reported_is (lock_caller rules (was g p).e) (was g p).b (was g p).slept (gave g p).own (told g p c.in-Some.outcome).out
-      (told g p c.in-Some.outcome))
+      ∙ reported_told g.F.Locked.told c.poll.new.payload.parcel c.in-Some.outcome.out c.in-Some.outcome) i)) ∙ (sym
+      (reported_is (lock_caller rules (was g p).e) (was g p).b (was g p).slept (gave g p).own (told g p c.in-Some.outcome).out (told g p c.in-Some.outcome))
       ∙ λ i. left_after (lock_caller rules (was g p).e) (was g p).b (was g p).slept (gave g p).own (option_map (told g p) (sym c.in-Some.is i)))
 
 pub returns-in-Some-clause-framed : goal.returns-in-Some-clause-framed
@@ -224,6 +221,5 @@ returns-in-Some-clause-follows g c = λ step.
     let S = g.S.ThreadLayer in
     let p = p g c in
     let was = was g p in
-    locks_follow g.F.Locked.rules (S.opening c.args.m.now) (S.ActsFor c.args.m.now) was.c (S.acts c.args.m.now)
-    (S.acts c.poll.new.m) was.own was.slept was.b was.e
-    (gave g p) (sleeps_for_none was (awake g p.before)) _ (answers g c) (c.poll.ensures.follows step)
+    locks_follow g.F.Locked.rules (S.opening c.args.m.now) (S.ActsFor c.args.m.now) was.c (S.acts c.args.m.now) (S.acts c.poll.new.m) was.own was.slept was.b
+    was.e (gave g p) (sleeps_for_none was (awake g p.before)) _ (answers g c) (c.poll.ensures.follows step)

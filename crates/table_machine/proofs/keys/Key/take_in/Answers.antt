@@ -18,8 +18,7 @@ load-requires g c =
     let of = one_table c.self.inside.token.table_id c.shared.inside.table.shared.table_id _ _ _ c.self.inside.token.me c.args.self.now c.args.shared.now
     c.self.view_is c.shared.view_is c.requires.of in
     meet_asks g.E.SplitEdit.rules g.K.TableWords.kind c.self.inside.token.table_id _ _ _ _ _ _ _ c.self.inside.token.me c.join_seat.new.seat.me
-    c.args.notes.me.0 c.shared.invariant.0 of
-    c.join_seat.ensures.0 c.join_seat.ensures.2
+    c.args.notes.me.0 c.shared.invariant.0 of c.join_seat.ensures.0 c.join_seat.ensures.2
 
 pub invariant_of-self : goal.invariant_of-self
 invariant_of-self g c = (meet_reads g.E.SplitEdit.rules _ _ _ _ _ _ c.args.notes.me.0 _ _ c.args.self.now c.self.view_is c.self.invariant c.requires.notes.1
