@@ -1,8 +1,21 @@
 -- Reads and writes of lists by their index.
 use Rattle.std.proofs.Common.{◌≡◌, ℕ, zero, suc, ◌+◌, ◌<◌, List, [], ◌∷◌, ◌++◌, length, map, reverse, Some, option_map, refl, ap, sym, ◌∙◌, subst, arith}
-use Rattle.std.proofs.{Common.slice_set, lemmas.{List.{reverse-append, length-map}, Option.{slice_get-map, slice_get_read}}}
+use Rattle.std.proofs.{Common.{slice_set, Option, Bool, true, false}, lemmas.{List.{reverse-append, length-map}, Option.{slice_get-map, slice_get_read}}}
+use Rattle.event_log.specs.{declared.ids.LockId.LockId, History.same_lock, Sections.{Section, block_after}}
+use Rattle.std.proofs.Common.{if◌then◌else◌}
 use Rattle.{std.specs.{Prelude.{slice_get, slice_index_or}, List.AllByRecursion}, cpu.specs.Claims.listed}
 pub use Rattle.event_log.proofs.ListLemmas.{set_else, set_there, there_is}
+
+-- what is so of the block that a lock has at first, and what each edit keeps, is so after any sections
+pub blocks_keep : {E B : Type 0} (P : Option B → Type 0) (edited : E → B → B) (opening : LockId → Option B) (lock : LockId) → P (opening lock)
+    → ((e : E) (o : Option B) → P o → P (option_map (edited e) o)) → (past : List (Section E)) → P (block_after edited opening lock past)
+blocks_keep P edited opening lock opens keeps [] = opens
+blocks_keep {B = B} P edited opening lock opens keeps (s ∷ past) =
+    by_test (same_lock lock s.lock) (block_after edited opening lock past) (blocks_keep P edited opening lock opens keeps past)
+  where
+    by_test : (here : Bool) (o : Option B) → P o → P (if here then option_map (edited s.edit) o else o)
+    by_test true o before = keeps s.edit o before
+    by_test false o before = before
 
 -- a write of what stands there changes nothing
 pub set_again : {X : Type 0} (xs : List X) (i : ℕ) (x : X) → slice_get xs i ≡ Some x → slice_set xs i x ≡ xs

@@ -13,19 +13,8 @@ use Rattle.cpu.proofs.StepTable.Schedules.{Leads, leads_live, leads_nowhere}
 missed_one : (c : CpuId) (lock : LockId) (s r : Shown) (here : CpuShown) → slice_get s.cpus c.0 ≡ Some here → r.cpus ≡ s.cpus → r.room ≡ s.room
     → r.taken ≡ s.taken + 1 → r.log ≡ Try c lock false ∷ s.log → AreLegal r.log → s.taken < s.room → SteppedByTable c s r Stepped
 missed_one c lock s r here at cpus room taken log legal live setup for =
-    (λ i. record {
-      next = record { cpus = map (λ p. p.private) (cpus i); log = log i; room = room i; taken = taken i };
-      answer = Stepped;
-    })
-    ∙ (grind (
-      arith,
-      ne_eqb,
-      set_again,
-      shows_at (λ (p : CpuShown). p.private) s.cpus c.0 here at,
-      subst
-          (λ (l : List (Action Name)). AreLegal l) log legal,
-      live,
-    ))
+    (λ i. record { next = record { cpus = map (λ p. p.private) (cpus i); log = log i; room = room i; taken = taken i }; answer = Stepped })
+    ∙ grind (arith, ne_eqb, set_again, shows_at (λ (p : CpuShown). p.private) s.cpus c.0 here at, subst AreLegal log legal, live)
 
 -- So many looks.
 
@@ -49,13 +38,7 @@ amid_moment : (s : Shown) (log : List (Action Name)) (taken : ℕ) → s.taken �
 amid_moment s log taken later now =
     let one = now.one_order in
     record {
-      one_order = record {
-        keeps = one.keeps;
-        run = one.run;
-        fifo = one.fifo;
-        closed = one.closed;
-        few = let few = one.few in omega (arith, few, later);
-      };
+      one_order = record { keeps = one.keeps; run = one.run; fifo = one.fifo; closed = one.closed; few = let few = one.few in omega (arith, few, later) };
       follow = now.follow;
       stay = now.stay;
     }

@@ -27,10 +27,7 @@ opens_as setup homes caps number opening homes_are caps_are opens lock used = op
 
 -- what an instruction asks for
 asks_for : (i : Instruction) (s : State) (c : Call) → todo_at s i ≡ Calls c → AsksFor i s c
-asks_for (ins.Send b r k) s c is = sym (cc is)
-asks_for (ins.Recv b r k) s c is = sym (cc is)
-asks_for (ins.Close b) s c is = sym (cc is)
-asks_for line s c is = absurd (cc is)
+asks_for line s c is = grind arith
 
 -- a call state inside a call goes on as it is
 goes_same : (s : Stage) (call_state : CallState) (c : Call) → (s ≡ at_stage.Idle → ⊥) → going_at s call_state c ≡ call_state

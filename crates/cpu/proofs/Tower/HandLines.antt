@@ -12,7 +12,7 @@ use Rattle.cpu.specs.{Table.{Choice.{at_pending, returned_at}, Blocks.Pend}, Tow
 use Rattle.cpu.specs.Tower.{Privates.{guests_after, private_after, private_of, thread_from, trace_after}, Composed.{woken_outcome, CallStands, has_signalled}}
 use Rattle.cpu.{specs.Tower.Composed.{has_signalled_own, has_released}, proofs.Tower.{Callers.{Site, call_state_at}, ChangedThread.runner_goes}}
 use Rattle.cpu.proofs.Tower.{ChangedThread.{numbered_long, own_at, part_at, parts, threads_at}, SettledAnswers.{calling, goes_on, returns}}
-use Rattle.cpu.proofs.Tower.{SectionLines.react_in, Chains.{LineOf, private_here, put_same, begun_plan, had_at}}
+use Rattle.cpu.proofs.Tower.{SectionLines.{react_in, guest_by, guests_by, beneath, beneath_is}, Chains.{LineOf, private_here, put_same, begun_plan, had_at}}
 use Rattle.layer_traits.specs.declared.locked.QOut.TheVariants as lock
 use Rattle.layer_traits.specs.declared.conditions.CvOut.TheVariants as cv
 use Rattle.layer_traits.specs.declared.queue_edits.QueueEdit.TheVariants as queue
@@ -43,28 +43,13 @@ module _ (site : Site) (u : Tid) (f : Effect) (known : IsSome (slice_get site.se
   abbrev in_call : TowerOut → Stage → Thread
   in_call outcome next = calling setup c ready (threads outcome) trace t g e (long outcome) (call_from call position (Some f) next)
 
-  abbrev pub beneath : TowerOut → CvCall BufferEdit → Plan TowerName TowerAnswer (Waiting BufferOut) TowerOut
-  beneath outcome s = raised (λ l. left_waiting ((lock_moves buffer_rules).caller s) (buffer_of call) waits l.own l.answer)
-      (raised (λ l. left_after ((lock_moves buffer_rules).caller s) (buffer_of call) slept l.own l.answer)
-      (sleep_plan (lock_moves buffer_rules) setup.homes c (buffer_of call) s (own_with outcome).cv.lock.sleep))
-
-  pub beneath_is : (outcome : TowerOut) (s : CvCall BufferEdit) → slept_for waits ((lock_moves buffer_rules).caller s) ≡ None
-      → slept_for slept ((lock_moves buffer_rules).caller s) ≡ None
-      → cv_plan (lock_moves buffer_rules) setup.homes c (buffer_of call) s (own_with outcome).cv ≡ beneath outcome s
-  beneath_is outcome s w n = grind arith
 
   abbrev pub sends : TowerOut → Stage → CvCall BufferEdit → BufferPlan Reply
-  sends outcome stage s = raised (left_recorded t call (here stage) call_states stage) (beneath outcome s)
+  sends outcome stage s = raised (left_recorded t call (here stage) call_states stage) (beneath site (Some u) (Some outcome) s)
 
   abbrev after : TowerOut → Left Buffering Reply → Private
   after outcome left = private_after setup c t call (own_with outcome) guests trace left
 
-  abbrev guest_by : Option Reply → State
-  guest_by None = g
-  guest_by (Some reply) = after_answer (Some reply) (next_of (program_of setup t) g) g
-
-  guests_by : (answer : Option Reply) → guests_after setup t answer guests ≡ slice_set guests t.0 (guest_by answer)
-  guests_by answer = grind (arith, set-get_or)
 
   -- a section that woke thread u: its plan is to send u, and then the call is so
   pub record Sends (out : TowerOut) (stage : Stage) (state2 : CallState) (answer : Option Reply) : Type 0 where
@@ -81,7 +66,7 @@ module _ (site : Site) (u : Tid) (f : Effect) (known : IsSome (slice_get site.se
       ≡ sends out stage (section_at t call stage)
   beneath_at out stage mine =
       ap (raised (left_recorded t call (here stage) call_states stage))
-      (beneath_is out (section_at t call stage) (ap (slept_for waits) mine ∙ is_waits) (ap (slept_for slept) mine ∙ is_slept))
+      (beneath_is site (Some u) (Some out) (section_at t call stage) (ap (slept_for waits) mine ∙ is_waits) (ap (slept_for slept) mine ∙ is_slept))
 
   pub sends_signalled : (v : CvOut BufferOut) → Sends (woken_outcome (lock.Did v) u) Signals (here SignalsOwn) None
   sends_signalled v = record { stands = has_signalled u v f; plan = beneath_at (woken_outcome (lock.Did v) u) Signals refl; still = refl; done = refl }
@@ -98,12 +83,12 @@ module _ (site : Site) (u : Tid) (f : Effect) (known : IsSome (slice_get site.se
     -- the poll leaves the hand empty, and the call goes on or returns
     sent : (going (call_state_of call_states t) call).effect ≡ Some f → (state2 : CallState) (answer : Option Reply)
         → after out (record { own = own_at (Some t) None ready ended None slept waits (slice_set call_states t.0 state2); answer = answer })
-        ≡ parts (Some t) ready None (slice_set (threads out) t.0 (thread_from state2 None None false e (guest_by answer)))
+        ≡ parts (Some t) ready None (slice_set (threads out) t.0 (thread_from state2 None None false e (guest_by site answer)))
         (trace_after c t (buffer_of call) (Some f) state2.effect trace)
     sent had state2 answer =
-        (λ i. private_of (own_at (Some t) None ready ended None slept waits (slice_set call_states t.0 state2)) (guests_by answer i)
+        (λ i. private_of (own_at (Some t) None ready ended None slept waits (slice_set call_states t.0 state2)) (guests_by site answer i)
         (trace_after c t (buffer_of call) (had i) (get_or-set_same call_states t.0 state2 no_call in_call_states i).effect trace))
-        ∙ runner_goes runner (Some u) (Some out) None ready None state2 (guest_by answer) trace None None is_slept is_waits
+        ∙ runner_goes runner (Some u) (Some out) None ready None state2 (guest_by site answer) trace None None is_slept is_waits
 
     -- the thread as the table has it: its section is done
     threads_are : (next : Stage) → thread_from (here stage) None None true e g ≡ in_call out next
@@ -115,7 +100,7 @@ module _ (site : Site) (u : Tid) (f : Effect) (known : IsSome (slice_get site.se
         ∙ ap (λ x. settled setup (parts (Some t) ready None (slice_set (threads out) t.0 x) trace)) same
 
     line : (state2 : CallState) (answer : Option Reply) → Sends out stage state2 answer
-        → parts (Some t) ready None (slice_set (threads out) t.0 (thread_from state2 None None false e (guest_by answer)))
+        → parts (Some t) ready None (slice_set (threads out) t.0 (thread_from state2 None None false e (guest_by site answer)))
         (trace_after c t (buffer_of call) (Some f) state2.effect trace)
         ≡ settled setup (parts (Some t) ready None (threads out) trace)
         → LineOf setup c t call (own_with out) guests trace

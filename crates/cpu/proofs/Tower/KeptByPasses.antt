@@ -37,19 +37,7 @@ stands_calls : (stage : Stage) (hand : Option Tid) (deferred : Option TowerOut) 
     → CallStands stage hand deferred s w effect
     → stage ≡ at.Idle → ⊥
 stands_calls stage hand deferred s w effect asks is = absurd (cc is)
-stands_calls stage hand deferred s w effect (was_handed b) is = absurd (cc is)
-stands_calls stage hand deferred s w effect enters is = absurd (cc is)
-stands_calls stage hand deferred s w effect tries is = absurd (cc is)
-stands_calls stage hand deferred s w effect waits is = absurd (cc is)
-stands_calls stage hand deferred s w effect (was_woken b) is = absurd (cc is)
-stands_calls stage hand deferred s w effect asks_anew is = absurd (cc is)
-stands_calls stage hand deferred s w effect (was_handed_again b) is = absurd (cc is)
-stands_calls stage hand deferred s w effect (signals f) is = absurd (cc is)
-stands_calls stage hand deferred s w effect (signals_own f) is = absurd (cc is)
-stands_calls stage hand deferred s w effect (releases f) is = absurd (cc is)
-stands_calls stage hand deferred s w effect (has_signalled u v f) is = absurd (cc is)
-stands_calls stage hand deferred s w effect (has_signalled_own u v f) is = absurd (cc is)
-stands_calls stage hand deferred s w effect (has_released u f) is = absurd (cc is)
+stands_calls stage hand deferred s w effect given is = absurd (cc is)
 
 -- a thread in no call neither sleeps nor waits, and nobody is in the hand
 pub record AtRest (h : Option Tid) (k : Option TowerOut) (s w : Option BufId) : Type 0 where
@@ -108,10 +96,9 @@ no_buffer = None
 pub boots_part : (homes : List CpuId) (c : CpuId) → IsPart (buffering_at_start homes c)
 boots_part homes c = record {
   mine = λ t runs. absurd (cc runs);
-  other = λ t off. subst (λ x. x) (λ i. MayStand (sym (alike_at THREADS t.0 no_call) i).stage None None (sym (alike_at THREADS t.0 no_buffer) i)
-      (sym (alike_at THREADS t.0 no_buffer) i) (sym (alike_at THREADS t.0 no_call) i).effect) (outside None);
+  other = λ t off. rw (alike_at THREADS t.0 no_call, alike_at THREADS t.0 no_buffer) (outside None);
   idle = λ nobody. refl;
-  fits = λ t. subst (λ (x : CallState). FitsStage x.stage x.call) (sym (alike_at THREADS t.0 no_call)) tt;
+  fits = λ t. rw (alike_at THREADS t.0 no_call) tt;
   call_states = alike_long THREADS no_call;
   slept = alike_long THREADS no_buffer;
   waits = alike_long THREADS no_buffer;

@@ -82,14 +82,6 @@ module _ (caller : Caller) (others : Rest caller.t caller.slept caller.waits cal
       → call_state_of call_states t ≡ here stage effect → slept_for slept t ≡ s → slept_for waiting t ≡ w
       → ((u : Tid) → hand ≡ Some u → IsSome (slice_get setup.homes u.0))
       → Keeps (pieces hand deferred slept waiting call_states)
-  by_stands asks fits is is_s is_w known = site_keeps (awake caller is_s is_w) others asks fits is
-  by_stands enters fits is is_s is_w known = site_keeps (awake caller is_s is_w) others enters fits is
-  by_stands tries fits is is_s is_w known = site_keeps (awake caller is_s is_w) others tries fits is
-  by_stands stands_waits fits is is_s is_w known = site_keeps (awake caller is_s is_w) others stands_waits fits is
-  by_stands asks_anew fits is is_s is_w known = site_keeps (awake caller is_s is_w) others asks_anew fits is
-  by_stands (signals f) fits is is_s is_w known = site_keeps (awake caller is_s is_w) others (signals f) fits is
-  by_stands (signals_own f) fits is is_s is_w known = site_keeps (awake caller is_s is_w) others (signals_own f) fits is
-  by_stands (releases f) fits is is_s is_w known = site_keeps (awake caller is_s is_w) others (releases f) fits is
   by_stands (was_handed b) fits is is_s is_w known = handed_keeps at.Enters enters tt is_w (handed_plan caller b is is_s is_w)
   by_stands (was_handed_again b) fits is is_s is_w known = handed_keeps at.Tries tries fits is_w (handed_again_plan caller b is is_s is_w)
   by_stands (was_woken b) fits is is_s is_w known = woken_keeps fits is_s (woken_plan caller b is is_s is_w)
@@ -101,6 +93,7 @@ module _ (caller : Caller) (others : Rest caller.t caller.slept caller.waits cal
       (inside at.Releases None None None None (Some f) (releases f)) tt
   by_stands (has_released u f) fits is is_s is_w known =
       send_keeps u f is_s is_w (known u refl) _ at.Releases _ _ (sends_released (awake caller is_s is_w) u f (known u refl)) tt is (outside (Some f)) tt
+  by_stands given fits is is_s is_w known = site_keeps (awake caller is_s is_w) others given fits is
 
 -- the rest of a part whose thread t runs
 pub rest_of : (o : Buffering) (t : Tid) → (threads_in o).current ≡ Some t → IsPart o → Rest t o.cv.lock.slept o.cv.waits o.call_states

@@ -29,8 +29,7 @@ pub record Rest (t : Tid) (slept waits : List (Option BufId)) (call_states : Lis
 -- a thread that stands as it may, by what its call state and its places are
 pub stand_is : (hand : Option Tid) (deferred : Option TowerOut) (a b : CallState) (s s2 w w2 : Option BufId) → a ≡ b → s ≡ s2 → w ≡ w2
     → MayStand b.stage hand deferred s2 w2 b.effect → MayStand a.stage hand deferred s w a.effect
-stand_is hand deferred a b s s2 w w2 is is_s is_w may =
-    subst (λ x. x) (λ i. MayStand (sym is i).stage hand deferred (sym is_s i) (sym is_w i) (sym is i).effect) may
+stand_is hand deferred a b s s2 w w2 is is_s is_w may = rw (is, is_s, is_w) may
 
 -- a call that fits its stage, by what the call state is
 pub fit_is : (a b : CallState) → a ≡ b → FitsStage b.stage b.call → FitsStage a.stage a.call

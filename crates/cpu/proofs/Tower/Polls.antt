@@ -9,7 +9,7 @@ use Rattle.{layer_traits.proofs.PlanRenaming.reply_viewed, cpu.specs.Table.{Bloc
 use Rattle.cpu.specs.Table.{Setups.{opening as table_opening, thread_at, Call as TableCall}, Steps.{acting, acting_on, after_reply, chosen_step, cpu_step}}
 use Rattle.cpu.specs.Table.{Steps.{halted_at, halted_by, step_in}, Choice.{Alone, Choice, Goes, Halts, Ask, asked, at_call, at_hand, at_ready, choice}}
 use Rattle.cpu.specs.Tower.{Views.{TowerBlock, TowerName, answer_view, name_of, tower, view}, Composed.{HaltsExactly, HandIsKnown, IsKind, named}}
-use Rattle.cpu.proofs.Tower.{PolledSystem.{Polled, Way}, SectionViews.tables_agree}
+use Rattle.cpu.proofs.{ListFacts.ListReads.blocks_keep, Tower.{PolledSystem.{Polled, Way}, SectionViews.tables_agree}}
 
 -- The blocks of the locks are of their kinds.
 
@@ -20,11 +20,10 @@ IsKindIn lock (Some x) = IsKind lock x
 
 pub kind_after : (opening : LockId → Option TowerBlock) (lock : LockId) → IsKindIn lock (opening lock) → (past : List (Section TowerName))
     → IsKindIn lock (block_after tower.edited opening lock past)
-kind_after opening lock opens [] = opens
-kind_after opening lock opens (s ∷ past) = go (same_lock lock s.lock) (block_after tower.edited opening lock past) (kind_after opening lock opens past)
+kind_after opening lock opens = blocks_keep (IsKindIn lock) tower.edited opening lock opens kept
   where
-    go : (b : Bool) (o : Option TowerBlock) → IsKindIn lock o → IsKindIn lock (if b then option_map (tower.edited s.edit) o else o)
-    go b o kind = grind arith
+    kept : (e : TowerName) (o : Option TowerBlock) → IsKindIn lock o → IsKindIn lock (option_map (tower.edited e) o)
+    kept e o kind = grind arith
 
 -- what a lock's block is depends on its opening block alone
 pub opens_alike : (a b : LockId → Option Block) (lock : LockId) → a lock ≡ b lock → (past : List (Section Name))
@@ -94,13 +93,7 @@ module _ {A : Type 0} (polled : Polled) (way : Way A polled) (got : Left Bufferi
 
 still_is_step : (ActsFor : CpuId → Type 0) (setup : Setup) (c : CpuId) (p q : Private) (log : List (Action Name)) (answer : Step)
     → cpu_step setup c p log ≡ record { next = q; acts = []; answer = answer } → IsStep ActsFor (cpu_step setup c) p q log log answer
-still_is_step ActsFor setup c p q log answer is = record {
-  others = [];
-  foreign = λ d acts. tt;
-  next = ap (λ o. o.next) (sym is);
-  grows = ap (λ o. o.acts ++ log) (sym is);
-  answers = ap (λ o. o.answer) (sym is);
-}
+still_is_step ActsFor setup c p q log answer is = record { others = []; foreign = λ d acts. tt; next = rw is; grows = rw is; answers = rw is }
 
 pub alone_is_step : (ActsFor : CpuId → Type 0) (setup : Setup) (c : CpuId) (p q : Private) (log : List (Action Name))
     → is_in_section (phase c log) ≡ false → choice setup c p ≡ Alone q → IsStep ActsFor (cpu_step setup c) p q log log Stepped

@@ -108,6 +108,28 @@ left_out o = record { out = lock.Released cv.Left; slept = false; woke = o }
 abbrev pub wait_out : Side → Option Tid → TowerOut
 wait_out side o = record { out = lock.Released (cv.Waited side); slept = true; woke = o }
 
+-- What a thread's section stands on, whoever is in the hand, and the guests after it.
+
+module _ (site : Site) where
+  open site use {setup, c, runner, t, slept, waits, guests, call}
+
+  abbrev pub guest_by : Option Reply → State
+  guest_by None = state_at guests t
+  guest_by (Some reply) = after_answer (Some reply) (next_of (program_of setup t) (state_at guests t)) (state_at guests t)
+
+  pub guests_by : (answer : Option Reply) → guests_after setup t answer guests ≡ slice_set guests t.0 (guest_by answer)
+  guests_by answer = grind (arith, set-get_or)
+
+  abbrev pub beneath : (hand : Option Tid) (deferred : Option TowerOut) → CvCall BufferEdit → Plan TowerName TowerAnswer (Waiting BufferOut) TowerOut
+  beneath hand deferred s = raised (λ l. left_waiting ((lock_moves buffer_rules).caller s) (buffer_of call) waits l.own l.answer)
+      (raised (λ l. left_after ((lock_moves buffer_rules).caller s) (buffer_of call) slept l.own l.answer)
+      (sleep_plan (lock_moves buffer_rules) setup.homes c (buffer_of call) s (part_at runner hand deferred).cv.lock.sleep))
+
+  pub beneath_is : (hand : Option Tid) (deferred : Option TowerOut) (s : CvCall BufferEdit) → slept_for waits ((lock_moves buffer_rules).caller s) ≡ None
+      → slept_for slept ((lock_moves buffer_rules).caller s) ≡ None
+      → cv_plan (lock_moves buffer_rules) setup.homes c (buffer_of call) s (part_at runner hand deferred).cv ≡ beneath hand deferred s
+  beneath_is hand deferred s w n = grind arith
+
 module _ (site : Site) (effect : Option Effect) (is_effect : HasHad site effect) where
   open site use {setup, c, runner, t, ready, ended, slept, waits, call_states, guests, trace, call, position, in_guests, in_call_states, is_slept, is_waits}
 
@@ -142,12 +164,6 @@ module _ (site : Site) (effect : Option Effect) (is_effect : HasHad site effect)
   abbrev pub after : Left Buffering Reply → Private
   after left = private_after setup c t call own guests trace left
 
-  abbrev pub guest_by : Option Reply → State
-  guest_by None = g
-  guest_by (Some reply) = after_answer (Some reply) (next_of (program_of setup t) g) g
-
-  pub guests_by : (answer : Option Reply) → guests_after setup t answer guests ≡ slice_set guests t.0 (guest_by answer)
-  guests_by answer = grind (arith, set-get_or)
 
   -- what a poll leaves after which thread t runs on
   abbrev pub left_on : (hand2 : Option Tid) (ready2 : List Tid) (deferred2 : Option TowerOut) (state2 : CallState) (answer : Option Reply)
@@ -157,12 +173,12 @@ module _ (site : Site) (effect : Option Effect) (is_effect : HasHad site effect)
 
   pub runs_on : (hand2 : Option Tid) (ready2 : List Tid) (deferred2 : Option TowerOut) (state2 : CallState) (answer : Option Reply)
       → after (left_on hand2 ready2 deferred2 state2 answer)
-      ≡ parts (Some t) ready2 hand2 (slice_set threads t.0 (thread_from state2 None None (is_some deferred2) e (guest_by answer)))
+      ≡ parts (Some t) ready2 hand2 (slice_set threads t.0 (thread_from state2 None None (is_some deferred2) e (guest_by site answer)))
       (trace_after c t buf effect state2.effect trace)
   runs_on hand2 ready2 deferred2 state2 answer =
-      (λ i. private_of (own_at (Some t) hand2 ready2 ended deferred2 slept waits (slice_set call_states t.0 state2)) (guests_by answer i)
+      (λ i. private_of (own_at (Some t) hand2 ready2 ended deferred2 slept waits (slice_set call_states t.0 state2)) (guests_by site answer i)
       (trace_after c t buf (is_effect i) (get_or-set_same call_states t.0 state2 no_call in_call_states i).effect trace))
-      ∙ runner_goes runner None None hand2 ready2 deferred2 state2 (guest_by answer) (trace_after c t buf effect state2.effect trace) None None
+      ∙ runner_goes runner None None hand2 ready2 deferred2 state2 (guest_by site answer) (trace_after c t buf effect state2.effect trace) None None
       is_slept is_waits
 
   -- what a poll leaves after which thread t sleeps for the lock, or waits
@@ -176,26 +192,15 @@ module _ (site : Site) (effect : Option Effect) (is_effect : HasHad site effect)
       → after (left_gone hand2 ready2 slept2 waits2 stage)
       ≡ parts None ready2 hand2 (slice_set threads t.0 (thread_from (call_state stage) s w false e g)) (trace_after c t buf effect effect trace)
   gone_now hand2 ready2 slept2 waits2 stage s w same_s same_w is_s is_w =
-      (λ i. private_of (own_at None hand2 ready2 ended None slept2 waits2 (slice_set call_states t.0 (call_state stage))) (guests_by None i)
+      (λ i. private_of (own_at None hand2 ready2 ended None slept2 waits2 (slice_set call_states t.0 (call_state stage))) (guests_by site None i)
       (trace_after c t buf (is_effect i) (get_or-set_same call_states t.0 (call_state stage) no_call in_call_states i).effect trace))
       ∙ thread_gone runner None None hand2 ready2 slept2 waits2 (call_state stage) g (trace_after c t buf effect effect trace) s w same_s same_w is_s is_w
 
   -- The plan of a section whose caller neither sleeps nor waits.
 
-  abbrev pub Beneath : Type 0
-  Beneath = Plan TowerName TowerAnswer (Waiting BufferOut) TowerOut
-
-  abbrev pub beneath : CvCall BufferEdit → Beneath
-  beneath s = raised (λ l. left_waiting ((lock_moves buffer_rules).caller s) buf waits l.own l.answer)
-      (raised (λ l. left_after ((lock_moves buffer_rules).caller s) buf slept l.own l.answer)
-      (sleep_plan (lock_moves buffer_rules) setup.homes c buf s own.cv.lock.sleep))
-
-  pub beneath_is : (s : CvCall BufferEdit) → slept_for waits ((lock_moves buffer_rules).caller s) ≡ None
-      → slept_for slept ((lock_moves buffer_rules).caller s) ≡ None → cv_plan (lock_moves buffer_rules) setup.homes c buf s own.cv ≡ beneath s
-  beneath_is s w n = grind arith
 
   abbrev pub fresh : Stage → CvCall BufferEdit → BufferPlan Reply
-  fresh stage s = raised (left_recorded t call (call_state stage) call_states stage) (beneath s)
+  fresh stage s = raised (left_recorded t call (call_state stage) call_states stage) (beneath site None None s)
 
   abbrev pub react : Stage → CvCall BufferEdit → Option TowerAnswer → Left Buffering Reply
   react stage s = react_in (fresh stage s)
@@ -455,13 +460,7 @@ module _ (site : Site) (f : Effect) (had : HasHad site (Some f)) where
 pub section_planned : (site : Site) {effect : Option Effect} (had : HasHad site effect) {stage : Stage} → CallStands stage None None None None effect
     → plan site effect had stage ≡ fresh site effect had stage (call_section site.t site.call stage)
 section_planned site had asks = grind (arith, beneath_is)
-section_planned site had enters = grind (arith, beneath_is)
-section_planned site had tries = grind (arith, beneath_is)
-section_planned site had stands_waits = grind (arith, beneath_is)
-section_planned site had asks_anew = grind (arith, beneath_is)
-section_planned site had (signals f) = grind (arith, beneath_is)
-section_planned site had (signals_own f) = grind (arith, beneath_is)
-section_planned site had (releases f) = grind (arith, beneath_is)
+section_planned site had given = grind (arith, beneath_is)
 
 -- its thread is as the table has it
 pub stands_as : (site : Site) (effect : Option Effect) (had : HasHad site effect) (stage : Stage) → CallStands stage None None None None effect

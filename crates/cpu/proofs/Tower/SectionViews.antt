@@ -14,16 +14,13 @@ names n = grind arith
 codes : (e : TowerName) → code (name_of e) ≡ e
 codes e = grind arith
 
--- The lists after a signal.
-
 -- The blocks.
 
 module _ (state : LockState BufferState) where
   edits_above : (e : CvCall BufferEdit) → view (tower.edited (queue.Above e) (block.Above state))
       ≡ edited (name_of (queue.Above e)) (view (block.Above state))
   edits_above (Acquire t) = ap OfBuffer (grind arith)
-  edits_above (Inside (Edit (edit.Enter t Senders))) = ap OfBuffer (grind arith)
-  edits_above (Inside (Edit (edit.Enter t Receivers))) = ap OfBuffer (grind arith)
+  edits_above (Inside (Edit (edit.Enter t side))) = ap OfBuffer (grind arith)
   edits_above (Inside (Edit (edit.TryPut t m))) = ap OfBuffer (grind arith)
   edits_above (Inside (Edit (edit.TryTake t))) = ap OfBuffer (grind arith)
   edits_above e = grind (arith, without_none)

@@ -98,6 +98,11 @@ pub local_within : (setup : Setup) (c : CpuId) (p : Private) (T : Tid → Visit)
     → (t : Tid) → is_local setup c t ≡ true → t.0 < length p.threads
 local_within setup c p T P agrees t local = subst (λ n. t.0 < n) (sym agrees.size) (known_of setup c t local)
 
+-- a thread that runs has a place among the threads
+pub runs_within : (setup : Setup) (c : CpuId) (p : Private) (T : Tid → Visit) (P : Tid → Where) → Agrees setup c p T P
+    → (t : Tid) → p.current ≡ Some t → t.0 < length p.threads
+runs_within setup c p T P agrees t is = local_within setup c p T P agrees t (runs_at_home setup c p T P agrees t is).0
+
 -- The caller goes to sleep.
 
 pub agrees_slept : (setup : Setup) (c : CpuId) (p : Private) (t : Tid) (T : Tid → Visit) (P N : Tid → Where) (slept : Bool)
@@ -118,19 +123,10 @@ pub agrees_woken : (setup : Setup) (c : CpuId) (p : Private) (T : Tid → Visit)
 agrees_woken setup c p T P None agrees empty asleep = agrees
 agrees_woken setup c p T P (Some s) agrees empty asleep = by_home (same_cpu (home_cpu setup s) c) refl
   where
-    N : Tid → Where
-    N u = if same_tid s u then post_woken setup c u else P u
-
     by_home : (here : Bool) → same_cpu (home_cpu setup s) c ≡ here
         → Agrees setup c (if here then record p { ready = p.ready ++ s ∷ [] } else record p { hand = Some s }) T
         (λ u. if same_tid s u then post_woken setup c u else P u)
-    by_home true here = record {
-      size = agrees.size;
-      calls = agrees.calls;
-      seats = λ u. sits u (same_tid s u) refl;
-      hands = λ u. held u (same_tid s u) refl;
-      ends = λ u local ended. at_home u local ended (same_tid s u) refl;
-    }
+    by_home true here = grind (arith, agrees, sits, held, at_home)
       where
         sits : (u : Tid) (mine : Bool) → same_tid s u ≡ mine
             → one_if (is_thread u p.current) + count_in u (p.ready ++ s ∷ [])
@@ -144,13 +140,7 @@ agrees_woken setup c p T P (Some s) agrees empty asleep = by_home (same_cpu (hom
         at_home : (u : Tid) → is_local setup c u ≡ true → (thread_at p u).ended ≡ true → (mine : Bool) → same_tid s u ≡ mine
             → is_home (if mine then post_woken setup c u else P u) ≡ true
         at_home u local ended mine is = grind (arith, same_tid_true, refuted)
-    by_home false away = record {
-      size = agrees.size;
-      calls = agrees.calls;
-      seats = λ u. sits u (same_tid s u) refl;
-      hands = λ u. held u (same_tid s u) refl;
-      ends = λ u local ended. at_home u local ended (same_tid s u) refl;
-    }
+    by_home false away = grind (arith, agrees, sits, held, at_home)
       where
         sits : (u : Tid) (mine : Bool) → same_tid s u ≡ mine
             → one_if (is_thread u p.current) + count_in u p.ready ≡ one_if (seat setup c u (if mine then post_woken setup c u else P u) (thread_at p u).ended)

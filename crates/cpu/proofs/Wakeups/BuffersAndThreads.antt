@@ -32,19 +32,10 @@ pub good_none : (setup : Setup) → Good setup []
 good_none setup = record {
   ordered = tt;
   pairs = λ b u k is. grind (arith, same_buffer, paired, marked_none, is);
-  pending = λ d u threads is. opening_pending d u threads is;
+  pending = λ d u threads is. grind (arith, and_right, is);
   small = λ u on. absurd (cc on);
   known = λ u off. absurd (cc off);
 }
-  where
-    threads_or : Option Block → List Tid
-    threads_or (Some (OfPending list)) = list
-    threads_or given = []
-
-    opening_pending : (d : CpuId) (u : Tid) (threads : List Tid) → Some (OfPending []) ≡ Some (OfPending threads)
-        → count_in u threads ≡ one_if (same_cpu (home_cpu setup u) d && false)
-    opening_pending d u threads is =
-        ap (count_in u) (sym (ap threads_or is)) ∙ sym (ap one_if (and_right (same_cpu (home_cpu setup u) d) false refl))
 
 -- How a section moves a thread.
 
@@ -115,8 +106,7 @@ module _ (setup : Setup) (past : List (Section Name)) (good : Good setup past) (
   edits k block =
       let g = progress setup (AtBuffer d) past in
       let mine = callers t caller in
-      let pair : Pair d t k g (visit setup t past) Home = subst (Pair d t k g (visit setup t past)) mine.here (good.pairs d t k block) in
-      may_edit d name k g (visit setup t past) (subst (λ o. ByCaller o (λ v. Pair d v k g (visit setup t past) Home)) (sym caller) pair) mine.due
+      may_edit d name k g (visit setup t past) (rw (caller, ← mine.here) (good.pairs d t k block)) mine.due
 
   keeps_block : (o : Option Block) → block_of setup (AtBuffer d) past ≡ o → MayEditBlock name o (progress setup (AtBuffer d) past)
   keeps_block o is = grind (arith, edits)
@@ -179,9 +169,6 @@ module _ (setup : Setup) (past : List (Section Name)) (good : Good setup past) (
         (good.known u) off;
   }
     where
-      log : List (Section Name)
-      log = record { cpu = c; lock = AtBuffer d; edit = name } ∷ past
-
       by_test : (b : BufId) (u : Tid) (k : Buffer) (here : Bool) → is_buffer b d ≡ here
           → (if here then option_map (edited name) (block_of setup (AtBuffer b) past) else block_of setup (AtBuffer b) past) ≡ Some (OfBuffer k)
           → Pair b u k (if here then progress_by name (block_of setup (AtBuffer b) past)
@@ -189,17 +176,10 @@ module _ (setup : Setup) (past : List (Section Name)) (good : Good setup past) (
           (visit setup u (record { cpu = c; lock = AtBuffer d; edit = name } ∷ past)) (post setup u (record { cpu = c; lock = AtBuffer d; edit = name } ∷ past))
       by_test b u k false off is = there_pair b off u k is
       by_test b u k true same is =
-          let P : BufId → Type 0 = λ x. option_map (edited name) (block_of setup (AtBuffer x) past) ≡ Some (OfBuffer k)
-          → Pair x u k (progress_by name (block_of setup (AtBuffer x) past) (progress setup (AtBuffer x) past))
-          (visit setup u (record { cpu = c; lock = AtBuffer d; edit = name } ∷ past))
-          (post setup u (record { cpu = c; lock = AtBuffer d; edit = name } ∷ past)) in
-          subst P (sym (buffer_true b d same)) (here_pair u k (block_of setup (AtBuffer d) past) refl) is
+          let e = buffer_true b d same in rw e (here_pair u k (block_of setup (AtBuffer d) past) refl (rw e at is))
 
 -- A section on pending threads.
 
-abbrev threads_or : Option Block → List Tid
-threads_or (Some (OfPending list)) = list
-threads_or given = []
 
 -- the queue of the lock at which the section came, and the queue of another lock
 module _ (setup : Setup) (past : List (Section Name)) (good : Good setup past) (c d : CpuId) where
@@ -247,9 +227,7 @@ module _ (setup : Setup) (past : List (Section Name)) (good : Good setup past) (
           → (if here then option_map (edited name) (block_of setup (Pending e) past) else block_of setup (Pending e) past) ≡ Some (OfPending now)
           → count_in u now ≡ one_if (same_cpu (home_cpu setup u) e && is_pending (post_pending setup d u name (post setup u past)))
       by_test e u now true same is =
-          let P : CpuId → Type 0 = λ x. option_map (edited name) (block_of setup (Pending x) past) ≡ Some (OfPending now)
-          → count_in u now ≡ one_if (same_cpu (home_cpu setup u) x && is_pending (post_pending setup d u name (post setup u past))) in
-          subst P (sym (same_cpu_true e d same)) (here_pending name may u now (block_of setup (Pending d) past) refl) is
+          let at = same_cpu_true e d same in rw at (here_pending name may u now (block_of setup (Pending d) past) refl (rw at at is))
       by_test e u now false off is = good.pending e u now is ∙ ap one_if (sym (grind (arith, may, off, same_tid_true, same_cpu_sym, same_cpu_true)))
 
 -- any section that may come
@@ -261,8 +239,7 @@ module _ (setup : Setup) (past : List (Section Name)) (good : Good setup past) (
       by_caller : (o : Option Tid) → caller_in name ≡ o → MayComeBy setup past c d name o
           → Good setup (record { cpu = c; lock = AtBuffer d; edit = name } ∷ past)
       by_caller None is now = absurd now
-      by_caller (Some t) is now =
-          good_buffer setup past good c d name (callers_are setup past c d name (subst (MayComeBy setup past c d name) (sym is) now)) t is
+      by_caller (Some t) is now = good_buffer setup past good c d name (callers_are setup past c d name may) t is
 
 pub good_step : (setup : Setup) (past : List (Section Name)) (s : Section Name) → Good setup past → MayCome setup past s → Good setup (s ∷ past)
 good_step setup past s good may = good_at setup past good s.cpu s.edit s.lock may

@@ -127,116 +127,94 @@ module _ (setup : Setup) (c : CpuId) (t : Tid) where
     before = gets.before;
     state = gets.state;
     past = gets.past;
-    stands = record {
-      here = gets.stands.here;
-      did = gets.stands.did;
-      free = gets.stands.free;
-      rests = gets.stands.rests;
-      room = let room = gets.stands.room in omega (arith, room, fewer);
-    };
+    stands = let at = gets.stands in grind (arith, at, fewer);
     goes = gets.goes;
     inside = gets.inside;
     block = gets.block;
   }
 
-  -- a signal that wakes nobody
-  signals_none : (s : Whole) (n left : ℕ) (k next : Buffer) (call more : Call) (traced : List Entry) → call.buffer ≡ more.buffer
-      → answer_of_buffer (section_due t call call.stage) k ≡ wakes None → edited_buffer (section_due t call call.stage) k ≡ next
-      → ((p : Private) (told : Reported) → with_told c p t call call.stage told ≡ with_call p t (Some more))
-      → ((p : Private) → returned_at setup p t more more.stage ≡ p)
-      → Gets s n k call traced (left + 3) → Gets s (n + 3) next more traced left
-  signals_none s n left k next call more traced same_buffer told edits recorded_so stays gets =
-      advance s n k next call more traced traced left (reports Nothing) gets told edits same_buffer
-      (λ p inside. answer_recorded p (with_call p t (Some more)) call more traced traced Nothing inside (recorded_so p Nothing)
-      (new_in p call more traced inside) (stays (with_call p t (Some more))))
+  -- A signal, behind which the call is as `more`.
 
-  -- a signal that wakes a thread at home here
-  signals_home : (s : Whole) (n left : ℕ) (k next : Buffer) (call more : Call) (traced : List Entry) (u : Tid)
-      → same_cpu (home_cpu setup u) c ≡ true → call.buffer ≡ more.buffer
-      → answer_of_buffer (section_due t call call.stage) k ≡ wakes (Some u) → edited_buffer (section_due t call call.stage) k ≡ next
-      → ((p : Private) (told : Reported) → with_told c p t call call.stage told ≡ with_call p t (Some more))
-      → ((p : Private) → returned_at setup p t more more.stage ≡ p)
-      → Gets s n k call traced (left + 3) → Gets s (n + 3) next more traced left
-  signals_home s n left k next call more traced u here same_buffer told edits recorded_so stays gets =
-      advance s n k next call more traced traced left (wakes (Some u)) gets told edits same_buffer (λ p inside.
-      let h = with_call p t (Some more) in
-      let now = new_in p call more traced inside in
-      let ready : Private = record h { ready = h.ready ++ u ∷ [] } in
-      let at : InCall setup c ready t more traced =
-      record {
-        hand = now.hand;
-        current = now.current;
-        calls = now.calls;
-        known = now.known;
-        live = grind (arith, now.live);
-        trace = now.trace;
-      } in
-      let same = after_is setup c p t call traced (wakes (Some u)) inside
-      ∙ ap (λ x. settled setup (woken setup c (Some u) x)) (recorded_so p Nothing)
-      ∙ ap (λ b. settled setup (if b then record h { ready = h.ready ++ u ∷ [] } else record h { hand = Some u })) here
-      ∙ settled_is setup c ready t more traced at ∙ stays ready in
-      subst (λ x. InCall setup c x t more traced) (sym same) at)
+  module _ (s : Whole) (k next : Buffer) (call more : Call) (traced : List Entry) (same_buffer : call.buffer ≡ more.buffer)
+      (edits : edited_buffer (section_due t call call.stage) k ≡ next)
+      (recorded_so : (p : Private) (told : Reported) → with_told c p t call call.stage told ≡ with_call p t (Some more))
+      (stays : (p : Private) → returned_at setup p t more more.stage ≡ p) where
+    -- a signal that wakes nobody
+    signals_none : (n left : ℕ) → answer_of_buffer (section_due t call call.stage) k ≡ wakes None
+        → Gets s n k call traced (left + 3) → Gets s (n + 3) next more traced left
+    signals_none n left told gets =
+        advance s n k next call more traced traced left (reports Nothing) gets told edits same_buffer
+        (λ p inside. answer_recorded p (with_call p t (Some more)) call more traced traced Nothing inside (recorded_so p Nothing)
+        (new_in p call more traced inside) (stays (with_call p t (Some more))))
 
-  -- a signal that wakes a thread of another CPU: the next section puts it among the pending there
-  signals_away : (s : Whole) (n left : ℕ) (k next : Buffer) (call more : Call) (traced : List Entry) (u : Tid)
-      → same_cpu (home_cpu setup u) c ≡ false → call.buffer ≡ more.buffer
-      → answer_of_buffer (section_due t call call.stage) k ≡ wakes (Some u) → edited_buffer (section_due t call call.stage) k ≡ next
-      → ((p : Private) (told : Reported) → with_told c p t call call.stage told ≡ with_call p t (Some more))
-      → ((p : Private) → returned_at setup p t more more.stage ≡ p)
-      → Gets s n k call traced ((left + 3) + 3) → Gets s ((n + 3) + 3) next more traced left
-  signals_away s n left k next call more traced u away same_buffer told edits recorded_so stays gets =
-      let q = gets.state in
-      let asks = asks_for setup c q t call traced gets.inside in
-      let answers = ap (λ ask. option_map (answer ask.name) (block_of setup ask.lock gets.past)) asks
-      ∙ ap (option_map (answer (section_due t call call.stage))) gets.block ∙ ap Some told in
-      let h = with_call q t (Some more) in
-      let held : Private = record h { hand = Some u } in
-      let same = after_is setup c q t call traced (wakes (Some u)) gets.inside
-      ∙ ap (λ x. settled setup (woken setup c (Some u) x)) (recorded_so q Nothing)
-      ∙ ap (λ b. settled setup (if b then record h { ready = h.ready ++ u ∷ [] } else record h { hand = Some u })) away in
-      let one = after_three setup c gets.now q (wakes (Some u)) in
-      let past : List (Section Name) = section_of c (asked setup c q) ∷ gets.past in
-      let by_one = steps_more setup c n 3 s ∙ ap (steps_by setup c 3) gets.by
-      ∙ three_steps setup c gets.now gets.before q gets.past (left + 3) (wakes (Some u)) gets.stands gets.goes answers in
-      let stands_one : Stands setup c one held past (left + 3) =
-      subst (λ x. Stands setup c one x past (left + 3)) same (stands_after setup c gets.now gets.before q gets.past (left + 3) (wakes (Some u)) gets.stands) in
-      let pends = ap (option_map (answer (Pend u))) (pending_there setup (home_cpu setup u) past).1 in
-      let now = new_in q call more traced gets.inside in
-      let at : InCall setup c (record h { hand = None }) t more traced =
-      grind (arith, now) in
-      let after = settled_is setup c (record h { hand = None }) t more traced at ∙ stays (record h { hand = None }) in
-      let inside_after = subst (λ x. InCall setup c x t more traced) (sym after) at in
-      record {
-        now = after_three setup c one held (reports Nothing);
-        by = steps_more setup c (n + 3) 3 s ∙ ap (steps_by setup c 3) by_one
-            ∙ three_steps setup c one held held past left (reports Nothing) stands_one refl pends;
-        before = after_section setup c held (reports Nothing);
-        state = after_section setup c held (reports Nothing);
-        past = section_of c (asked setup c held) ∷ past;
-        stands = stands_after setup c one held held past left (reports Nothing) stands_one;
-        goes = goes_on setup c (after_section setup c held (reports Nothing)) t more traced inside_after;
-        inside = inside_after;
-        block = grind (arith, past, asks, block_next);
-      }
+    -- a signal that wakes a thread at home here
+    signals_home : (n left : ℕ) (u : Tid) → same_cpu (home_cpu setup u) c ≡ true
+        → answer_of_buffer (section_due t call call.stage) k ≡ wakes (Some u)
+        → Gets s n k call traced (left + 3) → Gets s (n + 3) next more traced left
+    signals_home n left u here told gets =
+        advance s n k next call more traced traced left (wakes (Some u)) gets told edits same_buffer (λ p inside.
+        let h = with_call p t (Some more) in
+        let now = new_in p call more traced inside in
+        let ready : Private = record h { ready = h.ready ++ u ∷ [] } in
+        let at : InCall setup c ready t more traced = grind (arith, now) in
+        let same = after_is setup c p t call traced (wakes (Some u)) inside
+        ∙ ap (λ x. settled setup (woken setup c (Some u) x)) (recorded_so p Nothing)
+        ∙ ap (λ b. settled setup (if b then record h { ready = h.ready ++ u ∷ [] } else record h { hand = Some u })) here
+        ∙ settled_is setup c ready t more traced at ∙ stays ready in
+        subst (λ x. InCall setup c x t more traced) (sym same) at)
 
-  -- a signal, whomever it wakes
-  signals : (s : Whole) (n left : ℕ) (k next : Buffer) (call more : Call) (traced : List Entry) (woke : Option Tid) → call.buffer ≡ more.buffer
-      → answer_of_buffer (section_due t call call.stage) k ≡ wakes woke → edited_buffer (section_due t call call.stage) k ≡ next
-      → ((p : Private) (told : Reported) → with_told c p t call call.stage told ≡ with_call p t (Some more))
-      → ((p : Private) → returned_at setup p t more more.stage ≡ p)
-      → Gets s n k call traced (left + (3 + steps_to_move setup c woke)) → Gets s (n + (3 + steps_to_move setup c woke)) next more traced left
-  signals s n left k next call more traced None same_buffer told edits recorded_so stays gets =
-      signals_none s n left k next call more traced same_buffer told edits recorded_so stays gets
-  signals s n left k next call more traced (Some u) same_buffer told edits recorded_so stays gets = by_home (same_cpu (home_cpu setup u) c) refl gets
-    where
-      by_home : (here : Bool) → same_cpu (home_cpu setup u) c ≡ here → Gets s n k call traced (left + (3 + (if not here then 3 else 0)))
-          → Gets s (n + (3 + (if not here then 3 else 0))) next more traced left
-      by_home true here got = signals_home s n left k next call more traced u here same_buffer told edits recorded_so stays got
-      by_home false away got =
-          let same : (n + 3) + 3 ≡ n + 6 = omega arith in
-          subst (λ m. Gets s m next more traced left) same
-          (signals_away s n left k next call more traced u away same_buffer told edits recorded_so stays
-          (with_less s n k call traced (left + 6) ((left + 3) + 3) (omega arith) got))
+    -- a signal that wakes a thread of another CPU: the next section puts it among the pending there
+    signals_away : (n left : ℕ) (u : Tid) → same_cpu (home_cpu setup u) c ≡ false
+        → answer_of_buffer (section_due t call call.stage) k ≡ wakes (Some u)
+        → Gets s n k call traced ((left + 3) + 3) → Gets s ((n + 3) + 3) next more traced left
+    signals_away n left u away told gets =
+        let q = gets.state in
+        let asks = asks_for setup c q t call traced gets.inside in
+        let answers = ap (λ ask. option_map (answer ask.name) (block_of setup ask.lock gets.past)) asks
+        ∙ ap (option_map (answer (section_due t call call.stage))) gets.block ∙ ap Some told in
+        let h = with_call q t (Some more) in
+        let held : Private = record h { hand = Some u } in
+        let same = after_is setup c q t call traced (wakes (Some u)) gets.inside
+        ∙ ap (λ x. settled setup (woken setup c (Some u) x)) (recorded_so q Nothing)
+        ∙ ap (λ b. settled setup (if b then record h { ready = h.ready ++ u ∷ [] } else record h { hand = Some u })) away in
+        let one = after_three setup c gets.now q (wakes (Some u)) in
+        let past : List (Section Name) = section_of c (asked setup c q) ∷ gets.past in
+        let by_one = steps_more setup c n 3 s ∙ ap (steps_by setup c 3) gets.by
+        ∙ three_steps setup c gets.now gets.before q gets.past (left + 3) (wakes (Some u)) gets.stands gets.goes answers in
+        let stands_one : Stands setup c one held past (left + 3) =
+        subst (λ x. Stands setup c one x past (left + 3)) same (stands_after setup c gets.now gets.before q gets.past (left + 3) (wakes (Some u)) gets.stands) in
+        let pends = ap (option_map (answer (Pend u))) (pending_there setup (home_cpu setup u) past).1 in
+        let now = new_in q call more traced gets.inside in
+        let at : InCall setup c (record h { hand = None }) t more traced =
+        grind (arith, now) in
+        let after = settled_is setup c (record h { hand = None }) t more traced at ∙ stays (record h { hand = None }) in
+        let inside_after = subst (λ x. InCall setup c x t more traced) (sym after) at in
+        record {
+          now = after_three setup c one held (reports Nothing);
+          by = steps_more setup c (n + 3) 3 s ∙ ap (steps_by setup c 3) by_one
+              ∙ three_steps setup c one held held past left (reports Nothing) stands_one refl pends;
+          before = after_section setup c held (reports Nothing);
+          state = after_section setup c held (reports Nothing);
+          past = section_of c (asked setup c held) ∷ past;
+          stands = stands_after setup c one held held past left (reports Nothing) stands_one;
+          goes = goes_on setup c (after_section setup c held (reports Nothing)) t more traced inside_after;
+          inside = inside_after;
+          block = grind (arith, past, asks, block_next);
+        }
+
+    -- a signal, whomever it wakes
+    signals : (n left : ℕ) (woke : Option Tid) → answer_of_buffer (section_due t call call.stage) k ≡ wakes woke
+        → Gets s n k call traced (left + (3 + steps_to_move setup c woke)) → Gets s (n + (3 + steps_to_move setup c woke)) next more traced left
+    signals n left None told gets = signals_none n left told gets
+    signals n left (Some u) told gets = by_home (same_cpu (home_cpu setup u) c) refl gets
+      where
+        by_home : (here : Bool) → same_cpu (home_cpu setup u) c ≡ here → Gets s n k call traced (left + (3 + (if not here then 3 else 0)))
+            → Gets s (n + (3 + (if not here then 3 else 0))) next more traced left
+        by_home true here got = signals_home n left u here told got
+        by_home false away got =
+            let same : (n + 3) + 3 ≡ n + 6 = omega arith in
+            subst (λ m. Gets s m next more traced left) same
+            (signals_away n left u away told (with_less s n k call traced (left + 6) ((left + 3) + 3) (omega arith) got))
 
   -- the call has returned, with this trace; one step before it was under way
   pub record Returned (s : Whole) (n : ℕ) (traced : List Entry) : Type 0 where
@@ -299,10 +277,10 @@ module _ (setup : Setup) (c : CpuId) (t : Tid) where
       let theirs = steps_to_move setup c woke in
       let other = edited_buffer (first_signal t (side_of_group call.asks)) k in
       let both = edited_buffer (second_signal t (side_of_group call.asks)) other in
-      let one = signals s n (3 + (3 + mine)) k other (record call { stage = Signals }) (record call { stage = SignalsOwn }) traced woke refl first_tells refl
-      (λ p told. refl) (λ p. refl)
+      let one = signals s k other (record call { stage = Signals }) (record call { stage = SignalsOwn }) traced refl refl (λ p told. refl) (λ p. refl)
+      n (3 + (3 + mine)) woke first_tells
       (with_less s n k (record call { stage = Signals }) traced left ((3 + (3 + mine)) + (3 + theirs)) (omega (arith, space)) gets) in
-      let two = signals s (n + (3 + theirs)) 3 other both (record call { stage = SignalsOwn }) (record call { stage = Releases }) traced own refl own_tells refl
-      (λ p told. refl) (λ p. refl) one in
+      let two = signals s other both (record call { stage = SignalsOwn }) (record call { stage = Releases }) traced refl refl (λ p told. refl) (λ p. refl)
+      (n + (3 + theirs)) 3 own own_tells one in
       let same : ((n + (3 + theirs)) + (3 + mine)) + 3 ≡ n + (9 + (theirs + mine)) = omega arith in
       subst (λ m. Returned s m traced) same (releases s ((n + (3 + theirs)) + (3 + mine)) 0 both call traced none two)

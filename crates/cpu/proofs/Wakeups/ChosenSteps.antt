@@ -10,27 +10,21 @@ use Rattle.cpu.specs.Table.Choice.{new_call, with_call, with_state, begin_or_hal
 use Rattle.cpu.proofs.Wakeups.{Lists.refuted, PostsAndVisits.{Visit, is_local}, Agreement.{visit_of_call, is_done, Agrees, IsSettled, at_same, at_other}}
 use Rattle.cpu.proofs.Wakeups.Agreement.{same_with, agrees_same, runs_at_home, local_within}
 
--- the state that is chosen agrees
+-- the state that is chosen is so
+abbrev pub OfChoice : (Private → Type 0) → Choice → Type 0
+OfChoice Q (Halts reason) = Unit {0}
+OfChoice Q (Alone q) = Q q
+OfChoice Q (Goes q) = Q q
+
+-- it agrees
 abbrev pub ChoiceOk : Setup → CpuId → (Tid → Visit) → (Tid → Where) → Choice → Type 0
-ChoiceOk setup c T P (Halts reason) = Unit {0}
-ChoiceOk setup c T P (Alone q) = Agrees setup c q T P × IsSettled setup c q
-ChoiceOk setup c T P (Goes q) = Agrees setup c q T P × IsSettled setup c q
+ChoiceOk setup c T P = OfChoice (λ q. Agrees setup c q T P × IsSettled setup c q)
 
 module _ (setup : Setup) (c : CpuId) (p : Private) (T : Tid → Visit) (P : Tid → Where)
     (agrees : Agrees setup c p T P) (settled_before : IsSettled setup c p) where
   switches : (list : List Tid) → p.ready ≡ list → p.current ≡ None → p.hand ≡ None → ChoiceOk setup c T P (at_ready p list)
   switches [] is idle empty = (agrees, settled_before)
-  switches (t ∷ rest) is idle empty = (
-    record {
-      size = agrees.size;
-      calls = agrees.calls;
-      seats = λ u.
-          grind (arith, same_tid_sym);
-      hands = agrees.hands;
-      ends = agrees.ends;
-    },
-    λ u local done. refuted (ap is_some empty) (settled_before u local done).0,
-  )
+  switches (t ∷ rest) is idle empty = (grind (arith, agrees, same_tid_sym), λ u local done. refuted (ap is_some empty) (settled_before u local done).0)
 
   module _ (t : Tid) (empty : p.hand ≡ None) (runs_now : p.current ≡ Some t) (outside : (thread_at p t).call ≡ None) where
     known : t.0 < length p.threads

@@ -1,11 +1,12 @@
 -- One step of a CPU: each section that it ends is one that may come, and every CPU stays in agreement with the log.
 use Rattle.std.proofs.Common.{◌≡◌, Bool, true, false, List, [], ◌∷◌, ◌++◌, length, Option, Some, None, option_map, nat_lt, if◌then◌else◌, refl, sym, ap, ◌∙◌}
 use Rattle.std.proofs.{Common.{subst, arith}, lemmas.Bool.{and_parts, false_from_ne_true}}
-use Rattle.cpu.proofs.Wakeups.{Agreement.{at_other, at_same, Agrees, IsSettled, runs_at_home, local_within}, Lists.refuted, ThreadAtBuffer.woken_sleeps}
+use Rattle.cpu.proofs.Wakeups.{Agreement.{at_other, at_same, Agrees, IsSettled, runs_at_home, runs_within}, Lists.refuted, ThreadAtBuffer.woken_sleeps}
 use Rattle.cpu.proofs.Wakeups.{BuffersAndThreads.{Good, moves_at, CallersAre, callers_are, is_the_caller, sleeps_not_home}, SectionsAgree.IsCalling}
 use Rattle.cpu.proofs.Wakeups.SectionsAgree.{section_caller, agrees_call, agrees_pended, agrees_drained, agrees_yielded, agrees_foreign, drained_hand}
 use Rattle.cpu.proofs.Wakeups.PostsAndVisits.{caller_in, is_caller, post_pending, post_buffer, post, visit_moved, visit, is_local, IsCallers, MayComeBy}
 use Rattle.cpu.{proofs.Wakeups.PostsAndVisits.{MayComeTo, MayComeAt, MayCome}, specs.Table.Blocks.{Block, OfBuffer, OfPending, Name, Pend, TakeAll}}
+use Rattle.cpu.{proofs.ListFacts.ListReads.blocks_keep, specs.Table.Setups.opening}
 use Rattle.cpu.specs.Table.{Edits.{edited, answer, answer_of_buffer}, Setups.{Setup, Call, Private, thread_at, home_cpu, stands_at}, Steps.after_reply}
 use Rattle.cpu.specs.Table.Choice.{Ask, at_pending, at_buffer, section_due, asked_by, asked_at, asked_in, asked, with_state, after_call, after_by, after_at}
 use Rattle.{cpu.specs.{Table.Choice.after_in, Wakeups.Order.block_of}, event_log.specs.declared.ids.{CpuId.CpuId, Tid.Tid, BufId.BufId, LockId.LockId}}
@@ -16,23 +17,15 @@ use Rattle.layer_traits.{specs.Threads.Places.count_in, proofs.PlaceLemmas.{is_h
 -- The locks' blocks are of their kinds.
 
 pub pending_there : (setup : Setup) (d : CpuId) (past : List (Section Name)) → (list : List Tid) × (block_of setup (Pending d) past ≡ Some (OfPending list))
-pending_there setup d [] = ([], refl)
-pending_there setup d (s ∷ past) = by_test (same_lock (Pending d) s.lock) (block_of setup (Pending d) past) (pending_there setup d past)
-  where
-    by_test : (here : Bool) (o : Option Block) → ((list : List Tid) × (o ≡ Some (OfPending list)))
-        → (list : List Tid) × ((if here then option_map (edited s.edit) o else o) ≡ Some (OfPending list))
-    by_test true o before = (_, ap (option_map (edited s.edit)) before.1)
-    by_test false o before = before
+pending_there setup d =
+    blocks_keep (λ o. (list : List Tid) × (o ≡ Some (OfPending list))) edited (opening setup) (Pending d) ([], refl)
+    (λ e o before. (_, ap (option_map (edited e)) before.1))
 
 pub no_pending_at_buffer : (setup : Setup) (b : BufId) (past : List (Section Name)) (list : List Tid)
     → block_of setup (AtBuffer b) past ≡ Some (OfPending list) → ⊥
-no_pending_at_buffer setup b [] list is = grind arith
-no_pending_at_buffer setup b (s ∷ past) list is =
-    by_test (same_lock (AtBuffer b) s.lock) (block_of setup (AtBuffer b) past) (no_pending_at_buffer setup b past) is
-  where
-    by_test : (here : Bool) (o : Option Block) → ((before : List Tid) → o ≡ Some (OfPending before) → ⊥)
-        → (if here then option_map (edited s.edit) o else o) ≡ Some (OfPending list) → ⊥
-    by_test here o before now = grind arith
+no_pending_at_buffer setup b =
+    blocks_keep (λ o. (list : List Tid) → o ≡ Some (OfPending list) → ⊥) edited (opening setup) (AtBuffer b)
+    (λ list is. grind arith) (λ e o before list is. grind arith)
 
 -- Another CPU's section.
 
@@ -94,48 +87,29 @@ module _ (setup : Setup) (past : List (Section Name)) (good : Good setup past) (
   give_pend : (s : Tid) → p.hand ≡ Some s → GiveOk setup past c p (Pending (home_cpu setup s)) (Pend s)
   give_pend s holds =
       let there = pending_there setup (home_cpu setup s) past in
-      let is = ap (λ o. after_reply setup c p (option_map (answer (Pend s)) o)) there.1
-      ∙ ap (λ h. after_in setup c p h (answer (Pend s) (OfPending there.0))) holds in
       let held = is_hand_true c (post setup s past) (sym (agrees.hands s) ∙ ap (is_thread s) holds ∙ same_tid_self s) in
       let now = agrees_pended setup c p (λ u. visit setup u past) (λ u. post setup u past) agrees settled_before (home_cpu setup s) s holds in
-      record {
-        may = (held, refl);
-        agrees =
-            subst (λ q. Agrees setup c q (λ u. visit setup u past) (λ u. post_pending setup (home_cpu setup s) u (Pend s) (post setup u past))) (sym is) now.0;
-        settled = subst (IsSettled setup c) (sym is) now.1;
-      }
+      record { may = (held, refl); agrees = rw (there.1, holds) now.0; settled = rw (there.1, holds) now.1 }
 
   give_drain : p.hand ≡ None → p.current ≡ None → GiveOk setup past c p (Pending c) TakeAll
   give_drain empty idle =
       let there = pending_there setup c past in
-      let list = there.0 in
-      let is = ap (λ o. after_reply setup c p (option_map (answer TakeAll) o)) there.1
-      ∙ ap (λ h. after_in setup c p h (answer TakeAll (OfPending list))) empty
-      ∙ ap (λ h. after_at setup c p h (answer TakeAll (OfPending list))) idle in
-      let now = agrees_drained setup c p (λ u. visit setup u past) (λ u. post setup u past) agrees settled_before list
-      (λ u. good.pending c u list there.1) good.known in
-      record {
-        may = refl;
-        agrees = subst (λ q. Agrees setup c q (λ u. visit setup u past) (λ u. post_pending setup c u TakeAll (post setup u past))) (sym is) now;
-        settled = subst (IsSettled setup c) (sym is) settled_before;
-      }
+      let now = agrees_drained setup c p _ _ agrees settled_before there.0 (λ u. good.pending c u there.0 there.1) good.known in
+      record { may = refl; agrees = rw (there.1, empty, idle) (rw (empty, idle) at now); settled = rw (there.1, empty, idle) (rw (empty, idle) at settled_before) }
 
   give_yield : p.hand ≡ None → (t : Tid) → p.current ≡ Some t → (thread_at p t).call ≡ None → GiveOk setup past c p (Pending c) TakeAll
   give_yield empty t runs_now outside =
       let there = pending_there setup c past in
       let list = there.0 in
       let guest = after_yield (stands_at setup p t) (thread_at p t).guest in
-      let q : Private = record (with_state p t guest) { current = None; ready = (p.ready ++ list) ++ t ∷ [] } in
+
       let is = ap (λ o. after_reply setup c p (option_map (answer TakeAll) o)) there.1
       ∙ ap (λ h. after_in setup c p h (answer TakeAll (OfPending list))) empty
       ∙ ap (λ h. after_at setup c p h (answer TakeAll (OfPending list))) runs_now
       ∙ ap (λ h. after_by setup c p t h (answer TakeAll (OfPending list))) outside in
-      let drained_now = agrees_drained setup c p (λ u. visit setup u past) (λ u. post setup u past) agrees settled_before list
-      (λ u. good.pending c u list there.1) good.known in
-      let now = agrees_yielded setup c (record p { ready = p.ready ++ list }) (λ u. visit setup u past)
-      (λ u. post_pending setup c u TakeAll (post setup u past)) drained_now t runs_now guest in
-      let known = local_within setup c p (λ u. visit setup u past) (λ u. post setup u past) agrees t
-      (runs_at_home setup c p (λ u. visit setup u past) (λ u. post setup u past) agrees t runs_now).0 in
+      let drained_now = agrees_drained setup c p _ _ agrees settled_before list (λ u. good.pending c u list there.1) good.known in
+      let now = agrees_yielded setup c (record p { ready = p.ready ++ list }) _ _ drained_now t runs_now guest in
+      let known = runs_within setup c p _ _ agrees t runs_now in
       record {
         may = refl;
         agrees = subst (λ x. Agrees setup c x (λ u. visit setup u past) (λ u. post_pending setup c u TakeAll (post setup u past))) (sym is) now;
@@ -146,9 +120,6 @@ module _ (setup : Setup) (past : List (Section Name)) (good : Good setup past) (
       → GiveOk setup past c p (AtBuffer call.buffer) (section_due t call call.stage)
   give_call empty t runs_now call is = by_block (block_of setup (AtBuffer call.buffer) past) refl
     where
-      name : Name
-      name = section_due t call call.stage
-
       at : (is_local setup c t ≡ true) × (is_home (post setup t past) ≡ true) × ((thread_at p t).ended ≡ false) × (count_in t p.ready ≡ 0)
       at = runs_at_home setup c p (λ u. visit setup u past) (λ u. post setup u past) agrees t runs_now
 
@@ -160,11 +131,7 @@ module _ (setup : Setup) (past : List (Section Name)) (good : Good setup past) (
 
       by_block : (o : Option Block) → block_of setup (AtBuffer call.buffer) past ≡ o
           → GiveOk setup past c p (AtBuffer call.buffer) (section_due t call call.stage)
-      by_block None block = record {
-        may = may_come;
-        agrees = rw block agrees;
-        settled = subst (λ o. IsSettled setup c (after_reply setup c p (option_map (answer (section_due t call call.stage)) o))) (sym block) settled_before;
-      }
+      by_block None block = record { may = may_come; agrees = rw block agrees; settled = rw block settled_before }
       by_block (Some (OfPending list)) block = absurd (no_pending_at_buffer setup call.buffer past list block)
       by_block (Some (OfBuffer k)) block =
           let asleep : (s : Tid) → (answer_of_buffer (section_due t call call.stage) k).woke ≡ Some s

@@ -9,7 +9,7 @@ use Rattle.{layer_traits.specs.declared.call_states.Stage.TheVariants.{SignalsOw
 use Rattle.cpu.specs.Table.Setups.{Setup, Call, Thread, Private, new_thread, thread_at, with_thread, program_of, stands_at, boot_of, home_threads, open_calls}
 use Rattle.cpu.specs.Table.{Setups.have_ended, Choice.{Choice, Halts, Alone, Goes, new_call, with_call, begin_or_halt, at_instruction, at_call, at_ready}}
 use Rattle.cpu.specs.Table.Choice.{at_current, at_hand, choice, with_told, slept_if, woken, settled, after_by, after_at, after_in, after_section}
-use Rattle.cpu.{specs.Wakeups.Quiet.IsNextEffect, proofs.Wakeups.{Lists.refuted, Agreement.{at_same, at_other}}}
+use Rattle.cpu.{specs.Wakeups.Quiet.IsNextEffect, proofs.Wakeups.{Lists.refuted, Agreement.{at_same, at_other}, ChosenSteps.OfChoice}}
 
 abbrev pub is_before : Stage → Bool
 is_before Signals = false
@@ -46,7 +46,7 @@ pub record Fine (setup : Setup) (u : Tid) (x : Thread) : Type 0 where
 abbrev pub AllFine : Setup → Private → Type 0
 AllFine setup p = (u : Tid) → Fine setup u (thread_at p u)
 
-all_new : {A : Type 0} (homes : List A) (i : ℕ) → get_or (map (λ home. new_thread) homes) i new_thread ≡ new_thread
+pub all_new : {A : Type 0} (homes : List A) (i : ℕ) → get_or (map (λ home. new_thread) homes) i new_thread ≡ new_thread
 all_new (home ∷ homes) (suc i) = all_new homes i
 all_new homes i = refl
 
@@ -102,9 +102,7 @@ module _ (setup : Setup) (c : CpuId) where
   -- The choice.
 
   abbrev pub FineChoice : Choice → Type 0
-  FineChoice (Halts reason) = Unit {0}
-  FineChoice (Alone q) = AllFine setup q
-  FineChoice (Goes q) = AllFine setup q
+  FineChoice = OfChoice (AllFine setup)
 
   module _ (p : Private) (fine : AllFine setup p) (alive : (t : Tid) → p.current ≡ Some t → (thread_at p t).ended ≡ false) where
     fine_begins : (t : Tid) → p.current ≡ Some t → (call : Call) → call.effect ≡ None

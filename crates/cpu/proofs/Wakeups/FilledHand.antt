@@ -7,8 +7,8 @@ use Rattle.layer_traits.specs.{declared.{steps.Reason.TheVariants.{AllEnded, Tra
 use Rattle.cpu.specs.Table.{Blocks.{Name, Reported}, Setups.{Setup, Call, Private, thread_at, stands_at, home_threads, open_calls, have_ended}, Choice.Choice}
 use Rattle.cpu.specs.Table.Choice.{Halts, Alone, Goes, with_call, at_instruction, at_call, at_ready, at_current, at_hand, choice, with_told, slept_if, woken}
 use Rattle.cpu.specs.Table.{Choice.{returned_in, settled}, Steps.{acting, chosen_step, step_in, cpu_step, Whole, system_step, IsReached, boots, steps_once}}
-use Rattle.cpu.proofs.Wakeups.{Lists.refuted, Agreement.{at_same, local_within, runs_at_home}, PostsAndVisits.{post, visit}, ChosenSteps.{ChoiceOk, choice_ok}}
-use Rattle.cpu.proofs.Wakeups.{ReachedStates.{Ok, get_set, boots_at, reached_sound, Sound}, SystemInv.{NextIs, same, went, next_is}}
+use Rattle.cpu.proofs.Wakeups.{Lists.refuted, Agreement.{at_same, runs_within}, SectionsAgree.slept_hand, ChosenSteps.OfChoice, ReachedStates.step_keeps}
+use Rattle.cpu.proofs.Wakeups.{ReachedStates.{Ok, all_set, boots_at, reached_sound, Sound}, SystemInv.{NextIs, same, went, next_is}}
 
 abbrev pub IsFilled : Private → Type 0
 IsFilled p = (t : Tid) → is_some p.hand ≡ true → p.current ≡ Some t → is_some (thread_at p t).call ≡ true
@@ -42,17 +42,13 @@ module _ (setup : Setup) (c : CpuId) where
       → IsFilled (settled setup (woken setup c woke q))
   filled_woken woke q empty inside = grind (arith, empty_filled, settled_empty)
 
-  slept_hand : (slept : Bool) (q : Private) → q.hand ≡ None → (slept_if slept q).hand ≡ None
-  slept_hand slept q empty = grind arith
 
   filled_acting : (p : Private) → IsFilled p → ((t : Tid) → p.current ≡ Some t → t.0 < length p.threads)
       → (log : List (Action Name)) → IsFilled (acting setup c p log).next
   filled_acting p filled known log = grind (arith, empty_filled, recorded_some, filled_woken, slept_hand, some_inside, settled_empty)
 
   abbrev FilledChoice : Choice → Type 0
-  FilledChoice (Halts reason) = Unit {0}
-  FilledChoice (Alone q) = IsFilled q
-  FilledChoice (Goes q) = IsFilled q
+  FilledChoice = OfChoice IsFilled
 
   filled_choice : (p : Private) → IsFilled p → FilledChoice (choice setup c p)
   filled_choice p filled = by_hand p.hand refl
@@ -89,37 +85,17 @@ module _ (setup : Setup) (c : CpuId) where
       by_hand None empty = by_ended empty (have_ended p (home_threads setup c))
 
   filled_step : (p : Private) (log : List (Action Name)) → Ok setup c p log → IsFilled p → IsFilled (cpu_step setup c p log).next
-  filled_step p log ok filled = by_section (is_in_section (phase c log))
-    where
-      by_choice : (what : Choice) → ChoiceOk setup c (λ u. visit setup u (sections_in log)) (λ u. post setup u (sections_in log)) what → FilledChoice what
-          → IsFilled (chosen_step setup c p what log).next
-      by_choice (Halts reason) agrees now = filled
-      by_choice (Alone q) agrees now = now
-      by_choice (Goes q) agrees now =
-          filled_acting q now (λ t runs_now. local_within setup c q (λ u. visit setup u (sections_in log)) (λ u. post setup u (sections_in log)) agrees.0 t
-          (runs_at_home setup c q (λ u. visit setup u (sections_in log)) (λ u. post setup u (sections_in log)) agrees.0 t runs_now).0) log
-
-      by_section : (inside : Bool) → IsFilled (step_in setup c p log inside).next
-      by_section true =
-          filled_acting p filled (λ t runs_now. local_within setup c p (λ u. visit setup u (sections_in log)) (λ u. post setup u (sections_in log)) ok.agrees t
-          (runs_at_home setup c p (λ u. visit setup u (sections_in log)) (λ u. post setup u (sections_in log)) ok.agrees t runs_now).0) log
-      by_section false =
-          by_choice (choice setup c p) (choice_ok setup c p (λ u. visit setup u (sections_in log)) (λ u. post setup u (sections_in log)) ok.agrees ok.settled)
-          (filled_choice p filled)
+  filled_step p log ok filled =
+      step_keeps setup c p log IsFilled ok filled (filled_choice p filled) (λ q agrees now. filled_acting q now (runs_within setup c q _ _ agrees) log)
 
 abbrev pub AllFilled : Whole → Type 0
 AllFilled s = (e : CpuId) (p : Private) → slice_get s.cpus e.0 ≡ Some p → IsFilled p
 
 filled_next : (setup : Setup) (c : CpuId) (s next : Whole) → Sound setup s → AllFilled s → NextIs setup c s next → AllFilled next
 filled_next setup c s next sound filled same = filled
-filled_next setup c s next sound filled (went p here) = λ e q is. by_test e q is (same_cpu c e) refl
-  where
-    by_test : (e : CpuId) (q : Private) → slice_get (slice_set s.cpus c.0 (cpu_step setup c p s.log).next) e.0 ≡ Some q
-        → (mine : Bool) → same_cpu c e ≡ mine → IsFilled q
-    by_test e q is true own =
-        subst IsFilled (get_set s.cpus c.0 e.0 (cpu_step setup c p s.log).next q is (eqb-true c.0 e.0 own))
-        (filled_step setup c p s.log (sound.cpus c p here) (filled c p here))
-    by_test e q is false off = filled e q (sym (set_else s.cpus c.0 e.0 (cpu_step setup c p s.log).next (λ same. eqb-false c.0 e.0 off (sym same))) ∙ is)
+filled_next setup c s next sound filled (went p here) =
+    all_set (λ e. IsFilled) s.cpus c (cpu_step setup c p s.log).next (filled_step setup c p s.log (sound.cpus c p here) (filled c p here))
+    (λ e q off. filled e q)
 
 pub reached_filled : (setup : Setup) (room : ℕ) (s : Whole) → IsReached setup room s → AllFilled s
 reached_filled setup room s boots = grind (arith, boots_at, empty_filled)

@@ -61,29 +61,28 @@ goes_long setup sched ps log (goes {before = before} {ps = qs} {log = past} c p 
 
 -- ---- the steps of one CPU that do no action
 
-data Way (setup : Setup) (c : CpuId) (log : List (Action Name)) (from : Private) : Private → Type 0 where
+pub data Way (setup : Setup) (c : CpuId) (log : List (Action Name)) (from : Private) : Private → Type 0 where
   stays : Way setup c log from from
   alone : {p : Private} → Way setup c log from p → (cpu_step setup c p log).answer ≡ Stepped → (cpu_step setup c p log).acts ≡ []
       → Way setup c log from (cpu_step setup c p log).next
 
 -- a step does one action of its CPU, or none
-IsShort : CpuId → List (Action Name) → Type 0
+abbrev IsShort : CpuId → List (Action Name) → Type 0
 IsShort c acts = (acts ≡ []) ⊎ ((a : Action Name) × (acts ≡ a ∷ []) × (same_cpu (cpu_of_action a) c ≡ true))
 
 short : (setup : Setup) (c : CpuId) (p : Private) (log : List (Action Name)) → IsShort c (cpu_step setup c p log).acts
-unfolding IsShort
 short setup c p log = grind (arith, same_cpu_self c)
 
 -- the way of a CPU before the newest action, what that action made of it, and its way behind it
-record Cut (setup : Setup) (c : CpuId) (a : Action Name) (past : List (Action Name)) (p : Private) : Type 0 where
-  before : Private
-  count : ℕ
-  along : AlongTable setup c count before past
-  mid : Private
-  next : ((same_cpu (cpu_of_action a) c ≡ false) × (mid ≡ before))
+pub record Cut (setup : Setup) (c : CpuId) (a : Action Name) (past : List (Action Name)) (p : Private) : Type 0 where
+  pub before : Private
+  pub count : ℕ
+  pub along : AlongTable setup c count before past
+  pub mid : Private
+  pub next : ((same_cpu (cpu_of_action a) c ≡ false) × (mid ≡ before))
       ⊎ ((same_cpu (cpu_of_action a) c ≡ true) × ((cpu_step setup c before past).acts ≡ a ∷ []) × ((cpu_step setup c before past).answer ≡ Stepped)
       × (mid ≡ (cpu_step setup c before past).next))
-  way : Way setup c (a ∷ past) mid p
+  pub way : Way setup c (a ∷ past) mid p
 
 -- one more step without an action
 longer : (setup : Setup) (c : CpuId) (from q : Private) (log log2 : List (Action Name)) → log ≡ log2 → Way setup c log2 from q
@@ -92,9 +91,8 @@ longer setup c from q log log2 same way taken none =
     subst (λ l. Way setup c log2 from (cpu_step setup c q l).next) (sym same)
     (alone way (subst (λ l. (cpu_step setup c q l).answer ≡ Stepped) same taken) (subst (λ l. (cpu_step setup c q l).acts ≡ []) same none))
 
-cut : (setup : Setup) (c : CpuId) (n : ℕ) (p : Private) (log : List (Action Name)) → AlongTable setup c n p log
+pub cut : (setup : Setup) (c : CpuId) (n : ℕ) (p : Private) (log : List (Action Name)) → AlongTable setup c n p log
     → (a : Action Name) (past : List (Action Name)) → log ≡ a ∷ past → Cut setup c a past p
-unfolding IsShort
 cut setup c n p log starts = λ a past is. absurd (cc is)
 cut setup c n p log (others {n = m} {p = q} {log = before} b along off) = λ a past is. record {
   before = q;
@@ -141,7 +139,6 @@ cut setup c n p log (steps {n = m} {p = q} {log = before} along taken) =
 -- the way of a CPU before any action
 from_boot : (setup : Setup) (c : CpuId) (n : ℕ) (p : Private) (log : List (Action Name)) → AlongTable setup c n p log → log ≡ []
     → Way setup c [] (boot_of setup c) p
-unfolding IsShort
 from_boot setup c n p log starts = λ is. stays
 from_boot setup c n p log (others {n = m} {p = q} {log = before} b along off) = λ is. absurd (cc is)
 from_boot setup c n p log (steps {n = m} {p = q} {log = before} along taken) = λ is. by_acts (short setup c q before) is (from_boot setup c m q before along)
@@ -187,18 +184,17 @@ move setup log sched ps k q p below at here (alone {p = r} way stepped none) =
     }
 
 -- a CPU has a way from here to where it is to be
-FromWay : Setup → List (Action Name) → (ℕ → Private → Type 0) → ℕ → Private → Type 0
+abbrev FromWay : Setup → List (Action Name) → (ℕ → Private → Type 0) → ℕ → Private → Type 0
 FromWay setup log R k q = (p : Private) × Way setup (cpu_numbered k) log q p × R k p
 
 -- the first n CPUs have gone their ways
-Half : Setup → List (Action Name) → (ℕ → Private → Type 0) → ℕ → ℕ → Private → Type 0
+abbrev Half : Setup → List (Action Name) → (ℕ → Private → Type 0) → ℕ → ℕ → Private → Type 0
 Half setup log R n k q = (k < n → R k q) × (n ≤ k → FromWay setup log R k q)
 
 -- CPU n has gone its way too
 gone : (setup : Setup) (log : List (Action Name)) (R : ℕ → Private → Type 0) (n : ℕ) (ps : List Private) (p : Private) (m : Moved setup log ps n p) → R n p
     → (k : ℕ) → ((q : Private) × (slice_get ps k ≡ Some q) × Half setup log R n k q) → (k ≡ n) ⊎ (k ≡ n → ⊥)
     → (q : Private) × (slice_get m.qs k ≡ Some q) × Half setup log R (suc n) k q
-unfolding Half
 gone setup log R n ps p m is k at (inl same) = (
   p,
   subst (λ i. slice_get m.qs i ≡ Some p) (sym same) m.here,
@@ -212,7 +208,6 @@ gone setup log R n ps p m is k at (inr off) = (
 
 halfway : (setup : Setup) (log : List (Action Name)) (R : ℕ → Private → Type 0) → Reached setup log (FromWay setup log R) → (n : ℕ) → n ≤ setup.cpus
     → Reached setup log (Half setup log R n)
-unfolding Half FromWay
 halfway setup log R from zero few = record {
   sched = from.sched;
   ps = from.ps;
@@ -225,15 +220,9 @@ halfway setup log R from (suc n) few =
     let x = r.all n below in
     let on : FromWay setup log R n x.0 = x.2.1 (omega arith) in
     let m = move setup log r.sched r.ps n x.0 on.0 below r.way x.1 on.1 in
-    record {
-      sched = m.sched;
-      ps = m.qs;
-      way = m.way;
-      all = λ k within. gone setup log R n r.ps on.0 m on.2 k (r.all k within) (cases_eq k n);
-    }
+    record { sched = m.sched; ps = m.qs; way = m.way; all = λ k within. gone setup log R n r.ps on.0 m on.2 k (r.all k within) (cases_eq k n) }
 
 ways : (setup : Setup) (log : List (Action Name)) (R : ℕ → Private → Type 0) → Reached setup log (FromWay setup log R) → Reached setup log R
-unfolding Half
 ways setup log R from =
     let r = halfway setup log R from setup.cpus (omega arith) in
     record { sched = r.sched; ps = r.ps; way = r.way; all = λ k below. let x = r.all k below in (x.0, x.1, x.2.0 below) }
@@ -241,23 +230,22 @@ ways setup log R from =
 -- ---- along the list
 
 -- a CPU has come to its private state along the list, and this holds of it
-Came : Setup → List (Action Name) → (ℕ → Private → Type 0) → ℕ → Type 0
+abbrev Came : Setup → List (Action Name) → (ℕ → Private → Type 0) → ℕ → Type 0
 Came setup log R k = (n : ℕ) × (p : Private) × AlongTable setup (cpu_numbered k) n p log × R k p
 
 -- what the newest action makes of a CPU's private state
-Turn : Setup → Action Name → List (Action Name) → ℕ → Private → Private → Type 0
+abbrev Turn : Setup → Action Name → List (Action Name) → ℕ → Private → Private → Type 0
 Turn setup a past k r mid = ((same_cpu (cpu_of_action a) (cpu_numbered k) ≡ false) × (mid ≡ r))
     ⊎ ((same_cpu (cpu_of_action a) (cpu_numbered k) ≡ true) × ((cpu_step setup (cpu_numbered k) r past).acts ≡ a ∷ [])
     × ((cpu_step setup (cpu_numbered k) r past).answer ≡ Stepped) × (mid ≡ (cpu_step setup (cpu_numbered k) r past).next))
 
 -- from here the newest action and a way behind it lead to where the CPU is to be
-Before : Setup → Action Name → List (Action Name) → (ℕ → Private → Type 0) → ℕ → Private → Type 0
+abbrev Before : Setup → Action Name → List (Action Name) → (ℕ → Private → Type 0) → ℕ → Private → Type 0
 Before setup a past R k r = (mid : Private) × Turn setup a past k r mid × FromWay setup (a ∷ past) R k mid
 
 -- a CPU that did not act stands where it stood
 idle : (setup : Setup) (a : Action Name) (past : List (Action Name)) (R : ℕ → Private → Type 0) (k : ℕ) (r : Private) → (k ≡ (cpu_of_action a).0 → ⊥)
     → Before setup a past R k r → FromWay setup (a ∷ past) R k r
-unfolding Before Turn
 idle setup a past R k r off (mid, inl same, on) = subst (λ q. FromWay setup (a ∷ past) R k q) same.1 on
 idle setup a past R k r off (mid, inr acted, on) = absurd (off (number acted.0))
   where
@@ -267,7 +255,6 @@ idle setup a past R k r off (mid, inr acted, on) = absurd (off (number acted.0))
 -- the CPU that acts goes on
 acted : (setup : Setup) (a : Action Name) (past : List (Action Name)) (R : ℕ → Private → Type 0) → (cpu_of_action a).0 < setup.cpus
     → Reached setup past (Before setup a past R) → Reached setup (a ∷ past) (FromWay setup (a ∷ past) R)
-unfolding Before Turn
 acted setup a past R within before = let x = before.all d within in by_turn x.0 x.1 x.2.0 x.2.1 x.2.2
   where
     d : ℕ
@@ -303,7 +290,6 @@ acted setup a past R within before = let x = before.all d within in by_turn x.0 
 
 merged : (setup : Setup) (log : List (Action Name)) → ((c : CpuId) → setup.cpus ≤ c.0 → own_events cpu_of_action c log ≡ [])
     → (R : ℕ → Private → Type 0) → ((k : ℕ) → k < setup.cpus → Came setup log R k) → Reached setup log R
-unfolding Came Before FromWay Turn
 merged setup [] rest R came = ways setup [] R (record {
   sched = [];
   ps = boots_from setup 0 setup.cpus;
@@ -336,11 +322,10 @@ merged setup (a ∷ past) rest R came = by_cpu (merged setup past earlier (Befor
         (sym (same_cpu_self (cpu_of_action a))) ∙ rest (cpu_of_action a) beyond))
 
 -- where each CPU came along the list
-Last : (setup : Setup) (log : List (Action Name)) → IsWorked setup log → ℕ → Private → Type 0
+abbrev Last : (setup : Setup) (log : List (Action Name)) → IsWorked setup log → ℕ → Private → Type 0
 Last setup log worked k p = (below : k < setup.cpus) × (p ≡ (worked.ran (cpu_numbered k) below).last)
 
 pub work_is_a_run : WorkIsARun
-unfolding Last Came
 work_is_a_run setup log worked =
     let r = merged setup log worked.rest (Last setup log worked) (λ k below.
     let ran = worked.ran (cpu_numbered k) below in (ran.count, ran.last, ran.steps, (below, refl))) in

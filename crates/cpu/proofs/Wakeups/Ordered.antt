@@ -8,13 +8,9 @@ use Rattle.cpu.specs.Wakeups.{Order.{progress_by, block_of, KeepsOrderAt, IsInOr
 use Rattle.{cpu.proofs.Wakeups.{Lists.refuted, Awake.{Fits, IsAwake, stays_awake, IsCalm}}, layer_traits.specs.declared.locked.Side.Side}
 use Rattle.layer_traits.specs.declared.locked.Side.TheVariants.{Receivers, Senders}
 
--- what is in an option of blocks, if it is a buffer
-abbrev pub buffer_or : Buffer → Option Block → Buffer
-buffer_or k (Some (OfBuffer now)) = now
-buffer_or k given = k
 
 pub same_buffer : (k now : Buffer) → Some (OfBuffer k) ≡ Some (OfBuffer now) → k ≡ now
-same_buffer k now is = ap (buffer_or k) is
+same_buffer k now is = cc
 
 -- after sections in their order each buffer is awake
 pub buffer_awake : (setup : Setup) (sections : List (Section Name)) → IsInOrder setup sections → (b : BufId) (k : Buffer)

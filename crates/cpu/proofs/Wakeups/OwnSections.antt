@@ -150,16 +150,7 @@ pub record Apart (b : BufId) (visit next : Visit) : Type 0 where
 pub stays_apart : (b d : BufId) (name : Name) (k : Buffer) (visit : Visit) → is_buffer b d ≡ false → IsDue d name visit
     → Apart b visit (next_visit d name k visit)
 stays_apart b d (AcqQ t) k Outside off due = record { before = refl; after = off }
-stays_apart b d (AcqQ t) k (Waiting e side) off due = record { before = subst (λ x. is_buffer b x ≡ false) (sym due) off; after = off }
-stays_apart b d (Enter t side) k (In e Begins) off due = record { before = subst (λ x. is_buffer b x ≡ false) (sym due) off; after = off }
-stays_apart b d (Shut t) k (In e Begins) off due = record { before = subst (λ x. is_buffer b x ≡ false) (sym due) off; after = off }
-stays_apart b d (TryPut t m) k (In e (HasEntered Senders)) off due = record { before = subst (λ x. is_buffer b x ≡ false) (sym due) off; after = off }
-stays_apart b d (TryTake t) k (In e (HasEntered Receivers)) off due = record { before = subst (λ x. is_buffer b x ≡ false) (sym due) off; after = off }
-stays_apart b d (WaitOn t side) k (In e (WasRefused other)) off due = record { before = subst (λ x. is_buffer b x ≡ false) (sym due.0) off; after = off }
-stays_apart b d (SigRecv t) k (In e (Owes r s)) off due = record { before = subst (λ x. is_buffer b x ≡ false) (sym due) off; after = off }
-stays_apart b d (SigSend t) k (In e (Owes r s)) off due = record { before = subst (λ x. is_buffer b x ≡ false) (sym due) off; after = off }
-stays_apart b d (RelQ t) k (In e (Owes r s)) off due = record { before = subst (λ x. is_buffer b x ≡ false) (sym due.0) off; after = refl }
-stays_apart b d name k visit off due = absurd due
+stays_apart b d name k visit off due = grind arith
 
 -- the pair of a thread whose place bears the same marks of the buffer
 pub post_apart : (b : BufId) (u : Tid) (k : Buffer) (g : Progress) (visit : Visit) (post next : Where)

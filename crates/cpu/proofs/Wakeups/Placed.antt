@@ -8,6 +8,7 @@ use Rattle.{layer_traits.specs.Threads.Places.{Where, Hand, Asleep, At, is_threa
 use Rattle.cpu.{specs.{Table.{Edits.answer_of_buffer, Setups.{Setup, opening_buffer}}, Wakeups.Order.block_of}, proofs.Wakeups.PostsAndVisits.{Waiting, Visit}}
 use Rattle.cpu.proofs.Wakeups.PostsAndVisits.{Outside, is_caller, waiters_of, post_woken, post_pending, post_buffer, post, next_visit, visit_buffer, visit}
 use Rattle.cpu.proofs.Wakeups.{PostsAndVisits.{MayComeTo, MayComeAt}, BuffersAndThreads.{CallersAre, callers_are, is_the_caller}}
+use Rattle.cpu.{proofs.ListFacts.ListReads.{blocks_keep, there_is}, specs.Table.Setups.opening}
 use Rattle.layer_traits.specs.declared.moves.WaitList.TheVariants as wait_list
 
 -- what a waiting list says of the visit of a thread that sleeps in it
@@ -35,28 +36,16 @@ pub record Placed (setup : Setup) (past : List (Section Name)) : Type 0 where
 -- a buffer's block is there only for a buffer of the machine
 pub buffer_within : (setup : Setup) (b : BufId) (past : List (Section Name)) (k : Buffer)
     → block_of setup (AtBuffer b) past ≡ Some (OfBuffer k) → b.0 < length setup.caps
-buffer_within setup b [] k is = grind (arith, slice_get_within)
-buffer_within setup b (s ∷ past) k is = by_test (same_lock (AtBuffer b) s.lock) (block_of setup (AtBuffer b) past) (buffer_within setup b past) is
-  where
-    by_test : (here : Bool) (o : Option Block) → ((before : Buffer) → o ≡ Some (OfBuffer before) → b.0 < length setup.caps)
-        → (if here then option_map (edited s.edit) o else o) ≡ Some (OfBuffer k) → b.0 < length setup.caps
-    by_test here o before now = grind arith
+buffer_within setup b =
+    blocks_keep (λ o. (k : Buffer) → o ≡ Some (OfBuffer k) → b.0 < length setup.caps) edited (opening setup) (AtBuffer b)
+    (λ k is. grind (arith, slice_get_within)) (λ e o before k is. grind arith)
 
 -- and there is one for each
 pub buffer_there : (setup : Setup) (b : BufId) (past : List (Section Name)) → b.0 < length setup.caps
     → (k : Buffer) × (block_of setup (AtBuffer b) past ≡ Some (OfBuffer k))
-buffer_there setup b [] within = opens setup.caps b.0 within
-  where
-    opens : (caps : List ℕ) (i : ℕ) → i < length caps → (k : Buffer) × (opening_buffer (slice_get caps i) ≡ Some (OfBuffer k))
-    opens [] i below = absurd (omega (arith, below))
-    opens (cap ∷ caps) zero below = (_, refl)
-    opens (cap ∷ caps) (suc i) below = opens caps i (omega (arith, below))
-buffer_there setup b (s ∷ past) within = by_test (same_lock (AtBuffer b) s.lock) (block_of setup (AtBuffer b) past) (buffer_there setup b past within)
-  where
-    by_test : (here : Bool) (o : Option Block) → ((k : Buffer) × (o ≡ Some (OfBuffer k)))
-        → (k : Buffer) × ((if here then option_map (edited s.edit) o else o) ≡ Some (OfBuffer k))
-    by_test true o before = (_, ap (option_map (edited s.edit)) before.1)
-    by_test false o before = before
+buffer_there setup b past within =
+    blocks_keep (λ o. (k : Buffer) × (o ≡ Some (OfBuffer k))) edited (opening setup) (AtBuffer b) (_, ap opening_buffer (there_is setup.caps b.0 within).1)
+    (λ e o before. (_, ap (option_map (edited e)) before.1)) past
 
 module _ (setup : Setup) (past : List (Section Name)) (placed : Placed setup past) (c : CpuId) (within : c.0 < setup.cpus)
     (d : BufId) (name : Name) (callers : CallersAre setup past c d name) where

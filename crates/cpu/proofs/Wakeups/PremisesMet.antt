@@ -4,7 +4,7 @@ use Rattle.event_log.specs.declared.{ids.{CpuId.CpuId, Tid.Tid, LockId.TheVarian
 use Rattle.{event_log.specs.{Runs.Sends, Actions.phase}, layer_traits.specs.Polling.Plans.is_in_section, cpu.specs.Table.{Blocks.OfPending, Setups.Setup}}
 use Rattle.cpu.specs.Table.{Setups.{Private, home_cpu}, Worked.{thread, buffer_numbered, one_sender, two_sends}, Steps.{Whole, IsReached, boots, steps_once}}
 use Rattle.cpu.specs.{Table.Steps.{steps_by, system_step, cpu_numbered, whole_at_boot, block_at, halted_at}, Wakeups.Quiet.{IsQuietBy, IsQuietTable}}
-use Rattle.cpu.{specs.Wakeups.Met.{waiting_sender, at_send, PremisesAreMet}, proofs.Wakeups.ReachedStates.same_private}
+use Rattle.cpu.specs.Wakeups.Met.{waiting_sender, at_send, PremisesAreMet}
 
 -- steps from a reached state
 steps_reached : (setup : Setup) (room : ℕ) (c : CpuId) → c.0 < setup.cpus → (n : ℕ) (s : Whole)
@@ -26,7 +26,7 @@ AllBy P (p ∷ cpus) = P 0 p × AllBy (λ n. P (suc n)) cpus
 
 all_by : (P : ℕ → Private → Type 0) (cpus : List Private) → AllBy P cpus → (n : ℕ) (p : Private) → slice_get cpus n ≡ Some p → P n p
 all_by P [] all n p is = absurd (cc is)
-all_by P (q ∷ cpus) all zero p is = subst (P 0) (same_private q p is) all.0
+all_by P (q ∷ cpus) all zero p is = let same : q ≡ p = cc is in subst (P 0) same all.0
 all_by P (q ∷ cpus) all (suc n) p is = all_by (λ m. P (suc m)) cpus all.1 n p is
 
 quiet_cpu : (n : ℕ) (p : Private) → slice_get waiting_sender.cpus n ≡ Some p → IsQuietBy two_sends (cpu_numbered n) p (halted_at two_sends (cpu_numbered n) p)

@@ -11,7 +11,8 @@ use Rattle.cpu.specs.Table.{Choice.{Goes, choice}, Steps.{after_reply, chosen_st
 use Rattle.cpu.specs.{Table.Steps.{whole_after, step_at, system_step, IsReached, boots, steps_once}, Wakeups.{Order.block_of, Lost.SystemsKeepOrder}}
 use Rattle.cpu.{specs.Wakeups.Lost.{SystemsLoseNoWakeUp, FreeLocksHaveNoSleepers}, proofs.Wakeups.{Lists.refuted, Ordered.buffer_awake}}
 use Rattle.cpu.proofs.Wakeups.{Ordered.order_loses_no_wake_up, PostsAndVisits.{post, visit, MayComeAt}, BuffersAndThreads.{Good, good_none, good_step}}
-use Rattle.cpu.proofs.Wakeups.{Agreement.{Agrees, IsSettled}, CpuStep.{foreign_step, give_ok}, ChosenSteps.{ChoiceOk, choice_ok}}
+use Rattle.cpu.proofs.Wakeups.{Agreement.{Agrees, IsSettled}, CpuStep.{foreign_step, give_ok}, ChosenSteps.{ChoiceOk, choice_ok, OfChoice}, EndedThreads.all_new}
+use Rattle.cpu.specs.Table.Steps.{acting}
 
 -- Logs of actions.
 
@@ -42,13 +43,6 @@ pub record Ok (setup : Setup) (c : CpuId) (p : Private) (log : List (Action Name
   pub settled : IsSettled setup c p
   pub under : (lock : LockId) → lock_in (phase c log) ≡ Some lock → lock ≡ (asked setup c p).lock
 
-lock_or : LockId → Option LockId → LockId
-lock_or lock None = lock
-lock_or lock (Some other) = other
-
-some_lock : (a b : LockId) → Some a ≡ Some b → a ≡ b
-unfolding lock_or
-some_lock a b same = ap (lock_or a) same
 
 no_lock : {A : Type 0} {lock : LockId} → None ≡ Some lock → A
 no_lock {A = A} {lock = lock} is = absurd (cc is)
@@ -77,11 +71,7 @@ module _ (setup : Setup) (c : CpuId) (log : List (Action Name)) (fair : IsFairLo
   acted_ok : (q : Private) → Ok setup c q log → (now : Phase) → phase c log ≡ now → StepOk setup c log (acted q now)
   acted_ok q ok Rests is = record {
     fair = (tt, fair);
-    ok = record {
-      agrees = ok.agrees;
-      settled = ok.settled;
-      under = λ lock at. sym (some_lock (asked setup c q).lock lock (sym (ap lock_in (phase_own (Take c (asked setup c q).lock) log)) ∙ at));
-    };
+    ok = record { agrees = ok.agrees; settled = ok.settled; under = λ lock at. cc (sym (ap lock_in (phase_own (Take c (asked setup c q).lock) log)) ∙ at) };
     does = (refl, tt);
   }
   acted_ok q ok (Waits there) is = record {
@@ -89,8 +79,7 @@ module _ (setup : Setup) (c : CpuId) (log : List (Action Name)) (fair : IsFairLo
     ok = record {
       agrees = ok.agrees;
       settled = ok.settled;
-      under = λ lock at.
-          grind (arith, some_lock, ok, sym (ap lock_in (phase_own (Try c there (gives there log == spot_of c log)) log)) ∙ at);
+      under = λ lock at. grind (arith, ok, sym (ap lock_in (phase_own (Try c there (gives there log == spot_of c log)) log)) ∙ at);
     };
     does = (refl, tt);
   }
@@ -132,9 +121,23 @@ module _ (setup : Setup) (c : CpuId) (log : List (Action Name)) (fair : IsFairLo
 
       by_section : (inside : Bool) → is_in_section (phase c log) ≡ inside → StepOk setup c log (step_in setup c p log inside)
       by_section true is = acted_ok p ok (phase c log) refl
-      by_section false is =
-          by_choice is (choice setup c p)
-          (choice_ok setup c p (λ u. visit setup u (sections_in log)) (λ u. post setup u (sections_in log)) ok.agrees ok.settled)
+      by_section false is = by_choice is (choice setup c p) (choice_ok setup c p _ _ ok.agrees ok.settled)
+
+-- what a CPU's choice keeps, and its actions keep where its state agrees, its step keeps
+pub step_keeps : (setup : Setup) (c : CpuId) (p : Private) (log : List (Action Name)) (Q : Private → Type 0) → Ok setup c p log → Q p
+    → OfChoice Q (choice setup c p) → ((q : Private) → Agrees setup c q (λ u. visit setup u (sections_in log)) (λ u. post setup u (sections_in log))
+    → Q q → Q (acting setup c q log).next) → Q (cpu_step setup c p log).next
+step_keeps setup c p log Q ok now chosen acts = by_section (is_in_section (phase c log))
+  where
+    by_choice : (what : Choice) → ChoiceOk setup c (λ u. visit setup u (sections_in log)) (λ u. post setup u (sections_in log)) what → OfChoice Q what
+        → Q (chosen_step setup c p what log).next
+    by_choice (Halts reason) agrees on = now
+    by_choice (Alone q) agrees on = on
+    by_choice (Goes q) agrees on = acts q agrees.0 on
+
+    by_section : (inside : Bool) → Q (step_in setup c p log inside).next
+    by_section true = acts p ok.agrees now
+    by_section false = by_choice (choice setup c p) (choice_ok setup c p _ _ ok.agrees ok.settled) chosen
 
 -- an action of another CPU
 pub ok_beside : (setup : Setup) (e : CpuId) (p : Private) (log : List (Action Name)) (a : Action Name)
@@ -156,9 +159,6 @@ all_beside setup c e p log (a ∷ acts) off does fair ok =
 
 -- A CPU at boot.
 
-pub all_new : (homes : List CpuId) (i : ℕ) → get_or (map (λ home. new_thread) homes) i new_thread ≡ new_thread
-all_new (home ∷ homes) (suc i) = all_new homes i
-all_new homes i = refl
 
 -- the threads from number i on that are at home on c, by count: u is one of them where it is at its place among the homes
 homed_before : (c : CpuId) (homes : List CpuId) (i : ℕ) (u : Tid) → u.0 < i → count_in u (home_threads_from c homes i) ≡ 0
@@ -191,13 +191,9 @@ pub record Sound (setup : Setup) (s : Whole) : Type 0 where
   pub fair : IsFairLog setup s.log
   pub cpus : (e : CpuId) (p : Private) → slice_get s.cpus e.0 ≡ Some p → Ok setup e p s.log
 
-private_or : Private → Option Private → Private
-private_or p None = p
-private_or p (Some q) = q
 
 pub same_private : (p q : Private) → Some p ≡ Some q → p ≡ q
-unfolding private_or
-same_private p q is = ap (private_or p) is
+same_private p q is = cc
 
 -- what stands in a list after one of its items was set
 pub get_set : (xs : List Private) (i j : ℕ) (x y : Private) → slice_get (slice_set xs i x) j ≡ Some y → i ≡ j → x ≡ y
@@ -205,11 +201,19 @@ get_set (z ∷ xs) zero zero x y is same = same_private x y is
 get_set (z ∷ xs) (suc i) (suc j) x y is same = get_set xs i j x y is (omega (arith, same))
 get_set xs i j x y is same = grind (arith, same)
 
-pub boots_at : (setup : Setup) (n k i : ℕ) (p : Private) → slice_get (boots_from setup n k) i ≡ Some p → boot_of setup (cpu_numbered (n + i)) ≡ p
-boots_at setup n (suc k) (suc i) p is = ap (λ m. boot_of setup (cpu_numbered m)) (by_suc n i) ∙ boots_at setup (n + 1) k i p is
+-- what holds of the CPU whose state was set, and of each other, holds of all
+pub all_set : (P : CpuId → Private → Type 0) (cpus : List Private) (c : CpuId) (x : Private) → P c x
+    → ((e : CpuId) (p : Private) → same_cpu c e ≡ false → slice_get cpus e.0 ≡ Some p → P e p)
+    → (e : CpuId) (p : Private) → slice_get (slice_set cpus c.0 x) e.0 ≡ Some p → P e p
+all_set P cpus c x own others e p is = by_test (same_cpu c e) refl
   where
-    by_suc : (n i : ℕ) → n + suc i ≡ (n + 1) + i
-    by_suc n i = omega arith
+    by_test : (mine : Bool) → same_cpu c e ≡ mine → P e p
+    by_test true same = subst (λ d. P d p) (same_cpu_true c e same) (subst (P c) (get_set cpus c.0 e.0 x p is (eqb-true c.0 e.0 same)) own)
+    by_test false off = others e p off (sym (set_else cpus c.0 e.0 x (λ same. eqb-false c.0 e.0 off (sym same))) ∙ is)
+
+pub boots_at : (setup : Setup) (n k i : ℕ) (p : Private) → slice_get (boots_from setup n k) i ≡ Some p → boot_of setup (cpu_numbered (n + i)) ≡ p
+boots_at setup n (suc k) (suc i) p is =
+    let same : n + suc i ≡ (n + 1) + i = omega arith in ap (λ m. boot_of setup (cpu_numbered m)) same ∙ boots_at setup (n + 1) k i p is
 boots_at setup n k i p is = grind (arith, same_private)
 
 sound_at_boot : (setup : Setup) (room : ℕ) → Sound setup (whole_at_boot setup room)
@@ -223,23 +227,13 @@ sound_at_boot setup room = record {
 
 module _ (setup : Setup) (s : Whole) (sound : Sound setup s) (c : CpuId) where
   sound_after : (p : Private) → slice_get s.cpus c.0 ≡ Some p → Sound setup (whole_after c s (cpu_step setup c p s.log))
-  sound_after p here = record {
-    fair = step.fair;
-    cpus = λ e q is. by_test e q is (same_cpu c e) refl;
-  }
-    where
-      step : StepOk setup c s.log (cpu_step setup c p s.log)
-      step = step_ok setup c s.log sound.fair p (sound.cpus c p here)
-
-      by_test : (e : CpuId) (q : Private) → slice_get (slice_set s.cpus c.0 (cpu_step setup c p s.log).next) e.0 ≡ Some q → (mine : Bool) → same_cpu c e ≡ mine
-          → Ok setup e q ((cpu_step setup c p s.log).acts ++ s.log)
-      by_test e q is true same =
-          let P : CpuId → Type 0 = λ x. Ok setup x q ((cpu_step setup c p s.log).acts ++ s.log) in
-          subst P (same_cpu_true c e same)
-          (rw (← get_set s.cpus c.0 e.0 (cpu_step setup c p s.log).next q is (eqb-true c.0 e.0 same)) step.ok)
-      by_test e q is false off =
-          all_beside setup c e q s.log (cpu_step setup c p s.log).acts off step.does step.fair
-          (sound.cpus e q (sym (set_else s.cpus c.0 e.0 (cpu_step setup c p s.log).next (λ same. eqb-false c.0 e.0 off (sym same))) ∙ is))
+  sound_after p here =
+      let step = step_ok setup c s.log sound.fair p (sound.cpus c p here) in
+      record {
+        fair = step.fair;
+        cpus = all_set (λ e q. Ok setup e q ((cpu_step setup c p s.log).acts ++ s.log)) s.cpus c (cpu_step setup c p s.log).next step.ok
+            (λ e q off at. all_beside setup c e q s.log (cpu_step setup c p s.log).acts off step.does step.fair (sound.cpus e q at));
+      }
 
   sound_at : (o : Option Private) → slice_get s.cpus c.0 ≡ o → Sound setup (step_at setup c s o).next
   sound_at o here = grind (arith, sound_after)

@@ -287,9 +287,6 @@ pub agrees_yielded : (setup : Setup) (c : CpuId) (p : Private) (T : Tid → Visi
     → Agrees setup c (record (with_state p t guest) { current = None; ready = p.ready ++ t ∷ [] }) T P
 agrees_yielded setup c p T P agrees t runs_now guest = grind (arith, moved, same_tid_sym, count_append)
   where
-    x : Thread
-    x = record (thread_at p t) { guest = guest }
-
     known : t.0 < length p.threads
     known = local_within setup c p T P agrees t (runs_at_home setup c p T P agrees t runs_now).0
 

@@ -75,9 +75,6 @@ module _ (setup : Setup) (s : Whole) (homes : HomesExist setup) (kept : SystemIn
   asleep : (p : Private) (u : Tid) → IsLive setup s p u → Sleeps (post setup u (sections_in s.log))
   asleep p u live = by_post (post setup u (sections_in s.log)) refl
     where
-      c : CpuId
-      c = home_cpu setup u
-
       by_reason : post setup u (sections_in s.log) ≡ Home → (r : Option Reason)
           → IsQuietBy setup (home_cpu setup u) p r → Sleeps (post setup u (sections_in s.log))
       by_reason at (Some reason) ended = refuted live.alive (ended u refl live.known)
@@ -122,9 +119,6 @@ module _ (setup : Setup) (s : Whole) (homes : HomesExist setup) (kept : SystemIn
       by_owner None is = refl
       by_owner (Some t) is = by_sleep (asleep live.0 t live.1)
         where
-          T : Visit
-          T = visit setup t (sections_in s.log)
-
           pair : Pair b t k (progress setup (AtBuffer b) (sections_in s.log)) (visit setup t (sections_in s.log)) (post setup t (sections_in s.log))
           pair = good.pairs b t k block
 

@@ -6,9 +6,10 @@ use Rattle.{event_log.proofs.ListLemmas.set_else, layer_traits.specs.{declared.s
 use Rattle.cpu.specs.Table.{Blocks.Name, Setups.{Setup, Private, thread_at, boot_of}, Choice.{Choice, Halts, Alone, Goes, choice}, Steps.{chosen_step, step_in}}
 use Rattle.cpu.specs.Table.Steps.{cpu_step, Whole, cpu_numbered, boots_from, whole_at_boot, whole_after, roomy, answered_by, step_at, system_step, IsReached}
 use Rattle.cpu.{specs.Table.Steps.{boots, steps_once}, proofs.Wakeups.{PostsAndVisits.{post, visit}, Placed.{Placed, placed_none, placed_at}, Agreement.Agrees}}
-use Rattle.cpu.proofs.Wakeups.{Agreement.{runs_at_home, local_within}, ChosenSteps.{ChoiceOk, choice_ok}, EndedThreads.{AllFine, fine_at_boot, FineChoice}}
+use Rattle.cpu.proofs.ListFacts.ListReads.{there_is}
+use Rattle.cpu.proofs.Wakeups.{Agreement.{runs_at_home, runs_within}, EndedThreads.{AllFine, fine_at_boot}, ReachedStates.step_keeps}
 use Rattle.cpu.proofs.Wakeups.{EndedThreads.{fine_choice, fine_acting}, ReachedStates.{IsFairLog, Ok, StepOk, step_ok, AllDo, Sound, sound_step, reached_sound}}
-use Rattle.cpu.proofs.Wakeups.ReachedStates.{get_set, boots_at}
+use Rattle.cpu.proofs.Wakeups.ReachedStates.{all_set, boots_at}
 
 -- what a step of a system leaves: the same, or the state after its CPU's step
 pub data NextIs (setup : Setup) (c : CpuId) (s : Whole) : Whole → Type 0 where
@@ -16,19 +17,7 @@ pub data NextIs (setup : Setup) (c : CpuId) (s : Whole) : Whole → Type 0 where
   went : (p : Private) → slice_get s.cpus c.0 ≡ Some p → NextIs setup c s (whole_after c s (cpu_step setup c p s.log))
 
 pub next_is : (setup : Setup) (c : CpuId) (s : Whole) → NextIs setup c s (system_step setup c s).next
-next_is setup c s = by_cpu (slice_get s.cpus c.0) refl
-  where
-    by_cpu : (o : Option Private) → slice_get s.cpus c.0 ≡ o → NextIs setup c s (step_at setup c s o).next
-    by_cpu None here = same
-    by_cpu (Some p) here = by_answer (cpu_step setup c p s.log).answer
-      where
-        by_room : (full : Bool) → NextIs setup c s (roomy c s (cpu_step setup c p s.log) full).next
-        by_room true = same
-        by_room false = went p here
-
-        by_answer : (answer : Step) → NextIs setup c s (answered_by c s (cpu_step setup c p s.log) answer).next
-        by_answer (Halted reason) = same
-        by_answer Stepped = by_room (s.taken == s.room)
+next_is setup c s = grind (arith, same, went)
 
 -- the CPU's actions
 pub placed_acts : (setup : Setup) (c : CpuId) → c.0 < setup.cpus → (log acts : List (Action Name)) → AllDo c acts → IsFairLog setup (acts ++ log)
@@ -43,28 +32,10 @@ placed_acts setup c known log (Give cpu lock name ∷ acts) does fair placed =
 -- a CPU's step keeps what its threads say
 fine_step : (setup : Setup) (c : CpuId) (p : Private) (log : List (Action Name)) → Ok setup c p log
     → AllFine setup p → AllFine setup (cpu_step setup c p log).next
-fine_step setup c p log ok fine = by_section (is_in_section (phase c log))
-  where
-    known : (q : Private) → Agrees setup c q (λ u. visit setup u (sections_in log)) (λ u. post setup u (sections_in log))
-        → (t : Tid) → q.current ≡ Some t → t.0 < length q.threads
-    known q agrees t runs_now =
-        local_within setup c q (λ u. visit setup u (sections_in log)) (λ u. post setup u (sections_in log)) agrees t
-        (runs_at_home setup c q (λ u. visit setup u (sections_in log)) (λ u. post setup u (sections_in log)) agrees t runs_now).0
-
-    alive : (t : Tid) → p.current ≡ Some t → (thread_at p t).ended ≡ false
-    alive t runs_now = (runs_at_home setup c p (λ u. visit setup u (sections_in log)) (λ u. post setup u (sections_in log)) ok.agrees t runs_now).2
-
-    by_choice : (what : Choice) → ChoiceOk setup c (λ u. visit setup u (sections_in log)) (λ u. post setup u (sections_in log)) what → FineChoice setup c what
-        → AllFine setup (chosen_step setup c p what log).next
-    by_choice (Halts reason) agrees now = fine
-    by_choice (Alone q) agrees now = now
-    by_choice (Goes q) agrees now = fine_acting setup c q now (known q agrees.0) log
-
-    by_section : (inside : Bool) → AllFine setup (step_in setup c p log inside).next
-    by_section true = fine_acting setup c p fine (known p ok.agrees) log
-    by_section false =
-        by_choice (choice setup c p) (choice_ok setup c p (λ u. visit setup u (sections_in log)) (λ u. post setup u (sections_in log)) ok.agrees ok.settled)
-        (fine_choice setup c p fine alive)
+fine_step setup c p log ok fine =
+    step_keeps setup c p log (AllFine setup) ok fine
+    (fine_choice setup c p fine (λ t runs_now. (runs_at_home setup c p _ _ ok.agrees t runs_now).2))
+    (λ q agrees now. fine_acting setup c q now (runs_within setup c q _ _ agrees) log)
 
 pub record SystemInv (setup : Setup) (s : Whole) : Type 0 where
   pub sound : Sound setup s
@@ -80,9 +51,7 @@ inv_at_boot : (setup : Setup) (room : ℕ) → SystemInv setup (whole_at_boot se
 inv_at_boot setup room = record {
   sound = reached_sound setup room (whole_at_boot setup room) boots;
   placed = placed_none setup;
-  fine = λ e p is.
-      let zero_plus : 0 + e.0 ≡ e.0 = omega arith in
-      subst (AllFine setup) (ap (λ m. boot_of setup (cpu_numbered m)) (sym zero_plus) ∙ boots_at setup 0 setup.cpus e.0 p is) (fine_at_boot setup e);
+  fine = λ e p is. subst (AllFine setup) (boots_at setup 0 setup.cpus e.0 p is) (fine_at_boot setup (cpu_numbered (0 + e.0)));
   size = boots_length setup 0 setup.cpus;
 }
 
@@ -91,19 +60,13 @@ inv_next setup c s next known kept sound same = kept
 inv_next setup c s next known kept sound (went p here) = record {
   sound = sound;
   placed = placed_acts setup c known s.log (cpu_step setup c p s.log).acts step.does step.fair kept.placed;
-  fine = λ e q is. by_test e q is (same_cpu c e) refl;
+  fine = all_set (λ e. AllFine setup) s.cpus c (cpu_step setup c p s.log).next
+      (fine_step setup c p s.log (kept.sound.cpus c p here) (kept.fine c p here)) (λ e q off. kept.fine e q);
   size = length-set s.cpus c.0 (cpu_step setup c p s.log).next ∙ kept.size;
 }
   where
     step : StepOk setup c s.log (cpu_step setup c p s.log)
     step = step_ok setup c s.log kept.sound.fair p (kept.sound.cpus c p here)
-
-    by_test : (e : CpuId) (q : Private) → slice_get (slice_set s.cpus c.0 (cpu_step setup c p s.log).next) e.0 ≡ Some q
-        → (mine : Bool) → same_cpu c e ≡ mine → AllFine setup q
-    by_test e q is true own =
-        subst (AllFine setup) (get_set s.cpus c.0 e.0 (cpu_step setup c p s.log).next q is (eqb-true c.0 e.0 own))
-        (fine_step setup c p s.log (kept.sound.cpus c p here) (kept.fine c p here))
-    by_test e q is false off = kept.fine e q (sym (set_else s.cpus c.0 e.0 (cpu_step setup c p s.log).next (λ same. eqb-false c.0 e.0 off (sym same))) ∙ is)
 
 pub reached_inv : (setup : Setup) (room : ℕ) (s : Whole) → IsReached setup room s → SystemInv setup s
 reached_inv setup room s boots = inv_at_boot setup room
@@ -113,9 +76,4 @@ reached_inv setup room s (steps_once {s = before} c reached within) =
 
 -- a CPU of the machine is there
 pub cpu_there : (setup : Setup) (s : Whole) → SystemInv setup s → (c : CpuId) → c.0 < setup.cpus → (p : Private) × (slice_get s.cpus c.0 ≡ Some p)
-cpu_there setup s kept c known = get_within s.cpus c.0 (subst (λ n. c.0 < n) (sym kept.size) known)
-  where
-    get_within : (xs : List Private) (i : ℕ) → i < length xs → (p : Private) × (slice_get xs i ≡ Some p)
-    get_within [] i below = absurd (omega (arith, below))
-    get_within (x ∷ xs) zero below = (x, refl)
-    get_within (x ∷ xs) (suc i) below = get_within xs i (omega (arith, below))
+cpu_there setup s kept c known = there_is s.cpus c.0 (subst (λ n. c.0 < n) (sym kept.size) known)

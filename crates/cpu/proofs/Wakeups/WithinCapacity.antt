@@ -3,7 +3,7 @@ use Rattle.std.proofs.Common.{◌≡◌, ℕ, ◌≤◌, Bool, true, ◌||◌, n
 use Rattle.std.proofs.lemmas.Bool.{and_parts, ltb-true}
 use Rattle.event_log.specs.{declared.ids.{BufId.BufId, LockId.TheVariants.Buffer as AtBuffer}, History.same_lock, Messages.Message, Sections.Section}
 use Rattle.{layer_traits.specs.Blocks.BufferBlocks.{items_put, other_items}, cpu.specs.Table.{Blocks.{Buffer, OfBuffer, Name}, Edits.edited, Setups.Setup}}
-use Rattle.cpu.{specs.Wakeups.Order.block_of, proofs.Wakeups.Ordered.same_buffer}
+use Rattle.cpu.{specs.{Table.Setups.opening, Wakeups.Order.block_of}, proofs.{ListFacts.ListReads.blocks_keep, Wakeups.Ordered.same_buffer}}
 
 -- a buffer holds no more than it may
 abbrev pub Fits : Buffer → Type 0
@@ -20,9 +20,6 @@ fits_put closed m items capacity fits can = grind (arith, ltb-true, length-appen
 -- after any sections
 pub holds_no_more : (setup : Setup) (sections : List (Section Name)) (b : BufId) (k : Buffer) → block_of setup (AtBuffer b) sections ≡ Some (OfBuffer k)
     → Fits k
-holds_no_more setup [] b k is = grind (arith, same_buffer, is)
-holds_no_more setup (s ∷ past) b k is = by_test (same_lock (AtBuffer b) s.lock) (λ now at. holds_no_more setup past b now at) is
-  where
-    by_test : (here : Bool) → ((now : Buffer) → block_of setup (AtBuffer b) past ≡ Some (OfBuffer now) → Fits now)
-        → (if here then option_map (edited s.edit) (block_of setup (AtBuffer b) past) else block_of setup (AtBuffer b) past) ≡ Some (OfBuffer k) → Fits k
-    by_test here before now = grind (arith, same_buffer, fits_put, and_parts, fewer)
+holds_no_more setup sections b =
+    blocks_keep (λ o. (k : Buffer) → o ≡ Some (OfBuffer k) → Fits k) edited (opening setup) (AtBuffer b)
+    (λ k is. grind (arith, same_buffer, is)) (λ e o before k is. grind (arith, same_buffer, fits_put, and_parts, fewer)) sections
