@@ -1,6 +1,6 @@
 -- One section of another caller leaves a thread's stance as it is.
 use Rattle.std.proofs.Common.{◌≡◌, ◌≢◌, ℕ, Bool, true, false, ◌&&◌, ◌||◌, List, [], ◌∷◌, ◌++◌, Option, Some, None, option_map, is_some, if◌then◌else◌, refl, ap}
-use Rattle.std.proofs.{Common.{sym, ◌∙◌, subst, arith}, lemmas.Bool.{and_parts, and_right}}
+use Rattle.std.proofs.{Common.{sym, ◌∙◌, subst, arith, rules}, lemmas.Bool.{and_parts, and_right}}
 use Rattle.event_log.{specs.{declared.ids.{BufId.BufId, LockId.{LockId, TheVariants.Buffer}, Tid.Tid}, History.same_lock}, proofs.Same.same_lock_true}
 use Rattle.layer_traits.specs.declared.{buffer_edits.BufferEdit.BufferEdit, calls.Call.Call, conditions.CvLeave.TheVariants.{Leave, Wait}}
 use Rattle.layer_traits.specs.declared.locked.{QEdit.TheVariants.{Acquire, Inside, Release}, Side.{Side, TheVariants.Senders}}
@@ -76,12 +76,7 @@ module _ (opening : LockId → Option BufferLock) (past : List BufferSection) (s
 
     pub fits_apart : (call : Option Call) (slept waits : Option BufId) (call_state : CallState) → CallStateFits opening past t call slept waits call_state
         → CallStateFits opening (s ∷ past) t call slept waits call_state
-    fits_apart None slept waits call_state fits = record {
-      stage_is = fits.stage_is;
-      stance = stance_apart (record { 0 = 0 }) Senders false false false 0 fits.stance;
-      slept_none = fits.slept_none;
-      waits_none = fits.waits_none;
-    }
+    fits_apart None slept waits call_state fits = search (rules, stance_apart)
     fits_apart (Some call) slept waits call_state fits = record {
       called = fits.called;
       stance =

@@ -49,13 +49,9 @@ module _ {B : Type 0} (ActsFor : CpuId → Type 0) (table : Table (QueueEdit (Cv
       → Follows ActsFor table opening cpu (plan_at homes cpu t call stage call_state own) old new got
   one_follows Idle call_state own old new got called slept waits follows = grind arith
   one_follows Acquires call_state own old new got called slept waits follows = grind (arith, chained_act, beneath_acts)
-  one_follows Enters call_state own old new got called slept waits follows = follows
-  one_follows Tries call_state own old new got called slept waits follows = follows
   one_follows Waits call_state own old new got called slept waits follows = grind (arith, chained_act, beneath_acts)
   one_follows AcquiresAgain call_state own old new got called slept waits follows = grind (arith, chained_act, beneath_acts)
-  one_follows Signals call_state own old new got called slept waits follows = follows
-  one_follows SignalsOwn call_state own old new got called slept waits follows = follows
-  one_follows Releases call_state own old new got called slept waits follows = follows
+  one_follows other call_state own old new got called slept waits follows = follows
 
   -- the plan beneath, where it answers without an action
   abbrev Answers : Plan (QueueEdit (CvCall BufferEdit)) (QueueAnswer BufferOutcome) (Waiting BufferOut) BufferOutcome → Type 0

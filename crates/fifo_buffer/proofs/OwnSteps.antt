@@ -203,15 +203,13 @@ module _ (opening : LockId → Option BufferLock) (past : List BufferSection) (c
         (λ at none. ap (count_in t) (grind arith) ∙ none) (λ lines. absurd cc)) (λ w. absurd cc) (λ w. absurd cc) refl tt tt;
     mine = Some closed;
     is = ap (effect_here (Close b) Enters) is;
-    fresh = λ f same. (none_of effect now.effect_is, same, ap (λ (g : Effect). group_of g.kind) (sym (done f same)));
+    fresh = λ f same.
+        let done : closed ≡ f = cc in (none_of effect now.effect_is, same, ap (λ (g : Effect). group_of g.kind) (sym done));
     stays = λ w. absurd cc;
   }
     where
       closed : Effect
       closed = record { kind = kind.Close; value = no_message; op = lock.above.effects; pos = lock.above.closes }
-
-      done : (f : Effect) → Some closed ≡ Some f → closed ≡ f
-      done f same = cc
 
   -- a try, of a call that enters a line: at its thread's turn it has its effect, else it was in vain
   tries_step : (call : Call) → EntersLine call → At call → Within call Tries → (v : Bool) → is_next (side_of call) t lock.above ≡ v
@@ -223,12 +221,11 @@ module _ (opening : LockId → Option BufferLock) (past : List BufferSection) (c
     mine = Some (tried_effect call lock.above position);
     is = ap (effect_here call Tries) is ∙ effect_tried c t call lock _ true enters next
         ∙ ap (λ p. Some (entry_of c t (buffer_of call) (tried_effect call lock.above p))) (sym (now.stance.drawn_is refl));
-    fresh = λ f same. (none_of effect now.effect_is, same, subst (IsEffectOf call) (done f same) (is_own_effect call lock.above position enters));
+    fresh = λ f same.
+        let done : tried_effect call lock.above position ≡ f = cc in
+        (none_of effect now.effect_is, same, subst (IsEffectOf call) done (is_own_effect call lock.above position enters));
     stays = λ w. absurd cc;
   }
-    where
-      done : (f : Effect) → Some (tried_effect call lock.above position) ≡ Some f → tried_effect call lock.above position ≡ f
-      done f same = cc
   tries_step call enters is now false next = silent call Tries _ is (effect_tried c t call lock _ false enters next)
       (call_within refl (kept_line c is (section_at t call Tries) now.stance true false (λ grip. grip) (grind arith)
       (λ at. ap (λ x. count_in t (line_of at x)) (grind arith))) (λ w. in_vain next) (λ w. enters) now.effect_is tt tt) refl

@@ -85,18 +85,8 @@ module _ (opening : LockId → Option (QueueBlock BufferLock)) (d : CpuId) (more
       → CallsFit (homes_in opening) d (inner opening) (buffer_sections past) own call_states under_way calling
       → CallsFit (homes_in opening) d (inner opening) (buffer_sections (more ++ past)) own call_states under_way calling
   calls_on own call_states under_way None fits = search (rules, call_state_on)
-  calls_on own call_states under_way (Some t) fits = record {
-    call = fits.call;
-    home = fits.home;
-    may = record {
-      current = fits.may.current;
-      called = fits.may.called;
-      goes = goes_on t fits.home fits.call (call_state_of call_states t) own under_way fits.may.goes;
-    };
-    others =
-        λ u home other. call_state_on u home (call_state_of call_states u).call (slept_for own.lock.slept u) (slept_for own.waits u)
-        (call_state_of call_states u) (fits.others u home other);
-  }
+  calls_on own call_states under_way (Some t) fits =
+      search (rules, call_state_on, goes_on t fits.home fits.call (call_state_of call_states t) own under_way)
 
   pub part_on : {own : Waiting BufferOut} {call_states : List CallState} {under_way : Option (SchedCall (CvCall BufferEdit))} {calling : Option Tid}
       → PartFits opening d past own call_states under_way calling → PartFits opening d (more ++ past) own call_states under_way calling

@@ -84,13 +84,10 @@ both_left t b waits slept sleep out outcome is = grind arith
 plain_marks : (O : LockId → Option BufferLock) (past : _) (t : Tid) (b : BufId) (call_state : CallState) (stage : Stage) (out : QOut (CvOut BufferOut))
     → is_plain out ≡ true → CallStateFits O past t (recorded_by call_state stage out).call (slept_by b out) (waits_by b out) (recorded_by call_state stage out)
     → CallStateFits O past t (recorded call_state stage out).call None None (recorded call_state stage out)
-plain_marks O past t b call_state stage Acquired plain fits = fits
 plain_marks O past t b call_state stage Queued plain fits = absurd cc
-plain_marks O past t b call_state stage (Did o) plain fits = fits
-plain_marks O past t b call_state stage (Released (answer.Did o)) plain fits = fits
-plain_marks O past t b call_state stage (Released (answer.Signalled side front)) plain fits = fits
-plain_marks O past t b call_state stage (Released answer.Left) plain fits = fits
 plain_marks O past t b call_state stage (Released (answer.Waited side)) plain fits = absurd cc
+plain_marks O past t b call_state stage (Released other) plain fits = fits
+plain_marks O past t b call_state stage other plain fits = fits
 
 plain_recorded : (call_state : CallState) (stage : Stage) (out : QOut (CvOut BufferOut)) → is_plain out ≡ true
     → recorded_by call_state stage out ≡ recorded call_state stage out

@@ -63,32 +63,13 @@ module _ (side : Side) (b : BufId) (c : CpuId) (position : Side → Tid → ℕ)
 
   -- a try that is not its thread's turn changes nothing; at its turn the first in line is served
   keeps_put : (t : Tid) (m : Message) (v : Bool) → is_next Senders t lock.above ≡ v → Keeps (Inside (Edit (TryPut t m))) (effect (Inside (Edit (TryPut t m))))
-  keeps_put t m v next = put side v next is
-    where
-      put : (s : Side) (v : Bool) → is_next Senders t lock.above ≡ v → all ≡ served s b.0 es ++ line_of s lock.above
-          → all ≡ served s b.0 (option_to_list (effect (Inside (Edit (TryPut t m)))) ++ es)
-          ++ line_of s (lock_edited buffer_rules (Inside (Edit (TryPut t m))) lock).above
-      put Senders true next so = grind (arith, serves t all (served Senders b.0 es) lock.above.send_line so)
-      put Receivers true next so = grind arith
-      put s false next so = grind arith
+  keeps_put t m v next = grind (arith, serves)
 
   keeps_take : (t : Tid) (v : Bool) → is_next Receivers t lock.above ≡ v → Keeps (Inside (Edit (TryTake t))) (effect (Inside (Edit (TryTake t))))
-  keeps_take t v next = take side v next is
-    where
-      take : (s : Side) (v : Bool) → is_next Receivers t lock.above ≡ v → all ≡ served s b.0 es ++ line_of s lock.above
-          → all ≡ served s b.0 (option_to_list (effect (Inside (Edit (TryTake t)))) ++ es)
-          ++ line_of s (lock_edited buffer_rules (Inside (Edit (TryTake t))) lock).above
-      take Receivers true next so = grind (arith, serves t all (served Receivers b.0 es) lock.above.receive_line so)
-      take Senders true next so = grind arith
-      take s false next so = grind arith
+  keeps_take t v next = grind (arith, serves)
 
   keeps_shut : (t : Tid) → Keeps (Inside (Edit (Shut t))) (effect (Inside (Edit (Shut t))))
-  keeps_shut t = shuts side is
-    where
-      shuts : (s : Side) → all ≡ served s b.0 es ++ line_of s lock.above
-          → all ≡ served s b.0 (option_to_list (effect (Inside (Edit (Shut t)))) ++ es) ++ line_of s (shut lock.above)
-      shuts Senders so = grind arith
-      shuts Receivers so = grind arith
+  keeps_shut t = grind arith
 
   keeps_call : (O : LockId → Option BufferLock) (past : List BufferSection) (call : CvCall BufferEdit) → buffer_lock_at O past (Buffer b) ≡ Some lock
       → IsDue O past (Buffer b) call → (lock_caller buffer_rules call).0 < THREADS → Keeps call (effect call)

@@ -57,19 +57,7 @@ MarksOf t stage own = (is_some (slept_for own.lock.slept t) ≡ true → asks_at
 
 pub marks_of : (O : LockId → Option BufferLock) (past : List BufferSection) (t : Tid) (call : Call) (call_state : CallState) (own : Waiting BufferOut)
     (w : Option (SchedCall (CvCall BufferEdit))) → SectionGoes O past t call call_state own w → MarksOf t call_state.stage own
-marks_of O past t call call_state own None goes = (
-  mark (buffer_of call) (asks_at call_state.stage) (slept_for own.lock.slept t) goes.fits.slept_here,
-  mark (buffer_of call) (waits_at call_state.stage)
-      (slept_for own.waits t) goes.fits.waits_here,
-)
-  where
-    mark : (b : BufId) (may : Bool) (x : Option BufId) → IsMark b may x → is_some x ≡ true → may ≡ true
-    mark b may x is some = grind arith
-marks_of O past t call call_state own (Some s) goes =
-    (none (asks_at call_state.stage) (slept_for own.lock.slept t) goes.slept, none (waits_at call_state.stage) (slept_for own.waits t) goes.waits)
-  where
-    none : (may : Bool) (x : Option BufId) → x ≡ None → is_some x ≡ true → may ≡ true
-    none may x is some = let out : is_some x ≡ false = ap is_some is in absurd (cc (out, some))
+marks_of O past t call call_state own w goes = grind arith
 
 -- where one section poll was all, the thread neither slept for the lock nor waited
 pub exit_free : (poll_section : SectionPollTaken) (handed : Bool) → MarksOf poll_section.t poll_section.call_state.stage poll_section.own
