@@ -3,13 +3,12 @@ use Rattle.std.proofs.Common.{◌≡◌, ◌≢◌, ℕ, Bool, true, false, ◌&
 use Rattle.std.proofs.{Common.{sym, ◌∙◌, subst, arith, rules}, lemmas.Bool.{and_parts, and_right}}
 use Rattle.event_log.{specs.{declared.ids.{BufId.BufId, LockId.{LockId, TheVariants.Buffer}, Tid.Tid}, History.same_lock}, proofs.Same.same_lock_true}
 use Rattle.layer_traits.specs.declared.{buffer_edits.BufferEdit.BufferEdit, calls.Call.Call, conditions.CvLeave.TheVariants.{Leave, Wait}}
-use Rattle.layer_traits.specs.declared.locked.{QEdit.TheVariants.{Acquire, Inside, Release}, Side.{Side, TheVariants.Senders}}
-use Rattle.layer_traits.specs.{declared.call_states.CallState.CallState, Blocks.BufferProtocol.{BufferLock, BufferSection, buffer_lock_at, buffer_rules}}
-use Rattle.layer_traits.specs.{Blocks.BufferProtocol.has_tried_in_vain, Layers.{BufferLaw.{buffer_of, side_of}, Conditions.CvCall, QLocking.IsOwners}}
-use Rattle.layer_traits.{specs.{Layers.QLocking.{lock_caller, lock_edited, owner_in}, Threads.Places.{count_in, one_if}}, proofs.CountLemmas.same_tid_sym}
-use Rattle.{layer_traits.proofs.CountLemmas.{count_behind, count_other}, thread_blocks.{specs.Queues.{same_tid, is_in}, proofs.Members.same_tid_self}}
-use Rattle.{thread_blocks.proofs.{Members.same_tid_true, Distinct.out_of_rest}, fifo_buffer.specs.Stances.{Grip, Stance, CallStateFits, holds_at, line_at}}
-use Rattle.fifo_buffer.specs.Stances.{lined_at, same_side}
+use Rattle.layer_traits.specs.declared.{locked.{QEdit.TheVariants.{Acquire, Inside, Release}, Side.Side}, call_states.CallState.CallState}
+use Rattle.layer_traits.specs.{Blocks.BufferProtocol.{BufferLock, BufferSection, buffer_lock_at, buffer_rules, has_tried_in_vain}, Layers.BufferLaw.buffer_of}
+use Rattle.layer_traits.specs.{Layers.{BufferLaw.side_of, Conditions.CvCall, QLocking.{IsOwners, lock_caller, lock_edited, owner_in}}, Threads.Places.count_in}
+use Rattle.{layer_traits.{specs.Threads.Places.one_if, proofs.CountLemmas.{same_tid_sym, count_behind, count_other}}, thread_blocks.specs.Queues.same_tid}
+use Rattle.{thread_blocks.{specs.Queues.is_in, proofs.{Members.{same_tid_self, same_tid_true}, Distinct.out_of_rest}}, fifo_buffer.specs.Stances.{Grip, Stance}}
+use Rattle.fifo_buffer.specs.Stances.{CallStateFits, holds_at, line_at, lined_at, same_side}
 
 pub not_some : (t u : Tid) → same_tid u t ≡ false → Some u ≢ Some t
 not_some t u other is = let one : u ≡ t = cc in absurd (cc (other, subst (λ v. same_tid u v ≡ true) one (same_tid_self u)))

@@ -9,7 +9,7 @@ use Rattle.layer_traits.specs.declared.{buffer_edits.{BufferEdit.BufferEdit, Buf
 use Rattle.layer_traits.specs.declared.{queue_edits.QueueBlock.QueueBlock, queues.QueueCall.{QueueCall, TheVariants.{Push, TakeAll, OnBuffer}}}
 use Rattle.layer_traits.specs.{declared.{scheds.SchedCall.SchedCall, call_states.CallState.CallState}, Blocks.BufferEffects.{effect_of, effect_on, effects_in}}
 use Rattle.layer_traits.specs.{Blocks.{BufferProtocol.{BufferLock, BufferSection}, QueueBlocks.{homes_in, inner}}, Layers.BufferLaw.{MovesGrow, OthersSeen}}
-use Rattle.layer_traits.specs.Layers.{BufferLaw.{cpu_of_entry, recorded, call_state_of}, Conditions.CvCall, CvLaw.Waiting, QLockLaw.slept_for}
+use Rattle.layer_traits.specs.Layers.{BufferLaw.{cpu_of_entry, recorded, call_state_of}, Conditions.CvCall, CvLaw.Waiting}
 use Rattle.layer_traits.specs.{Layers.Queues.{buffer_sections, cpu_of_queue_event, moves_in, with_section}, Threads.Places.home_of, Protocols.Protocol.section}
 use Rattle.layer_traits.proofs.CallLemmas.{moves_append, moves_others, moves_over}
 

@@ -8,7 +8,7 @@ use Rattle.fifo_buffer.specs.{Stances.{waits_at, waits_by}, SectionPolls.{After,
 use Rattle.{fifo_buffer.specs.SectionPolls.{SectionPolled, recorded_if, is_plain}, event_log.specs.declared.ids.{BufId.BufId, CpuId.CpuId, LockId.LockId}}
 use Rattle.event_log.{specs.{declared.ids.{LockId.TheVariants.Buffer, Tid.Tid, TheConstants.THREADS}, History.AreForeign}, proofs.BoolLemmas.none_of}
 use Rattle.layer_traits.specs.declared.{buffer_edits.{BufferEdit.BufferEdit, BufferOut.BufferOut}, calls.{Call.Call, Effect.Effect}, conditions.CvOut.CvOut}
-use Rattle.layer_traits.specs.declared.{locked.QOut.{QOut, TheVariants.{Acquired, Queued, Did, Released}}, moves.WaitList.WaitList}
+use Rattle.layer_traits.specs.declared.{locked.QOut.{QOut, TheVariants.{Queued, Released}}, moves.WaitList.WaitList}
 use Rattle.layer_traits.specs.declared.{queue_edits.QueueBlock.QueueBlock, scheds.SchedCall.SchedCall, call_states.{Stage.Stage, CallState.CallState}}
 use Rattle.layer_traits.specs.Blocks.{BufferEffects.effects_in, BufferProtocol.{BufferLock, BufferSection, buffer_lock_at, buffer_monitor_rules, buffer_rules}}
 use Rattle.layer_traits.specs.{Blocks.QueueBlocks.{homes_in, inner}, Layers.{BufferLaw.{buffer_of, recorded, section_at}, Conditions.CvCall, CvLaw.MayCallCond}}

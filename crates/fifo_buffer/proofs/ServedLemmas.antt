@@ -5,7 +5,7 @@ use Rattle.fifo_buffer.{proofs.{Callers.AreLawful, PositionLemmas.{by_sections, 
 use Rattle.fifo_buffer.specs.{FifoFits.BootsSo, Positions.enters_side, SectionPolls.BufferEvent, Served.{FirstComeFirstServed, group_on, joiners_of, served}}
 use Rattle.{fifo_buffer.specs.Stances.same_side, layer_traits.specs.Blocks.{Capacities.caps_in, BufferEffects.{effect_of, effect_on, effects_in, drawn}}}
 use Rattle.layer_traits.specs.Blocks.{BufferEffects.fresh_lock, BufferProtocol.{BufferLock, BufferSection, IsDue, buffer_lock_at, is_in_line, buffer_rules}}
-use Rattle.layer_traits.specs.Blocks.{QueueBlocks.{StartsWell, inner}, BufferBlocks.{BufferState, entered, is_first, is_next, line_of, may_join, shut}}
+use Rattle.layer_traits.specs.Blocks.{QueueBlocks.{StartsWell, inner}, BufferBlocks.{BufferState, entered, is_first, is_next, line_of, may_join}}
 use Rattle.layer_traits.specs.declared.{buffer_edits.BufferEdit.{BufferEdit, TheVariants.{Enter, TryPut, TryTake, Shut}}, queue_edits.QueueBlock.QueueBlock}
 use Rattle.layer_traits.specs.declared.{conditions.CvEdit.TheVariants.{Edit, SignalFront}, locked.{QEdit.TheVariants.{Acquire, Inside, Release}, Side.Side}}
 use Rattle.layer_traits.specs.{declared.locked.Side.TheVariants.{Receivers, Senders}, Layers.{Conditions.CvCall, QLocking.{lock_asked_by, lock_caller}}}

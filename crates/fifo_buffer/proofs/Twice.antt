@@ -1,11 +1,11 @@
 -- Two section polls in one poll; which thread runs after a poll, and what its CPU is at.
 use Rattle.std.proofs.Common.{arith, ◌≡◌, ◌≢◌, ◌⊎◌, Bool, true, false, List, length, Option, Some, None, IsSome, is_some, slice_set, if◌then◌else◌, ap, ◌∙◌}
 use Rattle.std.proofs.{Common.subst, lemmas.{Bool.eqb-false, List.{get_or-set_other, length-set}}}
-use Rattle.{event_log.specs.declared.ids.{BufId.BufId, LockId.LockId, Tid.Tid}, layer_traits.specs.declared.buffer_edits.BufferEdit.BufferEdit}
+use Rattle.{event_log.specs.declared.ids.{LockId.LockId, Tid.Tid}, layer_traits.specs.declared.buffer_edits.BufferEdit.BufferEdit}
 use Rattle.layer_traits.specs.declared.{buffer_edits.BufferOut.BufferOut, calls.{Call.Call, Reply.Reply}, scheds.SchedCall.SchedCall, call_states.Stage.Stage}
 use Rattle.layer_traits.specs.{declared.call_states.CallState.CallState, Blocks.BufferProtocol.{BufferLock, BufferSection}, Layers.Conditions.CvCall}
-use Rattle.layer_traits.specs.Layers.{CvLaw.Waiting, QLockLaw.{is_handed, slept_for}, Queues.buffer_sections, BufferLaw.{buffer_of, going, no_call, replied}}
-use Rattle.{layer_traits.specs.Layers.BufferLaw.call_state_of, thread_blocks.specs.Queues.same_tid, fifo_buffer.specs.Stances.{IsMark, asks_at, waits_at}}
+use Rattle.layer_traits.specs.Layers.{CvLaw.Waiting, QLockLaw.{is_handed, slept_for}, Queues.buffer_sections, BufferLaw.{going, no_call, replied}}
+use Rattle.{layer_traits.specs.Layers.BufferLaw.call_state_of, thread_blocks.specs.Queues.same_tid, fifo_buffer.specs.Stances.{asks_at, waits_at}}
 use Rattle.fifo_buffer.{specs.SectionPolls.{After, Ended, SectionGoes, MayPollSection, Sizes, is_at_once, reply_at}, proofs.SectionPollTaken.SectionPollTaken}
 
 -- a call state of another thread stays where this one's is kept
