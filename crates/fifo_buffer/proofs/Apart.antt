@@ -1,48 +1,30 @@
 -- One section of another caller leaves a thread's stance as it is.
 use Rattle.std.proofs.Common.{◌≡◌, ◌≢◌, ℕ, Bool, true, false, ◌&&◌, ◌||◌, List, [], ◌∷◌, ◌++◌, Option, Some, None, option_map, is_some, if◌then◌else◌, refl, ap}
-use Rattle.std.proofs.{Common.{sym, ◌∙◌, subst, arith}, lemmas.Bool.{and_parts, and_right}}
+use Rattle.std.proofs.{Common.{sym, ◌∙◌, subst, arith, rules}, lemmas.Bool.{and_parts, and_right}}
 use Rattle.event_log.{specs.{declared.ids.{BufId.BufId, LockId.{LockId, TheVariants.Buffer}, Tid.Tid}, History.same_lock}, proofs.Same.same_lock_true}
 use Rattle.layer_traits.specs.declared.{buffer_edits.BufferEdit.BufferEdit, calls.Call.Call, conditions.CvLeave.TheVariants.{Leave, Wait}}
-use Rattle.layer_traits.specs.declared.locked.{QEdit.TheVariants.{Acquire, Inside, Release}, Side.{Side, TheVariants.Senders}}
-use Rattle.layer_traits.specs.{declared.call_states.CallState.CallState, Blocks.BufferBlocks.{BufferState, buffer_edited, thread_of_edit, entered, is_first}}
-use Rattle.layer_traits.specs.Blocks.{BufferBlocks.{line_of, put_in, shut, taken_out}, BufferEffects.{drawn, is_enter}, BufferProtocol.BufferLock}
-use Rattle.layer_traits.specs.{Blocks.BufferProtocol.{BufferSection, buffer_lock_at, buffer_rules, has_tried_in_vain}, Layers.BufferLaw.{buffer_of, side_of}}
-use Rattle.layer_traits.specs.Layers.{Conditions.CvCall, QLocking.{IsOwners, lock_asked_by, lock_caller, lock_edited, owner_in}, Sleeping.joined}
-use Rattle.layer_traits.{specs.Threads.Places.{count_in, one_if}, proofs.CountLemmas.{same_tid_sym, count_behind, count_other}}
-use Rattle.thread_blocks.{specs.Queues.{same_tid, is_in, rest}, proofs.{Members.{same_tid_self, same_tid_true}, Distinct.out_of_rest}}
-use Rattle.fifo_buffer.specs.Stances.{Grip, Stance, CallStateFits, holds_at, line_at, lined_at, same_side}
+use Rattle.layer_traits.specs.declared.{locked.{QEdit.TheVariants.{Acquire, Inside, Release}, Side.Side}, call_states.CallState.CallState}
+use Rattle.layer_traits.specs.{Blocks.BufferProtocol.{BufferLock, BufferSection, buffer_lock_at, buffer_rules, has_tried_in_vain}, Layers.BufferLaw.buffer_of}
+use Rattle.layer_traits.specs.{Layers.{BufferLaw.side_of, Conditions.CvCall, QLocking.{IsOwners, lock_caller, lock_edited, owner_in}}, Threads.Places.count_in}
+use Rattle.{layer_traits.{specs.Threads.Places.one_if, proofs.CountLemmas.{same_tid_sym, count_behind, count_other}}, thread_blocks.specs.Queues.same_tid}
+use Rattle.{thread_blocks.{specs.Queues.is_in, proofs.{Members.{same_tid_self, same_tid_true}, Distinct.out_of_rest}}, fifo_buffer.specs.Stances.{Grip, Stance}}
+use Rattle.fifo_buffer.specs.Stances.{CallStateFits, holds_at, line_at, lined_at, same_side}
 
 pub not_some : (t u : Tid) → same_tid u t ≡ false → Some u ≢ Some t
 not_some t u other is = let one : u ≡ t = cc in absurd (cc (other, subst (λ v. same_tid u v ≡ true) one (same_tid_self u)))
-
--- how often a thread stands in a list whose first another was
-pub count_rest : (t u : Tid) (q : List Tid) → same_tid u t ≡ false → is_first u q ≡ true → count_in t (rest q) ≡ count_in t q
-count_rest t u q other is = grind (arith, same_tid_true, count_other)
 
 pub in_append : (t u : Tid) (q : List Tid) → same_tid u t ≡ false → is_in t (q ++ u ∷ []) ≡ is_in t q
 in_append t u [] other = rw (same_tid_sym t u, other) refl
 in_append t u (x ∷ q) other = ap (λ b. same_tid t x || b) (in_append t u q other)
 
-pub in_joined : (t u : Tid) (q : List Tid) → same_tid u t ≡ false → is_in t (joined u q) ≡ is_in t q
-in_joined t u q other = grind (arith, in_append)
-
 pub side_self : (side : Side) → same_side side side ≡ true
 side_self side = grind arith
-
--- a grip on a lock, over one section there
-free_asked : (t u : Tid) (owner : Option Tid) (lock : BufferLock) → same_tid u t ≡ false → owner ≢ Some t → is_in t lock.sleepers ≡ false
-    → ((lock_asked_by u owner lock).owner ≢ Some t) × (is_in t (lock_asked_by u owner lock).sleepers ≡ false)
-free_asked t u owner lock other free out = grind (arith, not_some, in_joined)
-
-held_asked : (t u : Tid) (owner : Option Tid) (lock : BufferLock) → same_tid u t ≡ false → owner ≡ Some t → is_in t lock.sleepers ≡ false
-    → ((lock_asked_by u owner lock).owner ≡ Some t) × (is_in t (lock_asked_by u owner lock).sleepers ≡ false)
-held_asked t u owner lock other held out = grind (arith, in_joined)
 
 grip_edit : (t : Tid) (e : CvCall BufferEdit) (lock : BufferLock) (holds asks : Bool) → same_tid (lock_caller buffer_rules e) t ≡ false
     → IsOwners buffer_rules e lock.owner → Grip t holds asks (Some lock) → Grip t holds asks (Some (lock_edited buffer_rules e lock))
 grip_edit t e lock false true other owns grip = tt
-grip_edit t (Acquire u) lock true asks other owns grip = held_asked t u lock.owner lock other grip.0 grip.1
-grip_edit t (Acquire u) lock false false other owns grip = free_asked t u lock.owner lock other grip.0 grip.1
+grip_edit t (Acquire u) lock true asks other owns grip = grind (arith, in_append)
+grip_edit t (Acquire u) lock false false other owns grip = grind (arith, not_some, in_append)
 grip_edit t (Inside f) lock true asks other owns grip = grip
 grip_edit t (Inside f) lock false false other owns grip = grip
 grip_edit t (Release (Leave u)) lock true asks other owns grip = absurd (not_some t u other (sym owns ∙ grip.0))
@@ -55,42 +37,11 @@ pub grip_apart : (t : Tid) (e : CvCall BufferEdit) (x : Option BufferLock) (hold
 grip_apart t e None holds asks other owns grip = grip
 grip_apart t e (Some lock) holds asks other owns grip = grip_edit t e lock holds asks other owns grip
 
--- a line of a block, over one edit
-line_entered : (t u : Tid) (at side : Side) (x : BufferState) → same_tid u t ≡ false → count_in t (line_of side (entered at u x)) ≡ count_in t (line_of side x)
-line_entered t u at side x other = grind (arith, count_behind)
-
-line_put : (t u : Tid) (m : _) (side : Side) (x : BufferState) → same_tid u t ≡ false → is_first u x.send_line ≡ true
-    → count_in t (line_of side (put_in m x)) ≡ count_in t (line_of side x)
-line_put t u m side x other is = grind (arith, count_rest)
-
-line_taken : (t u : Tid) (side : Side) (x : BufferState) → same_tid u t ≡ false → is_first u x.receive_line ≡ true
-    → count_in t (line_of side (taken_out x)) ≡ count_in t (line_of side x)
-line_taken t u side x other is = grind (arith, count_rest)
-
-pub line_shut : (side : Side) (x : BufferState) → line_of side (shut x) ≡ line_of side x
-line_shut side x = grind arith
-
-pub line_edit : (t : Tid) (ed : BufferEdit) (side : Side) (x : BufferState) → same_tid (thread_of_edit ed) t ≡ false
-    → count_in t (line_of side (buffer_edited ed x)) ≡ count_in t (line_of side x)
-line_edit t ed side x other = grind (arith, line_entered, line_put, and_parts, line_taken, line_shut)
-
--- an Acquire changes nothing above
-pub above_asked : (u : Tid) (owner : Option Tid) (lock : BufferLock) → (lock_asked_by u owner lock).above ≡ lock.above
-above_asked u owner lock = grind arith
-
 pub line_apart : (t : Tid) (e : CvCall BufferEdit) (x : Option BufferLock) (side : Side) → same_tid (lock_caller buffer_rules e) t ≡ false
     → count_in t (line_at side (option_map (lock_edited buffer_rules e) x)) ≡ count_in t (line_at side x)
-line_apart t e x side other = grind (arith, above_asked, line_edit)
-
--- nobody else's section enters a line for the thread
-pub enter_apart : (t : Tid) (e : CvCall BufferEdit) (side : Side) → same_tid (lock_caller buffer_rules e) t ≡ false → is_enter side t e ≡ false
-enter_apart t e side other = grind arith
+line_apart t e x side other = grind (arith, count_behind, same_tid_true, count_other, and_parts)
 
 module _ (opening : LockId → Option BufferLock) (past : List BufferSection) (s : BufferSection) (t : Tid) where
-  pub drawn_apart : (lock : LockId) (side : Side) → same_tid (lock_caller buffer_rules s.edit) t ≡ false
-      → drawn opening lock side t (s ∷ past) ≡ drawn opening lock side t past
-  drawn_apart lock side other = grind (arith, and_right, enter_apart)
-
   pub vain_apart : (lock : LockId) (side : Side) → same_tid (lock_caller buffer_rules s.edit) t ≡ false
       → has_tried_in_vain opening lock side t (s ∷ past) ≡ has_tried_in_vain opening lock side t past
   vain_apart lock side other = rw other refl
@@ -119,17 +70,12 @@ module _ (opening : LockId → Option BufferLock) (past : List BufferSection) (s
           (asks && same_lock lock (Buffer b)) other owns) (stance.grip lock);
       line = λ lock at. at_after lock (λ x. count_in t (line_at at x) ≡ one_if (lined && (same_lock lock (Buffer b) && same_side at side)))
           (λ one is. line_apart t s.edit (buffer_lock_at opening past s.lock) at other ∙ is) (stance.line lock at);
-      drawn_is = λ is. stance.drawn_is is ∙ sym (drawn_apart (Buffer b) side other);
+      drawn_is = λ is. stance.drawn_is is ∙ sym (grind (arith, and_right));
     }
 
     pub fits_apart : (call : Option Call) (slept waits : Option BufId) (call_state : CallState) → CallStateFits opening past t call slept waits call_state
         → CallStateFits opening (s ∷ past) t call slept waits call_state
-    fits_apart None slept waits call_state fits = record {
-      stage_is = fits.stage_is;
-      stance = stance_apart (record { 0 = 0 }) Senders false false false 0 fits.stance;
-      slept_none = fits.slept_none;
-      waits_none = fits.waits_none;
-    }
+    fits_apart None slept waits call_state fits = search (rules, stance_apart)
     fits_apart (Some call) slept waits call_state fits = record {
       called = fits.called;
       stance =

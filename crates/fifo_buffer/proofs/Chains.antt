@@ -3,12 +3,11 @@ use Rattle.std.proofs.Common.{◌≡◌, Bool, true, false, List, Option, Some, 
 use Rattle.event_log.specs.{declared.ids.{CpuId.CpuId, LockId.LockId, Tid.Tid}, Actions.Action}
 use Rattle.layer_traits.specs.declared.{buffer_edits.{BufferEdit.BufferEdit, BufferOut.BufferOut}, calls.{Call.Call, Reply.Reply}, conditions.CvOut.CvOut}
 use Rattle.layer_traits.specs.declared.{locked.QOut.QOut, queue_edits.{QueueEdit.QueueEdit, QueueAnswer.QueueAnswer}, call_states.Stage.Stage}
-use Rattle.layer_traits.specs.declared.call_states.Stage.TheVariants.{Idle, Acquires, Enters, Tries, Waits, AcquiresAgain, Signals, SignalsOwn, Releases}
-use Rattle.layer_traits.specs.{declared.call_states.CallState.CallState, Layers.BufferLaw.{Buffering, BufferPlan, buffer_of, chained, recorded, plan_at}}
-use Rattle.layer_traits.specs.Layers.{BufferLaw.{plan_beneath, stage_plan, section_at, call_state_of}, Conditions.CvCall, CvLaw.Waiting, QLockLaw.slept_for}
-use Rattle.layer_traits.specs.{Layers.{QLocking.lock_moves, Scheds.sched_plan, SleepLaw.due}, Blocks.BufferProtocol.buffer_rules, Polling.Plans.{Follows, Left}}
-use Rattle.{layer_traits.specs.Polling.Plans.{Plan, Now, Act, Table, raised}, fifo_buffer.specs.{Stances.{called_at, waits_at}, SectionPolls.BufferOutcome}}
-use Rattle.fifo_buffer.{specs.SectionPolls.is_at_once, proofs.Events.caller_is}
+use Rattle.layer_traits.specs.{declared.call_states.{Stage.TheVariants.{Idle, Acquires, Waits, AcquiresAgain}, CallState.CallState}, Layers.BufferLaw.Buffering}
+use Rattle.layer_traits.specs.Layers.BufferLaw.{BufferPlan, buffer_of, chained, recorded, plan_at, plan_beneath, stage_plan, section_at, call_state_of}
+use Rattle.layer_traits.specs.Layers.{Conditions.CvCall, CvLaw.Waiting, QLockLaw.slept_for, QLocking.lock_moves, Scheds.sched_plan, SleepLaw.due}
+use Rattle.layer_traits.specs.{Blocks.BufferProtocol.buffer_rules, Polling.Plans.{Follows, Left, Plan, Now, Act, Table, raised}}
+use Rattle.fifo_buffer.{specs.{Stances.{called_at, waits_at}, SectionPolls.{BufferOutcome, is_at_once}}, proofs.Events.caller_is}
 
 some_of : {A : Type 0} (x : Option A) → is_some x ≡ true → (a : A) × (x ≡ Some a)
 some_of x is = grind arith
@@ -49,13 +48,9 @@ module _ {B : Type 0} (ActsFor : CpuId → Type 0) (table : Table (QueueEdit (Cv
       → Follows ActsFor table opening cpu (plan_at homes cpu t call stage call_state own) old new got
   one_follows Idle call_state own old new got called slept waits follows = grind arith
   one_follows Acquires call_state own old new got called slept waits follows = grind (arith, chained_act, beneath_acts)
-  one_follows Enters call_state own old new got called slept waits follows = follows
-  one_follows Tries call_state own old new got called slept waits follows = follows
   one_follows Waits call_state own old new got called slept waits follows = grind (arith, chained_act, beneath_acts)
   one_follows AcquiresAgain call_state own old new got called slept waits follows = grind (arith, chained_act, beneath_acts)
-  one_follows Signals call_state own old new got called slept waits follows = follows
-  one_follows SignalsOwn call_state own old new got called slept waits follows = follows
-  one_follows Releases call_state own old new got called slept waits follows = follows
+  one_follows other call_state own old new got called slept waits follows = follows
 
   -- the plan beneath, where it answers without an action
   abbrev Answers : Plan (QueueEdit (CvCall BufferEdit)) (QueueAnswer BufferOutcome) (Waiting BufferOut) BufferOutcome → Type 0

@@ -6,15 +6,9 @@ use Rattle.fifo_buffer.{specs.Stances.{called_at, done_at}, proofs.{SectionPollT
 use Rattle.{event_log.specs.declared.ids.{CpuId.CpuId, Tid.Tid}, layer_traits.specs.declared.buffer_edits.{BufferEdit.BufferEdit, BufferOut.BufferOut}}
 use Rattle.layer_traits.specs.declared.{calls.{Call.Call, Effect.Effect, Reply.Reply}, conditions.CvOut.CvOut, locked.QOut.QOut, scheds.SchedCall.SchedCall}
 use Rattle.layer_traits.specs.{declared.call_states.{Stage.{Stage, TheVariants.Idle}, CallState.CallState}, Blocks.BufferEffects.effects_in}
-use Rattle.layer_traits.specs.Layers.BufferLaw.{Answered, Called, begun_at, buffer_of, entry_of, going, recorded, enlisted, replied, reply_of, call_state_of}
-use Rattle.layer_traits.specs.{Layers.{BufferLaw.tried, Conditions.CvCall, QLockLaw.slept_for, Queues.buffer_sections}, Threads.Places.home_of}
+use Rattle.layer_traits.specs.Layers.BufferLaw.{Answered, Called, begun_at, buffer_of, entry_of, going, recorded, replied, reply_of, call_state_of}
+use Rattle.layer_traits.specs.{Layers.{Conditions.CvCall, QLockLaw.slept_for, Queues.buffer_sections}, Threads.Places.home_of}
 use Rattle.thread_blocks.{specs.Queues.same_tid, proofs.Members.same_tid_true}
-
-enlisted_call : (call_state : CallState) (out : BufferOut) → (enlisted call_state out).call ≡ call_state.call
-enlisted_call call_state out = grind arith
-
-tried_call : (call_state : CallState) (out : BufferOut) → (tried call_state out).call ≡ call_state.call
-tried_call call_state out = grind arith
 
 -- the call goes on after a section, but for the last one, after which it answers
 abbrev pub GoesOrEnds : CallState → Call → Stage → QOut (CvOut BufferOut) → Type 0
@@ -25,7 +19,7 @@ GoesOrEnds call_state call stage out =
 
 pub goes_or_ends : (call_state : CallState) (call : Call) (stage : Stage) (out : QOut (CvOut BufferOut)) → call_state.call ≡ Some call
     → is_some call_state.effect ≡ done_at stage → GoesOrEnds call_state call stage out
-goes_or_ends call_state call stage out is done = grind (arith, enlisted_call, tried_call)
+goes_or_ends call_state call stage out is done = grind arith
 
 begun_there : (stage : Stage) (o : Option Call) → called_at stage ≡ true → begun_at stage o ≡ o
 begun_there stage o is = grind arith

@@ -8,10 +8,6 @@ use Rattle.{layer_traits.specs.{Blocks.BufferProtocol.{BufferLock, BufferSection
 use Rattle.fifo_buffer.specs.{Stances.{InCall, Stance, CallStateFits, called_at}, SectionPolls.{CallsFit, FitsAt, SectionGoes, MayPollSection, under_way_at}}
 use Rattle.layer_traits.specs.declared.scheds.SchedCall.TheVariants as sched
 
--- within a call the call state goes on as it is
-pub going_same : (stage : Stage) (call_state : CallState) (call : Call) → called_at stage ≡ true → going_at stage call_state call ≡ call_state
-going_same stage call_state call is = grind arith
-
 -- a call that goes on at its beginning goes on to acquire its buffer's lock
 pub acquires_at : {at stage : Stage} → at ≡ stage → called_at stage ≡ true → (at ≡ Idle) ⊎ (at ≡ Acquires) → Acquires ≡ stage
 acquires_at is called either = grind arith
@@ -40,7 +36,7 @@ module _ (O : LockId → Option BufferLock) (past : List BufferSection) (t : Tid
         subst (λ (x : CallState). InCall O past t call slept waits x.stage x.position x.effect) (sym same)
             (begun_fits slept waits fits.stance fits.slept_none fits.waits_none),
       )
-  going_fits call_state slept waits (Some k) is fits may = grind (arith, going_same)
+  going_fits call_state slept waits (Some k) is fits may = grind arith
 
 -- a call that goes on is begun
 pub goes_called : (O : LockId → Option BufferLock) (past : List BufferSection) (t : Tid) (k : Call) (call_state : CallState) (own : Waiting BufferOut)
@@ -62,4 +58,4 @@ first_may homes c O past own call_states None None t call home fits runs hand ca
     (record { current = runs; called = both.0; goes = record { hand = hand refl; deferred = fits.deferred; fits = both.1 } }, λ u there other. fits.fit u there)
 first_may homes c O past own call_states (Some (sched.Pass p)) None t call home fits runs hand call_state_may may = grind arith
 first_may homes c O past own call_states (Some (sched.OnBuffer b e)) None t call home fits runs hand call_state_may may = absurd fits.none
-first_may homes c O past own call_states under_way (Some v) t call home fits runs hand call_state_may may = grind (arith, goes_called, going_same)
+first_may homes c O past own call_states under_way (Some v) t call home fits runs hand call_state_may may = grind (arith, goes_called)

@@ -10,14 +10,11 @@ use Rattle.fifo_buffer.specs.FifoFits.{BootsSo}
 abbrev pub resting : BufferState → BufferLock
 resting block = record { owner = None; sleepers = []; receivers = []; senders = []; above = block }
 
-rested : (o : Option ℕ) → option_map resting (option_map empty_block o) ≡ option_map fresh_lock o
-rested o = grind arith
-
 module _ (opening : LockId → Option (QueueBlock BufferLock)) (caps : List ℕ) where
   -- each lock opens as one of its kind, and each buffer's with an empty block of its capacity at rest
   pub boots_so : ((lock : LockId) → StartsAs lock (opening lock))
       → ((b : BufId) → inner opening (Buffer b) ≡ option_map resting (slice_get (map empty_block caps) b.0)) → inner opening ≡ opening_locks caps
-  boots_so kinds blocks = grind (arith, fun_ext, slice_get-map, rested)
+  boots_so kinds blocks = grind (arith, fun_ext, slice_get-map)
 
   -- the same where the blocks stand in a list
   pub boots_at : (blocks : List BufferState) → ((lock : LockId) → StartsAs lock (opening lock))

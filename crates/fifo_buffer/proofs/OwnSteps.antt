@@ -1,22 +1,22 @@
 -- A thread's own sections: what each leaves of its stance, and its effect.
-use Rattle.std.proofs.Common.{ℕ, ◌≡◌, ◌<◌, Bool, true, false, ◌&&◌, List, [], ◌∷◌, ◌++◌, Option, Some, None, option_map, if◌then◌else◌, refl, ap, sym, ◌∙◌}
+use Rattle.std.proofs.Common.{ℕ, ◌≡◌, ◌<◌, Bool, true, false, ◌&&◌, List, ◌∷◌, Option, Some, None, option_map, if◌then◌else◌, refl, ap, sym, ◌∙◌}
 use Rattle.std.proofs.{Common.{rules, is_some, not, subst, arith, lt-ltb}, lemmas.Bool.{and_parts, and_right}, Math.Bool.and-true}
-use Rattle.fifo_buffer.specs.Stances.{IsMark, waits_at, asks_at, called_at, lined_at, holds_at, Grip, HoldsLock, InCall, IsFreeOf, Stance, CallStateFits}
+use Rattle.fifo_buffer.specs.Stances.{IsMark, waits_at, asks_at, called_at, lined_at, holds_at, Grip, InCall, Stance, CallStateFits}
 use Rattle.fifo_buffer.specs.{Stances.{done_at, recorded_by, line_at, same_side, slept_by, call_state_in, waits_by, EntersLine}, Laws.BlockSteps.kind_counts}
-use Rattle.{fifo_buffer.proofs.Apart.{above_asked, line_shut, side_self}, layer_traits.specs.declared.conditions.CvLeave.{CvLeave, TheVariants.{Leave, Wait}}}
+use Rattle.{fifo_buffer.proofs.Apart.side_self, layer_traits.specs.declared.conditions.CvLeave.{CvLeave, TheVariants.{Leave, Wait}}}
 use Rattle.layer_traits.specs.declared.{conditions.{CvEdit.TheVariants.Edit, CvOut.CvOut}, buffer_edits.BufferEdit.{BufferEdit, TheVariants.{Enter, Shut}}}
 use Rattle.layer_traits.specs.declared.{buffer_edits.BufferOut.BufferOut, calls.{Call.{Call, TheVariants.{Send, Recv, Close}}, Effect.Effect}}
 use Rattle.layer_traits.specs.declared.locked.{QEdit.TheVariants.{Acquire, Inside, Release}, QOut.{QOut, TheVariants.{Did, Released}}, Side.Side}
 use Rattle.layer_traits.specs.declared.{locked.Side.TheVariants.{Receivers, Senders}, call_states.Stage.{Stage, TheVariants.{Idle, Acquires, Enters, Tries}}}
 use Rattle.layer_traits.specs.{declared.call_states.Stage.TheVariants.{Waits, AcquiresAgain, Signals, SignalsOwn, Releases}, Blocks.BufferBlocks.BufferState}
-use Rattle.layer_traits.specs.Blocks.{BufferBlocks.{effect_kind, entered, first_item, is_first, is_next, line_of, may_join, drawn_of}, BufferEffects.drawn}
+use Rattle.layer_traits.specs.Blocks.{BufferBlocks.{effect_kind, entered, first_item, is_next, line_of, may_join, drawn_of}, BufferEffects.drawn}
 use Rattle.layer_traits.specs.Blocks.{BufferEffects.{effect_of, effect_on, is_enter, drawn_in}, BufferProtocol.{BufferLock, BufferSection, buffer_lock_at}}
 use Rattle.layer_traits.specs.{Blocks.BufferProtocol.{buffer_rules, has_tried_in_vain}, Layers.BufferLaw.{IsEffectOf, buffer_of, entry_of, section_at, side_of}}
-use Rattle.layer_traits.specs.Layers.{BufferLaw.other_side, Conditions.CvCall, QLocking.{lock_asked_by, lock_edited, lock_out, asker_report}}
+use Rattle.layer_traits.specs.Layers.{BufferLaw.other_side, Conditions.CvCall, QLocking.{lock_edited, lock_out, asker_report}}
 use Rattle.layer_traits.{specs.{Threads.Places.{count_in, one_if}, Protocols.Protocol.section}, proofs.CountLemmas.{count_append, not_counted}}
 use Rattle.event_log.specs.declared.{entries.Entry.Entry, ids.{BufId.BufId, CpuId.CpuId, LockId.{LockId, TheVariants.Buffer}, Tid.Tid, TheConstants.THREADS}}
 use Rattle.event_log.{specs.{History.same_lock, Messages.{Message, no_message}, Runs.group_of}, proofs.Same.{same_lock_self, same_lock_true}}
-use Rattle.{event_log.proofs.BoolLemmas.none_of, thread_blocks.{specs.Queues.rest, proofs.{Members.same_tid_self, Distinct.out_of_rest}}}
+use Rattle.{event_log.proofs.BoolLemmas.none_of, thread_blocks.{proofs.{Members.same_tid_self, Distinct.out_of_rest}}}
 use Rattle.event_log.specs.declared.entries.Kind.TheVariants as kind
 use Rattle.layer_traits.specs.declared.buffer_edits.BufferOut.TheVariants as told
 use Rattle.layer_traits.specs.declared.conditions.CvOut.TheVariants as answer
@@ -33,20 +33,9 @@ pub record Stepped (opening : LockId → Option BufferLock) (past : List BufferS
       (call_state_in stage call position effect) stage out).effect ≡ Some f) × IsEffectOf call f
   pub stays : mine ≡ None → (recorded_by (call_state_in stage call position effect) stage out).effect ≡ effect
 
--- whoever takes a free lock holds it
-take_free : (t : Tid) (owner : Option Tid) (lock : BufferLock) → owner ≡ None → IsFreeOf t (Some lock) → HoldsLock t (Some (lock_asked_by t owner lock))
-take_free t owner lock is free = grind arith
-
--- whoever is first in a line, where it stands once, is not among those behind
-gone_from : (t : Tid) (q : List Tid) → is_first t q ≡ true → count_in t q ≡ 1 → count_in t (rest q) ≡ 0
-gone_from t q is once = grind arith
-
-joins_line : (t : Tid) (q : List Tid) → count_in t q ≡ 0 → count_in t (q ++ t ∷ []) ≡ 1
-joins_line t q none = grind (arith, same_tid_self, count_append)
-
 lines_entered : (t : Tid) (side at : Side) (x : BufferState) → count_in t (line_of at x) ≡ 0
     → count_in t (line_of at (entered side t x)) ≡ one_if (same_side at side)
-lines_entered t side at x none = grind (arith, joins_line)
+lines_entered t side at x none = grind (arith, same_tid_self, count_append)
 
 may_enter : (t : Tid) (q : List Tid) → t.0 < THREADS → count_in t q ≡ 0 → may_join t q ≡ true
 may_enter t q small none = grind (arith, lt-ltb, not_counted)
@@ -101,12 +90,12 @@ module _ {opening : LockId → Option BufferLock} {past : List BufferSection} (c
   took_lock : {lined : Bool} {position : ℕ} → lock.owner ≡ None → Stance opening past t b side false false lined position
       → Stance opening (section c (Buffer b) (Acquire t) ∷ past) t b side true false lined position
   took_lock free stance =
-      kept_line (Acquire t) stance true false (take_free t lock.owner lock free) refl
-      (λ at. ap (λ x. count_in t (line_of at x)) (above_asked t lock.owner lock))
+      kept_line (Acquire t) stance true false (grind arith) refl
+      (λ at. ap (λ x. count_in t (line_of at x)) (grind arith))
 
   asked_lock : {lined : Bool} {position : ℕ} → Stance opening past t b side false false lined position
       → Stance opening (section c (Buffer b) (Acquire t) ∷ past) t b side false true lined position
-  asked_lock stance = kept_line (Acquire t) stance false true (λ grip. tt) refl (λ at. ap (λ x. count_in t (line_of at x)) (above_asked t lock.owner lock))
+  asked_lock stance = kept_line (Acquire t) stance false true (λ grip. tt) refl (λ at. ap (λ x. count_in t (line_of at x)) (grind arith))
 
   -- how often the thread stands in its own line
   in_own_line : (holds asks lined : Bool) (position : ℕ) → Stance opening past t b side holds asks lined position
@@ -164,14 +153,7 @@ effect_tried c t call lock position v enters next = grind arith
 left_line : (t : Tid) (call : Call) (lock : BufferLock) (at : Side) → EntersLine call → is_next (side_of call) t lock.above ≡ true
     → count_in t (line_of at lock.above) ≡ one_if (same_side at (side_of call))
     → count_in t (line_of at (lock_edited buffer_rules (section_at t call Tries) lock).above) ≡ 0
-left_line t call lock at enters next now = grind (arith, gone_from, and_parts)
-
-same_in_vain : (t : Tid) (call : Call) (lock : BufferLock) → EntersLine call → is_next (side_of call) t lock.above ≡ false
-    → (lock_edited buffer_rules (section_at t call Tries) lock).above ≡ lock.above
-same_in_vain t call lock enters next = grind arith
-
-tries_enter_nowhere : (t : Tid) (call : Call) (side : Side) → EntersLine call → is_enter side t (section_at t call Tries) ≡ false
-tries_enter_nowhere t call side enters = grind arith
+left_line t call lock at enters next now = grind (arith, and_parts)
 
 -- each section of a call, by its stage
 module _ (opening : LockId → Option BufferLock) (past : List BufferSection) (c : CpuId) (t : Tid) (lock : BufferLock) (position : ℕ)
@@ -218,18 +200,16 @@ module _ (opening : LockId → Option BufferLock) (past : List BufferSection) (c
   -- a close changes no line and keeps the owner
   enters_step (Close b) small is now = record {
     fits = call_within refl (own_stance c is (Inside (Edit (Shut t))) now.stance true false (λ grip. grip) false position
-        (λ at none. ap (count_in t) (line_shut at lock.above) ∙ none) (λ lines. absurd cc)) (λ w. absurd cc) (λ w. absurd cc) refl tt tt;
+        (λ at none. ap (count_in t) (grind arith) ∙ none) (λ lines. absurd cc)) (λ w. absurd cc) (λ w. absurd cc) refl tt tt;
     mine = Some closed;
     is = ap (effect_here (Close b) Enters) is;
-    fresh = λ f same. (none_of effect now.effect_is, same, ap (λ (g : Effect). group_of g.kind) (sym (done f same)));
+    fresh = λ f same.
+        let done : closed ≡ f = cc in (none_of effect now.effect_is, same, ap (λ (g : Effect). group_of g.kind) (sym done));
     stays = λ w. absurd cc;
   }
     where
       closed : Effect
       closed = record { kind = kind.Close; value = no_message; op = lock.above.effects; pos = lock.above.closes }
-
-      done : (f : Effect) → Some closed ≡ Some f → closed ≡ f
-      done f same = cc
 
   -- a try, of a call that enters a line: at its thread's turn it has its effect, else it was in vain
   tries_step : (call : Call) → EntersLine call → At call → Within call Tries → (v : Bool) → is_next (side_of call) t lock.above ≡ v
@@ -241,15 +221,14 @@ module _ (opening : LockId → Option BufferLock) (past : List BufferSection) (c
     mine = Some (tried_effect call lock.above position);
     is = ap (effect_here call Tries) is ∙ effect_tried c t call lock _ true enters next
         ∙ ap (λ p. Some (entry_of c t (buffer_of call) (tried_effect call lock.above p))) (sym (now.stance.drawn_is refl));
-    fresh = λ f same. (none_of effect now.effect_is, same, subst (IsEffectOf call) (done f same) (is_own_effect call lock.above position enters));
+    fresh = λ f same.
+        let done : tried_effect call lock.above position ≡ f = cc in
+        (none_of effect now.effect_is, same, subst (IsEffectOf call) done (is_own_effect call lock.above position enters));
     stays = λ w. absurd cc;
   }
-    where
-      done : (f : Effect) → Some (tried_effect call lock.above position) ≡ Some f → tried_effect call lock.above position ≡ f
-      done f same = cc
   tries_step call enters is now false next = silent call Tries _ is (effect_tried c t call lock _ false enters next)
-      (call_within refl (kept_line c is (section_at t call Tries) now.stance true false (λ grip. grip) (tries_enter_nowhere t call (side_of call) enters)
-      (λ at. ap (λ x. count_in t (line_of at x)) (same_in_vain t call lock enters next))) (λ w. in_vain next) (λ w. enters) now.effect_is tt tt) refl
+      (call_within refl (kept_line c is (section_at t call Tries) now.stance true false (λ grip. grip) (grind arith)
+      (λ at. ap (λ x. count_in t (line_of at x)) (grind arith))) (λ w. in_vain next) (λ w. enters) now.effect_is tt tt) refl
     where
       in_vain : is_next (side_of call) t lock.above ≡ false → has_tried_in_vain opening (Buffer (buffer_of call)) (side_of call) t
           (section c (Buffer (buffer_of call)) (section_at t call Tries) ∷ past) ≡ true

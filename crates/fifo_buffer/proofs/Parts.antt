@@ -9,7 +9,7 @@ use Rattle.layer_traits.specs.declared.{buffer_edits.{BufferEdit.BufferEdit, Buf
 use Rattle.layer_traits.specs.declared.{queue_edits.QueueBlock.QueueBlock, queues.QueueCall.{QueueCall, TheVariants.{Push, TakeAll, OnBuffer}}}
 use Rattle.layer_traits.specs.{declared.{scheds.SchedCall.SchedCall, call_states.CallState.CallState}, Blocks.BufferEffects.{effect_of, effect_on, effects_in}}
 use Rattle.layer_traits.specs.{Blocks.{BufferProtocol.{BufferLock, BufferSection}, QueueBlocks.{homes_in, inner}}, Layers.BufferLaw.{MovesGrow, OthersSeen}}
-use Rattle.layer_traits.specs.Layers.{BufferLaw.{cpu_of_entry, recorded, call_state_of}, Conditions.CvCall, CvLaw.Waiting, QLockLaw.slept_for}
+use Rattle.layer_traits.specs.Layers.{BufferLaw.{cpu_of_entry, recorded, call_state_of}, Conditions.CvCall, CvLaw.Waiting}
 use Rattle.layer_traits.specs.{Layers.Queues.{buffer_sections, cpu_of_queue_event, moves_in, with_section}, Threads.Places.home_of, Protocols.Protocol.section}
 use Rattle.layer_traits.proofs.CallLemmas.{moves_append, moves_others, moves_over}
 
@@ -85,18 +85,8 @@ module _ (opening : LockId → Option (QueueBlock BufferLock)) (d : CpuId) (more
       → CallsFit (homes_in opening) d (inner opening) (buffer_sections past) own call_states under_way calling
       → CallsFit (homes_in opening) d (inner opening) (buffer_sections (more ++ past)) own call_states under_way calling
   calls_on own call_states under_way None fits = search (rules, call_state_on)
-  calls_on own call_states under_way (Some t) fits = record {
-    call = fits.call;
-    home = fits.home;
-    may = record {
-      current = fits.may.current;
-      called = fits.may.called;
-      goes = goes_on t fits.home fits.call (call_state_of call_states t) own under_way fits.may.goes;
-    };
-    others =
-        λ u home other. call_state_on u home (call_state_of call_states u).call (slept_for own.lock.slept u) (slept_for own.waits u)
-        (call_state_of call_states u) (fits.others u home other);
-  }
+  calls_on own call_states under_way (Some t) fits =
+      search (rules, call_state_on, goes_on t fits.home fits.call (call_state_of call_states t) own under_way)
 
   pub part_on : {own : Waiting BufferOut} {call_states : List CallState} {under_way : Option (SchedCall (CvCall BufferEdit))} {calling : Option Tid}
       → PartFits opening d past own call_states under_way calling → PartFits opening d (more ++ past) own call_states under_way calling

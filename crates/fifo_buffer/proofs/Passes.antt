@@ -99,10 +99,8 @@ pub passed_own : (opening : LockId → Option (QueueBlock BufferLock)) (c : CpuI
     (under_way : Option (SchedCall (CvCall BufferEdit))) (calling : Option Tid) (p : Pass) (done : Bool) → MayGoOn (under_way_at calling under_way) (Passing p)
     → (cv'.lock.sleep.deferred ≡ cv.lock.sleep.deferred) × (cv'.lock.slept ≡ cv.lock.slept) × (cv'.waits ≡ cv.waits)
     → PartFits opening c past cv call_states under_way calling → PartFits opening c past cv' call_states (if done then None else Some (sched.Pass p)) calling
-passed_own opening c past cv cv' call_states under_way (Some t) p done may rest fits = absurd (wrong may)
-  where
-    wrong : Calling t ≡ Passing p → ⊥
-    wrong is = absurd cc
+passed_own opening c past cv cv' call_states under_way (Some t) p done may rest fits =
+    absurd (let same : Calling t ≡ Passing p = may in cc)
 passed_own opening c past cv cv' call_states under_way None p done may (deferred, slept, waits) fits = record {
   boots = fits.boots;
   sizes = record { slept = rw slept fits.sizes.slept; waits = rw waits fits.sizes.waits; call_states_are = fits.sizes.call_states_are };

@@ -3,30 +3,23 @@ use Rattle.std.proofs.Common.{ℕ, ◌≡◌, ◌⊎◌, inl, inr, ◌<◌, Bool
 use Rattle.std.proofs.{Common.{option_to_list, is_some, slice_set, if◌then◌else◌, refl, ap, sym, ◌∙◌, subst, arith}, lemmas.Bool.eqb-false}
 use Rattle.std.proofs.lemmas.List.{get_or-set_other, get_or-set_same, length-set}
 use Rattle.fifo_buffer.proofs.{Callers.{monitored, kernel_of, AreLawful, Caller}, Parts.deferred_on, Apart.fits_apart, Events.{caller_is, due_now, keeps_fits}}
-use Rattle.fifo_buffer.{proofs.{Events.owner_due, OwnSteps.{Stepped, own_step}}, specs.Stances.{InCall, CallStateFits, asks_at, recorded_by, slept_by}}
-use Rattle.fifo_buffer.specs.{Stances.{call_state_in, waits_at, waits_by}, SectionPolls.{After, BufferEvent, BufferOutcome, SectionGoes, IsDeferred}}
-use Rattle.{fifo_buffer.specs.SectionPolls.{MayPollSection, Midway, SectionPolled, recorded_if, is_plain}, event_log.specs.declared.ids.BufId.BufId}
-use Rattle.event_log.specs.{declared.ids.{CpuId.CpuId, LockId.{LockId, TheVariants.Buffer}, Tid.Tid, TheConstants.THREADS}, History.AreForeign}
-use Rattle.{event_log.proofs.BoolLemmas.none_of, layer_traits.specs.declared.{buffer_edits.{BufferEdit.BufferEdit, BufferOut.BufferOut}, calls.Call.Call}}
-use Rattle.layer_traits.specs.declared.{calls.Effect.Effect, conditions.{CvLeave.TheVariants.Wait, CvOut.CvOut}, locked.QEdit.TheVariants.{Acquire, Release}}
-use Rattle.layer_traits.specs.declared.{locked.QOut.{QOut, TheVariants.{Acquired, Queued, Did, Released}}, moves.WaitList.WaitList}
+use Rattle.fifo_buffer.{proofs.{Events.owner_due, OwnSteps.{Stepped, own_step}}, specs.Stances.{InCall, CallStateFits, recorded_by, slept_by, call_state_in}}
+use Rattle.fifo_buffer.specs.{Stances.{waits_at, waits_by}, SectionPolls.{After, BufferEvent, BufferOutcome, SectionGoes, IsDeferred, MayPollSection, Midway}}
+use Rattle.{fifo_buffer.specs.SectionPolls.{SectionPolled, recorded_if, is_plain}, event_log.specs.declared.ids.{BufId.BufId, CpuId.CpuId, LockId.LockId}}
+use Rattle.event_log.{specs.{declared.ids.{LockId.TheVariants.Buffer, Tid.Tid, TheConstants.THREADS}, History.AreForeign}, proofs.BoolLemmas.none_of}
+use Rattle.layer_traits.specs.declared.{buffer_edits.{BufferEdit.BufferEdit, BufferOut.BufferOut}, calls.{Call.Call, Effect.Effect}, conditions.CvOut.CvOut}
+use Rattle.layer_traits.specs.declared.{locked.QOut.{QOut, TheVariants.{Queued, Released}}, moves.WaitList.WaitList}
 use Rattle.layer_traits.specs.declared.{queue_edits.QueueBlock.QueueBlock, scheds.SchedCall.SchedCall, call_states.{Stage.Stage, CallState.CallState}}
 use Rattle.layer_traits.specs.Blocks.{BufferEffects.effects_in, BufferProtocol.{BufferLock, BufferSection, buffer_lock_at, buffer_monitor_rules, buffer_rules}}
-use Rattle.layer_traits.specs.{Blocks.QueueBlocks.{homes_in, inner}, Layers.{BufferLaw.{buffer_of, recorded, section_at, side_of}, Conditions.CvCall}}
-use Rattle.layer_traits.specs.Layers.{CvLaw.{MayCallCond, MayWait, Waiting, left_waiting}, QLockLaw.{MayGo, MayLock, Locking, left_after, slept_for}}
-use Rattle.layer_traits.specs.Layers.{QLocking.{wait_list_asked, wait_list_slept, lock_answer, lock_out, asker_report}, Queues.{buffer_sections, event}}
-use Rattle.layer_traits.specs.Layers.{Queues.{cpu_of_queue_event, out_at}, SleepLaw.{PollResult, Does, SendsHome, Sleeping, WaitsStill, MayDo, left_with}}
-use Rattle.layer_traits.specs.{Layers.SleepLaw.{must_send, seen_with}, Threads.{Passes.{own_slept, own_woken, passed_on, queue_for}, Places.{Threads, home_of}}}
-use Rattle.{layer_traits.{specs.{Polling.Plans.Left, Protocols.Protocol.section}, proofs.PlaceLemmas.woken_current}, thread_blocks.specs.Queues.same_tid}
+use Rattle.layer_traits.specs.{Blocks.QueueBlocks.{homes_in, inner}, Layers.{BufferLaw.{buffer_of, recorded, section_at}, Conditions.CvCall, CvLaw.MayCallCond}}
+use Rattle.layer_traits.specs.Layers.{CvLaw.{MayWait, Waiting, left_waiting}, QLockLaw.{MayGo, MayLock, Locking, left_after, slept_for}}
+use Rattle.layer_traits.specs.Layers.{QLocking.{wait_list_slept, lock_answer, lock_out}, Queues.{buffer_sections, event, cpu_of_queue_event, out_at}}
+use Rattle.layer_traits.specs.Layers.SleepLaw.{PollResult, Does, SendsHome, Sleeping, WaitsStill, MayDo, left_with, must_send, seen_with}
+use Rattle.layer_traits.specs.{Threads.{Passes.{own_slept, own_woken, passed_on, queue_for}, Places.{Threads, home_of}}, Polling.Plans.Left}
+use Rattle.{layer_traits.{specs.Protocols.Protocol.section, proofs.PlaceLemmas.woken_current}, thread_blocks.specs.Queues.same_tid}
 use Rattle.layer_traits.specs.declared.conditions.CvOut.TheVariants as answer
 use Rattle.layer_traits.specs.declared.queues.QueueCall.TheVariants as queue
 use Rattle.layer_traits.specs.declared.scheds.SchedCall.TheVariants as sched
-
-pub waits_section : (t : Tid) (call : Call) (stage : Stage) → waits_at stage ≡ true → section_at t call stage ≡ Release (Wait t (side_of call))
-waits_section t call stage is = grind arith
-
-pub asks_section : (t : Tid) (call : Call) (stage : Stage) → asks_at stage ≡ true → section_at t call stage ≡ Acquire t
-asks_section t call stage is = grind arith
 
 module _ (opening : LockId → Option (QueueBlock BufferLock)) (c : CpuId) (t : Tid) (home : home_of (homes_in opening) t ≡ Some c) (call : Call)
     (call_state : CallState)
@@ -38,8 +31,8 @@ module _ (opening : LockId → Option (QueueBlock BufferLock)) (c : CpuId) (t : 
       → MayWait waits under_way (buffer_of call) (section_at t call call_state.stage) t
       (MayGo slept under_way (buffer_of call) (section_at t call call_state.stage) t
       (MayLock monitored (kernel_of opening) c past own.lock.sleep.threads.hand (buffer_of call) (section_at t call call_state.stage)))
-  may_for own None slept (Some at) slept_is waits_is goes = grind (arith, waits_section)
-  may_for own None (Some at) None slept_is waits_is goes = grind (arith, asks_section)
+  may_for own None slept (Some at) slept_is waits_is goes = grind arith
+  may_for own None (Some at) None slept_is waits_is goes = grind arith
   may_for own None None None slept_is waits_is goes =
       let now : InCall (inner opening) (buffer_sections past) t call None None call_state.stage call_state.position call_state.effect
       = subst (λ w. InCall (inner opening) (buffer_sections past) t call None w call_state.stage call_state.position call_state.effect) waits_is
@@ -91,25 +84,19 @@ both_left t b waits slept sleep out outcome is = grind arith
 plain_marks : (O : LockId → Option BufferLock) (past : _) (t : Tid) (b : BufId) (call_state : CallState) (stage : Stage) (out : QOut (CvOut BufferOut))
     → is_plain out ≡ true → CallStateFits O past t (recorded_by call_state stage out).call (slept_by b out) (waits_by b out) (recorded_by call_state stage out)
     → CallStateFits O past t (recorded call_state stage out).call None None (recorded call_state stage out)
-plain_marks O past t b call_state stage Acquired plain fits = fits
 plain_marks O past t b call_state stage Queued plain fits = absurd cc
-plain_marks O past t b call_state stage (Did o) plain fits = fits
-plain_marks O past t b call_state stage (Released (answer.Did o)) plain fits = fits
-plain_marks O past t b call_state stage (Released (answer.Signalled side front)) plain fits = fits
-plain_marks O past t b call_state stage (Released answer.Left) plain fits = fits
 plain_marks O past t b call_state stage (Released (answer.Waited side)) plain fits = absurd cc
+plain_marks O past t b call_state stage (Released other) plain fits = fits
+plain_marks O past t b call_state stage other plain fits = fits
 
 plain_recorded : (call_state : CallState) (stage : Stage) (out : QOut (CvOut BufferOut)) → is_plain out ≡ true
     → recorded_by call_state stage out ≡ recorded call_state stage out
 plain_recorded call_state stage out plain = grind arith
 
-asked_sleeps : (owner : Option Tid) → is_some (wait_list_asked owner) ≡ is_some (wait_list_slept monitored (asker_report owner))
-asked_sleeps owner = grind arith
-
 -- whether a section puts its caller to sleep: its answer tells
 sleeps_as : (e : CvCall BufferEdit) (lock : BufferLock)
     → (lock_answer monitored e lock).slept ≡ is_some (wait_list_slept monitored (lock_answer monitored e lock).out)
-sleeps_as e lock = grind (arith, asked_sleeps)
+sleeps_as e lock = grind arith
 
 plain_stays : (out : QOut (CvOut BufferOut)) → is_plain out ≡ true → wait_list_slept monitored out ≡ None
 plain_stays out plain = grind arith
@@ -154,10 +141,6 @@ waits_mark t b waits out size small none = grind (arith, own_mark)
 marks_other : (t u : Tid) (b : BufId) (slept waits : List (Option BufId)) (out : QOut (CvOut BufferOut)) → same_tid t u ≡ false
     → (slept_for (slept_list t b slept out) u ≡ slept_for slept u) × (slept_for (waits_list t b waits out) u ≡ slept_for waits u)
 marks_other t u b slept waits out other = grind (arith, other_mark)
-
-marks_sizes : (t : Tid) (b : BufId) (slept waits : List (Option BufId)) (out : QOut (CvOut BufferOut))
-    → (length (slept_list t b slept out) ≡ length slept) × (length (waits_list t b waits out) ≡ length waits)
-marks_sizes t b slept waits out = grind (arith, length-set)
 
 -- an answer that is not handed on at once puts its caller to sleep
 sleeping_wait_list : (out : QOut (CvOut BufferOut)) → is_plain out ≡ false → is_some (wait_list_slept monitored out) ≡ true
@@ -434,7 +417,7 @@ module _ (caller : Caller) (stage : Stage) (position : ℕ) (effect : Option Eff
           go true plain =
               let same = plain_recorded call_state stage outcome.out plain in
               let lists = plain_lists t b own.lock.slept own.waits outcome.out plain in
-              to_done left_now None true (recorded call_state stage outcome.out) refl marks (marks_sizes t b own.lock.slept own.waits outcome.out)
+              to_done left_now None true (recorded call_state stage outcome.out) refl marks (grind (arith, length-set))
               (sym (ap (λ (o : CallState). o.effect) same)) (record {
                 none = refl;
                 current = runs_on plain;
@@ -448,7 +431,7 @@ module _ (caller : Caller) (stage : Stage) (position : ℕ) (effect : Option Eff
               }) (λ w. absurd (cc (w, no_wait_plain t call stage lock plain)))
           go false sleeps =
               let same = sleeping_recorded call_state stage outcome.out sleeps in
-              to_done left_now None false call_state refl marks (marks_sizes t b own.lock.slept own.waits outcome.out)
+              to_done left_now None false call_state refl marks (grind (arith, length-set))
               (sym (ap (λ (o : CallState). o.effect) same)) (
                 refl,
                 inl (record {

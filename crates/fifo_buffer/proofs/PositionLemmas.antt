@@ -2,14 +2,13 @@
 use Rattle.std.proofs.Common.{ℕ, ◌≡◌, ◌+◌, ◌<◌, ◌%◌, ◌^◌, Bool, true, false, not, ◌&&◌, List, [], ◌∷◌, length, Option, Some, option_map, if◌then◌else◌, get_or}
 use Rattle.std.proofs.{Common.{refl, ap, sym, ◌∙◌, arith, lt-ltb}, lemmas.Option.{slice_get_within, slice_get-get_or}}
 use Rattle.fifo_buffer.{proofs.Callers.{kernel_of, AreLawful}, specs.{FifoFits.BootsSo, Laws.OwnedLaws.found, Positions.{PositionsAreCounts, enters_side}}}
-use Rattle.{fifo_buffer.specs.{Positions.entered_count, Stances.same_side, SectionPolls.BufferEvent}, layer_traits.specs.Blocks.Capacities.caps_in}
-use Rattle.layer_traits.specs.Blocks.{BufferEffects.{fresh_lock, drawn_in}, BufferProtocol.{BufferLock, BufferSection, IsDue, buffer_lock_at, buffer_rules}}
-use Rattle.layer_traits.specs.Blocks.{QueueBlocks.{StartsWell, homes_in, inner}, BufferBlocks.{BufferState, counted, entered, may_join, drawn_of, put_in, shut}}
-use Rattle.layer_traits.specs.{Blocks.BufferBlocks.taken_out, declared.{buffer_edits.BufferEdit.BufferEdit, locked.Side.Side}}
-use Rattle.layer_traits.specs.declared.{queue_edits.QueueBlock.QueueBlock, queues.QueueCall.{QueueCall, TheVariants.{Push, TakeAll, OnBuffer}}}
-use Rattle.layer_traits.specs.Layers.{Conditions.CvCall, QLocking.{lock_asked_by, lock_caller, lock_edited}, Queues.{QueueAllowed, buffer_sections}}
-use Rattle.{layer_traits.specs.{Layers.Queues.with_section, Threads.Places.home_of, Protocols.Protocol.section}, event_log.specs.declared.ids.BufId.BufId}
-use Rattle.event_log.specs.{declared.ids.{CpuId.CpuId, LockId.{LockId, TheVariants.Buffer}, Tid.Tid, TheConstants.THREADS}, History.same_lock, Messages.Message}
+use Rattle.{fifo_buffer.specs.{Positions.entered_count, SectionPolls.BufferEvent}, layer_traits.specs.Blocks.{Capacities.caps_in, BufferEffects.fresh_lock}}
+use Rattle.layer_traits.specs.Blocks.{BufferEffects.drawn_in, BufferProtocol.{BufferLock, BufferSection, IsDue, buffer_lock_at, buffer_rules}}
+use Rattle.layer_traits.specs.Blocks.{QueueBlocks.{StartsWell, inner}, BufferBlocks.{counted, may_join, drawn_of}}
+use Rattle.layer_traits.specs.declared.{buffer_edits.BufferEdit.BufferEdit, locked.Side.Side, queue_edits.QueueBlock.QueueBlock, queues.QueueCall.QueueCall}
+use Rattle.layer_traits.specs.{declared.queues.QueueCall.TheVariants.{Push, TakeAll, OnBuffer}, Layers.{Conditions.CvCall, QLocking.{lock_caller, lock_edited}}}
+use Rattle.layer_traits.specs.{Layers.Queues.{QueueAllowed, buffer_sections, with_section}, Protocols.Protocol.section}
+use Rattle.event_log.specs.{declared.ids.{BufId.BufId, CpuId.CpuId, LockId.{LockId, TheVariants.Buffer}, Tid.Tid, TheConstants.THREADS}, History.same_lock}
 use Rattle.{event_log.proofs.Same.same_lock_true, thread_blocks.specs.Queues.is_in}
 
 -- one more thread entered, or none
@@ -40,9 +39,6 @@ module _ (opening : LockId → Option (QueueBlock BufferLock)) (starts : StartsW
     where
       none : (s : Side) → drawn_in s (Some (fresh_lock (get_or (caps_in opening) b.0 0))) ≡ 0
       none s = grind arith
-
-  pub small_home : (t : Tid) (c : CpuId) → home_of (homes_in opening) t ≡ Some c → t.0 < THREADS
-  small_home t c home = grind (arith, slice_get_within)
 
   abbrev drawn_if : List BufferSection → CvCall BufferEdit → Bool → ℕ
   drawn_if past call v =
@@ -80,7 +76,7 @@ module _ (opening : LockId → Option (QueueBlock BufferLock)) (starts : StartsW
           → P (with_section e.cpu call (buffer_sections past))
       go (Push q t) may before = before
       go (TakeAll q) may before = before
-      go (OnBuffer d call) may before = keeps past e.cpu d call may.upper.granted (small_home (lock_caller buffer_rules call) e.cpu may.caller.home) before
+      go (OnBuffer d call) may before = keeps past e.cpu d call may.upper.granted (grind (arith, slice_get_within)) before
 
 pub positions_are_counts : PositionsAreCounts
 positions_are_counts opening past starts boots lawful b side within =

@@ -5,7 +5,7 @@ use Rattle.fifo_buffer.{proofs.{Callers.AreLawful, PositionLemmas.{by_sections, 
 use Rattle.fifo_buffer.specs.{FifoFits.BootsSo, Positions.enters_side, SectionPolls.BufferEvent, Served.{FirstComeFirstServed, group_on, joiners_of, served}}
 use Rattle.{fifo_buffer.specs.Stances.same_side, layer_traits.specs.Blocks.{Capacities.caps_in, BufferEffects.{effect_of, effect_on, effects_in, drawn}}}
 use Rattle.layer_traits.specs.Blocks.{BufferEffects.fresh_lock, BufferProtocol.{BufferLock, BufferSection, IsDue, buffer_lock_at, is_in_line, buffer_rules}}
-use Rattle.layer_traits.specs.Blocks.{QueueBlocks.{StartsWell, inner}, BufferBlocks.{BufferState, entered, is_first, is_next, line_of, may_join, shut}}
+use Rattle.layer_traits.specs.Blocks.{QueueBlocks.{StartsWell, inner}, BufferBlocks.{BufferState, entered, is_first, is_next, line_of, may_join}}
 use Rattle.layer_traits.specs.declared.{buffer_edits.BufferEdit.{BufferEdit, TheVariants.{Enter, TryPut, TryTake, Shut}}, queue_edits.QueueBlock.QueueBlock}
 use Rattle.layer_traits.specs.declared.{conditions.CvEdit.TheVariants.{Edit, SignalFront}, locked.{QEdit.TheVariants.{Acquire, Inside, Release}, Side.Side}}
 use Rattle.layer_traits.specs.{declared.locked.Side.TheVariants.{Receivers, Senders}, Layers.{Conditions.CvCall, QLocking.{lock_asked_by, lock_caller}}}
@@ -63,32 +63,13 @@ module _ (side : Side) (b : BufId) (c : CpuId) (position : Side → Tid → ℕ)
 
   -- a try that is not its thread's turn changes nothing; at its turn the first in line is served
   keeps_put : (t : Tid) (m : Message) (v : Bool) → is_next Senders t lock.above ≡ v → Keeps (Inside (Edit (TryPut t m))) (effect (Inside (Edit (TryPut t m))))
-  keeps_put t m v next = put side v next is
-    where
-      put : (s : Side) (v : Bool) → is_next Senders t lock.above ≡ v → all ≡ served s b.0 es ++ line_of s lock.above
-          → all ≡ served s b.0 (option_to_list (effect (Inside (Edit (TryPut t m)))) ++ es)
-          ++ line_of s (lock_edited buffer_rules (Inside (Edit (TryPut t m))) lock).above
-      put Senders true next so = grind (arith, serves t all (served Senders b.0 es) lock.above.send_line so)
-      put Receivers true next so = grind arith
-      put s false next so = grind arith
+  keeps_put t m v next = grind (arith, serves)
 
   keeps_take : (t : Tid) (v : Bool) → is_next Receivers t lock.above ≡ v → Keeps (Inside (Edit (TryTake t))) (effect (Inside (Edit (TryTake t))))
-  keeps_take t v next = take side v next is
-    where
-      take : (s : Side) (v : Bool) → is_next Receivers t lock.above ≡ v → all ≡ served s b.0 es ++ line_of s lock.above
-          → all ≡ served s b.0 (option_to_list (effect (Inside (Edit (TryTake t)))) ++ es)
-          ++ line_of s (lock_edited buffer_rules (Inside (Edit (TryTake t))) lock).above
-      take Receivers true next so = grind (arith, serves t all (served Receivers b.0 es) lock.above.receive_line so)
-      take Senders true next so = grind arith
-      take s false next so = grind arith
+  keeps_take t v next = grind (arith, serves)
 
   keeps_shut : (t : Tid) → Keeps (Inside (Edit (Shut t))) (effect (Inside (Edit (Shut t))))
-  keeps_shut t = shuts side is
-    where
-      shuts : (s : Side) → all ≡ served s b.0 es ++ line_of s lock.above
-          → all ≡ served s b.0 (option_to_list (effect (Inside (Edit (Shut t)))) ++ es) ++ line_of s (shut lock.above)
-      shuts Senders so = grind arith
-      shuts Receivers so = grind arith
+  keeps_shut t = grind arith
 
   keeps_call : (O : LockId → Option BufferLock) (past : List BufferSection) (call : CvCall BufferEdit) → buffer_lock_at O past (Buffer b) ≡ Some lock
       → IsDue O past (Buffer b) call → (lock_caller buffer_rules call).0 < THREADS → Keeps call (effect call)

@@ -1,11 +1,11 @@
 -- A part fits at the start.
-use Rattle.std.proofs.Common.{ℕ, ◌≡◌, zero, suc, slice_index_or, List, [], ◌∷◌, length, replicate, Option, None, option_map, refl, ap, sym, ◌∙◌, subst, arith}
+use Rattle.std.proofs.Common.{ℕ, ◌≡◌, zero, suc, slice_index_or, List, [], ◌∷◌, length, replicate, Option, None, refl, ap, sym, ◌∙◌, subst, arith}
 use Rattle.std.proofs.lemmas.List.{length-replicate}
 use Rattle.fifo_buffer.{proofs.Callers.kernel_of, specs.{FifoFits.{BootsSo, PartFits}, Stances.{IsFreeOf, CallStateFits, line_at}, SectionPolls.BufferEvent}}
 use Rattle.{fifo_buffer.specs.SectionPolls.FitsAt, event_log.specs.declared.ids.{BufId.BufId, CpuId.CpuId, LockId.LockId, Tid.Tid, TheConstants.THREADS}}
-use Rattle.layer_traits.specs.Blocks.{Capacities.caps_in, BufferEffects.{fresh_lock, opening_locks}, BufferProtocol.BufferLock, QueueBlocks.inner}
+use Rattle.layer_traits.specs.Blocks.{Capacities.caps_in, BufferEffects.{opening_locks}, BufferProtocol.BufferLock, QueueBlocks.inner}
 use Rattle.layer_traits.specs.declared.{buffer_edits.BufferOut.BufferOut, locked.Side.Side, queue_edits.QueueBlock.QueueBlock, call_states.CallState.CallState}
-use Rattle.layer_traits.specs.Layers.{BufferLaw.{no_call, call_state_of}, CvLaw.{Waiting, waiting_at_start}, QLockLaw.slept_for, QLocking.{AreAtRest, IsAtRest}}
+use Rattle.layer_traits.specs.Layers.{BufferLaw.{no_call, call_state_of}, CvLaw.{Waiting, waiting_at_start}, QLockLaw.slept_for, QLocking.{AreAtRest}}
 use Rattle.layer_traits.specs.{Layers.Queues.{buffer_sections, moves_in}, Threads.Places.count_in}
 
 -- what a list of equal items holds anywhere

@@ -1,14 +1,12 @@
 -- Two section polls in one poll; which thread runs after a poll, and what its CPU is at.
 use Rattle.std.proofs.Common.{arith, ◌≡◌, ◌≢◌, ◌⊎◌, Bool, true, false, List, length, Option, Some, None, IsSome, is_some, slice_set, if◌then◌else◌, ap, ◌∙◌}
 use Rattle.std.proofs.{Common.subst, lemmas.{Bool.eqb-false, List.{get_or-set_other, length-set}}}
-use Rattle.{event_log.specs.declared.ids.{BufId.BufId, LockId.LockId, Tid.Tid}, layer_traits.specs.declared.buffer_edits.BufferEdit.BufferEdit}
-use Rattle.layer_traits.specs.declared.{buffer_edits.BufferOut.BufferOut, calls.{Call.Call, Reply.Reply}, conditions.CvOut.CvOut, locked.QOut.QOut}
-use Rattle.layer_traits.specs.{declared.{scheds.SchedCall.SchedCall, call_states.{Stage.Stage, CallState.CallState}}, Blocks.BufferProtocol.BufferLock}
-use Rattle.layer_traits.specs.{Blocks.BufferProtocol.BufferSection, Layers.{Conditions.CvCall, CvLaw.Waiting, QLockLaw.{is_handed, slept_for}}}
-use Rattle.layer_traits.specs.Layers.{Queues.buffer_sections, BufferLaw.{buffer_of, going, recorded, no_call, replied, call_state_of}}
-use Rattle.{thread_blocks.specs.Queues.same_tid, fifo_buffer.specs.{Stances.{IsMark, asks_at, waits_at}, SectionPolls.{After, Ended, SectionGoes}}}
-use Rattle.fifo_buffer.{specs.SectionPolls.{MayPollSection, Sizes, is_at_once, reply_at}, proofs.{SectionPollTaken.SectionPollTaken, First.goes_called}}
-use Rattle.fifo_buffer.proofs.First.{going_same}
+use Rattle.{event_log.specs.declared.ids.{LockId.LockId, Tid.Tid}, layer_traits.specs.declared.buffer_edits.BufferEdit.BufferEdit}
+use Rattle.layer_traits.specs.declared.{buffer_edits.BufferOut.BufferOut, calls.{Call.Call, Reply.Reply}, scheds.SchedCall.SchedCall, call_states.Stage.Stage}
+use Rattle.layer_traits.specs.{declared.call_states.CallState.CallState, Blocks.BufferProtocol.{BufferLock, BufferSection}, Layers.Conditions.CvCall}
+use Rattle.layer_traits.specs.Layers.{CvLaw.Waiting, QLockLaw.{is_handed, slept_for}, Queues.buffer_sections, BufferLaw.{going, no_call, replied}}
+use Rattle.{layer_traits.specs.Layers.BufferLaw.call_state_of, thread_blocks.specs.Queues.same_tid, fifo_buffer.specs.Stances.{asks_at, waits_at}}
+use Rattle.fifo_buffer.{specs.SectionPolls.{After, Ended, SectionGoes, MayPollSection, Sizes, is_at_once, reply_at}, proofs.SectionPollTaken.SectionPollTaken}
 
 -- a call state of another thread stays where this one's is kept
 pub other_call_state : (call_states now : List CallState) (t u : Tid) (x : CallState) → now ≡ slice_set call_states t.0 x → same_tid t u ≡ false
@@ -41,7 +39,7 @@ module _ (poll_section : SectionPollTaken) where
 
     -- so the call state goes on as it is
     pub next_going : going later call ≡ later
-    next_going = going_same later.stage later call (goes_called O (buffer_sections new) t call later left under_way next_may.goes)
+    next_going = grind arith
 
     -- why nothing was done beneath
     pub why_nothing_done : own.lock.sleep.threads.current ≡ Some t → handed ≡ is_handed own.lock.slept own.lock.sleep.threads.current
@@ -59,19 +57,7 @@ MarksOf t stage own = (is_some (slept_for own.lock.slept t) ≡ true → asks_at
 
 pub marks_of : (O : LockId → Option BufferLock) (past : List BufferSection) (t : Tid) (call : Call) (call_state : CallState) (own : Waiting BufferOut)
     (w : Option (SchedCall (CvCall BufferEdit))) → SectionGoes O past t call call_state own w → MarksOf t call_state.stage own
-marks_of O past t call call_state own None goes = (
-  mark (buffer_of call) (asks_at call_state.stage) (slept_for own.lock.slept t) goes.fits.slept_here,
-  mark (buffer_of call) (waits_at call_state.stage)
-      (slept_for own.waits t) goes.fits.waits_here,
-)
-  where
-    mark : (b : BufId) (may : Bool) (x : Option BufId) → IsMark b may x → is_some x ≡ true → may ≡ true
-    mark b may x is some = grind arith
-marks_of O past t call call_state own (Some s) goes =
-    (none (asks_at call_state.stage) (slept_for own.lock.slept t) goes.slept, none (waits_at call_state.stage) (slept_for own.waits t) goes.waits)
-  where
-    none : (may : Bool) (x : Option BufId) → x ≡ None → is_some x ≡ true → may ≡ true
-    none may x is some = let out : is_some x ≡ false = ap is_some is in absurd (cc (out, some))
+marks_of O past t call call_state own w goes = grind arith
 
 -- where one section poll was all, the thread neither slept for the lock nor waited
 pub exit_free : (poll_section : SectionPollTaken) (handed : Bool) → MarksOf poll_section.t poll_section.call_state.stage poll_section.own

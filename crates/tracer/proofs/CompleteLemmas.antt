@@ -4,10 +4,10 @@ use Rattle.std.proofs.{Common.{append_assoc, lt-ltb, le-ltb, arith}, lemmas.List
 use Rattle.std.specs.{Prelude.{codes, nat_lt}, List.{AllByRecursion, flat_map, join_with_byte}}
 use Rattle.event_log.specs.{Messages.Message, declared.{ids.TheConstants.{BUFFERS, ENTRIES}, entries.Entry.Entry}, Buffers.{items_of, empty_buffers}}
 use Rattle.{event_log.specs.{Buffers.{after_effect, IsCapacity}, Runs.{after_entry, IsRunFrom, IsRun}}, tracer.specs.declared.verdicts.Verdict.TheVariants.Yes}
-use Rattle.tracer.specs.{declared.versions.Version.{Version, TheVariants.One}, TraceText.{text_line, version_word, head_pieces, count_pieces, cap_pieces}}
+use Rattle.tracer.specs.{declared.versions.Version.{Version, TheVariants.One}, TraceText.{text_line, version_word, count_pieces, cap_pieces}}
 use Rattle.tracer.specs.TraceText.{entry_pieces, left_pieces, end_pieces, numbered, lines_of, spelling, IsEntryOf, IsSpellable, IsTraceText, AreItemsOf}
 use Rattle.tracer.specs.{Judging.{TextProgress, text_start, step, lines_in, verdict_from, verdict_of}, Versions.{covers, version_from, version_of}}
-use Rattle.tracer.proofs.{VersionLemmas.{covers_itself, covers_next, version_more}, SplitLemmas.{IsLine, line_read}, KnownLemmas.known_fresh_from}
+use Rattle.tracer.proofs.{VersionLemmas.{covers_next, version_more}, SplitLemmas.{IsLine, line_read}, KnownLemmas.known_fresh_from}
 use Rattle.tracer.proofs.{EntryLemmas.{progress, behind_e}, StepLemmas.{entry_is_line, step_entry, behind_left, left_is_line, step_first_left, step_left}}
 use Rattle.tracer.proofs.OpeningLemmas.{step_head, step_end, count_is_line_of, step_count, opened, cap_is_line, step_cap}
 use Rattle.tracer.specs.declared.next_lines.NextLine.TheVariants as wants
@@ -30,9 +30,8 @@ behind_first : (contents : List (List Message)) (b : ℕ) (x : List Message) (xs
 behind_first contents b x xs e = sym (drop-drop 1 b contents) ∙ ap (λ (t : List (List Message)). drop 1 t) e
 
 complete_left : (v : Version) (caps : List ℕ) (earlier : List Entry) (contents : List (List Message)) (s : TextProgress) (b n : ℕ) (x : List Message)
-    (xs : List (List Message))
-    → length contents ≡ length caps → length caps ≤ BUFFERS → b < length caps → drop b contents ≡ x ∷ xs → AllByRecursion (AreItemsOf v) (x ∷ xs)
-    → covers (version_of earlier) v ≡ true
+    (xs : List (List Message)) → length contents ≡ length caps → length caps ≤ BUFFERS → b < length caps → drop b contents ≡ x ∷ xs
+    → AllByRecursion (AreItemsOf v) (x ∷ xs) → covers (version_of earlier) v ≡ true
     → step s (join_with_byte 32 (left_pieces b (items_of contents b))) ≡ Ok (progress v (behind_left b caps) caps earlier contents)
     → verdict_from s n (lines_in (flat_map text_line (numbered left_pieces b (x ∷ xs) ++ end_pieces ∷ []))) ≡ Yes
 complete_left v caps earlier contents s b n x [] long few inside rest small low taken =
@@ -60,20 +59,18 @@ complete_left v caps earlier contents s b n x (y ∷ ys) long few inside rest sm
 
 -- the entries
 complete_first : (v : Version) (caps : List ℕ) (earlier : List Entry) (contents left : List (List Message)) (n : ℕ) → contents ≡ left
-    → length contents ≡ length caps
-    → 1 ≤ length caps → length caps ≤ BUFFERS → AllByRecursion (AreItemsOf v) left → v ≡ version_of earlier
+    → length contents ≡ length caps → 1 ≤ length caps → length caps ≤ BUFFERS → AllByRecursion (AreItemsOf v) left → v ≡ version_of earlier
     → verdict_from (progress v wants.Entries caps earlier contents) n (lines_in (flat_map text_line (numbered left_pieces 0 left ++ end_pieces ∷ []))) ≡ Yes
 complete_first v caps earlier contents [] n same long some few small lowest = absurd (omega (arith, ap length same))
 complete_first v caps earlier contents (x ∷ xs) n same long some few small lowest =
     let inside : 0 < length caps = omega arith in
     let first : AreItemsOf v (items_of contents 0) = subst (AreItemsOf v) (sym (first_of contents 0 x xs same)) small.0 in
-    let low : covers (version_of earlier) v ≡ true = rw lowest (covers_itself (version_of earlier)) in
+    let low : covers (version_of earlier) v ≡ true = rw lowest (grind arith) in
     complete_left v caps earlier contents (progress v wants.Entries caps earlier contents) 0 n x xs long few inside same small low
     (step_first_left v caps earlier contents inside first)
 
 pub complete_entries : (v : Version) (caps : List ℕ) (earlier : List Entry) (contents : List (List Message)) (es : List Entry) (left : List (List Message))
-    (n : ℕ)
-    → IsRunFrom caps earlier contents es left → AllByRecursion (IsEntryOf (length caps)) es → length earlier + length es ≤ ENTRIES
+    (n : ℕ) → IsRunFrom caps earlier contents es left → AllByRecursion (IsEntryOf (length caps)) es → length earlier + length es ≤ ENTRIES
     → length contents ≡ length caps → 1 ≤ length caps → length caps ≤ BUFFERS → AllByRecursion (AreItemsOf v) left → v ≡ version_from (version_of earlier) es
     → verdict_from (progress v wants.Entries caps earlier contents) n
     (lines_in (flat_map text_line (map entry_pieces es ++ (numbered left_pieces 0 left ++ end_pieces ∷ [])))) ≡ Yes
@@ -116,9 +113,6 @@ complete_caps v count caps (k ∷ j ∷ ks) tail n some all few small behind =
     (lines_in (flat_map text_line (numbered cap_pieces b (j ∷ ks) ++ tail))) ≡ Yes) longer
     (complete_caps v count (caps ++ k ∷ []) (j ∷ ks) tail (n + 1) others counted few small.1 rest)
 
-head_is_line : (v : Version) → IsLine (head_pieces v)
-head_is_line v = grind arith
-
 complete_lines : (caps : List ℕ) (es : List Entry) (left : List (List Message)) → IsSpellable caps es left → IsRun caps es left
     → verdict_from text_start 1 (lines_in (spelling caps es left)) ≡ Yes
 unfolding spelling lines_of
@@ -135,10 +129,9 @@ complete_lines caps es left fits run =
     let some : 0 < length caps = (let h = fits.some_buffer in omega arith) in
     let none : 0 + length caps ≡ length caps = omega arith in
     line_read text_start opens 1 (codes "mctower-trace") (version_word v ∷ [])
-    (text_line (count_pieces (length caps)) ++ flat_map text_line (numbered cap_pieces 0 caps ++ tail)) (head_is_line v) (step_head v text_start refl)
-    ∙ line_read opens (opened v (wants.Capacities (length caps)) []) (1 + 1) (codes "buffers")
-    _ (flat_map text_line (numbered cap_pieces 0 caps ++ tail)) (count_is_line_of (length caps) fits.few_buffers)
-    (step_count (length caps) opens refl fits.some_buffer fits.few_buffers)
+    (text_line (count_pieces (length caps)) ++ flat_map text_line (numbered cap_pieces 0 caps ++ tail)) (grind arith) (step_head v text_start refl)
+    ∙ line_read opens (opened v (wants.Capacities (length caps)) []) (1 + 1) (codes "buffers") _ (flat_map text_line (numbered cap_pieces 0 caps ++ tail))
+    (count_is_line_of (length caps) fits.few_buffers) (step_count (length caps) opens refl fits.some_buffer fits.few_buffers)
     ∙ complete_caps v (length caps) [] caps tail (1 + 1 + 1) some none fits.few_buffers fits.capacities entries
 
 pub complete : (text caps : List ℕ) (es : List Entry) (left : List (List Message)) → IsTraceText text caps es left → IsRun caps es left → verdict_of text ≡ Yes

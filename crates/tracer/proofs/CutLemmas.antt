@@ -38,9 +38,8 @@ chunk_inside text start n chunk inside first = omega (arith, first.enough, ap le
 
 -- where they lack a byte that nothing before start is, nothing before their end is that byte
 pub chunk_passed : (at : ℕ) (text : List ℕ) (start n : ℕ) (chunk : List ℕ) → start ≤ length text
-    → IsFirstChunk (take (length text - start) (drop start text)) chunk n
-    → list_any (λ b. b == at) chunk ≡ false → ((k : ℕ) → k < start → (get_or text k 0 == at) ≡ false)
-    → (k : ℕ) → k < start + n → (get_or text k 0 == at) ≡ false
+    → IsFirstChunk (take (length text - start) (drop start text)) chunk n → list_any (λ b. b == at) chunk ≡ false
+    → ((k : ℕ) → k < start → (get_or text k 0 == at) ≡ false) → (k : ℕ) → k < start + n → (get_or text k 0 == at) ≡ false
 chunk_passed at text start n chunk inside first lacks before k below =
     let within : start + n ≤ length text = chunk_inside text start n chunk inside first in
     let same : chunk ≡ take n (drop start text) = first.same ∙ ap (take n) (take_rest text start) in

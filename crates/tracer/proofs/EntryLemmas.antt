@@ -67,8 +67,7 @@ spells_again : (v : Version) (kind : Kind) (value : Message) → IsValueOf kind 
 spells_again v kind value fits high = grind (arith, spells_message_again)
 
 -- the entry's line is one of this version
-pub of_version_again : (v : Version) (e : Entry) → covers v (version_of_entry e) ≡ true → IsValueOf e.kind e.value
-    → is_of_version v (digits_in e) ≡ true
+pub of_version_again : (v : Version) (e : Entry) → covers v (version_of_entry e) ≡ true → IsValueOf e.kind e.value → is_of_version v (digits_in e) ≡ true
 of_version_again v e high fits =
     let kind : covers v (version_of_kind e.kind) ≡ true = covers_first v (version_of_kind e.kind) (version_of_message e.value) high in
     let message : covers v (version_of_message e.value) ≡ true = covers_second v (version_of_kind e.kind) (version_of_message e.value) high in
@@ -128,8 +127,7 @@ pub record IsSmall (v : Version) (digits : Digits) (e : Entry) : Type 0 where
   pub op : e.op ≤ ENTRIES - 1
   pub pos : e.pos ≤ ENTRIES - 1
 
-pub entry_in_taken : (v : Version) (digits : Digits) (e : Entry) → spells_value v digits.kind digits.value ≡ true → entry_in digits ≡ Ok e
-    → IsSmall v digits e
+pub entry_in_taken : (v : Version) (digits : Digits) (e : Entry) → spells_value v digits.kind digits.value ≡ true → entry_in digits ≡ Ok e → IsSmall v digits e
 unfolding entry_in
 entry_in_taken v digits e spells taken =
     let a0 = bind_ok (in_range (CPUS - 1) digits.cpu) _ e taken in

@@ -6,7 +6,7 @@ use Rattle.std.{proofs.lemmas.{List.Sums.get_or-le-sum_by, Bool.cases_eq, Option
 use Rattle.std.specs.Prelude.{slice_get}
 use Rattle.{event_log.specs.{declared.entries.Entry.Entry, Runs.count_of, Traces.{IsInterleaving, HasOpOrderFrom, HasOpOrder}}, tracer.specs.Gather.traces_in}
 use Rattle.tracer.specs.Gather.{entries_in, IsOrder, IsFrontReady, TakesFirstReadyFrom, TakesFirstReady, HasNoOrder, next_entry, IsNextOp, NoneDueBelow}
-use Rattle.tracer.proofs.OrderLemmas.{at_head, head_at, head_within, count_more_same, count_more_other, CameFirst, may_come_first}
+use Rattle.tracer.proofs.OrderLemmas.{at_head, head_at, count_more_same, count_more_other, CameFirst, may_come_first}
 
 -- what is left of each trace, where so many of each are taken
 abbrev pub rests : List (List Entry) → List ℕ → List (List Entry)
@@ -79,7 +79,7 @@ left_of_more : (traces : List (List Entry)) (k : ℕ) (e : Entry) (rest : List E
     → left_of (set traces k rest) + 1 ≡ left_of traces
 left_of_more traces k e rest at =
     let one : length (get_or traces k []) ≡ length rest + 1 = ap length at ∙ sym (add-one (length rest)) in
-    omega (arith, one, sum_by-set length traces k rest [] (head_within traces k e rest at))
+    omega (arith, one, sum_by-set length traces k rest [] (grind (arith, get_or_past)))
 
 -- a table of zeros has a zero at each slot
 zero_at : (n b : ℕ) → get_or {A = ℕ} (replicate n 0) b 0 ≡ 0
@@ -191,8 +191,7 @@ gathers_more traces total taken counts done k e g small next due below =
 
 pub gathers_next : (traces : List (List Entry)) (total : ℕ) (taken counts : List ℕ) (done : List Entry) (k : ℕ) (e : Entry) (count buffer : ℕ)
     (after : List Entry) → Gathers traces total taken counts done → buffer < 256 → next_entry traces taken k ≡ Some e → IsNextOp counts e
-    → NoneDueBelow traces taken counts k
-    → count ≡ get_or taken k 0 → buffer ≡ e.buffer.0 → after ≡ done ++ e ∷ []
+    → NoneDueBelow traces taken counts k → count ≡ get_or taken k 0 → buffer ≡ e.buffer.0 → after ≡ done ++ e ∷ []
     → Gathers traces total (set taken k (count + 1)) (set counts buffer (get_or counts buffer 0 + 1)) after
 gathers_next traces total taken counts done k e count buffer after g small next due below same_count same_buffer same_done =
     rw (same_count, same_buffer, same_done) (gathers_more traces total taken counts done k e g (omega (arith, small, same_buffer)) next due below)

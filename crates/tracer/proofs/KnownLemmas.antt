@@ -1,12 +1,12 @@
 -- What the judge knows of the buffers is what the earlier entries and the contents say.
-use Rattle.std.proofs.Common.{◌≡◌, ◌≢◌, ℕ, zero, suc, ◌+◌, ◌<◌, ◌==◌, Bool, true, false, cond, List, [], ◌∷◌, ◌++◌, length, get_or, set, map, drop, Some, Ok}
+use Rattle.std.proofs.Common.{◌≡◌, ◌≢◌, ℕ, zero, suc, ◌+◌, ◌<◌, ◌==◌, Bool, true, false, cond, List, [], ◌∷◌, ◌++◌, length, get_or, set, map, Some, Ok}
 use Rattle.std.proofs.{Common.{refl, sym, ap, ◌∙◌, eq-eqb, ne_eqb, eqb-true, add-zero, inl, inr, arith}, lemmas.{Bool.cases_eq, Slice.Eq.bytes_eq-Decides}}
 use Rattle.std.proofs.lemmas.{List.{get_or-set_same, get_or-set_other, length-set, nil_from_length, same_lists}, Option.{slice_get-get_or, slice_get_within}}
 use Rattle.{std.specs.Prelude.{slice_get, slice_set}, event_log.specs.{Messages.Message, declared.entries.Kind.{Kind, TheVariants.{Send, Recv, Close}}}}
 use Rattle.event_log.specs.{declared.entries.Entry.Entry, Buffers.{items_of, empty_buffers, IsAllowedEffect, after_effect}, Runs.{kind_eq, group_of, count_of}}
 use Rattle.event_log.{specs.{Runs.{count_of_kind, IsNext, after_entry}, Reading.{◌>>=◌}}, proofs.RunLemmas.{count_more, count_kind_more, items_none}}
 use Rattle.tracer.specs.{TraceText.IsValueOf, declared.verdicts.Reason.TheVariants.{Op, Pos}, Judging.{Seen, fresh, or_reason, or_range, was_closed, next_pos}}
-use Rattle.tracer.{specs.Judging.{bumped, seen_behind, take_first, item_effect, entry_on, entry_among}, proofs.ReadLemmas.{or_range_taken, bind_ok, wanted_ok}}
+use Rattle.tracer.{specs.Judging.{bumped, seen_behind, item_effect, entry_on, entry_among}, proofs.ReadLemmas.{or_range_taken, bind_ok, wanted_ok}}
 use Rattle.tracer.proofs.ReadLemmas.{same_ok}
 
 -- what is known of buffer b, behind the earlier entries
@@ -105,20 +105,13 @@ known_after caps earlier contents e long known =
 
 -- ---- an effect
 
-take_again : (value : Message) (items : List Message) → slice_get items 0 ≡ Some value → take_first value items ≡ Ok (drop 1 items)
-take_again value items first = grind (arith, bytes_eq-Decides)
-
-take_taken : (value : Message) (items after : List Message) → take_first value items ≡ Ok after → (slice_get items 0 ≡ Some value) × (after ≡ drop 1 items)
-take_taken value items after e = grind (arith, bytes_eq-Decides)
-
 effect_again : (kind : Kind) (value : Message) (closed : Bool) (capacity : ℕ) (items : List Message) → IsAllowedEffect kind closed capacity items value
     → item_effect kind value closed capacity items ≡ Ok (after_effect kind items value)
-effect_again kind value closed capacity items may = grind (arith, take_again)
+effect_again kind value closed capacity items may = grind (arith, bytes_eq-Decides)
 
 effect_taken : (kind : Kind) (value : Message) (closed : Bool) (capacity : ℕ) (items after : List Message) → IsValueOf kind value
-    → item_effect kind value closed capacity items ≡ Ok after
-    → IsAllowedEffect kind closed capacity items value × (after ≡ after_effect kind items value)
-effect_taken kind value closed capacity items after none e = grind (arith, take_taken, nil_from_length)
+    → item_effect kind value closed capacity items ≡ Ok after → IsAllowedEffect kind closed capacity items value × (after ≡ after_effect kind items value)
+effect_taken kind value closed capacity items after none e = grind (arith, bytes_eq-Decides, nil_from_length)
 
 pos_of : (earlier : List Entry) (contents : List (List Message)) (b capacity : ℕ) (kind : Kind)
     → next_pos (group_of kind) (seen_of earlier contents b capacity) ≡ count_of_kind earlier b kind

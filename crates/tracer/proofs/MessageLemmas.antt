@@ -47,9 +47,8 @@ several : (v : Version) (piece front behind : List ℕ) → comma_parts piece �
 several v piece front behind cut = grind (arith, ap length cut, length-slice_split (λ b. b == 44) behind)
 
 -- a text of a version that has no messages of several words
-pub not_spelled : (v : Version) (piece front behind : List ℕ) (high : Bool) → comma_parts piece ≡ front ∷ comma_parts behind
-    → high ≡ covers v Three → high ≡ false
-    → high ≡ spells_message v piece
+pub not_spelled : (v : Version) (piece front behind : List ℕ) (high : Bool) → comma_parts piece ≡ front ∷ comma_parts behind → high ≡ covers v Three
+    → high ≡ false → high ≡ spells_message v piece
 not_spelled v piece front behind high cut is low = grind (arith, several v piece front behind cut)
 
 -- ---- spelled, and read again
@@ -67,8 +66,7 @@ are_numbers_again (n ∷ ns) small = rw (decimal_is_number n small.0, are_number
 
 numbers_again : (ns : List ℕ) → AreWords ns → numbers_in (map decimal ns) ≡ Ok ns
 numbers_again [] small = refl
-numbers_again (n ∷ ns) small =
-    rw (number_to-decimal 18446744073709551615 n small.0 (let h = small.0 in omega arith), numbers_again ns small.1) refl
+numbers_again (n ∷ ns) small = rw (number_to-decimal 18446744073709551615 n small.0 (let h = small.0 in omega arith), numbers_again ns small.1) refl
 
 pub spells_message_again : (v : Version) (m : Message) → IsItemOf v m → spells_message v (message_text m) ≡ true
 spells_message_again v m is = rw (words_again m is.small, length-map m decimal, is.version, are_numbers_again m is.small.words) refl
@@ -127,8 +125,5 @@ pub item_taken : (v : Version) (piece : List ℕ) (m : Message) → spells_messa
 item_taken v piece m spells e =
     grind (arith, message_taken piece m e, and_parts (covers v (version_of_count (length (comma_parts piece)))) (list_all is_number (comma_parts piece)) spells)
 
-same_taken : (read : Result Message Reason) (m : Message) → is_same read m ≡ true → read ≡ Ok m
-same_taken read m e = grind (arith, bytes_eq-Decides)
-
 pub is_message_taken : (piece : List ℕ) (m : Message) → is_message piece m ≡ true → message_in piece ≡ Ok m
-is_message_taken piece m e = same_taken (message_in piece) m e
+is_message_taken piece m e = grind (arith, bytes_eq-Decides)

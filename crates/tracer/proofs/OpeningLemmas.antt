@@ -166,8 +166,7 @@ capacity_found : (v : Version) (count : ℕ) (caps : List ℕ) (ps : List (List 
 capacity_found v count caps ps digits capacity after shape range some is = grind (arith, length-map, map_push)
 
 pub capacity_line_taken : (v : Version) (at : NextLine) (count : ℕ) (caps : List ℕ) (ps : List (List ℕ)) (after : TextProgress)
-    → capacity_line count ps (opened v at caps) ≡ Ok after
-    → (capacity : ℕ) × CapacityTaken v count caps ps after capacity
+    → capacity_line count ps (opened v at caps) ≡ Ok after → (capacity : ℕ) × CapacityTaken v count caps ps after capacity
 unfolding capacity_line
 capacity_line_taken v at count caps ps after taken =
     let s = opened v at caps in

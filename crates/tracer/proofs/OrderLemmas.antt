@@ -1,5 +1,5 @@
 -- Orders of traces: an entry that is due at the head of its trace may come first.
-use Rattle.std.proofs.Common.{◌≡◌, ◌≢◌, ℕ, ◌+◌, ◌<◌, ◌≤◌, Bool, true, false, cond, eqb, ◌&&◌, refl, List, [], ◌∷◌, ◌++◌, length, get_or, set, Some, sym, ap}
+use Rattle.std.proofs.Common.{◌≡◌, ◌≢◌, ℕ, ◌+◌, ◌<◌, ◌≤◌, Bool, true, false, cond, eqb, ◌&&◌, refl, List, [], ◌∷◌, ◌++◌, get_or, set, Some, sym, ap}
 use Rattle.std.proofs.{Common.{◌∙◌, subst, inl, inr, arith, count_by}, lemmas.{List.{set_comm, get_or-set_other, get_or_past, Sums.sum_by_push}, Bool.cases_eq}}
 use Rattle.std.{proofs.lemmas.{Bool.{eqb-true, Decides.nat_tests}, Option.{get_or_from_slice_get, slice_get-get_or}}, specs.Prelude.{nat_lt, slice_get, ◌==◌}}
 use Rattle.std.specs.Prelude.{if◌then◌else◌}
@@ -12,11 +12,8 @@ use Rattle.tracer.specs.Gather.{on_buffer}
 pub at_head : (traces : List (List Entry)) (k : ℕ) (e : Entry) (rest : List Entry) → slice_get traces k ≡ Some (e ∷ rest) → get_or traces k [] ≡ e ∷ rest
 at_head traces k e rest at = get_or_from_slice_get traces k (e ∷ rest) [] at
 
-pub head_within : (traces : List (List Entry)) (k : ℕ) (e : Entry) (rest : List Entry) → get_or traces k [] ≡ e ∷ rest → k < length traces
-head_within traces k e rest at = grind (arith, get_or_past)
-
 pub head_at : (traces : List (List Entry)) (k : ℕ) (e : Entry) (rest : List Entry) → get_or traces k [] ≡ e ∷ rest → slice_get traces k ≡ Some (e ∷ rest)
-head_at traces k e rest at = slice_get-get_or traces k [] (head_within traces k e rest at) ∙ ap Some at
+head_at traces k e rest at = slice_get-get_or traces k [] (grind (arith, get_or_past)) ∙ ap Some at
 
 -- how one entry more changes the count of a buffer
 pub count_more_same : (earlier : List Entry) (e : Entry) (b : ℕ) → e.buffer.0 ≡ b → count_of (earlier ++ e ∷ []) b ≡ count_of earlier b + 1
@@ -222,8 +219,7 @@ agree_from earlier traces (f ∷ order) [] keeps ops others others_ops b =
 agree_from earlier traces order (e ∷ other) keeps ops others others_ops b =
     let first : CameFirst earlier (set traces others.0 others.1) order e
     = may_come_first earlier traces order others.0 e others.1 keeps ops (at_head traces others.0 e others.1 others.2) others_ops.0 in
-    first.alike b
-    ∙ alike_behind b e first.later other
+    first.alike b ∙ alike_behind b e first.later other
     (agree_from (earlier ++ e ∷ []) (set traces others.0 others.1) first.later other first.keeps first.ops others.3 others_ops.1 b)
 
 pub orders_agree : (traces : List (List Entry)) → OrdersAgreeByBuffer traces

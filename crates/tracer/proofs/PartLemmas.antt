@@ -1,5 +1,5 @@
 -- A text that is read and judged in parts has the verdict of the whole.
-use Rattle.std.proofs.Common.{◌≡◌, ℕ, ◌+◌, ◌-◌, ◌≤◌, ◌==◌, List, [], ◌∷◌, ◌++◌, length, take, drop, Option, Some, None, Ok, Err, IfSome, refl, sym, ap, ◌∙◌}
+use Rattle.std.proofs.Common.{◌≡◌, ℕ, ◌+◌, ◌-◌, ◌≤◌, ◌==◌, List, [], ◌∷◌, ◌++◌, length, take, drop, Option, Some, None, Ok, Err, refl, sym, ap, ◌∙◌}
 use Rattle.std.proofs.{Common.{append_assoc, append-nil, eq-eqb, arith, length-append}, lemmas.List.{drop-take, length-drop, length-take, Edits.take-paste}}
 use Rattle.{std.{proofs.lemmas.List.Splits.slice_split_at, specs.Io.KnownBytes.{Consumes, IsAtEnd}}, tracer.specs.declared.checking.TextJudge.TextJudge}
 use Rattle.tracer.specs.{declared.verdicts.{Reason.Reason, Verdict.{Verdict, TheVariants.{No, Yes}}}, Judging.{lines_in, step, verdict_from, verdict_of}}
@@ -9,18 +9,11 @@ use lib.Seq.{paste, take-add}
 
 -- ---- the bytes of a reader
 
-pub consumes_then : (from mid now : Option (List ℕ)) (xs ys : List ℕ) → Consumes from mid xs → Consumes mid now ys → Consumes from now (xs ++ ys)
-consumes_then from mid now xs ys first second = grind (arith, append_assoc)
-
--- a reader that is at its end gave all that it had
-all_consumed : (from now : Option (List ℕ)) (seen : List ℕ) → Consumes from now seen → IsAtEnd now → IfSome from (λ known. seen ≡ known)
-all_consumed from now seen read end = grind (arith, append-nil)
-
 pub read_then : (old mid new : List ℕ) (from between now : Option (List ℕ)) → IsReadBehind old mid from between → IsReadBehind mid new between now
     → IsReadBehind old new from now
 read_then old mid new from between now first second = record {
   more = first.more ++ second.more;
-  read = consumes_then from between now first.more second.more first.read second.read;
+  read = grind (arith, append_assoc);
   grown = second.grown ∙ ap (λ (t : List ℕ). t ++ second.more) first.grown ∙ append_assoc old first.more second.more;
 }
 
@@ -77,9 +70,8 @@ one_taken old part now new rest line behind taken is stepped next fault =
       whole = taken.whole ∙ ap (λ (t : List ℕ). taken.front ++ t) (is.whole ∙ sym (append_assoc line (10 ∷ []) behind))
           ∙ sym (append_assoc taken.front (line ++ 10 ∷ []) behind);
       judged = (λ more.
-          taken.judged more ∙ live_verdict now (rest ++ more) live_now
-          ∙ line_taken (progress_of now.judge) (progress_of new.judge) now.line (rest ++ more) line (behind ++ more)
-          (first_line rest line behind more is) stepped
+          taken.judged more ∙ live_verdict now (rest ++ more) live_now ∙ line_taken (progress_of now.judge) (progress_of new.judge) now.line (rest ++ more) line
+          (behind ++ more) (first_line rest line behind more is) stepped
           ∙ ap (λ n. verdict_from (progress_of new.judge) n (lines_in (behind ++ more))) (sym next) ∙ sym (live_verdict new (behind ++ more) live_new));
       live = live_new;
       counted = omega arith;
@@ -102,11 +94,10 @@ pub record IsJudgedTo (from now : Option (List ℕ)) (judge : TextJudge) (held :
   pub judged : (more : List ℕ) → verdict_of (seen ++ more) ≡ verdict_behind judge (held ++ more)
 
 pub judged_read : (from mid now : Option (List ℕ)) (judge : TextJudge) (held longer : List ℕ) → IsJudgedTo from mid judge held
-    → IsReadBehind held longer mid now
-    → IsJudgedTo from now judge longer
+    → IsReadBehind held longer mid now → IsJudgedTo from now judge longer
 judged_read from mid now judge held longer before read = record {
   seen = before.seen ++ read.more;
-  read = consumes_then from mid now before.seen read.more before.read read.read;
+  read = grind (arith, append_assoc);
   judged = (λ more.
       ap verdict_of (append_assoc before.seen read.more more) ∙ before.judged (read.more ++ more)
       ∙ ap (verdict_behind judge) (sym (append_assoc held read.more more) ∙ ap (λ (t : List ℕ). t ++ more) (sym read.grown)));
@@ -114,14 +105,12 @@ judged_read from mid now judge held longer before read = record {
 
 pub judged_lines : (from now : Option (List ℕ)) (old new : TextJudge) (held rest : List ℕ) → IsJudgedTo from now old held
     → ((more : List ℕ) → verdict_behind old (held ++ more) ≡ verdict_behind new (rest ++ more)) → IsJudgedTo from now new rest
-judged_lines from now old new held rest before taken =
-    record { seen = before.seen; read = before.read; judged = (λ more. before.judged more ∙ taken more) }
+judged_lines from now old new held rest before taken = record { seen = before.seen; read = before.read; judged = (λ more. before.judged more ∙ taken more) }
 
 -- one part more: it is read, its lines are judged, and what is left is kept
 pub judged_part : (from mid now : Option (List ℕ)) (old new : TextJudge) (held longer part rest : List ℕ) (taken : ℕ) → IsJudgedTo from mid old held
-    → IsReadBehind held longer mid now → part ≡ longer
-    → ((more : List ℕ) → verdict_behind old (part ++ more) ≡ verdict_behind new (drop taken part ++ more)) → rest ≡ drop taken longer
-    → IsJudgedTo from now new rest
+    → IsReadBehind held longer mid now → part ≡ longer → ((more : List ℕ) → verdict_behind old (part ++ more) ≡ verdict_behind new (drop taken part ++ more))
+    → rest ≡ drop taken longer → IsJudgedTo from now new rest
 judged_part from mid now old new held longer part rest taken before read same lines left =
     rw left (judged_lines from now old new longer (drop taken longer) (judged_read from mid now old held longer before read) (rw same at lines))
 
@@ -132,7 +121,7 @@ judged_all from now judge held verdict before end is sound =
     is ∙ ap (verdict_behind judge) (sym (append-nil held)) ∙ sym (before.judged []) ∙ ap verdict_of (append-nil before.seen) in
     record {
       text = before.seen;
-      whole = all_consumed from now before.seen before.read end;
+      whole = grind (arith, append-nil);
       judged = same;
       run = (λ yes. sound before.seen (sym same ∙ yes));
     }

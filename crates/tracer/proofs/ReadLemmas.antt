@@ -3,7 +3,7 @@ use Rattle.std.proofs.Common.{◌≡◌, ℕ, ◌<◌, ◌≤◌, ◌^◌, Bool,
 use Rattle.std.{proofs.lemmas.Slice.Eq.bytes_eq-Decides, specs.Prelude.decimal}
 use Rattle.event_log.{specs.{Digits.{is_number, number_to}, Reading.{◌>>=◌}}, proofs.DigitsLemmas.{decimal-spelled, is_number-spelled, number_to-decimal}}
 use Rattle.event_log.proofs.DigitsLemmas.{number_to-spelling, number_to-Some}
-use Rattle.tracer.specs.{declared.verdicts.Reason.Reason, Judging.{or_reason, piece_at, expected_word, digits_at, ended, or_range, in_range, is_just, is_value}}
+use Rattle.tracer.specs.{declared.verdicts.Reason.Reason, Judging.{or_reason, piece_at, expected_word, digits_at, ended, or_range, in_range, is_value}}
 
 -- the value of a step without a fault
 pub bind_ok : {A B : Type 0} (r : Result A Reason) (f : A → Result B Reason) (y : B) → (r >>= f) ≡ Ok y → (x : A) × (r ≡ Ok x) × (f x ≡ Ok y)
@@ -45,11 +45,8 @@ in_range_taken most digits n small e =
     let read = or_range_taken (number_to most digits) n e in
     record { spelled = number_to-spelling most digits n small read; within = (number_to-Some most digits n read).within }
 
-pub is_just_taken : (read : Option ℕ) (n : ℕ) → is_just read n ≡ true → read ≡ Some n
-is_just_taken read n e = grind (arith, eqb-true)
-
 pub is_value_taken : (digits : List ℕ) (n : ℕ) → is_value digits n ≡ true → digits ≡ decimal n
-is_value_taken digits n e = number_to-spelling 18446744073709551615 digits n (lit< tt) (is_just_taken (number_to 18446744073709551615 digits) n e)
+is_value_taken digits n e = number_to-spelling 18446744073709551615 digits n (lit< tt) (grind (arith, eqb-true))
 
 -- ---- and back
 

@@ -32,12 +32,10 @@ flat_map_at f xs i d lt =
 pub failed_in : {X : Type 0} (f : X → List ℕ) (xs : List X) (i : ℕ) (d : X) (failed : Bool) (old mid new : Option (List ℕ)) → i < length xs
     → Appends old mid (flat_map f (take i xs)) → failed ≡ true → Outs failed mid new (f (get_or xs i d)) → Outs failed old new (flat_map f xs)
 failed_in f xs i d failed old mid new lt front e out =
-    rw (flat_map_at f xs i d lt)
-    (outs_then failed old mid new (flat_map f (take i xs)) (f (get_or xs i d) ++ flat_map f (drop (i + 1) xs)) front
+    rw (flat_map_at f xs i d lt) (outs_then failed old mid new (flat_map f (take i xs)) (f (get_or xs i d) ++ flat_map f (drop (i + 1) xs)) front
     (outs_before failed mid new (f (get_or xs i d)) (flat_map f (drop (i + 1) xs)) e out))
 
 -- the same, of a piece that was read at i
 pub failed_at : {X : Type 0} (f : X → List ℕ) (xs : List X) (i : ℕ) (x : X) (failed : Bool) (old mid new : Option (List ℕ)) → i < length xs
     → x ≡ get_or xs i x → Appends old mid (flat_map f (take i xs)) → failed ≡ true → Outs failed mid new (f x) → Outs failed old new (flat_map f xs)
-failed_at f xs i x failed old mid new lt is front e out =
-    failed_in f xs i x failed old mid new lt front e (subst (λ y. Outs failed mid new (f y)) is out)
+failed_at f xs i x failed old mid new lt is front e out = failed_in f xs i x failed old mid new lt front e (subst (λ y. Outs failed mid new (f y)) is out)

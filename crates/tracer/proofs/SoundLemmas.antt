@@ -1,16 +1,16 @@
 -- A text that gets yes is the trace text of a run, and of where it ends.
-use Rattle.std.proofs.Common.{◌≡◌, inl, inr, ℕ, ◌+◌, ◌<◌, ◌≤◌, ◌==◌, ◌&&◌, Bool, true, false, cond, List, [], ◌∷◌, ◌++◌, length, drop, map, Result, Ok, Err}
+use Rattle.std.proofs.Common.{◌≡◌, inl, inr, ℕ, ◌+◌, ◌<◌, ◌≤◌, Bool, true, false, cond, List, [], ◌∷◌, ◌++◌, length, drop, map, Result, Ok, Err}
 use Rattle.std.proofs.{Common.{refl, sym, ap, subst, ◌∙◌, append_assoc, eqb-true, ltb-true, ltb-false, arith}, lemmas.List.{append-nil, length_push}}
 use Rattle.std.proofs.lemmas.List.{length-set, length-map, drop_more, drop_all, nil_from_length, Concat.flat_map-append, Splits.join_with_byte-slice_split}
 use Rattle.std.specs.{Prelude.nat_lt, List.{AllByRecursion, flat_map, join_with_byte}}
 use Rattle.event_log.specs.{Messages.Message, declared.{ids.TheConstants.{BUFFERS, ENTRIES}, entries.Entry.Entry}, Buffers.{items_of, empty_buffers}}
 use Rattle.event_log.{specs.{Buffers.IsCapacity, Runs.{IsNext, after_entry, IsRunFrom, IsRun}}, proofs.Streams.taken_put}
-use Rattle.tracer.specs.declared.{verdicts.{Reason.Reason, Verdict.{Verdict, TheVariants.{Yes, No}}}, versions.Version.{Version, TheVariants.One}}
+use Rattle.tracer.specs.declared.{verdicts.{Reason.Reason, Verdict.{Verdict, TheVariants.{Yes}}}, versions.Version.{Version, TheVariants.One}}
 use Rattle.tracer.specs.{Versions.{covers, version_of_entry, version_from, version_of}, Verdicts.IsTraceOfRun, Judging.{TextProgress, text_start, step}}
 use Rattle.tracer.specs.Judging.{after_line, line_pieces, lines_in, verdict_from, verdict_of, head_line, end_line, count_line, capacity_line, entries_line}
 use Rattle.tracer.specs.{Judging.left_line, TraceText.{text_line, head_pieces, count_pieces, cap_pieces, entry_pieces, left_pieces, end_pieces, numbered}}
 use Rattle.tracer.{specs.TraceText.{lines_of, spelling, IsEntryOf, IsSpellable, AreItemsOf}, proofs.{KnownLemmas.known_fresh_from, EntryLemmas.progress}}
-use Rattle.tracer.proofs.{StepLemmas.{left_line_taken, entries_taken}, VersionLemmas.{covers_first_one, covers_same, covers_both, version_more}}
+use Rattle.tracer.proofs.{StepLemmas.{left_line_taken, entries_taken}, VersionLemmas.{covers_first_one, covers_both, version_more}}
 use Rattle.tracer.proofs.OpeningLemmas.{head_taken, end_taken, count_line_taken, opened, behind_cap, capacity_line_taken}
 use Rattle.tracer.specs.declared.next_lines.NextLine.TheVariants as wants
 
@@ -29,15 +29,12 @@ line_spelled line ps rest e =
 
 -- ---- the end
 
-done_test : (done empty : Bool) (n : ℕ) (reason : Reason) → cond (done && empty) Yes (No n reason) ≡ Yes → empty ≡ true
-done_test done empty n reason e = grind arith
-
 done_end : (v low : Version) (buffers : _) (entries n : ℕ) (lines : List (List ℕ))
     → verdict_from (record { at = wants.Done; version = v; lowest = low; buffers = buffers; entries = entries }) n lines ≡ Yes
     → join_with_byte 10 lines ≡ []
 unfolding step
 done_end v low buffers entries n [] e = absurd (cc)
-done_end v low buffers entries n (rest ∷ []) e = nil_from_length rest (eqb-true (length rest) 0 (done_test true (length rest == 0) n _ e))
+done_end v low buffers entries n (rest ∷ []) e = nil_from_length rest (eqb-true (length rest) 0 (grind arith))
 done_end v low buffers entries n (line ∷ next ∷ more) e = absurd (cc)
 
 sound_end : (v low : Version) (buffers : _) (entries n : ℕ) (lines : List (List ℕ))
@@ -74,9 +71,8 @@ behind_cases v b caps earlier contents n lines false is long again e =
 
 -- a line of what is left of buffer b, and the lines behind it
 left_text : (v low : Version) (b : ℕ) (contents : List (List Message)) (line : List ℕ) (ps : List (List ℕ)) (next : List ℕ) (more : List (List ℕ))
-    → line_pieces line ≡ ps
-    → b < length contents → ps ≡ left_pieces b (items_of contents b) → AreItemsOf v (items_of contents b) → LeftText v low (b + 1) contents (next ∷ more)
-    → LeftText v low b contents (line ∷ next ∷ more)
+    → line_pieces line ≡ ps → b < length contents → ps ≡ left_pieces b (items_of contents b) → AreItemsOf v (items_of contents b)
+    → LeftText v low (b + 1) contents (next ∷ more) → LeftText v low b contents (line ∷ next ∷ more)
 left_text v low b contents line ps next more is inside spelled small behind =
     let cut : drop b contents ≡ items_of contents b ∷ drop (b + 1) contents = drop_more contents b [] inside in
     let text : line ++ 10 ∷ join_with_byte 10 (next ∷ more) ≡ text_line (left_pieces b (items_of contents b))
@@ -130,7 +126,7 @@ judged_more v caps earlier contents line next more e spelled small can behind =
 judged_left : (v : Version) (caps : List ℕ) (earlier : List Entry) (contents : List (List Message)) (lines : List (List ℕ)) → length earlier ≤ ENTRIES
     → length contents ≡ length caps → covers v (version_of earlier) ≡ true → LeftText v (version_of earlier) 0 contents lines
     → IsJudged v caps earlier contents lines
-judged_left v caps earlier contents lines few long high left = ([], contents, grind (arith, covers_same))
+judged_left v caps earlier contents lines few long high left = ([], contents, grind arith)
 
 sound_entries : (v : Version) (caps : List ℕ) (earlier : List Entry) (contents : List (List Message)) (n : ℕ) (lines : List (List ℕ)) → length earlier ≤ ENTRIES
     → length contents ≡ length caps → covers v (version_of earlier) ≡ true → verdict_from (progress v wants.Entries caps earlier contents) n lines ≡ Yes
@@ -177,8 +173,7 @@ caps_cases v count caps n lines false is le again e =
     ([], n, lines, record { counted = omega arith; small = tt; judged = rw (append-nil caps) e; text = refl })
 
 caps_more : (v : Version) (count : ℕ) (caps : List ℕ) (line next : List ℕ) (more : List (List ℕ)) (k : ℕ) → line_pieces line ≡ cap_pieces (length caps) k
-    → IsCapacity k
-    → AreCaps v count (caps ++ k ∷ []) (next ∷ more) → AreCaps v count caps (line ∷ next ∷ more)
+    → IsCapacity k → AreCaps v count (caps ++ k ∷ []) (next ∷ more) → AreCaps v count caps (line ∷ next ∷ more)
 caps_more v count caps line next more k spelled small behind =
     let rest = behind.3 in
     let others = behind.0 in
@@ -211,9 +206,8 @@ sound_caps v count caps n (line ∷ next ∷ more) lt e =
     let longer : length (caps ++ k ∷ []) ≡ length caps + 1 = length_push caps k in
     let judged : verdict_from (opened v (behind_cap (length (caps ++ k ∷ [])) count) (caps ++ k ∷ [])) (n + 1) (next ∷ more) ≡ Yes =
     rw longer (subst (λ (a : TextProgress). verdict_from a (n + 1) (next ∷ more) ≡ Yes) taken.1.is go.2) in
-    caps_more v count caps line next more k taken.1.spelled taken.1.small
-    (caps_cases v count (caps ++ k ∷ []) (n + 1) (next ∷ more) (nat_lt (length (caps ++ k ∷ [])) count) refl (omega arith)
-    (λ less again. sound_caps v count (caps ++ k ∷ []) (n + 1) (next ∷ more) less again) judged)
+    caps_more v count caps line next more k taken.1.spelled taken.1.small (caps_cases v count (caps ++ k ∷ []) (n + 1) (next ∷ more)
+    (nat_lt (length (caps ++ k ∷ [])) count) refl (omega arith) (λ less again. sound_caps v count (caps ++ k ∷ []) (n + 1) (next ∷ more) less again) judged)
 
 -- ---- the whole text
 
@@ -223,9 +217,8 @@ IsTail v text = (caps : List ℕ) × (es : List Entry) × (left : List (List Mes
     × (text ≡ text_line (count_pieces (length caps)) ++ flat_map text_line
     (numbered cap_pieces 0 caps ++ (map entry_pieces es ++ (numbered left_pieces 0 left ++ end_pieces ∷ []))))
 
-tail_of : (v : Version) (line next : List ℕ) (more : List (List ℕ)) (n : ℕ) (caps : List ℕ) (rest : List (List ℕ)) (es : List Entry) (left : List
-    (List Message))
-    → line_pieces line ≡ count_pieces n → 1 ≤ n → n ≤ BUFFERS → length caps ≡ n → AllByRecursion IsCapacity caps
+tail_of : (v : Version) (line next : List ℕ) (more : List (List ℕ)) (n : ℕ) (caps : List ℕ) (rest : List (List ℕ)) (es : List Entry)
+    (left : List (List Message)) → line_pieces line ≡ count_pieces n → 1 ≤ n → n ≤ BUFFERS → length caps ≡ n → AllByRecursion IsCapacity caps
     → join_with_byte 10 (next ∷ more) ≡ flat_map text_line (numbered cap_pieces 0 caps) ++ join_with_byte 10 rest
     → Judged v caps [] (empty_buffers caps) rest es left → IsTail v (join_with_byte 10 (line ∷ next ∷ more))
 tail_of v line next more n caps rest es left spelled some few counted small text judged = (
@@ -264,8 +257,7 @@ sound_count v n (line ∷ next ∷ more) e =
 
 head_text : (v : Version) (es : List Entry) (line rest body : List ℕ) → line ≡ join_with_byte 32 (head_pieces v) → v ≡ version_of es → rest ≡ body
     → line ++ 10 ∷ rest ≡ text_line (head_pieces (version_of es)) ++ body
-head_text v es line rest body e1 e2 e3 =
-    rw (e1, e3, ← e2) (sym (append_assoc (join_with_byte 32 (head_pieces v)) (10 ∷ []) body))
+head_text v es line rest body e1 e2 e3 = rw (e1, e3, ← e2) (sym (append_assoc (join_with_byte 32 (head_pieces v)) (10 ∷ []) body))
 
 sound_lines : (n : ℕ) (lines : List (List ℕ)) → verdict_from text_start n lines ≡ Yes → IsTraceOfRun (join_with_byte 10 lines)
 unfolding step spelling lines_of

@@ -112,8 +112,7 @@ entry_found v at caps earlier contents ps digits e buffers after long shape smal
     }
 
 entry_line_taken : (v : Version) (at : NextLine) (caps : List ℕ) (earlier : List Entry) (contents : List (List Message)) (ps : List (List ℕ))
-    (after : TextProgress)
-    → length contents ≡ length caps → entry_line ps (progress v at caps earlier contents) ≡ Ok after
+    (after : TextProgress) → length contents ≡ length caps → entry_line ps (progress v at caps earlier contents) ≡ Ok after
     → (e : Entry) × EntryTaken v at caps earlier contents ps after e
 unfolding entry_line
 entry_line_taken v at caps earlier contents ps after long taken =
@@ -154,9 +153,8 @@ abbrev pub behind_left : ℕ → List ℕ → NextLine
 behind_left b caps = cond (nat_lt (b + 1) (length caps)) (wants.Contents (b + 1)) wants.End
 
 pub left_line_again : (v : Version) (at : NextLine) (b : ℕ) (caps : List ℕ) (earlier : List Entry) (contents : List (List Message)) → b < length caps
-    → b < 2 ^ 64
-    → AreItemsOf v (items_of contents b) → left_line b (left_pieces b (items_of contents b)) (progress v at caps earlier contents)
-    ≡ Ok (progress v (behind_left b caps) caps earlier contents)
+    → b < 2 ^ 64 → AreItemsOf v (items_of contents b)
+    → left_line b (left_pieces b (items_of contents b)) (progress v at caps earlier contents) ≡ Ok (progress v (behind_left b caps) caps earlier contents)
 unfolding left_line
 left_line_again v at b caps earlier contents lt fits small =
     rw (
@@ -229,8 +227,7 @@ left_found v at b caps earlier contents ps values after seen shape spells found 
     }
 
 pub left_line_taken : (v : Version) (at : NextLine) (b : ℕ) (caps : List ℕ) (earlier : List Entry) (contents : List (List Message)) (ps : List (List ℕ))
-    (after : TextProgress)
-    → left_line b ps (progress v at caps earlier contents) ≡ Ok after → LeftTaken v b caps earlier contents ps after
+    (after : TextProgress) → left_line b ps (progress v at caps earlier contents) ≡ Ok after → LeftTaken v b caps earlier contents ps after
 unfolding left_line
 left_line_taken v at b caps earlier contents ps after taken =
     let s = progress v at caps earlier contents in

@@ -1,5 +1,5 @@
 -- Two orders of the same traces that each take the first trace that is ready are one.
-use Rattle.std.proofs.Common.{◌≡◌, ℕ, zero, suc, ◌+◌, ◌<◌, inl, inr, List, [], ◌∷◌, ◌++◌, length, Some, refl, sym, ap, ◌∙◌, subst, arith, slice_get, slice_set}
+use Rattle.std.proofs.Common.{◌≡◌, ℕ, zero, suc, ◌+◌, inl, inr, List, [], ◌∷◌, ◌++◌, length, Some, refl, sym, ap, ◌∙◌, subst, arith, slice_get, slice_set}
 use Rattle.std.{proofs.lemmas.{Bool.{cases_eq, cases_lt}, Option.get_or_from_slice_get}, specs.Prelude.slice_index_or}
 use Rattle.{event_log.specs.{declared.entries.Entry.Entry, Traces.IsInterleaving}, tracer.specs.Gather.{IsFrontReady, TakesFirstReadyFrom}}
 use Rattle.tracer.specs.OneOrder.{OneOrderIsTaken}
@@ -45,8 +45,7 @@ rest_same e f es fs is = cc is
 
 front_ready : (earlier : List Entry) (traces : List (List Entry)) (k : ℕ) (e : Entry) (rest : List Entry) → slice_get traces k ≡ Some (e ∷ rest)
     → IsFrontReady earlier (e ∷ rest) → IsFrontReady earlier (slice_index_or traces k [])
-front_ready earlier traces k e rest at ready =
-    subst (λ l. IsFrontReady earlier l) (sym (get_or_from_slice_get traces k (e ∷ rest) [] at)) ready
+front_ready earlier traces k e rest at ready = subst (λ l. IsFrontReady earlier l) (sym (get_or_from_slice_get traces k (e ∷ rest) [] at)) ready
 
 taken_alike : (earlier : List Entry) (traces : List (List Entry)) (one other : List Entry) → length one ≡ length other
     → TakesFirstReadyFrom earlier traces one → TakesFirstReadyFrom earlier traces other → one ≡ other

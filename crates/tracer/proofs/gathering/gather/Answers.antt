@@ -13,8 +13,7 @@ loop-trace-init c = (
 )
 
 -- the trace found has a next entry, by what is taken
-found : (c : In-Some) → next_entry (traces_in c.args.traces.now) c.loop-trace.taken.items c.in-Some.trace
-    ≡ Some c.in-Some.entry.now
+found : (c : In-Some) → next_entry (traces_in c.args.traces.now) c.loop-trace.taken.items c.in-Some.trace ≡ Some c.in-Some.entry.now
 found c = rw c.deref.ensures.value at c.in-Some.ensures.found
 
 first : (c : In-Some) → NoneDueBelow (traces_in c.args.traces.now) c.loop-trace.taken.items c.loop-trace.counts c.in-Some.trace
@@ -37,8 +36,7 @@ taken_below c =
     some_left_in (traces_in c.args.traces.now) c.in_ok-order.total c.loop-trace.taken.items c.loop-trace.counts (entries_in c.loop-trace.order.items)
     c.in-Some.trace c.in-Some.entry.now c.loop-trace.invariant.0 (found c)
 
-was : (c : In-Some) (n : ℕ) → n ≡ get_or c.loop-trace.taken.items c.in-Some.trace n
-    → n ≡ get_or c.loop-trace.taken.items c.in-Some.trace 0
+was : (c : In-Some) (n : ℕ) → n ≡ get_or c.loop-trace.taken.items c.in-Some.trace n → n ≡ get_or c.loop-trace.taken.items c.in-Some.trace 0
 was c n read = read ∙ get_or_default c.loop-trace.taken.items c.in-Some.trace n 0 (within c)
 
 pub overflow_add-index_mut : goal.overflow_add-index_mut
@@ -63,10 +61,9 @@ pub loop-trace-preserved : goal.loop-trace-preserved
 loop-trace-preserved c =
     let here = (goal.at.loop-trace-preserved c).In-Some in (
       gathers_next (traces_in c.args.traces.now) c.in_ok-order.total c.loop-trace.taken.items c.loop-trace.counts (entries_in c.loop-trace.order.items)
-          c.in-Some.trace c.in-Some.entry.now
-          c.index_mut.result.now c.slot_of.result (entries_in c.push.new.self.items)
-          c.loop-trace.invariant.0 c.slot_of.ensures.within (found here) c.in-Some.ensures.due (first here)
-          (was here c.index_mut.result.now c.index_mut.ensures.value) c.slot_of.ensures.is
+          c.in-Some.trace c.in-Some.entry.now c.index_mut.result.now c.slot_of.result (entries_in c.push.new.self.items) c.loop-trace.invariant.0
+          c.slot_of.ensures.within (found here) c.in-Some.ensures.due (first here) (was here c.index_mut.result.now c.index_mut.ensures.value)
+          c.slot_of.ensures.is
           (ap entries_in (rw c.unwrap.ensures at c.push.ensures.items) ∙ one_more c.loop-trace.order.items c.in-Some.entry),
       omega (arith, c.loop-trace.invariant.1, c.push.ensures.capacity),
     )

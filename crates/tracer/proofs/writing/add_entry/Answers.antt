@@ -26,5 +26,4 @@ returns-clause-line c =
       c.add_number-pos.ensures.line,
       drop-set c.args.line.now 287 10 (omega arith),
       drop_all 288 c.args.line.now (omega arith),
-    )
-    (line_end _ _ _ _ _ _ _)
+    ) (line_end _ _ _ _ _ _ _)

@@ -39,9 +39,7 @@ returns-in_err-put_left-clause-out g c =
 pub returns-clause-out : goal.returns-clause-out
 returns-clause-out g c =
     rw (spelling_parts (λ v. v.items) c.args.caps.now c.args.entries.now c.args.left.now, ← c.version_of.ensures)
-    (outs_then _ _ _ _ _ _ (all_out _ _ _ _ (sym c.in_ok-put_head.ensures.failed) c.in_ok-put_head.ensures.out)
-    (outs_then _ _ _ _ _ _ (all_out _ _ _ _ (sym c.in_ok-put_line.ensures.failed) c.in_ok-put_line.ensures.out)
-    (outs_then _ _ _ _ _ _ (all_out _ _ _ _ (sym c.in_ok-put_caps.ensures.failed) c.in_ok-put_caps.ensures.out)
-    (outs_then _ _ _ _ _ _ (all_out _ _ _ _ (sym c.in_ok-put_entries.ensures.failed) c.in_ok-put_entries.ensures.out)
-    (outs_then _ _ _ _ _ _ (all_out _ _ _ _ (sym c.in_ok-put_left.ensures.failed) c.in_ok-put_left.ensures.out)
-    c.put_line-2.ensures.out)))))
+    (outs_then _ _ _ _ _ _ (all_out _ _ _ _ (sym c.in_ok-put_head.ensures.failed) c.in_ok-put_head.ensures.out) (outs_then _ _ _ _ _ _ (all_out _ _ _ _
+    (sym c.in_ok-put_line.ensures.failed) c.in_ok-put_line.ensures.out) (outs_then _ _ _ _ _ _ (all_out _ _ _ _ (sym c.in_ok-put_caps.ensures.failed)
+    c.in_ok-put_caps.ensures.out) (outs_then _ _ _ _ _ _ (all_out _ _ _ _ (sym c.in_ok-put_entries.ensures.failed) c.in_ok-put_entries.ensures.out)
+    (outs_then _ _ _ _ _ _ (all_out _ _ _ _ (sym c.in_ok-put_left.ensures.failed) c.in_ok-put_left.ensures.out) c.put_line-2.ensures.out)))))

@@ -1,8 +1,8 @@
 use mathlib.Core.Bool.{beq}
-use Rattle.std.proofs.Common.{◌≡◌, ◌≢◌, ◌∙◌, ◌+◌, ◌<◌, ◌≤◌, ℕ, Bool, true, false, not, ap, sym, subst, List, Option, None, is_some, arith, rules}
+use Rattle.std.proofs.Common.{◌≡◌, ◌≢◌, ◌∙◌, ◌+◌, ◌<◌, ◌≤◌, ℕ, Bool, true, false, not, ap, sym, List, Option, None, is_some, arith}
 use Rattle.{event_log.specs.declared.ids.{CpuId.CpuId, Tid.Tid}, layer_traits.specs.{declared.calls.{Call.Call, Reply.Reply}, Layers.BufferLaw.BufferPlan}}
 use Rattle.layer_traits.specs.{Layers.BufferLaw.{Buffering, fifo_plan}, Polling.LayerPolls.{IsBegunAt, LookedAt, PolledAt, PolledOnAt}}
-use Rattle.layer_traits.proofs.PollRunLemmas.{MayPoll, SoFar, run_kept, run_left, may_poll, nothing_yet, quiet_yet, one_look, one_more, quiet_after_look}
+use Rattle.layer_traits.proofs.PollRunLemmas.{MayPoll, SoFar, run_left, may_poll, nothing_yet, quiet_yet, one_look, one_more, quiet_after_look}
 use Rattle.{layer_traits.proofs.PollRunLemmas.quiet_after_poll, fifo_buffer.specs.declared.fifo.Fifo.Fifo}
 use Rattle.fifo_buffer.proofs.fifo.FifoCallLayerBufferLaw.poll_on.{Given.Over, Invariants.tells, Goals.{Start, Then-look, After-poll_kind-reply}}
 use Rattle.fifo_buffer.proofs.fifo.FifoCallLayerBufferLaw.poll_on.Goals.{Else-is_some-had}
@@ -24,7 +24,7 @@ more_left actions most few other = omega arith
 module _ (g : Over) (c : Start g) (actions : ℕ) (p : Fifo g.row.C.Denot) (m : g.row.C-Machine.Denot)
     (so_far : SoFar (tells g) plan c.args.t c.args.call.now c.args.self.now c.args.m.now actions p m) where
   may : MayPoll (tells g) plan c.args.t c.args.call.now p m
-  may = may_poll (tells g) plan c.args.t c.args.call.now c.args.self.now c.args.m.now actions p m so_far (record {
+  may = may_poll _ _ _ _ _ _ _ _ _ so_far (record {
     fits = c.requires.fits;
     runs = c.requires.runs;
     hand = c.requires.hand;
@@ -33,7 +33,7 @@ module _ (g : Over) (c : Start g) (actions : ℕ) (p : Fifo g.row.C.Denot) (m : 
   })
 
   left_so_far : (g.C.ThreadLayer.room c.args.m.now ≤ g.C.ThreadLayer.room m + actions) × (g.C.ThreadLayer.opening m ≡ g.C.ThreadLayer.opening c.args.m.now)
-  left_so_far = run_left (tells g) plan c.args.t c.args.call.now c.args.self.now c.args.m.now actions p m so_far
+  left_so_far = run_left _ _ _ _ _ _ _ _ _ so_far
 
   has_room : actions < c.args.most → 0 < g.C.ThreadLayer.room m
   has_room few = room_left c.args.most actions (g.C.ThreadLayer.room c.args.m.now) (g.C.ThreadLayer.room m) few c.requires.room left_so_far.0
@@ -61,8 +61,7 @@ module _ (g : Over) (c : After-poll_kind-reply g) where
 
   ran : PolledOnAt (tells g) plan c.args.t c.args.call.now c.args.self.now c.args.m.now (c.loop-actions.actions + 1) c.poll_kind-reply.new.self
       c.poll_kind-reply.new.m c.poll_kind-reply.result
-  ran = one_more (tells g) plan c.args.t c.args.call.now c.args.self.now c.args.m.now c.loop-actions.actions c.loop-actions.self c.loop-actions.m
-      c.poll_kind-reply.new.self c.poll_kind-reply.new.m c.poll_kind-reply.result c.loop-actions.invariant.so_far polled
+  ran = one_more _ _ _ _ _ _ _ _ _ _ _ _ c.loop-actions.invariant.so_far polled
 
 pub returns-then-actions-most-clause-polled_on : goal.returns-then-actions-most-clause-polled_on
 returns-then-actions-most-clause-polled_on g c = ran g (goal.at.returns-then-actions-most-clause-polled_on g c).After-poll_kind-reply
@@ -89,20 +88,16 @@ module _ (g : Over) (c : Else-is_some-had g) (polled : PolledAt (tells g) plan c
   no_reply = none_of c.poll_kind-reply.result (sym c.is_some.ensures ∙ c.if-is_some.false)
 
   polled_on : PolledAt (tells g) plan c.args.t c.args.call.now c.loop-actions.self c.loop-actions.m c.poll_kind-reply.new.self c.poll_kind-reply.new.m None
-  polled_on = subst (λ told. PolledAt (tells g) plan c.args.t c.args.call.now c.loop-actions.self c.loop-actions.m c.poll_kind-reply.new.self
-      c.poll_kind-reply.new.m told) no_reply polled
+  polled_on = rw no_reply at polled
 
   quiet : IsBegunAt (tells g) plan c.args.t c.args.call.now c.args.self.now c.poll_kind-reply.new.self
-  quiet = quiet_after_poll (tells g) plan c.args.t c.args.call.now c.args.self.now c.args.m.now c.loop-actions.actions c.loop-actions.self
-      c.loop-actions.m c.poll_kind-reply.new.self c.poll_kind-reply.new.m c.loop-actions.invariant.so_far
-      polled_on (λ none. some_of c.current.result c.if-is_none.ensures (c.current.ensures ∙ none))
-      (ap is_some (sym c.effect_here.ensures) ∙ sym c.is_some-in-loop-actions.ensures
-      ∙ same_bool c.is_some-in-loop-actions.result c.has_taken-had.result c.if-is_some-had.false ∙ c.has_taken-had.ensures)
+  quiet = quiet_after_poll _ _ _ _ _ _ _ _ _ _ _ c.loop-actions.invariant.so_far polled_on
+      (λ none. some_of c.current.result c.if-is_none.ensures (c.current.ensures ∙ none)) (ap is_some (sym c.effect_here.ensures) ∙ sym
+      c.is_some-in-loop-actions.ensures ∙ same_bool c.is_some-in-loop-actions.result c.has_taken-had.result c.if-is_some-had.false ∙ c.has_taken-had.ensures)
 
   so_far_polled : SoFar (tells g) plan c.args.t c.args.call.now c.args.self.now c.args.m.now (c.loop-actions.actions + 1) c.poll_kind-reply.new.self
       c.poll_kind-reply.new.m
-  so_far_polled = quiet_yet (omega arith) (one_more (tells g) plan c.args.t c.args.call.now c.args.self.now c.args.m.now c.loop-actions.actions
-      c.loop-actions.self c.loop-actions.m c.poll_kind-reply.new.self c.poll_kind-reply.new.m None c.loop-actions.invariant.so_far polled_on) quiet
+  so_far_polled = quiet_yet (omega arith) (one_more _ _ _ _ _ _ _ _ _ _ _ _ c.loop-actions.invariant.so_far polled_on) quiet
 
 pub look-requires-clause-room : goal.look-requires-clause-room
 look-requires-clause-room g c =
@@ -123,17 +118,14 @@ loop-actions-preserved g c =
 module _ (g : Over) (c : Then-look g) (so_far : SoFar (tells g) plan c.args.t c.args.call.now c.args.self.now c.args.m.now
     (c.loop-actions.actions + 1) c.poll_kind-reply.new.self c.poll_kind-reply.new.m) where
   looked : LookedAt (tells g) plan true c.poll_kind-reply.new.self c.poll_kind-reply.new.m c.look.new.self c.look.new.m
-  looked = subst (λ told. LookedAt (tells g) plan told c.poll_kind-reply.new.self c.poll_kind-reply.new.m c.look.new.self c.look.new.m)
-      c.if-look.true c.look.ensures
+  looked = rw c.if-look.true at c.look.ensures
 
   ran_looking : PolledOnAt (tells g) plan c.args.t c.args.call.now c.args.self.now c.args.m.now (c.loop-actions.actions + 1 + 1) c.look.new.self c.look.new.m
       None
-  ran_looking = one_look (tells g) plan c.args.t c.args.call.now c.args.self.now c.args.m.now (c.loop-actions.actions + 1) c.poll_kind-reply.new.self
-      c.poll_kind-reply.new.m c.look.new.self c.look.new.m so_far (omega arith) looked
+  ran_looking = one_look _ _ _ _ _ _ _ _ _ _ _ so_far (omega arith) looked
 
   so_far_looking : SoFar (tells g) plan c.args.t c.args.call.now c.args.self.now c.args.m.now (c.loop-actions.actions + 1 + 1) c.look.new.self c.look.new.m
-  so_far_looking = quiet_yet (omega arith) ran_looking (quiet_after_look (tells g) plan c.args.t c.args.call.now c.args.self.now c.args.m.now
-      (c.loop-actions.actions + 1) c.poll_kind-reply.new.self c.poll_kind-reply.new.m c.look.new.self c.look.new.m so_far (omega arith) looked)
+  so_far_looking = quiet_yet (omega arith) ran_looking (quiet_after_look _ _ _ _ _ _ _ _ _ _ _ so_far (omega arith) looked)
 
 pub returns-then-actions-most-2-clause-polled_on : goal.returns-then-actions-most-2-clause-polled_on
 returns-then-actions-most-2-clause-polled_on g c =
@@ -163,8 +155,5 @@ loop-actions-preserved-else-look-2 g c =
 pub returns-then-look-2-clause-polled_on : goal.returns-then-look-2-clause-polled_on
 returns-then-look-2-clause-polled_on g c =
     let at = goal.at.returns-then-look-2-clause-polled_on g c in
-    one_look (tells g) plan c.args.t c.args.call.now c.args.self.now c.args.m.now (c.loop-actions.actions + 1 + 1) c.look.new.self c.look.new.m
-    c.look-then-look.new.self c.look-then-look.new.m
-    (so_far_looking g at.Then-look (so_far_polled g at.Else-is_some-had (polled g at.After-poll_kind-reply))) (omega arith)
-    (subst (λ told. LookedAt (tells g) plan told c.look.new.self c.look.new.m c.look-then-look.new.self c.look-then-look.new.m) c.if-look-2.true
-    c.look-then-look.ensures)
+    one_look _ _ _ _ _ _ _ _ _ _ _ (so_far_looking g at.Then-look (so_far_polled g at.Else-is_some-had (polled g at.After-poll_kind-reply)))
+    (omega arith) (rw c.if-look-2.true at c.look-then-look.ensures)

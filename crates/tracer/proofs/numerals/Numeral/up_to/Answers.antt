@@ -3,13 +3,10 @@ use Rattle.tracer.proofs.NumeralLemmas.{in_range_read, in_range_beyond, in_range
 use Rattle.tracer.proofs.numerals.Numeral.up_to.Goals as goal
 
 pub returns-in-Some-clause-exact : goal.returns-in-Some-clause-exact
-returns-in-Some-clause-exact c =
-    sym (in_range_read c.args.most c.args.self.text.now c.in-Some.number (sym c.args.self.read ∙ c.in-Some.is) (omega arith))
+returns-in-Some-clause-exact c = sym (in_range_read c.args.most c.args.self.text.now c.in-Some.number (sym c.args.self.read ∙ c.in-Some.is) (omega arith))
 
 pub returns-in_default-clause-exact : goal.returns-in_default-clause-exact
-returns-in_default-clause-exact c =
-    sym (in_range_beyond c.args.most c.args.self.text.now c.in-Some.number (sym c.args.self.read ∙ c.in-Some.is) (omega arith))
+returns-in_default-clause-exact c = sym (in_range_beyond c.args.most c.args.self.text.now c.in-Some.number (sym c.args.self.read ∙ c.in-Some.is) (omega arith))
 
 pub returns-in_default-2-clause-exact : goal.returns-in_default-2-clause-exact
-returns-in_default-2-clause-exact c =
-    sym (in_range_unread c.args.most c.args.self.text.now (omega arith) (sym c.args.self.read ∙ c.in_default.is))
+returns-in_default-2-clause-exact c = sym (in_range_unread c.args.most c.args.self.text.now (omega arith) (sym c.args.self.read ∙ c.in_default.is))
