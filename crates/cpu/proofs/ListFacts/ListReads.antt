@@ -1,9 +1,8 @@
 -- Reads and writes of lists by their index.
 use Rattle.std.proofs.Common.{◌≡◌, ℕ, zero, suc, ◌+◌, ◌<◌, List, [], ◌∷◌, ◌++◌, length, map, reverse, Some, option_map, refl, ap, sym, ◌∙◌, subst, arith}
-use Rattle.std.proofs.{Common.{slice_set, Option, Bool, true, false}, lemmas.{List.{reverse-append, length-map}, Option.{slice_get-map, slice_get_read}}}
-use Rattle.event_log.specs.{declared.ids.LockId.LockId, History.same_lock, Sections.{Section, block_after}}
-use Rattle.std.proofs.Common.{if◌then◌else◌}
-use Rattle.{std.specs.{Prelude.{slice_get, slice_index_or}, List.AllByRecursion}, cpu.specs.Claims.listed}
+use Rattle.std.proofs.{Common.{slice_set, Option, Bool, true, false, if◌then◌else◌}, lemmas.{List.{reverse-append, length-map}, Option.slice_get-map}}
+use Rattle.std.{proofs.lemmas.Option.slice_get_read, specs.{Prelude.{slice_get, slice_index_or}, List.AllByRecursion}}
+use Rattle.{event_log.specs.{declared.ids.LockId.LockId, History.same_lock, Sections.{Section, block_after}}, cpu.specs.Claims.listed}
 pub use Rattle.event_log.proofs.ListLemmas.{set_else, set_there, there_is}
 
 -- what is so of the block that a lock has at first, and what each edit keeps, is so after any sections

@@ -1,15 +1,15 @@
 -- The clauses of a CPU's calls on the table, from those of the layer: its part tells its threads and its call states.
 use Rattle.std.proofs.Common.{◌≡◌, ◌<◌, ℕ, false, List, slice_get, Option, Some, None, IsSome, option_map, if◌then◌else◌, ap, sym, ◌∙◌, subst, arith}
 use Rattle.std.proofs.lemmas.Bool.{lt-ltb}
-use Rattle.layer_traits.specs.{Views.OwnParts.threads_in, declared.{calls.{Call.Call, Reply.{Reply, TheVariants.NoBuffer}}, steps.Step.TheVariants.Stepped}}
-use Rattle.layer_traits.specs.{Polling.{Looks.Tries, Plans.{Follows, Now, is_in_section}}, Layers.BufferLaw.{Buffering, buffer_of, buffering_at_start}}
-use Rattle.layer_traits.specs.{Layers.{BufferLaw.fifo_plan, IpcLaw.{OpensSo, ipc_plan}}, Threads.Places.{AreMoves, Stands, Step, Threads, is_thread}}
-use Rattle.{layer_traits.proofs.PlaceLemmas.away_known, event_log.specs.declared.{entries.Entry.Entry, ids.{CpuId.CpuId, LockId.{LockId, TheVariants.Pending}}}}
-use Rattle.event_log.{specs.{declared.ids.{LockId.TheVariants.Buffer as AtBuffer, Tid.Tid}, Actions.Action}, proofs.Renaming.phase_renamed}
-use Rattle.{thread_blocks.proofs.Members.same_tid_self, cpu.specs.{declared.guests.Guest.Guest, Guests.is_ended, Cpus.{cpu_halted_at, reason_in, step_answer}}}
+use Rattle.cpu.proofs.{Tower.{Polls.{halts_exactly, look_is_step}, KeptByPasses.boots_part}, CpuSteps.CpuStates.{TabledCpu, Outset}}
+use Rattle.cpu.{proofs.StepTable.TableRows.halted_same, specs.{declared.guests.Guest.Guest, Guests.is_ended, Cpus.{cpu_halted_at, reason_in, step_answer}}}
 use Rattle.cpu.specs.{Boots.AreGuests, Table.{Setups.Setup, Steps.cpu_step}, Tower.{Views.{TowerBlock, TowerName, name_of, tower, view}, Composed.OpensAs}}
-use Rattle.cpu.{specs.{Tower.Composed.named, Tables.{IsSetupOf, IsTabled, WentByTable, bare, private}}, proofs.CpuSteps.CpuStates.{TabledCpu, Outset}}
-use Rattle.cpu.proofs.{StepTable.{TableRows.halted_same, TableHalts.answers_so}, Tower.{KeptByPasses.boots_part, Polls.look_is_step}}
+use Rattle.{cpu.specs.{Tower.Composed.named, Tables.{IsSetupOf, IsTabled, WentByTable, bare, private}}, layer_traits.specs.Views.OwnParts.threads_in}
+use Rattle.layer_traits.specs.{declared.{calls.{Call.Call, Reply.{Reply, TheVariants.NoBuffer}}, steps.Step.TheVariants.Stepped}, Polling.Looks.Tries}
+use Rattle.layer_traits.specs.{Polling.Plans.{Follows, Now, is_in_section}, Layers.BufferLaw.{Buffering, buffer_of, buffering_at_start, fifo_plan}}
+use Rattle.layer_traits.{specs.{Layers.IpcLaw.{OpensSo, ipc_plan}, Threads.Places.{AreMoves, Stands, Step, Threads, is_thread}}, proofs.PlaceLemmas.away_known}
+use Rattle.event_log.specs.declared.{entries.Entry.Entry, ids.{CpuId.CpuId, LockId.{LockId, TheVariants.{Pending, Buffer as AtBuffer}}, Tid.Tid}}
+use Rattle.{event_log.{specs.Actions.Action, proofs.Renaming.phase_renamed}, thread_blocks.proofs.Members.same_tid_self}
 
 -- a thread in the hand has a home
 pub hand_known : (homes : List CpuId) (c : CpuId) (moves : List Step) (own : Threads) → Stands homes c moves own → AreMoves homes moves
@@ -38,10 +38,7 @@ pub answers_step : (cpu : TabledCpu) (ActsFor : CpuId → Type 0) (old : List (A
     → (cpu_step setup cpu.number (private cpu.own cpu.guests cpu.trace) (named old)).answer
     ≡ step_answer (reason_in outset.inside (cpu_halted_at (threads_in cpu.own) cpu.guests cpu.trace cpu.limit))
 answers_step cpu ActsFor old outset setup of =
-    answers_so setup cpu.number (private cpu.own cpu.guests cpu.trace) (named old) outset.inside
-    (cpu_halted_at (threads_in cpu.own) cpu.guests cpu.trace cpu.limit)
-    (outset.busy ∙ sym (ap is_in_section (phase_renamed name_of cpu.number old)))
-    (halted_same cpu setup of)
+    grind (arith, outset.busy ∙ sym (ap is_in_section (phase_renamed name_of cpu.number old)), halted_same cpu setup of, halts_exactly)
 
 -- a look
 pub looked_steps : (ActsFor : CpuId → Type 0) (homes : List CpuId) (caps : List ℕ) (cpu number : CpuId) (limit : ℕ) (own own2 : Buffering)

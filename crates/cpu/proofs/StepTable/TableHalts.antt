@@ -1,14 +1,8 @@
 -- A CPU of a system that takes no step: the table's system takes none, and answers the same.
-use Rattle.std.proofs.Common.{◌≡◌, ◌<◌, ◌==◌, Bool, List, length, Option, Some, None, if◌then◌else◌, sym, ◌∙◌, arith}
-use Rattle.{event_log.specs.{declared.ids.CpuId.CpuId, Actions.{Action, phase}}, layer_traits.specs.declared.steps.Reason.{Reason, TheVariants.StepsUsed}}
-use Rattle.{layer_traits.specs.{declared.steps.Step.TheVariants.Halted, Polling.Plans.is_in_section}, cpu.specs.{Claims.{CpuShown, Shown}, Cpus.reason_in}}
-use Rattle.cpu.specs.{Cpus.step_answer, Systems.{HaltsByTable, SteppedByTable, halted_in, reason_of, reason_or}, Table.{Blocks.Name, Setups.{Setup, Private}}}
-use Rattle.cpu.{specs.Table.Steps.{cpu_step, halted_at}, proofs.{ListFacts.ListReads.{shows_at, there_is}, Tower.Polls.halts_exactly}}
-
--- what a step of the table answers, by the CPU's own reason
-pub answers_so : (setup : Setup) (c : CpuId) (p : Private) (log : List (Action Name)) (inside : Bool) (halted : Option Reason)
-    → inside ≡ is_in_section (phase c log) → halted_at setup c p ≡ halted → (cpu_step setup c p log).answer ≡ step_answer (reason_in inside halted)
-answers_so setup c p log inside halted busy same = grind (arith, halts_exactly)
+use Rattle.std.proofs.Common.{◌≡◌, ◌<◌, ◌==◌, Bool, length, Option, Some, None, if◌then◌else◌, sym, ◌∙◌, arith}
+use Rattle.{event_log.specs.declared.ids.CpuId.CpuId, layer_traits.specs.declared.steps.{Reason.{Reason, TheVariants.StepsUsed}, Step.TheVariants.Halted}}
+use Rattle.cpu.{specs.{Claims.{CpuShown, Shown}, Systems.{HaltsByTable, SteppedByTable, halted_in, reason_of, reason_or}}, proofs.ListFacts.ListReads.shows_at}
+use Rattle.cpu.proofs.ListFacts.ListReads.{there_is}
 
 -- why a CPU takes no step: its own reason, or the room for steps is used
 abbrev pub reason_by : Option Reason → Bool → Option Reason

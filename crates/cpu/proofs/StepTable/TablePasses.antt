@@ -17,7 +17,7 @@ use Rattle.cpu.{specs.Tables.{IsSetupOf, IsTabled, private, guest_state_of, gues
 use Rattle.cpu.proofs.CpuSteps.PassSteps.{PassCase, computes_at, finish_exit, in_no_call, pass_case, switches, drains, sends_idle, sends_on, passes_on}
 use Rattle.cpu.proofs.{CpuSteps.PassSteps.finishes, ListFacts.GuestLists.guest_within, StepTable.TableRows.{call_is, call_of, guest_there, halted_same}}
 use Rattle.cpu.proofs.{StepTable.{TableRows.{stands_there, states_at, states_long}, TablePolls.{not_halted_so, opens_as, tabled_with}}, Tower.Chains.put_same}
-use Rattle.cpu.proofs.Tower.{ChangedThread.own_at, KeptByPasses.{ComesTo, at_rest, deferred_none, pass_rest, passed_part, with_threads}, PassLines.computed_now}
+use Rattle.cpu.proofs.Tower.{ChangedThread.own_at, KeptByPasses.{ComesTo, at_rest, deferred_none, passed_part, with_threads}, PassLines.computed_now}
 use Rattle.cpu.proofs.Tower.{PassLines.{drain_line, ended_now, make_ready_line, switched_now, yield_line}, Polls.{alone_is_step, choice_current, choice_hand}}
 use Rattle.cpu.proofs.Tower.Polls.{choice_idle, halted_is_step, line_is_step, step_goes}
 use Rattle.guest.specs.declared.instructions.Instruction.TheVariants as ins
@@ -117,8 +117,7 @@ module _ (cpu : TabledCpu) where
     case_is = pass_case (valid cpu) pass home chose
 
     own_is : own2 ≡ with_threads own (threads_if (threads_in own) pass queue result)
-    own_is =
-        pass_rest ActsFor opening homes number pass own old new (record { own = own2; answer = result }) follows ∙ ap (with_threads own) threads_are
+    own_is = grind arith
 
     part2 : IsPart own2
     part2 = subst IsPart (sym own_is) (go result)

@@ -16,7 +16,6 @@ use Rattle.cpu.{specs.Tables.{private, guest_state_of, guest_states}, proofs.Lis
 use Rattle.cpu.proofs.CpuSteps.{CpuStates.{TabledCpu, Outset, valid}, GuestsFollow.had_going, CallSteps.{PollsAt, polls_at, poll_number, poll_call_states}}
 use Rattle.cpu.proofs.{StepTable.TableRows.{call_is, halted_same, states_at, states_long}, Tower.BegunPolls.{first_polls_are_steps, polls_are_steps}}
 use Rattle.cpu.proofs.Tower.{Chains.put_same, KeptByPolls.{IsFree, begins_keep, preserved_by, plans_keep}, PolledSystem.Polled, KeptByPasses.at_rest}
-use Rattle.guest.specs.declared.instructions.Instruction.TheVariants as ins
 use Rattle.layer_traits.specs.declared.call_states.Stage.TheVariants as at_stage
 
 -- the opening blocks are the table's, of whatever programs

@@ -51,11 +51,6 @@ never_all setup c p current is = grind arith
 halted_ended : (setup : Setup) (c : CpuId) (p : Private) → halted_at setup c p ≡ Some AllEnded → have_ended p (home_threads setup c) ≡ true
 halted_ended setup c p is = grind (arith, never_all)
 
--- where each home thread has ended, that is the only reason
-ended_halts : (setup : Setup) (c : CpuId) (p : Private) (reason : Reason) → have_ended p (home_threads setup c) ≡ true → halted_at setup c p ≡ Some reason
-    → reason ≡ AllEnded
-ended_halts setup c p reason all is = grind arith
-
 home_is : (setup : Setup) (u : Tid) (c : CpuId) → home_cpu setup u ≡ c → u.0 < length setup.homes → slice_get setup.homes u.0 ≡ Some c
 home_is setup u c same within =
     let there = there_is setup.homes u.0 within in
@@ -89,7 +84,7 @@ none_is o is = grind arith
 quiet_is_calm : (setup : Setup) (c : CpuId) (p : Private) (own : Threads) (halted : Option Reason) → p.current ≡ own.current → p.ready ≡ own.ready
     → p.hand ≡ own.hand
     → halted_at setup c p ≡ halted → IsQuietBy setup c p halted → calm_by halted false own ≡ true
-quiet_is_calm setup c p own halted current ready hand is quiet = grind (arith, ended_halts, quiet_all)
+quiet_is_calm setup c p own halted current ready hand is quiet = grind (arith, quiet_all)
 
 -- The whole system.
 module _ (s : Shown) (told : ObservedByTable s) (setup : Setup) (is : IsSetupFor setup s) where

@@ -119,10 +119,7 @@ module _ (cpu : TabledCpu) where
       })
     where
       none : (o : Option Guest) → guest_at guests k ≡ o → same_cpu home number ≡ false → o ≡ None
-      none None found differs = refl
-      none (Some g) found differs =
-          let same : number ≡ home = cc (sym (tabled.only (tid k) g found) ∙ at) in
-          absurd (cc (subst (λ (d : CpuId). same_cpu d number ≡ true) same (same_cpu_self number), differs))
+      none o found differs = grind (arith, tabled.only (tid k), same_cpu_self, at)
 
   module _ (setup : Setup) (of : IsSetupOf setup homes caps guests limit) where
     all_ended : have_ended p (home_threads setup number) ≡ list_all is_over guests
@@ -153,17 +150,7 @@ module _ (cpu : TabledCpu) where
 
     current_rest : (t : Tid) (g : Guest) → guest_at guests t.0 ≡ Some g
         → halted_by (at_call setup number p t (thread_at p t).call) ≡ rest_by (Some t) None (threads_in own).ready
-    current_rest t g at =
-        ap (λ o. halted_by (at_call setup number p t o)) (call_of t g at)
-        ∙ go (begun_of (call_state_of own.call_states t)) (is_calling g.stage) refl (call_is g.stage g.program g.thread (of_thread t.0 (of_cpu number seen))
-        (begun_of (call_state_of own.call_states t)) (call_state_of own.call_states t).effect (follows_at t g at))
-      where
-        go : (o : Option Call) (b : Bool) → is_calling g.stage ≡ b → is_some o ≡ is_calling g.stage
-            → halted_by (at_call setup number p t (option_map (λ call. call_from call (call_state_of own.call_states t).position
-            (call_state_of own.call_states t).effect
-            (stage_from (call_state_of own.call_states t).stage (slept_for own.cv.lock.slept t) (slept_for own.cv.waits t) (is_deferred own t))) o))
-            ≡ rest_by (Some t) None (threads_in own).ready
-        go o b is_b same = grind (arith, stands_there, all_open)
+    current_rest t g at = grind (arith, call_of t g at, call_is, follows_at t g at, stands_there t g at, all_open)
 
     -- the table's CPU is halted as this one is
     pub halted_same : halted_at setup number p ≡ cpu_halted_at (threads_in own) guests trace limit

@@ -1,11 +1,10 @@
 -- A step of a system that is taken is the step table's.
 use Rattle.std.proofs.{Common.{◌≡◌, ◌≢◌, ℕ, ◌+◌, ◌<◌, List, [], ◌∷◌, ◌++◌, map, Some, refl, ap, ◌∙◌, subst, slice_set, arith}, lemmas.Bool.ne_eqb}
 use Rattle.std.{proofs.lemmas.List.map-set, specs.{Prelude.slice_get, List.AllByRecursion}}
-use Rattle.event_log.specs.{declared.ids.{CpuId.CpuId, TheConstants.CPUS}, Actions.{Action, Take, Try, Give, AreLegal, cpu_of_action}, History.AreForeign}
-use Rattle.event_log.{specs.History.IsLawful, proofs.{Foreign.cpus_of_actions_known, Same.same_cpu_self}}
-use Rattle.{layer_traits.specs.{declared.steps.Step.TheVariants.Stepped, Polling.Along.IsStep}, cpu.specs.Table.{Blocks.Name, Setups.{Setup, Private}}}
-use Rattle.cpu.specs.{Table.Steps.{Stepping, Whole, cpu_step, system_step}, Tower.{Composed.named, Views.TowerName}, Claims.CpuShown}
-use Rattle.cpu.proofs.ListFacts.ListReads.{all_left, all_right, shows_at}
+use Rattle.event_log.specs.{declared.ids.{CpuId.CpuId, TheConstants.CPUS}, Actions.{Action, AreLegal, cpu_of_action}, History.{AreForeign, IsLawful}}
+use Rattle.{event_log.proofs.{Foreign.cpus_of_actions_known, Same.same_cpu_self}, layer_traits.specs.declared.steps.Step.TheVariants.Stepped}
+use Rattle.{layer_traits.specs.Polling.Along.IsStep, cpu.specs.Table.{Blocks.Name, Setups.{Setup, Private}, Steps.{Stepping, cpu_step, system_step}}}
+use Rattle.cpu.{specs.{Tower.{Composed.named, Views.TowerName}, Claims.CpuShown}, proofs.ListFacts.ListReads.{all_left, all_right, shows_at}}
 
 -- where the holder acts for each CPU that there may be, no action is foreign
 none_else : {N : Type 0} (ActsFor : CpuId → Type 0) (others : List (Action N)) → ((c : CpuId) → c.0 < CPUS → ActsFor c)
@@ -18,12 +17,7 @@ none_else ActsFor (a ∷ others) all known foreign =
 renamed_known : (acts : List (Action TowerName)) → IsLawful (λ before a. (cpu_of_action a).0 < CPUS) acts
     → AllByRecursion (λ a. (cpu_of_action a).0 < CPUS) (named acts)
 renamed_known [] lawful = tt
-renamed_known (Take cpu lock ∷ past) lawful = (lawful.0, renamed_known past lawful.1)
-renamed_known (Try cpu lock hit ∷ past) lawful = (lawful.0, renamed_known past lawful.1)
-renamed_known (Give cpu lock name ∷ past) lawful = (lawful.0, renamed_known past lawful.1)
-
-abbrev whole : List Private → List (Action Name) → ℕ → ℕ → Whole
-whole cpus log room taken = record { cpus = cpus; log = log; room = room; taken = taken }
+renamed_known (a ∷ past) lawful = let before = renamed_known past lawful.1 in grind (arith, lawful.0)
 
 -- a system after a step
 abbrev left : List Private → List (Action Name) → ℕ → ℕ → Stepping
@@ -35,7 +29,7 @@ table_step : (ActsFor : CpuId → Type 0) (setup : Setup) (c : CpuId) (cpus : Li
     → AllByRecursion (λ a. (cpu_of_action a).0 < CPUS) log2 → taken ≢ room
     → left (slice_set cpus c.0 q) log2 room (taken + 1) ≡ system_step setup c (record { cpus = cpus; log = log; room = room; taken = taken })
 table_step ActsFor setup c cpus log log2 room taken p q at step all known live =
-    grind (arith, next, grows, step_is)
+    grind (arith, next, grows, ne_eqb, none)
   where
     none : step.others ≡ []
     none = none_else ActsFor step.others all
@@ -49,10 +43,6 @@ table_step ActsFor setup c cpus log log2 room taken p q at step all known live =
 
     grows : log2 ≡ (cpu_step setup c p log).acts ++ log
     grows = step.grows ∙ ap (λ (l : List (Action Name)). (cpu_step setup c p (l ++ log)).acts ++ (l ++ log)) none
-
-    step_is : system_step setup c (whole cpus log room taken)
-        ≡ left (slice_set cpus c.0 (cpu_step setup c p log).next) ((cpu_step setup c p log).acts ++ log) room (taken + 1)
-    step_is = grind (arith, ne_eqb, none)
 
 -- a step of one CPU among those that are shown
 pub shown_step : {X : Type 0} (shown : X → CpuShown) (ActsFor : CpuId → Type 0) (setup : Setup) (c : CpuId) (xs : List X) (k : ℕ) (x y : X)

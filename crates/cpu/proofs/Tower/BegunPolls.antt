@@ -8,7 +8,7 @@ use Rattle.{event_log.specs.{declared.{entries.Entry.Entry, ids.Tid.Tid}, Action
 use Rattle.cpu.specs.{Table.{Setups.{Private, new_thread, program_of, thread_at}, Choice.{Goes, choice}, Steps.{cpu_step, halted_at}}, Tower.Views.tower}
 use Rattle.cpu.specs.Tower.{Privates.{state_at, private_after, private_of, thread_of, tid}, Composed.{AsksFor, HandIsKnown, IsBeginning, IsGoing, IsLine, asks}}
 use Rattle.cpu.{specs.Tower.Composed.named, proofs.Tower.{Callers.{HasRoom, Site, awake, caller_in}, ChangedThread.{numbered_at, own_at, part_at}}}
-use Rattle.cpu.proofs.Tower.{SectionLines.{HasHad, from, own, section_line}, Plans.plans_are_lines, PolledSystem.{Polled, Way}, Polls.begins_so}
+use Rattle.cpu.proofs.Tower.{SectionLines.{HasHad, from, own, section_line}, Plans.plans_are_lines, PolledSystem.{Polled, Way}}
 use Rattle.cpu.proofs.Tower.Polls.{choice_current, choice_hand, line_is_step, step_goes}
 
 -- the table's thread of a number
@@ -61,7 +61,7 @@ module _ (site : Site) (had : HasHad site None) (first_position : site.position 
 
   pub choice_begins : (call_state_of site.call_states site.t).stage ≡ Idle → AsksFor (next_of (program_of site.setup site.t) g) g site.call
       → halted_at site.setup site.c p ≡ None → choice site.setup site.c p ≡ Goes (from site None had Acquires)
-  choice_begins at_idle begins_here halted = grind (arith, there, choice_current, begins_so)
+  choice_begins at_idle begins_here halted = grind (arith, there, choice_current)
 
 module _ (polled : Polled) (own : Buffering) (guests : List State) (trace : List Entry) (t : Tid) (call : Call) (got : Left Buffering Reply)
     (beginning : IsBeginning polled.setup own guests t call) (known : HandIsKnown polled.setup got.own)

@@ -6,7 +6,7 @@ use Rattle.{thread_blocks.{proofs.Members.same_tid_self, specs.Queues.is_in}, ev
 use Rattle.{event_log.specs.declared.ids.Tid.Tid, guest.specs.State.{State, at_start}, layer_traits.specs.declared.calls.Call.Call as TowerCall}
 use Rattle.layer_traits.specs.declared.{calls.Effect.Effect, call_states.{CallState.CallState, Stage.{Stage, TheVariants.{Acquires, Enters, Tries, Waits}}}}
 use Rattle.layer_traits.specs.{declared.call_states.Stage.TheVariants.AcquiresAgain, Layers.BufferLaw.{Buffering, fifo_plan, going, plan_at, no_call}}
-use Rattle.{layer_traits.specs.Layers.{BufferLaw.{call_state_of, going_at}, QLockLaw.slept_for}, cpu.specs.{Table.Setups.Setup, Tower.Views.TowerOut}}
+use Rattle.{layer_traits.specs.Layers.{BufferLaw.call_state_of, QLockLaw.slept_for}, cpu.specs.{Table.Setups.Setup, Tower.Views.TowerOut}}
 use Rattle.cpu.specs.Tower.{Composed.{IsLine, IsLined, CallStands, FitsStage, enters, tries, asks_anew}, Privates.{state_at, private_after, private_of}}
 use Rattle.cpu.{specs.Tower.Privates.{thread_from, tid}, proofs.Tower.{Callers.{Caller, Runner, Site, at_next, awake, call_state_at}, ChangedThread.changed}}
 use Rattle.cpu.proofs.Tower.{ChangedThread.{runner_goes, own_at, part_at, parts, threads_at}, SectionLines.{HasHad, after, own, call_state, threads, plan}}
@@ -39,15 +39,9 @@ pub fifo_at : (setup : Setup) (c : CpuId) (t : Tid) (call : TowerCall) (own : Bu
     → fifo_plan setup.homes c t call own ≡ plan_at setup.homes c t call (going call_state call).stage (going call_state call) own
 fifo_at setup c t call own call_state is = ap (λ x. plan_at setup.homes c t call (going x call).stage (going x call) own) is
 
--- a call that has begun goes on as it stands
-pub begun_goes : {stage : Stage} {hand : Option Tid} {deferred : Option TowerOut} {s w : Option BufId} {effect : Option Effect}
-    → CallStands stage hand deferred s w effect → (x : CallState) (call : TowerCall) → going_at stage x call ≡ x
-begun_goes given x call = grind arith
-
 pub had_at : {hand : Option Tid} {deferred : Option TowerOut} {s w : Option BufId} (site : Site) (stage : Stage) (effect : Option Effect)
     → CallStands stage hand deferred s w effect → call_state_of site.call_states site.t ≡ call_state_at site.caller stage effect → HasHad site effect
-had_at site stage effect given is =
-    ap (λ x. (going x site.call).effect) is ∙ ap (λ x. x.effect) (begun_goes given (call_state_at site.caller stage effect) site.call)
+had_at site stage effect given is = grind arith
 
 -- the plan of a poll of it is that of its stage
 pub begun_plan : {stage : Stage} {hand : Option Tid} {deferred : Option TowerOut} {s w : Option BufId} {position : ℕ} {effect : Option Effect} (setup : Setup)
@@ -57,7 +51,7 @@ pub begun_plan : {stage : Stage} {hand : Option Tid} {deferred : Option TowerOut
     ≡ plan_at setup.homes c t call stage (record { stage = stage; call = Some call; position = position; effect = effect }) own
 begun_plan {stage} {position = position} {effect = effect} setup c t call own given is =
     let state : CallState = record { stage = stage; call = Some call; position = position; effect = effect } in
-    fifo_at setup c t call own state is ∙ ap (λ x. plan_at setup.homes c t call x.stage x own) (begun_goes given state call)
+    fifo_at setup c t call own state is ∙ ap (λ x. plan_at setup.homes c t call x.stage x own) (grind arith)
 
 -- the plan of a begun call whose caller neither slept nor waited is a line of the table
 pub site_line : (site : Site) (stage : Stage) (effect : Option Effect) → CallStands stage None None None None effect → FitsStage stage (Some site.call)

@@ -1,18 +1,17 @@
 -- The plan of a begun call is a line of the table, where a thread that its section woke is in the hand: it is put among its home's pending.
 use Rattle.std.proofs.Common.{◌≡◌, inr, ◌<◌, Bool, true, false, List, length, slice_get, slice_set, Option, Some, None, IsSome, refl, ap, sym, ◌∙◌, subst}
-use Rattle.std.proofs.{Common.arith, lemmas.List.{set-get_or, get_or-set_same}}
-use Rattle.{event_log.specs.declared.ids.{LockId.TheVariants.Pending, Tid.Tid}, guest.specs.State.{State, next_of}, thread_blocks.specs.Queues.is_in}
+use Rattle.std.proofs.{Common.arith, lemmas.List.get_or-set_same}
+use Rattle.{event_log.specs.declared.ids.{LockId.TheVariants.Pending, Tid.Tid}, guest.specs.State.State, thread_blocks.specs.Queues.is_in}
 use Rattle.layer_traits.specs.declared.{calls.{Effect.Effect, Reply.Reply}, conditions.CvOut.CvOut, buffer_edits.{BufferEdit.BufferEdit, BufferOut.BufferOut}}
 use Rattle.layer_traits.specs.declared.call_states.{CallState.CallState, Stage.{Stage, TheVariants.{Idle, Signals, SignalsOwn, Releases}}}
 use Rattle.layer_traits.specs.{Blocks.BufferProtocol.buffer_rules, Layers.BufferLaw.{BufferPlan, Buffering, buffer_of, going, left_recorded, plan_at, reply_of}}
-use Rattle.layer_traits.specs.Layers.{BufferLaw.{call_state_of, no_call, section_at}, Conditions.CvCall, CvLaw.{Waiting, cv_plan, left_waiting}}
-use Rattle.layer_traits.specs.{Layers.{QLockLaw.{left_after, slept_for}, QLocking.lock_moves, SleepLaw.sleep_plan}, Polling.Plans.{Left, Plan, raised}}
-use Rattle.{layer_traits.specs.Threads.Passes.queue_for, cpu.specs.{Guests.after_answer, Table.{Setups.{Thread, Private, program_of}, Choice.settled}}}
-use Rattle.cpu.specs.{Table.{Choice.{at_pending, returned_at}, Blocks.Pend}, Tower.{Views.{TowerAnswer, TowerName, TowerOut}, Privates.{call_from, state_at}}}
-use Rattle.cpu.specs.Tower.{Privates.{guests_after, private_after, private_of, thread_from, trace_after}, Composed.{woken_outcome, CallStands, has_signalled}}
-use Rattle.cpu.{specs.Tower.Composed.{has_signalled_own, has_released}, proofs.Tower.{Callers.{Site, call_state_at}, ChangedThread.runner_goes}}
-use Rattle.cpu.proofs.Tower.{ChangedThread.{numbered_long, own_at, part_at, parts, threads_at}, SettledAnswers.{calling, goes_on, returns}}
-use Rattle.cpu.proofs.Tower.{SectionLines.{react_in, guest_by, guests_by, beneath, beneath_is}, Chains.{LineOf, private_here, put_same, begun_plan, had_at}}
+use Rattle.layer_traits.specs.Layers.{BufferLaw.{call_state_of, no_call, section_at}, Conditions.CvCall, CvLaw.cv_plan, QLocking.lock_moves}
+use Rattle.{layer_traits.specs.{Polling.Plans.{Left, raised}, Threads.Passes.queue_for}, cpu.specs.Table.{Setups.{Thread, Private}, Choice.settled}}
+use Rattle.cpu.specs.{Table.{Choice.{at_pending, returned_at}, Blocks.Pend}, Tower.{Views.TowerOut, Privates.{call_from, state_at, private_after, private_of}}}
+use Rattle.cpu.specs.Tower.{Privates.{thread_from, trace_after}, Composed.{woken_outcome, CallStands, has_signalled, has_signalled_own, has_released}}
+use Rattle.cpu.proofs.Tower.{Callers.{Site, call_state_at}, ChangedThread.{runner_goes, numbered_long, own_at, part_at, parts, threads_at}}
+use Rattle.cpu.proofs.Tower.{SettledAnswers.{calling, goes_on, returns}, SectionLines.{react_in, guest_by, guests_by, beneath}, Chains.{LineOf, private_here}}
+use Rattle.cpu.proofs.Tower.Chains.{put_same, begun_plan, had_at}
 use Rattle.layer_traits.specs.declared.locked.QOut.TheVariants as lock
 use Rattle.layer_traits.specs.declared.conditions.CvOut.TheVariants as cv
 use Rattle.layer_traits.specs.declared.queue_edits.QueueEdit.TheVariants as queue
@@ -43,13 +42,11 @@ module _ (site : Site) (u : Tid) (f : Effect) (known : IsSome (slice_get site.se
   abbrev in_call : TowerOut → Stage → Thread
   in_call outcome next = calling setup c ready (threads outcome) trace t g e (long outcome) (call_from call position (Some f) next)
 
-
   abbrev pub sends : TowerOut → Stage → CvCall BufferEdit → BufferPlan Reply
   sends outcome stage s = raised (left_recorded t call (here stage) call_states stage) (beneath site (Some u) (Some outcome) s)
 
   abbrev after : TowerOut → Left Buffering Reply → Private
   after outcome left = private_after setup c t call (own_with outcome) guests trace left
-
 
   -- a section that woke thread u: its plan is to send u, and then the call is so
   pub record Sends (out : TowerOut) (stage : Stage) (state2 : CallState) (answer : Option Reply) : Type 0 where
@@ -64,9 +61,7 @@ module _ (site : Site) (u : Tid) (f : Effect) (known : IsSome (slice_get site.se
       → raised (left_recorded t call (here stage) call_states stage)
       (cv_plan (lock_moves buffer_rules) setup.homes c (buffer_of call) (section_at t call stage) (own_with out).cv)
       ≡ sends out stage (section_at t call stage)
-  beneath_at out stage mine =
-      ap (raised (left_recorded t call (here stage) call_states stage))
-      (beneath_is site (Some u) (Some out) (section_at t call stage) (ap (slept_for waits) mine ∙ is_waits) (ap (slept_for slept) mine ∙ is_slept))
+  beneath_at out stage mine = grind arith
 
   pub sends_signalled : (v : CvOut BufferOut) → Sends (woken_outcome (lock.Did v) u) Signals (here SignalsOwn) None
   sends_signalled v = record { stands = has_signalled u v f; plan = beneath_at (woken_outcome (lock.Did v) u) Signals refl; still = refl; done = refl }

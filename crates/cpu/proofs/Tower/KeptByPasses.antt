@@ -1,12 +1,9 @@
 -- How all threads stand to a part is kept by the passes from thread to thread, and holds at boot.
-use Rattle.std.proofs.{Common.{◌≡◌, ℕ, zero, suc, List, length, replicate, Option, Some, None, refl, sym, ◌∙◌, subst, arith}, lemmas.Bool.{cases_eq, ne_eqb}}
-use Rattle.layer_traits.specs.{Views.OwnParts.threads_in, declared.{calls.Effect.Effect, passes.Pass.Pass, call_states.{Stage.Stage, CallState.CallState}}}
-use Rattle.layer_traits.specs.{Threads.{Passes.pass_after, Places.Threads}, Polling.Plans.{Left, Follows}, Layers.BufferLaw.{Buffering, buffering_at_start}}
-use Rattle.{layer_traits.specs.Layers.BufferLaw.{fifo_pass_plan, no_call}, event_log.specs.declared.ids.{BufId.BufId, CpuId.CpuId, LockId.LockId, Tid.Tid}}
-use Rattle.{event_log.{specs.{declared.ids.TheConstants.THREADS, Actions.Action}, proofs.ListLemmas.alike_at}, cpu.specs.Tower.Views.{TowerBlock, TowerName}}
-use Rattle.cpu.specs.Tower.{Views.{TowerOut, tower}, Positions.{IsPart, MayStand, inside, outside}, Composed.{FitsStage, CallStands, asks, was_handed, enters}}
-use Rattle.cpu.specs.Tower.Composed.{tries, waits, was_woken, asks_anew, was_handed_again, signals, signals_own, releases, has_signalled, has_signalled_own}
-use Rattle.cpu.specs.Tower.Composed.{has_released}
+use Rattle.std.proofs.{Common.{◌≡◌, ℕ, zero, suc, List, length, replicate, Option, Some, None, refl, sym, ◌∙◌, arith}, lemmas.Bool.{cases_eq, ne_eqb}}
+use Rattle.layer_traits.specs.{Views.OwnParts.threads_in, declared.{calls.Effect.Effect, passes.Pass.Pass, call_states.Stage.Stage}, Threads.Passes.pass_after}
+use Rattle.{layer_traits.specs.{Threads.Places.Threads, Layers.BufferLaw.{Buffering, buffering_at_start, no_call}}, event_log.specs.declared.ids.BufId.BufId}
+use Rattle.{event_log.{specs.declared.ids.{CpuId.CpuId, Tid.Tid, TheConstants.THREADS}, proofs.ListLemmas.alike_at}, cpu.specs.Tower.Views.TowerOut}
+use Rattle.cpu.specs.Tower.{Positions.{IsPart, MayStand, outside}, Composed.{CallStands, asks, waits}}
 use Rattle.layer_traits.specs.declared.passes.Pass.TheVariants as pass
 use Rattle.layer_traits.specs.declared.call_states.Stage.TheVariants as at
 
@@ -19,12 +16,6 @@ with_threads own threads = record {
   };
   call_states = own.call_states;
 }
-
--- a pass changes the threads alone
-pub pass_rest : (ActsFor : CpuId → Type 0) (opening : LockId → Option TowerBlock) (homes : List CpuId) (c : CpuId) (p : Pass) (own : Buffering)
-    (old new : List (Action TowerName)) (left : Left Buffering (Unit {0})) → Follows ActsFor tower opening c (fifo_pass_plan homes c p own) old new left
-    → left.own ≡ with_threads own (threads_in left.own)
-pass_rest ActsFor opening homes c p own old new left follows = grind arith
 
 -- A thread with nobody in the hand has no answer kept.
 
@@ -49,8 +40,7 @@ pub record AtRest (h : Option Tid) (k : Option TowerOut) (s w : Option BufId) : 
 pub at_rest : (stage : Stage) (hand : Option Tid) (deferred : Option TowerOut) (s w : Option BufId) (effect : Option Effect)
     → MayStand stage hand deferred s w effect
     → stage ≡ at.Idle → AtRest hand deferred s w
-at_rest stage hand deferred s w effect (outside f) is = record { hand = refl; deferred = refl; slept = refl; waits = refl }
-at_rest stage hand deferred s w effect (inside st h k x y f stands) is = absurd (stands_calls st h k x y f stands is)
+at_rest stage hand deferred s w effect given is = grind (arith, stands_calls)
 
 -- The passes.
 

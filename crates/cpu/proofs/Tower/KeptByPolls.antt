@@ -3,12 +3,12 @@ use Rattle.std.proofs.Common.{◌≡◌, inr, ◌<◌, List, [], length, slice_g
 use Rattle.std.proofs.lemmas.{List.{get_or-set_other, length-set}, Bool.ne_eqb}
 use Rattle.layer_traits.specs.{Views.OwnParts.threads_in, declared.{calls.{Call.Call as TowerCall, Effect.Effect, Reply.Reply}, call_states.Stage.Stage}}
 use Rattle.layer_traits.specs.{declared.call_states.CallState.CallState, Layers.{QLockLaw.slept_for, BufferLaw.{Buffering, plan_at, call_state_of, fifo_plan}}}
-use Rattle.layer_traits.specs.{Layers.BufferLaw.{going_at, section_at}, Polling.Plans.{Left, Plan, Acting, Follows, at_give}, Threads.Places.is_thread}
+use Rattle.layer_traits.specs.{Layers.BufferLaw.{going_at, section_at}, Polling.Plans.{Left, Plan, Acting, Follows, at_give}}
 use Rattle.{layer_traits.specs.Threads.Passes.queue_for, event_log.specs.declared.ids.{BufId.BufId, CpuId.CpuId, LockId.{TheVariants.Pending, LockId}, Tid.Tid}}
 use Rattle.{event_log.specs.{Actions.{Action, Phase, phase}, Sections.{block_after, sections_in}}, guest.specs.State.State, cpu.specs.Table.Setups.Setup}
 use Rattle.cpu.specs.Tower.{Views.{TowerAnswer, TowerBlock, TowerName, TowerOut, tower}, Positions.{IsPart, MayStand, inside, outside}, Composed.FitsStage}
-use Rattle.cpu.specs.Tower.Composed.{IsLined, HandIsKnown, CallStands, asks, was_handed, enters, tries, waits as stands_waits, was_woken, asks_anew}
-use Rattle.cpu.specs.Tower.Composed.{was_handed_again, signals, signals_own, releases, has_signalled, has_signalled_own, has_released, IsGoing, OpensAs}
+use Rattle.cpu.specs.Tower.Composed.{IsLined, HandIsKnown, CallStands, asks, was_handed, enters, tries, was_woken, asks_anew}
+use Rattle.cpu.specs.Tower.Composed.{was_handed_again, signals_own, releases, has_signalled, has_signalled_own, has_released, IsGoing, OpensAs}
 use Rattle.cpu.proofs.Tower.{Callers.{Caller, HasRoom, Site, awake, caller_in, call_state_at}, ChangedThread.{own_at, part_at}, SectionLines.{HasHad, own}}
 use Rattle.cpu.proofs.Tower.{SectionLines.{react_in, plan}, KeptBySections.{PlanPreserves, Rest, runs_kept, rest_set, section_keeps}, Chains.handed_plan}
 use Rattle.cpu.proofs.Tower.Chains.{handed_again_plan, woken_plan, had_at, handed_site, woken_site, now_call_state, handed_own, woken_own, begun_plan}
@@ -97,13 +97,7 @@ module _ (caller : Caller) (others : Rest caller.t caller.slept caller.waits cal
 
 -- the rest of a part whose thread t runs
 pub rest_of : (o : Buffering) (t : Tid) → (threads_in o).current ≡ Some t → IsPart o → Rest t o.cv.lock.slept o.cv.waits o.call_states
-rest_of o t runs part = record {
-  others = λ u other. part.other u (ap (is_thread u) runs ∙ ne_eqb t.0 u.0 (λ e. other (sym e)));
-  fits = λ u other. part.fits u;
-  long_call_states = part.call_states;
-  long_slept = part.slept;
-  long_waits = part.waits;
-}
+rest_of o t runs part = grind (arith, part, runs, ne_eqb)
 
 pub plans_keep : (setup : Setup) (c : CpuId) (own : Buffering) (guests : List State) (t : Tid) (call : TowerCall) → IsGoing own guests t call
     → HandIsKnown setup own → IsPart own → PlanPreserves setup c (fifo_plan setup.homes c t call own)

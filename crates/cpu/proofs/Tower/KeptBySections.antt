@@ -1,6 +1,6 @@
 -- How all threads stand to a part is kept by each section of a call, where nobody is in the hand.
 use Rattle.std.proofs.Common.{◌≡◌, ◌≢◌, ◌⊎◌, inl, inr, ℕ, Bool, true, false, List, [], ◌∷◌, ◌++◌, length, slice_get, slice_set, Option, Some, None, refl, sym}
-use Rattle.std.proofs.{Common.{◌∙◌, subst, arith}, lemmas.{List.{get_or-set_same, get_or-set_other, length-set}, Bool.{cases_eq, eqb-false}}}
+use Rattle.std.proofs.{Common.{subst, arith}, lemmas.{List.{get_or-set_same, get_or-set_other, length-set}, Bool.{cases_eq, eqb-false}}}
 use Rattle.event_log.specs.declared.ids.{BufId.BufId, CpuId.CpuId, LockId.{TheVariants.Buffer, LockId}, Tid.Tid, TheConstants.THREADS}
 use Rattle.{thread_blocks.specs.Queues.first, layer_traits.specs.declared.{calls.Effect.Effect, locked.Side.{Side, TheVariants.{Receivers, Senders}}}}
 use Rattle.layer_traits.specs.declared.{conditions.CvOut.CvOut, call_states.{Stage.Stage, CallState.CallState}, buffer_edits.BufferOut.BufferOut}
@@ -26,11 +26,6 @@ pub record Rest (t : Tid) (slept waits : List (Option BufId)) (call_states : Lis
   pub long_slept : length slept ≡ THREADS
   pub long_waits : length waits ≡ THREADS
 
--- a thread that stands as it may, by what its call state and its places are
-pub stand_is : (hand : Option Tid) (deferred : Option TowerOut) (a b : CallState) (s s2 w w2 : Option BufId) → a ≡ b → s ≡ s2 → w ≡ w2
-    → MayStand b.stage hand deferred s2 w2 b.effect → MayStand a.stage hand deferred s w a.effect
-stand_is hand deferred a b s s2 w w2 is is_s is_w may = rw (is, is_s, is_w) may
-
 -- a call that fits its stage, by what the call state is
 pub fit_is : (a b : CallState) → a ≡ b → FitsStage b.stage b.call → FitsStage a.stage a.call
 fit_is a b is fit = subst (λ (x : CallState). FitsStage x.stage x.call) (sym is) fit
@@ -53,13 +48,7 @@ module _ (t : Tid) (ready ended : List Tid) (slept waits : List (Option BufId)) 
 pub rest_set : (t : Tid) (slept waits slept2 waits2 : List (Option BufId)) (call_states : List CallState) (state2 : CallState) → Rest t slept waits call_states
     → ((j : ℕ) → j ≢ t.0 → slept_for slept2 (tid j) ≡ slept_for slept (tid j)) → ((j : ℕ) → j ≢ t.0 → slept_for waits2 (tid j) ≡ slept_for waits (tid j))
     → length slept2 ≡ length slept → length waits2 ≡ length waits → Rest t slept2 waits2 (slice_set call_states t.0 state2)
-rest_set t slept waits slept2 waits2 call_states state2 others same_s same_w long_s long_w = record {
-  others = λ u other. grind (arith, stand_is, get_or-set_other);
-  fits = λ u other. fit_is _ _ (get_or-set_other call_states t.0 u.0 state2 no_call other) (others.fits u other);
-  long_call_states = length-set call_states t.0 state2 ∙ others.long_call_states;
-  long_slept = long_s ∙ others.long_slept;
-  long_waits = long_w ∙ others.long_waits;
-}
+rest_set t slept waits slept2 waits2 call_states state2 others same_s same_w long_s long_w = grind (arith, get_or-set_other, fit_is, length-set)
 
 -- a plan by which all threads go on standing as they may
 pub record PlanPreserves {A : Type 0} (setup : Setup) (c : CpuId) (p : Plan TowerName TowerAnswer Buffering A) : Type 0 where
@@ -82,7 +71,7 @@ module _ (site : Site) (effect : Option Effect) (had : HasHad site effect) (othe
       runs_part t ready2 ended slept waiting (slice_set call_states t.0 state2)
       (rest_set t slept waiting slept waiting call_states state2 others (λ j other. refl) (λ j other. refl) refl refl)
       (fit_is _ state2 (get_or-set_same call_states t.0 state2 no_call in_call_states) fit) hand2 deferred2
-      (stand_is hand2 deferred2 _ state2 _ None _ None (get_or-set_same call_states t.0 state2 no_call in_call_states) is_slept is_waits may)
+      (grind (arith, get_or-set_same call_states t.0 state2 no_call in_call_states))
 
   -- with nobody in the hand, or with a thread that its section woke
   runs_on : (ready2 : List Tid) (stage : Stage) → CallStands stage None None None None effect → FitsStage stage (Some call)
@@ -104,7 +93,7 @@ module _ (site : Site) (effect : Option Effect) (had : HasHad site effect) (othe
       let is = get_or-set_same call_states t.0 state2 no_call in_call_states in
       gone_part t ready2 ended slept2 waits2 (slice_set call_states t.0 state2)
       (rest_set t slept waiting slept2 waits2 call_states state2 others same_s same_w long_s long_w) (fit_is _ state2 is fit) hand2
-      (stand_is None None _ state2 _ s _ w is is_s is_w (inside stage None None s w effect given))
+      (grind (arith, inside stage None None s w effect given))
 
   asleep : (stage : Stage) → CallStands stage None None (Some (buffer_of call)) None effect → FitsStage stage (Some call)
       → IsPart (left_gone site effect had None ready (slice_set slept t.0 (Some (buffer_of call))) waiting stage).own

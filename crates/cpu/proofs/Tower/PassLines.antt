@@ -1,10 +1,10 @@
 -- The passes from thread to thread are lines of the table, or steps of it without an action.
-use Rattle.std.proofs.Common.{◌≡◌, ◌≢◌, ℕ, ◌+◌, ◌<◌, Bool, true, false, ◌&&◌, List, [], ◌∷◌, ◌++◌, length, slice_get, slice_set, Option, Some, None, IsSome}
+use Rattle.std.proofs.Common.{◌≡◌, ◌≢◌, ℕ, ◌+◌, ◌<◌, true, false, ◌&&◌, List, [], ◌∷◌, ◌++◌, length, slice_get, slice_set, Option, Some, None, IsSome}
 use Rattle.std.proofs.{Common.{refl, ap, sym, ◌∙◌, arith, inl, inr}, lemmas.{Bool.ne_eqb, List.append-nil}, Math.Bool.or-true}
 use Rattle.{event_log.specs.declared.{entries.Entry.Entry, ids.{BufId.BufId, CpuId.CpuId, LockId.TheVariants.Pending, Tid.Tid}}, guest.specs.State.State}
 use Rattle.{guest.specs.State.{after_yield, at_start, next_of}, thread_blocks.{specs.Queues.is_in, proofs.{Members.same_tid_self, Distinct.pushed_in}}}
 use Rattle.layer_traits.specs.{declared.{passes.Pass.Pass, call_states.CallState.CallState}, Layers.{QLockLaw.slept_for, BufferLaw.{Buffering, fifo_pass_plan}}}
-use Rattle.layer_traits.specs.{Layers.BufferLaw.{no_call, call_state_of}, Threads.{Passes.queue_for, Places.is_thread}, Polling.Plans.Left}
+use Rattle.layer_traits.specs.{Layers.BufferLaw.{no_call, call_state_of}, Threads.Passes.queue_for, Polling.Plans.Left}
 use Rattle.cpu.specs.Table.{Blocks.Pend, Setups.{Setup, Private, Thread, program_of, thread_at}, Choice.{after_by, after_section, asked_by, at_pending, ends}}
 use Rattle.cpu.specs.{Table.Choice.with_state, Tower.{Views.{TowerAnswer, TowerBlock, answer_view, tower}, Privates.{state_at, private_of, private_passed}}}
 use Rattle.cpu.{specs.Tower.{Privates.{thread_from, thread_of, tid}, Composed.{HandIsKnown, IsKind, IsLine}}, proofs.Tower.Callers.Runner}
@@ -90,13 +90,8 @@ module _ (setup : Setup) (c : CpuId) (guests : List State) (trace : List Entry) 
     abbrev free : State → Thread
     free guest = record { guest = guest; call = None; ended = is_in t ended }
 
-    thread_free : (k : Bool) (guest : State)
-        → thread_from (call_state_of call_states t) (slept_for slept t) (slept_for waits t) k (is_in t ended) guest ≡ free guest
-    thread_free k guest =
-        ap (λ s. thread_from (record (call_state_of call_states t) { stage = s }) (slept_for slept t) (slept_for waits t) k (is_in t ended) guest) at_idle
-
     pub there_free : thread_at p t ≡ free g
-    there_free = thread_here running guests trace t in_guests ∙ thread_free (is_thread t (Some t) && false) g
+    there_free = thread_here running guests trace t in_guests ∙ (grind arith)
 
     -- it yields: the pending are ready, and behind them the thread
     abbrev yields : Option TowerAnswer → Left Buffering (Unit {0})
@@ -112,7 +107,7 @@ module _ (setup : Setup) (c : CpuId) (guests : List State) (trace : List Entry) 
         (slice_set guests t.0 guest) trace)
         ∙ (changed runner None None None None ready2 None slept waits (call_state_of call_states t) guest trace
         (slept_for slept t) (slept_for waits t) false (λ j other. refl) (λ j other. refl) (λ j other. refl) refl refl refl
-        ∙ (ap (λ x. parts None ready2 None (slice_set (threads_at running guests) t.0 x) trace) (thread_free false guest)
+        ∙ (ap (λ x. parts None ready2 None (slice_set (threads_at running guests) t.0 x) trace) (grind arith)
         ∙ sym (ap (λ x. after_by setup c p t x.call (answer_view (told.Taken pending))) there_free
         ∙ ap (λ x. parts None ready2 None (slice_set (threads_at running guests) t.0
         (record x { guest = after_yield (next_of (program_of setup t) x.guest) x.guest })) trace)

@@ -1,8 +1,8 @@
 -- From plans to steps: a poll that followed a line of the table is a step of it.
 use Rattle.std.proofs.Common.{◌≡◌, Bool, true, false, List, [], ◌∷◌, ◌++◌, Option, Some, None, option_map, if◌then◌else◌, refl, ap, sym, ◌∙◌, subst, arith}
-use Rattle.event_log.specs.{declared.ids.{CpuId.CpuId, LockId.LockId, Tid.Tid}, History.same_lock, Actions.{Action, action_in, Phase, phase, renamed}}
+use Rattle.event_log.specs.{declared.ids.{CpuId.CpuId, LockId.LockId, Tid.Tid}, History.same_lock, Actions.{Action, action_in, phase, renamed}}
 use Rattle.event_log.{specs.Sections.{Section, block_after, sections_in}, proofs.{Foreign.phase_others, Renaming.{next_action_renamed, others_renamed}}}
-use Rattle.{event_log.proofs.Renaming.phase_renamed, layer_traits.specs.declared.steps.{Reason.{Reason, TheVariants.TraceFull}, Step.TheVariants.Stepped}}
+use Rattle.{event_log.proofs.Renaming.phase_renamed, layer_traits.specs.declared.steps.{Reason.Reason, Step.TheVariants.Stepped}}
 use Rattle.layer_traits.specs.{declared.steps.Step.{TheVariants.Halted, Step}, Polling.{Along.IsStep, Looks.Tries, Plans.{Left, Acting, Follows, at_give}}}
 use Rattle.layer_traits.{specs.{Polling.Plans.{is_in_section, reply}, Layers.BufferLaw.Buffering}, proofs.{LookLemmas.tries_renamed, PlanRenaming.map-append}}
 use Rattle.{layer_traits.proofs.PlanRenaming.reply_viewed, cpu.specs.Table.{Blocks.{Block, Name}, Edits.{edited, table_kernel}, Setups.{Setup, Private}}}
@@ -59,14 +59,9 @@ module _ {A : Type 0} (polled : Polled) (way : Way A polled) (got : Left Bufferi
       ∙ ap (λ o. at_give (phase c (named past)) (option_map (table_kernel.answer (name_of line.name)) o))
       (opens_alike (λ l. option_map view (opening l)) (table_opening setup) line.lock (opens line.lock line.used) (sections_in (named past)))
 
-  by_reply : (x : Phase) (o : Option TowerBlock) → IsKindIn line.lock o → got ≡ line.react (at_give x (option_map (tower.answer line.name) o))
-      → after got ≡ after_reply setup c q (option_map answer_view (at_give x (option_map (tower.answer line.name) o)))
-  by_reply x o kind is = grind arith
-
   next_is : after got ≡ (acting_on setup c q line.lock (name_of line.name) (named past)).next
   next_is =
-      by_reply (phase c past) (block_after tower.edited opening line.lock (sections_in past))
-      (kind_after opening line.lock (grind (arith, opens line.lock line.used)) (sections_in past)) planned.moves
+      (grind (arith, kind_after opening line.lock (grind (arith, opens line.lock line.used)) (sections_in past), planned.moves))
       ∙ ap (after_reply setup c q) answer_is
 
   grown : named new ≡ (acting_on setup c q line.lock (name_of line.name) (named past)).acts ++ named past
@@ -105,9 +100,7 @@ halts_by x reason is = grind arith
 
 pub halted_is_step : (ActsFor : CpuId → Type 0) (setup : Setup) (c : CpuId) (p : Private) (log : List (Action Name)) (reason : Reason)
     → is_in_section (phase c log) ≡ false → halted_at setup c p ≡ Some reason → IsStep ActsFor (cpu_step setup c) p p log log (Halted reason)
-halted_is_step ActsFor setup c p log reason outside halted =
-    still_is_step ActsFor setup c p p log (Halted reason)
-    (ap (step_in setup c p log) outside ∙ ap (λ x. chosen_step setup c p x log) (halts_by (choice setup c p) reason halted))
+halted_is_step ActsFor setup c p log reason outside halted = still_is_step ActsFor setup c p p log (Halted reason) (grind (arith, halts_by, outside, halted))
 
 pub halts_exactly : HaltsExactly
 halts_exactly setup c p log = grind arith
@@ -148,11 +141,6 @@ choice_idle setup c p hand current halted = grind arith
 -- a thread in the hand comes first
 pub choice_hand : (setup : Setup) (c : CpuId) (p : Private) (u : Tid) → p.hand ≡ Some u → choice setup c p ≡ Goes p
 choice_hand setup c p u hand = ap (at_hand setup c p) hand
-
--- a call that begins, where the CPU is not halted
-pub begins_so : (full : Bool) (q : Private) → halted_by (if full then Halts TraceFull else Goes q) ≡ None → (if full then Halts TraceFull else Goes q)
-    ≡ Goes q
-begins_so full q is = grind arith
 
 -- the section that goes on, or begins
 pub step_goes : (setup : Setup) (c : CpuId) (p q : Private) (old past : List (Action TowerName)) → phase c past ≡ phase c old

@@ -12,17 +12,16 @@ use Rattle.layer_traits.specs.declared.{buffer_edits.BufferOut.TheVariants.{Ente
 use Rattle.layer_traits.specs.declared.call_states.Stage.TheVariants.{Idle, Acquires, Enters, Tries, Waits, AcquiresAgain, Signals, SignalsOwn, Releases}
 use Rattle.layer_traits.specs.{Blocks.{BufferBlocks.{BufferState, buffer_answer}, BufferProtocol.buffer_rules}, Layers.BufferLaw.{BufferPlan, Buffering}}
 use Rattle.layer_traits.specs.Layers.BufferLaw.{buffer_of, first_of, going, left_recorded, no_call, call_state_of, try_of, entry_of, plan_at, reply_of}
-use Rattle.layer_traits.specs.Layers.{BufferLaw.section_at as call_section, Conditions.CvCall, CvLaw.{Waiting, cv_plan, left_waiting}, QLockLaw.Locking}
-use Rattle.layer_traits.specs.Layers.{QLockLaw.{left_after, slept_for}, QLocking.{LockState, lock_answer, lock_moves, wait_list_asked, asker_report}}
-use Rattle.layer_traits.specs.{Layers.SleepLaw.{Sleeping, left_done, sleep_plan}, Threads.Places.{Threads, is_cpu}, Polling.Plans.{Left, Plan, Now, Act}}
-use Rattle.{layer_traits.specs.Polling.Plans.raised, cpu.specs.{Guests.after_answer, Table.{Blocks.kind_for, Setups.{Call, Thread, Private, home_cpu}}}}
-use Rattle.cpu.specs.Table.{Setups.{program_of, thread_at}, Choice.{after_section, at_buffer, with_told, returned_at, section_due, settled, slept_if, woken}}
-use Rattle.cpu.specs.Tower.{Views.{TowerAnswer, TowerBlock, TowerName, TowerOut, answer_view, name_of, tower, report_in}, Composed.{HandIsKnown, IsKind}}
-use Rattle.cpu.specs.Tower.Composed.{IsLine, IsLined, CallStands, FitsStage, asks, enters, tries, waits as stands_waits, asks_anew, signals, signals_own}
-use Rattle.cpu.specs.Tower.{Composed.releases, Privates.{asks_in, call_from, state_at, guests_after, call_message, private_after, private_of, thread_from}}
-use Rattle.cpu.{specs.Tower.Privates.{trace_after, tid}, proofs.Tower.{Callers.{Site, call_state_at}, ChangedThread.{runner_goes, thread_gone, numbered_long}}}
-use Rattle.cpu.proofs.Tower.{ChangedThread.{own_at, part_at, parts, threads_at}, SettledAnswers.{asks_for, calling, done_with, from_t, goes_on, recorded_is}}
-use Rattle.cpu.proofs.Tower.SettledAnswers.{put, returns}
+use Rattle.layer_traits.specs.Layers.{BufferLaw.section_at as call_section, Conditions.CvCall, CvLaw.{Waiting, left_waiting}, QLockLaw.{Locking, left_after}}
+use Rattle.layer_traits.specs.Layers.{QLockLaw.slept_for, QLocking.{LockState, lock_answer, lock_moves, wait_list_asked, asker_report}, SleepLaw.Sleeping}
+use Rattle.layer_traits.specs.{Layers.SleepLaw.{left_done, sleep_plan}, Threads.Places.{Threads, is_cpu}, Polling.Plans.{Left, Plan, Now, Act, raised}}
+use Rattle.cpu.specs.{Guests.after_answer, Table.{Blocks.kind_for, Setups.{Call, Thread, Private, home_cpu, program_of, thread_at}, Choice.after_section}}
+use Rattle.cpu.specs.{Table.Choice.{at_buffer, with_told, returned_at, section_due, settled, slept_if, woken}, Tower.Views.{TowerAnswer, TowerBlock, TowerName}}
+use Rattle.cpu.specs.Tower.{Views.{TowerOut, answer_view, name_of, tower, report_in}, Composed.{HandIsKnown, IsKind, IsLine, IsLined, CallStands, FitsStage}}
+use Rattle.cpu.specs.Tower.{Composed.{asks, enters, tries, waits as stands_waits, asks_anew, signals, signals_own, releases}, Privates.{asks_in, call_from}}
+use Rattle.cpu.specs.Tower.Privates.{state_at, guests_after, call_message, private_after, private_of, thread_from, trace_after, tid}
+use Rattle.cpu.proofs.Tower.{Callers.{Site, call_state_at}, ChangedThread.{runner_goes, thread_gone, numbered_long, own_at, part_at, parts, threads_at}}
+use Rattle.cpu.proofs.Tower.SettledAnswers.{asks_for, calling, done_with, from_t, goes_on, recorded_is, put, returns}
 use Rattle.event_log.specs.declared.entries.Kind.TheVariants as kind
 use Rattle.layer_traits.specs.declared.queue_edits.QueueEdit.TheVariants as queue
 use Rattle.layer_traits.specs.declared.queue_edits.QueueAnswer.TheVariants as told
@@ -125,11 +124,6 @@ module _ (site : Site) where
       (raised (λ l. left_after ((lock_moves buffer_rules).caller s) (buffer_of call) slept l.own l.answer)
       (sleep_plan (lock_moves buffer_rules) setup.homes c (buffer_of call) s (part_at runner hand deferred).cv.lock.sleep))
 
-  pub beneath_is : (hand : Option Tid) (deferred : Option TowerOut) (s : CvCall BufferEdit) → slept_for waits ((lock_moves buffer_rules).caller s) ≡ None
-      → slept_for slept ((lock_moves buffer_rules).caller s) ≡ None
-      → cv_plan (lock_moves buffer_rules) setup.homes c (buffer_of call) s (part_at runner hand deferred).cv ≡ beneath hand deferred s
-  beneath_is hand deferred s w n = grind arith
-
 module _ (site : Site) (effect : Option Effect) (is_effect : HasHad site effect) where
   open site use {setup, c, runner, t, ready, ended, slept, waits, call_states, guests, trace, call, position, in_guests, in_call_states, is_slept, is_waits}
 
@@ -164,7 +158,6 @@ module _ (site : Site) (effect : Option Effect) (is_effect : HasHad site effect)
   abbrev pub after : Left Buffering Reply → Private
   after left = private_after setup c t call own guests trace left
 
-
   -- what a poll leaves after which thread t runs on
   abbrev pub left_on : (hand2 : Option Tid) (ready2 : List Tid) (deferred2 : Option TowerOut) (state2 : CallState) (answer : Option Reply)
       → Left Buffering Reply
@@ -197,7 +190,6 @@ module _ (site : Site) (effect : Option Effect) (is_effect : HasHad site effect)
       ∙ thread_gone runner None None hand2 ready2 slept2 waits2 (call_state stage) g (trace_after c t buf effect effect trace) s w same_s same_w is_s is_w
 
   -- The plan of a section whose caller neither sleeps nor waits.
-
 
   abbrev pub fresh : Stage → CvCall BufferEdit → BufferPlan Reply
   fresh stage s = raised (left_recorded t call (call_state stage) call_states stage) (beneath site None None s)
@@ -459,8 +451,8 @@ module _ (site : Site) (f : Effect) (had : HasHad site (Some f)) where
 -- where a call's next section is due, its plan is this section's
 pub section_planned : (site : Site) {effect : Option Effect} (had : HasHad site effect) {stage : Stage} → CallStands stage None None None None effect
     → plan site effect had stage ≡ fresh site effect had stage (call_section site.t site.call stage)
-section_planned site had asks = grind (arith, beneath_is)
-section_planned site had given = grind (arith, beneath_is)
+section_planned site had asks = grind arith
+section_planned site had given = grind arith
 
 -- its thread is as the table has it
 pub stands_as : (site : Site) (effect : Option Effect) (had : HasHad site effect) (stage : Stage) → CallStands stage None None None None effect

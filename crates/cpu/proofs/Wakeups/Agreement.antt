@@ -126,20 +126,7 @@ agrees_woken setup c p T P (Some s) agrees empty asleep = by_home (same_cpu (hom
     by_home : (here : Bool) → same_cpu (home_cpu setup s) c ≡ here
         → Agrees setup c (if here then record p { ready = p.ready ++ s ∷ [] } else record p { hand = Some s }) T
         (λ u. if same_tid s u then post_woken setup c u else P u)
-    by_home true here = grind (arith, agrees, sits, held, at_home)
-      where
-        sits : (u : Tid) (mine : Bool) → same_tid s u ≡ mine
-            → one_if (is_thread u p.current) + count_in u (p.ready ++ s ∷ [])
-            ≡ one_if (seat setup c u (if mine then post_woken setup c u else P u) (thread_at p u).ended)
-        sits u true is = grind (arith, and_from, false_from_ne_true, refuted, same_tid_self, count_append, same_tid_true, and_right, and_left)
-        sits u false other = grind (arith, same_tid_sym, count_append)
-
-        held : (u : Tid) (mine : Bool) → same_tid s u ≡ mine → is_thread u p.hand ≡ is_hand c (if mine then post_woken setup c u else P u)
-        held u mine is = grind (arith, same_tid_true)
-
-        at_home : (u : Tid) → is_local setup c u ≡ true → (thread_at p u).ended ≡ true → (mine : Bool) → same_tid s u ≡ mine
-            → is_home (if mine then post_woken setup c u else P u) ≡ true
-        at_home u local ended mine is = grind (arith, same_tid_true, refuted)
+    by_home true here = grind (arith, and_from, false_from_ne_true, refuted, same_tid_self, count_append, same_tid_true, and_right, and_left, same_tid_sym)
     by_home false away = grind (arith, agrees, sits, held, at_home)
       where
         sits : (u : Tid) (mine : Bool) → same_tid s u ≡ mine

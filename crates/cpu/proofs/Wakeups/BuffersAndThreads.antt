@@ -9,7 +9,7 @@ use Rattle.{layer_traits.proofs.CountLemmas.same_cpu_sym, cpu.specs.Table.{Block
 use Rattle.cpu.specs.{Table.{Edits.{edited_buffer, answer_of_buffer}, Setups.{Setup, home_cpu}}, Wakeups.Order.{Progress, progress, progress_by}}
 use Rattle.cpu.{specs.Wakeups.Order.{progress_after, block_of, MayEdit, MayEditBlock, IsInOrder}, proofs.Wakeups.{Lists.refuted, Awake.IsAwake}}
 use Rattle.cpu.proofs.Wakeups.{Ordered.{same_buffer, buffer_awake}, ThreadAtBuffer.{Pair, paired, marked_none, grown_list, buffer_self, buffer_true}}
-use Rattle.cpu.proofs.Wakeups.{ThreadAtBuffer.{woken_sleeps, woken_awake, other_pair, other_joined}, OwnSections.{ByCaller, may_edit, own_pair, stays_apart}}
+use Rattle.cpu.proofs.Wakeups.{ThreadAtBuffer.{woken_sleeps, woken_awake, other_pair, other_joined}, OwnSections.{may_edit, own_pair, stays_apart}}
 use Rattle.cpu.proofs.Wakeups.{OwnSections.post_apart, PostsAndVisits.{is_buffer, sleeps_in, sleeps_at, is_pending, is_moved, caller_in, is_caller, waiters_of}}
 use Rattle.cpu.proofs.Wakeups.PostsAndVisits.{post_woken, post_moved, post_pending, post_buffer, post, next_visit, visit_moved, visit_buffer, visit, IsCallers}
 use Rattle.cpu.proofs.Wakeups.PostsAndVisits.{MayComeBy, MayComeTo, MayComeAt, MayCome, marked}
@@ -180,7 +180,6 @@ module _ (setup : Setup) (past : List (Section Name)) (good : Good setup past) (
 
 -- A section on pending threads.
 
-
 -- the queue of the lock at which the section came, and the queue of another lock
 module _ (setup : Setup) (past : List (Section Name)) (good : Good setup past) (c d : CpuId) where
   pended_list : (s : Tid) → post setup s past ≡ Hand c → home_cpu setup s ≡ d → (u : Tid) (list : List Tid)
@@ -198,12 +197,6 @@ module _ (setup : Setup) (past : List (Section Name)) (good : Good setup past) (
           let there : one_if (same_cpu (home_cpu setup s) d && true) ≡ 1 = ap (λ b. one_if (b && true)) (ap (λ e. same_cpu e d) home ∙ same_cpu_self d) in
           subst (λ v. count_in v (joined s list) ≡ one_if (same_cpu (home_cpu setup v) d && true)) (same_tid_true s u same) (one ∙ counts ∙ sym there)
       by_test false other = other_joined u s list other ∙ good.pending d u list block
-
-  -- what a section leaves of the queue at which it came
-  here_pending : (name : Name) → MayComeTo setup past c d name → (u : Tid) (now : List Tid) (o : Option Block) → block_of setup (Pending d) past ≡ o
-      → option_map (edited name) o ≡ Some (OfPending now)
-      → count_in u now ≡ one_if (same_cpu (home_cpu setup u) d && is_pending (post_pending setup d u name (post setup u past)))
-  here_pending name may u now o block is = grind (arith, pended_list)
 
   -- no section on pending threads touches a buffer
   same_lists : (name : Name) → MayComeTo setup past c d name → (u : Tid) (b : BufId) (list : WaitList)
@@ -227,7 +220,7 @@ module _ (setup : Setup) (past : List (Section Name)) (good : Good setup past) (
           → (if here then option_map (edited name) (block_of setup (Pending e) past) else block_of setup (Pending e) past) ≡ Some (OfPending now)
           → count_in u now ≡ one_if (same_cpu (home_cpu setup u) e && is_pending (post_pending setup d u name (post setup u past)))
       by_test e u now true same is =
-          let at = same_cpu_true e d same in rw at (here_pending name may u now (block_of setup (Pending d) past) refl (rw at at is))
+          let here = same_cpu_true e d same in rw here (grind (arith, rw here at is, pended_list))
       by_test e u now false off is = good.pending e u now is ∙ ap one_if (sym (grind (arith, may, off, same_tid_true, same_cpu_sym, same_cpu_true)))
 
 -- any section that may come

@@ -182,7 +182,8 @@ module _ (setup : Setup) (c : CpuId) (t : Tid) where
         let by_one = steps_more setup c n 3 s ∙ ap (steps_by setup c 3) gets.by
         ∙ three_steps setup c gets.now gets.before q gets.past (left + 3) (wakes (Some u)) gets.stands gets.goes answers in
         let stands_one : Stands setup c one held past (left + 3) =
-        subst (λ x. Stands setup c one x past (left + 3)) same (stands_after setup c gets.now gets.before q gets.past (left + 3) (wakes (Some u)) gets.stands) in
+        subst (λ x. Stands setup c one x past (left + 3)) same
+        (stands_after setup c gets.now gets.before q gets.past (left + 3) (wakes (Some u)) gets.stands) in
         let pends = ap (option_map (answer (Pend u))) (pending_there setup (home_cpu setup u) past).1 in
         let now = new_in q call more traced gets.inside in
         let at : InCall setup c (record h { hand = None }) t more traced =

@@ -1,16 +1,15 @@
 -- One step of a CPU: each section that it ends is one that may come, and every CPU stays in agreement with the log.
-use Rattle.std.proofs.Common.{◌≡◌, Bool, true, false, List, [], ◌∷◌, ◌++◌, length, Option, Some, None, option_map, nat_lt, if◌then◌else◌, refl, sym, ap, ◌∙◌}
-use Rattle.std.proofs.{Common.{subst, arith}, lemmas.Bool.{and_parts, false_from_ne_true}}
+use Rattle.std.proofs.Common.{◌≡◌, true, false, List, [], ◌∷◌, ◌++◌, length, Option, Some, None, option_map, nat_lt, refl, sym, ap, ◌∙◌, subst, arith}
+use Rattle.std.proofs.lemmas.Bool.{and_parts, false_from_ne_true}
 use Rattle.cpu.proofs.Wakeups.{Agreement.{at_other, at_same, Agrees, IsSettled, runs_at_home, runs_within}, Lists.refuted, ThreadAtBuffer.woken_sleeps}
 use Rattle.cpu.proofs.Wakeups.{BuffersAndThreads.{Good, moves_at, CallersAre, callers_are, is_the_caller, sleeps_not_home}, SectionsAgree.IsCalling}
 use Rattle.cpu.proofs.Wakeups.SectionsAgree.{section_caller, agrees_call, agrees_pended, agrees_drained, agrees_yielded, agrees_foreign, drained_hand}
-use Rattle.cpu.proofs.Wakeups.PostsAndVisits.{caller_in, is_caller, post_pending, post_buffer, post, visit_moved, visit, is_local, IsCallers, MayComeBy}
-use Rattle.cpu.{proofs.Wakeups.PostsAndVisits.{MayComeTo, MayComeAt, MayCome}, specs.Table.Blocks.{Block, OfBuffer, OfPending, Name, Pend, TakeAll}}
-use Rattle.cpu.{proofs.ListFacts.ListReads.blocks_keep, specs.Table.Setups.opening}
-use Rattle.cpu.specs.Table.{Edits.{edited, answer, answer_of_buffer}, Setups.{Setup, Call, Private, thread_at, home_cpu, stands_at}, Steps.after_reply}
-use Rattle.cpu.specs.Table.Choice.{Ask, at_pending, at_buffer, section_due, asked_by, asked_at, asked_in, asked, with_state, after_call, after_by, after_at}
-use Rattle.{cpu.specs.{Table.Choice.after_in, Wakeups.Order.block_of}, event_log.specs.declared.ids.{CpuId.CpuId, Tid.Tid, BufId.BufId, LockId.LockId}}
-use Rattle.event_log.specs.{declared.ids.LockId.TheVariants.{Pending, Buffer as AtBuffer}, History.{same_cpu, same_lock}, Sections.Section}
+use Rattle.cpu.proofs.Wakeups.PostsAndVisits.{caller_in, post_pending, post_buffer, post, visit_moved, visit, is_local, IsCallers, MayComeBy, MayComeTo}
+use Rattle.cpu.{proofs.{Wakeups.PostsAndVisits.{MayComeAt, MayCome}, ListFacts.ListReads.blocks_keep}, specs.Table.Blocks.{Block, OfBuffer, OfPending, Name}}
+use Rattle.cpu.specs.Table.{Blocks.{Pend, TakeAll}, Setups.{opening, Setup, Call, Private, thread_at, home_cpu, stands_at}, Edits.{edited, answer}}
+use Rattle.cpu.specs.Table.{Edits.answer_of_buffer, Steps.after_reply, Choice.{Ask, at_pending, at_buffer, section_due, asked_by, asked_at, asked_in, asked}}
+use Rattle.{cpu.specs.{Table.Choice.{after_call, after_by, after_at, after_in}, Wakeups.Order.block_of}, event_log.specs.declared.ids.{CpuId.CpuId, Tid.Tid}}
+use Rattle.event_log.specs.{declared.ids.{BufId.BufId, LockId.{LockId, TheVariants.{Pending, Buffer as AtBuffer}}}, History.same_cpu, Sections.Section}
 use Rattle.{guest.specs.State.after_yield, thread_blocks.proofs.Members.{same_tid_self, same_tid_true}, layer_traits.specs.Threads.Places.{is_home, is_thread}}
 use Rattle.layer_traits.{specs.Threads.Places.count_in, proofs.PlaceLemmas.{is_hand_true, is_home_true}}
 
@@ -37,20 +36,18 @@ module _ (setup : Setup) (past : List (Section Name)) (good : Good setup past) (
   foreign_buffer d name callers =
       agrees_foreign setup c p (λ u. visit setup u past) (λ u. visit setup u (record { cpu = e; lock = AtBuffer d; edit = name } ∷ past))
       (λ u. post setup u past) (λ u. post setup u (record { cpu = e; lock = AtBuffer d; edit = name } ∷ past)) agrees
-      (λ u local. grind (arith, false_from_ne_true, mine u, local))
+      (λ u local. grind (arith, false_from_ne_true, and_parts, is_the_caller, local))
       (λ u local. grind (
         arith,
         false_from_ne_true,
         sleeps_not_home,
-        mine u,
+        and_parts,
+        is_the_caller,
         local,
         moves_at setup past good e d name callers u
             (block_of setup (AtBuffer d) past) refl,
       ))
       (λ u. grind (arith, moves_at setup past good e d name callers u (block_of setup (AtBuffer d) past) refl))
-    where
-      mine : (u : Tid) → is_caller u name ≡ true → same_cpu (home_cpu setup u) e ≡ true
-      mine u own = (and_parts (same_cpu (home_cpu setup u) e) (nat_lt u.0 (length setup.homes)) (callers u (is_the_caller u name own)).local).0
 
   pending_homes : (d : CpuId) (name : Name) → MayComeTo setup past e d name → (u : Tid) → is_local setup c u ≡ true
       → is_home (post_pending setup d u name (post setup u past)) ≡ is_home (post setup u past)
@@ -95,26 +92,20 @@ module _ (setup : Setup) (past : List (Section Name)) (good : Good setup past) (
   give_drain empty idle =
       let there = pending_there setup c past in
       let now = agrees_drained setup c p _ _ agrees settled_before there.0 (λ u. good.pending c u there.0 there.1) good.known in
-      record { may = refl; agrees = rw (there.1, empty, idle) (rw (empty, idle) at now); settled = rw (there.1, empty, idle) (rw (empty, idle) at settled_before) }
+      record {
+        may = refl;
+        agrees = rw (there.1, empty, idle) (rw (empty, idle) at now);
+        settled = rw (there.1, empty, idle) (rw (empty, idle) at settled_before);
+      }
 
   give_yield : p.hand ≡ None → (t : Tid) → p.current ≡ Some t → (thread_at p t).call ≡ None → GiveOk setup past c p (Pending c) TakeAll
   give_yield empty t runs_now outside =
       let there = pending_there setup c past in
-      let list = there.0 in
       let guest = after_yield (stands_at setup p t) (thread_at p t).guest in
-
-      let is = ap (λ o. after_reply setup c p (option_map (answer TakeAll) o)) there.1
-      ∙ ap (λ h. after_in setup c p h (answer TakeAll (OfPending list))) empty
-      ∙ ap (λ h. after_at setup c p h (answer TakeAll (OfPending list))) runs_now
-      ∙ ap (λ h. after_by setup c p t h (answer TakeAll (OfPending list))) outside in
-      let drained_now = agrees_drained setup c p _ _ agrees settled_before list (λ u. good.pending c u list there.1) good.known in
-      let now = agrees_yielded setup c (record p { ready = p.ready ++ list }) _ _ drained_now t runs_now guest in
+      let drained_now = agrees_drained setup c p _ _ agrees settled_before there.0 (λ u. good.pending c u there.0 there.1) good.known in
+      let now = agrees_yielded setup c (record p { ready = p.ready ++ there.0 }) _ _ drained_now t runs_now guest in
       let known = runs_within setup c p _ _ agrees t runs_now in
-      record {
-        may = refl;
-        agrees = subst (λ x. Agrees setup c x (λ u. visit setup u past) (λ u. post_pending setup c u TakeAll (post setup u past))) (sym is) now;
-        settled = grind (arith, is, refuted, same_tid_true, at_same, at_other, known);
-      }
+      grind (arith, there.1, now, refuted, same_tid_true, at_same, at_other, known)
 
   give_call : p.hand ≡ None → (t : Tid) → p.current ≡ Some t → (call : Call) → (thread_at p t).call ≡ Some call
       → GiveOk setup past c p (AtBuffer call.buffer) (section_due t call call.stage)

@@ -1,11 +1,9 @@
 -- One list of actions of which each CPU has done its part by the table: its sections may come where they stand.
-use Rattle.std.proofs.Common.{◌≡◌, ℕ, ◌<◌, ◌≤◌, ◌⊎◌, inl, inr, false, List, [], ◌∷◌, ◌++◌, if◌then◌else◌, refl, sym, ap, ◌∙◌, subst, arith}
-use Rattle.std.proofs.lemmas.Bool.{cases_lt}
-use Rattle.event_log.specs.{declared.ids.CpuId.CpuId, History.{same_cpu, own_events}, Sections.sections_in, Actions.{Action, cpu_of_action}}
-use Rattle.{event_log.proofs.{Same.same_cpu_self, Foreign.lawful_before}, layer_traits.specs.Polling.Along.{starts, others, steps}, cpu.specs.Table.Blocks.Name}
-use Rattle.cpu.{specs.{Table.{Setups.{Setup, Private}, Steps.{cpu_step, AlongTable}}, Wakeups.Lost.{IsWorked, CpusLoseNoWakeUp}}, proofs.Wakeups.Lists.refuted}
-use Rattle.cpu.proofs.Wakeups.{Lists.{same_head, same_tail}, Ordered.order_loses_no_wake_up, ReachedStates.{IsFair, IsFairLog, fair_good, Ok, step_ok}}
-use Rattle.cpu.proofs.Wakeups.{ReachedStates.{ok_beside, ok_at_boot}, Merging.cut}
+use Rattle.std.proofs.{Common.{ℕ, ◌<◌, ◌≤◌, ◌⊎◌, inl, inr, List, [], ◌∷◌, ◌++◌, if◌then◌else◌, refl, sym, ap, ◌∙◌, subst, arith}, lemmas.Bool.cases_lt}
+use Rattle.event_log.{specs.{declared.ids.CpuId.CpuId, History.own_events, Sections.sections_in, Actions.{Action, cpu_of_action}}, proofs.Same.same_cpu_self}
+use Rattle.{event_log.proofs.Foreign.lawful_before, layer_traits.specs.Polling.Along.{starts, others, steps}, cpu.specs.Table.{Blocks.Name, Setups.Setup}}
+use Rattle.cpu.{specs.{Table.{Setups.Private, Steps.{cpu_step, AlongTable}}, Wakeups.Lost.{IsWorked, CpusLoseNoWakeUp}}, proofs.Wakeups.Lists.refuted}
+use Rattle.cpu.proofs.Wakeups.{Ordered.order_loses_no_wake_up, ReachedStates.{IsFair, IsFairLog, fair_good, Ok, step_ok, ok_beside, ok_at_boot}, Merging.cut}
 
 -- along a log whose sections may come a CPU agrees with the log
 pub along_ok : (setup : Setup) (c : CpuId) (n : ℕ) (p : Private) (log : List (Action Name))
@@ -17,7 +15,6 @@ along_ok setup c n p log (steps {n = m} {p = q} {log = past} along goes) =
     λ fair.
     let before = lawful_before (IsFair setup) (cpu_step setup c q past).acts past fair in
     (step_ok setup c past before q (along_ok setup c m q past along before)).ok
-
 
 -- the list without its newest action is worked too
 worked_before : (setup : Setup) (a : Action Name) (past : List (Action Name)) → IsWorked setup (a ∷ past) → IsWorked setup past
@@ -33,14 +30,13 @@ pub worked_fair : (setup : Setup) (log : List (Action Name)) → IsWorked setup 
 worked_fair setup [] worked = tt
 worked_fair setup (a ∷ past) worked = by_cpu (cases_lt (cpu_of_action a).0 setup.cpus) (worked_fair setup past (worked_before setup a past worked))
   where
-
     by_cpu : ((cpu_of_action a).0 < setup.cpus) ⊎ (setup.cpus ≤ (cpu_of_action a).0) → IsFairLog setup past → IsFairLog setup (a ∷ past)
     by_cpu (inl within) fair =
         let ran = worked.ran (cpu_of_action a) within in
         let before = cut setup (cpu_of_action a) ran.count ran.last (a ∷ past) ran.steps a past refl in
         let ok = along_ok setup (cpu_of_action a) before.count before.before past before.along fair in
         elim before.next [
-            inl off ↦ refuted off.0 (same_cpu_self (cpu_of_action a))
+          | inl off ↦ refuted off.0 (same_cpu_self (cpu_of_action a))
           | inr went ↦ subst (λ acts. IsFairLog setup (acts ++ past)) went.1 (step_ok setup (cpu_of_action a) past fair before.before ok).fair
         ]
     by_cpu (inr beyond) fair =

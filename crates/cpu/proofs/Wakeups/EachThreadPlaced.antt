@@ -1,16 +1,15 @@
 -- In every state that a system reaches each live thread has one place.
-use Rattle.std.proofs.Common.{◌≡◌, ℕ, zero, suc, ◌+◌, ◌<◌, Bool, true, false, not, ◌&&◌, ◌==◌, List, ◌++◌, length, slice_get, Some, nat_lt, refl, sym, ap, ◌∙◌}
-use Rattle.std.proofs.{Common.{subst, arith}, lemmas.Bool.{and_from, and_left, and_right, false_from_ne_true, lt-ltb, ltb-true, ne_eqb}}
+use Rattle.std.proofs.Common.{◌≡◌, ℕ, zero, suc, ◌+◌, ◌<◌, Bool, true, false, not, ◌&&◌, ◌==◌, List, length, slice_get, nat_lt, refl, sym, ap, ◌∙◌, subst}
+use Rattle.std.proofs.{Common.arith, lemmas.Bool.{and_from, and_left, and_right, false_from_ne_true, lt-ltb, ltb-true, ne_eqb}}
 use Rattle.event_log.specs.declared.ids.{CpuId.CpuId, Tid.Tid, BufId.BufId, LockId.TheVariants.{Pending, Buffer as AtBuffer}, TheConstants.THREADS}
 use Rattle.{event_log.{specs.{History.same_cpu, Sections.sections_in}, proofs.Same.same_cpu_self}, layer_traits.specs.declared.moves.WaitList.WaitList}
-use Rattle.layer_traits.specs.Threads.{ListsAgree.same_list, Passes.as_list, OnePlace.total, Places.{Where, Home, Hand, IsPending, Asleep, At, is_home}}
-use Rattle.layer_traits.{specs.Threads.Places.{is_hand, is_thread, one_if, count_in}, proofs.CountLemmas.{count_append, count_as_list}}
-use Rattle.{layer_traits.proofs.OnePlaceLemmas.{total_at, total_none}, cpu.specs.Table.{Blocks.{Buffer, OfBuffer}, Setups.{Setup, Private, thread_at}}}
-use Rattle.cpu.specs.{Table.{Setups.home_cpu, Steps.{Whole, cpu_numbered}, Worked.buffer_numbered}, Wakeups.{Order.block_of, Quiet.HomesExist}}
-use Rattle.cpu.specs.Wakeups.OnePlace.{own_queues, queues_in, all_of, threads_on_cpu, of_pending, of_buffer, everyone, thread_in, thread_in_whole, is_live}
-use Rattle.cpu.{specs.Wakeups.OnePlace.StandInOnePlace, proofs.Wakeups.{Lists.refuted, PostsAndVisits.{sleeps_in, is_pending, is_local, post, visit, marked}}}
-use Rattle.cpu.proofs.Wakeups.{ThreadAtBuffer.{sleeps_here, marked_none}, BuffersAndThreads.Good, Placed.{IsListed, IsPlaced, buffer_there}, Agreement.seat}
-use Rattle.cpu.proofs.Wakeups.{CpuStep.pending_there, ReachedStates.fair_good, SystemInv.{SystemInv, reached_inv, cpu_there}}
+use Rattle.layer_traits.specs.Threads.{ListsAgree.same_list, OnePlace.total, Places.{Where, Home, Hand, IsPending, Asleep, At, is_home, is_hand, one_if}}
+use Rattle.layer_traits.{specs.Threads.Places.count_in, proofs.{CountLemmas.{count_append, count_as_list}, OnePlaceLemmas.{total_at, total_none}}}
+use Rattle.cpu.specs.{Table.{Setups.{Setup, home_cpu}, Steps.{Whole, cpu_numbered}, Worked.buffer_numbered}, Wakeups.{Quiet.HomesExist, OnePlace.queues_in}}
+use Rattle.cpu.specs.Wakeups.OnePlace.{all_of, threads_on_cpu, of_pending, of_buffer, everyone, thread_in, thread_in_whole, is_live, StandInOnePlace}
+use Rattle.cpu.proofs.Wakeups.{Lists.refuted, PostsAndVisits.{sleeps_in, is_pending, is_local, post, visit, marked}, ThreadAtBuffer.{sleeps_here, marked_none}}
+use Rattle.cpu.proofs.Wakeups.{BuffersAndThreads.Good, Placed.{IsListed, IsPlaced, buffer_there}, Agreement.seat, CpuStep.pending_there}
+use Rattle.cpu.proofs.Wakeups.{ReachedStates.fair_good, SystemInv.{SystemInv, reached_inv, cpu_there}}
 use Rattle.layer_traits.specs.declared.moves.WaitList.TheVariants as wait_list
 
 -- Sums of the numbers below n.
@@ -30,25 +29,9 @@ module _ (setup : Setup) (s : Whole) (homes : HomesExist setup) (kept : SystemIn
 
   at_cpu : (x : Where) → post setup u (sections_in s.log) ≡ x → (i : ℕ) → i < setup.cpus
       → count_in u (threads_on_cpu s i) ≡ one_if (seat setup (cpu_numbered i) u x (ended_at i)) + one_if (is_hand (cpu_numbered i) x)
-  at_cpu x is i below = by_cpu (cpu_there setup s kept (cpu_numbered i) below)
-    where
-      by_cpu : ((p : Private) × (slice_get s.cpus i ≡ Some p))
-          → count_in u (threads_on_cpu s i) ≡ one_if (seat setup (cpu_numbered i) u x (ended_at i)) + one_if (is_hand (cpu_numbered i) x)
-      by_cpu cpu =
-          let p = cpu.0 in
-          let agrees = (kept.sound.cpus (cpu_numbered i) p cpu.1).agrees in
-          let list : count_in u (threads_on_cpu s i) ≡ count_in u ((as_list p.current ++ p.ready) ++ as_list p.hand) =
-          ap (λ o. count_in u (own_queues o)) cpu.1 in
-          let parts : count_in u ((as_list p.current ++ p.ready) ++ as_list p.hand) ≡ count_in u (as_list p.current ++ p.ready) + count_in u (as_list p.hand) =
-          count_append u (as_list p.current ++ p.ready) (as_list p.hand) in
-          let front : count_in u (as_list p.current ++ p.ready) ≡ count_in u (as_list p.current) + count_in u p.ready =
-          count_append u (as_list p.current) p.ready in
-          let hand : count_in u (as_list p.hand) ≡ one_if (is_hand (cpu_numbered i) x) =
-          count_as_list u p.hand ∙ ap one_if (agrees.hands u) ∙ ap (λ y. one_if (is_hand (cpu_numbered i) y)) is in
-          let seats : one_if (is_thread u p.current) + count_in u p.ready ≡ one_if (seat setup (cpu_numbered i) u x (ended_at i)) =
-          agrees.seats u ∙ ap (λ y. one_if (seat setup (cpu_numbered i) u y (thread_at p u).ended)) is
-          ∙ ap (λ o. one_if (seat setup (cpu_numbered i) u x (thread_in o u).ended)) (sym cpu.1) in
-          omega (arith, list, parts, front, count_as_list u p.current, hand, seats)
+  at_cpu x is i below =
+      let cpu = cpu_there setup s kept (cpu_numbered i) below in
+      grind (arith, count_append, count_as_list, (kept.sound.cpus (cpu_numbered i) cpu.0 cpu.1).agrees, is, cpu.1)
 
   at_pending : (x : Where) → post setup u (sections_in s.log) ≡ x → (i : ℕ)
       → count_in u (of_pending setup s i) ≡ one_if (same_cpu (home_cpu setup u) (cpu_numbered i) && is_pending x)
@@ -61,25 +44,9 @@ module _ (setup : Setup) (s : Whole) (homes : HomesExist setup) (kept : SystemIn
       → count_in u (of_buffer setup s i)
       ≡ marked u (sleeps_in (buffer_numbered i) wait_list.Sleepers x) +
       (marked u (sleeps_in (buffer_numbered i) wait_list.Receivers x) + marked u (sleeps_in (buffer_numbered i) wait_list.Senders x))
-  at_buffer x is i below = by_block (buffer_there setup (buffer_numbered i) (sections_in s.log) below)
-    where
-      by_block : ((k : Buffer) × (block_of setup (AtBuffer (buffer_numbered i)) (sections_in s.log) ≡ Some (OfBuffer k)))
-          → count_in u (of_buffer setup s i)
-          ≡ marked u (sleeps_in (buffer_numbered i) wait_list.Sleepers x) +
-          (marked u (sleeps_in (buffer_numbered i) wait_list.Receivers x) + marked u (sleeps_in (buffer_numbered i) wait_list.Senders x))
-      by_block there =
-          let k = there.0 in
-          let pair = good.pairs (buffer_numbered i) u k there.1 in
-          let list : count_in u (of_buffer setup s i) ≡ count_in u (k.sleepers ++ (k.waiting_receivers ++ k.waiting_senders)) =
-          ap (λ o. count_in u (queues_in o)) there.1 in
-          let waits = count_append u k.waiting_receivers k.waiting_senders in
-          let sleepers : count_in u k.sleepers ≡ marked u (sleeps_in (buffer_numbered i) wait_list.Sleepers x) =
-          pair.sleepers ∙ ap (λ y. marked u (sleeps_in (buffer_numbered i) wait_list.Sleepers y)) is in
-          let receivers : count_in u k.waiting_receivers ≡ marked u (sleeps_in (buffer_numbered i) wait_list.Receivers x) =
-          pair.receivers ∙ ap (λ y. marked u (sleeps_in (buffer_numbered i) wait_list.Receivers y)) is in
-          let senders : count_in u k.waiting_senders ≡ marked u (sleeps_in (buffer_numbered i) wait_list.Senders x) =
-          pair.senders ∙ ap (λ y. marked u (sleeps_in (buffer_numbered i) wait_list.Senders y)) is in
-          omega (arith, list, count_append u k.sleepers (k.waiting_receivers ++ k.waiting_senders), waits, sleepers, receivers, senders)
+  at_buffer x is i below =
+      let there = buffer_there setup (buffer_numbered i) (sections_in s.log) below in
+      grind (arith, count_append, good.pairs (buffer_numbered i) u there.0 there.1, is, there.1)
 
   -- the three sums
   abbrev cpus_sum : ℕ
@@ -100,18 +67,14 @@ module _ (setup : Setup) (s : Whole) (homes : HomesExist setup) (kept : SystemIn
 
   no_buffers : (x : Where) → post setup u (sections_in s.log) ≡ x → ((b : BufId) (list : WaitList) → sleeps_in b list x ≡ false) → buffers_sum ≡ 0
   no_buffers x is awake =
-      total_none _ (length setup.caps) (λ i below.
-      let none = λ (list : WaitList). marked_none u (sleeps_in (buffer_numbered i) list x) (awake (buffer_numbered i) list) in
-      omega (arith, at_buffer x is i below, none wait_list.Sleepers, none wait_list.Receivers, none wait_list.Senders))
+      total_none _ (length setup.caps) (λ i below. grind (arith, at_buffer x is i below, marked_none, awake (buffer_numbered i)))
 
   -- no seat where the thread is not at home
   no_seat : (x : Where) (i : ℕ) → is_home x ≡ false → one_if (seat setup (cpu_numbered i) u x (ended_at i)) ≡ 0
   no_seat x i off = ap one_if (and_right (is_local setup (cpu_numbered i) u) (is_home x && not (ended_at i)) (and_left (is_home x) (not (ended_at i)) off))
 
   no_cpus : (x : Where) → post setup u (sections_in s.log) ≡ x → is_home x ≡ false → ((c : CpuId) → is_hand c x ≡ false) → cpus_sum ≡ 0
-  no_cpus x is away no_hand =
-      total_none _ setup.cpus (λ i below.
-      omega (arith, at_cpu x is i below, no_seat x i away, ap one_if (no_hand (cpu_numbered i))))
+  no_cpus x is away no_hand = total_none _ setup.cpus (λ i below. grind (arith, at_cpu x is i below, no_seat x i away, no_hand (cpu_numbered i)))
 
   -- A number that is no thread's.
 
@@ -123,17 +86,10 @@ module _ (setup : Setup) (s : Whole) (homes : HomesExist setup) (kept : SystemIn
 
       by_post : (x : Where) → post setup u (sections_in s.log) ≡ x → count_in u (everyone setup s) ≡ one_if (is_live setup s u)
       by_post Home is =
-          let cpus : cpus_sum ≡ 0 =
-          total_none _ setup.cpus (λ i below.
-          let seats : one_if (seat setup (cpu_numbered i) u Home (ended_at i)) ≡ 0 =
-          ap one_if (and_left (is_local setup (cpu_numbered i) u) (true && not (ended_at i))
-          (and_right (same_cpu (home_cpu setup u) (cpu_numbered i)) (nat_lt u.0 (length setup.homes)) off)) in
-          omega (arith, at_cpu Home is i below, seats)) in
+          let cpus : cpus_sum ≡ 0 = total_none _ setup.cpus (λ i below. grind (arith, at_cpu Home is i below, and_left, and_right, off)) in
           let live : one_if (is_live setup s u) ≡ 0 = ap one_if (and_left (nat_lt u.0 (length setup.homes)) (not (thread_in_whole setup s u).ended) off) in
           omega (arith, sums, cpus, no_pending Home is refl, no_buffers Home is (λ b list. refl), live)
-      by_post (Hand c) is = away (Hand c) is refl
-      by_post (IsPending q) is = away (IsPending q) is refl
-      by_post (Asleep p) is = away (Asleep p) is refl
+      by_post x is = away x is (grind arith)
 
   -- A thread.
 
@@ -149,16 +105,9 @@ module _ (setup : Setup) (s : Whole) (homes : HomesExist setup) (kept : SystemIn
 
     -- away from home a thread has not ended
     alive : (x : Where) → post setup u (sections_in s.log) ≡ x → is_home x ≡ false → one_if (is_live setup s u) ≡ 1
-    alive x is out = by_cpu (cpu_there setup s kept (home_cpu setup u) home_within)
-      where
-        by_cpu : ((p : Private) × (slice_get s.cpus (home_cpu setup u).0 ≡ Some p)) → one_if (is_live setup s u) ≡ 1
-        by_cpu cpu =
-            let agrees = (kept.sound.cpus (home_cpu setup u) cpu.0 cpu.1).agrees in
-            let local : is_local setup (home_cpu setup u) u ≡ true =
-            and_from (same_cpu (home_cpu setup u) (home_cpu setup u)) (nat_lt u.0 (length setup.homes)) (same_cpu_self (home_cpu setup u)) known in
-            let goes : (thread_at cpu.0 u).ended ≡ false =
-            false_from_ne_true (thread_at cpu.0 u).ended (λ ended. refuted (ap is_home is ∙ out) (agrees.ends u local ended)) in
-            (λ i. one_if (known i && not ((ap (λ o. (thread_in o u).ended) cpu.1 ∙ goes) i)))
+    alive x is out =
+        let cpu = cpu_there setup s kept (home_cpu setup u) home_within in
+        grind (arith, (kept.sound.cpus (home_cpu setup u) cpu.0 cpu.1).agrees.ends u, cpu.1, and_from, same_cpu_self, false_from_ne_true, refuted, known)
 
     by_post : (x : Where) → post setup u (sections_in s.log) ≡ x → count_in u (everyone setup s) ≡ one_if (is_live setup s u)
     by_post Home is =

@@ -1,15 +1,13 @@
 -- The private states alone: a thread that has ended is inside no call, and a call that has not taken effect is what its thread asks next.
-use Rattle.std.proofs.Common.{◌≡◌, ℕ, ◌+◌, ◌<◌, ◌≤◌, ◌==◌, Bool, true, false, List, [], ◌∷◌, length, map, get_or, ◌⊎◌, inl, inr, suc, Option, Some, None}
-use Rattle.std.proofs.{Common.{if◌then◌else◌, refl, sym, subst, arith}, lemmas.{Bool.cases_lt, List.set_past}}
-use Rattle.event_log.specs.{declared.ids.{CpuId.CpuId, Tid.Tid}, Actions.Action, Messages.no_message, Runs.{Group, Sends, Receives, Closes}}
-use Rattle.guest.specs.{declared.instructions.Instruction.{Instruction, TheVariants.{Send, Recv, Close, Yield as YieldLine, Exit}}, State.{State, next_of}}
-use Rattle.{guest.specs.State.message_from, thread_blocks.proofs.Members.same_tid_true, layer_traits.specs.declared.steps.Reason.TheVariants.AllEnded}
-use Rattle.layer_traits.specs.declared.{steps.Reason.TheVariants.TraceFull, call_states.Stage.{Stage, TheVariants.{Idle, Tries, Waits, AcquiresAgain, Signals}}}
-use Rattle.{layer_traits.specs.declared.call_states.Stage.TheVariants.{SignalsOwn, Releases}, cpu.specs.Table.{Blocks.{Name, Answer}, Steps.acting}}
-use Rattle.cpu.specs.Table.Setups.{Setup, Call, Thread, Private, new_thread, thread_at, with_thread, program_of, stands_at, boot_of, home_threads, open_calls}
-use Rattle.cpu.specs.Table.{Setups.have_ended, Choice.{Choice, Halts, Alone, Goes, new_call, with_call, begin_or_halt, at_instruction, at_call, at_ready}}
-use Rattle.cpu.specs.Table.Choice.{at_current, at_hand, choice, with_told, slept_if, woken, settled, after_by, after_at, after_in, after_section}
-use Rattle.cpu.{specs.Wakeups.Quiet.IsNextEffect, proofs.Wakeups.{Lists.refuted, Agreement.{at_same, at_other}, ChosenSteps.OfChoice}}
+use Rattle.std.proofs.Common.{◌≡◌, ℕ, ◌<◌, ◌≤◌, Bool, true, false, List, ◌∷◌, length, map, get_or, ◌⊎◌, inl, inr, suc, Option, Some, None, refl, sym, subst}
+use Rattle.std.proofs.{Common.arith, lemmas.{Bool.cases_lt, List.set_past}}
+use Rattle.event_log.specs.{declared.ids.{CpuId.CpuId, Tid.Tid}, Actions.Action, Runs.{Group, Closes}}
+use Rattle.{guest.specs.{declared.instructions.Instruction.Instruction, State.{State, next_of}}, thread_blocks.proofs.Members.same_tid_true}
+use Rattle.layer_traits.specs.declared.call_states.Stage.{Stage, TheVariants.{Idle, Tries, Waits, AcquiresAgain, Signals, SignalsOwn, Releases}}
+use Rattle.cpu.specs.Table.{Blocks.{Name, Answer}, Steps.acting, Setups.{Setup, Call, Thread, Private, new_thread, thread_at, with_thread, program_of}}
+use Rattle.cpu.specs.Table.{Setups.{stands_at, boot_of}, Choice.{Choice, with_call, begin_or_halt, at_instruction, choice, with_told, slept_if, woken, settled}}
+use Rattle.cpu.{specs.{Table.Choice.{after_by, after_at, after_in, after_section}, Wakeups.Quiet.IsNextEffect}, proofs.Wakeups.Lists.refuted}
+use Rattle.cpu.proofs.Wakeups.{Agreement.{at_same, at_other}, ChosenSteps.OfChoice}
 
 abbrev pub is_before : Stage → Bool
 is_before Signals = false
@@ -108,55 +106,14 @@ module _ (setup : Setup) (c : CpuId) where
     fine_begins : (t : Tid) → p.current ≡ Some t → (call : Call) → call.effect ≡ None
         → IsNextEffect (stands_at setup p t) (thread_at p t).guest call.asks call.buffer call.message → FitsGroup call.asks call.stage
         → FineChoice (begin_or_halt setup c p t call)
-    fine_begins t runs_now call new next fits = by_test ((length p.trace + open_calls p (home_threads setup c)) == setup.trace_room)
-      where
-        by_test : (full : Bool) → FineChoice (if full then Halts TraceFull else Goes (with_call p t (Some call)))
-        by_test true = tt
-        by_test false =
-            fine_set p t (record (thread_at p t) { call = Some call }) fine
-            (record { quits = λ e. refuted (alive t runs_now) e; says = λ before. (new, next, fits) })
+    fine_begins t runs_now call new next fits = grind (arith, fine_set, alive, refuted)
 
     fine_instruction : (t : Tid) → p.current ≡ Some t → (thread_at p t).call ≡ None → (line : Instruction)
         → stands_at setup p t ≡ line → FineChoice (at_instruction setup c p t line)
-    fine_instruction t runs_now outside (Send b from k) at =
-        fine_begins t runs_now (new_call Sends b (message_from (thread_at p t).guest from)) refl
-        (subst (λ line. IsNextEffect line (thread_at p t).guest Sends b (message_from (thread_at p t).guest from)) (sym at) (refl, refl, refl)) tt
-    fine_instruction t runs_now outside (Recv b into k) at =
-        fine_begins t runs_now (new_call Receives b no_message) refl
-        (subst (λ line. IsNextEffect line (thread_at p t).guest Receives b no_message) (sym at) (refl, refl)) tt
-    fine_instruction t runs_now outside (Close b) at =
-        fine_begins t runs_now (new_call Closes b no_message) refl
-        (subst (λ line. IsNextEffect line (thread_at p t).guest Closes b no_message) (sym at) (refl, refl)) tt
-    fine_instruction t runs_now outside YieldLine at = fine
-    fine_instruction t runs_now outside Exit at =
-        fine_set p t (record (thread_at p t) { ended = true }) fine (record {
-          quits = λ e. outside;
-          says = subst (Says (program_of setup t) (thread_at p t).guest) (sym outside) tt;
-        })
-    fine_instruction t runs_now outside line at = grind (arith, fine_set, outside)
+    fine_instruction t runs_now outside line at = grind (arith, fine_begins, fine_set, outside)
 
     pub fine_choice : FineChoice (choice setup c p)
-    fine_choice = by_hand p.hand
-      where
-        by_call : (t : Tid) → p.current ≡ Some t → (call : Option Call) → (thread_at p t).call ≡ call → FineChoice (at_call setup c p t call)
-        by_call t runs_now None outside = fine_instruction t runs_now outside (stands_at setup p t) refl
-        by_call t runs_now (Some call) inside = fine
-
-        by_ready : (list : List Tid) → FineChoice (at_ready p list)
-        by_ready [] = fine
-        by_ready (t ∷ rest) = fine
-
-        by_current : (current : Option Tid) → p.current ≡ current → FineChoice (at_current setup c p current)
-        by_current None idle = by_ready p.ready
-        by_current (Some t) runs_now = by_call t runs_now (thread_at p t).call refl
-
-        by_ended : (all : Bool) → FineChoice (if all then Halts AllEnded else at_current setup c p p.current)
-        by_ended true = tt
-        by_ended false = by_current p.current refl
-
-        by_hand : (hand : Option Tid) → FineChoice (at_hand setup c p hand)
-        by_hand (Some s) = fine
-        by_hand None = by_ended (have_ended p (home_threads setup c))
+    fine_choice = grind (arith, fine_instruction)
 
   pub fine_acting : (p : Private) → AllFine setup p → ((t : Tid) → p.current ≡ Some t → t.0 < length p.threads)
       → (log : List (Action Name)) → AllFine setup (acting setup c p log).next

@@ -195,16 +195,7 @@ Half setup log R n k q = (k < n → R k q) × (n ≤ k → FromWay setup log R k
 gone : (setup : Setup) (log : List (Action Name)) (R : ℕ → Private → Type 0) (n : ℕ) (ps : List Private) (p : Private) (m : Moved setup log ps n p) → R n p
     → (k : ℕ) → ((q : Private) × (slice_get ps k ≡ Some q) × Half setup log R n k q) → (k ≡ n) ⊎ (k ≡ n → ⊥)
     → (q : Private) × (slice_get m.qs k ≡ Some q) × Half setup log R (suc n) k q
-gone setup log R n ps p m is k at (inl same) = (
-  p,
-  subst (λ i. slice_get m.qs i ≡ Some p) (sym same) m.here,
-  ((λ under. subst (λ i. R i p) (sym same) is), (λ over. absurd (omega (arith, over, same)))),
-)
-gone setup log R n ps p m is k at (inr off) = (
-  at.0,
-  m.others k off ∙ at.1,
-  ((λ under. at.2.0 (omega (arith, under, off))), (λ over. at.2.1 (omega (arith, over)))),
-)
+gone setup log R n ps p m is k at x = grind (arith, m, is, at)
 
 halfway : (setup : Setup) (log : List (Action Name)) (R : ℕ → Private → Type 0) → Reached setup log (FromWay setup log R) → (n : ℕ) → n ≤ setup.cpus
     → Reached setup log (Half setup log R n)
@@ -246,11 +237,7 @@ Before setup a past R k r = (mid : Private) × Turn setup a past k r mid × From
 -- a CPU that did not act stands where it stood
 idle : (setup : Setup) (a : Action Name) (past : List (Action Name)) (R : ℕ → Private → Type 0) (k : ℕ) (r : Private) → (k ≡ (cpu_of_action a).0 → ⊥)
     → Before setup a past R k r → FromWay setup (a ∷ past) R k r
-idle setup a past R k r off (mid, inl same, on) = subst (λ q. FromWay setup (a ∷ past) R k q) same.1 on
-idle setup a past R k r off (mid, inr acted, on) = absurd (off (number acted.0))
-  where
-    number : same_cpu (cpu_of_action a) (cpu_numbered k) ≡ true → k ≡ (cpu_of_action a).0
-    number same = grind arith
+idle setup a past R k r off before = grind arith
 
 -- the CPU that acts goes on
 acted : (setup : Setup) (a : Action Name) (past : List (Action Name)) (R : ℕ → Private → Type 0) → (cpu_of_action a).0 < setup.cpus

@@ -1,13 +1,11 @@
 -- Sections in the order of their calls lose no wake-up.
-use Rattle.std.proofs.Common.{◌≡◌, Bool, true, false, List, [], ◌∷◌, length, slice_get, Option, Some, option_map, nat_lt, if◌then◌else◌, refl, sym, ap, subst}
-use Rattle.std.proofs.{Common.arith, lemmas.Bool.{and_from, lt-ltb, or_right}}
+use Rattle.std.proofs.Common.{◌≡◌, Bool, true, false, List, [], ◌∷◌, length, slice_get, Some, option_map, nat_lt, if◌then◌else◌, refl, sym, subst, arith}
+use Rattle.std.proofs.lemmas.Bool.{and_from, lt-ltb, or_right}
 use Rattle.event_log.specs.{declared.{ids.{BufId.BufId, LockId.TheVariants.Buffer as AtBuffer}, entries.Kind.Kind}, Messages.Message, Runs.{Sends, Receives}}
-use Rattle.{event_log.{specs.{Runs.group_of, History.same_lock, Sections.Section}, proofs.Same.same_lock_true}, cpu.specs.Table.Blocks.{Buffer, Block}}
-use Rattle.cpu.specs.{Table.{Blocks.{OfBuffer, Name}, Edits.{edited, front_may_go, is_due, on_side}, Setups.Setup}, Wakeups.Order.{Progress, progress}}
-use Rattle.cpu.specs.Wakeups.{Order.{progress_by, block_of, KeepsOrderAt, IsInOrder}, Lost.{Allows, NoWakeUpIsLost, OrderLosesNoWakeUp}}
-use Rattle.{cpu.proofs.Wakeups.{Lists.refuted, Awake.{Fits, IsAwake, stays_awake, IsCalm}}, layer_traits.specs.declared.locked.Side.Side}
-use Rattle.layer_traits.specs.declared.locked.Side.TheVariants.{Receivers, Senders}
-
+use Rattle.{event_log.{specs.{Runs.group_of, History.same_lock, Sections.Section}, proofs.Same.same_lock_true}, cpu.specs.Table.Blocks.{Buffer, OfBuffer, Name}}
+use Rattle.cpu.specs.{Table.{Edits.{edited, front_may_go, is_due, on_side}, Setups.Setup}, Wakeups.Order.{Progress, progress, progress_by, block_of}}
+use Rattle.cpu.{specs.Wakeups.{Order.{KeepsOrderAt, IsInOrder}, Lost.{Allows, NoWakeUpIsLost, OrderLosesNoWakeUp}}, proofs.Wakeups.{Lists.refuted, Awake.Fits}}
+use Rattle.{cpu.proofs.Wakeups.Awake.{IsAwake, stays_awake, IsCalm}, layer_traits.specs.declared.locked.Side.{Side, TheVariants.{Receivers, Senders}}}
 
 pub same_buffer : (k now : Buffer) → Some (OfBuffer k) ≡ Some (OfBuffer now) → k ≡ now
 same_buffer k now is = cc

@@ -1,5 +1,5 @@
 -- One thread and one buffer: what its own sections leave, and what its sections at another buffer do.
-use Rattle.std.proofs.Common.{◌≡◌, ◌≢◌, ◌≤◌, Bool, true, false, ◌&&◌, List, Option, Some, None, if◌then◌else◌, refl, sym, ap, ◌∙◌, subst, arith}
+use Rattle.std.proofs.Common.{◌≡◌, ◌≢◌, Bool, true, false, ◌&&◌, List, Option, Some, None, if◌then◌else◌, refl, sym, ap, ◌∙◌, subst, arith}
 use Rattle.std.proofs.{lemmas.{Bool.{and_parts, and_from, and_right, false_from_ne_true}, Option.same_Some}, Math.Bool.and-true}
 use Rattle.{event_log.specs.declared.ids.{CpuId.CpuId, Tid.Tid, BufId.BufId, LockId.TheVariants.Buffer as AtBuffer}, thread_blocks.specs.Queues.first}
 use Rattle.{thread_blocks.proofs.Members.same_tid_self, layer_traits.specs.declared.locked.Side.{Side, TheVariants.{Receivers, Senders}}}
@@ -44,13 +44,8 @@ module _ (b : BufId) (u : Tid) where
   own_acquire : (k : Buffer) (g : Progress) (o : Option Tid) (visit : Visit) → k.busy ≡ o
       → (k.busy ≡ None → g ≡ Begins) → IsDue b (AcqQ u) visit → Pair b u k g visit Home
       → Pair b u (acquired u o k) g (acquired_visit b visit) (if (answer_of_acquire o).slept then Asleep (At (AtBuffer b) wait_list.Sleepers) else Home)
-  own_acquire k g None Outside is idle due pair = grind (arith, paired, and_from, buffer_self, marked_none, and_right)
-  own_acquire k g None (Waiting d side) is idle due was = grind (arith, paired, and_from, buffer_self)
-  own_acquire k g (Some owner) Outside is idle due pair =
+  own_acquire k g o visit is idle due pair =
       grind (arith, paired, not_outside, sleeps_here, and_from, buffer_self, grown_list, no_sleepers, marked_none, and_right)
-  own_acquire k g (Some owner) (Waiting d side) is idle due pair =
-      grind (arith, paired, not_outside, sleeps_here, and_from, buffer_self, grown_list, no_sleepers, marked_none, and_right)
-  own_acquire k g o visit is idle due pair = absurd due
 
   -- the pair of a thread that has the lock and goes on, from its places in the two lines
   at_work : (k : Buffer) (g h : Progress) (before progress : Progress) (sends receives : List Tid)
@@ -77,12 +72,8 @@ module _ (b : BufId) (u : Tid) where
       → (sends receives : List Tid) → count_in u sends ≡ marked u (sleeps_in b wait_list.Senders x) → count_in u receives
       ≡ marked u (sleeps_in b wait_list.Receivers x)
       → Pair b u (released (record k { waiting_senders = sends; waiting_receivers = receives })) Begins next x
-  own_release k g visit next x pair outside off in_sends in_receives sends receives now_ws now_wr = paired
-      (λ e. refuted (not_first k.sleepers (no_sleepers k g visit pair)) (ap (is_thread u) e ∙ same_tid_self u)) (λ ins awake. refuted outside ins)
-      (λ on. refuted off on)
-      (first_left u k.sleepers (subst (λ n. n ≤ 1) (sym pair.sleepers) (marked_most u false)) ∙ ap (λ d. if d then 0 else count_in u k.sleepers)
-      (not_first k.sleepers (no_sleepers k g visit pair)) ∙ no_sleepers k g visit pair ∙ sym (marked_none u (sleeps_in b wait_list.Sleepers x) off))
-      now_ws now_wr in_sends in_receives
+  own_release k g visit next x pair outside off in_sends in_receives sends receives now_ws now_wr =
+      grind (arith, paired, refuted, not_first, no_sleepers, same_tid_self, first_left, marked_most, marked_none)
 
   own_wait : (k : Buffer) (g : Progress) (side : Side) → Pair b u k g (In b (WasRefused side)) Home
       → Pair b u (released (waiting u side k)) Begins (Waiting b side) (Asleep (At (AtBuffer b) (list_of side)))

@@ -1,8 +1,8 @@
 -- More of each thread after any section log: a CPU holds threads only if the machine has it, a thread sleeps at buffers of the machine,
 -- and whoever waits stands at its wait.
-use Rattle.std.proofs.Common.{◌≡◌, ℕ, zero, suc, ◌<◌, Bool, true, false, ◌&&◌, List, [], ◌∷◌, length, slice_get, Option, Some, option_map, nat_lt}
+use Rattle.std.proofs.Common.{◌≡◌, ◌<◌, Bool, true, false, ◌&&◌, List, [], ◌∷◌, length, Option, Some, option_map, nat_lt}
 use Rattle.std.proofs.{Common.{if◌then◌else◌, refl, sym, ap, subst, arith}, lemmas.{Bool.and_parts, Option.slice_get_within}}
-use Rattle.event_log.specs.{declared.ids.{CpuId.CpuId, Tid.Tid, BufId.BufId, LockId.{LockId, TheVariants.{Pending, Buffer as AtBuffer}}}, History.same_lock}
+use Rattle.event_log.specs.declared.ids.{CpuId.CpuId, Tid.Tid, BufId.BufId, LockId.{LockId, TheVariants.{Pending, Buffer as AtBuffer}}}
 use Rattle.{event_log.specs.Sections.Section, layer_traits.specs.declared.{locked.Side.TheVariants.{Receivers, Senders}, moves.WaitList.WaitList}}
 use Rattle.{layer_traits.specs.Threads.Places.{Where, Hand, Asleep, At, is_thread}, cpu.specs.Table.{Blocks.{Buffer, Block, OfBuffer, Name}, Edits.edited}}
 use Rattle.cpu.{specs.{Table.{Edits.answer_of_buffer, Setups.{Setup, opening_buffer}}, Wakeups.Order.block_of}, proofs.Wakeups.PostsAndVisits.{Waiting, Visit}}
@@ -76,8 +76,4 @@ placed_none setup = record { posts = λ u. tt; callers = λ u. tt }
 
 module _ (setup : Setup) (past : List (Section Name)) (placed : Placed setup past) (c : CpuId) (within : c.0 < setup.cpus) (name : Name) where
   pub placed_at : (lock : LockId) → MayComeAt setup past c lock name → Placed setup (record { cpu = c; lock = lock; edit = name } ∷ past)
-  placed_at (Pending d) may = record { posts = λ u. posts_pending setup past placed c d name may u; callers = placed.callers }
-  placed_at (AtBuffer d) may = record {
-    posts = λ u. posts_buffer setup past placed c within d name (callers_are setup past c d name may) u (block_of setup (AtBuffer d) past) refl;
-    callers = λ u. callers_buffer setup past placed c within d name (callers_are setup past c d name may) u (block_of setup (AtBuffer d) past);
-  }
+  placed_at lock may = grind (arith, posts_pending, posts_buffer, callers_buffer, callers_are, placed)

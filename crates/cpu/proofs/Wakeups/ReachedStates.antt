@@ -1,18 +1,18 @@
 -- Every state that a system reaches is sound: each section of its log may come where it stands, and each CPU agrees with the log.
-use Rattle.std.proofs.Common.{◌≡◌, ℕ, zero, suc, ◌+◌, ◌<◌, ◌==◌, Bool, true, false, ◌&&◌, List, [], ◌∷◌, ◌++◌, length, map, slice_get, slice_set, get_or}
-use Rattle.std.proofs.{Common.{Option, Some, None, option_map, nat_lt, if◌then◌else◌, refl, sym, ap, ◌∙◌, subst, arith}, lemmas.Bool.{and_right, eq-eqb}}
-use Rattle.std.proofs.{lemmas.{Bool.{ne_eqb, eqb-true, eqb-false, lt-ltb, le-ltb, ltb-true, ltb-false}, List.length-map}, Math.Bool.and-true}
+use Rattle.std.proofs.Common.{◌≡◌, ℕ, zero, suc, ◌+◌, ◌<◌, ◌==◌, Bool, true, false, ◌&&◌, List, [], ◌∷◌, ◌++◌, length, slice_get, slice_set, Option, Some, None}
+use Rattle.std.proofs.{Common.{option_map, nat_lt, if◌then◌else◌, refl, sym, ap, ◌∙◌, subst, arith}, lemmas.Bool.{and_right, eq-eqb, ne_eqb, eqb-true}}
+use Rattle.std.proofs.{lemmas.{Bool.{eqb-false, lt-ltb, le-ltb, ltb-true, ltb-false}, List.length-map}, Math.Bool.and-true}
 use Rattle.event_log.specs.{declared.ids.{CpuId.CpuId, Tid.Tid, LockId.LockId}, History.{same_cpu, IsLawful}, Sections.sections_in, Actions.{Action, Take, Try}}
 use Rattle.event_log.{specs.Actions.{Give, Phase, Rests, Waits, Holds, phase, cpu_of_action, spot_of, gives, action_in}, proofs.Same.same_cpu_true}
 use Rattle.{event_log.proofs.{Exclusion.{phase_own, phase_other}, ListLemmas.set_else}, layer_traits.specs.declared.steps.Step.TheVariants.Stepped}
 use Rattle.layer_traits.specs.{Threads.{Places.{one_if, count_in}, Passes.or_else}, Polling.{Plans.{is_in_section, at_give}, Along.Outcome}}
-use Rattle.cpu.specs.Table.{Blocks.Name, Edits.answer, Setups.{Setup, Private, new_thread, home_threads_from, boot_of}, Choice.{asked, Choice, Halts, Alone}}
-use Rattle.cpu.specs.Table.{Choice.{Goes, choice}, Steps.{after_reply, chosen_step, step_in, cpu_step, Whole, cpu_numbered, boots_from, whole_at_boot}}
-use Rattle.cpu.specs.{Table.Steps.{whole_after, step_at, system_step, IsReached, boots, steps_once}, Wakeups.{Order.block_of, Lost.SystemsKeepOrder}}
-use Rattle.cpu.{specs.Wakeups.Lost.{SystemsLoseNoWakeUp, FreeLocksHaveNoSleepers}, proofs.Wakeups.{Lists.refuted, Ordered.buffer_awake}}
-use Rattle.cpu.proofs.Wakeups.{Ordered.order_loses_no_wake_up, PostsAndVisits.{post, visit, MayComeAt}, BuffersAndThreads.{Good, good_none, good_step}}
-use Rattle.cpu.proofs.Wakeups.{Agreement.{Agrees, IsSettled}, CpuStep.{foreign_step, give_ok}, ChosenSteps.{ChoiceOk, choice_ok, OfChoice}, EndedThreads.all_new}
-use Rattle.cpu.specs.Table.Steps.{acting}
+use Rattle.cpu.specs.Table.{Blocks.Name, Edits.answer, Setups.{Setup, Private, home_threads_from, boot_of}, Choice.{asked, Choice, Halts, Alone, Goes, choice}}
+use Rattle.cpu.specs.Table.Steps.{after_reply, chosen_step, step_in, cpu_step, Whole, cpu_numbered, boots_from, whole_at_boot, whole_after, step_at}
+use Rattle.cpu.specs.{Table.Steps.{system_step, IsReached, boots, steps_once, acting}, Wakeups.{Order.block_of, Lost.{SystemsKeepOrder, SystemsLoseNoWakeUp}}}
+use Rattle.cpu.{specs.Wakeups.Lost.FreeLocksHaveNoSleepers, proofs.Wakeups.{Lists.refuted, Ordered.{buffer_awake, order_loses_no_wake_up}, PostsAndVisits.post}}
+use Rattle.cpu.proofs.Wakeups.{PostsAndVisits.{visit, MayComeAt}, BuffersAndThreads.{Good, good_none, good_step}, Agreement.{Agrees, IsSettled}}
+use Rattle.cpu.proofs.Wakeups.{CpuStep.{foreign_step, give_ok}, ChosenSteps.{ChoiceOk, choice_ok, OfChoice}}
+pub use Rattle.cpu.proofs.Wakeups.EndedThreads.{all_new}
 
 -- Logs of actions.
 
@@ -42,7 +42,6 @@ pub record Ok (setup : Setup) (c : CpuId) (p : Private) (log : List (Action Name
   pub agrees : Agrees setup c p (λ u. visit setup u (sections_in log)) (λ u. post setup u (sections_in log))
   pub settled : IsSettled setup c p
   pub under : (lock : LockId) → lock_in (phase c log) ≡ Some lock → lock ≡ (asked setup c p).lock
-
 
 no_lock : {A : Type 0} {lock : LockId} → None ≡ Some lock → A
 no_lock {A = A} {lock = lock} is = absurd (cc is)
@@ -100,28 +99,12 @@ module _ (setup : Setup) (c : CpuId) (log : List (Action Name)) (fair : IsFairLo
         does = (refl, tt);
       })
 
-  rests_nowhere : {A : Type 0} (now : Phase) (lock : LockId) → is_in_section now ≡ false → lock_in now ≡ Some lock → A
-  rests_nowhere Rests lock off at = no_lock at
-  rests_nowhere other lock off at = absurd (cc off)
-
   pub step_ok : (p : Private) → Ok setup c p log → StepOk setup c log (cpu_step setup c p log)
   step_ok p ok = by_section (is_in_section (phase c log)) refl
     where
-      by_choice : is_in_section (phase c log) ≡ false → (what : Choice)
-          → ChoiceOk setup c (λ u. visit setup u (sections_in log)) (λ u. post setup u (sections_in log)) what
-          → StepOk setup c log (chosen_step setup c p what log)
-      by_choice rests (Halts reason) chosen_ok = record { fair = fair; ok = ok; does = tt }
-      by_choice rests (Alone q) chosen_ok = record {
-        fair = fair;
-        ok = record { agrees = chosen_ok.0; settled = chosen_ok.1; under = λ lock at. rests_nowhere (phase c log) lock rests at };
-        does = tt;
-      }
-      by_choice rests (Goes q) chosen_ok =
-          acted_ok q (record { agrees = chosen_ok.0; settled = chosen_ok.1; under = λ lock at. rests_nowhere (phase c log) lock rests at }) (phase c log) refl
-
       by_section : (inside : Bool) → is_in_section (phase c log) ≡ inside → StepOk setup c log (step_in setup c p log inside)
       by_section true is = acted_ok p ok (phase c log) refl
-      by_section false is = by_choice is (choice setup c p) (choice_ok setup c p _ _ ok.agrees ok.settled)
+      by_section false is = grind (arith, choice_ok setup c p _ _ ok.agrees ok.settled, acted_ok)
 
 -- what a CPU's choice keeps, and its actions keep where its state agrees, its step keeps
 pub step_keeps : (setup : Setup) (c : CpuId) (p : Private) (log : List (Action Name)) (Q : Private → Type 0) → Ok setup c p log → Q p
@@ -159,7 +142,6 @@ all_beside setup c e p log (a ∷ acts) off does fair ok =
 
 -- A CPU at boot.
 
-
 -- the threads from number i on that are at home on c, by count: u is one of them where it is at its place among the homes
 homed_before : (c : CpuId) (homes : List CpuId) (i : ℕ) (u : Tid) → u.0 < i → count_in u (home_threads_from c homes i) ≡ 0
 homed_before c [] i u before = refl
@@ -190,7 +172,6 @@ ok_at_boot setup c = grind (arith, length-map, all_new, homed_at, and-true, refu
 pub record Sound (setup : Setup) (s : Whole) : Type 0 where
   pub fair : IsFairLog setup s.log
   pub cpus : (e : CpuId) (p : Private) → slice_get s.cpus e.0 ≡ Some p → Ok setup e p s.log
-
 
 pub same_private : (p q : Private) → Some p ≡ Some q → p ≡ q
 same_private p q is = cc

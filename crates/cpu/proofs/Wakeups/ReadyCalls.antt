@@ -1,5 +1,5 @@
 -- A call that is ready, on a CPU alone, returns after just so many steps.
-use Rattle.std.proofs.Common.{◌≡◌, ℕ, ◌+◌, ◌<◌, ◌≤◌, Bool, true, false, ◌&&◌, List, [], ◌∷◌, ◌++◌, length, Option, Some, None, is_some, if◌then◌else◌, refl}
+use Rattle.std.proofs.Common.{◌≡◌, ℕ, ◌+◌, ◌<◌, ◌≤◌, Bool, true, false, ◌&&◌, List, [], ◌∷◌, ◌++◌, length, Option, Some, None, if◌then◌else◌, refl}
 use Rattle.std.proofs.{Common.{sym, ap, ◌∙◌, subst, arith, length-append}, lemmas.Bool.{and_from, cases_lt, lt-ltb, or_right}}
 use Rattle.event_log.specs.declared.{ids.{CpuId.CpuId, Tid.Tid, BufId.BufId, LockId.TheVariants.Buffer as AtBuffer, TheConstants.THREADS}, entries.Kind.Kind}
 use Rattle.event_log.specs.declared.entries.{Kind.TheVariants.{Send as SendKind, Recv as RecvKind, Close as CloseKind, SendClosed, RecvClosed}, Entry.Entry}
@@ -32,11 +32,7 @@ module _ (setup : Setup) (room : ℕ) (s : Whole) (c : CpuId) (p : Private) (t :
   known = local_within setup c p (λ u. visit setup u (sections_in s.log)) (λ u. post setup u (sections_in s.log)) agrees t local
 
   empty : p.hand ≡ None
-  empty = by_hand p.hand refl
-    where
-      by_hand : (hand : Option Tid) → p.hand ≡ hand → hand ≡ None
-      by_hand None is = refl
-      by_hand (Some u) is = refuted (ap is_some ready.outside) (reached_filled setup room s reached c p ready.here t (ap is_some is) ready.runs)
+  empty = grind (arith, reached_filled setup room s reached c p ready.here t, refuted)
 
   live : have_ended p (home_threads setup c) ≡ false
   live = grind (arith, empty)

@@ -1,18 +1,18 @@
 -- What a section leaves of the agreement: the caller's CPU moves on, and all others stay in agreement.
 use Rattle.std.proofs.Common.{◌≡◌, ℕ, ◌+◌, ◌<◌, Bool, true, false, ◌&&◌, List, [], ◌∷◌, ◌++◌, length, Option, Some, None, is_some, nat_lt, if◌then◌else◌, refl}
 use Rattle.std.proofs.{Common.{sym, ap, ◌∙◌, subst, arith}, lemmas.Bool.{and_from, and_left, and_right, false_from_ne_true}}
-use Rattle.event_log.specs.{declared.{ids.{CpuId.CpuId, Tid.Tid}, entries.Entry.Entry}, History.same_cpu, Messages.Message, Runs.{Group, Sends, Receives}}
+use Rattle.event_log.specs.{declared.ids.{CpuId.CpuId, Tid.Tid}, History.same_cpu, Messages.Message, Runs.{Group, Sends, Receives}}
 use Rattle.{event_log.specs.Runs.Closes, guest.specs.State.State, thread_blocks.{specs.Queues.same_tid, proofs.Members.{same_tid_self, same_tid_true}}}
 use Rattle.layer_traits.specs.declared.{locked.Side.TheVariants.{Receivers, Senders}, call_states.Stage.{Stage, TheVariants.{Idle, Acquires, Enters, Tries}}}
-use Rattle.layer_traits.specs.{declared.call_states.Stage.TheVariants.{Waits, AcquiresAgain, Signals, SignalsOwn, Releases}, Threads.Places.{Where, IsPending}}
+use Rattle.layer_traits.specs.{declared.call_states.Stage.TheVariants.{Waits, AcquiresAgain, Signals, SignalsOwn, Releases}, Threads.Places.Where}
 use Rattle.layer_traits.{specs.Threads.Places.{is_home, is_hand, is_thread, one_if, count_in}, proofs.CountLemmas.{same_tid_sym, count_append}}
 use Rattle.cpu.specs.Table.{Blocks.{Buffer, Name, Pend, TakeAll, side_of_group, Reported, Done, WasClosed, NotYet, Answer}, Edits.report_of_put}
 use Rattle.cpu.specs.Table.{Edits.{report_of_take, answer_of_buffer, drawn_position}, Setups.{Setup, Call, Thread, Private, thread_at, with_thread, home_cpu}}
 use Rattle.cpu.specs.Table.{Setups.stands_at, Choice.{section_due, first_section, with_call, with_state, goes_to, with_told, recorded_entry, recorded_try}}
-use Rattle.cpu.specs.{Table.Choice.{entry_made, slept_if, woken, returned_at, returned_in, settled, guest_after, after_call}, Wakeups.Order.Begins}
+use Rattle.cpu.specs.{Table.Choice.{slept_if, woken, returned_at, returned_in, settled, guest_after, after_call}, Wakeups.Order.Begins}
 use Rattle.cpu.{specs.Wakeups.Order.{HasEntered, WasRefused, Owes}, proofs.Wakeups.{Lists.refuted, PostsAndVisits.{Visit, Outside, In, is_pending, caller_in}}}
-use Rattle.cpu.proofs.Wakeups.PostsAndVisits.{is_caller, waiters_of, post_slept, post_moved, post_drained, post_pending, next_visit, visit_moved, is_local}
-use Rattle.cpu.proofs.Wakeups.Agreement.{visit_of_stage, visit_of_call, is_last, is_done, seat, Agrees, IsSettled, at_same, at_other, Same, same_with}
+use Rattle.cpu.proofs.Wakeups.PostsAndVisits.{is_caller, post_slept, post_moved, post_drained, post_pending, next_visit, visit_moved, is_local}
+use Rattle.cpu.proofs.Wakeups.Agreement.{visit_of_stage, visit_of_call, is_last, is_done, Agrees, IsSettled, at_same, at_other, Same, same_with}
 use Rattle.cpu.proofs.Wakeups.Agreement.{agrees_same, runs_at_home, local_within, agrees_slept, agrees_woken}
 
 -- A call returns once the hand is empty.
@@ -78,10 +78,6 @@ module _ (p : Private) (t : Tid) (known : t.0 < length p.threads) where
     last = ap (λ y. is_done y.call) (at_same p t (record (thread_at p t) { call = Some call }) known);
   }
 
-  recorded_traced : (q : Private) (next : Visit) (ends : Bool) (trace : List Entry) → Recorded p q t next ends
-      → Recorded p (record q { trace = trace }) t next ends
-  recorded_traced q next ends trace was = grind arith
-
   module _ (c : CpuId) (call : Call) (k : Buffer) where
     at_entry : (asks : Group) → call.asks ≡ asks
         → Recorded p (recorded_entry c p t call asks (answer_of_buffer (first_section t asks) k).told) t
@@ -94,18 +90,13 @@ module _ (p : Private) (t : Tid) (known : t.0 < length p.threads) where
         subst (λ a. Recorded p (with_call p t (Some now)) t (In call.buffer (HasEntered (side_of_group a))) false) is (recorded_call now)
     at_entry Closes is =
         let now : Call = record call { position = k.closes } in
-        recorded_traced _ (In call.buffer (Owes true true)) false (p.trace ++ entry_made c t now k.effects call.message ∷ [])
-        (recorded_call (record now { effect = Some k.effects; stage = Signals }))
+        (grind (arith, recorded_call (record now { effect = Some k.effects; stage = Signals })))
 
     at_done : (op : ℕ) (m : Message) → Recorded p (recorded_try c p t call (Done op m)) t (In call.buffer (Owes true true)) false
-    at_done op m =
-        recorded_traced _ (In call.buffer (Owes true true)) false (p.trace ++ entry_made c t (record call { message = m }) op m ∷ [])
-        (recorded_call (record call { message = m; effect = Some op; stage = Signals }))
+    at_done op m = grind (arith, recorded_call (record call { message = m; effect = Some op; stage = Signals }))
 
     at_closed : (op : ℕ) → Recorded p (recorded_try c p t call (WasClosed op)) t (In call.buffer (Owes true true)) false
-    at_closed op =
-        recorded_traced _ (In call.buffer (Owes true true)) false (p.trace ++ entry_made c t (record call { closed = true }) op call.message ∷ [])
-        (recorded_call (record call { closed = true; effect = Some op; stage = Signals }))
+    at_closed op = grind (arith, recorded_call (record call { closed = true; effect = Some op; stage = Signals }))
 
     at_put : (closed : Bool) (op : ℕ) (m : Message) → Recorded p (recorded_try c p t call (report_of_put closed op m)) t (In call.buffer
         (Owes true true)) false
@@ -206,13 +197,7 @@ module _ (setup : Setup) (c : CpuId) (p : Private) (T : Tid → Visit) (P : Tid 
     runs_recorded = recorded_is.same.current ∙ runs_now
 
     agrees_waiter : Agrees setup c (slept_if a.slept recorded_now) N is_waiter
-    agrees_waiter =
-        agrees_slept setup c recorded_now t N P is_waiter a.slept agrees_recorded runs_recorded
-        (λ u other. ap (λ d. if d then waiters_of call.buffer name else P u) (and_right a.slept (is_caller u name) (others u other)))
-        (λ off. ap (λ d. if d then waiters_of call.buffer name else P t) (and_left a.slept (is_caller t name) off))
-        (λ on.
-        let at = ap (λ d. if d then waiters_of call.buffer name else P t) (and_from a.slept (is_caller t name) on mine) in
-        (ap is_home at, ap (is_hand c) at))
+    agrees_waiter = grind (arith, agrees_slept, agrees_recorded, and_right, others, and_left, and_from, mine, recorded_is)
 
     no_home : (s : Tid) → a.woke ≡ Some s → (is_home (is_waiter s) ≡ false) × (nat_lt s.0 (length setup.homes) ≡ true)
     no_home s woke = grind (arith, call)
@@ -223,15 +208,7 @@ module _ (setup : Setup) (c : CpuId) (p : Private) (T : Tid → Visit) (P : Tid 
         ∙ empty) no_home
 
     done_after : DoneRuns setup c (woken setup c a.woke (slept_if a.slept recorded_now))
-    done_after u local done =
-        by_test (same_tid t u) refl (sym (woken_threads setup c a.woke (slept_if a.slept recorded_now) u ∙ (grind arith)))
-      where
-        by_test : (own : Bool) → same_tid t u ≡ own
-            → (thread_at recorded_now u).call ≡ (thread_at (woken setup c a.woke (slept_if a.slept recorded_now)) u).call
-            → is_thread u (woken setup c a.woke (slept_if a.slept recorded_now)).current ≡ true
-        by_test true same calls = grind (arith, call, recorded_is, same_tid_true, runs_recorded)
-        by_test false other calls =
-            refuted (ap is_some empty) (settled_before u local (ap is_done (sym (recorded_is.same.others u other) ∙ calls) ∙ done)).0
+    done_after u local done = grind (arith, call, recorded_is, same_tid_true, runs_recorded, woken_threads, refuted, settled_before u local, empty)
 
     pub agrees_call : Agrees setup c (after_call setup c p t call a) N now × IsSettled setup c (after_call setup c p t call a)
     agrees_call = agrees_settled setup c (woken setup c a.woke (slept_if a.slept recorded_now)) N now agrees_after done_after
@@ -248,38 +225,15 @@ module _ (setup : Setup) (c : CpuId) (p : Private) (T : Tid → Visit) (P : Tid 
       → Agrees setup c (settled setup (record p { hand = None })) T (λ u. post_pending setup d u (Pend s) (P u))
       × IsSettled setup c (settled setup (record p { hand = None }))
   agrees_pended d s holds =
-      agrees_settled setup c (record p { hand = None }) T (λ u. post_pending setup d u (Pend s) (P u)) emptied (λ u local done. (settled_before u local done).1)
-    where
-      held : is_hand c (P s) ≡ true
-      held = sym (agrees.hands s) ∙ ap (is_thread s) holds ∙ same_tid_self s
-
-      sits : (u : Tid) (mine : Bool) → same_tid s u ≡ mine
-          → one_if (is_thread u p.current) + count_in u p.ready ≡ one_if (seat setup c u (if mine then IsPending d else P u) (thread_at p u).ended)
-      sits u mine is = grind (arith, agrees, same_tid_true, held)
-
-      at_home : (u : Tid) → is_local setup c u ≡ true → (thread_at p u).ended ≡ true → (mine : Bool)
-          → same_tid s u ≡ mine → is_home (if mine then IsPending d else P u) ≡ true
-      at_home u local ended mine is = grind (arith, refuted, same_tid_true, held, agrees)
-
-      emptied : Agrees setup c (record p { hand = None }) T (λ u. post_pending setup d u (Pend s) (P u))
-      emptied = grind (arith, agrees, sits, at_home)
+      agrees_settled setup c (record p { hand = None }) T (λ u. post_pending setup d u (Pend s) (P u))
+      (grind (arith, agrees, same_tid_true, refuted, same_tid_self, holds)) (λ u local done. (settled_before u local done).1)
 
   -- those that were pending are ready
   pub agrees_drained : (list : List Tid) → ((u : Tid) → count_in u list ≡ one_if (same_cpu (home_cpu setup u) c && is_pending (P u)))
       → ((u : Tid) → is_home (P u) ≡ false → nat_lt u.0 (length setup.homes) ≡ true)
       → Agrees setup c (record p { ready = p.ready ++ list }) T (λ u. post_pending setup c u TakeAll (P u))
-  agrees_drained list counts known = grind (arith, agrees, sits, held, at_home)
-    where
-      sits : (u : Tid) (here : Bool) → same_cpu (home_cpu setup u) c ≡ here → (x : Where) → P u ≡ x
-          → one_if (is_thread u p.current) + count_in u (p.ready ++ list)
-          ≡ one_if (seat setup c u (if here then post_drained (P u) else P u) (thread_at p u).ended)
-      sits u here away x at = grind (arith, count_append, agrees, and_right, and_from, false_from_ne_true, refuted)
-
-      held : (u : Tid) (here : Bool) → is_hand c (P u) ≡ is_hand c (if here then post_drained (P u) else P u)
-      held u here = grind (arith, drained_hand)
-
-      at_home : (u : Tid) (here : Bool) → is_home (P u) ≡ true → is_home (if here then post_drained (P u) else P u) ≡ true
-      at_home u here on = grind arith
+  agrees_drained list counts known =
+      grind (arith, agrees, count_append, and_right, and_from, false_from_ne_true, refuted, drained_hand, counts, known)
 
 -- the current thread yields: it stands behind those that are ready, and nobody runs
 pub agrees_yielded : (setup : Setup) (c : CpuId) (p : Private) (T : Tid → Visit) (P : Tid → Where)

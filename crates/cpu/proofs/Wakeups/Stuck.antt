@@ -1,19 +1,19 @@
 -- A quiet state that a system reaches is stuck.
-use Rattle.std.proofs.Common.{◌≡◌, ◌+◌, ◌<◌, true, false, not, ◌&&◌, List, [], ◌∷◌, length, slice_get, Option, Some, None, nat_lt, refl, sym, ap, ◌∙◌, subst}
+use Rattle.std.proofs.Common.{◌≡◌, ◌<◌, true, false, ◌&&◌, List, [], ◌∷◌, length, slice_get, Option, Some, None, nat_lt, refl, sym, ap, ◌∙◌, subst}
 use Rattle.std.proofs.{Common.arith, lemmas.Bool.{and_parts, and_from, false_from_ne_true, lt-ltb, ltb-true}}
 use Rattle.event_log.specs.declared.ids.{CpuId.CpuId, Tid.Tid, BufId.BufId, LockId.TheVariants.{Pending, Buffer as AtBuffer}, TheConstants.THREADS}
 use Rattle.event_log.specs.{declared.entries.Kind.{Kind, TheVariants.{Recv as RecvKind, SendClosed, RecvClosed}}, Messages.{Message, no_message}, Runs.Group}
 use Rattle.event_log.{specs.{Runs.{Sends, Receives, Closes, group_of}, History.same_cpu, Sections.sections_in}, proofs.Same.same_cpu_self}
 use Rattle.{guest.specs.{declared.instructions.Instruction.Instruction, State.State}, thread_blocks.{specs.Queues.first, proofs.Members.same_tid_self}}
-use Rattle.layer_traits.specs.declared.{steps.Reason.Reason, locked.Side.{Side, TheVariants.{Receivers, Senders}}, call_states.Stage.TheVariants.AcquiresAgain}
-use Rattle.layer_traits.specs.Threads.Places.{Where, Home, Hand, IsPending, Asleep, At, is_home, is_hand, is_thread, one_if, count_in}
+use Rattle.layer_traits.specs.declared.{locked.Side.{Side, TheVariants.{Receivers, Senders}}, call_states.Stage.TheVariants.AcquiresAgain}
+use Rattle.layer_traits.specs.Threads.Places.{Where, Home, Hand, IsPending, Asleep, At, is_hand, is_thread, one_if, count_in}
 use Rattle.{layer_traits.proofs.ListsLemmas.counted_in, cpu.specs.Table.{Blocks.{Buffer, OfBuffer, side_of_group}, Edits.{line_on, waiting_of}, Setups.Setup}}
-use Rattle.cpu.specs.{Table.{Setups.{Call, Private, thread_at, home_cpu, stands_at}, Steps.{Whole, block_at, halted_at}}, Wakeups.{Order.progress, Lost.Allows}}
-use Rattle.cpu.specs.Wakeups.Quiet.{HomesExist, IsQuietBy, IsQuietTable, IsNextEffect, IsStuckCall, IsLive, IsStuck, QuietIsStuck}
-use Rattle.cpu.proofs.Wakeups.{Lists.refuted, Ordered.{buffer_awake, calm_loses_nothing}, PostsAndVisits.{Waiting, Visit, Outside, list_of, sleeps_in, is_side}}
-use Rattle.cpu.proofs.Wakeups.{PostsAndVisits.{is_pending, names, goes_on, starts_here, stands, is_lined, is_local, post, visit, marked}, ThreadAtBuffer.Pair}
+use Rattle.cpu.specs.{Table.{Setups.{Call, Private, thread_at, home_cpu, stands_at}, Steps.{Whole, block_at}}, Wakeups.{Order.progress, Lost.Allows}}
+use Rattle.cpu.specs.Wakeups.Quiet.{HomesExist, IsQuietTable, IsNextEffect, IsStuckCall, IsLive, IsStuck, QuietIsStuck}
+use Rattle.cpu.proofs.Wakeups.{Lists.refuted, Ordered.{buffer_awake, calm_loses_nothing}, PostsAndVisits.{Waiting, Outside, list_of, sleeps_in, is_side}}
+use Rattle.cpu.proofs.Wakeups.{PostsAndVisits.{names, goes_on, starts_here, stands, is_lined, is_local, post, visit, marked}, ThreadAtBuffer.Pair}
 use Rattle.cpu.proofs.Wakeups.ThreadAtBuffer.{buffer_self, buffer_true, sleeps_here, marked_some, front_counted, line_count, wait_count}
-use Rattle.cpu.proofs.Wakeups.{BuffersAndThreads.Good, Placed.{IsPlaced, buffer_there}, Agreement.{visit_of_call, seat, Agrees}, EndedThreads.is_before}
+use Rattle.cpu.proofs.Wakeups.{BuffersAndThreads.Good, Placed.{IsPlaced, buffer_there}, Agreement.{visit_of_call, Agrees}, EndedThreads.is_before}
 use Rattle.cpu.proofs.Wakeups.{EndedThreads.{HasLine, FitsGroup, Says}, ReachedStates.fair_good, SystemInv.{SystemInv, reached_inv, cpu_there}}
 use Rattle.layer_traits.specs.declared.moves.WaitList.TheVariants as wait_list
 
@@ -66,38 +66,25 @@ module _ (setup : Setup) (s : Whole) (homes : HomesExist setup) (kept : SystemIn
 
   -- a quiet CPU's hand is empty
   empty : (c : CpuId) (p : Private) → slice_get s.cpus c.0 ≡ Some p → p.hand ≡ None
-  empty c p here = by_reason (halted_at setup c p) refl (quiet.cpus c p here)
-    where
-      by_reason : (r : Option Reason) → halted_at setup c p ≡ r → IsQuietBy setup c p r → p.hand ≡ None
-      by_reason r is at = grind arith
+  empty c p here = grind (arith, quiet.cpus c p here)
 
   -- a live thread sleeps
   asleep : (p : Private) (u : Tid) → IsLive setup s p u → Sleeps (post setup u (sections_in s.log))
   asleep p u live = by_post (post setup u (sections_in s.log)) refl
     where
-      by_reason : post setup u (sections_in s.log) ≡ Home → (r : Option Reason)
-          → IsQuietBy setup (home_cpu setup u) p r → Sleeps (post setup u (sections_in s.log))
-      by_reason at (Some reason) ended = refuted live.alive (ended u refl live.known)
-      by_reason at None idle =
-          let one : one_if (seat setup (home_cpu setup u) u (post setup u (sections_in s.log)) (thread_at p u).ended) ≡ 1 =
-          (λ i. one_if (local u live.known i && (is_home (at i) && not (live.alive i)))) in
-          let none : one_if (is_thread u p.current) + count_in u p.ready ≡ 0 = (λ i. one_if (is_thread u (idle.0 i)) + count_in u (idle.1 i)) in
-          let sits = (agrees (home_cpu setup u) p live.here).seats u in
-          absurd (omega (arith, one, none, sits))
-
       by_post : (x : Where) → post setup u (sections_in s.log) ≡ x → Sleeps (post setup u (sections_in s.log))
       by_post (Asleep (At (AtBuffer b) wait_list.Sleepers)) at = at_lock b at
       by_post (Asleep (At (AtBuffer b) wait_list.Receivers)) at = at_wait b Receivers at
       by_post (Asleep (At (AtBuffer b) wait_list.Senders)) at = at_wait b Senders at
       by_post (Asleep (At (Pending d) list)) at = absurd (subst (IsPlaced setup (visit setup u (sections_in s.log))) at (kept.placed.posts u))
-      by_post Home at = by_reason at (halted_at setup (home_cpu setup u) p) (quiet.cpus (home_cpu setup u) p live.here)
+      by_post Home at =
+          absurd (grind (arith, (agrees (home_cpu setup u) p live.here).seats u, quiet.cpus (home_cpu setup u) p live.here, local u live.known, live, refuted))
       by_post (Hand e) at =
           let cpu = cpu_there setup s kept e (subst (IsPlaced setup (visit setup u (sections_in s.log))) at (kept.placed.posts u)) in
           refuted (ap (is_thread u) (empty e cpu.0 cpu.1)) ((agrees e cpu.0 cpu.1).hands u ∙ ap (is_hand e) at ∙ same_cpu_self e)
       by_post (IsPending q) at =
-          let one : one_if (same_cpu (home_cpu setup u) (home_cpu setup u) && is_pending (post setup u (sections_in s.log))) ≡ 1 =
-          (λ i. one_if (same_cpu_self (home_cpu setup u) i && is_pending (at i))) in
-          absurd (omega (arith, good.pending (home_cpu setup u) u [] (quiet.pending (home_cpu setup u) (homes.1 u live.known)), one))
+          let none = good.pending (home_cpu setup u) u [] (quiet.pending (home_cpu setup u) (homes.1 u live.known)) in
+          absurd (grind (arith, none, same_cpu_self))
 
   -- whoever has a visit at a buffer is live
   live_at : (u : Tid) (b : BufId) → names b (visit setup u (sections_in s.log)) ≡ true → (p : Private) × IsLive setup s p u

@@ -1,15 +1,10 @@
 -- All that is known of every state that a system reaches.
-use Rattle.std.proofs.Common.{◌≡◌, ℕ, zero, suc, ◌+◌, ◌<◌, ◌==◌, Bool, true, false, List, [], ◌∷◌, ◌++◌, length, slice_get, slice_set, Option, Some, None, refl}
-use Rattle.std.proofs.{Common.{sym, ap, ◌∙◌, subst, arith}, lemmas.{Bool.{eqb-true, eqb-false}, List.length-set}}
-use Rattle.event_log.specs.{declared.ids.{CpuId.CpuId, Tid.Tid}, History.same_cpu, Sections.sections_in, Actions.{Action, Take, Try, Give, phase}}
-use Rattle.{event_log.proofs.ListLemmas.set_else, layer_traits.specs.{declared.steps.Step.{Step, TheVariants.{Stepped, Halted}}, Polling.Plans.is_in_section}}
-use Rattle.cpu.specs.Table.{Blocks.Name, Setups.{Setup, Private, thread_at, boot_of}, Choice.{Choice, Halts, Alone, Goes, choice}, Steps.{chosen_step, step_in}}
-use Rattle.cpu.specs.Table.Steps.{cpu_step, Whole, cpu_numbered, boots_from, whole_at_boot, whole_after, roomy, answered_by, step_at, system_step, IsReached}
-use Rattle.cpu.{specs.Table.Steps.{boots, steps_once}, proofs.Wakeups.{PostsAndVisits.{post, visit}, Placed.{Placed, placed_none, placed_at}, Agreement.Agrees}}
-use Rattle.cpu.proofs.ListFacts.ListReads.{there_is}
-use Rattle.cpu.proofs.Wakeups.{Agreement.{runs_at_home, runs_within}, EndedThreads.{AllFine, fine_at_boot}, ReachedStates.step_keeps}
-use Rattle.cpu.proofs.Wakeups.{EndedThreads.{fine_choice, fine_acting}, ReachedStates.{IsFairLog, Ok, StepOk, step_ok, AllDo, Sound, sound_step, reached_sound}}
-use Rattle.cpu.proofs.Wakeups.ReachedStates.{all_set, boots_at}
+use Rattle.std.proofs.{Common.{◌≡◌, ℕ, zero, suc, ◌+◌, ◌<◌, List, [], ◌∷◌, ◌++◌, length, slice_get, Some, refl, sym, ◌∙◌, subst, arith}, lemmas.List.length-set}
+use Rattle.{event_log.specs.{declared.ids.CpuId.CpuId, Sections.sections_in, Actions.Action}, cpu.specs.Table.{Blocks.Name, Setups.{Setup, Private}}}
+use Rattle.cpu.specs.Table.Steps.{cpu_step, Whole, cpu_numbered, boots_from, whole_at_boot, whole_after, system_step, IsReached, boots, steps_once}
+use Rattle.cpu.proofs.Wakeups.{Placed.{Placed, placed_none, placed_at}, Agreement.{runs_at_home, runs_within}, EndedThreads.{AllFine, fine_at_boot}}
+use Rattle.cpu.proofs.Wakeups.{EndedThreads.{fine_choice, fine_acting}, ReachedStates.{step_keeps, IsFairLog, Ok, StepOk, step_ok, AllDo, Sound, sound_step}}
+use Rattle.cpu.proofs.{Wakeups.ReachedStates.{reached_sound, all_set, boots_at}, ListFacts.ListReads.there_is}
 
 -- what a step of a system leaves: the same, or the state after its CPU's step
 pub data NextIs (setup : Setup) (c : CpuId) (s : Whole) : Whole → Type 0 where
@@ -23,11 +18,8 @@ next_is setup c s = grind (arith, same, went)
 pub placed_acts : (setup : Setup) (c : CpuId) → c.0 < setup.cpus → (log acts : List (Action Name)) → AllDo c acts → IsFairLog setup (acts ++ log)
     → Placed setup (sections_in log) → Placed setup (sections_in (acts ++ log))
 placed_acts setup c known log [] does fair placed = placed
-placed_acts setup c known log (Take cpu lock ∷ acts) does fair placed = placed_acts setup c known log acts does.1 fair.1 placed
-placed_acts setup c known log (Try cpu lock hit ∷ acts) does fair placed = placed_acts setup c known log acts does.1 fair.1 placed
-placed_acts setup c known log (Give cpu lock name ∷ acts) does fair placed =
-    placed_at setup (sections_in (acts ++ log)) (placed_acts setup c known log acts does.1 fair.1 placed) cpu
-    (subst (λ d. d.0 < setup.cpus) (sym does.0) known) name lock fair.0
+placed_acts setup c known log (a ∷ acts) does fair placed =
+    let before = placed_acts setup c known log acts does.1 fair.1 placed in grind (arith, placed_at, known)
 
 -- a CPU's step keeps what its threads say
 fine_step : (setup : Setup) (c : CpuId) (p : Private) (log : List (Action Name)) → Ok setup c p log

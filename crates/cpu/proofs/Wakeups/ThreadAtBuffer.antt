@@ -9,7 +9,7 @@ use Rattle.layer_traits.specs.{declared.moves.WaitList.WaitList, Threads.{ListsA
 use Rattle.layer_traits.specs.{Threads.Places.{is_thread, one_if, count_in}, Layers.Sleeping.joined, Blocks.BufferBlocks.may_join}
 use Rattle.layer_traits.proofs.{CountLemmas.{same_tid_sym, count_append, count_front, in_counted, not_counted, count_behind}, ListsLemmas.count_without}
 use Rattle.{layer_traits.proofs.ListsLemmas.{at_wait_channel, wait_channel_here}, cpu.specs.Table.Blocks.{Buffer, Name, AcqQ, Enter, TryPut, TryTake, Shut}}
-use Rattle.cpu.specs.Table.{Blocks.{WaitOn, SigRecv, SigSend, RelQ, front_stands_in}, Edits.{front_may_go, may_try, due_on, without_any, acquired, line_on}}
+use Rattle.cpu.specs.Table.{Blocks.{WaitOn, SigRecv, SigSend, RelQ, front_stands_in}, Edits.{may_try, due_on, without_any, acquired, line_on}}
 use Rattle.cpu.specs.Table.{Edits.{lined_up, put, taken, shut_off, waiting, released, edited_buffer, answer_of_buffer, signal_sent, waiting_of}, Setups.Setup}
 use Rattle.cpu.specs.{Table.Setups.home_cpu, Wakeups.Order.{Progress, Begins, HasEntered, WasRefused, Owes, progress_after, progress_signalled, MayEdit}}
 use Rattle.cpu.proofs.Wakeups.{Lists.{refuted, first_is}, PostsAndVisits.{Visit, is_buffer, sleeps_in, sleeps_at, is_inside, is_starting, is_lined, InStep}}
@@ -116,9 +116,7 @@ module _ (b : BufId) (u : Tid) (k : Buffer) (g : Progress) (visit : Visit) (post
   first_sleeps is = marked_some u (sleeps_in b wait_list.Sleepers post) (subst (λ n. 0 < n) pair.sleepers (front_counted u k.sleepers is))
 
   pub due_waits : (side : Side) → is_thread u (due_on side k) ≡ true → (nat_lt u.0 THREADS ≡ true) × (sleeps_in b (list_of side) post ≡ true)
-  due_waits side is =
-      marked_some u (sleeps_in b (list_of side) post)
-      (subst (λ n. 0 < n) (wait_count b u k g visit post pair side) (woken_waits u (line_on side k) (waiting_of side k) (front_may_go side k) is))
+  due_waits side is = grind (arith, marked_some, woken_waits)
 
   sleeps_so : (list : WaitList) → (nat_lt u.0 THREADS ≡ true) × (sleeps_in b list post ≡ true) → (nat_lt u.0 THREADS ≡ true) × (sleeps_at b post ≡ true)
   sleeps_so list at = grind (arith, and_parts)

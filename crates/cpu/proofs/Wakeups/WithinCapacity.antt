@@ -1,7 +1,6 @@
 -- A buffer never holds more than it may.
-use Rattle.std.proofs.Common.{◌≡◌, ℕ, ◌≤◌, Bool, true, ◌||◌, nat_lt, List, [], ◌∷◌, length, Some, option_map, if◌then◌else◌, arith, length-append}
-use Rattle.std.proofs.lemmas.Bool.{and_parts, ltb-true}
-use Rattle.event_log.specs.{declared.ids.{BufId.BufId, LockId.TheVariants.Buffer as AtBuffer}, History.same_lock, Messages.Message, Sections.Section}
+use Rattle.std.proofs.{Common.{◌≡◌, ℕ, ◌≤◌, Bool, true, ◌||◌, nat_lt, List, length, Some, arith, length-append}, lemmas.Bool.{and_parts, ltb-true}}
+use Rattle.event_log.specs.{declared.ids.{BufId.BufId, LockId.TheVariants.Buffer as AtBuffer}, Messages.Message, Sections.Section}
 use Rattle.{layer_traits.specs.Blocks.BufferBlocks.{items_put, other_items}, cpu.specs.Table.{Blocks.{Buffer, OfBuffer, Name}, Edits.edited, Setups.Setup}}
 use Rattle.cpu.{specs.{Table.Setups.opening, Wakeups.Order.block_of}, proofs.{ListFacts.ListReads.blocks_keep, Wakeups.Ordered.same_buffer}}
 
