@@ -2,7 +2,7 @@
 use Rattle.std.proofs.Common.{◌≡◌, ℕ, refl, ◌∙◌, subst}
 use Rattle.{layer_traits.specs.{Blocks.{Capacities.caps_in, QueueBlocks.homes_in}, declared.call_layers.CallLayer.Ghosts}, cpu.specs.Table.Steps.cpu_step}
 use Rattle.{layer_traits.specs.declared.steps.Step.TheVariants.Stepped, event_log.specs.declared.ids.CpuId.CpuId, cpu.specs.{Cpus.programs_of, Tables.private}}
-use Rattle.cpu.{specs.{declared.cpus.Cpu.Cpu, CpuSteps.RunsAt, Tower.Composed.named}, proofs.CpuSteps.CpuRuns.{AgreesAt, runs_agree}}
+use Rattle.cpu.{specs.{declared.cpus.Cpu.Cpu, CpuSteps.{AgreesAt, RunsAt}, Tower.Composed.named}, proofs.CpuSteps.CpuRuns.runs_agree}
 use Rattle.cpu_workers.{specs.Working.{TookTurns, Working}, proofs.Planning.{step_behind, table_planned}}
 
 module _ {P L M : Type 0} (I : Ghosts P L M) where
