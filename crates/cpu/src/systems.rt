@@ -6,8 +6,7 @@ mod opening;
 mod plans;
 mod quiet;
 
-ghost use Rattle.std.specs.Prelude.{◌≡◌, ◌+◌, ◌<◌, ◌≤◌, ◌↔◌, true, false, All, IfSome, IsOk, OnErr, OnOk, Some, None, [], length, map, slice_index_or};
-ghost use Rattle.std.specs.Prelude.{take};
+ghost use Rattle.std.specs.Prelude.{◌≡◌, ◌+◌, ◌<◌, ◌≤◌, ◌↔◌, true, false, All, IfSome, IsOk, OnErr, OnOk, Some, None, [], length, map, slice_index_or, take};
 ghost use Rattle.layer_traits.specs.{Blocks.{Capacities.caps_in, QueueBlocks.homes_in}, Views.OwnParts.threads_in, Polling.Spins.BeginWith};
 
 use crate::cpus::Cpu;

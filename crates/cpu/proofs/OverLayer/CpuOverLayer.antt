@@ -4,8 +4,8 @@ use Rattle.layer_traits.specs.{Blocks.{Capacities.caps_in, QueueBlocks.homes_in}
 use Rattle.layer_traits.specs.{declared.call_layers.{CallLaw.Ghosts as LawGhosts, CallLayer.Ghosts}, Layers.BufferLaw.MovesGrow, Polling.Framed.Framed}
 use Rattle.layer_traits.specs.{Polling.Plans.is_in_section, Threads.Places.{AreMoves, Stands, home_of}, Views.OwnParts.threads_in}
 use Rattle.{layer_traits.proofs.PlaceLemmas.current_at, event_log.specs.{declared.ids.{CpuId.CpuId, Tid.Tid}, Actions.phase}, cpu.specs.declared.cpus.Cpu.Cpu}
-use Rattle.cpu.{specs.{Cpus.{ActsGrow, GuestsWent, SeenGrows, programs_of}, CpuSteps.{AgreesAt, IsCpuAt, IsTabledAt, Leaves}}, proofs.CpuSteps.PassSteps.current_within}
-use Rattle.cpu.proofs.CpuSteps.{CpuStates.{Outset, TabledCpu, valid_cpu}, StepsBesideGuests.{none_grow, none_moved, none_seen}}
+use Rattle.cpu.specs.{Cpus.{ActsGrow, GuestsWent, SeenGrows, programs_of}, CpuSteps.{AgreesAt, IsCpuAt, IsTabledAt, Leaves}}
+use Rattle.cpu.proofs.CpuSteps.{PassSteps.current_within, CpuStates.{Outset, TabledCpu, valid_cpu}, StepsBesideGuests.{none_grow, none_moved, none_seen}}
 use Rattle.cpu.proofs.StepTable.TableCalls.{hand_known}
 use borrow.Fn.World.{World}
 use denote.RattleType.{RattleType}

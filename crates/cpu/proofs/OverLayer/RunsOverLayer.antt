@@ -3,13 +3,12 @@ use Rattle.std.proofs.{lemmas.{Bool.ne_eqb, List.replicate-append-replicate, Opt
 use Rattle.std.proofs.Common.{◌≤◌, List, [], ◌∷◌, ◌++◌, length, map, replicate, reverse, Some, None, slice_set, refl, ap, sym, ◌∙◌, subst, arith}
 use Rattle.std.specs.Prelude.{slice_get, Option, option_map}
 use Rattle.{event_log.specs.declared.ids.{BufId.BufId, CpuId.CpuId, Tid.Tid}, layer_traits.specs.Threads.OnePlace.cpu_at}
-use Rattle.{layer_traits.specs.declared.{call_layers.CallLayer.Ghosts, steps.Step.TheVariants.Stepped}, cpu.specs.{declared.cpus.Cpu.Cpu, Claims.CpuShown}}
-use Rattle.cpu.specs.{Claims.Shown, CpuSteps.{RunsAt, SteppedAt}, Cpus.{GuestsWent, SeenGrows}, Linear.{CallsGoOn, OrderGrows}, Systems.SteppedByTable}
-use Rattle.cpu.{specs.Systems.reason_of, proofs.WholeSystems.{InvariantOverSteps.Holds, Moments.{MachineLaws, moment, order_grows}}}
-use Rattle.cpu.proofs.{ListFacts.ListReads.{set_again, set_else, set_there, set_twice, shows_at}, StepTable.{ReachedSystems.shown_in, Schedules.Leads}}
-use Rattle.cpu.proofs.{StepTable.Schedules.{leads_alone, leads_live, leads_nowhere}, OverLayer.SystemOverLayer.{by_table, observed_by, plan_preserved, shown_by, went_on}}
-use Rattle.cpu.proofs.OverLayer.{SpinsOverLayer.{spins_keep, spins_lead}, SystemOverLayer.works_by}
-use Rattle.{cpu.specs.Systems.own_reason, layer_traits.specs.Polling.Spins.{Misses, Spun}}
+use Rattle.layer_traits.specs.{declared.{call_layers.CallLayer.Ghosts, steps.Step.TheVariants.Stepped}, Polling.Spins.{Misses, Spun}}
+use Rattle.cpu.specs.{declared.cpus.Cpu.Cpu, Claims.{CpuShown, Shown}, CpuSteps.{RunsAt, SteppedAt}, Cpus.{GuestsWent, SeenGrows}, Linear.CallsGoOn}
+use Rattle.cpu.{specs.{Linear.OrderGrows, Systems.{SteppedByTable, reason_of, own_reason}}, proofs.WholeSystems.{InvariantOverSteps.Holds, Moments.MachineLaws}}
+use Rattle.cpu.proofs.{WholeSystems.Moments.{moment, order_grows}, ListFacts.ListReads.{set_again, set_else, set_there, set_twice, shows_at}}
+use Rattle.cpu.proofs.{StepTable.{ReachedSystems.shown_in, Schedules.{Leads, leads_alone, leads_live, leads_nowhere}}, OverLayer.SystemOverLayer.by_table}
+use Rattle.cpu.proofs.OverLayer.{SystemOverLayer.{observed_by, plan_preserved, shown_by, went_on, works_by}, SpinsOverLayer.{spins_keep, spins_lead}}
 
 module _ {P L M : Type 0} (I : Ghosts P L M) (laws : MachineLaws I) (owner : M → BufId → Option Tid) (threads room k : ℕ) (c : CpuId) (same : k ≡ c.0) where
   -- a system with this machine and these CPUs, after so many steps
@@ -24,8 +23,8 @@ module _ {P L M : Type 0} (I : Ghosts P L M) (laws : MachineLaws I) (owner : M �
 
     keeps_one : Holds (works_by I owner threads) n (slice_set cpus k y) room (taken + 1)
     keeps_one =
-        went_on I owner threads m n cpus room taken k c x y is at same step.leaves live (laws.legal n (I.cpu_of y.part) acts) step.steps step.agrees.fits step.agrees.is
-        step.agrees.table (laws.known n (I.cpu_of y.part) acts)
+        went_on I owner threads m n cpus room taken k c x y is at same step.leaves live (laws.legal n (I.cpu_of y.part) acts) step.steps step.agrees.fits
+        step.agrees.is step.agrees.table (laws.known n (I.cpu_of y.part) acts)
 
     pub by_one : I.IsStepwise → SteppedByTable c (shows m cpus taken) (shows n (slice_set cpus k y) (taken + 1)) Stepped
     by_one = by_table I owner threads m n cpus room taken k c x y is at same step.leaves live (laws.legal n (I.cpu_of y.part) acts) step.steps

@@ -67,8 +67,8 @@ module _ {P L M : Type 0} (I : Ghosts P L M) (laws : MachineLaws I) (owner : M �
             (subst (λ (o : M). Leads I.IsStepwise (shows m taken) [] (shows o taken)) (sym (still none)) (leads_nowhere I.IsStepwise (shows m taken)))
         go (suc more) is_more =
             misses_lead I.IsStepwise c (shows m taken) (shown_by I x)
-            (subst (λ (j : ℕ). slice_get (map (shown_by I) cpus) j ≡ Some (shown_by I x)) same (shows_at (shown_by I) cpus k x at)) (live (omega (arith, is_more))) more
-            (shows n (taken + looks))
+            (subst (λ (j : ℕ). slice_get (map (shown_by I) cpus) j ≡ Some (shown_by I x)) same (shows_at (shown_by I) cpus k x at))
+            (live (omega (arith, is_more))) more (shows n (taken + looks))
             (record { caps = ap caps_in spun.opening; homes = ap homes_in spun.opening; programs = refl; count = refl; limits = refl; room = refl })
             (record {
               cpus = refl;

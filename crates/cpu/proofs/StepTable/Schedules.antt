@@ -1,7 +1,7 @@
 -- Schedules: what the steps of a list of CPUs lead to, one behind the other.
-use Rattle.std.proofs.Common.{◌≡◌, ℕ, zero, suc, ◌+◌, ◌-◌, ◌<◌, ◌≤◌, List, [], ◌∷◌, ◌++◌, length, replicate, take, drop, Option, Some, None, true, is_some, refl, ap}
-use Rattle.std.proofs.{Common.{sym, ◌∙◌, subst, append_assoc, arith}, Math.Seq.take-add, lemmas.List.{append-nil, replicate-append-replicate, take-replicate, take-take, take_rest}}
-use Rattle.std.specs.Prelude.{slice_index_or}
+use Rattle.std.proofs.Common.{◌≡◌, ℕ, zero, suc, ◌+◌, ◌-◌, ◌<◌, ◌≤◌, List, [], ◌∷◌, ◌++◌, length, replicate, take, drop, Option, Some, None, true, is_some}
+use Rattle.std.proofs.{Common.{refl, ap, sym, ◌∙◌, subst, append_assoc, arith}, Math.Seq.take-add, lemmas.List.{append-nil, replicate-append-replicate}}
+use Rattle.std.{proofs.lemmas.List.{take-replicate, take-take, take_rest}, specs.Prelude.slice_index_or}
 use Rattle.{event_log.specs.declared.ids.CpuId.CpuId, layer_traits.specs.declared.steps.{Reason.Reason, Step.{Step, TheVariants.{Halted, Stepped}}}}
 use Rattle.{layer_traits.specs.Polling.Spins.BeginWith, cpu.specs.{Claims.{IsMoment, Shown}, Linear.CallsGoOn, Sound.{IsReachedByTable, RanByTable}}}
 use Rattle.cpu.specs.{Sound.after_steps, Systems.{Ran, SamePlan, SteppedByTable, HaltsByTable, WentOn, goes, halted_in, reason_of, took_none, stayed, took}}

@@ -1,6 +1,7 @@
-use Rattle.{std.proofs.Common.{arith, ap, sym, ◌∙◌, subst, refl}, event_log.specs.declared.ids.CpuId.CpuId, layer_traits.specs.Blocks.Capacities.caps_in}
-use Rattle.{layer_traits.specs.{Blocks.QueueBlocks.homes_in, Polling.Looks.Tries, Layers.BufferLaw.Buffering, Views.OwnParts.threads_in}, cpu.specs.Cpus.chosen}
-use Rattle.cpu.{specs.Cpus.guests_rest, proofs.CpuSteps.{CpuStates.valid_cpu, StepsBesideGuests.{look_grows, others_same, others_grow}, PassSteps.seen_stays}}
+use Rattle.std.proofs.Common.{arith, ap, ◌∙◌, subst, refl}
+use Rattle.{event_log.specs.declared.ids.CpuId.CpuId, layer_traits.specs.{Blocks.{Capacities.caps_in, QueueBlocks.homes_in}, Polling.Looks.Tries}}
+use Rattle.{layer_traits.specs.{Layers.BufferLaw.Buffering, Views.OwnParts.threads_in}, cpu.specs.Cpus.{chosen, guests_rest}}
+use Rattle.cpu.proofs.CpuSteps.{CpuStates.valid_cpu, StepsBesideGuests.{look_grows, others_same, others_grow}, PassSteps.seen_stays}
 use Rattle.cpu.proofs.{OverLayer.CpuOverLayer.{acts_for, laws_of, layered, left_framed}, StepTable.TableCalls.looked_steps}
 use Rattle.cpu.proofs.cpus.Cpu.look.Goals as goal
 

@@ -1,4 +1,4 @@
-use Rattle.std.proofs.Common.{rules, ◌≡◌, ◌+◌, ◌<◌, arith}
+use Rattle.std.proofs.Common.{rules, ◌+◌, arith}
 use Rattle.cpu.{specs.CpuSteps.RunsAt, proofs.{CpuSteps.CpuRuns.{goes_later, runs_agree, runs_on}, OverLayer.CpuOverLayer.{laws_of, layered, runs_within}}}
 use Rattle.cpu.proofs.cpus.Cpu.run.{Given.Over, Goals.{After-go-taken, After-looks-looks}}
 use Rattle.cpu.proofs.cpus.Cpu.run.Goals.{then-looks-eq-MISSED-via-then-looks-eq-MISSED, then-looks-eq-MISSED-via-else-looks-eq-MISSED+then-taken-most}

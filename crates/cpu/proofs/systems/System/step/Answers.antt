@@ -1,7 +1,6 @@
 use Rattle.std.proofs.Common.{rules, ◌≡◌, ℕ, [], ◌∷◌, take, Some, None, ap, refl, sym, ◌∙◌, arith}
 use Rattle.cpu.proofs.{WholeSystems.Moments.calls_stay, StepTable.{Schedules.{TookOne, took_one}, TableHalts.{halted_same, reasons_step}}}
-use Rattle.cpu.specs.Systems.{reason_of}
-use Rattle.cpu.proofs.systems.System.step.{Given.Over, Goals.After-turn}
+use Rattle.cpu.{proofs.systems.System.step.{Given.Over, Goals.After-turn}, specs.Systems.reason_of}
 use Rattle.cpu.proofs.systems.System.step.Goals as goal
 
 pub returns-in-Some-clause-halts : goal.returns-in-Some-clause-halts

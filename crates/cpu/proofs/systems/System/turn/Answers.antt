@@ -1,7 +1,7 @@
-use Rattle.std.{proofs.Common.{rules, ◌≡◌, ◌+◌, ◌<◌, ◌≤◌, ℕ, Option, is_some, length, replicate, take, ap, sym, ◌∙◌, subst, arith}, specs.Prelude.{Some, None, List}}
+use Rattle.std.proofs.Common.{rules, ◌≡◌, ℕ, ◌+◌, ◌<◌, ◌≤◌, List, length, replicate, take, Option, Some, None, is_some, ap, sym, ◌∙◌, subst, arith}
 use Rattle.std.{proofs.lemmas.Option.slice_get_within, specs.Prelude.{slice_get, slice_index_or}}
-use Rattle.{event_log.specs.declared.ids.CpuId.CpuId, layer_traits.specs.declared.steps.Reason.Reason, cpu.specs.{Claims.CpuShown, Systems.{own_reason_in, reason_of, reason_or}}}
-use Rattle.cpu.{specs.CpuSteps.AgreesAt, proofs.CpuSteps.CpuRuns.{runs_agree, runs_room}}
+use Rattle.{event_log.specs.declared.ids.CpuId.CpuId, layer_traits.specs.declared.steps.Reason.Reason, cpu.specs.{Claims.CpuShown, CpuSteps.AgreesAt}}
+use Rattle.cpu.{specs.Systems.{own_reason_in, reason_of, reason_or}, proofs.CpuSteps.CpuRuns.{runs_agree, runs_room}}
 use Rattle.cpu.proofs.{StepTable.Schedules.{Leads, leads_resting, turn_begun}, ListFacts.ListReads.{read_at, shows_at}, WholeSystems.Moments.MachineLaws}
 use Rattle.cpu.proofs.OverLayer.{RunsOverLayer.{WentSo, spun_so, went_so}, SystemOverLayer.shown_by}
 use Rattle.cpu.proofs.systems.System.turn.{Given.Over, Goals.{After-index_mut-at, After-spin-looks, Then-is_some}}
