@@ -1,5 +1,5 @@
 -- One CPU over a layer of message calls and its machine: what always holds of it, and what each of its steps leaves.
-use Rattle.std.specs.Prelude.{◌≡◌, ◌≢◌, ℕ, ◌+◌, ◌≤◌, length, Option, None, vec_capacity}
+use Rattle.std.specs.Prelude.{◌≡◌, ◌≢◌, ℕ, ◌+◌, ◌<◌, ◌≤◌, length, Option, None, vec_capacity}
 use Rattle.layer_traits.specs.{Blocks.{Capacities.caps_in, QueueBlocks.homes_in}, declared.{call_layers.CallLayer.Ghosts, steps.{Reason.Reason, Step.Step}}}
 use Rattle.layer_traits.specs.{declared.steps.Step.TheVariants.Stepped, Layers.BufferLaw.MovesGrow, Views.OwnParts.threads_in}
 use Rattle.{event_log.specs.declared.ids.CpuId.CpuId, cpu.specs.{declared.cpus.Cpu.Cpu, Cpus.{ActsGrow, GuestsWent, IsCpu, SeenGrows, cpu_halted_at}}}
@@ -41,16 +41,34 @@ pub record Leaves {P L M : Type 0} (I : Ghosts P L M) (m : M) (p : Cpu P M) (n :
   pub others : (part : P) → I.cpu_of part ≢ p.number → I.Fits part m → I.Fits part n
   pub holders : (c : CpuId) → c ≢ p.number → I.ActsFor m c → I.MayHold n c → I.MayHold m c
 
--- the CPU and its machine, which agreed, took one step: they agree again, and what always holds of the CPU does so
+-- the CPU and its machine agree: its part fits the machine and is of its number, and what always holds of the CPU does so
+pub record AgreesAt {P L M : Type 0} (I : Ghosts P L M) (m : M) (p : Cpu P M) : Type 0 where
+  pub fits : I.Fits p.part m
+  pub number : I.cpu_of p.part ≡ p.number
+  pub is : IsCpuAt I m p
+  pub table : I.IsStepwise → IsTabledAt I m p
+
+-- they agree, the machine has room for so many events, one at least, and the CPU takes a step
+pub record GoesAt {P L M : Type 0} (I : Ghosts P L M) (m : M) (p : Cpu P M) (most : ℕ) : Type 0 where
+  pub agrees : AgreesAt I m p
+  pub some : 0 < most
+  pub room : most ≤ I.room m
+  pub live : stops_at I p ≡ None
+
+-- the CPU and its machine, which agreed, took one step, and agree again
 pub record SteppedAt {P L M : Type 0} (I : Ghosts P L M) (m : M) (p : Cpu P M) (n : M) (q : Cpu P M) : Type 0 where
   pub live : stops_at I p ≡ None
-  pub fits : I.Fits q.part n
-  pub is : IsCpuAt I n q
+  pub agrees : AgreesAt I n q
   pub leaves : Leaves I m p n q
-  pub table : I.IsStepwise → IsTabledAt I n q
   pub steps : I.IsStepwise → WentAt I m p n q Stepped
 
 -- they took so many steps, one behind the other
 pub data RunsAt {P L M : Type 0} (I : Ghosts P L M) (m : M) (p : Cpu P M) : (steps : ℕ) → M → Cpu P M → Type 0 where
   none : RunsAt I m p 0 m p
   more : {k : ℕ} {n o : M} {q r : Cpu P M} → RunsAt I m p k n q → SteppedAt I n q o r → RunsAt I m p (k + 1) o r
+
+-- and that is one step at least, and at most so many
+pub record RanWithin {P L M : Type 0} (I : Ghosts P L M) (m : M) (p : Cpu P M) (most steps : ℕ) (n : M) (q : Cpu P M) : Type 0 where
+  pub some : 0 < steps
+  pub few : steps ≤ most
+  pub ran : RunsAt I m p steps n q

@@ -9,6 +9,9 @@ use crate::guests::{Guest, Todo};
 use event_log::{BufId, CpuId, Entry, Tid};
 use layer_traits::{Call, CallLayer, Effect, Ghost, IpcLaw, Pass, Reason, Step};
 
+/// So many looks in a row tell that the first of them has missed.
+const MISSED: usize = 2;
+
 /// What a CPU does next that is not halted.
 #[derive(Drop)]
 pub enum Choice {
@@ -22,6 +25,9 @@ pub enum Choice {
 
 /// One CPU: its part of the layer of message calls, and what it keeps for itself. All its room is
 /// taken when it is made.
+///
+/// It agrees with a machine (`AgreesAt`) if its part does and is the one of its number, its threads, guests
+/// and trace agree with what was done there and, if each poll is one action, it stands as the step table says.
 #[derive(Drop)]
 pub struct Cpu<I: CallLayer<IpcLaw>> {
     /// Its part of the layer.
@@ -39,7 +45,8 @@ pub struct Cpu<I: CallLayer<IpcLaw>> {
 impl<I: CallLayer<IpcLaw>> Cpu<I> {
     ghost use Rattle.layer_traits.specs.declared.{steps.{Reason.Reason, Step.TheVariants.{Halted, Stepped}}, passes.Pass.TheVariants.Drain};
     ghost use Rattle.cpu.specs.{declared.cpus.Choice.TheVariants.{Polls, Passes, Computes}, CpuSteps.{IsCpuAt, IsTabledAt, Leaves, RunsAt, WentAt, stops_at}};
-    ghost use Rattle.cpu.specs.{CpuSteps.SteppedAt, Cpus.{chosen, cpu_halted_at, step_answer}};
+    ghost use Rattle.cpu.specs.{CpuSteps.{AgreesAt, GoesAt, RanWithin, SteppedAt}, Cpus.{chosen, cpu_halted_at, step_answer}};
+    ghost use Rattle.layer_traits.specs.Polling.Spins.{BeginWith, Misses, Spun};
 
     /// What the CPU does next, where it is not halted.
     #[inline(always)]
@@ -115,23 +122,15 @@ impl<I: CallLayer<IpcLaw>> Cpu<I> {
     /// up to `most` steps of it, at most until it ends, has its effect, or leaves the thread not
     /// running. Returns how many it took.
     ///
-    /// Requires: as `go`. The thread runs and its guest stands at that call. If the call is about to
+    /// Requires: as `run`. The thread runs and its guest stands at that call. If the call is about to
     /// begin, the trace has room for its entry.
     #[inline(always)]
     fn call(&mut self, m: &mut I::Machine, thread: Tid, asked: Ghost<Call>, most: usize) -> usize
-        requires fits { I.Fits self.old.part m.old }
-        requires some { 0 < most }
-        requires room { most ≤ I.room m.old }
-        requires number { I.cpu_of self.old.part ≡ self.old.number }
-        requires is { IsCpuAt ⟦<I as CallLayer<IpcLaw>>⟧ m.old self.old }
-        requires live { stops_at ⟦<I as CallLayer<IpcLaw>>⟧ self.old ≡ None }
+        requires goes { GoesAt ⟦<I as CallLayer<IpcLaw>>⟧ m.old self.old most }
         requires chosen { chosen (threads_in (I.own self.old.part)) self.old.guests.items ≡ Polls thread asked }
         requires not_full { begins_at (guest_at self.old.guests.items thread.0) ≡ true
             → length self.old.trace.items + begun_count self.old.guests.items < self.old.limit }
-        requires table { I.IsStepwise → IsTabledAt ⟦<I as CallLayer<IpcLaw>>⟧ m.old self.old }
-        ensures some { 0 < result }
-        ensures few { result ≤ most }
-        ensures ran { RunsAt ⟦<I as CallLayer<IpcLaw>>⟧ m.old self.old result m.new self.new }
+        ensures { RanWithin ⟦<I as CallLayer<IpcLaw>>⟧ m.old self.old most result m.new self.new }
     {
         let call = self.guests.call_of(thread, asked);
         let buffer = call.buffer();
@@ -145,18 +144,9 @@ impl<I: CallLayer<IpcLaw>> Cpu<I> {
     /// Polls this pass from thread to thread.
     #[inline(always)]
     fn pass(&mut self, m: &mut I::Machine, pass: Pass)
-        requires fits { I.Fits self.old.part m.old }
-        requires room { 0 < I.room m.old }
-        requires number { I.cpu_of self.old.part ≡ self.old.number }
-        requires is { IsCpuAt ⟦<I as CallLayer<IpcLaw>>⟧ m.old self.old }
-        requires live { stops_at ⟦<I as CallLayer<IpcLaw>>⟧ self.old ≡ None }
+        requires goes { GoesAt ⟦<I as CallLayer<IpcLaw>>⟧ m.old self.old 1 }
         requires chosen { chosen (threads_in (I.own self.old.part)) self.old.guests.items ≡ Passes pass }
-        requires table { I.IsStepwise → IsTabledAt ⟦<I as CallLayer<IpcLaw>>⟧ m.old self.old }
-        ensures fits { I.Fits self.new.part m.new }
-        ensures is { IsCpuAt ⟦<I as CallLayer<IpcLaw>>⟧ m.new self.new }
-        ensures leaves { Leaves ⟦<I as CallLayer<IpcLaw>>⟧ m.old self.old m.new self.new }
-        ensures table { I.IsStepwise → IsTabledAt ⟦<I as CallLayer<IpcLaw>>⟧ m.new self.new }
-        ensures steps { I.IsStepwise → WentAt ⟦<I as CallLayer<IpcLaw>>⟧ m.old self.old m.new self.new Stepped }
+        ensures { SteppedAt ⟦<I as CallLayer<IpcLaw>>⟧ m.old self.old m.new self.new }
     {
         let runs = self.part.current();
         let done = self.part.pass(m, pass);
@@ -168,13 +158,8 @@ impl<I: CallLayer<IpcLaw>> Cpu<I> {
     /// Polls a pass that is no drain. It stands out of line, since most steps are calls' and drains'.
     #[inline(never)]
     fn passes(&mut self, m: &mut I::Machine, pass: Pass)
-        requires fits { I.Fits self.old.part m.old }
-        requires room { 0 < I.room m.old }
-        requires number { I.cpu_of self.old.part ≡ self.old.number }
-        requires is { IsCpuAt ⟦<I as CallLayer<IpcLaw>>⟧ m.old self.old }
-        requires live { stops_at ⟦<I as CallLayer<IpcLaw>>⟧ self.old ≡ None }
+        requires goes { GoesAt ⟦<I as CallLayer<IpcLaw>>⟧ m.old self.old 1 }
         requires chosen { chosen (threads_in (I.own self.old.part)) self.old.guests.items ≡ Passes pass }
-        requires table { I.IsStepwise → IsTabledAt ⟦<I as CallLayer<IpcLaw>>⟧ m.old self.old }
         ensures { SteppedAt ⟦<I as CallLayer<IpcLaw>>⟧ m.old self.old m.new self.new }
     {
         self.pass(m, pass);
@@ -200,57 +185,34 @@ impl<I: CallLayer<IpcLaw>> Cpu<I> {
     /// run: up to `most` steps, looks at locks among them, until a look has missed. Returns how many it
     /// took. It stands out of line, with one kind of pass, so that an idle CPU's steps are cheap.
     ///
-    /// Requires: as `go`. The CPU has chosen a drain.
+    /// Requires: as `run`. The CPU has chosen a drain.
     #[inline(never)]
     fn drains(&mut self, m: &mut I::Machine, most: usize) -> usize
-        requires fits { I.Fits self.old.part m.old }
-        requires some { 0 < most }
-        requires room { most ≤ I.room m.old }
-        requires number { I.cpu_of self.old.part ≡ self.old.number }
-        requires is { IsCpuAt ⟦<I as CallLayer<IpcLaw>>⟧ m.old self.old }
-        requires live { stops_at ⟦<I as CallLayer<IpcLaw>>⟧ self.old ≡ None }
+        requires goes { GoesAt ⟦<I as CallLayer<IpcLaw>>⟧ m.old self.old most }
         requires chosen { chosen (threads_in (I.own self.old.part)) self.old.guests.items ≡ Passes Drain }
-        requires table { I.IsStepwise → IsTabledAt ⟦<I as CallLayer<IpcLaw>>⟧ m.old self.old }
-        ensures some { 0 < result }
-        ensures few { result ≤ most }
-        ensures ran { RunsAt ⟦<I as CallLayer<IpcLaw>>⟧ m.old self.old result m.new self.new }
+        ensures { RanWithin ⟦<I as CallLayer<IpcLaw>>⟧ m.old self.old most result m.new self.new }
     {
         let mut taken = 0;
-        let mut looked = false;
         loop {
-            if self.look(m) {
-                taken += 1;
-                // Of two looks in a row the first has missed.
-                if looked || taken == most {
-                    return taken;
-                }
-                looked = true;
-                continue;
-            }
             self.pass(m, Pass::Drain);
             taken += 1;
             if taken == most || !self.goes_on_draining() {
                 return taken;
             }
-            looked = false;
+            let looks = self.looks(m, most - taken);
+            taken += looks;
+            if looks == MISSED || taken == most {
+                return taken;
+            }
         }
     }
 
     /// Lets this thread, which runs, do an instruction of its own.
     #[inline(always)]
     fn compute(&mut self, m: &mut I::Machine, thread: Tid)
-        requires fits { I.Fits self.old.part m.old }
-        requires room { 0 < I.room m.old }
-        requires number { I.cpu_of self.old.part ≡ self.old.number }
-        requires is { IsCpuAt ⟦<I as CallLayer<IpcLaw>>⟧ m.old self.old }
-        requires live { stops_at ⟦<I as CallLayer<IpcLaw>>⟧ self.old ≡ None }
+        requires goes { GoesAt ⟦<I as CallLayer<IpcLaw>>⟧ m.old self.old 1 }
         requires chosen { chosen (threads_in (I.own self.old.part)) self.old.guests.items ≡ Computes thread }
-        requires table { I.IsStepwise → IsTabledAt ⟦<I as CallLayer<IpcLaw>>⟧ m.old self.old }
-        ensures fits { I.Fits self.new.part m.new }
-        ensures is { IsCpuAt ⟦<I as CallLayer<IpcLaw>>⟧ m.new self.new }
-        ensures leaves { Leaves ⟦<I as CallLayer<IpcLaw>>⟧ m.old self.old m.new self.new }
-        ensures table { I.IsStepwise → IsTabledAt ⟦<I as CallLayer<IpcLaw>>⟧ m.new self.new }
-        ensures steps { I.IsStepwise → WentAt ⟦<I as CallLayer<IpcLaw>>⟧ m.old self.old m.new self.new Stepped }
+        ensures { SteppedAt ⟦<I as CallLayer<IpcLaw>>⟧ m.old self.old m.new self.new }
     {
         self.guests.note_compute(thread);
         let _ = m;
@@ -260,22 +222,11 @@ impl<I: CallLayer<IpcLaw>> Cpu<I> {
     /// action or one atomic action. Where it stands at a message call these are up to `most` steps of
     /// it, where it is to drain those of its drains, and else the step is one. Returns how many it took.
     ///
-    /// Requires: the part and the machine agree. The machine has room for as many events as `most`
-    /// tells, which is not 0. The part is the one of the CPU's number. The CPU's threads, guests and
-    /// trace agree with what was done in the machine. If each poll is one action, the CPU also stands as
-    /// the step table says. The CPU is not halted.
+    /// Requires: as `run`.
     #[inline(always)]
-    pub(crate) fn go(&mut self, m: &mut I::Machine, most: usize) -> usize
-        requires fits { I.Fits self.old.part m.old }
-        requires some { 0 < most }
-        requires room { most ≤ I.room m.old }
-        requires number { I.cpu_of self.old.part ≡ self.old.number }
-        requires is { IsCpuAt ⟦<I as CallLayer<IpcLaw>>⟧ m.old self.old }
-        requires live { stops_at ⟦<I as CallLayer<IpcLaw>>⟧ self.old ≡ None }
-        requires table { I.IsStepwise → IsTabledAt ⟦<I as CallLayer<IpcLaw>>⟧ m.old self.old }
-        ensures some { 0 < result }
-        ensures few { result ≤ most }
-        ensures ran { RunsAt ⟦<I as CallLayer<IpcLaw>>⟧ m.old self.old result m.new self.new }
+    fn go(&mut self, m: &mut I::Machine, most: usize) -> usize
+        requires { GoesAt ⟦<I as CallLayer<IpcLaw>>⟧ m.old self.old most }
+        ensures { RanWithin ⟦<I as CallLayer<IpcLaw>>⟧ m.old self.old most result m.new self.new }
     {
         match self.choice() {
             Choice::Polls(thread, asked) => self.call(m, thread, asked, most),
@@ -294,37 +245,24 @@ impl<I: CallLayer<IpcLaw>> Cpu<I> {
     /// The steps of a CPU that is not halted, one behind the other, looks at locks among them: up to `most`,
     /// until the CPU is halted or a look has missed. Returns how many it took.
     ///
-    /// Requires: as `go`.
+    /// Requires: CPU and machine agree. The machine has room for as many events as `most` tells, which is
+    /// not 0. The CPU is not halted.
     #[inline(always)]
-    pub fn go_on(&mut self, m: &mut I::Machine, most: usize) -> usize
-        requires fits { I.Fits self.old.part m.old }
-        requires some { 0 < most }
-        requires room { most ≤ I.room m.old }
-        requires number { I.cpu_of self.old.part ≡ self.old.number }
-        requires is { IsCpuAt ⟦<I as CallLayer<IpcLaw>>⟧ m.old self.old }
-        requires live { stops_at ⟦<I as CallLayer<IpcLaw>>⟧ self.old ≡ None }
-        requires table { I.IsStepwise → IsTabledAt ⟦<I as CallLayer<IpcLaw>>⟧ m.old self.old }
-        ensures some { 0 < result }
-        ensures few { result ≤ most }
-        ensures ran { RunsAt ⟦<I as CallLayer<IpcLaw>>⟧ m.old self.old result m.new self.new }
+    pub fn run(&mut self, m: &mut I::Machine, most: usize) -> usize
+        requires { GoesAt ⟦<I as CallLayer<IpcLaw>>⟧ m.old self.old most }
+        ensures { RanWithin ⟦<I as CallLayer<IpcLaw>>⟧ m.old self.old most result m.new self.new }
     {
         let mut taken = 0;
-        let mut looked = false;
         loop {
-            if self.look(m) {
-                taken += 1;
-                // Of two looks in a row the first has missed.
-                if looked || taken == most {
-                    return taken;
-                }
-                looked = true;
-                continue;
+            let looks = self.looks(m, most - taken);
+            taken += looks;
+            if looks == MISSED || taken == most {
+                return taken;
             }
             taken += self.go(m, most - taken);
             if taken == most || self.reason().is_some() {
                 return taken;
             }
-            looked = false;
         }
     }
 
@@ -333,16 +271,11 @@ impl<I: CallLayer<IpcLaw>> Cpu<I> {
     /// thread of the CPU has ended, `TraceFull` where its thread is about to begin a call that its
     /// trace has no room for.
     ///
-    /// Requires: the part and the machine agree. The machine has room for one more event. The part
-    /// is the one of the CPU's number. The CPU's threads, guests and trace agree with what was done
-    /// in the machine. If each poll is one action, the CPU also stands as the step table says.
+    /// Requires: CPU and machine agree. The machine has room for one more event.
     #[inline(always)]
     pub fn act(&mut self, m: &mut I::Machine) -> Step
-        requires fits { I.Fits self.old.part m.old }
+        requires agrees { AgreesAt ⟦<I as CallLayer<IpcLaw>>⟧ m.old self.old }
         requires room { 0 < I.room m.old }
-        requires number { I.cpu_of self.old.part ≡ self.old.number }
-        requires is { IsCpuAt ⟦<I as CallLayer<IpcLaw>>⟧ m.old self.old }
-        requires table { I.IsStepwise → IsTabledAt ⟦<I as CallLayer<IpcLaw>>⟧ m.old self.old }
         ensures fits { I.Fits self.new.part m.new }
         ensures is { IsCpuAt ⟦<I as CallLayer<IpcLaw>>⟧ m.new self.new }
         ensures leaves { Leaves ⟦<I as CallLayer<IpcLaw>>⟧ m.old self.old m.new self.new }
@@ -361,27 +294,59 @@ impl<I: CallLayer<IpcLaw>> Cpu<I> {
     /// Looks again for a section that waits at its lock, and tells whether it did. Where it tells
     /// `true` this was the CPU's step; where it tells `false` nothing has changed.
     ///
-    /// Requires: the part and the machine agree. The machine has room for one more event. The part
-    /// is the one of the CPU's number. The CPU's threads, guests and trace agree with what was done
-    /// in the machine. If each poll is one action, the CPU also stands as the step table says.
+    /// Requires: CPU and machine agree. The machine has room for one more event.
     #[inline(always)]
-    pub(crate) fn look(&mut self, m: &mut I::Machine) -> bool
-        requires fits { I.Fits self.old.part m.old }
+    fn look(&mut self, m: &mut I::Machine) -> bool
+        requires agrees { AgreesAt ⟦<I as CallLayer<IpcLaw>>⟧ m.old self.old }
         requires room { 0 < I.room m.old }
-        requires number { I.cpu_of self.old.part ≡ self.old.number }
-        requires is { IsCpuAt ⟦<I as CallLayer<IpcLaw>>⟧ m.old self.old }
-        requires table { I.IsStepwise → IsTabledAt ⟦<I as CallLayer<IpcLaw>>⟧ m.old self.old }
-        ensures fits { I.Fits self.new.part m.new }
-        ensures is { IsCpuAt ⟦<I as CallLayer<IpcLaw>>⟧ m.new self.new }
-        ensures leaves { Leaves ⟦<I as CallLayer<IpcLaw>>⟧ m.old self.old m.new self.new }
         ensures still { result ≡ false → (self.new ≡ self.old) × (m.new ≡ m.old) }
-        ensures live { result ≡ true → stops_at ⟦<I as CallLayer<IpcLaw>>⟧ self.old ≡ None }
+        ensures stepped { result ≡ true → SteppedAt ⟦<I as CallLayer<IpcLaw>>⟧ m.old self.old m.new self.new }
         ensures goes_on { result ≡ true → stops_at ⟦<I as CallLayer<IpcLaw>>⟧ self.new ≡ None }
         ensures chosen { chosen (threads_in (I.own self.new.part)) self.new.guests.items ≡ chosen (threads_in (I.own self.old.part)) self.old.guests.items }
-        ensures table { I.IsStepwise → IsTabledAt ⟦<I as CallLayer<IpcLaw>>⟧ m.new self.new }
-        ensures steps { I.IsStepwise → result ≡ true → WentAt ⟦<I as CallLayer<IpcLaw>>⟧ m.old self.old m.new self.new Stepped }
     {
         self.part.look(m)
+    }
+
+    /// Looks again for a section that waits at its lock, up to `most` times, and twice at most: of two
+    /// looks in a row the first has missed. Returns how often it looked.
+    ///
+    /// Requires: as `run`.
+    #[inline(always)]
+    fn looks(&mut self, m: &mut I::Machine, most: usize) -> usize
+        requires { GoesAt ⟦<I as CallLayer<IpcLaw>>⟧ m.old self.old most }
+        ensures few { result ≤ most }
+        ensures ran { RunsAt ⟦<I as CallLayer<IpcLaw>>⟧ m.old self.old result m.new self.new }
+        ensures live { stops_at ⟦<I as CallLayer<IpcLaw>>⟧ self.new ≡ None }
+        ensures chosen { chosen (threads_in (I.own self.new.part)) self.new.guests.items ≡ chosen (threads_in (I.own self.old.part)) self.old.guests.items }
+    {
+        if !self.look(m) {
+            return 0;
+        }
+        if most == 1 {
+            return 1;
+        }
+        if self.look(m) { MISSED } else { 1 }
+    }
+
+    /// Takes at once looks of a section that waits at its lock and whose look would miss: one for each of
+    /// the steps at the front of `steps` that are this CPU's, at most. Returns how many it took; nothing
+    /// else has changed.
+    ///
+    /// Requires: the part and the machine agree. The machine has room for as many events as there are steps.
+    #[inline(always)]
+    pub(crate) fn spin(&self, m: &mut I::Machine, steps: &[CpuId]) -> usize
+        requires fits { I.Fits self.now.part m.old }
+        requires room { length steps.now ≤ I.room m.old }
+        ensures few { BeginWith (I.cpu_of self.now.part) result steps.now }
+        ensures still { result ≡ 0 → m.new ≡ m.old }
+        ensures live { 0 < result → stops_at ⟦<I as CallLayer<IpcLaw>>⟧ self.now ≡ None }
+        ensures spun { Spun I.Fits I.opening I.site I.seen I.room I.ActsFor I.MayHold result m.old m.new }
+        ensures tries { I.IsStepwise → Misses (I.cpu_of self.now.part) result (I.acts m.old) (I.acts m.new) }
+    {
+        if steps.is_empty() || !self.part.is_busy() {
+            return 0;
+        }
+        self.part.spin(m, steps)
     }
 
     /// One step of the CPU: one local action or one atomic action. `Halted` where it took none, and
@@ -389,15 +354,10 @@ impl<I: CallLayer<IpcLaw>> Cpu<I> {
     /// where its thread is about to begin a call that its trace has no room for. Neither comes
     /// while a section is under way.
     ///
-    /// Requires: the part and the machine agree. The machine has room for one more event. The part
-    /// is the one of the CPU's number. The CPU's threads, guests and trace agree with what was done
-    /// in the machine. If each poll is one action, the CPU also stands as the step table says.
+    /// Requires: CPU and machine agree. The machine has room for one more event.
     pub fn step(&mut self, m: &mut I::Machine) -> Step
-        requires fits { I.Fits self.old.part m.old }
+        requires agrees { AgreesAt ⟦<I as CallLayer<IpcLaw>>⟧ m.old self.old }
         requires room { 0 < I.room m.old }
-        requires number { I.cpu_of self.old.part ≡ self.old.number }
-        requires is { IsCpuAt ⟦<I as CallLayer<IpcLaw>>⟧ m.old self.old }
-        requires table { I.IsStepwise → IsTabledAt ⟦<I as CallLayer<IpcLaw>>⟧ m.old self.old }
         ensures fits { I.Fits self.new.part m.new }
         ensures is { IsCpuAt ⟦<I as CallLayer<IpcLaw>>⟧ m.new self.new }
         ensures leaves { Leaves ⟦<I as CallLayer<IpcLaw>>⟧ m.old self.old m.new self.new }

@@ -6,8 +6,7 @@ mod opening;
 mod plans;
 mod quiet;
 
-ghost use Rattle.std.specs.Prelude.{◌≡◌, ◌+◌, ◌<◌, ◌≤◌, ◌↔◌, true, false, All, IfSome, IsOk, OnErr, OnOk, Some, None, [], length, map, slice_index_or};
-ghost use Rattle.std.specs.Prelude.{replicate, take};
+ghost use Rattle.std.specs.Prelude.{◌≡◌, ◌+◌, ◌<◌, ◌≤◌, ◌↔◌, true, false, All, IfSome, IsOk, OnErr, OnOk, Some, None, [], length, map, slice_index_or, take};
 ghost use Rattle.layer_traits.specs.{Blocks.{Capacities.caps_in, QueueBlocks.homes_in}, Views.OwnParts.threads_in, Polling.Spins.BeginWith};
 
 use crate::cpus::Cpu;
@@ -112,7 +111,7 @@ where
             self.holds();
             return Step::Halted(reason);
         }
-        self.advance(cpu, 1);
+        self.turn(&[cpu]);
         self.holds();
         Step::Stepped
     }
@@ -146,29 +145,6 @@ where
     {
         let at = &self.cpus[usize::from(cpu.0)];
         at.reason()
-    }
-
-    /// Takes steps of `cpu`, which is not halted: up to `most`, until it is halted or a look at a lock has
-    /// missed. Returns how many it took.
-    #[inline(always)]
-    fn advance(&mut self, cpu: CpuId, most: usize) -> usize
-        requires exists { cpu.0 < length self.old.cpus }
-        requires live { reason_of cpu self.old ≡ None }
-        requires some { 0 < most }
-        requires room { self.old.taken + most ≤ self.old.room }
-        ensures some { 0 < result }
-        ensures few { result ≤ most }
-        ensures counted { self.new.taken ≡ self.old.taken + result }
-        ensures plan { SamePlan self.old self.new }
-        ensures one { I.IsStepwise → result ≡ 1 → SteppedByTable cpu self.old self.new Stepped }
-        ensures calls { result ≡ 1 → CallsGoOn cpu self.old self.new }
-        ensures ran { Ran I.IsStepwise self.old (replicate result cpu) self.new }
-        ensures table { I.IsStepwise → RanByTable self.old (replicate result cpu) self.new }
-    {
-        let at = &mut self.cpus[usize::from(cpu.0)];
-        let steps = at.go_on(&mut self.machine, most);
-        self.taken += steps as u64;
-        steps
     }
 
     /// Takes one step of each CPU in `steps`, in their order. The steps of halted CPUs do nothing.
@@ -206,8 +182,9 @@ where
         Ok(())
     }
 
-    /// Takes the turn at the front of `steps`: the first step, and those behind it of the same CPU.
-    /// Returns how many they are.
+    /// Takes the steps at the front of `steps` that are all of one CPU, as far as they go at once: none of a
+    /// CPU that is halted does anything; else they go on until it is halted or a look at a lock misses, and
+    /// each that follows such a look is one too. Returns how many it took.
     ///
     /// Requires: there is a step, and the system has a CPU of each number.
     #[inline(always)]
@@ -222,77 +199,15 @@ where
     {
         let cpu = steps[0];
         let own = steps_behind(cpu, &steps[1..]) + 1;
-        let mut taken = 0;
-        while taken < own {
-            taken += self.stretch(cpu, &steps[taken..own]);
-        }
-        own
-    }
-
-    /// Takes the first of `steps`, which are steps of `cpu`, and those behind it as far as they go in one
-    /// stretch: none of a CPU that is halted does anything; else they go on until a look at a lock misses,
-    /// and each that follows such a look is one too. Returns how many it took.
-    ///
-    /// Requires: there is a step, and the system has a CPU of this number.
-    #[inline(always)]
-    fn stretch(&mut self, cpu: CpuId, steps: &[CpuId]) -> usize
-        requires some { 0 < length steps.now }
-        requires exists { cpu.0 < length self.old.cpus }
-        ensures some { 0 < result }
-        ensures few { result ≤ length steps.now }
-        ensures plan { SamePlan self.old self.new }
-        ensures ran { Ran I.IsStepwise self.old (replicate result cpu) self.new }
-        ensures table { I.IsStepwise → RanByTable self.old (replicate result cpu) self.new }
-    {
         if self.reason(cpu).is_some() {
-            return steps.len();
+            return own;
         }
-        let most = self.in_room(steps.len());
-        let taken = self.advance(cpu, most);
-        taken + self.spins(cpu, &steps[taken..])
-    }
-
-    /// How many of so many steps the system has room for.
-    #[inline(always)]
-    fn in_room(&self, steps: usize) -> usize
-        requires { 0 < steps }
-        ensures some { self.now.taken < self.now.room → 0 < result }
-        ensures few { result ≤ steps }
-        ensures room { self.now.taken + result ≤ self.now.room }
-    {
-        let room = self.room - self.taken;
-        if room < steps as u64 {
-            room as usize
-        } else {
-            steps
-        }
-    }
-
-    /// Takes at once the steps at the front of `steps` that are of `cpu`, where it waits at a lock,
-    /// as far as each is a look that misses. Returns how many it took.
-    ///
-    /// Requires: the system has a CPU of this number.
-    #[inline(always)]
-    fn spins(&mut self, cpu: CpuId, steps: &[CpuId]) -> usize
-        requires { cpu.0 < length self.old.cpus }
-        ensures few { BeginWith cpu result steps.now }
-        ensures plan { SamePlan self.old self.new }
-        ensures ran { Ran I.IsStepwise self.old (replicate result cpu) self.new }
-        ensures table { I.IsStepwise → RanByTable self.old (replicate result cpu) self.new }
-    {
-        if steps.is_empty() {
-            return 0;
-        }
-        if self.room - self.taken < steps.len() as u64 {
-            return 0;
-        }
-        let at = &self.cpus[usize::from(cpu.0)];
-        if !at.part.is_busy() {
-            return 0;
-        }
-        let looks = at.part.spin(&mut self.machine, steps);
-        self.taken += looks as u64;
-        looks
+        let most = (self.room - self.taken).min(own as u64) as usize;
+        let at = &mut self.cpus[usize::from(cpu.0)];
+        let taken = at.run(&mut self.machine, most);
+        let looks = at.spin(&mut self.machine, &steps[taken..most]);
+        self.taken += (taken + looks) as u64;
+        taken + looks
     }
 
     /// What `buffer` holds, front first. A block that a CPU has in its hands counts as it was when

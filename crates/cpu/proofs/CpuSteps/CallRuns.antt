@@ -28,21 +28,24 @@ module _ {P L M : Type 0} {I : Ghosts P L M} (laws : PartLaws I) (m : M) (p : Cp
       → r.guests.items ≡ p.guests.items → r.trace.items ≡ p.trace.items → vec_capacity p.trace ≤ vec_capacity r.trace → SteppedAt I m p n r
   look_steps n r looked number limit guests trace capacity = record {
     live = live;
-    fits = looked.framed.fits;
-    is = rw (looked.framed.stays.opening, looked.own, looked.under_way, number, limit, guests)
-        (subst (λ (l : List Entry). IsCpu (homes_in (I.opening m)) (length (caps_in (I.opening m))) (I.seen n) (threads_in (I.own p.part))
-        (I.own p.part).call_states (I.under_way p.part) p.number p.guests.items l p.limit (vec_capacity r.trace)) (sym trace) (grind (
-          arith,
-          seen_stays (valid_cpu cpu.is) (I.seen n)
-              (others_same (λ d. I.ActsFor m d) p.number (I.seen m) (I.seen n) looked.seen (acts_for cpu)),
-          capacity,
-        )));
+    agrees = record {
+      fits = looked.framed.fits;
+      number = looked.framed.cpu ∙ cpu.number ∙ sym number;
+      is = rw (looked.framed.stays.opening, looked.own, looked.under_way, number, limit, guests)
+          (subst (λ (l : List Entry). IsCpu (homes_in (I.opening m)) (length (caps_in (I.opening m))) (I.seen n) (threads_in (I.own p.part))
+          (I.own p.part).call_states (I.under_way p.part) p.number p.guests.items l p.limit (vec_capacity r.trace)) (sym trace) (grind (
+            arith,
+            seen_stays (valid_cpu cpu.is) (I.seen n)
+                (others_same (λ d. I.ActsFor m d) p.number (I.seen m) (I.seen n) looked.seen (acts_for cpu)),
+            capacity,
+          )));
+      table = λ step. rw (looked.own, looked.under_way, looked.framed.stays.opening, number, guests) (cpu.table step);
+    };
     leaves = left_framed I m n p r cpu.number number limit looked.framed (ap programs_of guests)
         (guests_rest guests trace) (others_grow _ _ _ _ looked.seen)
         (rw cpu.number at looked.moves)
         (λ step. look_grows (λ d. I.ActsFor m d) p.number (I.acts m) (I.acts n) true
         (λ yes. subst (λ (d : CpuId). Tries (λ e. I.ActsFor m e) d (I.acts m) (I.acts n)) cpu.number (looked.tries step refl)) (λ no. absurd (cc no)));
-    table = λ step. rw (looked.own, looked.under_way, looked.framed.stays.opening, number, guests) (cpu.table step);
     steps = λ step. rw (guests, trace) (looked_steps (λ d. I.ActsFor m d) (homes_in (I.opening m)) (caps_in (I.opening m)) (I.cpu_of p.part) p.number p.limit
         (I.own p.part) (I.own r.part) p.guests.items p.trace.items (I.acts m) (I.acts n) cpu.number looked.own (looked.tries step refl));
   }
@@ -113,17 +116,20 @@ module _ {P L M : Type 0} {I : Ghosts P L M} (laws : PartLaws I) (m : M) (p : Cp
     pub poll_steps : SteppedAt I m p n r
     poll_steps = record {
       live = live;
-      fits = polled_so.framed.fits;
-      is = rw (polled_so.framed.stays.opening, number, limit) (noted_call (valid_cpu cpu.is) t call chose _ polled_cpu);
+      agrees = record {
+        fits = polled_so.framed.fits;
+        number = polled_so.framed.cpu ∙ cpu.number ∙ sym number;
+        is = rw (polled_so.framed.stays.opening, number, limit) (noted_call (valid_cpu cpu.is) t call chose _ polled_cpu);
+        table = λ step.
+            rw (polled_so.framed.stays.opening, number)
+            (poll_tabled (tabled_cpu cpu step) t call chose _ _ (outset cpu step) live (tabled_poll step));
+      };
       leaves = left_framed I m n p r cpu.number number limit polled_so.framed
           (ap programs_of guests_is ∙ programs_with p.guests.items t.0 _ (λ x. refl))
           went
           (called_grows _ _ _ _ _ _ _ _ _ (rw cpu.number at (polled_so.called there)))
           (rw cpu.number at polled_so.moves)
           (λ step. rw (← cpu.number) (follows_grow _ _ _ _ _ _ _ _ (polled_so.follows step)));
-      table = λ step.
-          rw (polled_so.framed.stays.opening, number)
-          (poll_tabled (tabled_cpu cpu step) t call chose _ _ (outset cpu step) live (tabled_poll step));
       steps = λ step setup of. poll_by_table (tabled_cpu cpu step) t call chose _ _ (outset cpu step) live (tabled_poll step) setup of;
     }
 
@@ -141,13 +147,10 @@ with_twice : (guests : List (Option Guest)) (t : ℕ) (f h : Guest → Guest) (g
     → with_guest guests t h ≡ with_guest (with_guest guests t f) t h
 with_twice guests t f h g at same = grind (arith, set_twice, at_same)
 
--- after a step the CPU and its machine agree again
-stepped_layered : {P L M : Type 0} {I : Ghosts P L M} {m n : M} {p q : Cpu P M} → PartLaws I → SteppedAt I m p n q → IsLayered I n q
-stepped_layered {n = n} {q = q} laws s = layered laws n q s.fits (s.leaves.cpu ∙ sym s.leaves.number) s.is s.table
-
+-- after a run the CPU stands over its layer again
 runs_layered : {P L M : Type 0} {I : Ghosts P L M} {m n : M} {p q : Cpu P M} {k : ℕ} → PartLaws I → IsLayered I m p → RunsAt I m p k n q → IsLayered I n q
 runs_layered laws cpu RunsAt.none = cpu
-runs_layered laws cpu (RunsAt.more runs s) = stepped_layered laws s
+runs_layered {n = n} {q = q} laws cpu (RunsAt.more runs s) = layered laws n q s.agrees
 
 -- the CPU stands at the call of t
 module _ {P L M : Type 0} {I : Ghosts P L M} (laws : PartLaws I) (m : M) (p : Cpu P M) (cpu : IsLayered I m p) (live : stops_at I p ≡ None)

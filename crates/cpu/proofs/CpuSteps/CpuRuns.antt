@@ -1,24 +1,12 @@
 -- Runs of steps of one CPU: one behind the other, and what is left of the machine's room.
-use Rattle.std.proofs.Common.{◌≡◌, ℕ, ◌+◌, ◌≤◌, None, sym, ◌∙◌, subst, arith}
-use Rattle.{layer_traits.specs.declared.{call_layers.CallLayer.Ghosts, steps.Step.TheVariants.Stepped}, cpu.specs.{declared.cpus.Cpu.Cpu, CpuSteps.IsCpuAt}}
-use Rattle.cpu.specs.CpuSteps.{IsTabledAt, Leaves, RunsAt, SteppedAt, WentAt, stops_at}
-
--- a CPU and its machine agree, as a step asks of them
-pub record AgreesAt {P L M : Type 0} (I : Ghosts P L M) (m : M) (p : Cpu P M) : Type 0 where
-  pub fits : I.Fits p.part m
-  pub number : I.cpu_of p.part ≡ p.number
-  pub is : IsCpuAt I m p
-  pub table : I.IsStepwise → IsTabledAt I m p
+use Rattle.std.proofs.Common.{◌≡◌, ℕ, ◌+◌, ◌-◌, ◌<◌, ◌≤◌, None, subst, arith}
+use Rattle.{layer_traits.specs.declared.call_layers.CallLayer.Ghosts, cpu.specs.declared.cpus.Cpu.Cpu}
+use Rattle.cpu.specs.CpuSteps.{AgreesAt, GoesAt, RanWithin, RunsAt, SteppedAt, stops_at}
 
 module _ {P L M : Type 0} {I : Ghosts P L M} {m : M} {p : Cpu P M} where
   -- a step is a run of one
   pub one_run : {n : M} {q : Cpu P M} → SteppedAt I m p n q → RunsAt I m p 1 n q
   one_run s = RunsAt.more RunsAt.none s
-
-  -- a step, from what it leaves
-  pub stepped_so : {n : M} {q : Cpu P M} → Leaves I m p n q → stops_at I p ≡ None → I.Fits q.part n → IsCpuAt I n q → (I.IsStepwise → IsTabledAt I n q)
-      → (I.IsStepwise → WentAt I m p n q Stepped) → SteppedAt I m p n q
-  stepped_so leaves live fits is table steps = record { live = live; fits = fits; is = is; leaves = leaves; table = table; steps = steps }
 
   -- a run of one step is that step
   pub one_step : {n : M} {q : Cpu P M} {k : ℕ} → RunsAt I m p k n q → k ≡ 1 → SteppedAt I m p n q
@@ -43,4 +31,21 @@ module _ {P L M : Type 0} {I : Ghosts P L M} {m : M} {p : Cpu P M} where
   -- they agree after a run
   pub runs_agree : {n : M} {q : Cpu P M} {k : ℕ} → AgreesAt I m p → RunsAt I m p k n q → AgreesAt I n q
   runs_agree agrees RunsAt.none = agrees
-  runs_agree agrees (RunsAt.more runs s) = record { fits = s.fits; number = s.leaves.cpu ∙ sym s.leaves.number; is = s.is; table = s.table }
+  runs_agree agrees (RunsAt.more runs s) = s.agrees
+
+  -- one step that it may take, and that it took
+  pub goes_once : {most : ℕ} → GoesAt I m p most → GoesAt I m p 1
+  goes_once goes =
+      let some = goes.some in
+      let room = goes.room in
+      record { agrees = goes.agrees; some = omega arith; room = omega (arith, some, room); live = goes.live }
+
+  pub ran_once : {most : ℕ} {n : M} {q : Cpu P M} → GoesAt I m p most → SteppedAt I m p n q → RanWithin I m p most 1 n q
+  ran_once goes s = let some = goes.some in record { some = omega arith; few = omega (arith, some); ran = one_run s }
+
+  -- what is left for it after fewer steps
+  pub goes_later : {most k : ℕ} {n : M} {q : Cpu P M} → GoesAt I m p most → RunsAt I m p k n q → k < most → stops_at I q ≡ None → GoesAt I n q (most - k)
+  goes_later goes ran few live =
+      let room = goes.room in
+      let left = runs_room ran in
+      record { agrees = runs_agree goes.agrees ran; some = omega (arith, few); room = omega (arith, room, left); live = live }

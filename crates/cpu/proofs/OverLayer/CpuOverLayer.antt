@@ -4,8 +4,8 @@ use Rattle.layer_traits.specs.{Blocks.{Capacities.caps_in, QueueBlocks.homes_in}
 use Rattle.layer_traits.specs.{declared.call_layers.{CallLaw.Ghosts as LawGhosts, CallLayer.Ghosts}, Layers.BufferLaw.MovesGrow, Polling.Framed.Framed}
 use Rattle.layer_traits.specs.{Polling.Plans.is_in_section, Threads.Places.{AreMoves, Stands, home_of}, Views.OwnParts.threads_in}
 use Rattle.{layer_traits.proofs.PlaceLemmas.current_at, event_log.specs.{declared.ids.{CpuId.CpuId, Tid.Tid}, Actions.phase}, cpu.specs.declared.cpus.Cpu.Cpu}
-use Rattle.cpu.{specs.{Cpus.{ActsGrow, GuestsWent, SeenGrows, programs_of}, CpuSteps.{IsCpuAt, IsTabledAt, Leaves}}, proofs.CpuSteps.PassSteps.current_within}
-use Rattle.cpu.proofs.CpuSteps.{CpuStates.{Outset, TabledCpu, valid_cpu}, StepsBesideGuests.{none_grow, none_moved, none_seen}}
+use Rattle.cpu.specs.{Cpus.{ActsGrow, GuestsWent, SeenGrows, programs_of}, CpuSteps.{AgreesAt, IsCpuAt, IsTabledAt, Leaves}}
+use Rattle.cpu.proofs.CpuSteps.{PassSteps.current_within, CpuStates.{Outset, TabledCpu, valid_cpu}, StepsBesideGuests.{none_grow, none_moved, none_seen}}
 use Rattle.cpu.proofs.StepTable.TableCalls.{hand_known}
 use borrow.Fn.World.{World}
 use denote.RattleType.{RattleType}
@@ -43,9 +43,8 @@ laws_of law = record {
 }
 
 -- a CPU whose part fits the machine
-pub layered : {P L M : Type 0} {I : Ghosts P L M} (laws : PartLaws I) (m : M) (p : Cpu P M) → I.Fits p.part m → I.cpu_of p.part ≡ p.number
-    → IsCpuAt I m p → (I.IsStepwise → IsTabledAt I m p) → IsLayered I m p
-layered {I} laws m p fits number is table = grind arith
+pub layered : {P L M : Type 0} {I : Ghosts P L M} (laws : PartLaws I) (m : M) (p : Cpu P M) → AgreesAt I m p → IsLayered I m p
+layered {I} laws m p agrees = grind (arith, agrees)
 
 module _ {P L M : Type 0} {I : Ghosts P L M} {m : M} {p : Cpu P M} (at : IsLayered I m p) where
   -- a thread that runs is at home with it

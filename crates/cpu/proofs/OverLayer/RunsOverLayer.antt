@@ -1,14 +1,14 @@
 -- A system over a layer of message calls, after steps of one of its CPUs, one behind the other.
 use Rattle.std.proofs.{lemmas.{Bool.ne_eqb, List.replicate-append-replicate, Option.{same_Some, slice_get-map, slice_get_within}}, Common.{◌≡◌, ℕ, ◌+◌, ◌<◌}}
-use Rattle.std.proofs.Common.{◌≤◌, List, [], ◌∷◌, ◌++◌, map, replicate, reverse, Some, None, slice_set, refl, ap, sym, ◌∙◌, subst, arith}
+use Rattle.std.proofs.Common.{◌≤◌, List, [], ◌∷◌, ◌++◌, length, map, replicate, reverse, Some, None, slice_set, refl, ap, sym, ◌∙◌, subst, arith}
 use Rattle.std.specs.Prelude.{slice_get, Option, option_map}
 use Rattle.{event_log.specs.declared.ids.{BufId.BufId, CpuId.CpuId, Tid.Tid}, layer_traits.specs.Threads.OnePlace.cpu_at}
-use Rattle.{layer_traits.specs.declared.{call_layers.CallLayer.Ghosts, steps.Step.TheVariants.Stepped}, cpu.specs.{declared.cpus.Cpu.Cpu, Claims.CpuShown}}
-use Rattle.cpu.specs.{Claims.Shown, CpuSteps.{RunsAt, SteppedAt}, Cpus.{GuestsWent, SeenGrows}, Linear.{CallsGoOn, OrderGrows}, Systems.SteppedByTable}
-use Rattle.cpu.{specs.Systems.reason_of, proofs.WholeSystems.{InvariantOverSteps.Holds, Moments.{MachineLaws, moment, order_grows}}}
-use Rattle.cpu.proofs.{ListFacts.ListReads.{set_again, set_else, set_there, set_twice, shows_at}, StepTable.{ReachedSystems.shown_in, Schedules.Leads}}
-use Rattle.cpu.proofs.{StepTable.Schedules.{leads_live, leads_nowhere}, OverLayer.SystemOverLayer.{by_table, observed_by, plan_preserved, shown_by, went_on}}
-use Rattle.cpu.proofs.OverLayer.SystemOverLayer.{works_by}
+use Rattle.layer_traits.specs.{declared.{call_layers.CallLayer.Ghosts, steps.Step.TheVariants.Stepped}, Polling.Spins.{Misses, Spun}}
+use Rattle.cpu.specs.{declared.cpus.Cpu.Cpu, Claims.{CpuShown, Shown}, CpuSteps.{RunsAt, SteppedAt}, Cpus.{GuestsWent, SeenGrows}, Linear.CallsGoOn}
+use Rattle.cpu.{specs.{Linear.OrderGrows, Systems.{SteppedByTable, reason_of, own_reason}}, proofs.WholeSystems.{InvariantOverSteps.Holds, Moments.MachineLaws}}
+use Rattle.cpu.proofs.{WholeSystems.Moments.{moment, order_grows}, ListFacts.ListReads.{set_again, set_else, set_there, set_twice, shows_at}}
+use Rattle.cpu.proofs.{StepTable.{ReachedSystems.shown_in, Schedules.{Leads, leads_alone, leads_live, leads_nowhere}}, OverLayer.SystemOverLayer.by_table}
+use Rattle.cpu.proofs.OverLayer.{SystemOverLayer.{observed_by, plan_preserved, shown_by, went_on, works_by}, SpinsOverLayer.{spins_keep, spins_lead}}
 
 module _ {P L M : Type 0} (I : Ghosts P L M) (laws : MachineLaws I) (owner : M → BufId → Option Tid) (threads room k : ℕ) (c : CpuId) (same : k ≡ c.0) where
   -- a system with this machine and these CPUs, after so many steps
@@ -19,12 +19,12 @@ module _ {P L M : Type 0} (I : Ghosts P L M) (laws : MachineLaws I) (owner : M �
   module _ (m n : M) (cpus : List (Cpu P M)) (taken : ℕ) (x y : Cpu P M) (is : Holds (works_by I owner threads) m cpus room taken)
       (at : slice_get cpus k ≡ Some x) (live : taken < room) (step : SteppedAt I m x n y) where
     acts : I.ActsFor n (I.cpu_of y.part)
-    acts = laws.own_cpu y.part n step.fits
+    acts = laws.own_cpu y.part n step.agrees.fits
 
     keeps_one : Holds (works_by I owner threads) n (slice_set cpus k y) room (taken + 1)
     keeps_one =
-        went_on I owner threads m n cpus room taken k c x y is at same step.leaves live (laws.legal n (I.cpu_of y.part) acts) step.steps step.fits step.is
-        step.table (laws.known n (I.cpu_of y.part) acts)
+        went_on I owner threads m n cpus room taken k c x y is at same step.leaves live (laws.legal n (I.cpu_of y.part) acts) step.steps step.agrees.fits
+        step.agrees.is step.agrees.table (laws.known n (I.cpu_of y.part) acts)
 
     pub by_one : I.IsStepwise → SteppedByTable c (shows m cpus taken) (shows n (slice_set cpus k y) (taken + 1)) Stepped
     by_one = by_table I owner threads m n cpus room taken k c x y is at same step.leaves live (laws.legal n (I.cpu_of y.part) acts) step.steps
@@ -96,4 +96,21 @@ module _ {P L M : Type 0} (I : Ghosts P L M) (laws : MachineLaws I) (owner : M �
             (subst (λ (done : ℕ). Leads I.IsStepwise (shows m cpus taken) (replicate (steps + 1) c) (shows o (slice_set amid k r) done)) sum
             (rw (← replicate-append-replicate steps 1 c)
             (leads_one n o amid (taken + steps) q r before.keeps there live step (shows m cpus taken) (replicate steps c) before.leads)));
+      }
+
+  -- and then it looked so often, and each look missed
+  pub spun_so : {m n o : M} {y : Cpu P M} {cpus : List (Cpu P M)} {taken steps looks : ℕ} → k < length cpus → WentSo m cpus taken steps n y
+      → Spun I.Fits I.opening I.site I.seen I.room I.ActsFor I.MayHold looks n o → (I.IsStepwise → Misses (I.cpu_of y.part) looks (I.acts n) (I.acts o))
+      → (looks ≡ 0 → o ≡ n) → (0 < looks → own_reason (shown_by I y) ≡ None) → taken + (steps + looks) ≤ room → WentSo m cpus taken (steps + looks) o y
+  spun_so {m} {n} {o} {y} {cpus} {taken} {steps} {looks} inside went spun tries still live space =
+      let amid = slice_set cpus k y in
+      let there : slice_get amid k ≡ Some y = set_there cpus k y inside in
+      let sum : (taken + steps) + looks ≡ taken + (steps + looks) = omega arith in
+      let within : (taken + steps) + looks ≤ room = omega (arith, space) in
+      record {
+        keeps = subst (λ (done : ℕ). Holds (works_by I owner threads) o amid room done) sum
+            (spins_keep I laws owner threads n o amid room (taken + steps) k looks c y went.keeps there same spun tries still live within);
+        leads = subst (λ (done : ℕ). Leads I.IsStepwise (shows m cpus taken) (replicate (steps + looks) c) (shows o amid done)) sum
+            (leads_alone I.IsStepwise (shows m cpus taken) (shows n amid (taken + steps)) (shows o amid ((taken + steps) + looks)) c steps looks went.leads
+            (spins_lead I laws owner threads n o amid room (taken + steps) k looks c y went.keeps there same spun tries still live within));
       }

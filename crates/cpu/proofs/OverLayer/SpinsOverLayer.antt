@@ -29,8 +29,11 @@ module _ {P L M : Type 0} (I : Ghosts P L M) (laws : MachineLaws I) (owner : M �
   -- CPU c, at number k, has a section under way, and so many looks of its part x took the machine from m to n
   module _ (k looks : ℕ) (c : CpuId) (x : Cpu P M) (is : Holds (works_by I owner threads) m cpus room taken) (at : slice_get cpus k ≡ Some x) (same : k ≡ c.0)
       (spun : Spun I.Fits I.opening I.site I.seen I.room I.ActsFor I.MayHold looks m n)
-      (tries : I.IsStepwise → Misses (I.cpu_of x.part) looks (I.acts m) (I.acts n)) (still : looks ≡ 0 → n ≡ m) (live : own_reason (shown_by I x) ≡ None)
-      (space : taken + looks ≤ room) (legal : AreLegal (I.acts n)) where
+      (tries : I.IsStepwise → Misses (I.cpu_of x.part) looks (I.acts m) (I.acts n)) (still : looks ≡ 0 → n ≡ m)
+      (live : 0 < looks → own_reason (shown_by I x) ≡ None) (space : taken + looks ≤ room) where
+    legal : AreLegal (I.acts n)
+    legal = laws.legal n (I.cpu_of x.part) (spun.acts (I.cpu_of x.part) (laws.own_cpu x.part m (is.each k x at).holds.0))
+
     number : I.cpu_of x.part ≡ c
     number = (is.each k x at).holds.1 ∙ (is.each k x at).number_is ∙ ap (λ (j : ℕ). cpu_at j) same
 
@@ -64,8 +67,8 @@ module _ {P L M : Type 0} (I : Ghosts P L M) (laws : MachineLaws I) (owner : M �
             (subst (λ (o : M). Leads I.IsStepwise (shows m taken) [] (shows o taken)) (sym (still none)) (leads_nowhere I.IsStepwise (shows m taken)))
         go (suc more) is_more =
             misses_lead I.IsStepwise c (shows m taken) (shown_by I x)
-            (subst (λ (j : ℕ). slice_get (map (shown_by I) cpus) j ≡ Some (shown_by I x)) same (shows_at (shown_by I) cpus k x at)) live more
-            (shows n (taken + looks))
+            (subst (λ (j : ℕ). slice_get (map (shown_by I) cpus) j ≡ Some (shown_by I x)) same (shows_at (shown_by I) cpus k x at))
+            (live (omega (arith, is_more))) more (shows n (taken + looks))
             (record { caps = ap caps_in spun.opening; homes = ap homes_in spun.opening; programs = refl; count = refl; limits = refl; room = refl })
             (record {
               cpus = refl;

@@ -1,7 +1,7 @@
 -- Schedules: what the steps of a list of CPUs lead to, one behind the other.
-use Rattle.std.proofs.Common.{◌≡◌, ℕ, zero, suc, ◌+◌, ◌-◌, ◌<◌, List, [], ◌∷◌, ◌++◌, length, replicate, take, drop, Option, Some, None, true, is_some, refl, ap}
-use Rattle.std.proofs.{Common.{sym, ◌∙◌, subst, append_assoc, arith}, Math.Seq.take-add, lemmas.List.{append-nil, replicate-append-replicate, take_rest}}
-use Rattle.std.specs.Prelude.{slice_index_or}
+use Rattle.std.proofs.Common.{◌≡◌, ℕ, zero, suc, ◌+◌, ◌-◌, ◌<◌, ◌≤◌, List, [], ◌∷◌, ◌++◌, length, replicate, take, drop, Option, Some, None, true, is_some}
+use Rattle.std.proofs.{Common.{refl, ap, sym, ◌∙◌, subst, append_assoc, arith}, Math.Seq.take-add, lemmas.List.{append-nil, replicate-append-replicate}}
+use Rattle.std.{proofs.lemmas.List.{take-replicate, take-take, take_rest}, specs.Prelude.slice_index_or}
 use Rattle.{event_log.specs.declared.ids.CpuId.CpuId, layer_traits.specs.declared.steps.{Reason.Reason, Step.{Step, TheVariants.{Halted, Stepped}}}}
 use Rattle.{layer_traits.specs.Polling.Spins.BeginWith, cpu.specs.{Claims.{IsMoment, Shown}, Linear.CallsGoOn, Sound.{IsReachedByTable, RanByTable}}}
 use Rattle.cpu.specs.{Sound.after_steps, Systems.{Ran, SamePlan, SteppedByTable, HaltsByTable, WentOn, goes, halted_in, reason_of, took_none, stayed, took}}
@@ -98,6 +98,41 @@ turn_taken (c ∷ rest) d more some begins =
     let behind : take more rest ≡ replicate more c = ap (λ (l : List CpuId). take more l) (sym (take_rest (c ∷ rest) 1)) ∙ begins.first in
     let count : suc more ≡ more + 1 = omega arith in
     grind (arith, count, behind)
+
+-- so are the first of them
+pub turn_begun : (all : List CpuId) (d : CpuId) (more taken : ℕ) → 0 < length all
+    → BeginWith (slice_index_or all 0 d) more (take (length all - 1) (drop 1 all)) → taken ≤ more + 1
+    → replicate taken (slice_index_or all 0 d) ≡ take taken all
+turn_begun all d more taken some begins few =
+    sym (take-replicate taken (more + 1) (slice_index_or all 0 d) few)
+    ∙ ap (λ (l : List CpuId). take taken l) (turn_taken all d more some begins)
+    ∙ take-take taken (more + 1) all few
+
+-- One step.
+
+-- what a step that is taken does
+pub record TookOne (IsStepwise : Type 0) (c : CpuId) (s r : Shown) : Type 0 where
+  pub taken : r.taken ≡ s.taken + 1
+  pub calls : CallsGoOn c s r
+  pub step : IsStepwise → SteppedByTable c s r Stepped
+
+ran_none : (IsStepwise : Type 0) (s r : Shown) (l : List CpuId) → l ≡ [] → Ran IsStepwise s l r → r ≡ s
+ran_none IsStepwise s _ _ none took_none = refl
+ran_none IsStepwise s _ _ none (goes {steps = []} c r ran went) = absurd (cc none)
+ran_none IsStepwise s _ _ none (goes {steps = d ∷ more} c r ran went) = absurd (cc none)
+
+took_alone : (IsStepwise : Type 0) (c d : CpuId) (s u r : Shown) → reason_of c s ≡ None → d ≡ c → u ≡ s → WentOn IsStepwise d u r → TookOne IsStepwise c s r
+took_alone IsStepwise c d s u r live same at (took free taken calls now step) =
+    rw (← same, ← at) (record { taken = taken; calls = calls; step = step })
+took_alone IsStepwise c d s u r live same at (stayed reason is still) = absurd (cc (live, is, same, at))
+
+pub took_one : (IsStepwise : Type 0) (c : CpuId) (s r : Shown) (l : List CpuId) → l ≡ c ∷ [] → reason_of c s ≡ None → Ran IsStepwise s l r
+    → TookOne IsStepwise c s r
+took_one IsStepwise c s _ _ one live took_none = absurd (cc one)
+took_one IsStepwise c s _ _ one live (goes {steps = []} {s = u} d r ran went) =
+    took_alone IsStepwise c d s u r live (cc one) (ran_none IsStepwise s u [] refl ran) went
+took_one IsStepwise c s _ _ one live (goes {steps = d ∷ []} e r ran went) = absurd (cc one)
+took_one IsStepwise c s _ _ one live (goes {steps = d ∷ (f ∷ more)} e r ran went) = absurd (cc one)
 
 -- What the table reaches.
 

@@ -207,7 +207,7 @@ where
         }
         let runs = self.cpu.part.current().is_some();
         let most = if runs { most.min(self.stretch) } else { 1 };
-        self.cpu.go_on(&mut self.machine, most)
+        self.cpu.run(&mut self.machine, most)
     }
 
     /// One step of the CPU: one local action or one atomic action. `Halted` where it took none.

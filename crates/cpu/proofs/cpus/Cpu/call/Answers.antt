@@ -7,26 +7,26 @@ use Rattle.cpu.proofs.cpus.Cpu.call.Goals as goal
 
 -- the CPU over its layers
 abbrev cpu : (g : Over) (c : Start g) → IsLayered g.I.CallLayer c.args.m.now c.args.self.now
-cpu g c = layered (laws_of g.met.I.CallLayer) c.args.m.now c.args.self.now c.requires.fits c.requires.number c.requires.is c.requires.table
+cpu g c = layered (laws_of g.met.I.CallLayer) c.args.m.now c.args.self.now c.requires.goes.agrees
 
 pub call_of-call-requires-clause-within : goal.call_of-call-requires-clause-within
-call_of-call-requires-clause-within g c = poll_within (valid_cpu c.requires.is) c.args.thread c.args.asked c.requires.chosen
+call_of-call-requires-clause-within g c = poll_within (valid_cpu c.requires.goes.agrees.is) c.args.thread c.args.asked c.requires.chosen
 
 pub call_of-call-requires-clause-asked : goal.call_of-call-requires-clause-asked
 call_of-call-requires-clause-asked g c =
-    let polls = polls_at (valid_cpu c.requires.is) c.args.thread c.args.asked c.requires.chosen in
+    let polls = polls_at (valid_cpu c.requires.goes.agrees.is) c.args.thread c.args.asked c.requires.chosen in
     subst (λ guest. stands_at_call guest c.args.asked) (sym polls.at) polls.asks
 
 pub poll_on-run-requires-clause-same : goal.poll_on-run-requires-clause-same
 poll_on-run-requires-clause-same g c =
-    rw c.call_of-call.ensures.call (poll_call_states (valid_cpu c.requires.is) c.args.thread c.args.asked c.requires.chosen)
+    rw c.call_of-call.ensures.call (poll_call_states (valid_cpu c.requires.goes.agrees.is) c.args.thread c.args.asked c.requires.chosen)
 
 pub effect_here-effect-requires : goal.effect_here-effect-requires
-effect_here-effect-requires g c = poll_number (valid_cpu c.requires.is) c.args.thread c.args.asked c.requires.chosen
+effect_here-effect-requires g c = poll_number (valid_cpu c.requires.goes.agrees.is) c.args.thread c.args.asked c.requires.chosen
 
 pub note_poll-fresh-requires : goal.note_poll-fresh-requires
 note_poll-fresh-requires g c =
-    rw c.call_of-call.follows.holds-at-none (poll_within (valid_cpu c.requires.is) c.args.thread c.args.asked c.requires.chosen)
+    rw c.call_of-call.follows.holds-at-none (poll_within (valid_cpu c.requires.goes.agrees.is) c.args.thread c.args.asked c.requires.chosen)
 
 -- what the run answered and noted
 module _ (g : Over) (c : After-note_poll-fresh g) where
@@ -44,20 +44,21 @@ module _ (g : Over) (c : After-note_poll-fresh g) where
 
 pub note_effect-requires : goal.note_effect-requires
 note_effect-requires g c = λ f some.
-    fresh_room (laws_of g.met.I.CallLayer) c.args.m.now c.args.self.now (cpu g (goal.at.note_effect-requires g c).Start) c.requires.live c.args.thread
+    fresh_room (laws_of g.met.I.CallLayer) c.args.m.now c.args.self.now (cpu g (goal.at.note_effect-requires g c).Start) c.requires.goes.live c.args.thread
     c.args.asked c.requires.chosen c.requires.not_full _ f (sym (fresh_now g (goal.at.note_effect-requires g c).After-note_poll-fresh) ∙ some)
 
-pub returns-clause-some : goal.returns-clause-some
-returns-clause-some g c = grind (arith, rw c.call_of-call.ensures.call at c.poll_on-run.ensures.polled_on)
-
-pub returns-clause-ran : goal.returns-clause-ran
-returns-clause-ran g c =
+pub returns : goal.returns
+returns g c =
     let m = c.args.m.now in
     let p = c.args.self.now in
     let t = c.args.thread in
+    let polled = rw c.call_of-call.ensures.call at c.poll_on-run.ensures.polled_on in
+    let noted = (goal.at.returns g c).After-note_poll-fresh in
     let trace = (rw (c.buffer-buffer.ensures, c.call_of-call.ensures.call) at c.note_effect.ensures.items)
-    ∙ ap (λ (f : Option Effect). p.trace.items ++ entries_of p.number t (buffer_of c.args.asked) f)
-    (fresh_now g (goal.at.returns-clause-ran g c).After-note_poll-fresh) in
-    call_runs (laws_of g.met.I.CallLayer) m p (cpu g (goal.at.returns-clause-ran g c).Start) c.requires.live t c.args.asked c.requires.chosen
-    c.requires.not_full (rw c.call_of-call.ensures.call at c.poll_on-run.ensures.polled_on) _ refl refl refl
-    (guests_now g (goal.at.returns-clause-ran g c).After-note_poll-fresh) trace c.note_effect.ensures.capacity
+    ∙ ap (λ (f : Option Effect). p.trace.items ++ entries_of p.number t (buffer_of c.args.asked) f) (fresh_now g noted) in
+    record {
+      some = grind (arith, polled);
+      few = c.poll_on-run.ensures.few;
+      ran = call_runs (laws_of g.met.I.CallLayer) m p (cpu g (goal.at.returns g c).Start) c.requires.goes.live t c.args.asked c.requires.chosen
+          c.requires.not_full polled _ refl refl refl (guests_now g noted) trace c.note_effect.ensures.capacity;
+    }

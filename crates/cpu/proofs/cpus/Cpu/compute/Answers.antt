@@ -5,36 +5,30 @@ use Rattle.cpu.proofs.{ListFacts.GuestLists.programs_with, CpuSteps.{PassSteps.n
 use Rattle.cpu.proofs.{StepTable.TablePasses.compute_tabled, OverLayer.CpuOverLayer.{laws_of, layered, tabled_cpu, outset, left_alone}}
 use Rattle.cpu.proofs.cpus.Cpu.compute.Goals as goal
 
-pub returns-clause-is : goal.returns-clause-is
-returns-clause-is g c =
+pub returns : goal.returns
+returns g c =
     let I = g.I.CallLayer in
     let m = c.args.m.now in
     let p = c.args.self.now in
-    subst (λ (l : List (Option Guest)). IsCpu (homes_in (I.opening m)) (length (caps_in (I.opening m))) (I.seen m) (threads_in (I.own p.part))
-    (I.own p.part).call_states (I.under_way p.part) p.number l p.trace.items p.limit
-    (vec_capacity p.trace)) (sym c.note_compute.ensures)
-    (noted_compute (valid_cpu c.requires.is) c.args.thread c.requires.chosen)
-
-pub returns-clause-leaves : goal.returns-clause-leaves
-returns-clause-leaves g c =
-    let programs = ap programs_of c.note_compute.ensures ∙ programs_with c.args.self.now.guests.items c.args.thread.0 _ (λ x. refl) in
-    left_alone g.I.CallLayer c.args.m.now c.args.self.now _ c.requires.number refl refl refl programs (guest_computes c.args.thread c.note_compute.ensures refl)
-
-pub returns-clause-table : goal.returns-clause-table
-returns-clause-table g c = λ step.
-    let I = g.I.CallLayer in
-    let m = c.args.m.now in
-    let p = c.args.self.now in
-    let cpu = layered (laws_of g.met.I.CallLayer) m p c.requires.fits c.requires.number c.requires.is c.requires.table in
-    subst (λ (l : List (Option Guest)). IsTabled (homes_in (I.opening m)) (caps_in (I.opening m)) p.number (I.own p.part) (I.under_way p.part) l (I.opening m))
-    (sym c.note_compute.ensures) (compute_tabled (tabled_cpu cpu step) c.args.thread c.requires.chosen)
-
-pub returns-clause-steps : goal.returns-clause-steps
-returns-clause-steps g c = λ step.
-    let I = g.I.CallLayer in
-    let m = c.args.m.now in
-    let p = c.args.self.now in
-    let cpu = layered (laws_of g.met.I.CallLayer) m p c.requires.fits c.requires.number c.requires.is c.requires.table in
-    subst (λ (l : List (Option Guest)). WentByTable (λ d. I.ActsFor m d) (homes_in (I.opening m)) (caps_in (I.opening m)) p.number p.limit (I.own p.part)
-    (I.own p.part) p.guests.items l p.trace.items p.trace.items (I.acts m) (I.acts m) Stepped) (sym c.note_compute.ensures)
-    (λ setup of. compute_steps (tabled_cpu cpu step) c.args.thread c.requires.chosen _ _ (outset cpu step) c.requires.live setup of)
+    let goes = c.requires.goes in
+    let cpu = layered (laws_of g.met.I.CallLayer) m p goes.agrees in
+    let programs = ap programs_of c.note_compute.ensures ∙ programs_with p.guests.items c.args.thread.0 _ (λ x. refl) in
+    record {
+      live = goes.live;
+      agrees = record {
+        fits = goes.agrees.fits;
+        number = goes.agrees.number;
+        is = subst (λ (l : List (Option Guest)). IsCpu (homes_in (I.opening m)) (length (caps_in (I.opening m))) (I.seen m) (threads_in (I.own p.part))
+            (I.own p.part).call_states (I.under_way p.part) p.number l p.trace.items p.limit
+            (vec_capacity p.trace)) (sym c.note_compute.ensures)
+            (noted_compute (valid_cpu cpu.is) c.args.thread c.requires.chosen);
+        table = λ step.
+            subst (λ (l : List (Option Guest)). IsTabled (homes_in (I.opening m)) (caps_in (I.opening m)) p.number (I.own p.part) (I.under_way p.part) l
+            (I.opening m)) (sym c.note_compute.ensures) (compute_tabled (tabled_cpu cpu step) c.args.thread c.requires.chosen);
+      };
+      leaves = left_alone I m p _ goes.agrees.number refl refl refl programs (guest_computes c.args.thread c.note_compute.ensures refl);
+      steps = λ step.
+          subst (λ (l : List (Option Guest)). WentByTable (λ d. I.ActsFor m d) (homes_in (I.opening m)) (caps_in (I.opening m)) p.number p.limit (I.own p.part)
+          (I.own p.part) p.guests.items l p.trace.items p.trace.items (I.acts m) (I.acts m) Stepped) (sym c.note_compute.ensures)
+          (λ setup of. compute_steps (tabled_cpu cpu step) c.args.thread c.requires.chosen _ _ (outset cpu step) goes.live setup of);
+    }

@@ -1,75 +1,56 @@
-use Rattle.std.proofs.Common.{rules, ◌≡◌, ◌+◌, ◌-◌, ◌<◌, ◌≤◌, refl, arith}
-use Rattle.cpu.{specs.CpuSteps.RunsAt, proofs.{CpuSteps.CpuRuns.{AgreesAt, runs_agree, runs_room, stepped_so}, OverLayer.CpuOverLayer.{laws_of, layered}}}
-use Rattle.cpu.proofs.{OverLayer.CpuOverLayer.runs_within, cpus.Cpu.drains.{Given.Over, Goals.{At-loop-taken, Then-look, After-pass}}}
+use Rattle.std.proofs.Common.{rules, refl, ◌∙◌, ◌+◌, arith}
+use Rattle.cpu.{specs.CpuSteps.RunsAt, proofs.{CpuSteps.CpuRuns.{goes_later, goes_once, runs_on}, OverLayer.CpuOverLayer.{laws_of, layered}}}
+use Rattle.cpu.proofs.{OverLayer.CpuOverLayer.runs_within, cpus.Cpu.drains.{Given.Over, Goals.{After-looks-looks, After-pass}}}
 use Rattle.cpu.proofs.cpus.Cpu.drains.Goals as goal
 
 pub loop-taken-init : goal.loop-taken-init
-loop-taken-init g c = record { few = c.requires.some; live = c.requires.live; chosen = c.requires.chosen; ran = RunsAt.none }
+loop-taken-init g c = record { few = c.requires.goes.some; live = c.requires.goes.live; chosen = c.requires.chosen; ran = RunsAt.none }
 
--- the CPU and its machine after the steps so far
-module _ (g : Over) (c : At-loop-taken g) where
-  begins : AgreesAt g.I.CallLayer c.args.m.now c.args.self.now
-  begins = record { fits = c.requires.fits; number = c.requires.number; is = c.requires.is; table = c.requires.table }
+pub pass-requires-clause-goes : goal.pass-requires-clause-goes
+pass-requires-clause-goes g c =
+    let so = c.loop-taken.invariant in
+    goes_once (goes_later c.requires.goes so.ran so.few so.live)
 
-  agrees : AgreesAt g.I.CallLayer c.loop-taken.m c.loop-taken.self
-  agrees = runs_agree begins c.loop-taken.invariant.ran
-
-  left : c.args.most - c.loop-taken.taken ≤ g.I.CallLayer.room c.loop-taken.m
-  left = grind (arith, runs_room)
-
-pub look-requires : goal.look-requires
-look-requires g c =
-    let at = (goal.at.look-requires g c).At-loop-taken in
-    let agrees = agrees g at in
-    let left = left g at in
-    record { fits = agrees.fits; room = omega arith; number = agrees.number; is = agrees.is; table = agrees.table }
-
--- a look that was a step
-ran_looking : (g : Over) (c : Then-look g) → RunsAt g.I.CallLayer c.args.m.now c.args.self.now (c.loop-taken.taken + 1) c.look.new.m c.look.new.self
-ran_looking g c = RunsAt.more c.loop-taken.invariant.ran (stepped_so c.look.ensures.leaves c.loop-taken.invariant.live c.look.ensures.fits
-    c.look.ensures.is c.look.ensures.table (λ step. c.if-look.ensures.steps step refl))
-
-pub returns-then-looked-clause-ran : goal.returns-then-looked-clause-ran
-returns-then-looked-clause-ran g c = ran_looking g (goal.at.returns-then-looked-clause-ran g c).Then-look
-
-pub loop-taken-preserved-then-look : goal.loop-taken-preserved-then-look
-loop-taken-preserved-then-look g c =
-    let few = c.loop-taken.invariant.few in
-    grind (arith, few, ran_looking)
-
-pub pass-requires-clause-room : goal.pass-requires-clause-room
-pass-requires-clause-room g c =
-    let few = c.loop-taken.invariant.few in
-    let some : 0 < g.I.CallLayer.room c.loop-taken.m = omega (arith, left g (goal.at.pass-requires-clause-room g c).At-loop-taken, few) in
-    rw (c.if-look.ensures.still refl).1 some
-
--- the drain's poll, where no look was due
-module _ (g : Over) (c : After-pass g) where
-  still : (c.look.new.self ≡ c.loop-taken.self) × (c.look.new.m ≡ c.loop-taken.m)
-  still = c.if-look.ensures.still refl
-
-  ran_before : RunsAt g.I.CallLayer c.args.m.now c.args.self.now c.loop-taken.taken c.look.new.m c.look.new.self
-  ran_before = rw (still.0, still.1) c.loop-taken.invariant.ran
-
-  ran_polling : RunsAt g.I.CallLayer c.args.m.now c.args.self.now (c.loop-taken.taken + 1) c.pass.new.m c.pass.new.self
-  ran_polling = RunsAt.more ran_before (stepped_so c.pass.ensures.leaves (rw still.0 c.loop-taken.invariant.live) c.pass.ensures.fits c.pass.ensures.is
-      c.pass.ensures.table c.pass.ensures.steps)
+-- the steps with the drain's poll among them
+ran_polling : (g : Over) (c : After-pass g) → RunsAt g.I.CallLayer c.args.m.now c.args.self.now (c.loop-taken.taken + 1) c.pass.new.m c.pass.new.self
+ran_polling g c = RunsAt.more c.loop-taken.invariant.ran c.pass.ensures
 
 pub goes_on_draining-requires : goal.goes_on_draining-requires
 goes_on_draining-requires g c =
-    let at = (goal.at.goes_on_draining-requires g c).After-pass in
-    let agrees = runs_agree (begins g (goal.at-After-pass g at).At-loop-taken) (ran_polling g at) in
-    runs_within (layered (laws_of g.met.I.CallLayer) c.pass.new.m c.pass.new.self agrees.fits agrees.number agrees.is agrees.table)
+    runs_within (layered (laws_of g.met.I.CallLayer) c.pass.new.m c.pass.new.self c.pass.ensures.agrees)
 
-pub returns-then-taken-most-2-clause-ran : goal.returns-then-taken-most-2-clause-ran
-returns-then-taken-most-2-clause-ran g c = ran_polling g (goal.at.returns-then-taken-most-2-clause-ran g c).After-pass
+pub returns-then-taken-most : goal.returns-then-taken-most
+returns-then-taken-most g c =
+    let few = c.loop-taken.invariant.few in
+    record { some = omega arith; few = omega (arith, few); ran = ran_polling g (goal.at.returns-then-taken-most g c).After-pass }
+
+pub looks-looks-requires : goal.looks-looks-requires
+looks-looks-requires g c =
+    let few = c.loop-taken.invariant.few in
+    goes_later c.requires.goes (ran_polling g (goal.at.looks-looks-requires g c).After-pass) (grind (arith, few)) (search rules)
+
+-- and the looks behind it
+ran_looking : (g : Over) (c : After-looks-looks g)
+    → RunsAt g.I.CallLayer c.args.m.now c.args.self.now ((c.loop-taken.taken + 1) + c.looks-looks.result) c.looks-looks.new.m c.looks-looks.new.self
+ran_looking g c = runs_on (ran_polling g (goal.at-After-looks-looks g c).After-pass) c.looks-looks.ensures.ran
+
+pub returns-then-looks-eq-MISSED : goal.returns-then-looks-eq-MISSED
+returns-then-looks-eq-MISSED g c =
+    let before = c.loop-taken.invariant.few in
+    let looks = c.looks-looks.ensures.few in
+    record {
+      some = omega arith;
+      few = omega (arith, before, looks);
+      ran = ran_looking g (goal.at.returns-then-looks-eq-MISSED g c).After-looks-looks;
+    }
 
 pub loop-taken-preserved : goal.loop-taken-preserved
 loop-taken-preserved g c =
-    let few = c.loop-taken.invariant.few in
+    let before = c.loop-taken.invariant.few in
+    let looks = c.looks-looks.ensures.few in
     record {
-      few = grind (arith, few, c.if-taken-most-2.false);
-      live = search rules;
-      chosen = search rules;
-      ran = ran_polling g (goal.at.loop-taken-preserved g c).After-pass;
+      few = grind (arith, before, looks, c.if-taken-most-2.false);
+      live = c.looks-looks.ensures.live;
+      chosen = c.looks-looks.ensures.chosen ∙ c.if-not-goes_on_draining.ensures.chosen refl;
+      ran = ran_looking g (goal.at.loop-taken-preserved g c).After-looks-looks;
     }

@@ -10,7 +10,7 @@ use Rattle.cpu.proofs.cpus.Cpu.pass.Goals as goal
 
 -- the CPU over its layers
 abbrev cpu : (g : Over) (c : Start g) → IsLayered g.I.CallLayer c.args.m.now c.args.self.now
-cpu g c = layered (laws_of g.met.I.CallLayer) c.args.m.now c.args.self.now c.requires.fits c.requires.number c.requires.is c.requires.table
+cpu g c = layered (laws_of g.met.I.CallLayer) c.args.m.now c.args.self.now c.requires.goes.agrees
 
 -- a pass that ended changed the guest of the thread that ran, if one did
 passed_so : {number : CpuId} {trace : List Entry} (runs : Option Tid) (guests guests2 : List (Option Guest)) (pass : Pass)
@@ -20,57 +20,11 @@ passed_so (Some t) guests guests2 pass is = guest_passes t pass is refl
 
 pub pass-done-requires-clause-may : goal.pass-done-requires-clause-may
 pass-done-requires-clause-may g c =
-    may_pass (valid_cpu c.requires.is) c.args.pass (runs_home (cpu g (goal.at.pass-done-requires-clause-may g c).Start)) c.requires.chosen
+    may_pass (valid_cpu c.requires.goes.agrees.is) c.args.pass (runs_home (cpu g (goal.at.pass-done-requires-clause-may g c).Start)) c.requires.chosen
 
 pub note_pass-requires : goal.note_pass-requires
 note_pass-requires g c = λ t runs.
-    current_within (valid_cpu c.requires.is) (runs_home (cpu g (goal.at.note_pass-requires g c).Start)) t (sym c.current-runs.ensures ∙ runs)
-
-pub returns-then-is_some-clause-is : goal.returns-then-is_some-clause-is
-returns-then-is_some-clause-is g c =
-    let I = g.I.CallLayer in
-    let m = c.args.m.now in
-    let p = c.args.self.now in
-    let cpu = cpu g (goal.at.returns-then-is_some-clause-is g c).Start in
-    let some : is_some c.pass-done.result ≡ true = search rules in
-    let told = c.pass-done.ensures.passed in
-    rw (c.pass-done.ensures.framed.stays.opening, c.pass-done.ensures.call_states)
-    (noted_done (valid_cpu c.requires.is) c.args.pass (pending_by (told.others ++ I.moves m) (I.cpu_of p.part)) (I.seen c.pass-done.new.m)
-    (threads_in (I.own c.pass-done.new.self)) (I.under_way c.pass-done.new.self) c.note_pass.new.self.items (runs_home cpu) c.requires.chosen
-    (others_same (λ d. I.ActsFor m d) p.number (I.seen m) (I.seen c.pass-done.new.m) c.pass-done.ensures.seen (acts_for cpu))
-    (rw some at told.after)
-    (c.pass-done.ensures.under_way ∙ (grind (arith, some)))
-    (c.note_pass.ensures ∙ ap (λ (o : Option Tid). passed_by o p.guests.items c.args.pass) c.current-runs.ensures))
-
-pub returns-then-is_some-clause-leaves : goal.returns-then-is_some-clause-leaves
-returns-then-is_some-clause-leaves g c =
-    let e = c.pass-done.ensures in
-    left_framed g.I.CallLayer c.args.m.now c.pass-done.new.m c.args.self.now _ c.requires.number refl refl e.framed
-    (ap programs_of c.note_pass.ensures ∙ (grind (arith, programs_with))) (passed_so c.current-runs.result _ _ c.args.pass c.note_pass.ensures)
-    (others_grow _ _ _ _ e.seen)
-    (rw (← c.requires.number) (passed_grows _ _ _ _ _ _ _ _ _ e.passed))
-    (λ step. rw (← c.requires.number) (follows_grow _ _ _ _ _ _ _ _ (e.follows step)))
-
-pub returns-else-is_some-clause-is : goal.returns-else-is_some-clause-is
-returns-else-is_some-clause-is g c =
-    let I = g.I.CallLayer in
-    let m = c.args.m.now in
-    let cpu = cpu g (goal.at.returns-else-is_some-clause-is g c).Start in
-    let none : is_some c.pass-done.result ≡ false = search rules in
-    rw (c.pass-done.ensures.framed.stays.opening, c.pass-done.ensures.call_states)
-    (noted_wait (valid_cpu c.requires.is) c.args.pass (I.seen c.pass-done.new.m) (threads_in (I.own c.pass-done.new.self))
-    (I.under_way c.pass-done.new.self) c.requires.chosen
-    (others_same (λ d. I.ActsFor m d) c.args.self.now.number (I.seen m) (I.seen c.pass-done.new.m) c.pass-done.ensures.seen (acts_for cpu))
-    (rw none at c.pass-done.ensures.passed.after)
-    (c.pass-done.ensures.under_way ∙ (grind (arith, none))))
-
-pub returns-else-is_some-clause-leaves : goal.returns-else-is_some-clause-leaves
-returns-else-is_some-clause-leaves g c =
-    let e = c.pass-done.ensures in
-    left_framed g.I.CallLayer c.args.m.now c.pass-done.new.m c.args.self.now _ c.requires.number refl refl e.framed
-    refl (guests_rest refl refl) (others_grow _ _ _ _ e.seen)
-    (rw (← c.requires.number) (passed_grows _ _ _ _ _ _ _ _ _ e.passed))
-    (λ step. rw (← c.requires.number) (follows_grow _ _ _ _ _ _ _ _ (e.follows step)))
+    current_within (valid_cpu c.requires.goes.agrees.is) (runs_home (cpu g (goal.at.note_pass-requires g c).Start)) t (sym c.current-runs.ensures ∙ runs)
 
 -- what the poll leaves of the CPU over the tower, with these guests
 abbrev tabled : (g : Over) (c : After-pass-done g) (step : g.I.CallLayer.IsStepwise) (guests : List (Option Guest))
@@ -94,37 +48,74 @@ tabled g c step guests is =
       known = hand_preserved (homes_in (I.opening m)) (homes_in (I.opening n)) (I.cpu_of q) (I.moves n) (threads_in (I.own q))
           (ap homes_in c.pass-done.ensures.framed.stays.opening)
           (law.stands q n c.pass-done.ensures.framed.fits) (law.moves_legal n (I.cpu_of q) (law.own_cpu q n c.pass-done.ensures.framed.fits));
-      follows = rw c.requires.number at (c.pass-done.ensures.follows step);
+      follows = rw c.requires.goes.agrees.number at (c.pass-done.ensures.follows step);
       threads_are = grind (arith, told.after);
       under_way_is = c.pass-done.ensures.under_way;
       at_once = told.at_once;
       guests_are = is;
     }
 
-pub returns-then-is_some-clause-table : goal.returns-then-is_some-clause-table
-returns-then-is_some-clause-table g c = λ step.
-    let cpu = cpu g (goal.at.returns-then-is_some-clause-table g c).Start in
-    rw c.pass-done.ensures.framed.stays.opening
-    (pass_tabled (tabled_cpu cpu step) c.args.pass c.requires.chosen _ _
-    (tabled g (goal.at.returns-then-is_some-clause-table g c).After-pass-done step c.note_pass.new.self.items (grind arith)))
+-- the pass came to its end
+pub returns-then-is_some : goal.returns-then-is_some
+returns-then-is_some g c =
+    let I = g.I.CallLayer in
+    let m = c.args.m.now in
+    let p = c.args.self.now in
+    let at = (goal.at.returns-then-is_some g c).After-pass-done in
+    let cpu = cpu g (goal.at.returns-then-is_some g c).Start in
+    let some : is_some c.pass-done.result ≡ true = search rules in
+    let e = c.pass-done.ensures in
+    let told = e.passed in
+    let goes = c.requires.goes in
+    let number = goes.agrees.number in
+    record {
+      live = goes.live;
+      agrees = record {
+        fits = e.framed.fits;
+        number = e.framed.cpu ∙ number;
+        is = rw (e.framed.stays.opening, e.call_states)
+            (noted_done (valid_cpu cpu.is) c.args.pass (pending_by (told.others ++ I.moves m) (I.cpu_of p.part)) (I.seen c.pass-done.new.m)
+            (threads_in (I.own c.pass-done.new.self)) (I.under_way c.pass-done.new.self) c.note_pass.new.self.items (runs_home cpu) c.requires.chosen
+            (others_same (λ d. I.ActsFor m d) p.number (I.seen m) (I.seen c.pass-done.new.m) e.seen (acts_for cpu)) (rw some at told.after)
+            (e.under_way ∙ (grind (arith, some)))
+            (c.note_pass.ensures ∙ ap (λ (o : Option Tid). passed_by o p.guests.items c.args.pass) c.current-runs.ensures));
+        table = λ step. rw e.framed.stays.opening
+            (pass_tabled (tabled_cpu cpu step) c.args.pass c.requires.chosen _ _ (tabled g at step c.note_pass.new.self.items (grind arith)));
+      };
+      leaves = left_framed I m c.pass-done.new.m p _ number refl refl e.framed (ap programs_of c.note_pass.ensures ∙ (grind (arith, programs_with)))
+          (passed_so c.current-runs.result _ _ c.args.pass c.note_pass.ensures) (others_grow _ _ _ _ e.seen)
+          (rw (← number) (passed_grows _ _ _ _ _ _ _ _ _ e.passed)) (λ step. rw (← number) (follows_grow _ _ _ _ _ _ _ _ (e.follows step)));
+      steps = λ step setup of. pass_steps (tabled_cpu cpu step) c.args.pass c.requires.chosen _ _
+          (tabled g at step c.note_pass.new.self.items (grind arith)) setup of (outset cpu step) goes.live;
+    }
 
-pub returns-then-is_some-clause-steps : goal.returns-then-is_some-clause-steps
-returns-then-is_some-clause-steps g c = λ step.
-    let cpu = cpu g (goal.at.returns-then-is_some-clause-steps g c).Start in
-    λ setup of. pass_steps (tabled_cpu cpu step) c.args.pass c.requires.chosen _ _
-    (tabled g (goal.at.returns-then-is_some-clause-steps g c).After-pass-done step c.note_pass.new.self.items (grind arith)) setup of (outset cpu step)
-    c.requires.live
-
-pub returns-else-is_some-clause-table : goal.returns-else-is_some-clause-table
-returns-else-is_some-clause-table g c = λ step.
-    let cpu = cpu g (goal.at.returns-else-is_some-clause-table g c).Start in
-    rw c.pass-done.ensures.framed.stays.opening
-    (pass_tabled (tabled_cpu cpu step) c.args.pass c.requires.chosen _ _
-    (tabled g (goal.at.returns-else-is_some-clause-table g c).After-pass-done step c.args.self.now.guests.items (grind arith)))
-
-pub returns-else-is_some-clause-steps : goal.returns-else-is_some-clause-steps
-returns-else-is_some-clause-steps g c = λ step.
-    let cpu = cpu g (goal.at.returns-else-is_some-clause-steps g c).Start in
-    λ setup of. pass_steps (tabled_cpu cpu step) c.args.pass c.requires.chosen _ _
-    (tabled g (goal.at.returns-else-is_some-clause-steps g c).After-pass-done step c.args.self.now.guests.items (grind arith)) setup of (outset cpu step)
-    c.requires.live
+-- it has yet to
+pub returns-else-is_some : goal.returns-else-is_some
+returns-else-is_some g c =
+    let I = g.I.CallLayer in
+    let m = c.args.m.now in
+    let p = c.args.self.now in
+    let at = (goal.at.returns-else-is_some g c).After-pass-done in
+    let cpu = cpu g (goal.at.returns-else-is_some g c).Start in
+    let none : is_some c.pass-done.result ≡ false = search rules in
+    let e = c.pass-done.ensures in
+    let goes = c.requires.goes in
+    let number = goes.agrees.number in
+    record {
+      live = goes.live;
+      agrees = record {
+        fits = e.framed.fits;
+        number = e.framed.cpu ∙ number;
+        is = rw (e.framed.stays.opening, e.call_states)
+            (noted_wait (valid_cpu cpu.is) c.args.pass (I.seen c.pass-done.new.m) (threads_in (I.own c.pass-done.new.self))
+            (I.under_way c.pass-done.new.self) c.requires.chosen
+            (others_same (λ d. I.ActsFor m d) p.number (I.seen m) (I.seen c.pass-done.new.m) e.seen (acts_for cpu)) (rw none at e.passed.after)
+            (e.under_way ∙ (grind (arith, none))));
+        table = λ step. rw e.framed.stays.opening
+            (pass_tabled (tabled_cpu cpu step) c.args.pass c.requires.chosen _ _ (tabled g at step p.guests.items (grind arith)));
+      };
+      leaves = left_framed I m c.pass-done.new.m p _ number refl refl e.framed refl (guests_rest refl refl) (others_grow _ _ _ _ e.seen)
+          (rw (← number) (passed_grows _ _ _ _ _ _ _ _ _ e.passed)) (λ step. rw (← number) (follows_grow _ _ _ _ _ _ _ _ (e.follows step)));
+      steps = λ step setup of. pass_steps (tabled_cpu cpu step) c.args.pass c.requires.chosen _ _
+          (tabled g at step p.guests.items (grind arith)) setup of (outset cpu step) goes.live;
+    }

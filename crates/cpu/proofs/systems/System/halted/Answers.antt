@@ -19,7 +19,8 @@ module _ (g : Over) (c : After-index-at g) where
   abbrev cpu : IsLayered g.I.CallLayer c.self.inside.machine c.index-at.result.now
   cpu =
       let is = (c.self.invariant.each c.from.result c.index-at.result.now at).holds in
-      layered (laws_of g.met.I.CallLayer) c.self.inside.machine c.index-at.result.now is.0 is.1 is.2 is.3
+      layered (laws_of g.met.I.CallLayer) c.self.inside.machine c.index-at.result.now
+      (record { fits = is.0; number = is.1; is = is.2; table = is.3 })
 
 pub reason-requires : goal.reason-requires
 reason-requires g c = runs_within (cpu g (goal.at.reason-requires g c).After-index-at)

@@ -73,7 +73,7 @@ returns-clause-observed g c = λ step.
     λ setup goes. shown_at shown (λ j q. CpuIsObserved setup s j q) items (λ j x there.
     let at = (is.each j x there).holds in
     let number = (is.each j x there).number_is in
-    let cpu = layered (laws_of g.met.I.CallLayer) m x at.0 at.1 at.2 at.3 in
+    let cpu = layered (laws_of g.met.I.CallLayer) m x (record { fits = at.0; number = at.1; is = at.2; table = at.3 }) in
     let halted = halted_same (tabled_cpu cpu step) setup (goes.goes.each j (shown x) (shows_at shown items j x there)) in
     let pending = pending_read setup machine x.number (I.opening m) (at.3 step).opens (caps setup goes) are in
     record {

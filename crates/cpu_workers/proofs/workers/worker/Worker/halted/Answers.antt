@@ -9,7 +9,7 @@ halted-requires g c =
     let m = c.self.inside.machine in
     let p = c.self.inside.cpu in
     let is = c.self.invariant in
-    let cpu = layered (laws_of g.met.I.CallLayer) m p is.fits is.number is.is (λ step. is.tabled) in
+    let cpu = layered (laws_of g.met.I.CallLayer) m p (record { fits = is.fits; number = is.number; is = is.is; table = λ step. is.tabled }) in
     current_within (valid_cpu is.is) (runs_home cpu)
 
 pub returns-clause-is : goal.returns-clause-is
@@ -18,7 +18,7 @@ returns-clause-is g c = λ setup of.
     let m = c.self.inside.machine in
     let p = c.self.inside.cpu in
     let is = c.self.invariant in
-    let cpu = layered (laws_of g.met.I.CallLayer) m p is.fits is.number is.is (λ step. is.tabled) in
+    let cpu = layered (laws_of g.met.I.CallLayer) m p (record { fits = is.fits; number = is.number; is = is.is; table = λ step. is.tabled }) in
     let same = halted_same (tabled_cpu cpu is.stepwise) setup
     (table_planned setup (homes_in (I.opening m)) (caps_in (I.opening m)) p.guests.items p.limit
     (subst (λ (w : Working). IsPlanned setup w.plan) (sym c.self.view_is) of)) in

@@ -7,6 +7,10 @@ pub step-requires-clause-room : goal.step-requires-clause-room
 step-requires-clause-room g c =
     let some = c.self.invariant.room.0 in let room = c.self.invariant.room.1 c.self.inside.machine in omega (arith, some, room)
 
+pub step-requires-clause-agrees : goal.step-requires-clause-agrees
+step-requires-clause-agrees g c =
+    let is = c.self.invariant in record { fits = is.fits; number = is.number; is = is.is; table = λ step. is.tabled }
+
 pub invariant_of-self : goal.invariant_of-self
 invariant_of-self g c =
     let is = c.self.invariant in

@@ -1,28 +1,36 @@
-use Rattle.std.proofs.Common.{refl, ap, sym, ◌∙◌, arith}
+use Rattle.std.proofs.Common.{rules, refl, ap, sym, ◌∙◌, arith}
 use Rattle.{event_log.{specs.{declared.ids.CpuId.CpuId, Actions.phase}, proofs.Renaming.phase_renamed}, layer_traits.specs.Polling.Plans.is_in_section}
 use Rattle.{layer_traits.specs.Blocks.{Capacities.caps_in, QueueBlocks.homes_in}, cpu.{specs.Tower.Views.name_of, proofs.StepTable.TableRows.halted_same}}
-use Rattle.cpu.proofs.{CpuSteps.CpuRuns.{AgreesAt, runs_agree}, OverLayer.CpuOverLayer.{laws_of, layered, runs_within, tabled_cpu}}
+use Rattle.cpu.proofs.{CpuSteps.CpuRuns.runs_agree, OverLayer.CpuOverLayer.{laws_of, layered, runs_within, tabled_cpu}}
 use Rattle.cpu_workers.{specs.Working.TookTurns, proofs.{Planning.table_planned, RunsOfTurns.{opens_same, stops_still, turns_of}}}
 use Rattle.cpu_workers.proofs.workers.worker.Worker.turns.Goals as goal
 
 pub reason-requires : goal.reason-requires
 reason-requires g c =
     let is = c.self.invariant in
-    runs_within (layered (laws_of g.met.I.CallLayer) c.self.inside.machine c.self.inside.cpu is.fits is.number is.is (λ step. is.tabled))
+    runs_within (layered (laws_of g.met.I.CallLayer) c.self.inside.machine c.self.inside.cpu
+    (record { fits = is.fits; number = is.number; is = is.is; table = λ step. is.tabled }))
 
 pub returns-then-is_some-clause-took : goal.returns-then-is_some-clause-took
 returns-then-is_some-clause-took g c = TookTurns.no_turns
 
-pub go_on-requires-clause-room : goal.go_on-requires-clause-room
-go_on-requires-clause-room g c = let some = c.self.invariant.room.0 in let room = c.self.invariant.room.1 c.self.inside.machine in grind (arith, some, room)
+pub run-requires : goal.run-requires
+run-requires g c =
+    let is = c.self.invariant in
+    let some = is.room.0 in
+    let room = is.room.1 c.self.inside.machine in
+    record {
+      agrees = record { fits = is.fits; number = is.number; is = is.is; table = λ step. is.tabled };
+      some = grind (arith, some);
+      room = grind (arith, some, room);
+      live = search rules;
+    }
 
 pub invariant_of-self : goal.invariant_of-self
 invariant_of-self g c =
     let is = c.self.invariant in
-    let ran = c.go_on.ensures.ran in
-    let agrees : AgreesAt g.I.CallLayer c.self.inside.machine c.self.inside.cpu =
-    record { fits = is.fits; number = is.number; is = is.is; table = λ step. is.tabled } in
-    let at = runs_agree agrees ran in
+    let ran = c.run.ensures.ran in
+    let at = runs_agree (record { fits = is.fits; number = is.number; is = is.is; table = λ step. is.tabled }) ran in
     record {
       stepwise = is.stepwise;
       fits = at.fits;
@@ -36,9 +44,8 @@ invariant_of-self g c =
 pub returns-clause-took : goal.returns-clause-took
 returns-clause-took g c =
     let is = c.self.invariant in
-    let agrees : AgreesAt g.I.CallLayer c.self.inside.machine c.self.inside.cpu =
-    record { fits = is.fits; number = is.number; is = is.is; table = λ step. is.tabled } in
-    rw (← c.self.view_is) (turns_of g.I.CallLayer g.met.I.CallLayer.own_cpu is.stepwise agrees c.go_on.ensures.ran)
+    rw (← c.self.view_is) (turns_of g.I.CallLayer g.met.I.CallLayer.own_cpu is.stepwise
+    (record { fits = is.fits; number = is.number; is = is.is; table = λ step. is.tabled }) c.run.ensures.ran)
 
 pub returns-then-is_some-clause-some : goal.returns-then-is_some-clause-some
 returns-then-is_some-clause-some g c =
@@ -47,7 +54,7 @@ returns-then-is_some-clause-some g c =
     let m = c.self.inside.machine in
     let p = c.self.inside.cpu in
     let is = c.self.invariant in
-    let cpu = layered (laws_of law) m p is.fits is.number is.is (λ step. is.tabled) in
+    let cpu = layered (laws_of law) m p (record { fits = is.fits; number = is.number; is = is.is; table = λ step. is.tabled }) in
     let busy = law.busy p.part m is.fits is.stepwise
     ∙ (ap (λ (d : CpuId). is_in_section (phase d (I.acts m))) is.number ∙ ap is_in_section (sym (phase_renamed name_of p.number (I.acts m)))) in
     rw (← c.self.view_is) (λ setup of may. stops_still _ _ _ _ _ busy (halted_same (tabled_cpu cpu is.stepwise) setup
