@@ -42,8 +42,7 @@ module _ {P L M : Type 0} {I : Ghosts P L M} (laws : PartLaws I) (m : M) (p : Cp
       table = λ step. rw (looked.own, looked.under_way, looked.framed.stays.opening, number, guests) (cpu.table step);
     };
     leaves = left_framed I m n p r cpu.number number limit looked.framed (ap programs_of guests)
-        (guests_rest guests trace) (others_grow _ _ _ _ looked.seen)
-        (rw cpu.number at looked.moves)
+        (guests_rest guests trace) (others_grow _ _ _ _ looked.seen) (rw cpu.number at looked.moves)
         (λ step. look_grows (λ d. I.ActsFor m d) p.number (I.acts m) (I.acts n) true
         (λ yes. subst (λ (d : CpuId). Tries (λ e. I.ActsFor m e) d (I.acts m) (I.acts n)) cpu.number (looked.tries step refl)) (λ no. absurd (cc no)));
     steps = λ step. rw (guests, trace) (looked_steps (λ d. I.ActsFor m d) (homes_in (I.opening m)) (caps_in (I.opening m)) (I.cpu_of p.part) p.number p.limit
@@ -125,10 +124,8 @@ module _ {P L M : Type 0} {I : Ghosts P L M} (laws : PartLaws I) (m : M) (p : Cp
             (poll_tabled (tabled_cpu cpu step) t call chose _ _ (outset cpu step) live (tabled_poll step));
       };
       leaves = left_framed I m n p r cpu.number number limit polled_so.framed
-          (ap programs_of guests_is ∙ programs_with p.guests.items t.0 _ (λ x. refl))
-          went
-          (called_grows _ _ _ _ _ _ _ _ _ (rw cpu.number at (polled_so.called there)))
-          (rw cpu.number at polled_so.moves)
+          (ap programs_of guests_is ∙ programs_with p.guests.items t.0 _ (λ x. refl)) went
+          (called_grows _ _ _ _ _ _ _ _ _ (rw cpu.number at (polled_so.called there))) (rw cpu.number at polled_so.moves)
           (λ step. rw (← cpu.number) (follows_grow _ _ _ _ _ _ _ _ (polled_so.follows step)));
       steps = λ step setup of. poll_by_table (tabled_cpu cpu step) t call chose _ _ (outset cpu step) live (tabled_poll step) setup of;
     }
@@ -193,8 +190,7 @@ module _ {P L M : Type 0} {I : Ghosts P L M} (laws : PartLaws I) (m : M) (p : Cp
     live_between : stops_at I (between q) ≡ None
     live_between = grind (arith, chose_between, begins_between, list_all_at, guest_within, guest_between)
 
-    free_between : begins_at (guest_at (between q).guests.items t.0) ≡ true
-        → length p.trace.items + begun_count (between q).guests.items < p.limit
+    free_between : begins_at (guest_at (between q).guests.items t.0) ≡ true → length p.trace.items + begun_count (between q).guests.items < p.limit
     free_between begin = absurd (cc (begin, begins_between))
 
     fresh_same : (e : Option Effect) → fresh_at (guest_at p.guests.items t.0) e ≡ fresh_at (guest_at (between q).guests.items t.0) e

@@ -161,8 +161,7 @@ module _ (cpu : ValidCpu) (t : Tid) (c : Call) (chose : chosen cpu.own cpu.guest
           stays_settled c (call_state_of states2 t) answer called.answers,
           subst (λ (l : List Entry). HasComeIn next.stage g.program next.thread l (begun_of (call_state_of states2 t)) left)
               (sym (grind (arith, eq-eqb))) follow_t.1,
-        )
-        (λ k y other there.
+        ) (λ k y other there.
         subst (λ (l : List Entry). HasCome y l (call_state_of states2 (record { 0 = k })))
         (sym (grind (arith, ne_eqb, other)))
         (subst (λ (call_state : CallState). HasCome y (of_thread k (of_cpu number seen)) call_state) (sym (called.apart (record { 0 = k }) other))

@@ -27,8 +27,7 @@ pub record ValidCpu : Type 0 where
 
 -- the CPU of which a fact tells that it holds
 abbrev pub valid_cpu : {homes : List CpuId} {buffers : ℕ} {seen : List Entry} {own : Threads} {call_states : List CallState} {under_way : Option UnderWay}
-    {number : CpuId}
-    {guests : List (Option Guest)} {trace : List Entry} {limit capacity : ℕ}
+    {number : CpuId} {guests : List (Option Guest)} {trace : List Entry} {limit capacity : ℕ}
     → IsCpu homes buffers seen own call_states under_way number guests trace limit capacity → ValidCpu
 valid_cpu {homes} {buffers} {seen} {own} {call_states} {under_way} {number} {guests} {trace} {limit} {capacity} is = record {
   state = record {

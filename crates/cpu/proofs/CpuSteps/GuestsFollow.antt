@@ -69,8 +69,7 @@ calls_more program es s (ins.Send b from k) (Send q m) f cpu t at todo is calls 
     sent_more program es s b (entry_of cpu t q f) (cc todo) calls from k at (is.1 ∙ cc todo) f.kind refl is.0
 calls_more program es s (ins.Recv b into k) (Recv q) f cpu t at todo is calls =
     received_more program es s b (entry_of cpu t q f) (cc todo) calls into k at f.kind refl is
-calls_more program es s (ins.Close b) (Close q) f cpu t at todo is calls =
-    closed_more program es s b (entry_of cpu t q f) (cc todo) calls at f.kind refl is
+calls_more program es s (ins.Close b) (Close q) f cpu t at todo is calls = closed_more program es s b (entry_of cpu t q f) (cc todo) calls at f.kind refl is
 calls_more program es s other rest f cpu t at todo is calls = absurd cc
 
 module _ (program : List Instruction) (s : State) (i : Instruction) (c : Call) (cpu : CpuId) (t : Tid) (at : next_of program s ≡ i)
@@ -87,8 +86,7 @@ module _ (program : List Instruction) (s : State) (i : Instruction) (c : Call) (
   before : (stage : GuestStage) (es : List Entry) (saved : Option Call) (effect : Option Effect)
       → HasComeIn stage program s es saved effect → Mid (had saved effect) es
   before Idle es saved effect follows = subst (λ (x : Option Call). Mid (had x effect) es) (sym follows.0) follows.1
-  before Begun es saved effect follows =
-      rw follows.2 (subst (λ (x : Option Effect). Mid x es) (sym follows.3) follows.4)
+  before Begun es saved effect follows = rw follows.2 (subst (λ (x : Option Effect). Mid x es) (sym follows.3) follows.4)
   before Done es saved effect follows =
       let same : follows.0 ≡ c = cc (follows.2, here) in
       subst (λ (x : Option Call). Mid (had x effect) es) (sym follows.3)
@@ -96,8 +94,7 @@ module _ (program : List Instruction) (s : State) (i : Instruction) (c : Call) (
         subst (λ (d : Call). IsEffectOf d follows.1) same follows.5,
         subst (λ (j : Instruction). IsProgramsCalls program es (state_after_effect j follows.1 s)) at follows.6,
       ))
-  before Ended es saved effect follows =
-      absurd (cc (subst (λ (j : Instruction). todo_at s j ≡ Calls c) (sym at ∙ follows.2) todo))
+  before Ended es saved effect follows = absurd (cc (subst (λ (j : Instruction). todo_at s j ≡ Calls c) (sym at ∙ follows.2) todo))
 
   -- an effect is fresh where the call had none before
   fresh_none : (stage : GuestStage) (es : List Entry) (saved : Option Call) (effect left : Option Effect)
@@ -106,11 +103,9 @@ module _ (program : List Instruction) (s : State) (i : Instruction) (c : Call) (
 
   -- what one poll does to a guest: which effect is written, and that the guest follows its entries with that one
   pub poll_followed : (stage : GuestStage) (es : List Entry) (saved saved2 : Option Call) (effect effect2 mine : Option Effect) (answer : Option Reply)
-      → HasComeIn stage program s es saved effect
-      → ((f : Effect) → mine ≡ Some f → (had saved effect ≡ None) × (effect2 ≡ Some f) × IsEffectOf c f)
+      → HasComeIn stage program s es saved effect → ((f : Effect) → mine ≡ Some f → (had saved effect ≡ None) × (effect2 ≡ Some f) × IsEffectOf c f)
       → (mine ≡ None → effect2 ≡ had saved effect) → AnsweredBy c saved2 effect2 answer
-      → (mine ≡ fresh_effect stage effect2)
-      × HasComeIn (stage_after effect2 answer) program (after_answer answer i s)
+      → (mine ≡ fresh_effect stage effect2) × HasComeIn (stage_after effect2 answer) program (after_answer answer i s)
       (entries_of cpu t (buffer_of c) (fresh_effect stage effect2) ++ es) saved2 effect2
   poll_followed stage es saved saved2 effect effect2 (Some f) answer follows fresh stays told =
       let new = fresh f refl in

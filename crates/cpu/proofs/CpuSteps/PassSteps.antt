@@ -114,9 +114,8 @@ module _ (cpu : ValidCpu) where
       let after : HasComeIn Idle g.program (computed g).thread (of_thread t.0 (of_cpu number seen)) (begun_of (call_state_of call_states t))
       (call_state_of call_states t).effect =
       (before.0, calls-local g.program (of_thread t.0 (of_cpu number seen)) g.thread before.1) in
-      guest_goes t g computed seen own under_way at refl refl refl
-      (rw at_idle after)
-      (λ over. is.over t over g at) (λ u other over. over) quiet (λ u runs. is.handed u runs (grind arith))
+      guest_goes t g computed seen own under_way at refl refl refl (rw at_idle after) (λ over. is.over t over g at) (λ u other over. over) quiet
+      (λ u runs. is.handed u runs (grind arith))
 
   -- the cases of a chosen pass, where each thread that runs is at home
   pub data PassCase : Pass → Type 0 where
@@ -204,9 +203,8 @@ module _ (cpu : ValidCpu) where
       (guests_stay seen2 (pass_after (MakeReady s) queue own) None same refl (λ d at. absurd (cc at)) (λ u at. absurd (cc at)) (λ u at none. refl))
   case_done (MakeReady s) queue seen2 (sends_on _ t g runs has at) same =
       subst (λ (o : Option Tid). IsCpu homes buffers seen2 (pass_after (MakeReady s) queue own) call_states None number
-      (passed_by o guests (MakeReady s)) trace limit capacity) (sym runs)
-      (guest_goes t g (after_pass (MakeReady s)) seen2 (pass_after (MakeReady s) queue own) None at same refl refl (is.follow t g at).1
-      (λ over. is.over t over g at) (λ u other over. over) (λ d none. absurd (cc none)) (λ u at. refl))
+      (passed_by o guests (MakeReady s)) trace limit capacity) (sym runs) (guest_goes t g (after_pass (MakeReady s)) seen2 (pass_after (MakeReady s) queue own)
+      None at same refl refl (is.follow t g at).1 (λ over. is.over t over g at) (λ u other over. over) (λ d none. absurd (cc none)) (λ u at. refl))
   case_done YieldNow queue seen2 (passes_on t g runs has at asks) same =
       let follows = is.follow t g at in
       let at_idle : g.stage ≡ Idle = grind (arith, follows.1, asks) in
@@ -216,20 +214,16 @@ module _ (cpu : ValidCpu) where
       (call_state_of call_states t).effect =
       (before.0, calls-yield g.program (of_thread t.0 (of_cpu number seen)) g.thread before.1) in
       subst (λ (o : Option Tid). IsCpu homes buffers seen2 (pass_after YieldNow queue own) call_states None number
-      (passed_by o guests YieldNow) trace limit capacity) (sym runs)
-      (guest_goes t g (after_pass YieldNow) seen2 (pass_after YieldNow queue own) None at same refl refl
-      (rw at_idle after)
-      (λ over. is.over t over g at) (λ u other over. over) (λ d none. absurd (cc none)) (λ u at. absurd (cc at)))
+      (passed_by o guests YieldNow) trace limit capacity) (sym runs) (guest_goes t g (after_pass YieldNow) seen2 (pass_after YieldNow queue own) None at same
+      refl refl (rw at_idle after) (λ over. is.over t over g at) (λ u other over. over) (λ d none. absurd (cc none)) (λ u at. absurd (cc at)))
   case_done End queue seen2 (finishes t g runs has at asks) same =
       let follows = is.follow t g at in
       let free = in_no_call g (of_thread t.0 (of_cpu number seen)) (begun_of (call_state_of call_states t))
       (call_state_of call_states t).effect Finish follows.1 asks
       (λ c e. absurd (cc e)) in
       subst (λ (o : Option Tid). IsCpu homes buffers seen2 (pass_after End queue own) call_states None number
-      (passed_by o guests End) trace limit capacity) (sym runs)
-      (guest_goes t g (after_pass End) seen2 (pass_after End queue own) None at same refl (sym free.1)
-      (grind (arith, finish_exit, follows.1, asks))
-      (λ over. refl)
+      (passed_by o guests End) trace limit capacity) (sym runs) (guest_goes t g (after_pass End) seen2 (pass_after End queue own) None at same refl (sym free.1)
+      (grind (arith, finish_exit, follows.1, asks)) (λ over. refl)
       (λ u other over. in_before u t own.ended other (subst (λ (o : Option Tid). is_in u (own.ended ++ as_list o) ≡ true) runs over))
       (λ d none. absurd (cc none)) (λ u at. absurd (cc at)))
 

@@ -14,8 +14,7 @@ own_action cpu lock name past p = grind arith
 -- a poll that followed any plan did at most one action
 pub follows_grow : {N B R S A : Type 0} (ActsFor : CpuId → Type 0) (table : Table N B R) (opening : LockId → Option B) (cpu : CpuId) (plan : Plan N R S A)
     (old new : List (Action N)) (got : Left S A) → Follows ActsFor table opening cpu plan old new got → ActsGrow ActsFor cpu old new
-follows_grow ActsFor table opening cpu (Now left) old new got follows =
-    record { others = []; mine = []; foreign = λ c acts. tt; own = tt; is = follows.0 }
+follows_grow ActsFor table opening cpu (Now left) old new got follows = record { others = []; mine = []; foreign = λ c acts. tt; own = tt; is = follows.0 }
 follows_grow ActsFor table opening cpu (Act lock name react) old new got follows = record {
   others = follows.acted.others;
   mine = action_in cpu lock name follows.past (phase cpu follows.past) ∷ [];
@@ -25,8 +24,7 @@ follows_grow ActsFor table opening cpu (Act lock name react) old new got follows
 }
 
 -- a look did one
-pub tries_grow : {N : Type 0} (ActsFor : CpuId → Type 0) (cpu : CpuId) (old new : List (Action N)) → Tries ActsFor cpu old new
-    → ActsGrow ActsFor cpu old new
+pub tries_grow : {N : Type 0} (ActsFor : CpuId → Type 0) (cpu : CpuId) (old new : List (Action N)) → Tries ActsFor cpu old new → ActsGrow ActsFor cpu old new
 tries_grow ActsFor cpu old new tries = record {
   others = tries.others;
   mine = Try cpu tries.lock (gives tries.lock tries.past == spot_of cpu tries.past) ∷ [];
@@ -59,8 +57,7 @@ others_grow ActsFor cpu old new seen = record { others = seen.others; mine = [];
 
 -- a poll of a call has at most one effect, its CPU's own
 pub called_grows : (ActsFor : CpuId → Type 0) (cpu : CpuId) (t : Tid) (call : Call) (call_states left : List CallState) (old new : List Entry)
-    (answer : Option Reply)
-    → Called ActsFor cpu t call call_states left old new answer → SeenGrows ActsFor cpu old new
+    (answer : Option Reply) → Called ActsFor cpu t call call_states left old new answer → SeenGrows ActsFor cpu old new
 called_grows ActsFor cpu t call call_states left old new answer called = go called.mine called.is
   where
     go : (mine : Option Effect) → new ≡ entries_of cpu t (buffer_of call) mine ++ (called.others ++ old) → SeenGrows ActsFor cpu old new
@@ -70,8 +67,7 @@ called_grows ActsFor cpu t call call_states left old new answer called = go call
           others = called.others;
           mine = entry_of cpu t (buffer_of call) f ∷ [];
           foreign = called.foreign;
-          own =
-              (refl, tt);
+          own = (refl, tt);
           few = omega arith;
           is = is;
         }
@@ -79,12 +75,10 @@ called_grows ActsFor cpu t call call_states left old new answer called = go call
 -- effects of others leave a CPU's own
 pub others_same : (ActsFor : CpuId → Type 0) (number : CpuId) (old new : List Entry) → OthersSeen ActsFor old new → ActsFor number
     → of_cpu number new ≡ of_cpu number old
-others_same ActsFor number old new seen acts =
-    ap (λ (l : List Entry). of_cpu number l) seen.is ∙ cpu_same ActsFor number seen.others old seen.foreign acts
+others_same ActsFor number old new seen acts = ap (λ (l : List Entry). of_cpu number l) seen.is ∙ cpu_same ActsFor number seen.others old seen.foreign acts
 
 -- a look did one action or none
-pub look_grows : {N : Type 0} (ActsFor : CpuId → Type 0) (cpu : CpuId) (old new : List (Action N)) (looked : Bool)
-    → (looked ≡ true → Tries ActsFor cpu old new)
+pub look_grows : {N : Type 0} (ActsFor : CpuId → Type 0) (cpu : CpuId) (old new : List (Action N)) (looked : Bool) → (looked ≡ true → Tries ActsFor cpu old new)
     → (looked ≡ false → new ≡ old) → ActsGrow ActsFor cpu old new
 look_grows ActsFor cpu old new true tries still = tries_grow ActsFor cpu old new (tries refl)
 look_grows ActsFor cpu old new false tries still = none_grow ActsFor cpu old new (still refl)

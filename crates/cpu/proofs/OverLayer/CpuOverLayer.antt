@@ -31,9 +31,8 @@ pub record PartLaws {P L M : Type 0} (I : Ghosts P L M) : Type 0 where
   pub busy : (p : P) (m : M) → I.Fits p m → I.IsStepwise → I.is_inside p ≡ is_in_section (phase (I.cpu_of p) (I.acts m))
 
 -- from all that a bound by the layer's trait gives
-pub laws_of : {world : World} {Part Law Machine : RattleType} {I : Ghosts Part.Denot Law.Denot Machine.Denot} {dict : Dict}
-    {calls : LawGhosts Law.Denot} {calls_dict : Dict}
-    → Met {M = world.M} {𝓤 = world.𝓤} world.𝓛 world.𝓜 world.𝓡 world.𝓡.env Part Law Machine I dict calls calls_dict → PartLaws I
+pub laws_of : {world : World} {Part Law Machine : RattleType} {I : Ghosts Part.Denot Law.Denot Machine.Denot} {dict : Dict} {calls : LawGhosts Law.Denot}
+    {calls_dict : Dict} → Met {M = world.M} {𝓤 = world.𝓤} world.𝓛 world.𝓜 world.𝓡 world.𝓡.env Part Law Machine I dict calls calls_dict → PartLaws I
 laws_of law = record {
   own_cpu = law.own_cpu;
   stands = law.stands;
@@ -103,9 +102,8 @@ left_alone I m p q at number limit part programs guests = record {
 
 -- a step of the CPU's part
 pub left_framed : {P L M : Type 0} (I : Ghosts P L M) (m n : M) (p q : Cpu P M) → I.cpu_of p.part ≡ p.number → q.number ≡ p.number → q.limit ≡ p.limit
-    → Framed I.Fits I.cpu_of I.opening I.site I.room I.ActsFor I.MayHold p.part q.part m n
-    → programs_of q.guests.items ≡ programs_of p.guests.items → GuestsWent p.number p.guests.items p.trace.items q.guests.items q.trace.items
-    → SeenGrows (I.ActsFor m) p.number (I.seen m) (I.seen n)
+    → Framed I.Fits I.cpu_of I.opening I.site I.room I.ActsFor I.MayHold p.part q.part m n → programs_of q.guests.items ≡ programs_of p.guests.items
+    → GuestsWent p.number p.guests.items p.trace.items q.guests.items q.trace.items → SeenGrows (I.ActsFor m) p.number (I.seen m) (I.seen n)
     → MovesGrow (I.ActsFor m) p.number (I.moves m) (I.moves n) → (I.IsStepwise → ActsGrow (I.ActsFor m) p.number (I.acts m) (I.acts n)) → Leaves I m p n q
 left_framed I m n p q at number limit framed programs guests seen moves grows = record {
   number = number;

@@ -52,8 +52,7 @@ module _ {P L M : Type 0} (I : Ghosts P L M) (laws : MachineLaws I) (owner : M �
           (subst (λ (z : CpuShown). GuestsWent x.number p.guests p.trace z.guests z.trace) now
           (subst (λ (z : CpuShown). GuestsWent x.number z.guests z.trace y.guests.items y.trace.items) was step.leaves.guests));
       others = λ j other.
-          slice_get-map (shown_by I) (slice_set cpus k y) j
-          ∙ ap (λ o. option_map (shown_by I) o) (set_else cpus k j y (λ e. other (e ∙ same)))
+          slice_get-map (shown_by I) (slice_set cpus k y) j ∙ ap (λ o. option_map (shown_by I) o) (set_else cpus k j y (λ e. other (e ∙ same)))
           ∙ sym (slice_get-map (shown_by I) cpus j);
     }
 

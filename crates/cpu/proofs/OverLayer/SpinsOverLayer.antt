@@ -110,8 +110,7 @@ module _ {P L M : Type 0} (I : Ghosts P L M) (laws : MachineLaws I) (owner : M �
           let missed = tries step in
           let apart : (I.cpu_of x.part).0 ≢ d.0 =
           λ e. let own : (I.cpu_of x.part).0 ≡ c.0 = ap (λ (b : CpuId). b.0) number in omega (arith, e, own, same, past, inside) in
-          ap (λ l. phase d l) missed.grows
-          ∙ phase_others d (replicate looks (Try (I.cpu_of x.part) missed.lock false)) (I.acts m)
+          ap (λ l. phase d l) missed.grows ∙ phase_others d (replicate looks (Try (I.cpu_of x.part) missed.lock false)) (I.acts m)
           (misses_of TowerName looks (I.cpu_of x.part) d missed.lock apart)
           ∙ is.rest step d past exists;
       holders = λ d past exists holds. is.holders d past exists (spun.holders d holds);

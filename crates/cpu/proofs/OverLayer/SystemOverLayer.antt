@@ -65,9 +65,8 @@ module _ {P L M : Type 0} (I : Ghosts P L M) (owner : M → BufId → Option Tid
         let number : x.number ≡ c = (is.each k x at).number_is ∙ ap (λ (j : ℕ). cpu_at j) same in
         shown_step (shown_by I) (λ d. I.ActsFor m d) setup c cpus k x y (I.acts m) (I.acts n) room taken at same
         (subst (λ (d : CpuId). IsStep (λ a. I.ActsFor m a) (cpu_step setup d) (shown_by I x).private (shown_by I y).private (named (I.acts m))
-        (named (I.acts n))
-        Stepped) number (went step setup (goes.each k (shown_by I x) (shows_at (shown_by I) cpus k x at)))) is.acts_for legal
-        (λ full. omega (arith, full, live))
+        (named (I.acts n)) Stepped) number (went step setup (goes.each k (shown_by I x) (shows_at (shown_by I) cpus k x at)))) is.acts_for legal (λ full. omega
+        (arith, full, live))
 
     -- and all holds as before
     pub went_on : I.Fits y.part n → IsCpuAt I n y → (I.IsStepwise → IsTabledAt I n y) → AllByRecursion (λ e. e.cpu.0 < CPUS) (I.seen n)
@@ -78,9 +77,8 @@ module _ {P L M : Type 0} (I : Ghosts P L M) (owner : M → BufId → Option Tid
           is.sound.0 ∙ ap (λ (l : List CpuId). length l) (sym (ap homes_in left.opening)),
           λ step. reached_on c _ _ Stepped (subst (λ (j : ℕ). j < length (map (shown_by I) cpus)) same there)
               (plan_preserved m n cpus room taken (taken + 1) k x y at left) (by_table step) (is.sound.1 step),
-        ) at left.number left.cpu fits keeps table (λ z before step. rw left.opening (before step))
-        (λ z other there. left.others z.part other there) left.acts left.holders left.seen left.grows known (ap homes_in left.opening)
-        (ap caps_in left.opening) left.room live
+        ) at left.number left.cpu fits keeps table (λ z before step. rw left.opening (before step)) (λ z other there. left.others z.part other there) left.acts
+        left.holders left.seen left.grows known (ap homes_in left.opening) (ap caps_in left.opening) left.room live
 
 -- from what always holds of each CPU to what is shown of it
 pub cpus_have : {P L M : Type 0} (I : Ghosts P L M) (m : M) (cpus : List (Cpu P M))

@@ -15,8 +15,7 @@ pub block_read : (setup : Setup) (opening : LockId → Option TowerBlock) (acts 
     → option_map view (opening lock) ≡ table_opening setup lock → block_at setup lock (named acts) ≡ option_map view (guarded opening acts lock)
 block_read setup opening acts lock opens =
     ap (λ l. block_after edited (table_opening setup) lock l) (sections_in_renamed name_of acts)
-    ∙ sym (opens_alike (λ l. option_map view (opening l)) (table_opening setup) lock opens (map _ (sections_in acts)))
-    ∙ block_viewed tower table_kernel
+    ∙ sym (opens_alike (λ l. option_map view (opening l)) (table_opening setup) lock opens (map _ (sections_in acts))) ∙ block_viewed tower table_kernel
     (record { name = name_of; view = view; told = answer_view; edits = tables_agree.edits; answers = tables_agree.answers }) opening lock (sections_in acts)
 
 module _ (setup : Setup) (m : Observed) (c : CpuId) (opening : LockId → Option TowerBlock) (opens : OpensAs (bare m.homes m.caps) c opening)
@@ -27,8 +26,7 @@ module _ (setup : Setup) (m : Observed) (c : CpuId) (opening : LockId → Option
       ∙ (grind (arith, opens (Pending c) (inl refl)))
 
   buffer_read : (b : BufId) → block_at setup (AtBuffer b) (named m.acts) ≡ option_map view (guarded opening m.acts (AtBuffer b))
-  buffer_read b =
-      block_read setup opening m.acts (AtBuffer b) (opens (AtBuffer b) tt ∙ ap (λ (l : List ℕ). opening_buffer (slice_get l b.0)) (sym caps_are))
+  buffer_read b = block_read setup opening m.acts (AtBuffer b) (opens (AtBuffer b) tt ∙ ap (λ (l : List ℕ). opening_buffer (slice_get l b.0)) (sym caps_are))
 
   -- a system over this machine tells its buffers as the table has them
   module _ (cpus : List CpuShown) (room taken : ℕ) (sound : SoundByTable (shown_in m cpus room taken)) (is : IsSetupFor setup (shown_in m cpus room taken))
@@ -37,8 +35,7 @@ module _ (setup : Setup) (m : Observed) (c : CpuId) (opening : LockId → Option
     s = shown_in m cpus room taken
 
     pub has_buffer : (b : ℕ) → b < length m.caps
-        → ItemsAre opening m.acts (buffer_at b) (items_of (contents_of m.caps m.seen) b) (slice_index m.caps b) (is_closed m.seen b)
-        → HasBuffer setup s b
+        → ItemsAre opening m.acts (buffer_at b) (items_of (contents_of m.caps m.seen) b) (slice_index m.caps b) (is_closed m.seen b) → HasBuffer setup s b
     has_buffer b within held =
         let there = buffer_read (buffer_at b) ∙ (grind (arith, held.there)) in
         let waiters = listed_there (waiters_by m.wait_lists) (length m.caps) b no_waiters within in

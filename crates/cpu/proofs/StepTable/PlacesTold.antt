@@ -39,8 +39,7 @@ module _ (s : Shown) (agree : MovesAgree s) (lines : BufId → WaitList → List
       ∙ listed_there (waiters_by lines) (length s.caps) b no_waiters within
 
   -- what holds of the private state of a CPU that is shown holds of that CPU in the table
-  cpu_has : (c : CpuId) (k : ℕ) (p : CpuShown) (Has : Private → Type 0) → c ≡ cpu_at k → slice_get s.cpus k ≡ Some p → Has p.private
-      → CpuHas (whole_of s) c Has
+  cpu_has : (c : CpuId) (k : ℕ) (p : CpuShown) (Has : Private → Type 0) → c ≡ cpu_at k → slice_get s.cpus k ≡ Some p → Has p.private → CpuHas (whole_of s) c Has
   cpu_has c k p Has same there has = (
     p.private,
     ap (λ (d : CpuId). slice_get (whole_of s).cpus d.0) same ∙ shows_at (λ (q : CpuShown). q.private) s.cpus k p there,

@@ -34,8 +34,7 @@ leads_more IsStepwise s r t schedule c answer leads same went by = record {
 
 -- a step more that is taken
 pub leads_live : (IsStepwise : Type 0) (s r t : Shown) (schedule : List CpuId) (c : CpuId) → Leads IsStepwise s schedule r → SamePlan r t → reason_of c r ≡ None
-    → t.taken ≡ r.taken + 1 → CallsGoOn c r t → IsMoment t → (IsStepwise → SteppedByTable c r t Stepped)
-    → Leads IsStepwise s (schedule ++ c ∷ []) t
+    → t.taken ≡ r.taken + 1 → CallsGoOn c r t → IsMoment t → (IsStepwise → SteppedByTable c r t Stepped) → Leads IsStepwise s (schedule ++ c ∷ []) t
 leads_live IsStepwise s r t schedule c leads same live taken grows now by =
     leads_more IsStepwise s r t schedule c Stepped leads same (took live taken grows now by) by
 
@@ -48,8 +47,7 @@ leads_halted IsStepwise c s within some halts = go (reason_of c s) refl some
     go None is some = absurd (cc some)
     go (Some reason) is some =
         let nowhere = leads_nowhere IsStepwise s in
-        leads_more IsStepwise s s s [] c (Halted reason) nowhere nowhere.plan (stayed reason is refl)
-        (λ step. reasons_step c s within (halts step) reason is)
+        leads_more IsStepwise s s s [] c (Halted reason) nowhere nowhere.plan (stayed reason is refl) (λ step. reasons_step c s within (halts step) reason is)
 
 ran_on : (IsStepwise : Type 0) (s r t : Shown) (first second : List CpuId) → Ran IsStepwise s first r → Ran IsStepwise r second t
     → Ran IsStepwise s (first ++ second) t
@@ -90,8 +88,7 @@ leads_resting IsStepwise c s (suc asked) within some halts =
     (leads_resting IsStepwise c s asked within some halts)
 
 -- a step, and those behind it of the same CPU
-pub turn_taken : (all : List CpuId) (d : CpuId) (more : ℕ) → 0 < length all
-    → BeginWith (slice_index_or all 0 d) more (take (length all - 1) (drop 1 all))
+pub turn_taken : (all : List CpuId) (d : CpuId) (more : ℕ) → 0 < length all → BeginWith (slice_index_or all 0 d) more (take (length all - 1) (drop 1 all))
     → replicate (more + 1) (slice_index_or all 0 d) ≡ take (more + 1) all
 turn_taken [] d more some begins = absurd (omega (arith, some))
 turn_taken (c ∷ rest) d more some begins =
@@ -100,9 +97,8 @@ turn_taken (c ∷ rest) d more some begins =
     grind (arith, count, behind)
 
 -- so are the first of them
-pub turn_begun : (all : List CpuId) (d : CpuId) (more taken : ℕ) → 0 < length all
-    → BeginWith (slice_index_or all 0 d) more (take (length all - 1) (drop 1 all)) → taken ≤ more + 1
-    → replicate taken (slice_index_or all 0 d) ≡ take taken all
+pub turn_begun : (all : List CpuId) (d : CpuId) (more taken : ℕ) → 0 < length all → BeginWith (slice_index_or all 0 d) more (take (length all - 1) (drop 1 all))
+    → taken ≤ more + 1 → replicate taken (slice_index_or all 0 d) ≡ take taken all
 turn_begun all d more taken some begins few =
     sym (take-replicate taken (more + 1) (slice_index_or all 0 d) few)
     ∙ ap (λ (l : List CpuId). take taken l) (turn_taken all d more some begins)
@@ -122,8 +118,7 @@ ran_none IsStepwise s _ _ none (goes {steps = []} c r ran went) = absurd (cc non
 ran_none IsStepwise s _ _ none (goes {steps = d ∷ more} c r ran went) = absurd (cc none)
 
 took_alone : (IsStepwise : Type 0) (c d : CpuId) (s u r : Shown) → reason_of c s ≡ None → d ≡ c → u ≡ s → WentOn IsStepwise d u r → TookOne IsStepwise c s r
-took_alone IsStepwise c d s u r live same at (took free taken calls now step) =
-    rw (← same, ← at) (record { taken = taken; calls = calls; step = step })
+took_alone IsStepwise c d s u r live same at (took free taken calls now step) = rw (← same, ← at) (record { taken = taken; calls = calls; step = step })
 took_alone IsStepwise c d s u r live same at (stayed reason is still) = absurd (cc (live, is, same, at))
 
 pub took_one : (IsStepwise : Type 0) (c : CpuId) (s r : Shown) (l : List CpuId) → l ≡ c ∷ [] → reason_of c s ≡ None → Ran IsStepwise s l r

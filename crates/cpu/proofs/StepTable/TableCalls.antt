@@ -42,8 +42,7 @@ answers_step cpu ActsFor old outset setup of =
 
 -- a look
 pub looked_steps : (ActsFor : CpuId → Type 0) (homes : List CpuId) (caps : List ℕ) (cpu number : CpuId) (limit : ℕ) (own own2 : Buffering)
-    (guests : List (Option Guest))
-    (trace : List Entry) (old new : List (Action TowerName)) → cpu ≡ number → own2 ≡ own → Tries ActsFor cpu old new
+    (guests : List (Option Guest)) (trace : List Entry) (old new : List (Action TowerName)) → cpu ≡ number → own2 ≡ own → Tries ActsFor cpu old new
     → WentByTable ActsFor homes caps number limit own own2 guests guests trace trace old new Stepped
 looked_steps ActsFor homes caps cpu number limit own own2 guests trace old new cpu_is same tries setup of =
     rw same (look_is_step ActsFor setup number (private own guests trace) old new (subst (λ d. Tries ActsFor d old new) cpu_is tries))

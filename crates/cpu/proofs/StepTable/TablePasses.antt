@@ -150,15 +150,13 @@ module _ (cpu : TabledCpu) where
         by_case (MakeReady s) same (sends_idle _ runs has) now = idle _ now refl runs
         by_case (MakeReady s) same (sends_on _ t g runs has at) now = absurd (sends_alone s t g runs has at (chose ∙ ap Passes same))
         by_case YieldNow same (passes_on t g runs has at asks) now =
-            subst (λ x. x) (λ i. IsTabled homes caps number own2 under_way2 (passed_by (sym runs i) guests (sym same i)) opening)
-            (tabled_with cpu t g passed own2 under_way2 at part2
-            (λ over. abbrev_same t _ now refl (tabled.ends t g at over)) (λ u other before. abbrev_same u _ now refl before) quick2)
+            subst (λ x. x) (λ i. IsTabled homes caps number own2 under_way2 (passed_by (sym runs i) guests (sym same i)) opening) (tabled_with cpu t g passed
+            own2 under_way2 at part2 (λ over. abbrev_same t _ now refl (tabled.ends t g at over)) (λ u other before. abbrev_same u _ now refl before) quick2)
         by_case End same (finishes t g runs has at asks) now =
             let ended_is = ap (λ (y : Threads). y.ended) now ∙ ap (λ o. (threads_in own).ended ++ as_list o) runs in
             subst (λ x. x) (λ i. IsTabled homes caps number own2 under_way2 (passed_by (sym runs i) guests (sym same i)) opening)
-            (tabled_with cpu t g guest_ended own2 under_way2 at part2
-            (λ over. subst (λ l. is_in t l ≡ true) (sym ended_is) (pushed_in t t (threads_in own).ended
-            ∙ (ap (λ b. is_in t (threads_in own).ended || (b || false)) (same_tid_self t) ∙ or-true (is_in t (threads_in own).ended))))
+            (tabled_with cpu t g guest_ended own2 under_way2 at part2 (λ over. subst (λ l. is_in t l ≡ true) (sym ended_is) (pushed_in t t
+            (threads_in own).ended ∙ (ap (λ b. is_in t (threads_in own).ended || (b || false)) (same_tid_self t) ∙ or-true (is_in t (threads_in own).ended))))
             (λ u other before. subst (λ l. is_in u l ≡ true) (sym ended_is) (ended_more u t before)) quick2)
 
         go : (r : Option (Unit {0})) → threads_in own2 ≡ threads_if (threads_in own) pass queue r
@@ -203,9 +201,8 @@ module _ (cpu : TabledCpu) where
       -- a pass that is done alone
       by_alone : is_in_section (phase number old) ≡ false → new ≡ old → choice setup number p ≡ Alone (private own2 guests2 trace) → Goal
       by_alone outside same chosen_alone =
-          subst (λ l. IsStep ActsFor (cpu_step setup number) p (private own2 guests2 trace) (named old) (named l) Stepped) (sym same)
-          (alone_is_step ActsFor setup number p (private own2 guests2 trace) (named old)
-          (ap is_in_section (phase_renamed name_of number old) ∙ outside) chosen_alone)
+          subst (λ l. IsStep ActsFor (cpu_step setup number) p (private own2 guests2 trace) (named old) (named l) Stepped) (sym same) (alone_is_step ActsFor
+          setup number p (private own2 guests2 trace) (named old) (ap is_in_section (phase_renamed name_of number old) ∙ outside) chosen_alone)
 
       -- where nobody runs, the guests stay
       idle_guests : (threads_in own).current ≡ None → private own2 guests trace ≡ private own2 guests2 trace
@@ -228,11 +225,8 @@ module _ (cpu : TabledCpu) where
       send_step s pass_is runs has =
           by_line (line_by (own_at None (Some s) (threads_in own).ready (threads_in own).ended None own.cv.lock.slept own.cv.waits own.call_states)
           (λ i. own_at (runs i) (has i) (threads_in own).ready (threads_in own).ended (tabled.part.idle runs i) own.cv.lock.slept own.cv.waits own.call_states)
-          (MakeReady s) pass_is
-          (make_ready_line setup number (guest_states guests) trace (threads_in own).ended own.cv.lock.slept own.cv.waits own.call_states s
-          (threads_in own).ready
-          (subst (λ h. IsSome (slice_get h s.0)) (sym of.homes_are) (known s has))))
-          (λ outside. choice_hand setup number p s has)
+          (MakeReady s) pass_is (make_ready_line setup number (guest_states guests) trace (threads_in own).ended own.cv.lock.slept own.cv.waits own.call_states
+          s (threads_in own).ready (subst (λ h. IsSome (slice_get h s.0)) (sym of.homes_are) (known s has)))) (λ outside. choice_hand setup number p s has)
           (ap (λ q. private_passed setup own (guest_states guests) trace q (record { own = own2; answer = result })) pass_is ∙ idle_guests runs)
 
       switch_step : pass ≡ Switch → (threads_in own).current ≡ None → (threads_in own).hand ≡ None → ((threads_in own).ready ≡ [] → ⊥)
@@ -279,16 +273,13 @@ module _ (cpu : TabledCpu) where
           where
             quiet : (thread_at p t).call ≡ None
             quiet =
-                call_of cpu setup of t g at
-                ∙ unbegun _ (call_state_of own.call_states t) at_idle
+                call_of cpu setup of t g at ∙ unbegun _ (call_state_of own.call_states t) at_idle
 
         yield_step : pass ≡ YieldNow → todo_of g ≡ PassOn → Goal
         yield_step pass_is asks =
-            by_line (line_by running own_so YieldNow pass_is
-            (yield_line setup number (guest_states guests) trace (threads_in own).ended own.cv.lock.slept own.cv.waits own.call_states t
-            (threads_in own).ready at_idle long_guests long_call_states))
-            (λ outside. chosen_line outside ∙ ap (at_instruction setup number p t) (yield_line_is g.thread (next_of g.program g.thread) asks))
-            (λ i. private_of own2 (states_so i) trace)
+            by_line (line_by running own_so YieldNow pass_is (yield_line setup number (guest_states guests) trace (threads_in own).ended own.cv.lock.slept
+            own.cv.waits own.call_states t (threads_in own).ready at_idle long_guests long_call_states)) (λ outside. chosen_line outside
+            ∙ ap (at_instruction setup number p t) (yield_line_is g.thread (next_of g.program g.thread) asks)) (λ i. private_of own2 (states_so i) trace)
           where
             by_result : (r : Option (Unit {0})) → guests_passed setup YieldNow (Some t) r (guest_states guests)
                 ≡ guest_states (passed_if (threads_in own).current guests pass r)
@@ -313,17 +304,15 @@ module _ (cpu : TabledCpu) where
 
             states_so : guest_states guests2 ≡ guest_states guests
             states_so =
-                ap guest_states (guests_are ∙ ap (passed_if (threads_in own).current guests pass) done)
-                ∙ (ap (λ o. guest_states (passed_by o guests pass)) runs ∙ (ap (λ q. guest_states (with_guest guests t.0 (after_pass q))) pass_is
-                ∙ (states_changed guests t.0 guest_ended g at
+                ap guest_states (guests_are ∙ ap (passed_if (threads_in own).current guests pass) done) ∙ (ap (λ o. guest_states (passed_by o guests pass)) runs
+                ∙ (ap (λ q. guest_states (with_guest guests t.0 (after_pass q))) pass_is ∙ (states_changed guests t.0 guest_ended g at
                 ∙ sym (put_same (guest_states guests) t.0 g.thread at_start (states_at guests t.0 g at at_start)))))
 
             next : private own2 guests2 trace ≡ ends p t
             next =
                 (λ i. private_of ((now ∙ ap (λ y. with_threads y (pass_after End queue (threads_in y))) own_so) i) (states_so i) trace)
                 ∙ (ended_now setup number (guest_states guests) trace (threads_in own).ended own.cv.lock.slept own.cv.waits own.call_states t
-                (threads_in own).ready at_idle long_guests long_call_states
-                ∙ sym (ap (λ y. ends (private y guests trace) t) own_so))
+                (threads_in own).ready at_idle long_guests long_call_states ∙ sym (ap (λ y. ends (private y guests trace) t) own_so))
 
       pub pass_steps : Goal
       pass_steps = go pass refl case_is
@@ -338,8 +327,7 @@ module _ (cpu : TabledCpu) where
           go Drain same (drains runs has none) = drain_step same runs has none
           go (MakeReady s) same (sends_idle _ runs has) = send_step s same runs has
           go (MakeReady s) same (sends_on _ t g runs has at) = absurd (sends_alone s t g runs has at (chose ∙ ap Passes same))
-          go YieldNow same (passes_on t g runs has at asks) =
-              yield_step t g runs has at (not_calling t g PassOn at asks (λ c e. absurd (cc e))) same asks
+          go YieldNow same (passes_on t g runs has at asks) = yield_step t g runs has at (not_calling t g PassOn at asks (λ c e. absurd (cc e))) same asks
           go End same (finishes t g runs has at asks) =
               let done = follows_at End same in
               end_step t g runs has at (not_calling t g Finish at asks (λ c e. absurd (cc e))) same asks done.0
@@ -359,12 +347,10 @@ module _ (cpu : TabledCpu) where
 
     pub compute_tabled : IsTabled homes caps number own under_way (with_guest guests t.0 computed) opening
     compute_tabled =
-        tabled_with cpu t g computed own under_way at tabled.part
-        (λ over. tabled.ends t g at over) (λ u other before. before) tabled.quick
+        tabled_with cpu t g computed own under_way at tabled.part (λ over. tabled.ends t g at over) (λ u other before. before) tabled.quick
 
     pub compute_steps : (ActsFor : CpuId → Type 0) (old : List (Action TowerName)) (outset : Outset ActsFor cpu old)
-        → reason_in outset.inside (cpu_halted_at (threads_in own) guests trace limit) ≡ None
-        → (setup : Setup) (of : IsSetupOf setup homes caps guests limit)
+        → reason_in outset.inside (cpu_halted_at (threads_in own) guests trace limit) ≡ None → (setup : Setup) (of : IsSetupOf setup homes caps guests limit)
         → IsStep ActsFor (cpu_step setup number) p (private own (with_guest guests t.0 computed) trace) (named old) (named old) Stepped
     compute_steps ActsFor old outset live setup of =
         let at_idle = free_at_idle t g at (not_calling t g Compute at does.1.2 (λ c e. absurd (cc e))) in
@@ -381,8 +367,7 @@ module _ (cpu : TabledCpu) where
         ∙ computed_now setup number (guest_states guests) trace [] [] [] [] own t (after_local i g.thread) within in
         alone_is_step ActsFor setup number p (private own (with_guest guests t.0 computed) trace) (named old)
         (ap is_in_section (phase_renamed name_of number old) ∙ outside)
-        (choice_current setup number p t None rest.hand does.0 quiet live_now
-        ∙ (ap (at_instruction setup number p t) (stands_there cpu setup of t g at)
+        (choice_current setup number p t None rest.hand does.0 quiet live_now ∙ (ap (at_instruction setup number p t) (stands_there cpu setup of t g at)
         ∙ (local_at setup number p t g.thread i does.1.2 ∙ (ap (λ x. Alone (with_state p t (after_local i x.guest))) there ∙ ap Alone (sym next)))))
       where
         idle : (d : Option UnderWay) → under_way ≡ d → under_way ≡ None
@@ -390,9 +375,8 @@ module _ (cpu : TabledCpu) where
 
   -- A CPU that is halted, and a look.
 
-  pub halted_steps : (ActsFor : CpuId → Type 0) (old : List (Action TowerName)) (setup : Setup) (of : IsSetupOf setup homes caps guests limit)
-      (inside : Bool) (reason : Reason)
-      → inside ≡ is_in_section (phase number old) → reason_in inside (cpu_halted_at (threads_in own) guests trace limit) ≡ Some reason
+  pub halted_steps : (ActsFor : CpuId → Type 0) (old : List (Action TowerName)) (setup : Setup) (of : IsSetupOf setup homes caps guests limit) (inside : Bool)
+      (reason : Reason) → inside ≡ is_in_section (phase number old) → reason_in inside (cpu_halted_at (threads_in own) guests trace limit) ≡ Some reason
       → IsStep ActsFor (cpu_step setup number) p p (named old) (named old) (Halted reason)
   halted_steps ActsFor old setup of true reason busy halted = absurd (cc halted)
   halted_steps ActsFor old setup of false reason busy halted =

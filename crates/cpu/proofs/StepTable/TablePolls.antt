@@ -20,8 +20,7 @@ use Rattle.layer_traits.specs.declared.call_states.Stage.TheVariants as at_stage
 
 -- the opening blocks are the table's, of whatever programs
 pub opens_as : (setup : Setup) (homes : List CpuId) (caps : List ℕ) (number : CpuId) (opening : LockId → Option TowerBlock) → setup.homes ≡ homes
-    → setup.caps ≡ caps
-    → OpensAs (bare homes caps) number opening → OpensAs setup number opening
+    → setup.caps ≡ caps → OpensAs (bare homes caps) number opening → OpensAs setup number opening
 opens_as setup homes caps number opening homes_are caps_are opens lock used = opens lock (grind (arith, used)) ∙ (grind arith)
 
 -- what an instruction asks for
@@ -151,8 +150,7 @@ module _ (cpu : TabledCpu) where
       poll_tabled =
           subst (λ (l : List (Option Guest)). IsTabled homes caps number own2 under_way2 l opening) (sym guests_is)
           (tabled_with t g (λ x. polled x ((call_state_of own2.call_states t).effect) result) own2 under_way2 polls.at part2
-          (λ over. absurd (grind (arith, over)))
-          (λ u other over. subst (λ l. is_in u l ≡ true) (sym ended_is) over)
+          (λ over. absurd (grind (arith, over))) (λ u other over. subst (λ l. is_in u l ≡ true) (sym ended_is) over)
           (λ p does local. grind (arith, sym under_way_is ∙ does)))
 
       abbrev effect2 : Option Effect
@@ -166,18 +164,15 @@ module _ (cpu : TabledCpu) where
             ∙ sym (put_same (guest_states guests) t.0 g.thread at_start (states_at guests t.0 g polls.at at_start)))
         states_after (Some r) =
             map-set guest_state_of guests t.0 (option_map (λ x. polled x effect2 (Some r)) (guest_at guests t.0))
-            ∙ (ap (λ o. slice_set (guest_states guests) t.0 (guest_state_of (option_map (λ x. polled x effect2 (Some r)) o))) polls.at
-            ∙ (λ i. slice_set (guest_states guests) t.0 (after_answer (Some r)
-            (next_of (sym (of.programs_are t g polls.at) i) (sym (states_at guests t.0 g polls.at at_start) i))
+            ∙ (ap (λ o. slice_set (guest_states guests) t.0 (guest_state_of (option_map (λ x. polled x effect2 (Some r)) o))) polls.at ∙ (λ i. slice_set
+            (guest_states guests) t.0 (after_answer (Some r) (next_of (sym (of.programs_are t g polls.at) i) (sym (states_at guests t.0 g polls.at at_start) i))
             (sym (states_at guests t.0 g polls.at at_start) i))))
 
         trace_so : trace2 ≡ trace_after number t (buffer_of c) (going call_state c).effect effect2 trace
         trace_so =
-            trace_is
-            ∙ (ap (λ o. trace ++ entries_of number t (buffer_of c) (fresh_at o effect2)) polls.at
+            trace_is ∙ (ap (λ o. trace ++ entries_of number t (buffer_of c) (fresh_at o effect2)) polls.at
             ∙ trace_by number t (buffer_of c) trace g.stage g.program g.thread (of_thread t.0 (of_cpu number seen)) (begun_of call_state) call_state.effect
-            (going call_state c).effect effect2
-            follows_g (had_going call_state c (poll_call_states (valid cpu) t c chose)))
+            (going call_state c).effect effect2 follows_g (had_going call_state c (poll_call_states (valid cpu) t c chose)))
 
         private_so : private_after setup number t c own (guest_states guests) trace (record { own = own2; answer = result }) ≡ private own2 guests2 trace2
         private_so = λ i. private_of own2 (sym (ap guest_states guests_is ∙ states_after result) i) (sym trace_so i)

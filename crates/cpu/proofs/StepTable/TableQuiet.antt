@@ -82,8 +82,7 @@ none_is : {X : Type 0} (o : Option X) → not (is_some o) ≡ true → o ≡ Non
 none_is o is = grind arith
 
 quiet_is_calm : (setup : Setup) (c : CpuId) (p : Private) (own : Threads) (halted : Option Reason) → p.current ≡ own.current → p.ready ≡ own.ready
-    → p.hand ≡ own.hand
-    → halted_at setup c p ≡ halted → IsQuietBy setup c p halted → calm_by halted false own ≡ true
+    → p.hand ≡ own.hand → halted_at setup c p ≡ halted → IsQuietBy setup c p halted → calm_by halted false own ≡ true
 quiet_is_calm setup c p own halted current ready hand is quiet = grind (arith, quiet_all)
 
 -- The whole system.

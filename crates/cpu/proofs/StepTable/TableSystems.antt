@@ -10,8 +10,7 @@ use Rattle.cpu.{specs.{Tower.{Composed.named, Views.TowerName}, Claims.CpuShown}
 none_else : {N : Type 0} (ActsFor : CpuId → Type 0) (others : List (Action N)) → ((c : CpuId) → c.0 < CPUS → ActsFor c)
     → AllByRecursion (λ a. (cpu_of_action a).0 < CPUS) others → AreForeign ActsFor cpu_of_action others → others ≡ []
 none_else ActsFor [] all known foreign = refl
-none_else ActsFor (a ∷ others) all known foreign =
-    absurd (cc ((foreign (cpu_of_action a) (all (cpu_of_action a) known.0)).0, same_cpu_self (cpu_of_action a)))
+none_else ActsFor (a ∷ others) all known foreign = absurd (cc ((foreign (cpu_of_action a) (all (cpu_of_action a) known.0)).0, same_cpu_self (cpu_of_action a)))
 
 -- who acts is a CPU that there may be, by whatever name
 renamed_known : (acts : List (Action TowerName)) → IsLawful (λ before a. (cpu_of_action a).0 < CPUS) acts
@@ -59,5 +58,4 @@ shown_step shown ActsFor setup c xs k x y acts acts2 room taken at same step all
     ∙ ap (λ (j : ℕ). slice_set (map (λ (p : CpuShown). p.private) (map shown xs)) j (shown y).private) same in
     ap (λ (l : List Private). left l (named acts2) room (taken + 1)) written
     ∙ table_step ActsFor setup c (map (λ (p : CpuShown). p.private) (map shown xs)) (named acts) (named acts2) room taken (shown x).private
-    (shown y).private there
-    step all (renamed_known acts2 (cpus_of_actions_known acts2 legal)) live
+    (shown y).private there step all (renamed_known acts2 (cpus_of_actions_known acts2 legal)) live

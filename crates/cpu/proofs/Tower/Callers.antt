@@ -74,8 +74,7 @@ abbrev pub call_state_at : Caller → Stage → Option Effect → CallState
 call_state_at caller stage effect = record { stage = stage; call = Some caller.call; position = caller.position; effect = effect }
 
 -- the caller at this stage, with what the poll left of where threads sleep and wait
-abbrev pub at_next : (caller : Caller) (slept2 waits2 : List (Option BufId)) (stage : Stage) → caller.t.0 < length slept2 → caller.t.0 < length waits2
-    → Caller
+abbrev pub at_next : (caller : Caller) (slept2 waits2 : List (Option BufId)) (stage : Stage) → caller.t.0 < length slept2 → caller.t.0 < length waits2 → Caller
 at_next caller slept2 waits2 stage long_slept long_waits = record caller {
   runner = record caller.runner {
     slept = slept2;

@@ -83,8 +83,7 @@ module _ (caller : Caller) where
 
   -- the private state is the same
   same_private : (stage next : Stage) (slept2 waits2 : List (Option BufId)) (s w : Option BufId) → call_state_of call_states t ≡ so stage
-      → slept_for slept t ≡ s → slept_for waits t ≡ w
-      → ((j : ℕ) → j ≢ t.0 → slept_for slept2 (tid j) ≡ slept_for slept (tid j))
+      → slept_for slept t ≡ s → slept_for waits t ≡ w → ((j : ℕ) → j ≢ t.0 → slept_for slept2 (tid j) ≡ slept_for slept (tid j))
       → ((j : ℕ) → j ≢ t.0 → slept_for waits2 (tid j) ≡ slept_for waits (tid j)) → slept_for slept2 t ≡ None → slept_for waits2 t ≡ None
       → thread_from (so next) None None false (is_in t ended) (state_at guests t) ≡ thread_from (so stage) s w false (is_in t ended) (state_at guests t)
       → private_of (then_own slept2 waits2 next) guests trace ≡ private_of was guests trace
@@ -135,14 +134,12 @@ module _ (caller : Caller) where
 
   handed_to : (stage next : Stage) (b : BufId) → CallStands next None None None None None → FitsStage next (Some call) → call_state_of call_states t ≡ so stage
       → slept_for slept t ≡ Some b → slept_for waits t ≡ None → (going (so stage) call).effect ≡ None → (going (so next) call).effect ≡ None
-      → thread_from (so next) None None false (is_in t ended) (state_at guests t)
-      ≡ thread_from (so stage) (Some b) None false (is_in t ended) (state_at guests t)
-      → fifo_plan setup.homes c t call was ≡ fifo_plan setup.homes c t call (handed_own next) → LineOf setup c t call was guests trace
+      → thread_from (so next) None None false (is_in t ended) (state_at guests t) ≡ thread_from (so stage) (Some b) None false (is_in t ended)
+      (state_at guests t) → fifo_plan setup.homes c t call was ≡ fifo_plan setup.homes c t call (handed_own next) → LineOf setup c t call was guests trace
   handed_to stage next b given fits is s w none none2 same goes =
-      chained_line stage next (handed_own next) is (now_call_state next) none none2
-      (same_private stage next (slice_set slept t.0 None) waits (Some b) None is s w (λ j other. get_or-set_other slept t.0 j None None other) (λ j other. refl)
-      (get_or-set_same slept t.0 None None in_slept) w same)
-      goes (site_line (handed_site next w) next None given fits (now_call_state next))
+      chained_line stage next (handed_own next) is (now_call_state next) none none2 (same_private stage next (slice_set slept t.0 None) waits (Some b) None is s
+      w (λ j other. get_or-set_other slept t.0 j None None other) (λ j other. refl) (get_or-set_same slept t.0 None None in_slept) w same) goes
+      (site_line (handed_site next w) next None given fits (now_call_state next))
 
   pub handed_line : (b : BufId) → call_state_of call_states t ≡ so Acquires → slept_for slept t ≡ Some b → slept_for waits t ≡ None
       → LineOf setup c t call was guests trace

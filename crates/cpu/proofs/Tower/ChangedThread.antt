@@ -27,9 +27,8 @@ numbered_same f g n (x ∷ guests) same =
     λ i. (same n x (omega arith)) i ∷ more i
 
 -- where one guest and its thread changed, the others stay
-pub numbered_changed : (f g : ℕ → State → Thread) (n k m : ℕ) (guests : List State) (s : State) → m ≡ n + k
-    → ((j : ℕ) (x : State) → j ≢ m → g j x ≡ f j x) → k < length guests
-    → threads_numbered g n (slice_set guests k s) ≡ slice_set (threads_numbered f n guests) k (g m s)
+pub numbered_changed : (f g : ℕ → State → Thread) (n k m : ℕ) (guests : List State) (s : State) → m ≡ n + k → ((j : ℕ) (x : State) → j ≢ m → g j x ≡ f j x)
+    → k < length guests → threads_numbered g n (slice_set guests k s) ≡ slice_set (threads_numbered f n guests) k (g m s)
 numbered_changed f g n k m [] s is other within = absurd (omega (arith, within))
 numbered_changed f g n zero m (x ∷ guests) s is other within = grind (arith, numbered_same)
 numbered_changed f g n (suc k) m (x ∷ guests) s is other within =
@@ -40,8 +39,7 @@ numbered_changed f g n (suc k) m (x ∷ guests) s is other within =
 
 -- a part's own state by its pieces
 abbrev pub own_at : (current hand : Option Tid) (ready ended : List Tid) (deferred : Option TowerOut) (slept waits : List (Option BufId))
-    (call_states : List CallState)
-    → Buffering
+    (call_states : List CallState) → Buffering
 own_at current hand ready ended deferred slept waits call_states = record {
   cv = record {
     lock = record {
@@ -72,30 +70,25 @@ module _ (runner : Runner) (hand : Option Tid) (deferred : Option TowerOut) wher
 
   -- thread t runs or nobody does: its call state, guest and where it sleeps or waits changed
   pub changed : (current2 hand2 : Option Tid) (ready2 : List Tid) (deferred2 : Option TowerOut) (slept2 waits2 : List (Option BufId)) (call_state : CallState)
-      (guest : State)
-      (trace : List Entry) (s w : Option BufId) (k : Bool)
-      → ((j : ℕ) → j ≢ t.0 → (is_thread (tid j) current2 && is_some deferred2) ≡ false)
-      → ((j : ℕ) → j ≢ t.0 → slept_for slept2 (tid j) ≡ slept_for slept (tid j))
-      → ((j : ℕ) → j ≢ t.0 → slept_for waits2 (tid j) ≡ slept_for waits (tid j))
+      (guest : State) (trace : List Entry) (s w : Option BufId) (k : Bool) → ((j : ℕ) → j ≢ t.0 → (is_thread (tid j) current2 && is_some deferred2) ≡ false)
+      → ((j : ℕ) → j ≢ t.0 → slept_for slept2 (tid j) ≡ slept_for slept (tid j)) → ((j : ℕ) → j ≢ t.0 → slept_for waits2 (tid j) ≡ slept_for waits (tid j))
       → slept_for slept2 t ≡ s → slept_for waits2 t ≡ w → (is_thread t current2 && is_some deferred2) ≡ k
       → private_of (own_at current2 hand2 ready2 ended deferred2 slept2 waits2 (slice_set call_states t.0 call_state)) (slice_set guests t.0 guest) trace
       ≡ parts current2 ready2 hand2 (slice_set (threads_at before guests) t.0 (thread_from call_state s w k (is_in t ended) guest)) trace
   changed current2 hand2 ready2 deferred2 slept2 waits2 call_state guest trace s w k none slept_same waits_same is_s is_w is_k =
       let after : Buffering = own_at current2 hand2 ready2 ended deferred2 slept2 waits2 (slice_set call_states t.0 call_state) in
       let zero_plus : t.0 ≡ 0 + t.0 = omega arith in
-      ap (λ l. parts current2 ready2 hand2 l trace)
-      (numbered_changed (λ n. thread_of before (tid n)) (λ n. thread_of after (tid n)) 0 t.0 t.0 guests guest zero_plus
-      (λ j x other. λ i. thread_from (get_or-set_other call_states t.0 j call_state no_call other i) (slept_same j other i) (waits_same j other i)
+      ap (λ l. parts current2 ready2 hand2 l trace) (numbered_changed (λ n. thread_of before (tid n)) (λ n. thread_of after (tid n)) 0 t.0 t.0 guests guest
+      zero_plus (λ j x other. λ i. thread_from (get_or-set_other call_states t.0 j call_state no_call other i) (slept_same j other i) (waits_same j other i)
       ((none j other ∙ sym (ap (λ b. b && is_some deferred) (ne_eqb t.0 j (λ e. other (sym e))))) i) (is_in (tid j) ended) x) in_guests
       ∙ ap (λ x. slice_set (threads_at before guests) t.0 x)
       (λ i. thread_from (get_or-set_same call_states t.0 call_state no_call in_call_states i) (is_s i) (is_w i) (is_k i) (is_in t ended) guest))
 
   -- thread t runs on
   pub runner_goes : (hand2 : Option Tid) (ready2 : List Tid) (deferred2 : Option TowerOut) (call_state : CallState) (guest : State) (trace : List Entry)
-      (s w : Option BufId)
-      → slept_for slept t ≡ s → slept_for waits t ≡ w
-      → private_of (own_at (Some t) hand2 ready2 ended deferred2 slept waits (slice_set call_states t.0 call_state)) (slice_set guests t.0 guest) trace
-      ≡ parts (Some t) ready2 hand2 (slice_set (threads_at before guests) t.0 (thread_from call_state s w (is_some deferred2) (is_in t ended) guest)) trace
+      (s w : Option BufId) → slept_for slept t ≡ s → slept_for waits t ≡ w
+      → private_of (own_at (Some t) hand2 ready2 ended deferred2 slept waits (slice_set call_states t.0 call_state)) (slice_set guests t.0 guest) trace ≡ parts
+      (Some t) ready2 hand2 (slice_set (threads_at before guests) t.0 (thread_from call_state s w (is_some deferred2) (is_in t ended) guest)) trace
   runner_goes hand2 ready2 deferred2 call_state guest trace s w is_s is_w =
       changed (Some t) hand2 ready2 deferred2 slept waits call_state guest trace s w (is_some deferred2)
       (λ j other. ap (λ b. b && is_some deferred2) (ne_eqb t.0 j (λ e. other (sym e)))) (λ j other. refl) (λ j other. refl) is_s is_w
@@ -103,10 +96,9 @@ module _ (runner : Runner) (hand : Option Tid) (deferred : Option TowerOut) wher
 
   -- thread t sleeps or waits
   pub thread_gone : (hand2 : Option Tid) (ready2 : List Tid) (slept2 waits2 : List (Option BufId)) (call_state : CallState) (guest : State) (trace : List Entry)
-      (s w : Option BufId)
-      → ((j : ℕ) → j ≢ t.0 → slept_for slept2 (tid j) ≡ slept_for slept (tid j))
+      (s w : Option BufId) → ((j : ℕ) → j ≢ t.0 → slept_for slept2 (tid j) ≡ slept_for slept (tid j))
       → ((j : ℕ) → j ≢ t.0 → slept_for waits2 (tid j) ≡ slept_for waits (tid j)) → slept_for slept2 t ≡ s → slept_for waits2 t ≡ w
-      → private_of (own_at None hand2 ready2 ended None slept2 waits2 (slice_set call_states t.0 call_state)) (slice_set guests t.0 guest) trace
-      ≡ parts None ready2 hand2 (slice_set (threads_at before guests) t.0 (thread_from call_state s w false (is_in t ended) guest)) trace
+      → private_of (own_at None hand2 ready2 ended None slept2 waits2 (slice_set call_states t.0 call_state)) (slice_set guests t.0 guest) trace ≡ parts None
+      ready2 hand2 (slice_set (threads_at before guests) t.0 (thread_from call_state s w false (is_in t ended) guest)) trace
   thread_gone hand2 ready2 slept2 waits2 call_state guest trace s w slept_same waits_same is_s is_w =
       changed None hand2 ready2 None slept2 waits2 call_state guest trace s w false (λ j other. refl) slept_same waits_same is_s is_w refl

@@ -59,8 +59,7 @@ module _ (site : Site) (u : Tid) (f : Effect) (known : IsSome (slice_get site.se
 
   beneath_at : (out : TowerOut) (stage : Stage) → (lock_moves buffer_rules).caller (section_at t call stage) ≡ t
       → raised (left_recorded t call (here stage) call_states stage)
-      (cv_plan (lock_moves buffer_rules) setup.homes c (buffer_of call) (section_at t call stage) (own_with out).cv)
-      ≡ sends out stage (section_at t call stage)
+      (cv_plan (lock_moves buffer_rules) setup.homes c (buffer_of call) (section_at t call stage) (own_with out).cv) ≡ sends out stage (section_at t call stage)
   beneath_at out stage mine = grind arith
 
   pub sends_signalled : (v : CvOut BufferOut) → Sends (woken_outcome (lock.Did v) u) Signals (here SignalsOwn) None
@@ -96,8 +95,7 @@ module _ (site : Site) (u : Tid) (f : Effect) (known : IsSome (slice_get site.se
 
     line : (state2 : CallState) (answer : Option Reply) → Sends out stage state2 answer
         → parts (Some t) ready None (slice_set (threads out) t.0 (thread_from state2 None None false e (guest_by site answer)))
-        (trace_after c t (buffer_of call) (Some f) state2.effect trace)
-        ≡ settled setup (parts (Some t) ready None (threads out) trace)
+        (trace_after c t (buffer_of call) (Some f) state2.effect trace) ≡ settled setup (parts (Some t) ready None (threads out) trace)
         → LineOf setup c t call (own_with out) guests trace
     line state2 answer sends_u gives = record {
       lock = Pending (queue_for setup.homes c u);
@@ -113,8 +111,7 @@ module _ (site : Site) (u : Tid) (f : Effect) (known : IsSome (slice_get site.se
     -- the call goes on
     signalled_line : (next : Stage) → Sends out stage (here next) None → thread_from (here stage) None None true e g ≡ in_call out next
         → thread_from (here next) None None false e g ≡ in_call out next
-        → ((p : Private) → returned_at setup p t (call_from call position (Some f) next) next ≡ p)
-        → LineOf setup c t call (own_with out) guests trace
+        → ((p : Private) → returned_at setup p t (call_from call position (Some f) next) next ≡ p) → LineOf setup c t call (own_with out) guests trace
     signalled_line next sends_u now then stays =
         line (here next) None sends_u
         (ap (λ x. parts (Some t) ready None (slice_set (threads out) t.0 x) trace) then
@@ -133,6 +130,5 @@ module _ (site : Site) (u : Tid) (f : Effect) (known : IsSome (slice_get site.se
       let out : TowerOut = woken_outcome (lock.Released cv.Left) u in
       line out Releases is _ _ sends_released
       (ap (λ x. parts (Some t) ready None (slice_set (threads out) t.0 (record { guest = x; call = None; ended = e })) trace)
-      (grind arith)
-      ∙ sym (threads_are out Releases is Idle refl
+      (grind arith) ∙ sym (threads_are out Releases is Idle refl
       ∙ returns setup c ready (threads out) trace t g e (long out) (call_from call position (Some f) Releases) ready trace))

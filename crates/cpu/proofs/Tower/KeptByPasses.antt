@@ -20,13 +20,11 @@ with_threads own threads = record {
 -- A thread with nobody in the hand has no answer kept.
 
 pub deferred_none : (stage : Stage) (hand : Option Tid) (deferred : Option TowerOut) (s w : Option BufId) (effect : Option Effect)
-    → MayStand stage hand deferred s w effect
-    → hand ≡ None → deferred ≡ None
+    → MayStand stage hand deferred s w effect → hand ≡ None → deferred ≡ None
 deferred_none stage hand deferred s w effect given is = grind arith
 
 stands_calls : (stage : Stage) (hand : Option Tid) (deferred : Option TowerOut) (s w : Option BufId) (effect : Option Effect)
-    → CallStands stage hand deferred s w effect
-    → stage ≡ at.Idle → ⊥
+    → CallStands stage hand deferred s w effect → stage ≡ at.Idle → ⊥
 stands_calls stage hand deferred s w effect asks is = absurd (cc is)
 stands_calls stage hand deferred s w effect given is = absurd (cc is)
 
@@ -38,8 +36,7 @@ pub record AtRest (h : Option Tid) (k : Option TowerOut) (s w : Option BufId) : 
   pub waits : w ≡ None
 
 pub at_rest : (stage : Stage) (hand : Option Tid) (deferred : Option TowerOut) (s w : Option BufId) (effect : Option Effect)
-    → MayStand stage hand deferred s w effect
-    → stage ≡ at.Idle → AtRest hand deferred s w
+    → MayStand stage hand deferred s w effect → stage ≡ at.Idle → AtRest hand deferred s w
 at_rest stage hand deferred s w effect given is = grind (arith, stands_calls)
 
 -- The passes.

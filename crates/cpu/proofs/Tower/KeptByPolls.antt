@@ -42,28 +42,22 @@ module _ (caller : Caller) (others : Rest caller.t caller.slept caller.waits cal
       → fifo_plan setup.homes c t call (pieces None None slept waiting call_states) ≡ fifo_plan setup.homes c t call (handed_own caller next)
       → Keeps (pieces None None slept waiting call_states)
   handed_keeps next given fits w goes =
-      rw goes
-      (site_keeps (handed_site caller next w)
-      (rest_set t slept waiting (slice_set slept t.0 None) waiting call_states (here next None) others
-      (λ j other. get_or-set_other slept t.0 j None None other) (λ j other. refl) (length-set slept t.0 None) refl)
-      given fits (now_call_state caller next))
+      rw goes (site_keeps (handed_site caller next w) (rest_set t slept waiting (slice_set slept t.0 None) waiting call_states (here next None) others
+      (λ j other. get_or-set_other slept t.0 j None None other) (λ j other. refl) (length-set slept t.0 None) refl) given fits (now_call_state caller next))
 
   woken_keeps : IsLined call → slept_for slept t ≡ None
       → fifo_plan setup.homes c t call (pieces None None slept waiting call_states) ≡ fifo_plan setup.homes c t call (woken_own caller at.AcquiresAgain)
       → Keeps (pieces None None slept waiting call_states)
   woken_keeps lined s goes =
-      rw goes
-      (site_keeps (woken_site caller at.AcquiresAgain s)
-      (rest_set t slept waiting slept (slice_set waiting t.0 None) call_states (here at.AcquiresAgain None) others (λ j other. refl)
-      (λ j other. get_or-set_other waiting t.0 j None None other) refl (length-set waiting t.0 None))
+      rw goes (site_keeps (woken_site caller at.AcquiresAgain s) (rest_set t slept waiting slept (slice_set waiting t.0 None) call_states
+      (here at.AcquiresAgain None) others (λ j other. refl) (λ j other. get_or-set_other waiting t.0 j None None other) refl (length-set waiting t.0 None))
       asks_anew lined (now_call_state caller at.AcquiresAgain))
 
   -- a thread in the hand is sent
   module _ (u : Tid) (f : Effect) (s : slept_for slept t ≡ None) (w : slept_for waiting t ≡ None) (known : IsSome (slice_get setup.homes u.0)) where
     send_keeps : (out : TowerOut) (stage : Stage) (next : CallState) (answer : Option Reply) → Sends (awake caller s w) u f known out stage next answer
-        → FitsStage stage (Some call) → call_state_of call_states t ≡ here stage (Some f)
-        → MayStand next.stage None None None None next.effect → FitsStage next.stage next.call
-        → Keeps (pieces (Some u) (Some out) slept waiting call_states)
+        → FitsStage stage (Some call) → call_state_of call_states t ≡ here stage (Some f) → MayStand next.stage None None None None next.effect
+        → FitsStage next.stage next.call → Keeps (pieces (Some u) (Some out) slept waiting call_states)
     send_keeps out stage next answer sent fit is may_next fit_next =
         let had : HasHad (awake caller s w) (Some f) = had_at (awake caller s w) stage (Some f) sent.stands is in
         rw (begun_plan setup c t call (pieces (Some u) (Some out) slept waiting call_states) sent.stands is ∙ sent.plan) (record {
@@ -78,10 +72,8 @@ module _ (caller : Caller) (others : Rest caller.t caller.slept caller.waits cal
         })
 
   pub by_stands : {stage : Stage} {hand : Option Tid} {deferred : Option TowerOut} {s w : Option BufId} {effect : Option Effect}
-      → CallStands stage hand deferred s w effect → FitsStage stage (Some call)
-      → call_state_of call_states t ≡ here stage effect → slept_for slept t ≡ s → slept_for waiting t ≡ w
-      → ((u : Tid) → hand ≡ Some u → IsSome (slice_get setup.homes u.0))
-      → Keeps (pieces hand deferred slept waiting call_states)
+      → CallStands stage hand deferred s w effect → FitsStage stage (Some call) → call_state_of call_states t ≡ here stage effect → slept_for slept t ≡ s
+      → slept_for waiting t ≡ w → ((u : Tid) → hand ≡ Some u → IsSome (slice_get setup.homes u.0)) → Keeps (pieces hand deferred slept waiting call_states)
   by_stands (was_handed b) fits is is_s is_w known = handed_keeps at.Enters enters tt is_w (handed_plan caller b is is_s is_w)
   by_stands (was_handed_again b) fits is is_s is_w known = handed_keeps at.Tries tries fits is_w (handed_again_plan caller b is is_s is_w)
   by_stands (was_woken b) fits is is_s is_w known = woken_keeps fits is_s (woken_plan caller b is is_s is_w)
@@ -134,15 +126,13 @@ begins_keep setup c own guests t call free part =
     = ap (λ x. plan_at setup.homes c t call (going_at x (call_state_of own.call_states t) call).stage (going_at x
     (call_state_of own.call_states t) call) pieces) free.at_idle in
     let keep = subst (λ x. PlanPreserves setup c x) (sym begins) (section_keeps site None had (rest_of own t free.current part) at.Acquires asks tt) in
-    subst (λ x. x) (λ i. PlanPreserves setup c (fifo_plan setup.homes c t call
-    (own_at (sym free.current i) (sym free.hand i) (threads_in own).ready (threads_in own).ended
-    (sym free.deferred i) own.cv.lock.slept own.cv.waits own.call_states))) keep
+    subst (λ x. x) (λ i. PlanPreserves setup c (fifo_plan setup.homes c t call (own_at (sym free.current i) (sym free.hand i) (threads_in own).ready
+    (threads_in own).ended (sym free.deferred i) own.cv.lock.slept own.cv.waits own.call_states))) keep
 
 -- a poll that followed such a plan
 pub preserved_by : {A : Type 0} (ActsFor : CpuId → Type 0) (setup : Setup) (opening : LockId → Option TowerBlock) (c : CpuId)
     (p : Plan TowerName TowerAnswer Buffering A) (old new : List (Action TowerName)) (left : Left Buffering A) → OpensAs setup c opening
-    → PlanPreserves setup c p
-    → Follows ActsFor tower opening c p old new left → IsPart left.own
+    → PlanPreserves setup c p → Follows ActsFor tower opening c p old new left → IsPart left.own
 preserved_by {A = A} ActsFor setup opening c p old new left opens keep follows =
     by_reply (phase c planned.past) (block_after tower.edited opening keep.lock (sections_in planned.past))
     (kind_after opening keep.lock (grind (arith, opens keep.lock keep.used)) (sections_in planned.past)) planned.moves

@@ -40,8 +40,7 @@ module _ (t : Tid) (ready ended : List Tid) (slept waits : List (Option BufId)) 
 
   -- nobody runs
   pub gone_part : (hand : Option Tid) → MayStand (call_state_of call_states t).stage None None (slept_for slept t) (slept_for waits t)
-      (call_state_of call_states t).effect
-      → IsPart (own_at None hand ready ended None slept waits call_states)
+      (call_state_of call_states t).effect → IsPart (own_at None hand ready ended None slept waits call_states)
   gone_part hand may = grind (arith, cases_eq, others)
 
 -- another call state of this thread, and another place
@@ -172,8 +171,7 @@ module _ (site : Site) (f : Effect) (had : HasHad site (Some f)) (others : Rest 
   own_signals_by : (v : CvOut BufferOut) (o : Option Tid) → KeepsSome at.SignalsOwn (signal_out v o)
   own_signals_by v None = runs_on site (Some f) had others ready at.Releases (releases f) tt
   own_signals_by v (Some u) =
-      woke_on site (Some f) had others at.SignalsOwn (signal_out v (Some u)) u
-      (runs_on site (Some f) had others (ready ++ u ∷ []) at.Releases (releases f) tt)
+      woke_on site (Some f) had others at.SignalsOwn (signal_out v (Some u)) u (runs_on site (Some f) had others (ready ++ u ∷ []) at.Releases (releases f) tt)
       (sends_on site (Some f) had others u (signal_out v (Some u)) at.SignalsOwn (has_signalled_own u v f) tt) (is_cpu c (slice_get setup.homes u.0))
 
   returned_now : (ready2 : List Tid) → IsPart (own_at (Some t) None ready2 ended None slept waiting (slice_set call_states t.0 (over site f had)))
@@ -213,7 +211,6 @@ section_keeps site effect had others stage given fits = record {
 }
   where
     by_block : (x : TowerBlock) → IsKind (Buffer (buffer_of site.call)) x
-        → IsPart (react site effect had stage (section_at site.t site.call stage)
-        (Some (tower.answer (queue.Above (section_at site.t site.call stage)) x))).own
+        → IsPart (react site effect had stage (section_at site.t site.call stage) (Some (tower.answer (queue.Above (section_at site.t site.call stage)) x))).own
     by_block (block.Above x) kind = answers_keep site had others given fits x
     by_block (block.Queue pending homes) kind = absurd kind

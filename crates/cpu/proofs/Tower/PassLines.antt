@@ -135,11 +135,9 @@ module _ (setup : Setup) (c : CpuId) (guests : List State) (trace : List Entry) 
     ended_now =
         let after : Buffering = own_at None None ready (ended ++ t ∷ []) None slept waits call_states in
         let zero_plus : t.0 ≡ 0 + t.0 = omega arith in
-        ap (λ l. parts None ready None l trace)
-        (ap (λ l. threads_at after l) (put_same guests t.0 g at_start refl)
-        ∙ (numbered_changed (λ n. thread_of running (tid n)) (λ n. thread_of after (tid n)) 0 t.0 t.0 guests g zero_plus
-        (λ j x other. λ i. thread_from (call_state_of call_states (tid j)) (slept_for slept (tid j)) (slept_for waits (tid j))
-        (sym (ap (λ b. b && false) (ne_eqb t.0 j (λ e. other (sym e)))) i) (not_new j other i) x) in_guests
+        ap (λ l. parts None ready None l trace) (ap (λ l. threads_at after l) (put_same guests t.0 g at_start refl) ∙ (numbered_changed (λ n. thread_of running
+        (tid n)) (λ n. thread_of after (tid n)) 0 t.0 t.0 guests g zero_plus (λ j x other. λ i. thread_from (call_state_of call_states (tid j))
+        (slept_for slept (tid j)) (slept_for waits (tid j)) (sym (ap (λ b. b && false) (ne_eqb t.0 j (λ e. other (sym e)))) i) (not_new j other i) x) in_guests
         ∙ (ap (λ x. slice_set (threads_at running guests) t.0 x) here
         ∙ ap (λ x. slice_set (threads_at running guests) t.0 (record x { ended = true })) (sym there_free))))
       where

@@ -11,9 +11,8 @@ module _ (caller : Caller) where
   open caller use {setup, c, t, ready, ended, slept, waits as waiting, call_states, guests, trace, call}
 
   by_stands : {stage : Stage} {hand : Option Tid} {deferred : Option TowerOut} {s w : Option BufId} {effect : Option Effect}
-      → CallStands stage hand deferred s w effect
-      → FitsStage stage (Some call) → call_state_of call_states t ≡ call_state_at caller stage effect → slept_for slept t ≡ s → slept_for waiting t ≡ w
-      → ((u : Tid) → hand ≡ Some u → IsSome (slice_get setup.homes u.0))
+      → CallStands stage hand deferred s w effect → FitsStage stage (Some call) → call_state_of call_states t ≡ call_state_at caller stage effect
+      → slept_for slept t ≡ s → slept_for waiting t ≡ w → ((u : Tid) → hand ≡ Some u → IsSome (slice_get setup.homes u.0))
       → LineOf setup c t call (own_at (Some t) hand ready ended deferred slept waiting call_states) guests trace
   by_stands asks fits is is_s is_w known = site_line (awake caller is_s is_w) _ _ asks fits is
   by_stands enters fits is is_s is_w known = site_line (awake caller is_s is_w) _ _ enters fits is

@@ -29,8 +29,7 @@ kind_after opening lock opens = blocks_keep (IsKindIn lock) tower.edited opening
 pub opens_alike : (a b : LockId → Option Block) (lock : LockId) → a lock ≡ b lock → (past : List (Section Name))
     → block_after edited a lock past ≡ block_after edited b lock past
 opens_alike a b lock same [] = same
-opens_alike a b lock same (s ∷ past) =
-    ap (λ o. if same_lock lock s.lock then option_map (edited s.edit) o else o) (opens_alike a b lock same past)
+opens_alike a b lock same (s ∷ past) = ap (λ o. if same_lock lock s.lock then option_map (edited s.edit) o else o) (opens_alike a b lock same past)
 
 -- A line of the table is a step of it.
 
@@ -55,8 +54,7 @@ module _ {A : Type 0} (polled : Polled) (way : Way A polled) (got : Left Bufferi
   answer_is =
       reply_viewed tower table_kernel
       (record { name = name_of; view = view; told = answer_view; edits = tables_agree.edits; answers = tables_agree.answers })
-      opening c line.lock line.name past
-      ∙ ap (λ o. at_give (phase c (named past)) (option_map (table_kernel.answer (name_of line.name)) o))
+      opening c line.lock line.name past ∙ ap (λ o. at_give (phase c (named past)) (option_map (table_kernel.answer (name_of line.name)) o))
       (opens_alike (λ l. option_map view (opening l)) (table_opening setup) line.lock (opens line.lock line.used) (sections_in (named past)))
 
   next_is : after got ≡ (acting_on setup c q line.lock (name_of line.name) (named past)).next
@@ -66,8 +64,7 @@ module _ {A : Type 0} (polled : Polled) (way : Way A polled) (got : Left Bufferi
 
   grown : named new ≡ (acting_on setup c q line.lock (name_of line.name) (named past)).acts ++ named past
   grown =
-      ap named planned.acted.grows
-      ∙ ap (λ a. a ∷ named past) (sym (next_action_renamed name_of c line.lock line.name past))
+      ap named planned.acted.grows ∙ ap (λ a. a ∷ named past) (sym (next_action_renamed name_of c line.lock line.name past))
 
   abbrev Steps : List (Action Name) → Type 0
   Steps log = (after got ≡ (cpu_step setup c p log).next) × (named new ≡ (cpu_step setup c p log).acts ++ log) × (Stepped ≡ (cpu_step setup c p log).answer)

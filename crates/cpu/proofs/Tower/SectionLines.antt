@@ -165,14 +165,12 @@ module _ (site : Site) (effect : Option Effect) (is_effect : HasHad site effect)
       record { own = own_at (Some t) hand2 ready2 ended deferred2 slept waits (slice_set call_states t.0 state2); answer = answer }
 
   pub runs_on : (hand2 : Option Tid) (ready2 : List Tid) (deferred2 : Option TowerOut) (state2 : CallState) (answer : Option Reply)
-      → after (left_on hand2 ready2 deferred2 state2 answer)
-      ≡ parts (Some t) ready2 hand2 (slice_set threads t.0 (thread_from state2 None None (is_some deferred2) e (guest_by site answer)))
-      (trace_after c t buf effect state2.effect trace)
+      → after (left_on hand2 ready2 deferred2 state2 answer) ≡ parts (Some t) ready2 hand2
+      (slice_set threads t.0 (thread_from state2 None None (is_some deferred2) e (guest_by site answer))) (trace_after c t buf effect state2.effect trace)
   runs_on hand2 ready2 deferred2 state2 answer =
       (λ i. private_of (own_at (Some t) hand2 ready2 ended deferred2 slept waits (slice_set call_states t.0 state2)) (guests_by site answer i)
-      (trace_after c t buf (is_effect i) (get_or-set_same call_states t.0 state2 no_call in_call_states i).effect trace))
-      ∙ runner_goes runner None None hand2 ready2 deferred2 state2 (guest_by site answer) (trace_after c t buf effect state2.effect trace) None None
-      is_slept is_waits
+      (trace_after c t buf (is_effect i) (get_or-set_same call_states t.0 state2 no_call in_call_states i).effect trace)) ∙ runner_goes runner None None hand2
+      ready2 deferred2 state2 (guest_by site answer) (trace_after c t buf effect state2.effect trace) None None is_slept is_waits
 
   -- what a poll leaves after which thread t sleeps for the lock, or waits
   abbrev pub left_gone : (hand2 : Option Tid) (ready2 : List Tid) (slept2 waits2 : List (Option BufId)) (stage : Stage) → Left Buffering Reply
@@ -219,8 +217,7 @@ module _ (site : Site) (effect : Option Effect) (is_effect : HasHad site effect)
   waking current u b = record { current = current; hand = if b then None else Some u; ready = if b then ready ++ u ∷ [] else ready; ended = ended }
 
   pub by_home : (u : Tid) (F : Bool → Left Buffering Reply) (H : Bool → Private) → ((b : Bool) → after (F b) ≡ H b)
-      → (HandIsKnown setup (F false).own → IsSome (slice_get setup.homes u.0))
-      → HandIsKnown setup (F (is_cpu c (slice_get setup.homes u.0))).own
+      → (HandIsKnown setup (F false).own → IsSome (slice_get setup.homes u.0)) → HandIsKnown setup (F (is_cpu c (slice_get setup.homes u.0))).own
       → after (F (is_cpu c (slice_get setup.homes u.0))) ≡ H (same_cpu (home_cpu setup u) c)
   by_home u F H each hand known = grind (arith, same_cpu_sym)
 
@@ -260,11 +257,10 @@ module _ (site : Site) (effect : Option Effect) (is_effect : HasHad site effect)
   -- Both sides after a section.
 
   -- it woke nobody, and the call goes on
-  pub runs : (stage : Stage) (out : QOut (CvOut BufferOut)) (state2 : CallState) (next : Call) (trace2 : List Entry)
-      → Records stage (calm_out out) next trace2 → ((p : Private) → returned_at setup p t next next.stage ≡ p)
-      → parts (Some t) ready None (slice_set threads t.0 (thread_from state2 None None false e g)) (trace_after c t buf effect state2.effect trace)
-      ≡ stands ready None next trace2
-      → after (left_on None ready None state2 None) ≡ by_answer stage (calm_out out)
+  pub runs : (stage : Stage) (out : QOut (CvOut BufferOut)) (state2 : CallState) (next : Call) (trace2 : List Entry) → Records stage (calm_out out) next trace2
+      → ((p : Private) → returned_at setup p t next next.stage ≡ p)
+      → parts (Some t) ready None (slice_set threads t.0 (thread_from state2 None None false e g)) (trace_after c t buf effect state2.effect trace) ≡ stands
+      ready None next trace2 → after (left_on None ready None state2 None) ≡ by_answer stage (calm_out out)
   runs stage out state2 next trace2 is stays same =
       runs_on None ready None state2 None ∙ same ∙ sym (by_table stage (calm_out out) next trace2 is ∙ stays_so next ready trace2 stays)
 
@@ -349,8 +345,7 @@ module _ (site : Site) (had : HasHad site None) where
       subst (λ o. Fits Tries (did_out o)) (sym vain)
       (runs site None had Tries (lock.Did (cv.Did NotYet)) (call_state site None had Waits) (k site None had Waits) trace refl (λ p. refl) refl)
   tries_by x lined (inr tried) =
-      subst (λ o. Fits Tries (did_out o)) (sym tried.is)
-      (effects Tries (Done (kind_for (asks_in call) tried.closed) tried.op tried.message)
+      subst (λ o. Fits Tries (did_out o)) (sym tried.is) (effects Tries (Done (kind_for (asks_in call) tried.closed) tried.op tried.message)
       (effect_by call tried.closed tried.op tried.message position) (grind (arith, lined, tried.same)))
 
   -- it waits, with the thread that it woke at home or in the hand
@@ -434,8 +429,7 @@ module _ (site : Site) (f : Effect) (had : HasHad site (Some f)) where
   returned_so ready2 =
       runs_on site (Some f) had None ready2 None over (Some (reply_of call f))
       ∙ (ap (λ x. parts (Some t) ready2 None (slice_set (threads site (Some f) had) t.0 (record { guest = x; call = None; ended = e site (Some f) had })) trace)
-      (grind arith)
-      ∙ sym (has_returned site (Some f) had (k site (Some f) had Releases) ready2 trace))
+      (grind arith) ∙ sym (has_returned site (Some f) had (k site (Some f) had Releases) ready2 trace))
 
   release_by : (u : Tid) (b : Bool)
       → after site (Some f) had (lift site (Some f) had Releases (left_out (Some u)) (waking site (Some f) had (Some t) u b))
@@ -504,9 +498,8 @@ section_line site effect had stage given fits = record {
   where
     by_block : (x : TowerBlock) → IsKind (Buffer (buf site effect had)) x
         → HandIsKnown site.setup (react site effect had stage (call_section site.t site.call stage)
-        (Some (tower.answer (queue.Above (call_section site.t site.call stage)) x))).own
-        → after site effect had (react site effect had stage (call_section site.t site.call stage)
-        (Some (tower.answer (queue.Above (call_section site.t site.call stage)) x)))
+        (Some (tower.answer (queue.Above (call_section site.t site.call stage)) x))).own → after site effect had (react site effect had stage
+        (call_section site.t site.call stage) (Some (tower.answer (queue.Above (call_section site.t site.call stage)) x)))
         ≡ after_section site.setup site.c (from site effect had stage) (answer_view (tower.answer (queue.Above (call_section site.t site.call stage)) x))
     by_block (block.Above x) kind known = answers site had given fits x known
     by_block (block.Queue pending homes) kind known = absurd kind

@@ -36,8 +36,7 @@ module _ (setup : Setup) (c : CpuId) (ready : List Tid) (threads : List Thread) 
       → after_section setup c (from_t call) a ≡ settled setup (woken setup c a.woke (slept_if a.slept (with_t ready None (calling next) trace2)))
   recorded_is call a next trace2 is =
       ap (λ x. after_by setup c (from_t call) t x.call a) (there (calling call) ready None trace)
-      ∙ ap (λ r. settled setup (woken setup c a.woke (slept_if a.slept r)))
-      (is ∙ (ap (put call next trace2) (there (calling call) ready None trace)
+      ∙ ap (λ r. settled setup (woken setup c a.woke (slept_if a.slept r))) (is ∙ (ap (put call next trace2) (there (calling call) ready None trace)
       ∙ ap (λ l. parts (Some t) ready None l trace2) (set-set threads t.0 (calling call) (calling next))))
 
   -- a call that has a section left goes on
@@ -55,5 +54,4 @@ module _ (setup : Setup) (c : CpuId) (ready : List Tid) (threads : List Thread) 
       ap (λ x. returned_by setup (with_t ready2 None (calling next) trace2) t x.call) (there (calling next) ready2 None trace2)
       ∙ (ap (λ x. parts (Some t) ready2 None (slice_set (slice_set threads t.0 (calling next)) t.0
       (record x { guest = guest_after call.asks call.closed (next_of (program_of setup t) x.guest) call.message x.guest; call = None })) trace2)
-      (there (calling next) ready2 None trace2)
-      ∙ ap (λ l. parts (Some t) ready2 None l trace2) (set-set threads t.0 (calling next) (done_with call)))
+      (there (calling next) ready2 None trace2) ∙ ap (λ l. parts (Some t) ready2 None l trace2) (set-set threads t.0 (calling next) (done_with call)))

@@ -105,10 +105,9 @@ runs_within setup c p T P agrees t is = local_within setup c p T P agrees t (run
 
 -- The caller goes to sleep.
 
-pub agrees_slept : (setup : Setup) (c : CpuId) (p : Private) (t : Tid) (T : Tid → Visit) (P N : Tid → Where) (slept : Bool)
-    → Agrees setup c p T P → p.current ≡ Some t
-    → ((u : Tid) → same_tid t u ≡ false → N u ≡ P u) → (slept ≡ false → N t ≡ P t) → (slept ≡ true → (is_home (N t) ≡ false) × (is_hand c (N t) ≡ false))
-    → Agrees setup c (slept_if slept p) T N
+pub agrees_slept : (setup : Setup) (c : CpuId) (p : Private) (t : Tid) (T : Tid → Visit) (P N : Tid → Where) (slept : Bool) → Agrees setup c p T P
+    → p.current ≡ Some t → ((u : Tid) → same_tid t u ≡ false → N u ≡ P u) → (slept ≡ false → N t ≡ P t)
+    → (slept ≡ true → (is_home (N t) ≡ false) × (is_hand c (N t) ≡ false)) → Agrees setup c (slept_if slept p) T N
 agrees_slept setup c p t T P N false agrees runs_now others stays sleeps = grind (arith, same)
   where
     same : (u : Tid) → N u ≡ P u

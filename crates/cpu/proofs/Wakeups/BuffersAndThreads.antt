@@ -126,8 +126,7 @@ module _ (setup : Setup) (past : List (Section Name)) (good : Good setup past) (
   here_pair : (u : Tid) (k : Buffer) (o : Option Block) → block_of setup (AtBuffer d) past ≡ o → option_map (edited name) o ≡ Some (OfBuffer k)
       → Pair d u k (progress_by name o (progress setup (AtBuffer d) past)) (visit_buffer d u name o (visit setup u past))
       (post_buffer setup c d u name o (post setup u past))
-  here_pair u k (Some (OfBuffer was)) block is =
-      rw (← same_buffer (edited_buffer name was) k is) (edited_pair u was block (is_caller u name) refl)
+  here_pair u k (Some (OfBuffer was)) block is = rw (← same_buffer (edited_buffer name was) k is) (edited_pair u was block (is_caller u name) refl)
   here_pair u k o block is = absurd (cc is)
 
   visit_there : (b : BufId) → is_buffer b d ≡ false → (u : Tid) (k : Buffer) (g : Progress) (x : Where) (o : Option Block)
@@ -135,8 +134,7 @@ module _ (setup : Setup) (past : List (Section Name)) (good : Good setup past) (
   visit_there b off u k g x (Some (OfBuffer was)) pair = by_test (is_caller u name) refl
     where
       by_test : (mine : Bool) → is_caller u name ≡ mine → Pair b u k g (if mine then next_visit d name was (visit setup u past) else visit setup u past) x
-      by_test true own =
-          grind (arith, paired, refuted, stays_apart b d name was (visit setup u past) off (callers u (is_the_caller u name own)).due, pair)
+      by_test true own = grind (arith, paired, refuted, stays_apart b d name was (visit setup u past) off (callers u (is_the_caller u name own)).due, pair)
       by_test false other = pair
   visit_there b off u k g x o pair = pair
 
@@ -149,16 +147,14 @@ module _ (setup : Setup) (past : List (Section Name)) (good : Good setup past) (
       let moves = moves_at setup past good c d name callers u o refl in
       let now = post_buffer setup c d u name o (post setup u past) in
       post_apart b u k g (visit_buffer d u name o (visit setup u past)) (post setup u past) now
-      (λ list. lists_stay setup c d u name (post setup u past) now b list off moves)
-      (visit_there b off u k g (post setup u past) o (good.pairs b u k block))
+      (λ list. lists_stay setup c d u name (post setup u past) now b list off moves) (visit_there b off u k g (post setup u past) o (good.pairs b u k block))
 
   good_buffer : Good setup (record { cpu = c; lock = AtBuffer d; edit = name } ∷ past)
   good_buffer = record {
     ordered = (keeps_block (block_of setup (AtBuffer d) past) refl, good.ordered);
     pairs = λ b u k is. by_test b u k (is_buffer b d) refl is;
     pending = λ e u threads is.
-        good.pending e u threads is
-        ∙ ap (λ p. one_if (same_cpu (home_cpu setup u) e && p))
+        good.pending e u threads is ∙ ap (λ p. one_if (same_cpu (home_cpu setup u) e && p))
         (sym (no_pending_moves setup c d u name (post setup u past) _ (moves_at setup past good c d name callers u (block_of setup (AtBuffer d) past) refl)));
     small = λ u on.
         small_moves setup c d u name (post setup u past) _

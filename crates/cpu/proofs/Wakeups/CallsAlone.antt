@@ -29,8 +29,7 @@ module _ (setup : Setup) (c : CpuId) (t : Tid) where
   -- one section of the call
   advance : (s : Whole) (n : ℕ) (k next : Buffer) (call more : Call) (traced longer : List Entry) (left : ℕ) (a : Answer) → Gets s n k call traced (left + 3)
       → answer_of_buffer (section_due t call call.stage) k ≡ a → edited_buffer (section_due t call call.stage) k ≡ next → call.buffer ≡ more.buffer
-      → ((p : Private) → InCall setup c p t call traced → InCall setup c (after_section setup c p a) t more longer)
-      → Gets s (n + 3) next more longer left
+      → ((p : Private) → InCall setup c p t call traced → InCall setup c (after_section setup c p a) t more longer) → Gets s (n + 3) next more longer left
   advance s n k next call more traced longer left a gets told edits same_buffer goes_so =
       let q = gets.state in
       let asks = asks_for setup c q t call traced gets.inside in
@@ -68,8 +67,7 @@ module _ (setup : Setup) (c : CpuId) (t : Tid) where
       → Gets s (n + 3) (record k { busy = Some t }) (record call { stage = Enters }) traced left
   section_acquires s n left k call traced free gets =
       advance s n k (record k { busy = Some t }) (record call { stage = Acquires }) (record call { stage = Enters }) traced traced left (reports Nothing) gets
-      (ap answer_of_acquire free) (ap (λ o. acquired t o k) free) refl
-      (λ p inside.
+      (ap answer_of_acquire free) (ap (λ o. acquired t o k) free) refl (λ p inside.
       answer_recorded p (with_call p t (Some (record call { stage = Enters }))) (record call { stage = Acquires })
       (record call { stage = Enters }) traced traced Nothing inside refl
       (new_in p (record call { stage = Acquires }) (record call { stage = Enters }) traced inside) refl)
@@ -79,18 +77,15 @@ module _ (setup : Setup) (c : CpuId) (t : Tid) where
     may_enter line empty = ap (may_join t) empty ∙ ap (λ b. b && true) (lt-ltb t.0 THREADS small)
 
     pub enters_line : (side : Side) (asks : Group) → first_section t asks ≡ Enter t side
-        → ((p : Private) (call : Call) (told : Reported) → recorded_entry c p t call asks told ≡ recorded_position p t call told)
-        → (s : Whole) (n left : ℕ) (k : Buffer) (call : Call) (traced : List Entry) → line_on side k ≡ []
-        → Gets s n k (record call { asks = asks; stage = Enters }) traced (left + 3)
+        → ((p : Private) (call : Call) (told : Reported) → recorded_entry c p t call asks told ≡ recorded_position p t call told) → (s : Whole) (n left : ℕ)
+        (k : Buffer) (call : Call) (traced : List Entry) → line_on side k ≡ [] → Gets s n k (record call { asks = asks; stage = Enters }) traced (left + 3)
         → Gets s (n + 3) (lined_up t side k) (record call { asks = asks; position = drawn_position side k; stage = Tries }) traced left
     enters_line side asks first records s n left k call traced empty gets =
         let now : Call = record call { asks = asks; stage = Enters } in
         let more : Call = record call { asks = asks; position = drawn_position side k; stage = Tries } in
-        advance s n k (lined_up t side k) now more traced traced left (reports (Position (drawn_position side k))) gets
-        (ap (λ e. answer_of_buffer e k) first)
+        advance s n k (lined_up t side k) now more traced traced left (reports (Position (drawn_position side k))) gets (ap (λ e. answer_of_buffer e k) first)
         (ap (λ e. edited_buffer e k) first ∙ ap (λ b. if b then lined_up t side k else k) (may_enter (line_on side k) empty)) refl
-        (λ p inside.
-        answer_recorded p (with_call p t (Some more)) now more traced traced (Position (drawn_position side k)) inside
+        (λ p inside. answer_recorded p (with_call p t (Some more)) now more traced traced (Position (drawn_position side k)) inside
         (records p now (Position (drawn_position side k))) (new_in p now more traced inside) refl)
 
   -- the state after an effect: the entry is written
@@ -108,13 +103,11 @@ module _ (setup : Setup) (c : CpuId) (t : Tid) where
   -- a section that has the call's effect: the call as it then is
   pub section_tries : (s : Whole) (n left : ℕ) (k next : Buffer) (call now : Call) (traced : List Entry) (told : Reported) → call.buffer ≡ now.buffer
       → answer_of_buffer (section_due t call call.stage) k ≡ reports told → edited_buffer (section_due t call call.stage) k ≡ next
-      → ((p : Private) → with_told c p t call call.stage told ≡ effected c p t now k.effects)
-      → Gets s n k call traced (left + 3)
+      → ((p : Private) → with_told c p t call call.stage told ≡ effected c p t now k.effects) → Gets s n k call traced (left + 3)
       → Gets s (n + 3) next (record now { effect = Some k.effects; stage = Signals }) (traced ++ entry_made c t now k.effects now.message ∷ []) left
   section_tries s n left k next call now traced told same_buffer tells_so edits recorded_so gets =
       advance s n k next call (record now { effect = Some k.effects; stage = Signals }) traced (traced ++ entry_made c t now k.effects now.message ∷ []) left
-      (reports told) gets tells_so edits same_buffer
-      (λ p inside.
+      (reports told) gets tells_so edits same_buffer (λ p inside.
       answer_recorded p (effected c p t now k.effects) call (record now { effect = Some k.effects; stage = Signals }) traced
       (traced ++ entry_made c t now k.effects now.message ∷ []) told inside (recorded_so p) (effect_in p call now k.effects traced inside) refl)
 
@@ -143,13 +136,11 @@ module _ (setup : Setup) (c : CpuId) (t : Tid) where
     signals_none : (n left : ℕ) → answer_of_buffer (section_due t call call.stage) k ≡ wakes None
         → Gets s n k call traced (left + 3) → Gets s (n + 3) next more traced left
     signals_none n left told gets =
-        advance s n k next call more traced traced left (reports Nothing) gets told edits same_buffer
-        (λ p inside. answer_recorded p (with_call p t (Some more)) call more traced traced Nothing inside (recorded_so p Nothing)
-        (new_in p call more traced inside) (stays (with_call p t (Some more))))
+        advance s n k next call more traced traced left (reports Nothing) gets told edits same_buffer (λ p inside. answer_recorded p (with_call p t (Some more))
+        call more traced traced Nothing inside (recorded_so p Nothing) (new_in p call more traced inside) (stays (with_call p t (Some more))))
 
     -- a signal that wakes a thread at home here
-    signals_home : (n left : ℕ) (u : Tid) → same_cpu (home_cpu setup u) c ≡ true
-        → answer_of_buffer (section_due t call call.stage) k ≡ wakes (Some u)
+    signals_home : (n left : ℕ) (u : Tid) → same_cpu (home_cpu setup u) c ≡ true → answer_of_buffer (section_due t call call.stage) k ≡ wakes (Some u)
         → Gets s n k call traced (left + 3) → Gets s (n + 3) next more traced left
     signals_home n left u here told gets =
         advance s n k next call more traced traced left (wakes (Some u)) gets told edits same_buffer (λ p inside.
@@ -164,8 +155,7 @@ module _ (setup : Setup) (c : CpuId) (t : Tid) where
         subst (λ x. InCall setup c x t more traced) (sym same) at)
 
     -- a signal that wakes a thread of another CPU: the next section puts it among the pending there
-    signals_away : (n left : ℕ) (u : Tid) → same_cpu (home_cpu setup u) c ≡ false
-        → answer_of_buffer (section_due t call call.stage) k ≡ wakes (Some u)
+    signals_away : (n left : ℕ) (u : Tid) → same_cpu (home_cpu setup u) c ≡ false → answer_of_buffer (section_due t call call.stage) k ≡ wakes (Some u)
         → Gets s n k call traced ((left + 3) + 3) → Gets s ((n + 3) + 3) next more traced left
     signals_away n left u away told gets =
         let q = gets.state in
@@ -227,8 +217,7 @@ module _ (setup : Setup) (c : CpuId) (t : Tid) where
 
   -- the lock is given back, and nobody sleeps at it
   releases : (s : Whole) (n left : ℕ) (k : Buffer) (call : Call) (traced : List Entry) → k.sleepers ≡ []
-      → Gets s n k (record call { stage = Releases }) traced (left + 3)
-      → Returned s (n + 3) traced
+      → Gets s n k (record call { stage = Releases }) traced (left + 3) → Returned s (n + 3) traced
   releases s n left k call traced none gets =
       let last : Call = record call { stage = Releases } in
       let gone : Call = record call { stage = Idle } in
@@ -257,8 +246,7 @@ module _ (setup : Setup) (c : CpuId) (t : Tid) where
             subst (λ k. IsInCall (steps_by setup c k s) c t) same_step (record {
               now = q;
               here = ap (λ x. slice_get x.cpus c.0)
-                  (steps_more setup c n 2 s ∙ ap (steps_by setup c 2) gets.by
-                  ∙ two_steps setup c gets.now gets.before q gets.past left gets.stands gets.goes)
+                  (steps_more setup c n 2 s ∙ ap (steps_by setup c 2) gets.by ∙ two_steps setup c gets.now gets.before q gets.past left gets.stands gets.goes)
                   ∙ here_two setup c gets.now gets.before q gets.stands.here;
               call = last;
               inside = gets.inside.calls;
@@ -270,8 +258,7 @@ module _ (setup : Setup) (c : CpuId) (t : Tid) where
       → answer_of_buffer (first_signal t (side_of_group call.asks)) k ≡ wakes woke
       → answer_of_buffer (second_signal t (side_of_group call.asks)) (edited_buffer (first_signal t (side_of_group call.asks)) k) ≡ wakes own
       → (edited_buffer (second_signal t (side_of_group call.asks)) (edited_buffer (first_signal t (side_of_group call.asks)) k)).sleepers ≡ []
-      → 9 + (steps_to_move setup c woke + steps_to_move setup c own) ≤ left
-      → Gets s n k (record call { stage = Signals }) traced left
+      → 9 + (steps_to_move setup c woke + steps_to_move setup c own) ≤ left → Gets s n k (record call { stage = Signals }) traced left
       → Returned s (n + (9 + (steps_to_move setup c woke + steps_to_move setup c own))) traced
   call_ends_alone s n left k call traced woke own first_tells own_tells none space gets =
       let mine = steps_to_move setup c own in

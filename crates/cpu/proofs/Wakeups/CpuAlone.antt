@@ -33,9 +33,8 @@ pub record Stands (setup : Setup) (c : CpuId) (s : Whole) (p : Private) (past : 
 
 module _ (setup : Setup) (c : CpuId) where
   -- a step for which there is room
-  one_step : (s : Whole) (p : Private) (o : Outcome Private Name) → slice_get s.cpus c.0 ≡ Some p
-      → cpu_step setup c p s.log ≡ o → o.answer ≡ Stepped → s.taken < s.room
-      → (system_step setup c s).next ≡ whole_after c s o
+  one_step : (s : Whole) (p : Private) (o : Outcome Private Name) → slice_get s.cpus c.0 ≡ Some p → cpu_step setup c p s.log ≡ o → o.answer ≡ Stepped
+      → s.taken < s.room → (system_step setup c s).next ≡ whole_after c s o
   one_step s p o here is stepped room = grind (arith, ne_eqb)
 
   -- what one action leaves
@@ -47,8 +46,7 @@ module _ (setup : Setup) (c : CpuId) where
   }
 
   act : (q : Private) (log : List (Action Name)) (now : Phase) (a : Action Name) → phase c log ≡ now
-      → next_action c (asked setup c q).lock (asked setup c q).name log ≡ a
-      → acting setup c q log ≡ acted q log now a
+      → next_action c (asked setup c q).lock (asked setup c q).name log ≡ a → acting setup c q log ≡ acted q log now a
   act q log now a at is = λ i. acted q log (at i) (is i)
 
   within : (p : Private) (log : List (Action Name)) (now : Phase) → phase c log ≡ now → is_in_section now ≡ true → cpu_step setup c p log ≡ acting setup c p log
@@ -79,10 +77,9 @@ module _ (setup : Setup) (c : CpuId) where
       second =
           let log = Take c (asked setup c q).lock ∷ s.log in
           let now = phase_own (Take c (asked setup c q).lock) s.log in
-          one_step _ q _ (set_here s.cpus c.0 p q at.here)
-          (within q log (Waits (asked setup c q).lock) now refl
-          ∙ act q log (Waits (asked setup c q).lock) (Try c (asked setup c q).lock true) now
-          (second_action c (asked setup c q).lock (asked setup c q).name s.log (at.free (asked setup c q).lock))) refl (omega (arith, at.room))
+          one_step _ q _ (set_here s.cpus c.0 p q at.here) (within q log (Waits (asked setup c q).lock) now refl ∙ act q log (Waits (asked setup c q).lock)
+          (Try c (asked setup c q).lock true) now (second_action c (asked setup c q).lock (asked setup c q).name s.log (at.free (asked setup c q).lock))) refl
+          (omega (arith, at.room))
 
   pub here_two : (s : Whole) (p q : Private) → slice_get s.cpus c.0 ≡ Some p → slice_get (after_two s q).cpus c.0 ≡ Some q
   here_two s p q at = set_here (slice_set s.cpus c.0 q) c.0 q q (set_here s.cpus c.0 p q at)
@@ -99,11 +96,9 @@ module _ (setup : Setup) (c : CpuId) where
           let now = phase_own (Try c (asked setup c q).lock true) (Take c (asked setup c q).lock ∷ s.log) in
           let gives = ap (λ r. record { next = after_reply setup c q r; acts = Give c (asked setup c q).lock (asked setup c q).name ∷ []; answer = Stepped })
           (ap (λ x. option_map (answer (asked setup c q).name) (block_of setup (asked setup c q).lock x)) at.did ∙ told) in
-          one_step _ q _ (here_two s p q at.here)
-          (within q log (Holds (asked setup c q).lock) now refl
+          one_step _ q _ (here_two s p q at.here) (within q log (Holds (asked setup c q).lock) now refl
           ∙ act q log (Holds (asked setup c q).lock) (Give c (asked setup c q).lock (asked setup c q).name) now
-          (third_action c (asked setup c q).lock (asked setup c q).name (Take c (asked setup c q).lock ∷ s.log))
-          ∙ gives) refl (omega (arith, at.room))
+          (third_action c (asked setup c q).lock (asked setup c q).name (Take c (asked setup c q).lock ∷ s.log)) ∙ gives) refl (omega (arith, at.room))
 
   pub stands_after : (s : Whole) (p q : Private) (past : List (Section Name)) (left : ℕ) (a : Answer) → Stands setup c s p past (left + 3)
       → Stands setup c (after_three s q a) (after_section setup c q a) (section_of c (asked setup c q) ∷ past) left

@@ -36,8 +36,7 @@ module _ (setup : Setup) (past : List (Section Name)) (good : Good setup past) (
   foreign_buffer d name callers =
       agrees_foreign setup c p (λ u. visit setup u past) (λ u. visit setup u (record { cpu = e; lock = AtBuffer d; edit = name } ∷ past))
       (λ u. post setup u past) (λ u. post setup u (record { cpu = e; lock = AtBuffer d; edit = name } ∷ past)) agrees
-      (λ u local. grind (arith, false_from_ne_true, and_parts, is_the_caller, local))
-      (λ u local. grind (
+      (λ u local. grind (arith, false_from_ne_true, and_parts, is_the_caller, local)) (λ u local. grind (
         arith,
         false_from_ne_true,
         sleeps_not_home,
@@ -46,8 +45,7 @@ module _ (setup : Setup) (past : List (Section Name)) (good : Good setup past) (
         local,
         moves_at setup past good e d name callers u
             (block_of setup (AtBuffer d) past) refl,
-      ))
-      (λ u. grind (arith, moves_at setup past good e d name callers u (block_of setup (AtBuffer d) past) refl))
+      )) (λ u. grind (arith, moves_at setup past good e d name callers u (block_of setup (AtBuffer d) past) refl))
 
   pending_homes : (d : CpuId) (name : Name) → MayComeTo setup past e d name → (u : Tid) → is_local setup c u ≡ true
       → is_home (post_pending setup d u name (post setup u past)) ≡ is_home (post setup u past)

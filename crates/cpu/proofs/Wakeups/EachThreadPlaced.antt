@@ -41,9 +41,8 @@ module _ (setup : Setup) (s : Whole) (homes : HomesExist setup) (kept : SystemIn
       ∙ ap (λ y. one_if (same_cpu (home_cpu setup u) (cpu_numbered i) && is_pending y)) is
 
   at_buffer : (x : Where) → post setup u (sections_in s.log) ≡ x → (i : ℕ) → i < length setup.caps
-      → count_in u (of_buffer setup s i)
-      ≡ marked u (sleeps_in (buffer_numbered i) wait_list.Sleepers x) +
-      (marked u (sleeps_in (buffer_numbered i) wait_list.Receivers x) + marked u (sleeps_in (buffer_numbered i) wait_list.Senders x))
+      → count_in u (of_buffer setup s i) ≡ marked u (sleeps_in (buffer_numbered i) wait_list.Sleepers x)
+      + (marked u (sleeps_in (buffer_numbered i) wait_list.Receivers x) + marked u (sleeps_in (buffer_numbered i) wait_list.Senders x))
   at_buffer x is i below =
       let there = buffer_there setup (buffer_numbered i) (sections_in s.log) below in
       grind (arith, count_append, good.pairs (buffer_numbered i) u there.0 there.1, is, there.1)
@@ -66,8 +65,7 @@ module _ (setup : Setup) (s : Whole) (homes : HomesExist setup) (kept : SystemIn
       total_none _ setup.cpus (λ i below. at_pending x is i ∙ ap one_if (and_right (same_cpu (home_cpu setup u) (cpu_numbered i)) (is_pending x) off))
 
   no_buffers : (x : Where) → post setup u (sections_in s.log) ≡ x → ((b : BufId) (list : WaitList) → sleeps_in b list x ≡ false) → buffers_sum ≡ 0
-  no_buffers x is awake =
-      total_none _ (length setup.caps) (λ i below. grind (arith, at_buffer x is i below, marked_none, awake (buffer_numbered i)))
+  no_buffers x is awake = total_none _ (length setup.caps) (λ i below. grind (arith, at_buffer x is i below, marked_none, awake (buffer_numbered i)))
 
   -- no seat where the thread is not at home
   no_seat : (x : Where) (i : ℕ) → is_home x ≡ false → one_if (seat setup (cpu_numbered i) u x (ended_at i)) ≡ 0

@@ -48,10 +48,9 @@ module _ (b : BufId) (u : Tid) where
       grind (arith, paired, not_outside, sleeps_here, and_from, buffer_self, grown_list, no_sleepers, marked_none, and_right)
 
   -- the pair of a thread that has the lock and goes on, from its places in the two lines
-  at_work : (k : Buffer) (g h : Progress) (before progress : Progress) (sends receives : List Tid)
-      → k.busy ≡ Some u → InStep (In b progress) h
-      → Pair b u k g (In b before) Home
-      → count_in u sends ≡ marked u (is_lined b Senders (In b progress)) → count_in u receives ≡ marked u (is_lined b Receivers (In b progress))
+  at_work : (k : Buffer) (g h : Progress) (before progress : Progress) (sends receives : List Tid) → k.busy ≡ Some u → InStep (In b progress) h
+      → Pair b u k g (In b before) Home → count_in u sends ≡ marked u (is_lined b Senders (In b progress))
+      → count_in u receives ≡ marked u (is_lined b Receivers (In b progress))
       → Pair b u (record k { send_line = sends; receive_line = receives }) h (In b progress) Home
   at_work k g h before progress sends receives owner step pair in_sends in_receives = grind (arith, paired, and_from, buffer_self)
 
@@ -67,10 +66,9 @@ module _ (b : BufId) (u : Tid) where
 
   -- the thread gives the lock back, and is inside no longer
   own_release : (k : Buffer) (g : Progress) (visit next : Visit) (x : Where) → Pair b u k g visit Home → is_inside b next ≡ false
-      → sleeps_in b wait_list.Sleepers x ≡ false
-      → count_in u k.send_line ≡ marked u (is_lined b Senders next) → count_in u k.receive_line ≡ marked u (is_lined b Receivers next)
-      → (sends receives : List Tid) → count_in u sends ≡ marked u (sleeps_in b wait_list.Senders x) → count_in u receives
-      ≡ marked u (sleeps_in b wait_list.Receivers x)
+      → sleeps_in b wait_list.Sleepers x ≡ false → count_in u k.send_line ≡ marked u (is_lined b Senders next)
+      → count_in u k.receive_line ≡ marked u (is_lined b Receivers next) → (sends receives : List Tid)
+      → count_in u sends ≡ marked u (sleeps_in b wait_list.Senders x) → count_in u receives ≡ marked u (sleeps_in b wait_list.Receivers x)
       → Pair b u (released (record k { waiting_senders = sends; waiting_receivers = receives })) Begins next x
   own_release k g visit next x pair outside off in_sends in_receives sends receives now_ws now_wr =
       grind (arith, paired, refuted, not_first, no_sleepers, same_tid_self, first_left, marked_most, marked_none)
@@ -80,11 +78,10 @@ module _ (b : BufId) (u : Tid) where
   own_wait k g side pair = grind (arith, own_release, grown_list, no_senders, no_receivers, and_from, and_right, buffer_self, marked_none)
 
   -- what the thread's own section makes of the pair, where it is due
-  own_at : (name : Name) (k : Buffer) (g : Progress) (visit : Visit) → caller_in name ≡ Some u
-      → (k.busy ≡ None → g ≡ Begins) → MayEdit name k g → IsDue b name visit
-      → Pair b u k g visit Home
-      → Pair b u (edited_buffer name k) (progress_after name k g) (next_visit b name k visit) (if
-      (answer_of_buffer name k).slept then waiters_of b name else Home)
+  own_at : (name : Name) (k : Buffer) (g : Progress) (visit : Visit) → caller_in name ≡ Some u → (k.busy ≡ None → g ≡ Begins) → MayEdit name k g
+      → IsDue b name visit → Pair b u k g visit Home
+      → Pair b u (edited_buffer name k) (progress_after name k g) (next_visit b name k visit)
+      (if (answer_of_buffer name k).slept then waiters_of b name else Home)
   own_at (AcqQ t) k g visit is idle may due pair =
       subst (λ v. IsDue b (AcqQ v) visit → Pair b u (acquired v k.busy k) g (acquired_visit b visit)
       (if (answer_of_acquire k.busy).slept then Asleep (At (AtBuffer b) wait_list.Sleepers) else Home))
@@ -128,8 +125,7 @@ module _ (b : BufId) (u : Tid) where
       ∙ ap (λ d. if slept && d then waiters_of b name else post) calls
       ∙ ap (λ d. if d then waiters_of b name else post) (and-true slept)
       ∙ ap (λ x. if slept then waiters_of b name else x) here in
-      rw at_visit
-      (rw at_post (own_at name k g visit is idle may due pair))
+      rw at_visit (rw at_post (own_at name k g visit is idle may due pair))
 
 -- A section elsewhere: the pair of any thread with another buffer.
 

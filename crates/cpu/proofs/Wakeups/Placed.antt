@@ -56,8 +56,7 @@ module _ (setup : Setup) (past : List (Section Name)) (placed : Placed setup pas
       by_test : (w slept mine : Bool) → is_caller u name ≡ mine
           → IsPlaced setup (if mine then next_visit d name k (visit setup u past) else visit setup u past)
           (if w then post_woken setup c u else (if slept && mine then waiters_of d name else post setup u past))
-      by_test false false true own =
-          subst (IsPlaced setup (next_visit d name k (visit setup u past))) (sym (callers u (is_the_caller u name own)).here) tt
+      by_test false false true own = subst (IsPlaced setup (next_visit d name k (visit setup u past))) (sym (callers u (is_the_caller u name own)).here) tt
       by_test false true false own = placed.posts u
       by_test false false false own = placed.posts u
       by_test w slept mine own = grind (arith, within, buffer_within setup d past k is)

@@ -123,9 +123,8 @@ step_keeps setup c p log Q ok now chosen acts = by_section (is_in_section (phase
     by_section false = by_choice (choice setup c p) (choice_ok setup c p _ _ ok.agrees ok.settled) chosen
 
 -- an action of another CPU
-pub ok_beside : (setup : Setup) (e : CpuId) (p : Private) (log : List (Action Name)) (a : Action Name)
-    → same_cpu (cpu_of_action a) e ≡ false → IsFairLog setup log → IsFair setup log a
-    → Ok setup e p log → Ok setup e p (a ∷ log)
+pub ok_beside : (setup : Setup) (e : CpuId) (p : Private) (log : List (Action Name)) (a : Action Name) → same_cpu (cpu_of_action a) e ≡ false
+    → IsFairLog setup log → IsFair setup log a → Ok setup e p log → Ok setup e p (a ∷ log)
 ok_beside setup e p log (Give cpu lock name) off fair may ok = record {
   agrees = foreign_step setup (sections_in log) (fair_good setup log fair) e p (record { cpu = cpu; lock = lock; edit = name }) off may ok.agrees;
   settled = ok.settled;
@@ -133,9 +132,8 @@ ok_beside setup e p log (Give cpu lock name) off fair may ok = record {
 }
 ok_beside setup e p log a off fair may ok = grind (arith, phase_other)
 
-pub all_beside : (setup : Setup) (c e : CpuId) (p : Private) (log acts : List (Action Name))
-    → same_cpu c e ≡ false → AllDo c acts → IsFairLog setup (acts ++ log)
-    → Ok setup e p log → Ok setup e p (acts ++ log)
+pub all_beside : (setup : Setup) (c e : CpuId) (p : Private) (log acts : List (Action Name)) → same_cpu c e ≡ false → AllDo c acts
+    → IsFairLog setup (acts ++ log) → Ok setup e p log → Ok setup e p (acts ++ log)
 all_beside setup c e p log [] off does fair ok = ok
 all_beside setup c e p log (a ∷ acts) off does fair ok =
     ok_beside setup e p (acts ++ log) a (ap (λ d. same_cpu d e) does.0 ∙ off) fair.1 fair.0 (all_beside setup c e p log acts off does.1 fair.1 ok)
@@ -153,8 +151,7 @@ homed_before c (home ∷ homes) i u before = by_test (same_cpu home c) (homed_be
 
 homed_at : (c : CpuId) (homes : List CpuId) (i k : ℕ) (u : Tid) → u.0 ≡ i + k
     → count_in u (home_threads_from c homes i) ≡ one_if (same_cpu (or_else (record { 0 = 0 }) (slice_get homes k)) c && nat_lt k (length homes))
-homed_at c [] i k u at =
-    sym (ap one_if (and_right (same_cpu (record { 0 = 0 }) c) (nat_lt k 0) (le-ltb k 0 (omega arith))))
+homed_at c [] i k u at = sym (ap one_if (and_right (same_cpu (record { 0 = 0 }) c) (nat_lt k 0) (le-ltb k 0 (omega arith))))
 homed_at c (home ∷ homes) i zero u at = grind (arith, homed_before, eq-eqb, lt-ltb)
 homed_at c (home ∷ homes) i (suc k) u at = by_test (same_cpu home c) (homed_at c homes (i + 1) k u (omega (arith, at)))
   where

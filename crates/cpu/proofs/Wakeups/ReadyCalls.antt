@@ -43,8 +43,7 @@ module _ (setup : Setup) (room : ℕ) (s : Whole) (c : CpuId) (p : Private) (t :
   begins_as asks b line at same = grind (arith, empty, live)
 
   first_gets : (asks : Group) (b : BufId) (k : Buffer) (m : Message) → choice setup c p ≡ Goes (with_call p t (Some (new_call asks b m)))
-      → s.taken + 21 ≤ s.room
-      → block_at setup (AtBuffer b) s.log ≡ Some (OfBuffer k) → Gets setup c t s 0 k (new_call asks b m) p.trace 21
+      → s.taken + 21 ≤ s.room → block_at setup (AtBuffer b) s.log ≡ Some (OfBuffer k) → Gets setup c t s 0 k (new_call asks b m) p.trace 21
   first_gets asks b k m goes space block = record {
     now = s;
     by = refl;
@@ -137,8 +136,7 @@ module _ (setup : Setup) (room : ℕ) (s : Whole) (c : CpuId) (p : Private) (t :
         → Returned setup c t s (9 + (9 + (steps_to_move setup c woke + 0))) traced
     sent_back m now traced woke is line wakes_so gets =
         let at = put m (lined_up t Senders (record k { busy = Some t })) in
-        call_ends_alone setup c t s 9 12 at now traced woke None
-        (ap (λ a. answer_of_buffer (first_signal t (side_of_group a)) at) is ∙ ap wakes wakes_so)
+        call_ends_alone setup c t s 9 12 at now traced woke None (ap (λ a. answer_of_buffer (first_signal t (side_of_group a)) at) is ∙ ap wakes wakes_so)
         (ap (λ a. answer_of_buffer (second_signal t (side_of_group a)) (edited_buffer (first_signal t (side_of_group a)) at)) is
         ∙ ap wakes (due_none at.send_line k.waiting_senders _ (ap (λ l. rest (l ++ t ∷ [])) line)))
         (ap (λ a. (edited_buffer (second_signal t (side_of_group a)) (edited_buffer (first_signal t (side_of_group a)) at)).sleepers) is ∙ none)
@@ -150,8 +148,7 @@ module _ (setup : Setup) (room : ℕ) (s : Whole) (c : CpuId) (p : Private) (t :
         → Returned setup c t s (9 + (9 + (steps_to_move setup c woke + 0))) traced
     received_back now traced woke is line wakes_so gets =
         let at = taken (lined_up t Receivers (record k { busy = Some t })) in
-        call_ends_alone setup c t s 9 12 at now traced woke None
-        (ap (λ a. answer_of_buffer (first_signal t (side_of_group a)) at) is ∙ ap wakes wakes_so)
+        call_ends_alone setup c t s 9 12 at now traced woke None (ap (λ a. answer_of_buffer (first_signal t (side_of_group a)) at) is ∙ ap wakes wakes_so)
         (ap (λ a. answer_of_buffer (second_signal t (side_of_group a)) (edited_buffer (first_signal t (side_of_group a)) at)) is
         ∙ ap wakes (due_none at.receive_line k.waiting_receivers _ (ap (λ l. rest (l ++ t ∷ [])) line)))
         (ap (λ a. (edited_buffer (second_signal t (side_of_group a)) (edited_buffer (first_signal t (side_of_group a)) at)).sleepers) is ∙ none)

@@ -22,9 +22,8 @@ abbrev pub DoneRuns : Setup → CpuId → Private → Type 0
 DoneRuns setup c p = (u : Tid) → is_local setup c u ≡ true → is_done (thread_at p u).call ≡ true → is_thread u p.current ≡ true
 
 module _ (setup : Setup) (c : CpuId) where
-  settled_in : (p : Private) (T : Tid → Visit) (P : Tid → Where) → Agrees setup c p T P → DoneRuns setup c p
-      → (hand current : Option Tid) → p.hand ≡ hand → p.current ≡ current
-      → Agrees setup c (returned_in setup p hand current) T P × IsSettled setup c (returned_in setup p hand current)
+  settled_in : (p : Private) (T : Tid → Visit) (P : Tid → Where) → Agrees setup c p T P → DoneRuns setup c p → (hand current : Option Tid) → p.hand ≡ hand
+      → p.current ≡ current → Agrees setup c (returned_in setup p hand current) T P × IsSettled setup c (returned_in setup p hand current)
   settled_in p T P agrees done (Some s) current holds runs_now = (agrees, λ u local is. (ap is_some holds, done u local is))
   settled_in p T P agrees done None None holds runs_now = (agrees, λ u local is. refuted (ap (is_thread u) runs_now) (done u local is))
   settled_in p T P agrees done None (Some t) holds runs_now = grind (arith, not_yet, by_stage)
@@ -98,8 +97,7 @@ module _ (p : Private) (t : Tid) (known : t.0 < length p.threads) where
     at_closed : (op : ℕ) → Recorded p (recorded_try c p t call (WasClosed op)) t (In call.buffer (Owes true true)) false
     at_closed op = grind (arith, recorded_call (record call { closed = true; effect = Some op; stage = Signals }))
 
-    at_put : (closed : Bool) (op : ℕ) (m : Message) → Recorded p (recorded_try c p t call (report_of_put closed op m)) t (In call.buffer
-        (Owes true true)) false
+    at_put : (closed : Bool) (op : ℕ) (m : Message) → Recorded p (recorded_try c p t call (report_of_put closed op m)) t (In call.buffer (Owes true true)) false
     at_put true op m = at_closed op
     at_put false op m = at_done op m
 
@@ -145,8 +143,7 @@ pub record IsCalling (setup : Setup) (c : CpuId) (p : Private) (T : Tid → Visi
   pub runs_now : p.current ≡ Some t
   pub is : (thread_at p t).call ≡ Some call
 
-module _ (setup : Setup) (c : CpuId) (p : Private) (T : Tid → Visit) (P : Tid → Where) (t : Tid) (call : Call)
-    (calling : IsCalling setup c p T P t call) where
+module _ (setup : Setup) (c : CpuId) (p : Private) (T : Tid → Visit) (P : Tid → Where) (t : Tid) (call : Call) (calling : IsCalling setup c p T P t call) where
   open calling use {agrees, settled_before, empty, runs_now, is}
 
   local_now : is_local setup c t ≡ true
@@ -232,13 +229,11 @@ module _ (setup : Setup) (c : CpuId) (p : Private) (T : Tid → Visit) (P : Tid 
   pub agrees_drained : (list : List Tid) → ((u : Tid) → count_in u list ≡ one_if (same_cpu (home_cpu setup u) c && is_pending (P u)))
       → ((u : Tid) → is_home (P u) ≡ false → nat_lt u.0 (length setup.homes) ≡ true)
       → Agrees setup c (record p { ready = p.ready ++ list }) T (λ u. post_pending setup c u TakeAll (P u))
-  agrees_drained list counts known =
-      grind (arith, agrees, count_append, and_right, and_from, false_from_ne_true, refuted, drained_hand, counts, known)
+  agrees_drained list counts known = grind (arith, agrees, count_append, and_right, and_from, false_from_ne_true, refuted, drained_hand, counts, known)
 
 -- the current thread yields: it stands behind those that are ready, and nobody runs
-pub agrees_yielded : (setup : Setup) (c : CpuId) (p : Private) (T : Tid → Visit) (P : Tid → Where)
-    → Agrees setup c p T P → (t : Tid) → p.current ≡ Some t → (guest : State)
-    → Agrees setup c (record (with_state p t guest) { current = None; ready = p.ready ++ t ∷ [] }) T P
+pub agrees_yielded : (setup : Setup) (c : CpuId) (p : Private) (T : Tid → Visit) (P : Tid → Where) → Agrees setup c p T P → (t : Tid) → p.current ≡ Some t
+    → (guest : State) → Agrees setup c (record (with_state p t guest) { current = None; ready = p.ready ++ t ∷ [] }) T P
 agrees_yielded setup c p T P agrees t runs_now guest = grind (arith, moved, same_tid_sym, count_append)
   where
     known : t.0 < length p.threads

@@ -174,9 +174,8 @@ module _ (setup : Setup) (s : Whole) (homes : HomesExist setup) (kept : SystemIn
             },
           )
         where
-          refused : (call : Call) → HasLine call.asks → call.buffer ≡ wait.0 → side_of_group call.asks ≡ wait.1
-              → (k : Buffer) (m : Message) (e : Kind) → group_of e ≡ call.asks
-              → block_at setup (AtBuffer call.buffer) s.log ≡ Some (OfBuffer k) → Allows k e m → ⊥
+          refused : (call : Call) → HasLine call.asks → call.buffer ≡ wait.0 → side_of_group call.asks ≡ wait.1 → (k : Buffer) (m : Message) (e : Kind)
+              → group_of e ≡ call.asks → block_at setup (AtBuffer call.buffer) s.log ≡ Some (OfBuffer k) → Allows k e m → ⊥
           refused call line same_buffer same_side k m e asks block allowed =
               let mine : visit setup u (sections_in s.log) ≡ Waiting call.buffer (side_of_group call.asks) =
               wait.3 ∙ (λ i. Waiting (sym same_buffer i) (sym same_side i)) in

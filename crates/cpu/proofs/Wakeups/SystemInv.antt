@@ -25,8 +25,7 @@ placed_acts setup c known log (a ∷ acts) does fair placed =
 fine_step : (setup : Setup) (c : CpuId) (p : Private) (log : List (Action Name)) → Ok setup c p log
     → AllFine setup p → AllFine setup (cpu_step setup c p log).next
 fine_step setup c p log ok fine =
-    step_keeps setup c p log (AllFine setup) ok fine
-    (fine_choice setup c p fine (λ t runs_now. (runs_at_home setup c p _ _ ok.agrees t runs_now).2))
+    step_keeps setup c p log (AllFine setup) ok fine (fine_choice setup c p fine (λ t runs_now. (runs_at_home setup c p _ _ ok.agrees t runs_now).2))
     (λ q agrees now. fine_acting setup c q now (runs_within setup c q _ _ agrees) log)
 
 pub record SystemInv (setup : Setup) (s : Whole) : Type 0 where

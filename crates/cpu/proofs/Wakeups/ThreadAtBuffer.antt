@@ -205,8 +205,7 @@ other_section : (setup : Setup) (c : CpuId) (b : BufId) (u : Tid) (name : Name) 
     → is_caller u name ≡ false → MayEdit name k g → Pair b u k g visit post
     → Pair b u (edited_buffer name k) (progress_after name k g) visit (if is_thread u (answer_of_buffer name k).woke then post_woken setup c u else post)
 other_section setup c b u (AcqQ t) k g visit post other may pair =
-    subst (λ x. Pair b u (acquired t k.busy k) g visit x) (sym (grind arith))
-    (other_acquire setup c b u t other visit post k g k.busy refl pair)
+    subst (λ x. Pair b u (acquired t k.busy k) g visit x) (sym (grind arith)) (other_acquire setup c b u t other visit post k g k.busy refl pair)
 other_section setup c b u (Enter t side) k g visit post other may pair =
     other_enter setup c b u t other visit post k g side (may_join t (line_on side k)) may.0 pair
 other_section setup c b u (TryPut t m) k g visit post other may pair = other_put setup c b u t other visit post k g m (may_try Senders t k) refl may.0 pair

@@ -32,8 +32,7 @@ none_begun (x ∷ guests) none =
 
 -- a CPU before its first step
 pub cpu_boots : (homes : List CpuId) (buffers : ℕ) (number : CpuId) (guests : List (Option Guest)) (limit capacity : ℕ) → AreGuests homes buffers number guests
-    → length homes ≤ THREADS → limit ≤ capacity
-    → IsCpu homes buffers [] (at_boot homes number) (replicate THREADS no_call) None number guests [] limit capacity
+    → length homes ≤ THREADS → limit ≤ capacity → IsCpu homes buffers [] (at_boot homes number) (replicate THREADS no_call) None number guests [] limit capacity
 cpu_boots homes buffers number guests limit capacity are few reserved = record {
   kept = refl;
   stays = tt;
@@ -52,9 +51,8 @@ cpu_boots homes buffers number guests limit capacity are few reserved = record {
 -- a CPU that was made so, in a machine that is fresh
 pub boots_as : {P L M : Type 0} (I : Ghosts P L M) (m : M) (p : Cpu P M) (homes : List CpuId) (buffers k : ℕ) (guests : List (Option Guest)) (most : ℕ)
     → IsBootedAs (λ q n. I.Fits q n) (λ n d. I.IsFresh n homes d) (λ n. length (caps_in (I.opening n))) buffers homes k guests most p.part (I.cpu_of p.part)
-    (I.own p.part) (I.under_way p.part) p.number p.guests.items p.trace.items p.limit (vec_capacity p.trace)
-    → I.IsFresh m homes (cpu_at k) → length (caps_in (I.opening m)) ≡ buffers → homes_in (I.opening m) ≡ homes → I.seen m ≡ [] → AreGuests homes buffers
-    (cpu_at k) guests
+    (I.own p.part) (I.under_way p.part) p.number p.guests.items p.trace.items p.limit (vec_capacity p.trace) → I.IsFresh m homes (cpu_at k)
+    → length (caps_in (I.opening m)) ≡ buffers → homes_in (I.opening m) ≡ homes → I.seen m ≡ [] → AreGuests homes buffers (cpu_at k) guests
     → length homes ≤ THREADS
     → I.Fits p.part m × (I.cpu_of p.part ≡ p.number) × IsCpu (homes_in (I.opening m)) (length (caps_in (I.opening m))) (I.seen m) (threads_in (I.own p.part))
     (I.own p.part).call_states (I.under_way p.part) p.number p.guests.items p.trace.items p.limit (vec_capacity p.trace)
@@ -68,11 +66,10 @@ boots_as I m p homes buffers k guests most is fresh counted same none are few = 
 
 -- a system before its first step
 pub opens : {X N : Type 0} (IsOne : X → Type 0) (number : X → CpuId) (ActsFor MayHold : CpuId → Type 0) (IsStepwise : Type 0) (acts : List (Action N))
-    (cpus : List X)
-    (homes homes2 : List CpuId) (seen : List Entry) (caps : List ℕ) (room left n : ℕ) (Sound : Type 0) → Sound → AreOpenable n caps homes → length cpus ≡ n
-    → ((k : ℕ) (x : X) → slice_get cpus k ≡ Some x → IsAt IsOne number k x) → ((c : CpuId) → c.0 < CPUS → ActsFor c)
-    → ((c : CpuId) → MayHold c → ⊥) → acts ≡ [] → homes2 ≡ homes → seen ≡ []
-    → room < 2 ^ 64 → room ≤ left → IsSystem IsOne number ActsFor MayHold IsStepwise acts cpus homes2 seen room 0 left Sound
+    (cpus : List X) (homes homes2 : List CpuId) (seen : List Entry) (caps : List ℕ) (room left n : ℕ) (Sound : Type 0) → Sound → AreOpenable n caps homes
+    → length cpus ≡ n → ((k : ℕ) (x : X) → slice_get cpus k ≡ Some x → IsAt IsOne number k x) → ((c : CpuId) → c.0 < CPUS → ActsFor c)
+    → ((c : CpuId) → MayHold c → ⊥) → acts ≡ [] → homes2 ≡ homes → seen ≡ [] → room < 2 ^ 64 → room ≤ left
+    → IsSystem IsOne number ActsFor MayHold IsStepwise acts cpus homes2 seen room 0 left Sound
 opens IsOne number ActsFor MayHold IsStepwise acts cpus homes homes2 seen caps room left n Sound sound openable count each acts_for nobody nothing same none
     small enough = record {
       each = each;
@@ -96,8 +93,7 @@ opens IsOne number ActsFor MayHold IsStepwise acts cpus homes homes2 seen caps r
 
 -- the same system, of which the table says something that follows
 pub system_sounds : {X N : Type 0} (IsOne : X → Type 0) (number : X → CpuId) (ActsFor MayHold : CpuId → Type 0) (IsStepwise : Type 0) (acts : List (Action N))
-    (cpus : List X)
-    (homes : List CpuId) (seen : List Entry) (room taken left : ℕ) (Sound Sound2 : Type 0) → (Sound → Sound2)
+    (cpus : List X) (homes : List CpuId) (seen : List Entry) (room taken left : ℕ) (Sound Sound2 : Type 0) → (Sound → Sound2)
     → IsSystem IsOne number ActsFor MayHold IsStepwise acts cpus homes seen room taken left Sound
     → IsSystem IsOne number ActsFor MayHold IsStepwise acts cpus homes seen room taken left Sound2
 system_sounds IsOne number ActsFor MayHold IsStepwise acts cpus homes seen room taken left Sound Sound2 goes is = grind arith
@@ -139,5 +135,4 @@ all_one z xs k = refl
 -- the table in front of those that are left
 pub first_left : {X Y : Type 0} (f : X → Y) (left xs : List X) (n : ℕ) (r : X) (e : Y) → left ≡ drop n xs → n < length xs → r ≡ slice_index_or left 0 r
     → f r ≡ slice_index_or (map f xs) n e
-first_left f left xs n r e is within reads =
-    ap f reads ∙ ap (λ l. f (slice_index_or l 0 r)) is ∙ drop_first f xs n r e within
+first_left f left xs n r e is within reads = ap f reads ∙ ap (λ l. f (slice_index_or l 0 r)) is ∙ drop_first f xs n r e within

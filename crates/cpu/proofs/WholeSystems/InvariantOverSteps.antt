@@ -13,8 +13,7 @@ use Rattle.cpu.proofs.{ListFacts.ListReads.{set_else, set_there}, StepTable.Reac
 pub no_others : (ActsFor : CpuId → Type 0) (others : List Entry) → ((c : CpuId) → c.0 < CPUS → ActsFor c) → AllByRecursion (λ e. e.cpu.0 < CPUS) others
     → AreForeign ActsFor cpu_of_entry others → others ≡ []
 no_others ActsFor [] all known foreign = refl
-no_others ActsFor (e ∷ others) all known foreign =
-    absurd (cc ((foreign e.cpu (all e.cpu known.0)).0, same_cpu_self e.cpu))
+no_others ActsFor (e ∷ others) all known foreign = absurd (cc ((foreign e.cpu (all e.cpu known.0)).0, same_cpu_self e.cpu))
 
 -- effects of one CPU are none of another's
 others_of : (k c : CpuId) (mine : List Entry) → c.0 ≢ k.0 → AllByRecursion (λ e. e.cpu ≡ k) mine → AreOthers cpu_of_entry c mine
@@ -36,8 +35,7 @@ pub same_of : (ActsFor : CpuId → Type 0) (k c : CpuId) (old new : List Entry) 
     → ActsFor c → SeenGrows ActsFor k old new → of_cpu c new ≡ of_cpu c old
 same_of ActsFor k c old new other acts grows =
     ap (λ (l : List Entry). of_cpu c l) grows.is
-    ∙ mine_gone grows.mine (others_of k c grows.mine other grows.own)
-    ∙ cpu_same ActsFor c grows.others old grows.foreign acts
+    ∙ mine_gone grows.mine (others_of k c grows.mine other grows.own) ∙ cpu_same ActsFor c grows.others old grows.foreign acts
   where
     mine_gone : (mine : List Entry) → AreOthers cpu_of_entry c mine → of_cpu c (mine ++ (grows.others ++ old)) ≡ of_cpu c (grows.others ++ old)
     mine_gone [] theirs = refl
@@ -48,14 +46,12 @@ phase_stays : {N : Type 0} (ActsFor : CpuId → Type 0) (k c : CpuId) (old new :
     → phase c new ≡ phase c old
 phase_stays ActsFor k c old new other acts grows =
     ap (λ (l : List (Action _)). phase c l) grows.is
-    ∙ phase_others c grows.mine (grows.others ++ old) (acts_of k c grows.mine other grows.own)
-    ∙ phase_others c grows.others old (grows.foreign c acts)
+    ∙ phase_others c grows.mine (grows.others ++ old) (acts_of k c grows.mine other grows.own) ∙ phase_others c grows.others old (grows.foreign c acts)
 
 -- another CPU's step leaves what always holds of a CPU
-pub cpu_frame : (homes homes2 : List CpuId) (buffers buffers2 : ℕ) (seen seen2 : List Entry)
-    (own : Threads) (call_states : List CallState) (under_way : Option UnderWay) (number : CpuId)
-    (guests : List (Option Guest)) (trace : List Entry) (limit capacity : ℕ) → homes2 ≡ homes → buffers2 ≡ buffers → of_cpu number seen2 ≡ of_cpu number seen
-    → IsCpu homes buffers seen own call_states under_way number guests trace limit capacity
+pub cpu_frame : (homes homes2 : List CpuId) (buffers buffers2 : ℕ) (seen seen2 : List Entry) (own : Threads) (call_states : List CallState)
+    (under_way : Option UnderWay) (number : CpuId) (guests : List (Option Guest)) (trace : List Entry) (limit capacity : ℕ) → homes2 ≡ homes
+    → buffers2 ≡ buffers → of_cpu number seen2 ≡ of_cpu number seen → IsCpu homes buffers seen own call_states under_way number guests trace limit capacity
     → IsCpu homes2 buffers2 seen2 own call_states under_way number guests trace limit capacity
 cpu_frame homes homes2 buffers buffers2 seen seen2 own call_states under_way number guests trace limit capacity same_homes same_buffers same is =
     rw same_homes (rw same_buffers (seen_stays (valid_cpu is) seen2 same))
@@ -63,12 +59,11 @@ cpu_frame homes homes2 buffers buffers2 seen seen2 own call_states under_way num
 -- the system after a step of CPU k, which left y in its place
 pub system_step : {X N : Type 0} (One Two : X → Type 0) (number : X → CpuId) (Acts1 Acts2 Holds1 Holds2 : CpuId → Type 0) (IsStepwise : Type 0)
     (acts1 acts2 : List (Action N)) (cpus : List X) (homes homes2 : List CpuId) (seen seen2 : List Entry) (room taken left left2 k : ℕ) (y : X)
-    (Sound1 Sound2 : Type 0)
-    → IsSystem One number Acts1 Holds1 IsStepwise acts1 cpus homes seen room taken left Sound1 → Sound2 → k < length cpus → number y ≡ cpu_at k → Two y
-    → ((j : ℕ) (x : X) → j ≢ k → j < CPUS → IsAt One number j x → Two x) → ((c : CpuId) → Acts1 c → Acts2 c)
-    → ((c : CpuId) → c ≢ cpu_at k → Acts1 c → Holds2 c → Holds1 c)
-    → SeenGrows Acts1 (cpu_at k) seen seen2 → (IsStepwise → ActsGrow Acts1 (cpu_at k) acts1 acts2) → AllByRecursion (λ e. e.cpu.0 < CPUS) seen2 → homes2 ≡ homes
-    → left ≤ left2 + 1 → taken < room → IsSystem Two number Acts2 Holds2 IsStepwise acts2 (slice_set cpus k y) homes2 seen2 room (taken + 1) left2 Sound2
+    (Sound1 Sound2 : Type 0) → IsSystem One number Acts1 Holds1 IsStepwise acts1 cpus homes seen room taken left Sound1 → Sound2 → k < length cpus
+    → number y ≡ cpu_at k → Two y → ((j : ℕ) (x : X) → j ≢ k → j < CPUS → IsAt One number j x → Two x) → ((c : CpuId) → Acts1 c → Acts2 c)
+    → ((c : CpuId) → c ≢ cpu_at k → Acts1 c → Holds2 c → Holds1 c) → SeenGrows Acts1 (cpu_at k) seen seen2
+    → (IsStepwise → ActsGrow Acts1 (cpu_at k) acts1 acts2) → AllByRecursion (λ e. e.cpu.0 < CPUS) seen2 → homes2 ≡ homes → left ≤ left2 + 1 → taken < room
+    → IsSystem Two number Acts2 Holds2 IsStepwise acts2 (slice_set cpus k y) homes2 seen2 room (taken + 1) left2 Sound2
 system_step One Two number Acts1 Acts2 Holds1 Holds2 IsStepwise acts1 acts2 cpus homes homes2 seen seen2 room taken left left2 k y
     Sound1 Sound2 is sound within numbered here there goes holders grows does known
     same room_left live = record {
@@ -151,14 +146,13 @@ module _ {M X : Type 0} (of : Works M X) where
 
   -- a CPU took a step
   pub cpu_stepped : (m m2 : M) (cpus : List X) (room taken k : ℕ) (x y : X) → Holds m cpus room taken → of.Sound m2 (slice_set cpus k y) room (taken + 1)
-      → slice_get cpus k ≡ Some x → of.number y ≡ of.number x → of.cpu y ≡ of.number x → of.Fits y m2 → Keeps m2 y
-      → of.Tabled m2 y → ((z : X) → of.Tabled m z → of.Tabled m2 z)
-      → ((z : X) → of.cpu z ≢ of.number x → of.Fits z m → of.Fits z m2) → ((c : CpuId) → of.ActsFor m c → of.ActsFor m2 c)
-      → ((c : CpuId) → c ≢ of.number x → of.ActsFor m c → of.MayHold m2 c → of.MayHold m c)
+      → slice_get cpus k ≡ Some x → of.number y ≡ of.number x → of.cpu y ≡ of.number x → of.Fits y m2 → Keeps m2 y → of.Tabled m2 y
+      → ((z : X) → of.Tabled m z → of.Tabled m2 z) → ((z : X) → of.cpu z ≢ of.number x → of.Fits z m → of.Fits z m2)
+      → ((c : CpuId) → of.ActsFor m c → of.ActsFor m2 c) → ((c : CpuId) → c ≢ of.number x → of.ActsFor m c → of.MayHold m2 c → of.MayHold m c)
       → SeenGrows (of.ActsFor m) (of.number x) (of.told m).seen (of.told m2).seen
-      → (of.IsStepwise → ActsGrow (of.ActsFor m) (of.number x) (of.told m).acts (of.told m2).acts)
-      → AllByRecursion (λ e. e.cpu.0 < CPUS) (of.told m2).seen → (of.told m2).homes ≡ (of.told m).homes → (of.told m2).caps ≡ (of.told m).caps
-      → of.left m ≤ of.left m2 + 1 → taken < room → Holds m2 (slice_set cpus k y) room (taken + 1)
+      → (of.IsStepwise → ActsGrow (of.ActsFor m) (of.number x) (of.told m).acts (of.told m2).acts) → AllByRecursion (λ e. e.cpu.0 < CPUS) (of.told m2).seen
+      → (of.told m2).homes ≡ (of.told m).homes → (of.told m2).caps ≡ (of.told m).caps → of.left m ≤ of.left m2 + 1 → taken < room
+      → Holds m2 (slice_set cpus k y) room (taken + 1)
   cpu_stepped m m2 cpus room taken k x y is sound at numbered of_cpu_is fits here tabled tables others goes holders grows does known same_homes same_caps
       room_left live =
       system_step (IsOne m) (IsOne m2) of.number (of.ActsFor m) (of.ActsFor m2) (of.MayHold m) (of.MayHold m2) of.IsStepwise (of.told m).acts (of.told m2).acts

@@ -91,8 +91,7 @@ module _ (homes : List CpuId) (buffers : ℕ) (seen : List Entry) (moves : List 
       let same = ap (λ (l : List Entry). of_thread t.0 l) has.is.kept ∙ filter_reversed (λ (e : Entry). e.thread.0 == t.0) (of_cpu (cpu_at k) seen) in
       subst (λ (l : List Entry). Keeps g (is_in t p.own.ended) l) (sym same)
       (keeps_by g (is_in t p.own.ended) (of_thread t.0 (of_cpu (cpu_at k) seen)) (begun_of (call_state_of has.call_states t))
-      (call_state_of has.call_states t).effect (has.is.follow t g at).1
-      (λ ended. has.is.over t ended g at))
+      (call_state_of has.call_states t).effect (has.is.follow t g at).1 (λ ended. has.is.over t ended g at))
 
   pub stay_home : (k : ℕ) (p : CpuShown) → Has homes buffers seen moves k p → AllByRecursion (IsOfHome homes (cpu_at k)) p.trace
   stay_home k p has = grind (arith, all_reversed)

@@ -122,9 +122,8 @@ pub guest_away : (plan : BootPlan) (c t : ℕ) → t < length plan.tasks → pla
 guest_away plan c t within other = sym (guest_there plan c t within false (ne_eqb (plan_home_of plan t) c other))
 
 -- a table more
-pub tables_more : {X : Type 0} (f : ℕ → List (Option Guest)) (items : X → List (Option Guest)) (xs : List X) (x : X) (n : ℕ)
-    → map items xs ≡ listed f 0 n → items x ≡ f n
-    → map items (xs ++ x ∷ []) ≡ listed f 0 (n + 1)
+pub tables_more : {X : Type 0} (f : ℕ → List (Option Guest)) (items : X → List (Option Guest)) (xs : List X) (x : X) (n : ℕ) → map items xs ≡ listed f 0 n
+    → items x ≡ f n → map items (xs ++ x ∷ []) ≡ listed f 0 (n + 1)
 tables_more f items xs x n before is =
     let next : suc n ≡ n + 1 = omega arith in
     let zero_more : 0 + n ≡ n = omega arith in

@@ -15,8 +15,7 @@ use Rattle.cpu.proofs.{ListFacts.ListReads.{listed_length, listed_there, shown_a
 -- the threads at home on a CPU, by rising number
 homed_is : (c : CpuId) (n : ℕ) (homes : List CpuId) → homed c n homes ≡ home_threads_from c homes n
 homed_is c n [] = refl
-homed_is c n (home ∷ homes) =
-    (λ i. if same_cpu_sym c home i then record { 0 = n } ∷ homed_is c (n + 1) homes i else homed_is c (n + 1) homes i)
+homed_is c n (home ∷ homes) = (λ i. if same_cpu_sym c home i then record { 0 = n } ∷ homed_is c (n + 1) homes i else homed_is c (n + 1) homes i)
 
 -- a thread at boot
 thread_new : (homes : List CpuId) (c : CpuId) (n : ℕ) (guest : State) → guest ≡ at_start → thread_of (buffering_at_start homes c) (tid n) guest ≡ new_thread
@@ -40,8 +39,7 @@ states_new guests new k = refl
 
 -- a CPU at boot is the table's
 pub private_boots : (setup : Setup) (homes : List CpuId) (buffers : ℕ) (c : CpuId) (guests : List (Option Guest)) → setup.homes ≡ homes
-    → AreGuests homes buffers c guests
-    → private (buffering_at_start homes c) guests [] ≡ boot_of setup c
+    → AreGuests homes buffers c guests → private (buffering_at_start homes c) guests [] ≡ boot_of setup c
 private_boots setup homes buffers c guests same are =
     let ready = homed_is c 0 homes ∙ ap (λ (h : List CpuId). home_threads_from c h 0) (sym same) in
     let count : length (guest_states guests) ≡ length homes = length-map guests guest_state_of ∙ are.size in

@@ -7,8 +7,7 @@ pub reason-requires : goal.reason-requires
 reason-requires g c = runs_within (layered (laws_of g.met.I.CallLayer) c.args.m.now c.args.self.now c.requires.agrees)
 
 pub returns-in-Some-clause-leaves : goal.returns-in-Some-clause-leaves
-returns-in-Some-clause-leaves g c =
-    left_alone g.I.CallLayer c.args.m.now c.args.self.now _ c.requires.agrees.number refl refl refl refl (guests_rest refl refl)
+returns-in-Some-clause-leaves g c = left_alone g.I.CallLayer c.args.m.now c.args.self.now _ c.requires.agrees.number refl refl refl refl (guests_rest refl refl)
 
 pub returns-in-Some-clause-steps : goal.returns-in-Some-clause-steps
 returns-in-Some-clause-steps g c = λ step.

@@ -19,8 +19,7 @@ returns g c =
         fits = goes.agrees.fits;
         number = goes.agrees.number;
         is = subst (λ (l : List (Option Guest)). IsCpu (homes_in (I.opening m)) (length (caps_in (I.opening m))) (I.seen m) (threads_in (I.own p.part))
-            (I.own p.part).call_states (I.under_way p.part) p.number l p.trace.items p.limit
-            (vec_capacity p.trace)) (sym c.note_compute.ensures)
+            (I.own p.part).call_states (I.under_way p.part) p.number l p.trace.items p.limit (vec_capacity p.trace)) (sym c.note_compute.ensures)
             (noted_compute (valid_cpu cpu.is) c.args.thread c.requires.chosen);
         table = λ step.
             subst (λ (l : List (Option Guest)). IsTabled (homes_in (I.opening m)) (caps_in (I.opening m)) p.number (I.own p.part) (I.under_way p.part) l

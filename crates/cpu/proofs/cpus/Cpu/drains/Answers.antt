@@ -16,8 +16,7 @@ ran_polling : (g : Over) (c : After-pass g) → RunsAt g.I.CallLayer c.args.m.no
 ran_polling g c = RunsAt.more c.loop-taken.invariant.ran c.pass.ensures
 
 pub goes_on_draining-requires : goal.goes_on_draining-requires
-goes_on_draining-requires g c =
-    runs_within (layered (laws_of g.met.I.CallLayer) c.pass.new.m c.pass.new.self c.pass.ensures.agrees)
+goes_on_draining-requires g c = runs_within (layered (laws_of g.met.I.CallLayer) c.pass.new.m c.pass.new.self c.pass.ensures.agrees)
 
 pub returns-then-taken-most : goal.returns-then-taken-most
 returns-then-taken-most g c =

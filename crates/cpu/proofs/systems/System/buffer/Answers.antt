@@ -22,9 +22,8 @@ returns-in-Some-buffer_here g c =
 
 pub loop-at-preserved : goal.loop-at-preserved
 loop-at-preserved g c =
-    up_to (λ x. g.I.Owned.items_here x.part c.args.buffer ≡ None)
-    c.deref-at-items.result.now c.loop-at.at-index c.at-item.result c.loop-at-test.true c.at-item.is
-    (sym c.buffer_here.ensures ∙ ap (λ o. option_map (λ y. y.items) o) c.in_default-buffer_here.is) c.loop-at.invariant
+    up_to (λ x. g.I.Owned.items_here x.part c.args.buffer ≡ None) c.deref-at-items.result.now c.loop-at.at-index c.at-item.result c.loop-at-test.true
+    c.at-item.is (sym c.buffer_here.ensures ∙ ap (λ o. option_map (λ y. y.items) o) c.in_default-buffer_here.is) c.loop-at.invariant
 
 pub returns : goal.returns
 returns g c =

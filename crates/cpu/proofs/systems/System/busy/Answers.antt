@@ -26,9 +26,8 @@ returns-in-Some-busy_here g c =
 
 pub loop-at-preserved : goal.loop-at-preserved
 loop-at-preserved g c =
-    up_to (λ x. g.I.Owned.owner_here x.part c.args.buffer ≡ None)
-    c.deref-at-items.result.now c.loop-at.at-index c.at-item.result c.loop-at-test.true c.at-item.is
-    (sym c.busy_here.ensures ∙ c.in_default-busy_here.is) c.loop-at.invariant
+    up_to (λ x. g.I.Owned.owner_here x.part c.args.buffer ≡ None) c.deref-at-items.result.now c.loop-at.at-index c.at-item.result c.loop-at-test.true
+    c.at-item.is (sym c.busy_here.ensures ∙ c.in_default-busy_here.is) c.loop-at.invariant
 
 pub returns : goal.returns
 returns g c =

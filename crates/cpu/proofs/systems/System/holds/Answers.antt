@@ -119,6 +119,5 @@ returns-clause-once g c =
     let fits = (c.self.invariant.each 0 first.0 first.1).holds.0 in
     let agreed = agree g c in
     subst (λ (s : Shown). StandsOnce s) c.self.view_is
-    (once_of
-    (shown_in (observed_by I g.I.Owned.owner m) (map (shown_by I) c.self.inside.cpus.items) c.self.inside.room c.self.inside.taken)
+    (once_of (shown_in (observed_by I g.I.Owned.owner m) (map (shown_by I) c.self.inside.cpus.items) c.self.inside.room c.self.inside.taken)
     (length (caps_in (I.opening m))) (I.wait_lists m) refl (g.met.I.CallLayer.lists first.0.part m fits) agreed.within agreed.lawful agreed.stands)

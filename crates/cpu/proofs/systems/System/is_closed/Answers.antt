@@ -27,9 +27,8 @@ returns-in-Some-closed_in_hands g c =
 
 pub loop-at-preserved : goal.loop-at-preserved
 loop-at-preserved g c =
-    up_to (λ x. g.I.Owned.closed_here x.part c.args.buffer ≡ None)
-    c.deref-at-items.result.now c.loop-at.at-index c.at-item.result c.loop-at-test.true c.at-item.is
-    (sym c.closed_in_hands.ensures ∙ c.in_default-closed_in_hands.is) c.loop-at.invariant
+    up_to (λ x. g.I.Owned.closed_here x.part c.args.buffer ≡ None) c.deref-at-items.result.now c.loop-at.at-index c.at-item.result c.loop-at-test.true
+    c.at-item.is (sym c.closed_in_hands.ensures ∙ c.in_default-closed_in_hands.is) c.loop-at.invariant
 
 pub returns : goal.returns
 returns g c =

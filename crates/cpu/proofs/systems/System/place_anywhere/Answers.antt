@@ -15,9 +15,8 @@ returns-in-Some g c =
 
 pub loop-at-preserved : goal.loop-at-preserved
 loop-at-preserved g c =
-    up_to (λ x. g.I.Owned.IsSilent x.part c.self.inside.machine c.args.thread)
-    c.deref-at-items.result.now c.loop-at.at-index c.at-item.result c.loop-at-test.true
-    c.at-item.is (c.place_at.ensures.silent c.in_default.is) c.loop-at.invariant
+    up_to (λ x. g.I.Owned.IsSilent x.part c.self.inside.machine c.args.thread) c.deref-at-items.result.now c.loop-at.at-index c.at-item.result
+    c.loop-at-test.true c.at-item.is (c.place_at.ensures.silent c.in_default.is) c.loop-at.invariant
 
 pub returns : goal.returns
 returns g c =

@@ -28,8 +28,7 @@ rests g c =
     let some = sym (ap (λ (r : Option Reason). is_some r) c.reason.ensures.is) ∙ sym c.if-is_some.ensures in
     subst (λ (l : List CpuId). Leads g.I.CallLayer.IsStepwise c.args.self.now l c.args.self.now)
     (turn_begun c.args.steps.now (record { 0 = 0 }) c.steps_behind-own.result (c.steps_behind-own.result + 1) c.requires.some c.steps_behind-own.ensures
-    (omega arith))
-    (leads_resting g.I.CallLayer.IsStepwise (first c.args.steps.now) c.args.self.now (c.steps_behind-own.result + 1)
+    (omega arith)) (leads_resting g.I.CallLayer.IsStepwise (first c.args.steps.now) c.args.self.now (c.steps_behind-own.result + 1)
     (c.requires.known 0 (record { 0 = 0 }) c.requires.some) some c.reason.ensures.table)
 
 pub returns-then-is_some-clause-ran : goal.returns-then-is_some-clause-ran
@@ -55,8 +54,7 @@ run-taken-requires g c =
     }
 
 pub spin-looks-requires-clause-fits : goal.spin-looks-requires-clause-fits
-spin-looks-requires-clause-fits g c =
-    (runs_agree (agrees g (goal.at.spin-looks-requires-clause-fits g c).After-index_mut-at) c.run-taken.ensures.ran).fits
+spin-looks-requires-clause-fits g c = (runs_agree (agrees g (goal.at.spin-looks-requires-clause-fits g c).After-index_mut-at) c.run-taken.ensures.ran).fits
 
 pub spin-looks-requires-clause-room : goal.spin-looks-requires-clause-room
 spin-looks-requires-clause-room g c =
@@ -82,8 +80,7 @@ module _ (g : Over) (c : After-spin-looks g) where
   }
 
   went : WentSo g.I.CallLayer laws g.I.Owned.owner c.self.inside.threads c.self.inside.room c.from.result (first c.args.steps.now) c.from.ensures
-      c.self.inside.machine c.self.inside.cpus.items c.self.inside.taken (c.run-taken.result + c.spin-looks.result) c.spin-looks.new.m
-      c.run-taken.new.self
+      c.self.inside.machine c.self.inside.cpus.items c.self.inside.taken (c.run-taken.result + c.spin-looks.result) c.spin-looks.new.m c.run-taken.new.self
   went =
       let e = c.spin-looks.ensures in
       spun_so g.I.CallLayer laws g.I.Owned.owner c.self.inside.threads c.self.inside.room c.from.result (first c.args.steps.now) c.from.ensures
@@ -92,8 +89,7 @@ module _ (g : Over) (c : After-spin-looks g) where
       c.self.inside.cpus.items c.self.inside.taken c.self.invariant there c.run-taken.ensures.ran (let s = space in omega (arith, s)))
       e.spun e.tries e.still e.live space
 
-  front : replicate (c.run-taken.result + c.spin-looks.result) (first c.args.steps.now)
-      ≡ take (c.run-taken.result + c.spin-looks.result) c.args.steps.now
+  front : replicate (c.run-taken.result + c.spin-looks.result) (first c.args.steps.now) ≡ take (c.run-taken.result + c.spin-looks.result) c.args.steps.now
   front = turn_begun c.args.steps.now (record { 0 = 0 }) c.steps_behind-own.result (c.run-taken.result + c.spin-looks.result) c.requires.some
       c.steps_behind-own.ensures (omega arith)
 

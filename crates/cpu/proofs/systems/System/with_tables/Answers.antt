@@ -34,8 +34,7 @@ assembled-requires g c =
       private_is = (λ i. private (b.own_is i) x.guests.items (b.booted.nothing i));
     }))) in
     opens _ (λ x. x.number) (λ d. I.ActsFor m d) (λ d. I.MayHold m d) I.IsStepwise (I.acts m) cpus homes (homes_in (I.opening m)) (I.seen m) c.args.caps.now
-    c.args.room (I.room m) (length c.args.tables.items) _ (threads, boots)
-    openable c.in_ok-cpus.ensures.count (λ k x at.
+    c.args.room (I.room m) (length c.args.tables.items) _ (threads, boots) openable c.in_ok-cpus.ensures.count (λ k x at.
     let b = c.in_ok-cpus.ensures.booted k x at in
     let within : k < length c.args.tables.items =
     let inside = slice_get_within cpus k x at in let count = c.in_ok-cpus.ensures.count in omega (arith, inside, count) in

@@ -7,5 +7,4 @@ returns-then-home-number c =
     guest_away c.args.boot.now c.args.number.0 c.args.thread.0 c.requires (λ same. c.if-home-number.true (c.home-home.ensures.home ∙ same))
 
 pub returns : goal.returns
-returns c =
-    grind (arith, guest_home)
+returns c = grind (arith, guest_home)
