@@ -272,8 +272,7 @@ module _ (cpu : TabledCpu) where
             grind (arith, choice_current, quiet, not_halted, stands_there)
           where
             quiet : (thread_at p t).call ≡ None
-            quiet =
-                call_of cpu setup of t g at ∙ unbegun _ (call_state_of own.call_states t) at_idle
+            quiet = call_of cpu setup of t g at ∙ unbegun _ (call_state_of own.call_states t) at_idle
 
         yield_step : pass ≡ YieldNow → todo_of g ≡ PassOn → Goal
         yield_step pass_is asks =
@@ -346,8 +345,7 @@ module _ (cpu : TabledCpu) where
     at = does.1.1
 
     pub compute_tabled : IsTabled homes caps number own under_way (with_guest guests t.0 computed) opening
-    compute_tabled =
-        tabled_with cpu t g computed own under_way at tabled.part (λ over. tabled.ends t g at over) (λ u other before. before) tabled.quick
+    compute_tabled = tabled_with cpu t g computed own under_way at tabled.part (λ over. tabled.ends t g at over) (λ u other before. before) tabled.quick
 
     pub compute_steps : (ActsFor : CpuId → Type 0) (old : List (Action TowerName)) (outset : Outset ActsFor cpu old)
         → reason_in outset.inside (cpu_halted_at (threads_in own) guests trace limit) ≡ None → (setup : Setup) (of : IsSetupOf setup homes caps guests limit)

@@ -63,8 +63,7 @@ module _ {A : Type 0} (polled : Polled) (way : Way A polled) (got : Left Bufferi
       ∙ ap (after_reply setup c q) answer_is
 
   grown : named new ≡ (acting_on setup c q line.lock (name_of line.name) (named past)).acts ++ named past
-  grown =
-      ap named planned.acted.grows ∙ ap (λ a. a ∷ named past) (sym (next_action_renamed name_of c line.lock line.name past))
+  grown = ap named planned.acted.grows ∙ ap (λ a. a ∷ named past) (sym (next_action_renamed name_of c line.lock line.name past))
 
   abbrev Steps : List (Action Name) → Type 0
   Steps log = (after got ≡ (cpu_step setup c p log).next) × (named new ≡ (cpu_step setup c p log).acts ++ log) × (Stepped ≡ (cpu_step setup c p log).answer)

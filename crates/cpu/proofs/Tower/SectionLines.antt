@@ -355,24 +355,18 @@ module _ (site : Site) (had : HasHad site None) where
   abbrev woken_to : Tid → Bool → Private
   woken_to u b = settled setup (if b then record gone_so { ready = ready ++ u ∷ [] } else record gone_so { hand = Some u })
 
-  waits_now : (hand2 : Option Tid) (ready2 : List Tid)
-      → after site None had (left_gone site None had hand2 ready2 slept (slice_set waits t.0 (Some (buf site None had))) Waits)
-      ≡ parts None ready2 hand2 gone_so.threads trace
-  waits_now hand2 ready2 =
-      gone_now site None had hand2 ready2 slept (slice_set waits t.0 (Some (buf site None had))) Waits None (Some (buf site None had)) (λ j other. refl)
-      (λ j other. get_or-set_other waits t.0 j (Some (buf site None had)) None other) is_slept
-      (get_or-set_same waits t.0 (Some (buf site None had)) None in_waits)
-
   abbrev pub waited : Side → Option Tid → Left Buffering Reply
   waited side o = react site None had Waits (Release (Wait t side)) (Some (told.Answer (wait_out side o)))
 
   waits_by : (side : Side) (u : Tid) (b : Bool)
       → after site None had (lift site None had Waits (wait_out side (Some u)) (waking site None had None u b)) ≡ woken_to u b
-  waits_by side u b = grind (arith, waits_now)
+  waits_by side u b = grind (arith, gone_now, get_or-set_other, get_or-set_same)
 
   wait_alone : (side : Side) → after site None had (left_gone site None had None ready slept (slice_set waits t.0 (Some (buf site None had))) Waits)
       ≡ by_answer site None had Waits (wait_out side None)
-  wait_alone side = waits_now None ready ∙ sym (by_table site None had Waits (wait_out side None) (k site None had AcquiresAgain) trace refl)
+  wait_alone side =
+      grind (arith, gone_now, get_or-set_other, get_or-set_same)
+      ∙ sym (by_table site None had Waits (wait_out side None) (k site None had AcquiresAgain) trace refl)
 
   abbrev waking_so : Side → Tid → Bool → Left Buffering Reply
   waking_so side u b = lift site None had Waits (wait_out side (Some u)) (waking site None had None u b)

@@ -2,7 +2,7 @@
 use Rattle.std.proofs.Common.{◌≡◌, ℕ, zero, suc, ◌+◌, ◌<◌, ◌≤◌, true, false, ◌&&◌, List, [], ◌∷◌, length, slice_get, slice_set, Some, None, option_map, refl}
 use Rattle.std.proofs.{Common.{sym, ap, ◌∙◌, subst, arith}, lemmas.Bool.ne_eqb}
 use Rattle.event_log.specs.{declared.{ids.{CpuId.CpuId, Tid.Tid, BufId.BufId, LockId.TheVariants.Buffer as AtBuffer}, entries.Entry.Entry}, Sections.Section}
-use Rattle.event_log.specs.{Sections.sections_in, Actions.{Action, Take, Try, Give, Phase, Rests, Waits, Holds, phase, next_action, AreFree}}
+use Rattle.event_log.specs.{Sections.sections_in, Actions.{Action, Take, Try, Give, Phase, Rests, Waits, Holds, phase, AreFree}}
 use Rattle.event_log.proofs.{Alone.{first_action, second_action, third_action, free_again}, Exclusion.phase_own, Same.same_lock_self}
 use Rattle.layer_traits.specs.{declared.steps.Step.TheVariants.Stepped, Polling.{Plans.{is_in_section, at_give}, Along.Outcome}}
 use Rattle.cpu.specs.Table.{Blocks.{Buffer, OfBuffer, Name, Answer}, Edits.{edited_buffer, answer}, Setups.{Setup, Call, Private, thread_at, home_threads}}
@@ -45,10 +45,6 @@ module _ (setup : Setup) (c : CpuId) where
     answer = Stepped;
   }
 
-  act : (q : Private) (log : List (Action Name)) (now : Phase) (a : Action Name) → phase c log ≡ now
-      → next_action c (asked setup c q).lock (asked setup c q).name log ≡ a → acting setup c q log ≡ acted q log now a
-  act q log now a at is = λ i. acted q log (at i) (is i)
-
   within : (p : Private) (log : List (Action Name)) (now : Phase) → phase c log ≡ now → is_in_section now ≡ true → cpu_step setup c p log ≡ acting setup c p log
   within p log now at inside = ap (λ x. step_in setup c p log (is_in_section x)) at ∙ ap (step_in setup c p log) inside
 
@@ -70,15 +66,15 @@ module _ (setup : Setup) (c : CpuId) where
   two_steps s p q past left at goes = ap (λ x. (system_step setup c x).next) first ∙ second
     where
       first : (system_step setup c s).next ≡ whole_after c s (record { next = q; acts = Take c (asked setup c q).lock ∷ []; answer = Stepped })
-      first = grind (arith, one_step, act, first_action)
+      first = grind (arith, one_step, first_action)
 
       second : (system_step setup c (whole_after c s (record { next = q; acts = Take c (asked setup c q).lock ∷ []; answer = Stepped }))).next
           ≡ after_two s q
       second =
           let log = Take c (asked setup c q).lock ∷ s.log in
           let now = phase_own (Take c (asked setup c q).lock) s.log in
-          one_step _ q _ (set_here s.cpus c.0 p q at.here) (within q log (Waits (asked setup c q).lock) now refl ∙ act q log (Waits (asked setup c q).lock)
-          (Try c (asked setup c q).lock true) now (second_action c (asked setup c q).lock (asked setup c q).name s.log (at.free (asked setup c q).lock))) refl
+          one_step _ q _ (set_here s.cpus c.0 p q at.here) (within q log (Waits (asked setup c q).lock) now refl
+          ∙ (λ i. acted q log (now i) ((second_action c (asked setup c q).lock (asked setup c q).name s.log (at.free (asked setup c q).lock)) i))) refl
           (omega (arith, at.room))
 
   pub here_two : (s : Whole) (p q : Private) → slice_get s.cpus c.0 ≡ Some p → slice_get (after_two s q).cpus c.0 ≡ Some q
@@ -97,8 +93,8 @@ module _ (setup : Setup) (c : CpuId) where
           let gives = ap (λ r. record { next = after_reply setup c q r; acts = Give c (asked setup c q).lock (asked setup c q).name ∷ []; answer = Stepped })
           (ap (λ x. option_map (answer (asked setup c q).name) (block_of setup (asked setup c q).lock x)) at.did ∙ told) in
           one_step _ q _ (here_two s p q at.here) (within q log (Holds (asked setup c q).lock) now refl
-          ∙ act q log (Holds (asked setup c q).lock) (Give c (asked setup c q).lock (asked setup c q).name) now
-          (third_action c (asked setup c q).lock (asked setup c q).name (Take c (asked setup c q).lock ∷ s.log)) ∙ gives) refl (omega (arith, at.room))
+          ∙ (λ i. acted q log (now i) ((third_action c (asked setup c q).lock (asked setup c q).name (Take c (asked setup c q).lock ∷ s.log)) i)) ∙ gives) refl
+          (omega (arith, at.room))
 
   pub stands_after : (s : Whole) (p q : Private) (past : List (Section Name)) (left : ℕ) (a : Answer) → Stands setup c s p past (left + 3)
       → Stands setup c (after_three s q a) (after_section setup c q a) (section_of c (asked setup c q) ∷ past) left

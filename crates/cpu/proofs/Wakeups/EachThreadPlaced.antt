@@ -110,12 +110,8 @@ module _ (setup : Setup) (s : Whole) (homes : HomesExist setup) (kept : SystemIn
     by_post : (x : Where) → post setup u (sections_in s.log) ≡ x → count_in u (everyone setup s) ≡ one_if (is_live setup s u)
     by_post Home is =
         let cpus : cpus_sum ≡ count_in u (threads_on_cpu s (home_cpu setup u).0) =
-        total_at (λ i. count_in u (threads_on_cpu s i)) setup.cpus (home_cpu setup u).0 home_within (λ i below off.
-        let here = at_cpu Home is i below in
-        let seats : one_if (seat setup (cpu_numbered i) u Home (ended_at i)) ≡ 0 =
-        ap one_if (and_left (is_local setup (cpu_numbered i) u) (true && not (ended_at i))
-        (and_left (same_cpu (home_cpu setup u) (cpu_numbered i)) (nat_lt u.0 (length setup.homes)) (other_cpu i off))) in
-        omega (arith, here, seats)) in
+        total_at (λ i. count_in u (threads_on_cpu s i)) setup.cpus (home_cpu setup u).0 home_within
+        (λ i below off. grind (arith, at_cpu Home is i below, other_cpu i off, and_left)) in
         let seats : one_if (seat setup (home_cpu setup u) u Home (ended_at (home_cpu setup u).0)) ≡ one_if (is_live setup s u) =
         (λ i. one_if ((same_cpu_self (home_cpu setup u) i && known i) && (true && not (ended_at (home_cpu setup u).0))))
         ∙ (λ i. one_if (sym known i && not (ended_at (home_cpu setup u).0))) in
@@ -123,11 +119,8 @@ module _ (setup : Setup) (s : Whole) (homes : HomesExist setup) (kept : SystemIn
     by_post (Hand e) is =
         let within : e.0 < setup.cpus = subst (IsPlaced setup (visit setup u (sections_in s.log))) is (kept.placed.posts u) in
         let cpus : cpus_sum ≡ count_in u (threads_on_cpu s e.0) =
-        total_at (λ i. count_in u (threads_on_cpu s i)) setup.cpus e.0 within (λ i below off.
-        let here = at_cpu (Hand e) is i below in
-        let seats = no_seat (Hand e) i refl in
-        let hand : one_if (same_cpu e (cpu_numbered i)) ≡ 0 = ap one_if (ne_eqb e.0 i (λ same. off (sym same))) in
-        omega (arith, here, seats, hand)) in
+        total_at (λ i. count_in u (threads_on_cpu s i)) setup.cpus e.0 within
+        (λ i below off. grind (arith, at_cpu (Hand e) is i below, no_seat (Hand e) i refl, ne_eqb e.0 i (λ same. off (sym same)))) in
         let pending = no_pending (Hand e) is refl in
         let buffers = no_buffers (Hand e) is (λ b list. refl) in
         let live = alive (Hand e) is refl in

@@ -52,10 +52,9 @@ cpu_boots homes buffers number guests limit capacity are few reserved = record {
 pub boots_as : {P L M : Type 0} (I : Ghosts P L M) (m : M) (p : Cpu P M) (homes : List CpuId) (buffers k : ℕ) (guests : List (Option Guest)) (most : ℕ)
     → IsBootedAs (λ q n. I.Fits q n) (λ n d. I.IsFresh n homes d) (λ n. length (caps_in (I.opening n))) buffers homes k guests most p.part (I.cpu_of p.part)
     (I.own p.part) (I.under_way p.part) p.number p.guests.items p.trace.items p.limit (vec_capacity p.trace) → I.IsFresh m homes (cpu_at k)
-    → length (caps_in (I.opening m)) ≡ buffers → homes_in (I.opening m) ≡ homes → I.seen m ≡ [] → AreGuests homes buffers (cpu_at k) guests
-    → length homes ≤ THREADS
-    → I.Fits p.part m × (I.cpu_of p.part ≡ p.number) × IsCpu (homes_in (I.opening m)) (length (caps_in (I.opening m))) (I.seen m) (threads_in (I.own p.part))
-    (I.own p.part).call_states (I.under_way p.part) p.number p.guests.items p.trace.items p.limit (vec_capacity p.trace)
+    → length (caps_in (I.opening m)) ≡ buffers → homes_in (I.opening m) ≡ homes → I.seen m ≡ [] → AreGuests homes buffers (cpu_at k) guests → length homes
+    ≤ THREADS → I.Fits p.part m × (I.cpu_of p.part ≡ p.number) × IsCpu (homes_in (I.opening m)) (length (caps_in (I.opening m))) (I.seen m)
+    (threads_in (I.own p.part)) (I.own p.part).call_states (I.under_way p.part) p.number p.guests.items p.trace.items p.limit (vec_capacity p.trace)
 boots_as I m p homes buffers k guests most is fresh counted same none are few = (
   is.fits m fresh counted,
   is.cpu_is ∙ sym is.booted.number_is,
