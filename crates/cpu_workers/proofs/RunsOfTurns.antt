@@ -1,9 +1,14 @@
 -- A run of a worker's CPU is turns of the worker, one behind the other.
-use Rattle.std.proofs.Common.{◌≡◌, ℕ, refl, ◌∙◌, subst}
+use Rattle.std.proofs.Common.{◌≡◌, ℕ, ◌<◌, Bool, true, Option, is_some, refl, ◌∙◌, subst, arith}
 use Rattle.{layer_traits.specs.{Blocks.{Capacities.caps_in, QueueBlocks.homes_in}, declared.call_layers.CallLayer.Ghosts}, cpu.specs.Table.Steps.cpu_step}
-use Rattle.{layer_traits.specs.declared.steps.Step.TheVariants.Stepped, event_log.specs.declared.ids.CpuId.CpuId, cpu.specs.{Cpus.programs_of, Tables.private}}
-use Rattle.cpu.{specs.{declared.cpus.Cpu.Cpu, CpuSteps.RunsAt, Tower.Composed.named}, proofs.CpuSteps.CpuRuns.{AgreesAt, runs_agree}}
-use Rattle.cpu_workers.{specs.Working.{TookTurns, Working}, proofs.Planning.{step_behind, table_planned}}
+use Rattle.{layer_traits.specs.declared.steps.{Reason.Reason, Step.TheVariants.Stepped}, event_log.specs.declared.ids.CpuId.CpuId}
+use Rattle.cpu.specs.{declared.cpus.Cpu.Cpu, CpuSteps.RunsAt, Cpus.{programs_of, reason_in}, Tables.private, Tower.Composed.{busy_step_answer, named}}
+use Rattle.{cpu.proofs.CpuSteps.CpuRuns.{AgreesAt, runs_agree}, cpu_workers.{specs.Working.{TookTurns, Working}, proofs.Planning.{step_behind, table_planned}}}
+
+-- a CPU that stops takes no step by the table
+pub stops_still : (inside busy : Bool) (stops halted answer : Option Reason) → inside ≡ busy → halted ≡ stops → answer ≡ reason_in inside stops
+    → is_some answer ≡ true → busy_step_answer busy halted ≡ Stepped → 0 < 0
+stops_still inside busy stops halted answer at own is some may = grind arith
 
 module _ {P L M : Type 0} (I : Ghosts P L M) where
   -- the worker of a CPU and its machine

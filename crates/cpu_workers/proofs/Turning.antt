@@ -69,7 +69,8 @@ module _ {P N : Type 0} {table : P → List (Action N) → Outcome P N} {cpu : C
 
   -- one step of the table more, inside a section or where it is allowed
   took_one : {May : ℕ → Type 0} {p q : P} {old new : List (Action N)} {shown : ℕ} → TookWithin table cpu May first p old shown
-      → IsStep (λ c. c ≡ cpu) table p q old new Stepped → (is_in_section (phase cpu old) ≡ true) ⊎ ((count : ℕ) → CountsTurns shown count → May count) → TookWithin table cpu May first q new (counted_on shown)
+      → IsStep (λ c. c ≡ cpu) table p q old new Stepped → (is_in_section (phase cpu old) ≡ true) ⊎ ((count : ℕ) → CountsTurns shown count → May count)
+      → TookWithin table cpu May first q new (counted_on shown)
   took_one {May} {p} {q} {old} {new} {shown = shown} took went may = record {
     count = took.count + 1;
     steps = subst (λ (x : P). Within table cpu May first (took.count + 1) x new) (sym went.next)

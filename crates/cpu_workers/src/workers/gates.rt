@@ -14,9 +14,10 @@ pub enum Go {
     Limit,
 }
 
-/// What a worker asks before each turn of its CPU, with the number of turns that the CPU has taken,
-/// except where the gate has told that it need not be asked. A gate that wants to hold the CPU does so inside `pass`, up to a limit of its own, and then answers
-/// `Limit`; after that the CPU takes no turn but to end its section.
+/// What a worker asks before each turn of its CPU, with the number of turns that the CPU has taken. It does
+/// not ask at turns for which `open_for` has told that the CPU may pass. A gate that wants to hold the CPU
+/// does so inside `pass`, up to a limit of its own, and then answers `Limit`. After that the CPU takes no
+/// turn but to end its section.
 pub trait Gate {
     ghost use Rattle.{event_log.specs.declared.ids.CpuId.CpuId, cpu_workers.specs.declared.workers.gates.Go.{Go, TheVariants.Pass}};
 
@@ -27,8 +28,8 @@ pub trait Gate {
     fn pass(&self, cpu: CpuId, turn: u64) -> Go
         ensures { MayAnswer self.now cpu result turn };
 
-    /// For how many turns from this one on the gate need not be asked, since it lets `cpu` pass at each. A
-    /// gate that wants to be asked before each turn tells 0.
+    /// For how many turns, this one the first, a worker need not ask. At each of them the gate lets `cpu`
+    /// pass. A gate that is to be asked before each turn returns 0, as does one that says nothing.
     fn open_for(&self, _cpu: CpuId, _turn: u64) -> u64
         ensures { (k : ℕ) → _turn ≤ k → k < _turn + result → MayAnswer self.now _cpu Pass k }
     {

@@ -3,8 +3,9 @@
 
 ghost use Rattle.std.specs.Prelude.{◌≡◌, ℕ, ◌<◌, ◌≤◌, Some, [], IfOk, length, slice_get, vec_capacity};
 ghost use Rattle.layer_traits.specs.{Blocks.{Capacities.caps_in, QueueBlocks.{homes_in, inner}, BufferEffects.opening_locks}, Threads.OnePlace.cpu_at};
-ghost use Rattle.{event_log.specs.declared.ids.TheConstants.CPUS, boot.specs.Plan.IsPlan, cpu.specs.Boots.homes_for, cpu_workers.specs.Reports.Both};
-ghost use Rattle.cpu_workers.specs.{declared.workers.seats.TheConstants.STRETCH, Seating.{HasLeft, IsApart, IsAtBoot, IsReadySeat, IsUnused, OpensPlan, tower_acts}};
+ghost use Rattle.{event_log.specs.declared.ids.TheConstants.CPUS, boot.specs.Plan.IsPlan, cpu.specs.Boots.homes_for};
+ghost use Rattle.cpu_workers.specs.{declared.workers.seats.TheConstants.STRETCH, Reports.Both};
+ghost use Rattle.cpu_workers.specs.Seating.{HasLeft, IsApart, IsAtBoot, IsReadySeat, IsUnused, OpensPlan, tower_acts};
 
 use crate::refusals::WorkerError;
 use crate::workers::gates::Gate;

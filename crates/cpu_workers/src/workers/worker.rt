@@ -62,7 +62,7 @@ where
     ghost use Rattle.layer_traits.specs.{declared.steps.Reason.TheVariants.StepsUsed, Blocks.{BufferEffects.opening_locks, QueueBlocks.inner}};
     ghost use Rattle.{event_log.specs.{Actions.AreLegal, declared.ids.TheConstants.THREADS}, cpu.specs.{Cpus.{IsCpu, programs_of}, Tables.{IsTabled, private}}};
     ghost use Rattle.{cpu.specs.{Boots.AreGuests, Table.{Setups.{Setup, boot_of}, Steps.halted_at}}, cpu_workers.specs.Idling.is_idle};
-    ghost use Rattle.cpu_workers.specs.{Working.{IsPlanned, IsSame, TookTurns, Turned, is_inside}, Orders.{HasFollowed, IsTraceOf}};
+    ghost use Rattle.cpu_workers.specs.{Working.{IsPlanned, IsSame, MayStep, TookTurns, Turned, is_inside}, Orders.{HasFollowed, IsTraceOf}};
 
     /// The worker of a CPU and its machine, which agree. The machine does one action a step and has
     /// room for one at any time, and each of its buffers opened empty.
@@ -194,10 +194,11 @@ where
         self.cpu.halted()
     }
 
-    /// Turns of the CPU, one behind the other, up to `most`: none where it is halted, and just one where no
-    /// thread runs, so that other threads may run after it. Returns how many it took.
+    /// Takes turns of the CPU, one behind the other, up to `most`: none where it is halted, and just one where
+    /// no thread runs, so that other threads may run after it. Returns how many it took.
     pub(crate) fn turns(&mut self, most: usize) -> usize
         requires { 0 < most }
+        ensures some { (setup : Setup) → IsPlanned setup self.old.plan → MayStep setup self.old → 0 < result }
         ensures few { result ≤ most }
         ensures took { TookTurns self.old result self.new }
     {

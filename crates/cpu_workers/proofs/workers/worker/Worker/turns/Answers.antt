@@ -1,5 +1,8 @@
-use Rattle.{std.proofs.Common.arith, cpu.proofs.{CpuSteps.CpuRuns.{AgreesAt, runs_agree}, OverLayer.CpuOverLayer.{laws_of, layered, runs_within}}}
-use Rattle.cpu_workers.{specs.Working.TookTurns, proofs.RunsOfTurns.{opens_same, turns_of}}
+use Rattle.std.proofs.Common.{ap, sym, ◌∙◌, arith}
+use Rattle.{event_log.{specs.{declared.ids.CpuId.CpuId, Actions.phase}, proofs.Renaming.phase_renamed}, layer_traits.specs.Polling.Plans.is_in_section}
+use Rattle.{layer_traits.specs.Blocks.{Capacities.caps_in, QueueBlocks.homes_in}, cpu.{specs.Tower.Views.name_of, proofs.StepTable.TableRows.halted_same}}
+use Rattle.cpu.proofs.{CpuSteps.CpuRuns.{AgreesAt, runs_agree}, OverLayer.CpuOverLayer.{laws_of, layered, runs_within, tabled_cpu}}
+use Rattle.cpu_workers.{specs.Working.TookTurns, proofs.{Planning.table_planned, RunsOfTurns.{opens_same, stops_still, turns_of}}}
 use Rattle.cpu_workers.proofs.workers.worker.Worker.turns.Goals as goal
 
 pub reason-requires : goal.reason-requires
@@ -36,3 +39,16 @@ returns-clause-took g c =
     let agrees : AgreesAt g.I.CallLayer c.self.inside.machine c.self.inside.cpu =
     record { fits = is.fits; number = is.number; is = is.is; table = λ step. is.tabled } in
     rw (← c.self.view_is) (turns_of g.I.CallLayer g.met.I.CallLayer.own_cpu is.stepwise agrees c.go_on.ensures.ran)
+
+pub returns-then-is_some-clause-some : goal.returns-then-is_some-clause-some
+returns-then-is_some-clause-some g c =
+    let I = g.I.CallLayer in
+    let law = g.met.I.CallLayer in
+    let m = c.self.inside.machine in
+    let p = c.self.inside.cpu in
+    let is = c.self.invariant in
+    let cpu = layered (laws_of law) m p is.fits is.number is.is (λ step. is.tabled) in
+    let busy = law.busy p.part m is.fits is.stepwise
+    ∙ (ap (λ (d : CpuId). is_in_section (phase d (I.acts m))) is.number ∙ ap is_in_section (sym (phase_renamed name_of p.number (I.acts m)))) in
+    rw (← c.self.view_is) (λ setup of may. stops_still _ _ _ _ _ busy (halted_same (tabled_cpu cpu is.stepwise) setup
+    (table_planned setup (homes_in (I.opening m)) (caps_in (I.opening m)) p.guests.items p.limit of)) c.reason.ensures (sym c.if-is_some.ensures) may)
