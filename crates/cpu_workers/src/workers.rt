@@ -5,6 +5,7 @@
 mod callers;
 mod calling;
 mod gates;
+mod manners;
 pub(crate) mod report;
 pub(crate) mod run;
 mod seating;

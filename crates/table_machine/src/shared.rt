@@ -61,4 +61,14 @@ impl<E: SplitEdit, K: TableWords> Shared<E, K> {
     {
         8 * ((CPUS + 1) * self.rank(lock) + word) + 8
     }
+
+    /// How many tickets were drawn at a lock, modulo 2^64, as a hint: any number may come, also where
+    /// there is no such lock. It is no event, and nobody needs a seat for it.
+    pub fn next_hint(&self, lock: LockId) -> u64 {
+        let rank = self.ranks[lock.number()];
+        if rank < self.locks.len() {
+            return self.table.shared.peek(8 * (CPUS + 1) * rank + 8);
+        }
+        0
+    }
 }

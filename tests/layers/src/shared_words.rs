@@ -145,6 +145,7 @@ fn the_second_waits_until_the_first_is_out(rt: HostRuntime) -> Result<(), Fail> 
     let mut a = shared.seat(first);
     let mut b = shared.seat(second);
     second_waits_for_first(&rt, (&mut a, A), (&mut b, B), 0, 40);
+    assert_eq!(rt; (shared.next_hint(LOCK), shared.next_hint(OTHER)), (2, 0));
     let (first, second) = (a.back(), b.back());
     let blocks = closed(rt.alloc(), shared, first, second)?;
     assert_eq!(rt; blocks.as_slice(), numbers(42, 7).as_slice());

@@ -304,6 +304,7 @@ fn an_open_gate_lets_every_turn_pass(rt: HostRuntime) {
     assert_eq!(rt; OpenGate.pass(CpuId(0), 0), Go::Pass);
     assert_eq!(rt; OpenGate.pass(CpuId(7), u64::MAX), Go::Pass);
     assert_eq!(rt; OpenGate.open_for(CpuId(7), 3), u64::MAX);
+    assert_eq!(rt; OpenGate.next_hint(BufId(0)), 0);
     // One that says nothing is to be asked.
     assert_eq!(rt; Counting::new(0).open_for(CpuId(7), 3), 0);
 }

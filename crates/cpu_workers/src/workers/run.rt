@@ -9,7 +9,7 @@ ghost use Rattle.boot.specs.declared.locks.LockKind.TheVariants as kind;
 
 use crate::counting::plan_words::PlanWords;
 use crate::refusals::WorkerError;
-use crate::workers::gates::Gate;
+use crate::workers::gates::{Gate, Seated};
 use crate::workers::report::Report;
 use crate::workers::seating::{Left, run_over};
 use crate::workers::seats::TowerSeat;
@@ -129,7 +129,10 @@ fn run_tickets<K: PlanWords + Sync, G: Gate + Sync, R: Threads + Wait + Sync>(
     let back = Back::with_capacity(alloc, boot.cpus() as usize)?;
     let seats = seats_at(alloc, shared, keys)?;
     let _laws: TowerLockLaws = PhantomData;
-    let left = run_over::<Ticket<TowerSeat<'_, K>>, G, R>(rt, alloc, boot, turns, gate, seats)?;
+    let gate = Seated { gate, shared };
+    let left = run_over::<Ticket<TowerSeat<'_, K>>, Seated<'_, G, K>, R>(
+        rt, alloc, boot, turns, &gate, seats,
+    )?;
     Ok(parted(left, back))
 }
 
@@ -152,8 +155,9 @@ fn run_grants<G: Gate + Sync, R: Threads + Wait + Sync>(
     let back = Back::with_capacity(alloc, boot.cpus() as usize)?;
     let seats = seats_at(alloc, shared, keys)?;
     let _laws: TowerLockLaws = PhantomData;
-    let left = run_over::<Grant<TowerSeat<'_, WaiterWords>>, G, R>(
-        rt, alloc, boot, turns, gate, seats,
+    let gate = Seated { gate, shared };
+    let left = run_over::<Grant<TowerSeat<'_, WaiterWords>>, Seated<'_, G, WaiterWords>, R>(
+        rt, alloc, boot, turns, &gate, seats,
     )?;
     Ok(parted(left, back))
 }

@@ -5,8 +5,9 @@ ghost use Rattle.{layer_traits.specs.declared.steps.Reason.TheVariants.StepsUsed
 ghost use Rattle.cpu_workers.specs.{Working.{IsPlanned, MayStep, is_inside}, Reports.{HasRun, IsTrueStop}};
 ghost use Rattle.cpu_workers.specs.declared.workers.{gates.Go.TheVariants.{Limit, Pass}, stops.Stop.TheVariants.TurnsUsed};
 
-use crate::pauses::{SPINS, pause};
+use crate::pauses::SPINS;
 use crate::workers::gates::{Gate, Go};
+use crate::workers::manners::Manners;
 use crate::workers::stops::Stop;
 use crate::workers::worker::Worker;
 use event_log::CpuId;
@@ -149,14 +150,16 @@ where
     let mut taken = 0;
     let mut held = false;
     let mut spins = SPINS;
+    let mut manners = Manners::new();
     for _ in rt.forever() {
         if let Some(stop) = before(gate, worker, taken, turns, &mut held) {
             return Did { taken, stop };
         }
-        let most = at_once(gate, worker.number(), taken, turns, held);
+        let open = at_once(gate, worker.number(), taken, turns, held);
+        let most = manners.at_most(open);
         let gone = worker.turns(most);
         taken = taken.saturating_add(gone as u64);
-        spins = pause(worker.is_busy(), worker.is_idle(), spins);
+        spins = manners.after(gate, worker, taken, spins);
     }
     unreachable!()
 }

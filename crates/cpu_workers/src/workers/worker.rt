@@ -5,7 +5,7 @@ ghost use Rattle.layer_traits.specs.{Blocks.{Capacities.caps_in, QueueBlocks.hom
 
 use crate::workers::calling::is_idle;
 use cpu::{Cpu, Guest};
-use event_log::{CpuId, Entry, NoMemory};
+use event_log::{BufId, CpuId, Entry, NoMemory};
 use layer_traits::{CallLayer, IpcLaw, Reason, Step};
 use std::alloc::Global;
 use std::marker::Model;
@@ -184,6 +184,35 @@ where
         ensures { result ≡ is_idle self.now.private.current self.now.private.hand self.now.private.ready }
     {
         is_idle(&self.cpu.part)
+    }
+
+    // Whether a thread runs, and nobody is in the CPU's hand.
+    #[inline(always)]
+    pub(crate) fn runs_freely(&self) -> bool {
+        self.cpu.part.current().is_some() && self.cpu.part.hand().is_none()
+    }
+
+    // Whether the CPU has woken a thread that it has yet to send home.
+    pub(crate) fn has_hand(&self) -> bool {
+        self.cpu.part.hand().is_some()
+    }
+
+    // Whether a thread runs.
+    pub(crate) fn runs(&self) -> bool {
+        self.cpu.part.current().is_some()
+    }
+
+    // How many of the CPU's calls took effect.
+    pub(crate) fn calls(&self) -> usize {
+        self.cpu.trace.len()
+    }
+
+    // The buffer at which the newest of them did.
+    pub(crate) fn last_buffer(&self) -> Option<BufId> {
+        match self.cpu.trace.last() {
+            Some(entry) => Some(entry.buffer),
+            None => None,
+        }
     }
 
     /// Why the CPU takes no step while no section of it is under way: `AllEnded` or `TraceFull`.

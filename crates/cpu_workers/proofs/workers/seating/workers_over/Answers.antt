@@ -29,8 +29,11 @@ loop-number-preserved g c =
     record {
       machines_left = taken_one machines n inv.machines_left below c.remove-machine.ensures.items;
       workers = numbered_one inv.workers c.push_reserved.ensures.items c.push_reserved.ensures.capacity
-          (rw c.stretch_to.ensures (e.at_boot, λ m there.
-          let same : c.remove-machine.result ≡ m = cc (here, there) in e.site ∙ ap (λ x. g.I.CallLayer.site x) same));
+          (rw c.stretch_to.ensures (
+            e.at_boot,
+            λ m there.
+                let same : c.remove-machine.result ≡ m = cc (here, there) in e.site ∙ ap (λ x. g.I.CallLayer.site x) same,
+          ));
     }
 
 pub returns-clause-count : goal.returns-clause-count

@@ -16,14 +16,15 @@ pub loop-preserved : goal.loop-preserved
 loop-preserved g c =
     let before = c.before-in-loop.ensures in
     let small : c.args.turns ≤ most = let fits = c.ranges.turns.fits in omega (arith, fits) in
-    let all = c.at_once-most.ensures in
+    let all = c.at_once-open.ensures in
+    let less = c.at_most-most.ensures.few in
     let few = c.turns-gone.ensures.few in
     rw (c.saturating_add-taken.ensures) (record {
       ran = ran_through c.loop.invariant.ran _ before.held before.kept small c.loop.invariant.fits (before.passes (search rules))
-          (before.may_take (search rules)) c.turns-gone.ensures.took (λ many. let free = all.free (omega (arith, many, few)) in record {
+          (before.may_take (search rules)) c.turns-gone.ensures.took (λ many. let free = all.free (omega (arith, many, few, less)) in record {
             free = free.0;
-            below = (let below = free.1 in omega (arith, below, few));
-            passes = λ k least short. rw (← c.number.ensures) (all.open (omega (arith, many, few)) k least (omega (arith, short, few)));
+            below = (let below = free.1 in omega (arith, below, few, less));
+            passes = λ k least short. rw (← c.number.ensures) (all.open (omega (arith, many, few, less)) k least (omega (arith, short, few, less)));
           });
       fits = grind arith;
     })

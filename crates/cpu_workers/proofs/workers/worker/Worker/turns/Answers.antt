@@ -1,4 +1,4 @@
-use Rattle.std.proofs.Common.{rules, refl, ap, sym, ◌∙◌, arith}
+use Rattle.std.proofs.Common.{rules, ap, sym, ◌∙◌, arith}
 use Rattle.{event_log.{specs.{declared.ids.CpuId.CpuId, Actions.phase}, proofs.Renaming.phase_renamed}, layer_traits.specs.Polling.Plans.is_in_section}
 use Rattle.{layer_traits.specs.Blocks.{Capacities.caps_in, QueueBlocks.homes_in}, cpu.{specs.Tower.Views.name_of, proofs.StepTable.TableRows.halted_same}}
 use Rattle.cpu.proofs.{CpuSteps.CpuRuns.runs_agree, OverLayer.CpuOverLayer.{laws_of, layered, runs_within, tabled_cpu}}
@@ -58,4 +58,4 @@ returns-then-is_some-clause-some g c =
     let busy = law.busy p.part m is.fits is.stepwise
     ∙ (ap (λ (d : CpuId). is_in_section (phase d (I.acts m))) is.number ∙ ap is_in_section (sym (phase_renamed name_of p.number (I.acts m)))) in
     rw (← c.self.view_is) (λ setup of may. stops_still _ _ _ _ _ busy (halted_same (tabled_cpu cpu is.stepwise) setup
-    (table_planned setup (homes_in (I.opening m)) (caps_in (I.opening m)) p.guests.items p.limit of)) c.reason.ensures refl may)
+    (table_planned setup (homes_in (I.opening m)) (caps_in (I.opening m)) p.guests.items p.limit of)) c.reason.ensures (sym c.if-is_some.ensures) may)
