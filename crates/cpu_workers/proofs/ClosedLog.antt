@@ -29,8 +29,7 @@ use Rattle.queuing_lock.specs.Nested as lock
 
 module _ {D E A B : Type 0} (low : D → A → A) (high : E → B → B) (name : D → E) (sees : A → B)
     (edits : (d : D) (a : A) → sees (low d a) ≡ high (name d) (sees a)) where
-  edits_seen : (e : QueueEdit D) (b : QueueBlock A)
-      → viewed_block sees (queue_edited low e b) ≡ queue_edited high (renamed_edit name e) (viewed_block sees b)
+  edits_seen : (e : QueueEdit D) (b : QueueBlock A) → viewed_block sees (queue_edited low e b) ≡ queue_edited high (renamed_edit name e) (viewed_block sees b)
   edits_seen e b = grind (arith, edits)
 
   -- what the same sections under other names leave is seen so
@@ -121,21 +120,16 @@ module _ (setup : Setup) (table_view : TableView (QueueBlock LockBlock)) (so : S
   left_above : (at : LockId) → guarded above acts at ≡ seen_above (λ l. block_after tower_rules.edited opening l (sections log)) at
   left_above at =
       ap (λ l. block_after (queue_edited (lock_edited (cv_rules buffer_monitor_rules))) above at l)
-      (sections_in_renamed (renamed_edit lock.lock_call) acts_slept
-      ∙ ap (map (renamed_section (renamed_edit lock.lock_call)))
-      (sections_in_renamed (renamed_edit sleep.slept_edit) acts_words
-      ∙ ap (map (renamed_section (renamed_edit sleep.slept_edit))) (sections_acts edit_of log)))
+      (sections_in_renamed (renamed_edit lock.lock_call) acts_slept ∙ ap (map (renamed_section (renamed_edit lock.lock_call)))
+      (sections_in_renamed (renamed_edit sleep.slept_edit) acts_words ∙ ap (map (renamed_section (renamed_edit sleep.slept_edit))) (sections_acts edit_of log)))
       ∙ block_seen (sleep_edited (busy_rules (cv_rules buffer_monitor_rules))) (lock_edited (cv_rules buffer_monitor_rules)) lock.lock_call nested_lock_of
       (locked.edits (cv_rules buffer_monitor_rules)) (viewed state_of opening) at (map (renamed_section (renamed_edit sleep.slept_edit)) (sections log))
-      ∙ ap (option_map (viewed_block nested_lock_of))
-      (block_seen (nested_edited (busy_rules (cv_rules buffer_monitor_rules))) (sleep_edited (busy_rules
-      (cv_rules buffer_monitor_rules))) sleep.slept_edit state_of
-      (λ d a. refl) opening at (sections log))
+      ∙ ap (option_map (viewed_block nested_lock_of)) (block_seen (nested_edited (busy_rules (cv_rules buffer_monitor_rules)))
+      (sleep_edited (busy_rules (cv_rules buffer_monitor_rules))) sleep.slept_edit state_of (λ d a. refl) opening at (sections log))
 
   opens : (c : CpuId) → c.0 < setup.cpus → OpensSo setup.caps setup.homes c above
   opens c within =
-      opens_so setup.caps setup.homes c above opening_starts
-      (homes_viewed nested_lock_of (viewed state_of opening) ∙ homes_viewed state_of opening ∙ so.homes)
+      opens_so setup.caps setup.homes c above opening_starts (homes_viewed nested_lock_of (viewed state_of opening) ∙ homes_viewed state_of opening ∙ so.homes)
       (viewed_there nested_lock_of (viewed state_of opening) (Pending c) (viewed_there state_of opening (Pending c) (so.queues c within))) so.locks
 
   pub buffer_opens : (b : BufId) → option_map view (above (AtBuffer b)) ≡ table_opening setup (AtBuffer b)
@@ -153,8 +147,7 @@ module _ (setup : Setup) (table_view : TableView (QueueBlock LockBlock)) (so : S
     blocks_above at =
         ap (λ o. option_map (viewed_block nested_lock_of) (option_map (viewed_block state_of) o))
         (given_back (λ l. block_after tower_rules.edited opening l (sections log)) at table_view.start blocks count given
-        (λ none. after_none tower_rules.edited opening at (sections log) none))
-        ∙ sym (left_above at)
+        (λ none. after_none tower_rules.edited opening at (sections log) none)) ∙ sym (left_above at)
 
     blocks_at : (at : LockId) → option_map view (above at) ≡ table_opening setup at → blocks_read blocks at ≡ block_at setup at (named acts)
     blocks_at at same = ap (option_map view) (blocks_above at) ∙ sym (block_read setup above acts at same)
@@ -174,8 +167,7 @@ module _ (setup : Setup) (table_view : TableView (QueueBlock LockBlock)) (so : S
         (is_closed (effects_of setup.caps acts) b.0)
     items b within =
         let caps_same = caps_are above setup.caps so.locks few in
-        subst (λ x. x)
-        (λ i. ItemsAre above acts b (items_of (contents_of (caps_same i) (effects_in (so.locks i) (buffer_sections (events_are i)))) b.0)
+        subst (λ x. x) (λ i. ItemsAre above acts b (items_of (contents_of (caps_same i) (effects_in (so.locks i) (buffer_sections (events_are i)))) b.0)
         (slice_index (caps_same i) b.0) (is_closed (effects_in (so.locks i) (buffer_sections (events_are i))) b.0))
         (items_acted above (boots_well above setup.caps so.locks few) b (subst (λ (l : List ℕ). b.0 < length l) (sym caps_same) within)
         events acts opening_starts sections_proper events_are lawful_calls)

@@ -55,8 +55,7 @@ pub tower_sleeper_send : (S : RattleType) → IsSend S
     → IsSend (sleeper_row (lock_edit_of buffer_edit_row) S (lock_block_row buffer_block_row) (lock_out_of buffer_out_row)
     (lock_edit_of bare_edit_row) (lock_out_of bare_out_row))
 tower_sleeper_send S s = sleeper_send (lock_edit_of buffer_edit_row) S (lock_block_row buffer_block_row)
-    (lock_out_of buffer_out_row) (lock_edit_of bare_edit_row) (lock_out_of bare_out_row) s
-    (lock_out_send _ (cv_out_send _ bare_out_send))
+    (lock_out_of buffer_out_row) (lock_edit_of bare_edit_row) (lock_out_of bare_out_row) s (lock_out_send _ (cv_out_send _ bare_out_send))
 
 -- a thread's call is meant, and has no bytes: so its state goes from thread to thread, and so does the table of them
 call_state_send : IsSend call_state_row

@@ -43,8 +43,7 @@ module _ (setup : Setup) (opening : LockId → Option TowerBlock) (starts : Star
       let of = λ (o : Option BufferLock). length (option_to_list (effect_on cpu b call (λ side t. drawn (opening_locks setup.caps) (AtBuffer b) side t
       (sections_before past)) o)) in
       ap of (ap (λ l. lock_after buffer_rules l (AtBuffer b) (sections_before past)) (sym locks)
-      ∙ lock_is opening past starts proper.1 (map event_of (sections_in past)) refl b)
-      ∙ effect_grown cpu b call _ (guarded opening past (AtBuffer b))
+      ∙ lock_is opening past starts proper.1 (map event_of (sections_in past)) refl b) ∙ effect_grown cpu b call _ (guarded opening past (AtBuffer b))
       ∙ ap (grown (name_of (Above call))) (sym (block_read setup opening past (AtBuffer b) (opens b)))
 
   module _ (c : CpuId) where
@@ -109,8 +108,7 @@ trace_at_front caps c later earlier trace more is long =
     let since = effects_since_front caps later earlier in
     same_front trace (reverse (of_cpu c (effects_of caps earlier))) more (reverse (of_cpu c since.0))
     (is ∙ ap reverse (ap (of_cpu c) since.1 ∙ filter-append (λ (e : Entry). e.cpu.0 == c.0) since.0 (effects_of caps earlier))
-    ∙ reverse-append (of_cpu c since.0) (of_cpu c (effects_of caps earlier)))
-    (long ∙ sym (length-reverse (of_cpu c (effects_of caps earlier))))
+    ∙ reverse-append (of_cpu c since.0) (of_cpu c (effects_of caps earlier))) (long ∙ sym (length-reverse (of_cpu c (effects_of caps earlier))))
 
 rest_none : {X : Type 0} (xs ys : List X) → xs ++ ys ≡ [] → ys ≡ []
 rest_none [] ys none = none

@@ -34,8 +34,7 @@ went_one cpu t call f old now went = record {
 module _ (ActsFor : CpuId → Type 0) (cpu : CpuId) (acts : ActsFor cpu) where
   -- entries of others leave a CPU's own
   pub went_on : (old now new mine : List Entry) → OthersSeen ActsFor now new → Went cpu old now mine → Went cpu old new mine
-  went_on old now new mine seen went =
-      went_more cpu old now new mine seen.others (cpu_same ActsFor cpu seen.others now seen.foreign acts) seen.is went
+  went_on old now new mine seen went = went_more cpu old now new mine seen.others (cpu_same ActsFor cpu seen.others now seen.foreign acts) seen.is went
 
   module _ (t : Tid) (call : Call) where
     -- however far the call had come, it has come as far after entries of others
@@ -125,8 +124,7 @@ module _ (ActsFor : CpuId → Type 0) (cpu : CpuId) (acts : ActsFor cpu) {t : Ti
   ended_idles some called = (subst (λ a. Answered call (call_state_of left t) a) some called.answers).0
 
 -- who runs after a poll is the thread of the call
-pub runs_on : {A : Type 0} (t : Tid) (own left : Threads) (answer : Option A) → RunsOn t own left answer → is_some left.current ≡ true
-    → left.current ≡ Some t
+pub runs_on : {A : Type 0} (t : Tid) (own left : Threads) (answer : Option A) → RunsOn t own left answer → is_some left.current ≡ true → left.current ≡ Some t
 runs_on t own left answer runs some = grind (arith, runs.current)
 
 -- what is under way after a poll of the call

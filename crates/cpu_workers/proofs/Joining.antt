@@ -86,8 +86,7 @@ all_then : {A : Type 0} (P : A → Type 0) (xs : List A) (x : A) → All P xs �
 all_then P [] x all one zero d below = one
 all_then P [] x all one (suc k) d below = absurd (omega (arith, below))
 all_then P (y ∷ xs) x all one zero d below = all 0 d (omega arith)
-all_then P (y ∷ xs) x all one (suc k) d below =
-    all_then P xs x (λ i e within. all (suc i) e (omega (arith, within))) one k d (omega (arith, below))
+all_then P (y ∷ xs) x all one (suc k) d below = all_then P xs x (λ i e within. all (suc i) e (omega (arith, within))) one k d (omega (arith, below))
 
 pub all_more : {A : Type 0} (P : A → Type 0) (xs ys : List A) (x : A) → ys ≡ xs ++ x ∷ [] → All P xs → P x → All P ys
 all_more P xs ys x is all one = subst (λ l. All P l) (sym is) (all_then P xs x all one)

@@ -15,8 +15,7 @@ has_ran setup c log worked = record {
 }
 
 pub workers_lose : WorkersLoseNoWakeUp
-workers_lose setup log worked =
-    cpus_lose_no_wake_up setup log (record { ran = λ c within. has_ran setup c log (worked.each c within); rest = worked.rest })
+workers_lose setup log worked = cpus_lose_no_wake_up setup log (record { ran = λ c within. has_ran setup c log (worked.each c within); rest = worked.rest })
 
 -- a CPU that is halted since all its threads have ended has none left
 never_all : (setup : Setup) (c : CpuId) (p : Private) (current : Option Tid) → halted_by (at_current setup c p current) ≡ Some reason.AllEnded → ⊥

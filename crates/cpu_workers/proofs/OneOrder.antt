@@ -65,8 +65,7 @@ module _ (caps : List ℕ) where
   effects_since c [] past others = refl
   effects_since c (a ∷ more) past others =
       let one = act_adds a (more ++ past) in
-      ap (of_cpu c) one.is
-      ∙ of_others c one.effect (effects_of caps (more ++ past))
+      ap (of_cpu c) one.is ∙ of_others c one.effect (effects_of caps (more ++ past))
       (λ e at. subst (λ (d : CpuId). same_cpu d c ≡ false) (sym (one.its e at)) others.0)
       ∙ effects_since c more past others.1
 

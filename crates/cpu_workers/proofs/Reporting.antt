@@ -226,9 +226,8 @@ module _ (setup : Setup) (May : CpuId → Go → ℕ → Type 0) (turns : ℕ) (
   many : (c : CpuId) (later earlier : List (Action TowerName)) → acts ≡ later ++ earlier
       → length (of_cpu c (effects_of setup.caps earlier)) ≡ total setup c (named earlier)
   many c later earlier is =
-      effects_so setup above (opening_starts setup table_view so closes.log closes.legal) so.locks
-      (buffer_opens setup table_view so closes.log closes.legal) c earlier
-      (proper_before later earlier (subst (λ l. AreProper (sections_in l)) is (sections_proper setup table_view so closes.log closes.legal)))
+      effects_so setup above (opening_starts setup table_view so closes.log closes.legal) so.locks (buffer_opens setup table_view so closes.log closes.legal) c
+      earlier (proper_before later earlier (subst (λ l. AreProper (sections_in l)) is (sections_proper setup table_view so closes.log closes.legal)))
 
   -- and it is that of the closed table's words log, by whose actions the calls are linearizable
   pub of_words : IsReportOfWords setup May turns closes.log r

@@ -1,9 +1,11 @@
 -- A run of a worker's CPU is turns of the worker, one behind the other.
 use Rattle.std.proofs.Common.{◌≡◌, ℕ, ◌<◌, Bool, true, Option, is_some, refl, ◌∙◌, subst, arith}
-use Rattle.{layer_traits.specs.{Blocks.{Capacities.caps_in, QueueBlocks.homes_in}, declared.call_layers.CallLayer.Ghosts}, cpu.specs.Table.Steps.cpu_step}
-use Rattle.{layer_traits.specs.declared.steps.{Reason.Reason, Step.TheVariants.Stepped}, event_log.specs.declared.ids.CpuId.CpuId}
-use Rattle.cpu.specs.{declared.cpus.Cpu.Cpu, CpuSteps.{AgreesAt, RunsAt}, Cpus.{programs_of, reason_in}, Tables.private, Tower.Composed.{busy_step_answer, named}}
-use Rattle.{cpu.proofs.CpuSteps.CpuRuns.runs_agree, cpu_workers.{specs.Working.{TookTurns, Working}, proofs.Planning.{step_behind, table_planned}}}
+use Rattle.{layer_traits.specs.{Blocks.{Capacities.caps_in, QueueBlocks.homes_in}, declared.call_layers.CallLayer.Ghosts}, cpu.specs.Table.Steps.{cpu_step, halted_at}}
+use Rattle.{layer_traits.specs.{declared.steps.{Reason.Reason, Step.TheVariants.Stepped}, Polling.Plans.is_in_section, Views.OwnParts.threads_in}}
+use Rattle.{event_log.specs.{declared.ids.CpuId.CpuId, Actions.phase}, cpu.specs.Table.Setups.Setup}
+use Rattle.cpu.specs.{declared.cpus.Cpu.Cpu, CpuSteps.{AgreesAt, RunsAt, stops_at}, Cpus.{cpu_halted_at, programs_of, reason_in}, Tables.private}
+use Rattle.cpu.specs.Tower.Composed.{busy_step_answer, named}
+use Rattle.{cpu.proofs.CpuSteps.CpuRuns.runs_agree, cpu_workers.{specs.Working.{MayStep, TookTurns, Working}, proofs.Planning.{step_behind, table_planned}}}
 
 -- a CPU that stops takes no step by the table
 pub stops_still : (inside busy : Bool) (stops halted answer : Option Reason) → inside ≡ busy → halted ≡ stops → answer ≡ reason_in inside stops
@@ -25,6 +27,12 @@ module _ {P L M : Type 0} (I : Ghosts P L M) where
     acts = I.acts m;
     site = I.site m;
   }
+
+  -- nor does its worker
+  pub stops_as_told : (m : M) (p : Cpu P M) (setup : Setup) {answer : Option Reason} → I.is_inside p.part ≡ is_in_section (phase p.number (named (I.acts m)))
+      → halted_at setup p.number (private (I.own p.part) p.guests.items p.trace.items) ≡ cpu_halted_at (threads_in (I.own p.part)) p.guests.items p.trace.items
+      p.limit → answer ≡ stops_at I p → is_some answer ≡ true → MayStep setup (worker_at m p) → 0 < 0
+  stops_as_told m p setup busy halted is some may = stops_still _ _ _ _ _ busy halted is some may
 
   module _ {m : M} {p : Cpu P M} where
     pub opens_same : {k : ℕ} {n : M} {q : Cpu P M} → RunsAt I m p k n q → I.opening n ≡ I.opening m

@@ -13,11 +13,10 @@ use Rattle.cpu.proofs.ListFacts.ListReads.{shows_at, there_is}
 
 -- a new key is one for a CPU before its first action, however the machine tells its actions and that a CPU is outside
 pub ready_at : (Opens : (LockId → Option AnyBlock) → Type 0) (table_view : TableView AnyBlock) (n : ℕ) (IsOutside : Key → Type 0)
-    (acts : Key → List (Action Edit))
-    {seats : List Key} → seats ≡ new_seat_views table_view n → (k : ℕ) (key : Key) → slice_get seats k ≡ Some key → IsOutside (new_seat_view table_view k)
-    → acts (new_seat_view table_view k) ≡ [] → Opens (opened table_view.start)
-    → IsReadySeat ((cpu_at k ≡ key.cpu) × IsLawful (MayCome (tower_rules.allowed (opened key.start))) key.seen) (IsOutside key)
-    (sections_in (acts key) ≡ []) (acts key ≡ []) (Opens (opened key.start))
+    (acts : Key → List (Action Edit)) {seats : List Key} → seats ≡ new_seat_views table_view n → (k : ℕ) (key : Key) → slice_get seats k ≡ Some key
+    → IsOutside (new_seat_view table_view k) → acts (new_seat_view table_view k) ≡ [] → Opens (opened table_view.start)
+    → IsReadySeat ((cpu_at k ≡ key.cpu) × IsLawful (MayCome (tower_rules.allowed (opened key.start))) key.seen) (IsOutside key) (sections_in (acts key) ≡ [])
+    (acts key ≡ []) (Opens (opened key.start))
 ready_at Opens table_view n IsOutside acts new k key at outside none opens =
     subst (λ (x : Key). IsReadySeat ((cpu_at k ≡ x.cpu) × IsLawful (MayCome (tower_rules.allowed (opened x.start))) x.seen) (IsOutside x)
     (sections_in (acts x) ≡ []) (acts x ≡ []) (Opens (opened x.start)))

@@ -26,8 +26,7 @@ new_fresh table_view = all_new table_view (λ d. IsFresh table_view d) (λ k. re
 
 -- what belongs to each of them, in a list that has come of them
 pub came_at : {E B : Type 0} (table_view : TableView B) (Fits : SeatView E B → SeatView E B → Type 0) (n : ℕ) (came : List (SeatView E B))
-    → Both Fits (new_seat_views table_view n) came
-    → (k : ℕ) → k < n → (e : SeatView E B) × (slice_get came k ≡ Some e) × Fits (new_seat_view table_view k) e
+    → Both Fits (new_seat_views table_view n) came → (k : ℕ) → k < n → (e : SeatView E B) × (slice_get came k ≡ Some e) × Fits (new_seat_view table_view k) e
 came_at {E = E} table_view Fits n came all k below =
     let long : length came ≡ n = both_length Fits (new_seat_views table_view n) came all ∙ length_new E table_view n in
     let there = there_is came k (subst (λ m. k < m) (sym long) below) in

@@ -46,8 +46,7 @@ contents_wide caps [] = length-map caps (λ (k : ℕ). [])
 contents_wide caps (e ∷ es) = length-set (contents_of caps es) e.buffer.0 _ ∙ contents_wide caps es
 
 -- a list whose elements are these values is the list of them
-listed_so : {X : Type 0} (d : X) (f : ℕ → X) (n k : ℕ) (xs : List X) → length xs ≡ n → ((i : ℕ) → i < n → slice_index_or xs i d ≡ f (k + i))
-    → xs ≡ listed f k n
+listed_so : {X : Type 0} (d : X) (f : ℕ → X) (n k : ℕ) (xs : List X) → length xs ≡ n → ((i : ℕ) → i < n → slice_index_or xs i d ≡ f (k + i)) → xs ≡ listed f k n
 listed_so d f zero k [] count each = refl
 listed_so d f zero k (x ∷ xs) count each = absurd (omega (arith, count))
 listed_so d f (suc n) k [] count each = absurd (omega (arith, count))
@@ -99,8 +98,7 @@ module _ (setup : Setup) (table_view : TableView (QueueBlock LockBlock)) (so : S
 
   contents_are : contents_of setup.caps (effects_of setup.caps acts) ≡ left_among (length setup.caps) blocks
   contents_are =
-      listed_so [] (λ b. messages_in (blocks_read blocks (AtBuffer (buffer_at b)))) (length setup.caps) 0
-      (contents_of setup.caps (effects_of setup.caps acts))
+      listed_so [] (λ b. messages_in (blocks_read blocks (AtBuffer (buffer_at b)))) (length setup.caps) 0 (contents_of setup.caps (effects_of setup.caps acts))
       (contents_wide setup.caps (effects_of setup.caps acts))
       (λ b within. let zero_plus : b ≡ 0 + b = omega arith in
       messages_left setup table_view so closes.log closes.legal blocks closes.count closes.blocks_are (buffer_at b) within

@@ -77,8 +77,7 @@ module _ (setup : Setup) (c : CpuId) where
   entry_grew p t call Receives (OfPending threads) = stays p.trace p.trace refl
   entry_grew p t call Closes (OfPending threads) = stays p.trace p.trace refl
 
-  signals_none : (t : Tid) (call : Call) (x : Block)
-      → (grown (section_due t call Signals) (Some x) ≡ 0) × (grown (section_due t call SignalsOwn) (Some x) ≡ 0)
+  signals_none : (t : Tid) (call : Call) (x : Block) → (grown (section_due t call Signals) (Some x) ≡ 0) × (grown (section_due t call SignalsOwn) (Some x) ≡ 0)
   signals_none t call x = grind arith
 
   section_grew : (p : Private) (t : Tid) (call : Call) (stage : Stage) (x : Block)
@@ -228,8 +227,7 @@ module _ (setup : Setup) (c : CpuId) where
     counted = counts n p log along fair;
   })
   front_of n p log starts fair (b ∷ later) earlier is = absurd (cc is)
-  front_of n p log (others {n = m} {p = q} {log = past} a along off) fair (b ∷ later) earlier is =
-      front_of m q past along fair.1 later earlier (cc is)
+  front_of n p log (others {n = m} {p = q} {log = past} a along off) fair (b ∷ later) earlier is = front_of m q past along fair.1 later earlier (cc is)
   front_of n p log (steps {n = m} {p = q} {log = past} along stepped) fair (b ∷ later) earlier is =
       let acts = (cpu_step setup c q past).acts in
       let before = lawful_before (IsFair setup) acts past fair in
@@ -246,7 +244,6 @@ module _ (setup : Setup) (c : CpuId) where
         counted = front.counted;
       }
 
-      by_acts : IsShort (cpu_step setup c q past).acts
-          → ((more front : List (Action Name)) → past ≡ more ++ front → FrontOf q front) → FrontOf q earlier
+      by_acts : IsShort (cpu_step setup c q past).acts → ((more front : List (Action Name)) → past ≡ more ++ front → FrontOf q front) → FrontOf q earlier
       by_acts (inl none) at = at (b ∷ later) earlier (ap (λ acts. acts ++ past) (sym none) ∙ is)
       by_acts (inr one) at = at later earlier (cc (ap (λ acts. acts ++ past) (sym one.1) ∙ is))

@@ -90,8 +90,7 @@ effect_more program s es (Recv b into k) group buffer message m true e at asks l
 effect_more program s es (Close b) group buffer message m false e at asks lined sent calls kind on value =
     subst (λ (g : Group). IsProgramsCalls program (e ∷ es) (guest_after g false (Close b) m s)) (sym asks.0)
     (closes b e calls at (kind ∙ ap (λ g. kind_for g false) asks.0) (on ∙ asks.1))
-effect_more program s es (Close b) group buffer message m true e at asks lined sent calls kind on value =
-    absurd (subst IsLined asks.0 (lined refl))
+effect_more program s es (Close b) group buffer message m true e at asks lined sent calls kind on value = absurd (subst IsLined asks.0 (lined refl))
 effect_more program s es other group buffer message m closed e at asks lined sent calls kind on value = absurd asks
 
 -- A CPU.
@@ -269,10 +268,8 @@ module _ (setup : Setup) where
   settled_follows : (p : Private) → Follow p → Follow (settled setup p)
   settled_follows p follow = by_hand p.hand p.current
     where
-      by_stage : (t : Tid) (call : Call) → (thread_at p t).call ≡ Some call → (stage : Stage) → call.stage ≡ stage
-          → Follow (returned_at setup p t call stage)
-      by_stage t call inside Idle at =
-          set_thread p t _ follow (is_effected p t call inside follow (early_at p t call inside follow at)).calls
+      by_stage : (t : Tid) (call : Call) → (thread_at p t).call ≡ Some call → (stage : Stage) → call.stage ≡ stage → Follow (returned_at setup p t call stage)
+      by_stage t call inside Idle at = set_thread p t _ follow (is_effected p t call inside follow (early_at p t call inside follow at)).calls
       by_stage t call inside other at = follow
 
       by_call : (t : Tid) (call : Option Call) → (thread_at p t).call ≡ call → Follow (returned_by setup p t call)
@@ -295,8 +292,7 @@ module _ (setup : Setup) where
 
     by_follows : (t : Tid) (call : Option Call) → (thread_at p t).call ≡ call → (x : Block)
         → Follow (after_by setup c p t call (answer (asked_by c t call).name x))
-    by_follows t None outside x =
-        set_guest p t _ outside follow (calls-yield (program_of setup t) (entries_in p t) (thread_at p t).guest)
+    by_follows t None outside x = set_guest p t _ outside follow (calls-yield (program_of setup t) (entries_in p t) (thread_at p t).guest)
     by_follows t (Some call) inside x = call_follows t call inside x
 
     at_follows : (current : Option Tid) (x : Block) → Follow (after_at setup c p current (answer (asked_at c p current).name x))

@@ -9,15 +9,13 @@ abbrev pub Text : Type 0
 Text = List ℕ
 
 -- what is read of a reference or of another in its place
-behind : (value : Option (Bor Text)) (other : Bor Text)
-    → (unwrap_or value other).now ≡ unwrap_or (option_map (λ (s : Bor Text). s.now) value) other.now
+behind : (value : Option (Bor Text)) (other : Bor Text) → (unwrap_or value other).now ≡ unwrap_or (option_map (λ (s : Bor Text). s.now) value) other.now
 behind None other = refl
 behind (Some text) other = refl
 
 -- the value of an option is its first, or the empty text
 pub value_found : (option : ValueOption) (found : Found) (name : Text) (value : Option (Bor Text)) (other : Bor Text) → name ≡ option_name option
-    → option_map (λ (s : Bor Text). s.now) value ≡ first_value found name → other.now ≡ []
-    → (unwrap_or value other).now ≡ value_at option (rows_of found)
+    → option_map (λ (s : Bor Text). s.now) value ≡ first_value found name → other.now ≡ [] → (unwrap_or value other).now ≡ value_at option (rows_of found)
 value_found option found name value other named is empty =
     behind value other ∙ ap (λ e. unwrap_or (option_map (λ (s : Bor Text). s.now) value) e) empty
     ∙ ap (λ (v : Option Text). unwrap_or v []) (is ∙ first_value-rows found name ∙ ap (λ n. first_of n (rows_of found)) named)
@@ -33,8 +31,7 @@ before : (text : List ℕ) → All (λ byte. byte ≢ 10) (before_first is_line_
 before text k d below =
     let at = position_or_len is_line_feed text in
     let within : k < at = (let long = length-take at text in omega (arith, long, below)) in
-    other (get_or (before_first is_line_feed text) k d)
-    (ap is_line_feed (get_or-take at text k d within) ∙ fails_before_first is_line_feed text k d within)
+    other (get_or (before_first is_line_feed text) k d) (ap is_line_feed (get_or-take at text k d within) ∙ fails_before_first is_line_feed text k d within)
 
 -- two dots may be shown
 dots : IsShown (codes "..")

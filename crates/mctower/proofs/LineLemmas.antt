@@ -15,16 +15,14 @@ Text = List ℕ
 -- ---- numbers
 
 -- a number in range is the one that the text spells
-pub number_taken : (least most n : ℕ) (text : Text) → IsNumeral 10 (without_leading_plus text)
-    → digits_value 10 (without_leading_plus text) < 2 ^ 64 → n ≡ digits_value 10 (without_leading_plus text)
-    → least ≤ n → n ≤ most → Some n ≡ number_in least most text
+pub number_taken : (least most n : ℕ) (text : Text) → IsNumeral 10 (without_leading_plus text) → digits_value 10 (without_leading_plus text) < 2 ^ 64
+    → n ≡ digits_value 10 (without_leading_plus text) → least ≤ n → n ≤ most → Some n ≡ number_in least most text
 number_taken least most n text numeral below same low high =
     ap Some same ∙ ap (λ b. if b then Some (digits_value 10 (without_leading_plus text)) else None)
     (sym (Accepts-accepts false (vp.Unsigned least most) text (numeral, below, rw (← same) low, rw (← same) high)))
 
 -- a text that is no number of 64 bits has no number in any range
-pub number_refused : (least most : ℕ) (text : Text)
-    → ((IsNumeral 10 (without_leading_plus text) × (digits_value 10 (without_leading_plus text) < 2 ^ 64)) → ⊥)
+pub number_refused : (least most : ℕ) (text : Text) → ((IsNumeral 10 (without_leading_plus text) × (digits_value 10 (without_leading_plus text) < 2 ^ 64)) → ⊥)
     → None ≡ number_in least most text
 number_refused least most text none = go (is_unsigned_in least most text) refl where
   go : (b : Bool) → is_unsigned_in least most text ≡ b → None ≡ (if b then Some (digits_value 10 (without_leading_plus text)) else None)
@@ -32,14 +30,12 @@ number_refused least most text none = go (is_unsigned_in least most text) refl w
   go false e = refl
 
 -- the number of an option is the one of its first value
-pub number_found : (least most : ℕ) (name : Text) (found : Found) (text : Option Text)
-    → text ≡ first_value found name
+pub number_found : (least most : ℕ) (name : Text) (found : Found) (text : Option Text) → text ≡ first_value found name
     → option_and_then (number_in least most) text ≡ option_number least most name (rows_of found)
 number_found least most name found text e = ap (option_and_then (number_in least most)) (e ∙ first_value-rows found name)
 
 -- the schedule of `run` is its option's first value
-pub schedule_found : (found : Found) (text : Option Text) → text ≡ first_value found (codes "schedule")
-    → run_in (rows_of found) ≡ Some (run text)
+pub schedule_found : (found : Found) (text : Option Text) → text ≡ first_value found (codes "schedule") → run_in (rows_of found) ≡ Some (run text)
 schedule_found found text e = let as_order : Option Text → Option Ghost = λ t. Some (run t) in sym (ap as_order (e ∙ first_value-rows found (codes "schedule")))
 
 -- the lock that is asked for is that of its option's first value
@@ -52,8 +48,7 @@ lock_found found text e = ap lock_asked (e ∙ first_value-rows found (codes "lo
 -- what a program with one command more reads
 pub program_grown : (old sub new : Command) (a b : App) → AddsSubcommand old sub new → app_of old ≡ a → app_of sub ≡ b
     → (out-Command sub).has_globals ≡ false → app_of new ≡ with_subcommand a b.top
-program_grown old sub new a b adds above below local =
-    adds.shape local ∙ ap₂ with_subcommand above (ap (λ (x : App). x.top) below)
+program_grown old sub new a b adds above below local = adds.shape local ∙ ap₂ with_subcommand above (ap (λ (x : App). x.top) below)
 
 -- ---- what clap makes of the words
 
@@ -68,9 +63,8 @@ unfolding program clap_on_literals
 simple = refl
 
 -- a parse that succeeds has the command and the values that its rules find, and they find no fault
-pub parse_taken : (a : App) (words : List Text) (matches : ArgMatches) → a ≡ program
-    → HasMatchesOf a words matches → (is_simple_and_free a ≡ true → fault_of a words ≡ [])
-    → (is_taken words ≡ true) × (subcommand_rows_of matches ≡ found_in words)
+pub parse_taken : (a : App) (words : List Text) (matches : ArgMatches) → a ≡ program → HasMatchesOf a words matches
+    → (is_simple_and_free a ≡ true → fault_of a words ≡ []) → (is_taken words ≡ true) × (subcommand_rows_of matches ≡ found_in words)
 unfolding is_taken faults_of found_in
 parse_taken a words matches same has free = (
   ap (λ p. is_faultless (fault_of p words)) (sym same) ∙ ap is_faultless (free (ap is_simple_and_free same ∙ exact)),

@@ -81,13 +81,11 @@ run_values P caps earlier contents [] left now all run = subst (λ l. AllByRecur
 run_values P caps earlier contents (e ∷ es) left now all run =
     run_values P caps (earlier ++ e ∷ []) (after_entry contents e) es left
     (set_all P contents e.buffer.0 (after_effect e.kind (items_of contents e.buffer.0) e.value) now
-    (effect_all P e.kind (items_of contents e.buffer.0) e.value (items_all P contents e.buffer.0 now) all.0))
-    all.1 run.1
+    (effect_all P e.kind (items_of contents e.buffer.0) e.value (items_all P contents e.buffer.0 now) all.0)) all.1 run.1
 
 -- a run ends with as many buffers as it begins with
 pub run_length : (caps : List ℕ) (earlier : List Entry) (contents : List (List Message)) (es : List Entry) (left : List (List Message))
-    → IsRunFrom caps earlier contents es left
-    → length left ≡ length contents
+    → IsRunFrom caps earlier contents es left → length left ≡ length contents
 run_length caps earlier contents [] left run = sym (ap length run)
 run_length caps earlier contents (e ∷ es) left run =
     run_length caps (earlier ++ e ∷ []) (after_entry contents e) es left run.1 ∙ length-set contents e.buffer.0 _

@@ -38,8 +38,7 @@ stays_of plan first last of same = record {
 
 -- a schedule that the step table runs from a plan's system at boot
 by_table : (plan : BootPlan) (steps : List CpuId) (first last : Shown) → IsOpened plan (length steps) first → BootsByTable first
-    → IsSetupFor (setup_for plan) first
-    → RanByTable first steps last → whole_of last ≡ table_run plan steps
+    → IsSetupFor (setup_for plan) first → RanByTable first steps last → whole_of last ≡ table_run plan steps
 by_table plan steps first last of boots planned table =
     table (setup_for plan) planned.goes
     ∙ ap (λ (w : Whole). after_steps (setup_for plan) steps w) (boots (setup_for plan) planned)
@@ -68,25 +67,20 @@ run_of IsStepwise plan steps first last of ran boots planned table sound told sa
 }
 
 -- a fault that is passed on
-err_runs : (IsStepwise : Type 0) (plan : BootPlan) (steps : List CpuId) (r : Result Shown Fault) (e : Fault) (out : Output)
-    → IsErrAnd r (λ f. f ≡ e)
+err_runs : (IsStepwise : Type 0) (plan : BootPlan) (steps : List CpuId) (r : Result Shown Fault) (e : Fault) (out : Output) → IsErrAnd r (λ f. f ≡ e)
     → RunsPlan IsStepwise plan steps (Err e) out → RunsPlan IsStepwise plan steps r out
 err_runs IsStepwise plan steps (Ok s) e out is runs = absurd is
 err_runs IsStepwise plan steps (Err f) e out is runs = subst (λ x. RunsPlan IsStepwise plan steps (Err x) out) (sym is) runs
 
 -- the schedule names a CPU that the plan has not
-pub bad_cpu : (IsStepwise : Type 0) (plan : BootPlan) (steps : List CpuId) (first : Shown) (r : Result Shown Fault) (out : Output)
-    → IsSystemOf plan first → (AreCpus (length first.cpus) steps → false ≡ true)
-    → IsUntouched out → IsErrAnd r (λ f. f ≡ BadCpu)
-    → RunsPlan IsStepwise plan steps r out
+pub bad_cpu : (IsStepwise : Type 0) (plan : BootPlan) (steps : List CpuId) (first : Shown) (r : Result Shown Fault) (out : Output) → IsSystemOf plan first
+    → (AreCpus (length first.cpus) steps → false ≡ true) → IsUntouched out → IsErrAnd r (λ f. f ≡ BadCpu) → RunsPlan IsStepwise plan steps r out
 bad_cpu IsStepwise plan steps first r out of unknown untouched is =
-    err_runs IsStepwise plan steps r BadCpu out is
-    ((λ known. false≢true (unknown (subst (λ c. AreCpus c steps) (sym of.cpus) known))), untouched)
+    err_runs IsStepwise plan steps r BadCpu out is ((λ known. false≢true (unknown (subst (λ c. AreCpus c steps) (sym of.cpus) known))), untouched)
 
 -- what is out is of the run's system
-out_ran : (IsStepwise : Type 0) (plan : BootPlan) (steps : List CpuId) (caps : List ℕ) (first last : Shown) (out : Output)
-    → caps ≡ plan.caps → IsSystemOf plan first → AreCpus (length first.cpus) steps → IsRunOf IsStepwise plan steps last
-    → IsOut caps (traces_of last) last.contents out
+out_ran : (IsStepwise : Type 0) (plan : BootPlan) (steps : List CpuId) (caps : List ℕ) (first last : Shown) (out : Output) → caps ≡ plan.caps
+    → IsSystemOf plan first → AreCpus (length first.cpus) steps → IsRunOf IsStepwise plan steps last → IsOut caps (traces_of last) last.contents out
     → IsPrinted IsStepwise plan steps last out
 out_ran IsStepwise plan steps caps first last out same of known ran text = record {
   cpus = subst (λ c. AreCpus c steps) of.cpus known;
@@ -101,10 +95,9 @@ out_ran IsStepwise plan steps caps first last out same of known ran text = recor
     written_out : IsOut plan.caps (traces_of last) last.contents out
     written_out = subst (λ l. IsOut l (traces_of last) last.contents out) same text
 
-write_fault : (IsStepwise A : Type 0) (plan : BootPlan) (steps : List CpuId) (caps : List ℕ) (first last : Shown) (e : Fault) (out : Output)
-    → caps ≡ plan.caps → IsSystemOf plan first → AreCpus (length first.cpus) steps → IsRunOf IsStepwise plan steps last
-    → Writes {A = A} caps (traces_of last) last.contents (Err e) out
-    → RunsPlan IsStepwise plan steps (Err e) out
+write_fault : (IsStepwise A : Type 0) (plan : BootPlan) (steps : List CpuId) (caps : List ℕ) (first last : Shown) (e : Fault) (out : Output) → caps ≡ plan.caps
+    → IsSystemOf plan first → AreCpus (length first.cpus) steps → IsRunOf IsStepwise plan steps last
+    → Writes {A = A} caps (traces_of last) last.contents (Err e) out → RunsPlan IsStepwise plan steps (Err e) out
 write_fault IsStepwise A plan steps caps first last (NoMemory refused) out same of known ran writes = writes
 write_fault IsStepwise A plan steps caps first last (Boot e) out same of known ran writes = absurd writes
 write_fault IsStepwise A plan steps caps first last BadCpu out same of known ran writes = absurd writes
@@ -114,9 +107,8 @@ write_fault IsStepwise A plan steps caps first last WriteFault out same of known
 
 -- the text could not be written
 pub not_written : (IsStepwise A : Type 0) (plan : BootPlan) (steps : List CpuId) (caps : List ℕ) (first last : Shown) (r : Result Shown Fault) (e : Fault)
-    (out : Output) → caps ≡ plan.caps → IsSystemOf plan first → AreCpus (length first.cpus) steps
-    → IsRunOf IsStepwise plan steps last → Writes {A = A} caps (traces_of last) last.contents (Err e) out → IsErrAnd r (λ f. f ≡ e)
-    → RunsPlan IsStepwise plan steps r out
+    (out : Output) → caps ≡ plan.caps → IsSystemOf plan first → AreCpus (length first.cpus) steps → IsRunOf IsStepwise plan steps last
+    → Writes {A = A} caps (traces_of last) last.contents (Err e) out → IsErrAnd r (λ f. f ≡ e) → RunsPlan IsStepwise plan steps r out
 not_written IsStepwise A plan steps caps first last r e out same of known ran writes is =
     err_runs IsStepwise plan steps r e out is (write_fault IsStepwise A plan steps caps first last e out same of known ran writes)
 

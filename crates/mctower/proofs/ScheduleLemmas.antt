@@ -64,11 +64,9 @@ first_digit text digit inside is value =
     rw (value, ← zero-add (get_or text 0 0 - 48)) more
 
 -- a digit more
-pub digit_more : (text : List ℕ) (count number digit : ℕ) → ReadsUpTo 255 text count number → count < length text
-    → is_ascii_digit (get_or text count 0) ≡ true → digit ≡ get_or text count 0 - 48 → number * 10 + digit ≤ 255
-    → ReadsUpTo 255 text (count + 1) (number * 10 + digit)
-digit_more text count number digit read inside is value small =
-    rw value (reads_one_more 255 text count number read inside is (rw value at small))
+pub digit_more : (text : List ℕ) (count number digit : ℕ) → ReadsUpTo 255 text count number → count < length text → is_ascii_digit (get_or text count 0) ≡ true
+    → digit ≡ get_or text count 0 - 48 → number * 10 + digit ≤ 255 → ReadsUpTo 255 text (count + 1) (number * 10 + digit)
+digit_more text count number digit read inside is value small = rw value (reads_one_more 255 text count number read inside is (rw value at small))
 
 -- digits at the front of a text, with no leading zero, are one step of the CPU whose number they are
 pub front_item : (text : List ℕ) (count number : ℕ) → ReadsUpTo 255 text count number → 0 < count → count ≤ length text

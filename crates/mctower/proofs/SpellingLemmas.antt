@@ -42,8 +42,7 @@ in_range buffers (e ∷ es) own numbers values = (
 )
 
 -- the version of entries can spell the message of each
-items_of_version : (v : Version) (es : List Entry) → AllByRecursion (λ e. IsMessage e.value) es
-    → AllByRecursion (λ e. IsItemOf (version_from v es) e.value) es
+items_of_version : (v : Version) (es : List Entry) → AllByRecursion (λ e. IsMessage e.value) es → AllByRecursion (λ e. IsItemOf (version_from v es) e.value) es
 items_of_version v [] all = tt
 items_of_version v (e ∷ es) all =
     let last = version_from (both v (version_of_entry e)) es in (
@@ -71,8 +70,7 @@ has_spelling caps traces left have order keeps run values small =
     let long = order_length traces order keeps in
     omega arith) in
     let own : AllByRecursion (λ (e : Entry). (e.cpu.0 < CPUS) × (e.thread.0 < THREADS)) order =
-    order_all (λ e. (e.cpu.0 < CPUS) × (e.thread.0 < THREADS)) traces order
-    (λ k trace at.
+    order_all (λ e. (e.cpu.0 < CPUS) × (e.thread.0 < THREADS)) traces order (λ k trace at.
     let here : k < CPUS = (let lt = slice_get_within traces k trace at in omega arith) in
     own_range (homes_for plan) k threads here trace (have.stay k trace at)) keeps in
     let numbers : AllByRecursion (λ (e : Entry). (e.buffer.0 < length caps) × (e.op < ENTRIES) × (e.pos < ENTRIES)
@@ -99,9 +97,8 @@ pub spelled_so : (caps : List ℕ) (traces : List (List Entry)) (left : List (Li
 spelled_so caps traces left es have is values =
     let fit : AllByRecursion (λ (e : Entry). IsMessage e.value) es = all_by (λ e. IsMessage e.value) es (λ k d lt. values k d lt) in
     let run : IsRun caps es left = ordered_run caps traces left es have is in
-    has_spelling caps traces left have es is.0 run fit
-    (run_values (IsItemOf (version_of es)) caps [] (empty_buffers caps) es left (empty_values (IsItemOf (version_of es)) caps)
-    (items_of_version One es fit) run)
+    has_spelling caps traces left have es is.0 run fit (run_values (IsItemOf (version_of es)) caps [] (empty_buffers caps) es left
+    (empty_values (IsItemOf (version_of es)) caps) (items_of_version One es fit) run)
 
 -- what is out of it
 pub out_so : (caps : List ℕ) (traces : List (List Entry)) (left : List (List Message)) (es : List Entry) (out : Output) → HaveText caps traces left

@@ -19,8 +19,7 @@ map_alike f g (x ∷ xs) each =
     λ i. here i ∷ more i
 
 -- a list whose elements are these values is the list of them
-listed_is : {X : Type 0} (xs : List X) (f : ℕ → X) (n k : ℕ) (d : X) → length xs ≡ n → ((b : ℕ) → b < n → slice_index_or xs b d ≡ f (k + b))
-    → xs ≡ listed f k n
+listed_is : {X : Type 0} (xs : List X) (f : ℕ → X) (n k : ℕ) (d : X) → length xs ≡ n → ((b : ℕ) → b < n → slice_index_or xs b d ≡ f (k + b)) → xs ≡ listed f k n
 listed_is [] f zero k d count each = refl
 listed_is (x ∷ xs) f zero k d count each = absurd (omega (arith, count))
 listed_is [] f (suc n) k d count each = absurd (omega (arith, count))
@@ -88,8 +87,7 @@ module _ (IsStepwise : Type 0) (plan : BootPlan) (steps : List CpuId) (s : Shown
       let there = there_is s.cpus k within in
       let p = there.0 in
       let one = told.cpus setup planned k p there.1 in
-      ap own_reason_in there.1
-      ∙ ap (λ b. reason_in b (cpu_halted_at p.own p.guests p.trace p.limit)) (sym one.inside)
+      ap own_reason_in there.1 ∙ ap (λ b. reason_in b (cpu_halted_at p.own p.guests p.trace p.limit)) (sym one.inside)
       ∙ ap (λ (h : Option Reason). reason_in (is_in_section (phase (cpu_numbered k) s.log)) h) (sym one.halted)
       ∙ ap (λ (o : Option Private). reason_by setup (cpu_numbered k) (whole_of s) o) (sym (shows_at (λ (q : CpuShown). q.private) s.cpus k p there.1))
 

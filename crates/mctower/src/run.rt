@@ -3,8 +3,7 @@
 
 ghost use Rattle.std.specs.Prelude.{◌≡◌, ◌≤◌, false, length, map, IfOk, Ok};
 ghost use Rattle.{event_log.specs.declared.ids.TheConstants.BUFFERS, boot.specs.Plan.plan_of, tracer.specs.{Gather.traces_in, Sinks.has_failed}};
-ghost use Rattle.{cpu.specs.Claims.traces_of, mctower.specs.{Output.between, Plans.IsOfPlan, Running.RunsPlan}};
-ghost use Rattle.mctower.specs.{Running.{RunsText, on_lock}, Texts.Writes};
+ghost use Rattle.{cpu.specs.Claims.traces_of, mctower.specs.{Output.between, Plans.IsOfPlan, Running.{RunsPlan, RunsText, on_lock}, Texts.Writes}};
 
 pub mod plan_runs;
 pub mod run_faults;

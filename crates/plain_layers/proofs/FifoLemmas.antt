@@ -182,10 +182,8 @@ effect_kinds : (t : Tid) (call : Call) (x : PlainState) (f : Effect) → effect_
 effect_kinds t (Send b m) x f is =
     let one : f ≡ attempt_effect (ask.Send m) x = sym (effect_of (attempt_of t (Send b m)) x f is) in
     (ap (λ (e : Effect). group_of e.kind) one ∙ put_counts x.closed, ap (λ (e : Effect). e.value) one)
-effect_kinds t (Recv b) x f is =
-    ap (λ (e : Effect). group_of e.kind) (sym (effect_of (attempt_of t (Recv b)) x f is)) ∙ take_counts x.items
-effect_kinds t (Close b) x f is =
-    ap (λ (e : Effect). group_of e.kind) (sym (effect_of (attempt_of t (Close b)) x f is))
+effect_kinds t (Recv b) x f is = ap (λ (e : Effect). group_of e.kind) (sym (effect_of (attempt_of t (Recv b)) x f is)) ∙ take_counts x.items
+effect_kinds t (Close b) x f is = ap (λ (e : Effect). group_of e.kind) (sym (effect_of (attempt_of t (Close b)) x f is))
 
 -- who had no effect sleeps
 slept_current : (out : Tried) (own : Threads) → effect_in out ≡ None → (own_slept (wait_list_by out) own).current ≡ None
@@ -331,9 +329,8 @@ module _ (opening : LockId → Option (QueueBlock PlainLocked)) (c : CpuId) (b :
       answered (Some f) = (refl, (f, refl, refl))
 
   -- a call without an effect was refused: the buffer allows it none, and its thread sleeps
-  pub done_refused : (t : Tid) (call : Call) → a ≡ attempt_of t call → b ≡ buffer_of call
-      → inner opening ≡ fresh_buffers (caps_in (viewed plain_shown opening)) → effect_in outcome.out ≡ None
-      → IsRefused call (caps_in (viewed plain_shown opening)) (plain_entries_in (inner opening) (buffer_sections new))
+  pub done_refused : (t : Tid) (call : Call) → a ≡ attempt_of t call → b ≡ buffer_of call → inner opening ≡ fresh_buffers (caps_in (viewed plain_shown opening))
+      → effect_in outcome.out ≡ None → IsRefused call (caps_in (viewed plain_shown opening)) (plain_entries_in (inner opening) (buffer_sections new))
   done_refused t call attempt at fresh none =
       subst (λ l. IsRefused call (caps_in (viewed plain_shown opening)) l)
       (sym (done_entries ∙ ap (λ f. option_to_list (option_map (entry_of c a.thread b) f) ++ plain_entries_in (inner opening) (buffer_sections old)) none))

@@ -22,8 +22,7 @@ pub log_grown : {A F X : Type 0} (r : Result A F) (a : A) (old new : List X) (x 
 log_grown r a old new x is pushed = ap reverse (subst (λ o. OnOk o (new ≡ old ++ x ∷ [])) is pushed) ∙ reverse-append old (x ∷ [])
 
 -- what is handed on of a call names the lock of the call that is meant
-pub lock_handed : {H E : Type 0} (meant : H → Payload → E) (call : QueueCall H) (payload : Payload)
-    → lock_of (call_meant meant call payload) ≡ lock_of call
+pub lock_handed : {H E : Type 0} (meant : H → Payload → E) (call : QueueCall H) (payload : Payload) → lock_of (call_meant meant call payload) ≡ lock_of call
 lock_handed meant (Push d t) payload = refl
 lock_handed meant (TakeAll d) payload = refl
 lock_handed meant (OnBuffer b e) payload = refl
@@ -113,8 +112,7 @@ module _ {E B O : Type 0} (rules : Rules E B O) (mv : MoveRules E O) (wakes : Wa
       queue_of : List Tid → QueueBlock B
       queue_of queue = Queue queue start.homes
 
-      opened : (q : List Tid) (o : Option (List Tid)) → IsSome (option_map queue_of o)
-          → Some q ≡ option_map (λ queue. q) o
+      opened : (q : List Tid) (o : Option (List Tid)) → IsSome (option_map queue_of o) → Some q ≡ option_map (λ queue. q) o
       opened q None there = absurd cc
       opened q (Some queue) there = refl
 
@@ -123,11 +121,9 @@ module _ {E B O : Type 0} (rules : Rules E B O) (mv : MoveRules E O) (wakes : Wa
       go true same =
           let one = same_cpu_true d e same in
           subst (λ x. slice_get (slice_set lists.pending.items d.0 queue) x.0 ≡ option_map (λ opened. after x) (slice_get start.lists.value.pending.items x.0))
-          one
-          (set_there lists.pending.items d.0 queue (queue_within d there)
+          one (set_there lists.pending.items d.0 queue (queue_within d there)
           ∙ (ap Some is ∙ opened (after d) (slice_get start.lists.value.pending.items d.0) there))
-      go false other =
-          set_else lists.pending.items d.0 e.0 queue (λ same. not_equal d.0 e.0 other (sym same)) ∙ sound.queues e
+      go false other = set_else lists.pending.items d.0 e.0 queue (λ same. not_equal d.0 e.0 other (sym same)) ∙ sound.queues e
 
   -- an edit moves nobody into a queue
   still : (b : BufId) (e : E) (queue : List Tid) (d : CpuId) (out : Option O) → pending_after (edit_move mv (Buffer b) e out) d queue ≡ queue
@@ -137,8 +133,7 @@ module _ {E B O : Type 0} (rules : Rules E B O) (mv : MoveRules E O) (wakes : Wa
   -- the blocks after one was edited
   blocks_set : (b : BufId) (e : E) (block : B) (c : CpuId) (new : Lists B) → slice_get lists.buffers.items b.0 ≡ Some block
       → new.buffers.items ≡ slice_set lists.buffers.items b.0 (rules.edited e block) → (at : BufId)
-      → slice_get new.buffers.items at.0
-      ≡ block_after rules.edited (inner (opening_of start)) (Buffer at) (buffer_sections (event c (OnBuffer b e) ∷ past))
+      → slice_get new.buffers.items at.0 ≡ block_after rules.edited (inner (opening_of start)) (Buffer at) (buffer_sections (event c (OnBuffer b e) ∷ past))
   blocks_set b e block c new was sets at = ap (λ l. slice_get l at.0) sets ∙ go (at.0 == b.0) refl
     where
       go : (x : Bool) → (at.0 == b.0) ≡ x → slice_get (slice_set lists.buffers.items b.0 (rules.edited e block)) at.0
@@ -147,10 +142,8 @@ module _ {E B O : Type 0} (rules : Rules E B O) (mv : MoveRules E O) (wakes : Wa
       go true same =
           let one : b.0 ≡ at.0 = sym (eqb-true at.0 b.0 same) in
           subst (λ n. slice_get (slice_set lists.buffers.items b.0 (rules.edited e block)) n ≡ option_map (rules.edited e) (slice_get lists.buffers.items n))
-          one
-          (set_there lists.buffers.items b.0 (rules.edited e block) (slice_get_within lists.buffers.items b.0 block was)
-          ∙ sym (ap (option_map (rules.edited e)) was))
-          ∙ ap (option_map (rules.edited e)) (sound.blocks at)
+          one (set_there lists.buffers.items b.0 (rules.edited e block) (slice_get_within lists.buffers.items b.0 block was)
+          ∙ sym (ap (option_map (rules.edited e)) was)) ∙ ap (option_map (rules.edited e)) (sound.blocks at)
       go false other = set_else lists.buffers.items b.0 at.0 (rules.edited e block) (not_equal at.0 b.0 other) ∙ sound.blocks at
 
   -- what was done at a block that is there
@@ -191,8 +184,7 @@ module _ {E B O : Type 0} (rules : Rules E B O) (mv : MoveRules E O) (wakes : Wa
         lawful = (allowed, sound.lawful);
         known = (known, sound.known);
         queues = λ d. ap (λ l. slice_get l d.0) was.2.1
-            ∙ (sound.queues d
-            ∙ sym (ap (λ queue. option_map (λ opened. queue) (slice_get start.lists.value.pending.items d.0))
+            ∙ (sound.queues d ∙ sym (ap (λ queue. option_map (λ opened. queue) (slice_get start.lists.value.pending.items d.0))
             (still b e (pending_by (moves_in K past) d) d (out_at K past b e))));
         blocks = blocks_set b e was.0 c new was.1 was.2.0;
       }

@@ -107,9 +107,8 @@ module _ {F R B O : Type 0} (rules : LockRules F R B O) (opening : LockId → Op
     locks_here old new under got locks =
         let polled = locks.polled in
         subst (λ l. IsSome l.answer → CallerOwns new) (sym locks.leaves)
-        (subst (λ l. Here new l) (sym polled.leaves)
-        (subst (λ past. Here past (left_with (lock_kernel rules opening) c b e polled.poll_result own.sleep)) (sym polled.is)
-        (result_here polled.poll_result (polled.others ++ old) polled.may (locks.asks asks))))
+        (subst (λ l. Here new l) (sym polled.leaves) (subst (λ past. Here past (left_with (lock_kernel rules opening) c b e polled.poll_result own.sleep))
+        (sym polled.is) (result_here polled.poll_result (polled.others ++ old) polled.may (locks.asks asks))))
 
   -- an asker owns the lock once a poll answers, at once or because it was handed it
   asker_polled : (at : Option BufId) (old new : List (QueueEvent (QEdit F R))) (own : Locking O) (under : Option (SchedCall (QEdit F R)))
@@ -155,8 +154,7 @@ module _ {G B O : Type 0} (monitor_rules : MonitorRules G B O) (opening : LockId
   cond_polled e None old new own under got polled still some asks =
       asker_polled (cv_rules monitor_rules) opening ActsFor c b e (slept_for own.lock.slept (lock_caller (cv_rules monitor_rules) e)) old new own.lock under
       polled.left polled.polled still asks
-      (lock_told (lock_caller (cv_rules monitor_rules) e) b own.waits polled.left.own polled.left.answer
-      (subst (λ l. IsSome l.answer) polled.leaves some))
+      (lock_told (lock_caller (cv_rules monitor_rules) e) b own.waits polled.left.own polled.left.answer (subst (λ l. IsSome l.answer) polled.leaves some))
   cond_polled e (Some at) old new own under got polled still some asks = absurd (subst (λ call. IsAcquire call) polled.is asks)
 
   -- the same of a lock with conditions

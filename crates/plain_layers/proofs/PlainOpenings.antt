@@ -32,8 +32,7 @@ module _ (start : Opening (SleepBlock PlainState)) (caps : List ℕ) (buffers : 
   opens_fresh = fun_ext by_lock
 
 -- a machine whose locks are those of fresh buffers has their capacities
-module _ (opening : LockId → Option (QueueBlock PlainLocked)) (caps : List ℕ) (fresh : inner opening ≡ fresh_buffers caps)
-    (few : length caps ≤ 256) where
+module _ (opening : LockId → Option (QueueBlock PlainLocked)) (caps : List ℕ) (fresh : inner opening ≡ fresh_buffers caps) (few : length caps ≤ 256) where
   shown_fresh : (o : Option ℕ) → option_map plain_shown (option_map fresh_buffer o) ≡ option_map fresh_lock o
   shown_fresh None = refl
   shown_fresh (Some capacity) = refl

@@ -25,8 +25,7 @@ module _ {B : Type 0} (lock : LockId) where
 
   -- the first entry names another lock
   pub slot_later : (blocks : List (LockId × B)) (i : ℕ) (o : LockId × B) → i < length blocks → o ≡ get_or blocks i o → same_lock o.0 lock ≡ false
-      → ((n : ℕ) → IsSlot lock n (drop i blocks) → IsSlot lock (i + n) blocks) → (n : ℕ) → IsSlot lock n (drop (i + 1) blocks)
-      → IsSlot lock (i + 1 + n) blocks
+      → ((n : ℕ) → IsSlot lock n (drop i blocks) → IsSlot lock (i + n) blocks) → (n : ℕ) → IsSlot lock n (drop (i + 1) blocks) → IsSlot lock (i + 1 + n) blocks
   slot_later blocks i o within is other slot n at =
       let here : IsSlot lock (suc n) (drop i blocks) = subst (IsSlot lock (suc n)) (sym (from_index blocks i o within is)) (other, at) in
       let same_slot : i + suc n ≡ i + 1 + n = omega arith in
@@ -70,15 +69,13 @@ module _ {B : Type 0} (lock : LockId) where
   slot_set (suc n) (x ∷ rest) o at same l = go (slot_set n rest o at.1 same l) (same_lock x.0 l) refl
     where
       go : opened (slice_set rest n o) l ≡ (if same_lock l lock then Some o.1 else opened rest l) → (b : Bool) → same_lock x.0 l ≡ b
-          → (if b then Some x.1 else opened (slice_set rest n o) l)
-          ≡ (if same_lock l lock then Some o.1 else (if b then Some x.1 else opened rest l))
+          → (if b then Some x.1 else opened (slice_set rest n o) l) ≡ (if same_lock l lock then Some o.1 else (if b then Some x.1 else opened rest l))
       go later true is = sym (ap (λ b. if b then Some o.1 else Some x.1) (subst (λ m. same_lock m lock ≡ false) (same_lock_true x.0 l is) at.0))
       go later false is = later
 
   -- so with the edited block there
-  pub slot_edited : (f : B → B) (n : ℕ) (blocks : List (LockId × B)) (o : LockId × B) (block : B) → IsSlot lock n blocks → o ≡ get_or blocks n o
-      → block ≡ f o.1 → (l : LockId)
-      → opened (slice_set blocks n (o.0, block)) l ≡ (if same_lock l lock then option_map f (opened blocks l) else opened blocks l)
+  pub slot_edited : (f : B → B) (n : ℕ) (blocks : List (LockId × B)) (o : LockId × B) (block : B) → IsSlot lock n blocks → o ≡ get_or blocks n o → block ≡ f o.1
+      → (l : LockId) → opened (slice_set blocks n (o.0, block)) l ≡ (if same_lock l lock then option_map f (opened blocks l) else opened blocks l)
   slot_edited f n blocks o block at is edits l =
       let tells = slot_reads n blocks o at is in
       slot_set n blocks (o.0, block) at tells.0 l ∙ go tells.1 (same_lock l lock) refl

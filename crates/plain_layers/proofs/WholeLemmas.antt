@@ -42,8 +42,7 @@ module _ {E B O : Type 0} (s : Asked E B O) (ActsFor : CpuId → Type 0) (all : 
     leaves : got ≡ left_with s.kernel s.cpu s.buffer s.edit poll_result own
 
   older : (poll_result : PollResult O) (past : List (QueueEvent E)) → new ≡ seen_with s.kernel s.cpu s.buffer s.edit poll_result past
-      → IsLawful IsKnownEvent new
-      → IsLawful IsKnownEvent past
+      → IsLawful IsKnownEvent new → IsLawful IsKnownEvent past
   older WaitsStill past is known = subst (IsLawful IsKnownEvent) is known
   older (Does outcome) past is known = (subst (IsLawful IsKnownEvent) is known).1
   older (SendsHome t) past is known = (subst (IsLawful IsKnownEvent) is known).1
@@ -65,8 +64,7 @@ module _ {E B O : Type 0} (s : Asked E B O) (ActsFor : CpuId → Type 0) (all : 
 
   -- the first poll answers: the section is done
   pub first_answers : (own left : Sleeping O) (outcome : Outcome O) → own.deferred ≡ None → IsLawful IsKnownEvent new
-      → SleepPolled s.kernel ActsFor s.cpu s.buffer s.edit old new own (got left (Some outcome))
-      → DoneAlone s old new own.threads left outcome
+      → SleepPolled s.kernel ActsFor s.cpu s.buffer s.edit old new own (got left (Some outcome)) → DoneAlone s old new own.threads left outcome
   first_answers own left outcome deferred known polled = go was.poll_result was.may was.is was.leaves
     where
       was : Alone own (got left (Some outcome))
@@ -94,8 +92,7 @@ module _ {E B O : Type 0} (s : Asked E B O) (ActsFor : CpuId → Type 0) (all : 
 
   -- the first poll does not answer: the section is done, and whom it woke is to be sent home
   pub first_sends : (own left : Sleeping O) → own.deferred ≡ None → IsSome left.deferred → IsLawful IsKnownEvent new
-      → SleepPolled s.kernel ActsFor s.cpu s.buffer s.edit old new own (got left None)
-      → (outcome : Outcome O) × Begun s old new own.threads outcome left
+      → SleepPolled s.kernel ActsFor s.cpu s.buffer s.edit old new own (got left None) → (outcome : Outcome O) × Begun s old new own.threads outcome left
   first_sends own left deferred keeps known polled = go was.poll_result was.may was.is was.leaves
     where
       was : Alone own (got left None)

@@ -72,9 +72,8 @@ impl<I: Owned + Drop> System<I>
 where
     I::Machine: Drop,
 {
-    ghost use Rattle.cpu.specs.{Claims.FollowPrograms, Claims.HasOneOrder, Claims.MovesAgree};
-    ghost use Rattle.cpu.specs.{Claims.StandsOnce, Claims.StayHome, Sound.BootsByTable, Sound.IsSetupFor};
-    ghost use Rattle.cpu.specs.{Sound.SoundByTable, Sound.setup_for, Observed.ObservedByTable};
+    ghost use Rattle.cpu.specs.{Claims.{FollowPrograms, HasOneOrder, MovesAgree, StandsOnce, StayHome}, Sound.{BootsByTable, IsSetupFor, SoundByTable}};
+    ghost use Rattle.cpu.specs.{Sound.setup_for, Observed.ObservedByTable};
 
     /// The system of a plan before its first step, with room for `room` steps: each CPU's threads
     /// are ready by rising number, and every buffer is empty. All memory is taken here.

@@ -254,8 +254,8 @@ fn run_waiters<G: Gate + Sync, R: Threads + Wait + Sync>(
 /// `Limit`, or where `turns` turns are taken. Between two sections it takes a turn only below
 /// `turns`, and only where the gate, which was asked at each turn so far with the number of turns
 /// taken, may have answered `Pass` each time. The gate is asked before each turn, also inside a
-/// section, until it answers `Limit`; where it may not have answered `Pass` at each, no worker stops as
-/// `TurnsUsed`.
+/// section, or has told that it is open there, until it answers `Limit`; where it may not have answered
+/// `Pass` at each, no worker stops as `TurnsUsed`.
 ///
 /// The report is lawful by the plan's step table. The list of actions by which it is, and the order of
 /// its traces, are those of one words log, which is legal over the locks as the plan opens them.

@@ -2,10 +2,9 @@
 //! write. `write_text` and `write_lists` take memory. No call waits, unless the sink's writer does.
 
 ghost use Rattle.std.specs.Prelude.{◌≡◌, ◌<◌, ℕ, IfOk, List, false, length, map, slice_index_or};
-ghost use Rattle.event_log.specs.{declared.entries.Entry.Entry as AnEntry, Messages.IsMessage, Messages.Message};
-ghost use Rattle.tracer.specs.{Gather.{traces_in, entries_in}, Judging.verdict_of, Sinks.has_failed, declared.verdicts.Verdict.TheVariants.Yes as SaysYes};
-ghost use Rattle.mctower.specs.{Output.between, Tabled.{NothingIsPrinted, RunsHaveOneText}, Threads.ThreadsPrintARun};
-ghost use Rattle.mctower.specs.{Texts.HaveText, Texts.IsTextOf, Texts.Writes};
+ghost use Rattle.{event_log.specs.{declared.entries.Entry.Entry as AnEntry, Messages.{IsMessage, Message}}, tracer.specs.Gather.{traces_in, entries_in}};
+ghost use Rattle.{tracer.specs.{Judging.verdict_of, Sinks.has_failed, declared.verdicts.Verdict.TheVariants.Yes as SaysYes}, mctower.specs.Output.between};
+ghost use Rattle.mctower.specs.{Tabled.{NothingIsPrinted, RunsHaveOneText}, Threads.ThreadsPrintARun, Texts.{HaveText, IsTextOf, Writes}};
 
 use crate::run::run_faults::Fault;
 use arrayvec::ArrayVec;

@@ -10,18 +10,16 @@ use Rattle.mctower.specs.declared.run.run_faults.Fault.TheVariants as run
 use Rattle.mctower.proofs.serve.run_bytes.Goals as goal
 
 -- what is to be told of a run whose text was put out, and nothing more behind it
-told : (plan : BootPlan) (steps : List CpuId) (s : Shown) (state : State) (answer : Result Done Refusal) (failed : Bool)
-    → IsRunOf NoCondition plan steps s → IsStateOf NoCondition s state → answer ≡ (if failed then Err WriteFault else Ok (Ran state))
-    → ReportsRun plan steps s answer failed
+told : (plan : BootPlan) (steps : List CpuId) (s : Shown) (state : State) (answer : Result Done Refusal) (failed : Bool) → IsRunOf NoCondition plan steps s
+    → IsStateOf NoCondition s state → answer ≡ (if failed then Err WriteFault else Ok (Ran state)) → ReportsRun plan steps s answer failed
 told plan steps s state answer false ran is given = (state, is, state_of_run NoCondition plan steps s ran tt state is, given)
 told plan steps s state answer true ran is given = given
 
 -- the text of a run is out, and then nothing more was put out
-ran_out : (steps : List CpuId) (ran : Result Shown Fault) (state : State) (read : Result BootPlan BootError)
-    (answer : Result Done Refusal) (first whole : Output) → RunsTextOn NoCondition read steps ran first
-    → Tells ran (Ok state) → answer ≡ (if whole.failed then Err WriteFault else Ok (Ran state))
-    → Outs whole.failed first.new whole.new [] → first.old ≡ whole.old → (whole.failed ≡ false → whole.flushed ≡ true)
-    → OfPlan (ServesPlan steps) read answer whole
+ran_out : (steps : List CpuId) (ran : Result Shown Fault) (state : State) (read : Result BootPlan BootError) (answer : Result Done Refusal)
+    (first whole : Output) → RunsTextOn NoCondition read steps ran first → Tells ran (Ok state)
+    → answer ≡ (if whole.failed then Err WriteFault else Ok (Ran state)) → Outs whole.failed first.new whole.new [] → first.old ≡ whole.old
+    → (whole.failed ≡ false → whole.flushed ≡ true) → OfPlan (ServesPlan steps) read answer whole
 ran_out steps (Ok s) state (Ok plan) answer first whole runs is given more same passed_on =
     let trace = runs.1.out.text in
     let out : Appends first.old first.new trace = all_out first.failed first.old first.new trace runs.0 runs.1.out.out in
@@ -49,8 +47,7 @@ reported_fault plan steps s false is = absurd (cc)
 reported_fault plan steps s true is = refl
 
 -- a run that had a fault
-fault_ran : (steps : List CpuId) (read : Result BootPlan BootError) (fault : Fault) (out : Output)
-    → RunsTextOn NoCondition read steps (Err fault) out
+fault_ran : (steps : List CpuId) (read : Result BootPlan BootError) (fault : Fault) (out : Output) → RunsTextOn NoCondition read steps (Err fault) out
     → RefusedBy lacks_memory (Err (from_fault fault)) out ⊎ OfPlan (ServesPlan steps) read (Err (from_fault fault)) out
 fault_ran steps (Ok plan) (run.NoMemory refused) out runs = inl (refl, runs)
 fault_ran steps (Ok plan) (run.Boot e) out runs = absurd runs
@@ -101,8 +98,7 @@ returns-in-Ok-run_plan-clause-runs g c =
     inr (inr (
       c.in-Ok.ensures.cases.1,
       subst (λ t. OfPlan (ServesPlan c.args.steps.now) (plan_of t) c.put_out.result
-          (between g.O.Write.contents c.args.out.now c.put_out.new.out)) same
-          (ran_out c.args.steps.now _ c.in-Ok-run_plan.state (plan_of c.in-Ok.plan.now) c.put_out.result
-          (between g.O.Write.contents c.args.out.now c.run_plan.new.out) (between g.O.Write.contents c.args.out.now c.put_out.new.out)
+          (between g.O.Write.contents c.args.out.now c.put_out.new.out)) same (ran_out c.args.steps.now _ c.in-Ok-run_plan.state (plan_of c.in-Ok.plan.now)
+          c.put_out.result (between g.O.Write.contents c.args.out.now c.run_plan.new.out) (between g.O.Write.contents c.args.out.now c.put_out.new.out)
           c.in-Ok-run_plan.ensures.runs c.in-Ok-run_plan.ensures.tells c.put_out.ensures.put.0 c.put_out.ensures.put.1.0 refl c.put_out.ensures.put.1.1),
     ))

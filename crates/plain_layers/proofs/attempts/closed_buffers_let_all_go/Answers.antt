@@ -25,10 +25,8 @@ nobody_there (t ∷ queue) none = absurd (cc none)
 
 -- of a closed buffer's two sides the own one is woken while somebody waits there, and else the other
 last_gone : (own : Side) (x : PlainState) (v : Bool) → is_some (first (waiting_on own x)) ≡ v
-    → leaving_side (if v then own else far_side own) (first (waiting_on (if v then own else far_side own) x)) ≡ Nobody
-    → (x.receivers ≡ []) × (x.senders ≡ [])
-last_gone own x true is none =
-    absurd (cc (is, ap (λ (queue : List Tid). is_some (first queue)) (nobody_first own (waiting_on own x) none)))
+    → leaving_side (if v then own else far_side own) (first (waiting_on (if v then own else far_side own) x)) ≡ Nobody → (x.receivers ≡ []) × (x.senders ≡ [])
+last_gone own x true is none = absurd (cc (is, ap (λ (queue : List Tid). is_some (first queue)) (nobody_first own (waiting_on own x) none)))
 last_gone Receivers x false is none = (nobody_there x.receivers is, nobody_first Senders x.senders none)
 last_gone Senders x false is none = (nobody_first Receivers x.receivers none, nobody_there x.senders is)
 

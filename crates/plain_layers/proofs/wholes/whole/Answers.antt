@@ -48,5 +48,4 @@ returns-in-None-clause-done g c =
     let outcome = outcome_told g.E.Sleeps.told c.unwrap.result c.poll-in-None.new.payload.parcel in
     let sent = second_sends section (λ d. S.ActsFor n d) (λ d small. said.framed.stays.acts d (c.requires.all d small))
     (S.seen n) (S.seen n') (S.own p) (S.own p') begun.0 outcome (ap (λ (s : Sleeping g.row.E-Out.Denot). s.deferred) begun.1.leaves) now_known polled in
-    inr (both_polls section (S.seen m) (S.seen n) (S.seen n') (S.own part).threads (S.own p) (S.own p') begun.0
-    outcome begun.1 sent)
+    inr (both_polls section (S.seen m) (S.seen n) (S.seen n') (S.own part).threads (S.own p) (S.own p') begun.0 outcome begun.1 sent)

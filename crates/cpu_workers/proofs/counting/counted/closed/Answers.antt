@@ -16,5 +16,4 @@ returns-clause-number g c =
 
 pub returns-clause-frees : goal.returns-clause-frees
 returns-clause-frees g c =
-    left_by_frees c.args.times c.args.shared c.args.keys.items c.close-blocks.result.items c.requires.came c.close-blocks.ensures _
-    (returns-clause-number g c)
+    left_by_frees c.args.times c.args.shared c.args.keys.items c.close-blocks.result.items c.requires.came c.close-blocks.ensures _ (returns-clause-number g c)

@@ -13,12 +13,10 @@ run_all-requires-send-T-Done g c κs within = search (sendable, crosses, key_sen
 pub run_all-requires-after_bounds : goal.run_all-requires-after_bounds
 run_all-requires-after_bounds g c κs within =
     both_all (λ k t. (t.key ≡ k) × (t.shared.now ≡ c.args.shared.now) × (t.times ≡ c.args.times)) (IsFresh c.args.shared.now)
-    (λ t. IsFresh t.shared.now t.key × IsSome (opened t.shared.now.start NUMBER))
-    (λ k t is fresh. (
+    (λ t. IsFresh t.shared.now t.key × IsSome (opened t.shared.now.start NUMBER)) (λ k t is fresh. (
       subst (λ v. IsFresh v t.key) (sym is.1) (subst (λ x. IsFresh c.args.shared.now x) (sym is.0) fresh),
       subst (λ v. IsSome (opened v.start NUMBER)) (sym is.1) c.requires.lock,
-    ))
-    c.args.keys.items c.all_counting-tasks.result.items c.all_counting-tasks.ensures c.requires.fresh
+    )) c.args.keys.items c.all_counting-tasks.result.items c.all_counting-tasks.ensures c.requires.fresh
 
 pub returns-in-Ok-run_all-clause-came : goal.returns-in-Ok-run_all-clause-came
 returns-in-Ok-run_all-clause-came g c =

@@ -8,8 +8,7 @@ pub push_reserved-requires : goal.push_reserved-requires
 push_reserved-requires g c = has_room c.loop-task.invariant c.in-Some.ensures.steps.0 c.loop-task.keys.ok.0
 
 pub loop-task-preserved : goal.loop-task-preserved
-loop-task-preserved g c =
-    filled_one c.loop-task.invariant c.in-Some.ensures.steps.0 c.push_reserved.ensures.items c.push_reserved.ensures.capacity refl
+loop-task-preserved g c = filled_one c.loop-task.invariant c.in-Some.ensures.steps.0 c.push_reserved.ensures.items c.push_reserved.ensures.capacity refl
 
 pub returns : goal.returns
 returns g c =

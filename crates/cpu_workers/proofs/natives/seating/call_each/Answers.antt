@@ -19,8 +19,7 @@ all_left-requires-clause-room g c =
 
 pub returns-clause-count : goal.returns-clause-count
 returns-clause-count g c =
-    both_length _ c.into_done.result.items c.all_left.result.items c.all_left.ensures
-    ∙ both_length _ c.in_ok-tasks.tasks.items c.into_done.result.items
+    both_length _ c.into_done.result.items c.all_left.result.items c.all_left.ensures ∙ both_length _ c.in_ok-tasks.tasks.items c.into_done.result.items
     (both_kept _ c.in_ok-tasks.tasks.items (ap (λ v. v.items) c.into_done.ensures) c.in_ok-done.ensures.ran) ∙ c.in_ok-tasks.ensures.count
 
 pub returns-clause-site : goal.returns-clause-site

@@ -7,8 +7,7 @@ pub returns-then-eq : goal.returns-then-eq
 returns-then-eq c =
     let o = c.index-blocks-i.result in
     let same : same_lock o.0 c.args.lock ≡ true = search rules in
-    c.items_of.ensures
-    ∙ sym (ap (λ o. messages_in (block_shown o))
+    c.items_of.ensures ∙ sym (ap (λ o. messages_in (block_shown o))
     (c.loop-i.invariant.left ∙ opened_here c.args.lock c.args.blocks.now c.loop-i.i o c.loop-i-test.true c.index-blocks-i.is same))
 
 pub loop-i-preserved : goal.loop-i-preserved

@@ -42,10 +42,9 @@ returns g c =
     let e = c.parted.ensures in
     let its = c.in_ok-left.ensures in
     let plan = c.args.boot.now in
-    subst (λ x. x) (λ i. HaveLeft plan (g.G.Gate.MayAnswer c.args.gate.now) c.args.turns c.args.shared.now (sym e.keys i) (sym e.traces i) (sym e.taken i)
-    (sym e.stops i))
-    (have_left plan (g.G.Gate.MayAnswer c.args.gate.now) c.args.turns c.args.shared.now c.in_ok-left.left.items
-    (λ x. acts_of_grants edit_of (as_grants x.seen))
+    subst (λ x. x)
+    (λ i. HaveLeft plan (g.G.Gate.MayAnswer c.args.gate.now) c.args.turns c.args.shared.now (sym e.keys i) (sym e.traces i) (sym e.taken i) (sym e.stops i))
+    (have_left plan (g.G.Gate.MayAnswer c.args.gate.now) c.args.turns c.args.shared.now c.in_ok-left.left.items (λ x. acts_of_grants edit_of (as_grants x.seen))
     (λ x lawful. acts_as_grants edit_of x.seen (words_legal (tower_rules.allowed (opened x.start)) x.seen lawful)) c.in_ok-seats.seats.items
     (c.in_ok-seats.ensures ∙ c.requires.keys) its.count its.site its.owns its.left)
 

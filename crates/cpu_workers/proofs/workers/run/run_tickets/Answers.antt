@@ -42,10 +42,8 @@ returns g c =
     let its = c.in_ok-left.ensures in
     let plan = c.args.boot.now in
     subst (λ x. x) (λ i. HaveLeft plan (g.G.Gate.MayAnswer c.args.gate.now) c.args.turns c.args.shared.now (sym e.keys i) (sym e.traces i) (sym e.taken i)
-    (sym e.stops i))
-    (have_left plan (g.G.Gate.MayAnswer c.args.gate.now) c.args.turns c.args.shared.now c.in_ok-left.left.items (λ x. acts_of edit_of x.seen)
-    (λ x lawful. refl) c.in_ok-seats.seats.items
-    (c.in_ok-seats.ensures ∙ c.requires.keys) its.count its.site its.owns its.left)
+    (sym e.stops i)) (have_left plan (g.G.Gate.MayAnswer c.args.gate.now) c.args.turns c.args.shared.now c.in_ok-left.left.items (λ x. acts_of edit_of x.seen)
+    (λ x lawful. refl) c.in_ok-seats.seats.items (c.in_ok-seats.ensures ∙ c.requires.keys) its.count its.site its.owns its.left)
 
 pub run_over-requires-send-L : goal.run_over-requires-send-L
 run_over-requires-send-L g c = λ κs within.

@@ -33,5 +33,4 @@ loop-key-preserved g c =
 
 pub returns : goal.returns
 returns g c =
-    both_same c.args.keys.items c.loop-key.seats.items
-    (filled_all c.loop-key.invariant.seats c.loop-key.key-iterator.rest.ok.0 c.in-None.ensures.steps.0)
+    both_same c.args.keys.items c.loop-key.seats.items (filled_all c.loop-key.invariant.seats c.loop-key.key-iterator.rest.ok.0 c.in-None.ensures.steps.0)

@@ -17,8 +17,7 @@ all_apart-requires-clause-room g c =
 
 pub returns-clause-count : goal.returns-clause-count
 returns-clause-count g c =
-    both_length _ c.into_done.result.items c.all_apart.result.items c.all_apart.ensures
-    ∙ both_length _ c.in_ok-workers.workers.items c.into_done.result.items
+    both_length _ c.into_done.result.items c.all_apart.result.items c.all_apart.ensures ∙ both_length _ c.in_ok-workers.workers.items c.into_done.result.items
     (both_kept _ c.in_ok-workers.workers.items (ap (λ v. v.items) c.into_done.ensures) c.in_ok-came.ensures) ∙ c.in_ok-workers.ensures.count
 
 pub returns-clause-site : goal.returns-clause-site

@@ -13,8 +13,7 @@ pub at_boot-requires-clause-homes : goal.at_boot-requires-clause-homes
 at_boot-requires-clause-homes g c = c.requires.unused.homes ∙ sym (c.as_slice.ensures.value ∙ c.homes_of-homes.ensures)
 
 pub at_boot-requires-clause-buffers : goal.at_boot-requires-clause-buffers
-at_boot-requires-clause-buffers g c =
-    ap length c.requires.unused.caps ∙ sym (c.len-buffers.ensures.value ∙ ap length c.caps.ensures.caps)
+at_boot-requires-clause-buffers g c = ap length c.requires.unused.caps ∙ sym (c.len-buffers.ensures.value ∙ ap length c.caps.ensures.caps)
 
 pub at_boot-requires-clause-guests : goal.at_boot-requires-clause-guests
 at_boot-requires-clause-guests g c =

@@ -20,10 +20,8 @@ returns-clause-counted g c =
     let seen_is = g.met.L.Layer.seen_is c.requires.stepwise in
     let none = ap (sections_at NUMBER) (seen_is c.in_ok-machine.machine ∙ ap sections_in c.in_ok-machine.ensures.none) in
     let long = ap length c.as_mut_slice.ensures.value ∙ c.in_ok-parts.ensures.long in
-    sym (gives_are_sections NUMBER (g.L.Layer.acts c.rounds.new.machine))
-    ∙ ap (sections_at NUMBER) (sym (seen_is c.rounds.new.machine)) ∙ c.rounds.ensures.counted
-    ∙ ap (λ n. n + c.args.times * length c.as_mut_slice.result.now) none
-    ∙ zero-add _ ∙ ap (λ n. c.args.times * n) long
+    sym (gives_are_sections NUMBER (g.L.Layer.acts c.rounds.new.machine)) ∙ ap (sections_at NUMBER) (sym (seen_is c.rounds.new.machine))
+    ∙ c.rounds.ensures.counted ∙ ap (λ n. n + c.args.times * length c.as_mut_slice.result.now) none ∙ zero-add _ ∙ ap (λ n. c.args.times * n) long
 
 pub returns-clause-order : goal.returns-clause-order
 returns-clause-order g c =

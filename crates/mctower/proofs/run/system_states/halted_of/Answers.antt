@@ -15,5 +15,4 @@ loop-cpu-preserved g c =
     let at : 0 + c.loop-cpu.cpu ≡ c.loop-cpu.cpu = omega arith in
     let f : ℕ → Option Reason = λ n. halted_in (record { 0 = n }) c.args.system.now in
     c.push.ensures.items ∙ ap (λ l. l ++ c.halted.result ∷ []) c.loop-cpu.invariant
-    ∙ ap (λ r. listed f 0 c.loop-cpu.cpu ++ r ∷ []) (c.halted.ensures.is ∙ ap f (sym at)) ∙ sym (listed_more f c.loop-cpu.cpu 0)
-    ∙ ap (λ n. listed f 0 n) next
+    ∙ ap (λ r. listed f 0 c.loop-cpu.cpu ++ r ∷ []) (c.halted.ensures.is ∙ ap f (sym at)) ∙ sym (listed_more f c.loop-cpu.cpu 0) ∙ ap (λ n. listed f 0 n) next

@@ -4,8 +4,7 @@ use Rattle.{event_log.specs.{declared.entries.Entry.Entry, Messages.IsMessage}, 
 use Rattle.mctower.proofs.run.trace_texts.values_fit.Goals as goal
 
 -- the entry at a place
-at_place : (places : List (Bor Entry)) (k : ℕ) (p : Bor Entry) (d : Entry) → k < length places → p ≡ get_or places k p
-    → get_or (entries_in places) k d ≡ p.now
+at_place : (places : List (Bor Entry)) (k : ℕ) (p : Bor Entry) (d : Entry) → k < length places → p ≡ get_or places k p → get_or (entries_in places) k d ≡ p.now
 at_place [] k p d lt is = absurd (omega arith)
 at_place (q ∷ places) zero p d lt is = ap (λ (x : Bor Entry). x.now) (sym is)
 at_place (q ∷ places) (suc k) p d lt is = at_place places k p d (omega arith) is

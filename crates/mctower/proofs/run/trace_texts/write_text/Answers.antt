@@ -6,8 +6,7 @@ use Rattle.mctower.proofs.run.trace_texts.write_text.Goals as goal
 
 pub returns-in_err-order : goal.returns-in_err-order
 returns-in_err-order g c =
-    err_writes c.args.caps.now (traces_in c.args.traces.now) _ c.from_residual.result (from_gather c.in_err-order.field-0.0) _
-    c.from_residual.ensures.1
+    err_writes c.args.caps.now (traces_in c.args.traces.now) _ c.from_residual.result (from_gather c.in_err-order.field-0.0) _ c.from_residual.ensures.1
     (gather_refused (Unit {0}) c.args.caps.now (traces_in c.args.traces.now) _ c.in_err-order.field-0.0 _ c.requires.text (c.requires.live, refl)
     (λ is. c.in_err-order.ensures.none (ap Err is)))
 

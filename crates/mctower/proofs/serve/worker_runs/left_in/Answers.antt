@@ -16,6 +16,5 @@ loop-buffer-preserved c =
     let at : 0 + c.loop-buffer.buffer ≡ c.loop-buffer.buffer = omega arith in
     let f : ℕ → List Message = λ n. items_of_block c.args.report.now.blocks.items (buffer_at n) in
     ap (map (λ v. v.items)) c.push.ensures.items ∙ map-append (λ v. v.items) c.loop-buffer.left.items (c.items.result ∷ [])
-    ∙ ap (λ l. l ++ c.items.result.items ∷ []) c.loop-buffer.invariant
-    ∙ ap (λ r. listed f 0 c.loop-buffer.buffer ++ r ∷ []) (c.items.ensures ∙ ap f (sym at)) ∙ sym (listed_more f c.loop-buffer.buffer 0)
-    ∙ ap (λ n. listed f 0 n) next
+    ∙ ap (λ l. l ++ c.items.result.items ∷ []) c.loop-buffer.invariant ∙ ap (λ r. listed f 0 c.loop-buffer.buffer ++ r ∷ []) (c.items.ensures ∙ ap f (sym at))
+    ∙ sym (listed_more f c.loop-buffer.buffer 0) ∙ ap (λ n. listed f 0 n) next

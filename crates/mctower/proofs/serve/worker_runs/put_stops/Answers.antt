@@ -14,5 +14,4 @@ loop-c-preserved g c =
 pub returns-in_err-put_cpu-clause-out : goal.returns-in_err-put_cpu-clause-out
 returns-in_err-put_cpu-clause-out g c =
     let out = rw c.stop_word.ensures at c.in_err-put_cpu.ensures.out in
-    numbered_failed stop_pieces c.args.stops.now c.loop-c.c AllEnded _ _ _ _ c.loop-c-test.true c.loop-c.invariant.out
-    (sym c.in_err-put_cpu.ensures.failed) out
+    numbered_failed stop_pieces c.args.stops.now c.loop-c.c AllEnded _ _ _ _ c.loop-c-test.true c.loop-c.invariant.out (sym c.in_err-put_cpu.ensures.failed) out

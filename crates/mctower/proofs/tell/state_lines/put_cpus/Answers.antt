@@ -14,5 +14,4 @@ loop-c-preserved g c =
 pub returns-in_err-put_cpu-clause-out : goal.returns-in_err-put_cpu-clause-out
 returns-in_err-put_cpu-clause-out g c =
     let out = rw c.halted_word.ensures at c.in_err-put_cpu.ensures.out in
-    numbered_failed halted_pieces c.args.halted.now c.loop-c.c None _ _ _ _ c.loop-c-test.true c.loop-c.invariant.out
-    (sym c.in_err-put_cpu.ensures.failed) out
+    numbered_failed halted_pieces c.args.halted.now c.loop-c.c None _ _ _ _ c.loop-c-test.true c.loop-c.invariant.out (sym c.in_err-put_cpu.ensures.failed) out

@@ -58,8 +58,7 @@ returns-clause-seen g c =
     let Acts = λ (d : CpuId). S.ActsFor m d × S.IsWhole × IsOwned (λ e. S.ActsFor m e) (S.opening m) in
     let known = g.met.S.ThreadLayer.known n (S.cpu_of lower) (said.framed.stays.acts (S.cpu_of lower) (g.met.S.ThreadLayer.own_cpu lower m fits.0)) in
     subst (λ o. OthersSeen Acts (plain_entries_in (inner (S.opening m)) (buffer_sections (S.seen m))) (plain_entries_in (inner o) (buffer_sections (S.seen n))))
-    (sym said.framed.stays.opening)
-    (passed_seen (S.opening m) (λ d. S.ActsFor m d) (S.cpu_of lower) c.args.call c.pass.result (S.seen m) (S.seen n)
+    (sym said.framed.stays.opening) (passed_seen (S.opening m) (λ d. S.ActsFor m d) (S.cpu_of lower) c.args.call c.pass.result (S.seen m) (S.seen n)
     (S.own lower).threads (S.own c.pass.new.self).threads (record { all = fits.2.all; known = known; polled = said.seen }) Acts)
 
 pub returns-clause-passed : goal.returns-clause-passed
@@ -72,12 +71,10 @@ returns-clause-passed g c =
     let said = c.pass.ensures in
     let Acts = λ (d : CpuId). S.ActsFor m d × S.IsWhole × IsOwned (λ e. S.ActsFor m e) (S.opening m) in
     let known = g.met.S.ThreadLayer.known n (S.cpu_of lower) (said.framed.stays.acts (S.cpu_of lower) (g.met.S.ThreadLayer.own_cpu lower m fits.0)) in
-    at_viewed plain_shown (S.opening m) (λ homes. PassPolled homes Acts (S.cpu_of lower) c.args.call c.pass.result
-    (moves_in (sleep_kernel attempts (S.opening m)) (S.seen m)) (moves_in (sleep_kernel attempts (S.opening n)) (S.seen n)) (S.own lower).threads
-    (S.own c.pass.new.self).threads)
-    (subst (λ o. PassPolled (homes_in (S.opening m)) Acts (S.cpu_of lower) c.args.call c.pass.result
-    (moves_in (sleep_kernel attempts (S.opening m)) (S.seen m)) (moves_in (sleep_kernel attempts o) (S.seen n)) (S.own lower).threads
-    (S.own c.pass.new.self).threads)
-    (sym said.framed.stays.opening)
+    at_viewed plain_shown (S.opening m)
+    (λ homes. PassPolled homes Acts (S.cpu_of lower) c.args.call c.pass.result (moves_in (sleep_kernel attempts (S.opening m)) (S.seen m))
+    (moves_in (sleep_kernel attempts (S.opening n)) (S.seen n)) (S.own lower).threads (S.own c.pass.new.self).threads)
+    (subst (λ o. PassPolled (homes_in (S.opening m)) Acts (S.cpu_of lower) c.args.call c.pass.result (moves_in (sleep_kernel attempts (S.opening m)) (S.seen m))
+    (moves_in (sleep_kernel attempts o) (S.seen n)) (S.own lower).threads (S.own c.pass.new.self).threads) (sym said.framed.stays.opening)
     (passed_moves (S.opening m) (λ d. S.ActsFor m d) (S.cpu_of lower) c.args.call c.pass.result (S.seen m) (S.seen n)
     (S.own lower).threads (S.own c.pass.new.self).threads (record { all = fits.2.all; known = known; polled = said.seen }) Acts (λ d acts. acts.0)))

@@ -67,9 +67,8 @@ returns g c =
     record {
       nothing = λ none. let there = c.requires.there in absurd (omega (arith, none, there));
       called = λ there. subst (λ o. Called Acts (S.cpu_of lower) c.args.t call before states
-          (plain_entries_in (inner (S.opening m)) (buffer_sections (S.seen m))) (plain_entries_in (inner o) (buffer_sections (S.seen n))) answer)
-          (sym said.opening)
-          (done_called (S.opening m) (S.cpu_of lower) c.buffer.result c.attempt_in.result (S.seen m) (S.seen n) (S.own lower).threads
+          (plain_entries_in (inner (S.opening m)) (buffer_sections (S.seen m))) (plain_entries_in (inner o) (buffer_sections (S.seen n))) answer) (sym
+          said.opening) (done_called (S.opening m) (S.cpu_of lower) c.buffer.result c.attempt_in.result (S.seen m) (S.seen n) (S.own lower).threads
           (S.own c.whole-outcome.new.part) c.whole-outcome.result said.done Acts c.args.t call before states
           c.attempt_in.ensures c.buffer.ensures within c.requires.same fits.3.waits set answer answered);
       runs = search rules;
@@ -81,8 +80,7 @@ returns g c =
       prompt = λ whole none.
           let nothing = reply_none call effect (sym answered ∙ none) in (
             subst (λ o. IsRefused call (caps_in (viewed plain_shown (S.opening m))) (plain_entries_in (inner o) (buffer_sections (S.seen n))))
-                (sym said.opening)
-                (done_refused (S.opening m) (S.cpu_of lower) c.buffer.result c.attempt_in.result (S.seen m) (S.seen n) (S.own lower).threads
+                (sym said.opening) (done_refused (S.opening m) (S.cpu_of lower) c.buffer.result c.attempt_in.result (S.seen m) (S.seen n) (S.own lower).threads
                 (S.own c.whole-outcome.new.part) c.whole-outcome.result said.done c.args.t call
                 c.attempt_in.ensures c.buffer.ensures fits.2.fresh nothing),
             done_sleeps (S.opening m) (S.cpu_of lower) c.buffer.result c.attempt_in.result (S.seen m) (S.seen n) (S.own lower).threads

@@ -37,11 +37,9 @@ returns g c =
           (both_ok r (λ m. (inner (S.opening m) ≡ fresh_buffers caps) × (homes_in (S.opening m) ≡ homes))
           (λ m. (S.seen m ≡ []) × ((d : CpuId) → d.0 < c.args.cpus → IsSome (S.opening m (Pending d)))) _ it
           (both_ok r (λ m. S.seen m ≡ []) (λ m. (d : CpuId) → d.0 < c.args.cpus → IsSome (S.opening m (Pending d))) _ opens.seen opens.queues
-          (λ m one other. (one, other)))
-          (λ m one other. (one, other)))
+          (λ m one other. (one, other))) (λ m one other. (one, other)))
           (both_ok r (λ m. (d : CpuId) → d.0 < CPUS → S.ActsFor m d) (λ m. (d : CpuId) → S.IsOutside m d) _ opens.acts opens.outside
-          (λ m one other. (one, other)))
-          (λ m it may d within. (
+          (λ m one other. (one, other))) (λ m it may d within. (
             (may.0 d (omega (arith, within, cpus)), g.met.S.OpensAttempts.whole.0, record { all = may.0; fresh = fresh_read (S.opening m) caps it.0.0 few }),
             may.1 d,
             rw it.1.0 refl,

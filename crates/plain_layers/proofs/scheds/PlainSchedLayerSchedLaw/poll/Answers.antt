@@ -117,9 +117,8 @@ returns-in-Err-clause-seen g c =
     let fits = c.requires.fits in
     let K = kernel g.E.SplitEdit.rules g.E.Moves.moves (opening_of m.opening) in
     subst (λ o. SchedPolled K (Acts g at.Start) self.cpu (call_of g at.Start) (Some Done) (calls_in m) (calls_in m) self.own o)
-    (sym (passed g at.After-pass_locally))
-    (local_polled _ _ _ g.met.E.Moves.wakes_sleepers fits.1.starts fits.1.lawful fits.2 (call_of g at.Start) c.requires.call (is_local g at.In-Err)
-    (Acts g at.Start))
+    (sym (passed g at.After-pass_locally)) (local_polled _ _ _ g.met.E.Moves.wakes_sleepers fits.1.starts fits.1.lawful fits.2 (call_of g at.Start)
+    c.requires.call (is_local g at.In-Err) (Acts g at.Start))
 
 -- a call that is one at the shared queues
 
@@ -174,6 +173,5 @@ returns-in-Ok-clause-seen g c =
     let fits = c.requires.fits in
     let done = at.After-done-answer in
     subst₂ (λ a x. SchedPolled (K g done) (Acts g at.Start) self.cpu (call_of g at.Start) (Some a) (calls_in c.args.m.now) (calls_in c.done-answer.new.self)
-    self.own x) (sym c.take_answer.ensures.answer) (sym (taken g at.After-take_answer))
-    (done_polled _ _ _ g.met.E.Moves.wakes_sleepers fits.1.starts fits.1.lawful fits.2 (call_of g at.Start) c.requires.call (step_of g at.In-Ok)
-    (is_shared g at.In-Ok) (fits.0, fits.1) (polled g done) (legal g done))
+    self.own x) (sym c.take_answer.ensures.answer) (sym (taken g at.After-take_answer)) (done_polled _ _ _ g.met.E.Moves.wakes_sleepers fits.1.starts
+    fits.1.lawful fits.2 (call_of g at.Start) c.requires.call (step_of g at.In-Ok) (is_shared g at.In-Ok) (fits.0, fits.1) (polled g done) (legal g done))

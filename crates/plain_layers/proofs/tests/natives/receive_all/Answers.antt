@@ -28,9 +28,7 @@ loop-i-preserved g c =
     }
 
 pub returns-in-None-clause-taken : goal.returns-in-None-clause-taken
-returns-in-None-clause-taken g c =
-    c.loop-i.invariant.taken ∙ sym (taken_same c.loop-i.caller c.recv.new.self RecvClosed no_message c.in-None.ensures refl)
+returns-in-None-clause-taken g c = c.loop-i.invariant.taken ∙ sym (taken_same c.loop-i.caller c.recv.new.self RecvClosed no_message c.in-None.ensures refl)
 
 pub returns-in-None-clause-sent : goal.returns-in-None-clause-sent
-returns-in-None-clause-sent g c =
-    sent_same c.loop-i.caller c.recv.new.self RecvClosed no_message c.in-None.ensures refl ∙ c.loop-i.invariant.sent
+returns-in-None-clause-sent g c = sent_same c.loop-i.caller c.recv.new.self RecvClosed no_message c.in-None.ensures refl ∙ c.loop-i.invariant.sent

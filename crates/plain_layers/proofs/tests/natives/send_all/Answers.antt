@@ -28,9 +28,7 @@ loop-i-preserved g c =
     }
 
 pub returns-in-Err-clause-sent : goal.returns-in-Err-clause-sent
-returns-in-Err-clause-sent g c =
-    c.loop-i.invariant.sent ∙ sym (sent_same c.loop-i.caller c.send.new.self SendClosed c.one-message.result c.in-Err.ensures refl)
+returns-in-Err-clause-sent g c = c.loop-i.invariant.sent ∙ sym (sent_same c.loop-i.caller c.send.new.self SendClosed c.one-message.result c.in-Err.ensures refl)
 
 pub returns-in-Err-clause-taken : goal.returns-in-Err-clause-taken
-returns-in-Err-clause-taken g c =
-    taken_same c.loop-i.caller c.send.new.self SendClosed c.one-message.result c.in-Err.ensures refl ∙ c.loop-i.invariant.taken
+returns-in-Err-clause-taken g c = taken_same c.loop-i.caller c.send.new.self SendClosed c.one-message.result c.in-Err.ensures refl ∙ c.loop-i.invariant.taken

@@ -11,8 +11,7 @@ pub new-requires-clause-tabled : goal.new-requires-clause-tabled
 new-requires-clause-tabled g c =
     let r = c.requires in
     let e = c.in-Ok.ensures in
-    tabled_over r.guests e.booted r.homes e.own e.under_way
-    (g.met.I.CallLayer.opens r.stepwise c.args.machine c.args.homes.now c.args.number r.fresh)
+    tabled_over r.guests e.booted r.homes e.own e.under_way (g.met.I.CallLayer.opens r.stepwise c.args.machine c.args.homes.now c.args.number r.fresh)
 
 pub returns-in-Ok-clause-boots : goal.returns-in-Ok-clause-boots
 returns-in-Ok-clause-boots g c =

@@ -1,8 +1,9 @@
-use Rattle.std.proofs.Common.{rules, ap, sym, ◌∙◌, arith}
+use Rattle.std.proofs.Common.{◌<◌, rules, ap, sym, ◌∙◌, subst, arith}
 use Rattle.{event_log.{specs.{declared.ids.CpuId.CpuId, Actions.phase}, proofs.Renaming.phase_renamed}, layer_traits.specs.Polling.Plans.is_in_section}
 use Rattle.{layer_traits.specs.Blocks.{Capacities.caps_in, QueueBlocks.homes_in}, cpu.{specs.Tower.Views.name_of, proofs.StepTable.TableRows.halted_same}}
 use Rattle.cpu.proofs.{CpuSteps.CpuRuns.runs_agree, OverLayer.CpuOverLayer.{laws_of, layered, runs_within, tabled_cpu}}
-use Rattle.cpu_workers.{specs.Working.TookTurns, proofs.{Planning.table_planned, RunsOfTurns.{opens_same, stops_still, turns_of}}}
+use Rattle.{cpu.specs.Table.Setups.Setup, cpu_workers.specs.Working.{IsPlanned, MayStep, TookTurns, Working}}
+use Rattle.cpu_workers.proofs.{Planning.table_planned, RunsOfTurns.{opens_same, stops_as_told, turns_of}}
 use Rattle.cpu_workers.proofs.workers.worker.Worker.turns.Goals as goal
 
 pub reason-requires : goal.reason-requires
@@ -57,5 +58,6 @@ returns-then-is_some-clause-some g c =
     let cpu = layered (laws_of law) m p (record { fits = is.fits; number = is.number; is = is.is; table = λ step. is.tabled }) in
     let busy = law.busy p.part m is.fits is.stepwise
     ∙ (ap (λ (d : CpuId). is_in_section (phase d (I.acts m))) is.number ∙ ap is_in_section (sym (phase_renamed name_of p.number (I.acts m)))) in
-    rw (← c.self.view_is) (λ setup of may. stops_still _ _ _ _ _ busy (halted_same (tabled_cpu cpu is.stepwise) setup
+    subst (λ (w : Working). (setup : Setup) → IsPlanned setup w.plan → MayStep setup w → 0 < 0) c.self.view_is
+    (λ setup of may. stops_as_told I m p setup busy (halted_same (tabled_cpu cpu is.stepwise) setup
     (table_planned setup (homes_in (I.opening m)) (caps_in (I.opening m)) p.guests.items p.limit of)) c.reason.ensures (sym c.if-is_some.ensures) may)
