@@ -1,5 +1,6 @@
 pub mod TableLemmas
 pub mod KernelLemmas
+pub mod QLockLemmas
 pub mod WholeLemmas
 pub mod FifoLemmas
 pub mod LockOwnerLemmas

@@ -1,6 +1,7 @@
 pub mod Tables
 pub mod Kernels
 pub mod KernelParts
+pub mod QLocks
 pub mod Attempts
 pub mod Wholes
 pub mod Fifos

@@ -19,6 +19,8 @@ mod ipcs;
 mod kernel;
 mod lock_table;
 mod locks;
+mod qlock_edits;
+mod qlocks;
 mod queues;
 mod scheds;
 mod sleepers;
@@ -32,11 +34,11 @@ pub use ipcs::{PlainIpc, ipc_is_whole};
 pub use kernel::{Lists, Opening, PlainKernel};
 pub use lock_table::{LockTable, Noted};
 pub use locks::PlainLock;
+pub use qlock_edits::{PlainQBlock, PlainQEdit, plain_locks};
+pub use qlocks::{PlainQLock, Unanswered, lock_is_whole};
 pub use queues::PlainQueues;
 pub use scheds::PlainSched;
-pub use sleepers::{
-    PlainCond, PlainQLock, PlainSleep, cond_is_whole, lock_is_whole, sleep_is_whole,
-};
+pub use sleepers::{PlainCond, PlainSleep, cond_is_whole, sleep_is_whole};
 pub use wholes::whole;
 
 #[cfg(test)]

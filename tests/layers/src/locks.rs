@@ -1,5 +1,5 @@
-//! Queuing locks and conditions over ticket locks and over one-step schedulers: a lock is handed from owner to owner; a wait frees its lock, and is
-//! over once the thread was woken.
+//! Queuing locks and conditions over ticket locks and over one-step schedulers, and the one-step queuing lock: a lock is handed from owner to owner;
+//! a wait frees its lock, and is over once the thread was woken.
 
 use crate::openings::{Opens, TICKET_POLLS, TicketSched};
 use condvar::Cond;
@@ -8,7 +8,7 @@ use layer_traits::{
     BufferCall, CvEdit, CvLaw, CvLeave, CvOut, Guarded, Outcome, OwnedThreadLayer, Parcel, Pass,
     Payload, QEdit, QLockLaw, QOut, Side, SleeperLaw, WaitList,
 };
-use plain_layers::PlainSched;
+use plain_layers::{PlainKernel, PlainQEdit, PlainQLock, PlainSched, plain_locks};
 use queuing_lock::{QLock, QLockEdit, lock_blocks};
 use sleep_wakeup::{SleepEdit, Sleeper, sleep_blocks};
 use std::alloc::Global;
@@ -198,6 +198,14 @@ fn machine<S: Opens<SleepEdit<Calls>>>(alloc: Global) -> Result<S::Machine, NoMe
     S::open(alloc, sleep_blocks(alloc, locked)?, 3, &HOMES, 60)
 }
 
+/// The same of one-step queuing locks.
+fn plain_machine(
+    alloc: Global,
+) -> Result<PlainKernel<PlainQEdit<CvEdit<Reads>, CvLeave>>, NoMemory> {
+    let locks = plain_locks(alloc, vec![in alloc; T0]?)?;
+    PlainKernel::open(alloc, locks, 3, &HOMES, 60)
+}
+
 /// The seat of a CPU at boot, whose thread runs.
 fn seat<L: Locking, Q: OwnedThreadLayer<L>>(
     rt: &impl Abort,
@@ -330,5 +338,25 @@ fn a_machine_tells_of_its_lock(rt: HostRuntime) -> Result<(), Fail> {
     type S = TicketSched<SleepEdit<Calls>>;
     is_told::<_, Locks<S>>(&rt, &mut machine::<S>(rt.alloc())?, TICKET_POLLS);
     is_told::<_, Cond<Locks<S>>>(&rt, &mut machine::<S>(rt.alloc())?, TICKET_POLLS);
+    Ok(())
+}
+
+#[test]
+fn a_lock_of_plain_data_is_handed_on(rt: HostRuntime) -> Result<(), Fail> {
+    type Q = PlainQLock<CvEdit<Reads>>;
+    is_handed_on::<_, Q>(&rt, &mut plain_machine(rt.alloc())?, 1);
+    is_handed_on::<_, Cond<Q>>(&rt, &mut plain_machine(rt.alloc())?, 1);
+    is_woken::<Cond<Q>>(&rt, &mut plain_machine(rt.alloc())?, 1);
+    let mut m = plain_machine(rt.alloc())?;
+    let mut zero: Seat<Q> = seat(&rt, &mut m, 0, 1);
+    assert_eq!(&rt; section(&mut zero, &mut m, Does::Acquires), Seen::Acquired);
+    assert_eq!(&rt; section(&mut zero, &mut m, Does::Reads), Seen::Read(T0));
+    assert_eq!(&rt; Q::block_in(&m, B), Some(&T0));
+    assert_eq!(&rt; Q::pends_in(&m, CpuId(1), T0), Some(false));
+    assert_eq!(&rt; zero.part.block_here(B), None);
+    assert_eq!(&rt; zero.part.owner_here(B), None);
+    assert!(&rt; zero.part.wait_list_here(B, T0).is_none());
+    assert_eq!(&rt; zero.part.pends_here(CpuId(1), T0), None);
+    assert!(&rt; !zero.part.is_busy() && !zero.part.look(&mut m));
     Ok(())
 }

@@ -1,0 +1,279 @@
+//! What the calls of a one-step queuing lock do, as edits of plain data. No call takes memory or
+//! waits.
+
+ghost use Rattle.std.specs.Prelude.{◌≡◌, IfOk, is_some, map};
+ghost use Rattle.layer_traits.specs.{declared.locked.Side.TheVariants.{Receivers, Senders}, Layers.QLocking.{list_with_waiter, lock_asked_by, signalled}};
+ghost use Rattle.layer_traits.specs.Layers.{QLocking.{wait_list_asked, wait_list_for, waiting_without, lock_answer, lock_edited}, Sleeping.joined};
+ghost use Rattle.{layer_traits.specs.{Views.Owned.wait_list_under, Blocks.Payloads.{lock_meant, lock_told, outcome_told}}, plain_layers.specs.QLocks.at_rest};
+ghost use Rattle.plain_layers.specs.QLocks.{lock_in};
+
+use event_log::{NoMemory, THREADS, Tid};
+use layer_traits::{
+    Locked, Moves, Outcome, Payload, QEdit, QOut, Side, SplitEdit, WaitList, WakeWaiter,
+};
+use std::alloc::Global;
+use std::marker::Model;
+use thread_blocks::ThreadQueue;
+
+/// A queuing lock as plain data: its owner, who waits at it, each first in front, and what it
+/// guards.
+#[derive(Drop)]
+pub struct PlainQBlock<B> {
+    owner: Option<Tid>,
+    sleepers: ThreadQueue,
+    receivers: ThreadQueue,
+    senders: ThreadQueue,
+    above: B,
+}
+
+impl<B> Model for PlainQBlock<B> {
+    ghost use Rattle.{queuing_lock.specs.declared.edits.QBlock.QBlock, sleep_wakeup.specs.declared.edits.SleepBlock.SleepBlock};
+
+    ghost Value = { SleepBlock (QBlock B) };
+
+    ghost view = { λ lock. record {
+      sleepers = lock.sleepers;
+      receivers = lock.receivers;
+      senders = lock.senders;
+      above = record { busy = lock.owner; above = lock.above };
+    } };
+}
+
+impl<B> PlainQBlock<B> {
+    /// What the lock guards.
+    pub(crate) fn above(&self) -> &B
+        ensures { result.now ≡ self.now.above.above }
+    {
+        &self.above
+    }
+
+    /// Who owns the lock; `None` where nobody does.
+    pub(crate) fn owner(&self) -> Option<Tid>
+        ensures { result ≡ self.now.above.busy }
+    {
+        self.owner
+    }
+
+    /// The list in which `t` waits; `None` where it waits in none.
+    pub(crate) fn wait_list(&self, t: Tid) -> Option<WaitList>
+        ensures { result ≡ wait_list_under t (lock_in self.now) }
+    {
+        if self.sleepers.contains(t) {
+            return Some(WaitList::Sleepers);
+        }
+        if self.receivers.contains(t) {
+            return Some(WaitList::Receivers);
+        }
+        if self.senders.contains(t) {
+            return Some(WaitList::Senders);
+        }
+        None
+    }
+}
+
+/// The locks at boot, in the order of what they guard: nobody owns one or waits at one.
+///
+/// Errors: `NoMemory` where there is none for them; then what they guard is gone.
+pub fn plain_locks<B: Drop>(alloc: Global, blocks: Vec<B>) -> Result<Vec<PlainQBlock<B>>, NoMemory>
+    ensures { IfOk result (λ made. made.items ≡ map at_rest blocks.items) }
+{
+    let mut made = Vec::with_capacity(alloc, blocks.len())?;
+    for above in blocks {
+        made.push(PlainQBlock {
+            owner: None,
+            sleepers: ThreadQueue::new(),
+            receivers: ThreadQueue::new(),
+            senders: ThreadQueue::new(),
+            above,
+        })
+        .unwrap();
+    }
+    Ok(made)
+}
+
+/// A call on a queuing lock, as an edit of the lock.
+#[derive(Drop)]
+pub struct PlainQEdit<F, R> {
+    call: QEdit<F, R>,
+}
+
+impl<F, R> Model for PlainQEdit<F, R> {
+    ghost use Rattle.{queuing_lock.specs.declared.edits.QLockEdit.QLockEdit, sleep_wakeup.specs.declared.edits.SleepEdit.SleepEdit};
+
+    ghost Value = { SleepEdit (QLockEdit F R) };
+
+    ghost view = { λ edit. record { edit = record { edit = edit.call } } };
+}
+
+/// Puts `t` at the end of a list, if it is a thread that a machine may have and does not stand there
+/// yet.
+fn join(queue: &mut ThreadQueue, t: Tid)
+    ensures { queue.new ≡ joined t queue.old }
+{
+    if usize::from(t.0) < THREADS && !queue.contains(t) {
+        queue.push(t);
+    }
+}
+
+/// Gives the lock to `t` where nobody owns it. Else `t` waits for it; returns whether it does.
+fn ask<B>(lock: &mut PlainQBlock<B>, t: Tid) -> bool
+    ensures lock { lock_in lock.new ≡ lock_asked_by t lock.old.above.busy (lock_in lock.old) }
+    ensures waits { result ≡ is_some (wait_list_asked lock.old.above.busy) }
+{
+    if lock.owner.is_none() {
+        lock.owner = Some(t);
+        return false;
+    }
+    join(&mut lock.sleepers, t);
+    true
+}
+
+/// Takes whom an edit signals out of its list, and returns it if it stood there.
+fn wake(signal: WakeWaiter, receivers: &mut ThreadQueue, senders: &mut ThreadQueue) -> Option<Tid>
+    ensures woke { result ≡ signalled signal receivers.old senders.old }
+    ensures receivers { receivers.new ≡ waiting_without Receivers signal receivers.old }
+    ensures senders { senders.new ≡ waiting_without Senders signal senders.old }
+{
+    match signal {
+        WakeWaiter::Nobody => None,
+        WakeWaiter::Receiver(u) => {
+            if receivers.remove(u) {
+                return Some(u);
+            }
+            None
+        }
+        WakeWaiter::Sender(u) => {
+            if senders.remove(u) {
+                return Some(u);
+            }
+            None
+        }
+    }
+}
+
+/// Puts `t` at the end of the list of its side, if it waits on one.
+fn wait(side: Option<Side>, t: Tid, receivers: &mut ThreadQueue, senders: &mut ThreadQueue)
+    ensures receivers { receivers.new ≡ list_with_waiter Receivers side t receivers.old }
+    ensures senders { senders.new ≡ list_with_waiter Senders side t senders.old }
+{
+    match side {
+        None => {}
+        Some(Side::Receivers) => join(receivers, t),
+        Some(Side::Senders) => join(senders, t),
+    }
+}
+
+/// The list of those that wait on a side.
+fn list_of(side: Option<Side>) -> Option<WaitList>
+    ensures { result ≡ wait_list_for side }
+{
+    match side {
+        None => None,
+        Some(Side::Receivers) => Some(WaitList::Receivers),
+        Some(Side::Senders) => Some(WaitList::Senders),
+    }
+}
+
+/// Does a call on a lock.
+fn apply<F: Locked>(
+    handed: &QEdit<F::Handed, F::Release>,
+    block: &mut PlainQBlock<F::Block>,
+    payload: &mut Payload,
+) -> Outcome<QOut<F::Brought>>
+    ensures lock { lock_in block.new ≡ lock_edited F.rules (lock_meant F.meant handed.now payload.old.parcel) (lock_in block.old) }
+    ensures answer { outcome_told (lock_told F.told) result payload.new.parcel
+        ≡ lock_answer F.rules (lock_meant F.meant handed.now payload.old.parcel) (lock_in block.old) }
+{
+    match handed {
+        QEdit::Acquire(t) => {
+            let slept = ask(block, *t);
+            let out = if slept { QOut::Queued } else { QOut::Acquired };
+            Outcome {
+                out,
+                slept,
+                woke: None,
+            }
+        }
+        QEdit::Inside(edit) => {
+            let out = F::apply_handed(edit, &mut block.above, &mut payload.parcel);
+            let woke = wake(F::signals(&out), &mut block.receivers, &mut block.senders);
+            Outcome {
+                out: QOut::Did(out),
+                slept: false,
+                woke,
+            }
+        }
+        QEdit::Release(last) => {
+            let t = F::last_caller(*last);
+            let out = F::apply_last(*last, &mut block.above);
+            let side = F::waits(&out);
+            wait(side, t, &mut block.receivers, &mut block.senders);
+            // Who waits longest owns the lock from now on; where nobody waits it is free.
+            let woke = block.sleepers.pop();
+            block.owner = woke;
+            Outcome {
+                out: QOut::Released(out),
+                slept: side.is_some(),
+                woke,
+            }
+        }
+    }
+}
+
+impl<F: Locked> SplitEdit for PlainQEdit<F, F::Release> {
+    ghost use Rattle.plain_layers.specs.QLocks.{plain_meant, plain_lock_rules, plain_told};
+
+    type Block = PlainQBlock<F::Block>;
+
+    type Out = Outcome<QOut<F::Out>>;
+
+    type Handed = QEdit<F::Handed, F::Release>;
+
+    type Brought = Outcome<QOut<F::Brought>>;
+
+    ghost rules = { plain_lock_rules F.rules };
+
+    ghost meant = { plain_meant F.meant };
+
+    ghost told = { plain_told F.told };
+
+    fn whole(
+        handed: &QEdit<F::Handed, F::Release>,
+        payload: &Payload,
+    ) -> PlainQEdit<F, F::Release> {
+        let call = match handed {
+            QEdit::Acquire(t) => QEdit::Acquire(*t),
+            QEdit::Inside(edit) => QEdit::Inside(F::whole(edit, &payload.parcel)),
+            QEdit::Release(last) => QEdit::Release(*last),
+        };
+        PlainQEdit { call }
+    }
+
+    fn apply_handed(
+        handed: &QEdit<F::Handed, F::Release>,
+        block: &mut PlainQBlock<F::Block>,
+        payload: &mut Payload,
+    ) -> Outcome<QOut<F::Brought>> {
+        apply::<F>(handed, block, payload)
+    }
+}
+
+impl<F: Locked> Moves for PlainQEdit<F, F::Release> {
+    ghost use Rattle.{queuing_lock.specs.Nested.busy_rules, sleep_wakeup.specs.Laws.NestedLaws.nested_wakes, plain_layers.specs.QLocks.plain_lock_moves};
+
+    ghost moves = { plain_lock_moves F.rules };
+
+    fn slept(brought: &Outcome<QOut<F::Brought>>) -> Option<WaitList> {
+        match &brought.out {
+            QOut::Acquired | QOut::Did(_) => None,
+            QOut::Queued => Some(WaitList::Sleepers),
+            QOut::Released(last) => list_of(F::waits(last)),
+        }
+    }
+
+    fn woke(brought: &Outcome<QOut<F::Brought>>) -> Option<Tid> {
+        brought.woke
+    }
+
+    ghost wakes_sleepers = { nested_wakes (busy_rules F.rules) };
+}
