@@ -1,9 +1,10 @@
 use Rattle.std.proofs.Common.{◌≡◌, refl, sym, ◌∙◌, subst, arith}
 use Rattle.{event_log.specs.{Grants.{acts_of_grants, grant_lock_phase}, WordsLog.Idle}, layer_traits.specs.Protocols.{OneLock.opened, WordsProtocol.edit_of}}
 use Rattle.layer_traits.{specs.{Protocols.AsGrants.as_grants, Threads.OnePlace.cpu_at, Laws.AsGrants.acts_as_grants}, proofs.Seen.words_legal}
-use Rattle.cpu_workers.{specs.{Closing.tower_rules, Seating.{HaveLeft, OpensPlan}}, proofs.{Crossing.{tower_seat_send, turn_send}, SeatViews.have_left}}
+use Rattle.cpu_workers.{specs.{Closing.tower_rules, Seating.{HaveLeft, OpensPlan}}, proofs.{Crossing.{seated_sync, tower_seat_send, turn_send}, SeatViews.have_left}}
 use Rattle.cpu_workers.proofs.{SeatViews.ready_at, TableKeys.{left_fit, seat_views_are_of}}
-use denote.Param.Send.{param_send, arg_send}
+use denote.Exit.{yes}
+use denote.Param.Send.{param_send, param_sync, given_sync, arg_send, arg_sync}
 use Rattle.cpu_workers.proofs.workers.run.run_grants.Lts as lts
 use Rattle.cpu_workers.proofs.workers.run.run_grants.Goals as goal
 
@@ -55,3 +56,8 @@ run_over-requires-send-L g c = λ κs within.
 pub run_over-requires-send-L-Machine : goal.run_over-requires-send-L-Machine
 run_over-requires-send-L-Machine g c = λ κs within.
     param_send _ (lts.arg-10-3 g.row.G g.row.R g.G.laws g.R.laws g.G.Gate-dict g.R.Threads-dict g.R.Wait-dict κs) (search (arg_send, tower_seat_send))
+
+pub run_over-requires-sync-G : goal.run_over-requires-sync-G
+run_over-requires-sync-G g c = λ κs within.
+    param_sync _ (lts.arg-10-1 g.row.G g.row.R g.G.laws g.R.laws g.G.Gate-dict g.R.Threads-dict g.R.Wait-dict κs)
+    (arg_sync _ yes _ (seated_sync _ _ _ _ (given_sync _ _ c.type_bounds.sync-G)))
