@@ -6,7 +6,7 @@ use condvar::Cond;
 use event_log::{BufId, CpuId, NoMemory, Tid};
 use layer_traits::{
     BufferCall, CvEdit, CvLaw, CvLeave, CvOut, Guarded, Outcome, OwnedThreadLayer, Parcel, Pass,
-    Payload, QEdit, QLockLaw, QOut, Side, SleeperLaw, WaitList,
+    Payload, QEdit, QLockLaw, QOut, Side, SleeperLaw, ThreadLayer, WaitList,
 };
 use plain_layers::{PlainKernel, PlainQEdit, PlainQLock, PlainSched, plain_locks};
 use queuing_lock::{QLock, QLockEdit, lock_blocks};

@@ -1,8 +1,8 @@
 use Rattle.std.proofs.Common.{◌≡◌, refl, sym, ◌∙◌, subst, arith}
 use Rattle.{event_log.specs.{Grants.{acts_of_grants, grant_lock_phase}, WordsLog.Idle}, layer_traits.specs.Protocols.{OneLock.opened, WordsProtocol.edit_of}}
 use Rattle.layer_traits.{specs.{Protocols.AsGrants.as_grants, Threads.OnePlace.cpu_at, Laws.AsGrants.acts_as_grants}, proofs.Seen.words_legal}
-use Rattle.cpu_workers.{specs.{Closing.tower_rules, Seating.{HaveLeft, OpensPlan}}, proofs.{Crossing.{seated_sync, tower_seat_send, turn_send}, SeatViews.have_left}}
-use Rattle.cpu_workers.proofs.{SeatViews.ready_at, TableKeys.{left_fit, seat_views_are_of}}
+use Rattle.cpu_workers.{specs.{Closing.tower_rules, Seating.{HaveLeft, OpensPlan}}, proofs.Crossing.{seated_sync, tower_seat_send, turn_send}}
+use Rattle.cpu_workers.proofs.{SeatViews.{have_left, ready_at}, TableKeys.{left_fit, seat_views_are_of}}
 use denote.Exit.{yes}
 use denote.Param.Send.{param_send, param_sync, given_sync, arg_send, arg_sync}
 use Rattle.cpu_workers.proofs.workers.run.run_grants.Lts as lts

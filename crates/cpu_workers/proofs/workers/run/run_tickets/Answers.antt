@@ -59,4 +59,5 @@ run_over-requires-send-L-Machine g c = λ κs within.
 pub run_over-requires-sync-G : goal.run_over-requires-sync-G
 run_over-requires-sync-G g c = λ κs within.
     param_sync _ (lts.arg-10-1 g.row.K g.row.G g.row.R g.K.laws g.G.laws g.R.laws g.K.PlanWords g.K.PlanWords-dict g.K.TableWords g.K.TableWords-dict g.G.Gate
-    g.G.Gate-dict g.R.Threads g.R.Threads-dict g.R.Wait g.R.Wait-dict g.K.Destruct-dict κs) (arg_sync _ yes _ (seated_sync _ _ _ _ (given_sync _ _ c.type_bounds.sync-G)))
+    g.G.Gate-dict g.R.Threads g.R.Threads-dict g.R.Wait g.R.Wait-dict g.K.Destruct-dict κs)
+    (arg_sync _ yes _ (seated_sync _ _ _ _ (given_sync _ _ c.type_bounds.sync-G)))
