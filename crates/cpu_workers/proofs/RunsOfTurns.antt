@@ -1,8 +1,8 @@
 -- A run of a worker's CPU is turns of the worker, one behind the other.
 use Rattle.std.proofs.Common.{◌≡◌, ℕ, ◌<◌, Bool, true, Option, is_some, refl, ◌∙◌, subst, arith}
-use Rattle.{layer_traits.specs.{Blocks.{Capacities.caps_in, QueueBlocks.homes_in}, declared.call_layers.CallLayer.Ghosts}, cpu.specs.Table.Steps.{cpu_step, halted_at}}
-use Rattle.{layer_traits.specs.{declared.steps.{Reason.Reason, Step.TheVariants.Stepped}, Polling.Plans.is_in_section, Views.OwnParts.threads_in}}
-use Rattle.{event_log.specs.{declared.ids.CpuId.CpuId, Actions.phase}, cpu.specs.Table.Setups.Setup}
+use Rattle.layer_traits.specs.{Blocks.{Capacities.caps_in, QueueBlocks.homes_in}, declared.{call_layers.CallLayer.Ghosts, steps.Reason.Reason}}
+use Rattle.layer_traits.specs.{declared.steps.Step.TheVariants.Stepped, Polling.Plans.is_in_section, Views.OwnParts.threads_in}
+use Rattle.{event_log.specs.{declared.ids.CpuId.CpuId, Actions.phase}, cpu.specs.Table.{Setups.Setup, Steps.{cpu_step, halted_at}}}
 use Rattle.cpu.specs.{declared.cpus.Cpu.Cpu, CpuSteps.{AgreesAt, RunsAt, stops_at}, Cpus.{cpu_halted_at, programs_of, reason_in}, Tables.private}
 use Rattle.cpu.specs.Tower.Composed.{busy_step_answer, named}
 use Rattle.{cpu.proofs.CpuSteps.CpuRuns.runs_agree, cpu_workers.{specs.Working.{MayStep, TookTurns, Working}, proofs.Planning.{step_behind, table_planned}}}
