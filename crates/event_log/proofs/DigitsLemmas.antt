@@ -157,3 +157,8 @@ short_stays_below text i n r h few is =
 pub digits_spelled : (text : List ℕ) (count : ℕ) → all_ascii_digits (take count text) ≡ true → length text ≤ count → 0 < length text
     → (get_or text 0 0 ≡ 48 → length text ≡ 1) → IsSpelled text
 digits_spelled text count digits end some lead = record { digits = rw take_all at digits; some = some; lead = lead }
+
+-- the lemmas by which the answers of readers of numbers are found
+pub ruleset one_spelling = (number_to-decimal, number_to-spelling)
+
+pub ruleset early_answers = (nat_tests, number_to-empty, number_to-leading_zero)

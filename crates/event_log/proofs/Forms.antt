@@ -31,14 +31,11 @@ history_from_log May log lawful = from_splits May (reverse log) (λ later e past
     subst (λ h. May h e) (reverse-reverse past) (lawful (reverse past) e (reverse later) back))
 
 -- an event that may follow a lawful log makes it a longer one
-pub log_push : {E : Type 0} (May : List E → E → Type 0) (log : List E) (e : E)
-    → IsLawfulLog May log → May (reverse log) e → IsLawfulLog May (log ++ (e ∷ []))
-log_push May log e lawful may =
-    log_from_history May (log ++ (e ∷ [])) (rw (reverse-append log (e ∷ [])) (may, history_from_log May log lawful))
+pub log_push : {E : Type 0} (May : List E → E → Type 0) (log : List E) (e : E) → IsLawfulLog May log → May (reverse log) e → IsLawfulLog May (log ++ (e ∷ []))
+log_push May log e lawful may = log_from_history May (log ++ (e ∷ [])) (rw (reverse-append log (e ∷ [])) (may, history_from_log May log lawful))
 
 -- the newest event of a lawful log may follow the rest of it
-pub log_last : {E : Type 0} (May : List E → E → Type 0) (log : List E) (e : E)
-    → IsLawfulLog May (log ++ (e ∷ [])) → IsLawfulLog May log × May (reverse log) e
+pub log_last : {E : Type 0} (May : List E → E → Type 0) (log : List E) (e : E) → IsLawfulLog May (log ++ (e ∷ [])) → IsLawfulLog May log × May (reverse log) e
 log_last May log e lawful =
     let parts = rw (reverse-append log (e ∷ [])) at (history_from_log May (log ++ (e ∷ [])) lawful) in
     (log_from_history May log parts.1, parts.0)

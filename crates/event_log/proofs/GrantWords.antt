@@ -62,8 +62,7 @@ served_is_latest given spot ticket word held k served is at le lt same holds = o
 
 -- a waiter near the front reads its spot plus 1 exactly where it is served
 pub served_exactly : (given spot ticket word held : ℕ) → given ≤ spot → spot < given + CPUS → ticket ≡ spot % 2 ^ 64 → word ≡ ticket % CPUS
-    → WordFits word given held
-    → (held == (ticket + 1) % 2 ^ 64) ≡ (given == spot)
+    → WordFits word given held → (held == (ticket + 1) % 2 ^ 64) ≡ (given == spot)
 served_exactly given spot ticket word held ahead close is at fits = grind (arith, eqb_same, within_or_past, latest_is_served, served_is_latest)
 
 pub fits_after : (word given ticket held : ℕ) → word < CPUS → ticket ≡ given % 2 ^ 64 → WordFits word given held
@@ -89,8 +88,7 @@ inside_is_served name cpu lock ticket past legal acts inside =
 
 -- in a legal log each grant word holds what the number of gives says
 pub words_fit : {M N : Type 0} (name : M → N) (lock : LockId) (word : ℕ) → word < CPUS → (log : List (GrantEvent M)) → IsLegalGrants log
-    → AreLegal (acts_of_grants name log)
-    → WordFits word (gives lock (acts_of_grants name log)) (grant_word lock word log)
+    → AreLegal (acts_of_grants name log) → WordFits word (gives lock (acts_of_grants name log)) (grant_word lock word log)
 words_fit name lock word within [] legal acts = fits_at_start word within
 words_fit name lock word within (Take cpu at ticket ∷ past) legal acts = words_fit name lock word within past legal.1 acts.1
 words_fit name lock word within (Peek cpu at ticket read ∷ past) legal acts = words_fit name lock word within past legal.1 acts.1
@@ -103,8 +101,7 @@ words_fit name lock word within (Give cpu at mark ∷ past) legal acts =
     ]
 
 legal_grant : {M N : Type 0} (name : M → N) (e : GrantEvent M) (past : List (GrantEvent M)) → MayFollowGrants past e → IsLegalGrants past
-    → AreLegal (acts_of_grants name past)
-    → MayAct (acts_of_grants name past) (act_of_grant name e)
+    → AreLegal (acts_of_grants name past) → MayAct (acts_of_grants name past) (act_of_grant name e)
 legal_grant name (Take cpu lock ticket) past may legal acts = (may.0, phase_grants name cpu past ∙ ap phase_of may.1)
 legal_grant name (Peek cpu lock ticket read) past may legal acts =
     let waits = phase_grants name cpu past ∙ ap phase_of may.0 in

@@ -19,16 +19,15 @@ left_own a log c by = subst (λ d. phase d (a ∷ log) ≡ phase_after a) by (ph
 
 module _ {N : Type 0} (lock : LockId) (cpu other : CpuId) (first : ℕ) (differ : same_cpu cpu other ≡ false) where
   -- the first CPU still has its spot, and the other one, if it has given the lock on, stands behind it
-  record Meanwhile (between log : List (Action N)) : Type 0 where
-    stands : is_at lock (phase cpu log) ≡ true
-    spot : spot_of cpu log ≡ first
+  pub record Meanwhile (between log : List (Action N)) : Type 0 where
+    pub stands : is_at lock (phase cpu log) ≡ true
+    pub spot : spot_of cpu log ≡ first
     once : gives lock (own_events cpu_of_action other between) ≤ 1
     behind : 1 ≤ gives lock (own_events cpu_of_action other between) → is_at lock (phase other log) ≡ true → first < spot_of other log
 
   -- an action of a third CPU
   by_third : (a : Action N) (between log : List (Action N)) → Meanwhile between log → same_cpu (cpu_of_action a) cpu ≡ false
-      → same_cpu (cpu_of_action a) other ≡ false
-      → Meanwhile (a ∷ between) (a ∷ log)
+      → same_cpu (cpu_of_action a) other ≡ false → Meanwhile (a ∷ between) (a ∷ log)
   by_third a between log so_far not_cpu not_other = grind (arith, own_not, phase_other, spot_other)
 
   -- an action of the first CPU, which can only be a try
@@ -53,8 +52,7 @@ module _ {N : Type 0} (lock : LockId) (cpu other : CpuId) (first : ℕ) (differ 
       → (b c : Bool) → same_cpu (cpu_of_action a) cpu ≡ b → same_cpu (cpu_of_action a) other ≡ c → Meanwhile (a ∷ between) (a ∷ log)
   by_any a between log may legal so_far tries true true is is_too = grind (arith, same_cpu_true, same_cpu_self)
   by_any a between log may legal so_far tries true false is not_other = grind (arith, by_try, own_yes, same_cpu_true)
-  by_any a between log may legal so_far tries false true not_cpu is =
-      by_other a between log may legal so_far (same_cpu_true (cpu_of_action a) other is) not_cpu
+  by_any a between log may legal so_far tries false true not_cpu is = by_other a between log may legal so_far (same_cpu_true (cpu_of_action a) other is) not_cpu
   by_any a between log may legal so_far tries false false not_cpu not_other = by_third a between log so_far not_cpu not_other
 
 pub tries_before : {N : Type 0} (a : Action N) (past : List (Action N)) → OnlyTries (a ∷ past) → OnlyTries past
@@ -64,7 +62,7 @@ pub own_tries : {N : Type 0} (cpu : CpuId) (a : Action N) (between : List (Actio
     → OnlyTries (own_events cpu_of_action cpu between)
 own_tries cpu a between tries = grind (arith, tries_before)
 
-meanwhile : {N : Type 0} (past between : List (Action N)) (cpu other : CpuId) (lock : LockId) (differ : same_cpu cpu other ≡ false)
+pub meanwhile : {N : Type 0} (past between : List (Action N)) (cpu other : CpuId) (lock : LockId) (differ : same_cpu cpu other ≡ false)
     → AreLegal (between ++ (Take cpu lock ∷ past)) → OnlyTries (own_events cpu_of_action cpu between)
     → Meanwhile lock cpu other (takes lock past) differ between (between ++ (Take cpu lock ∷ past))
 meanwhile past [] cpu other lock differ legal tries = grind (arith, phase_own, same_lock_self, same_cpu_self)
@@ -73,9 +71,8 @@ meanwhile past (a ∷ between) cpu other lock differ legal tries =
     (meanwhile past between cpu other lock differ legal.1 (own_tries cpu a between tries)) tries (same_cpu (cpu_of_action a) cpu)
     (same_cpu (cpu_of_action a) other) refl refl
 
-pub given_once : {N : Type 0} (past between : List (Action N)) (cpu other : CpuId) (lock : LockId)
-    → AreLegal (between ++ (Take cpu lock ∷ past)) → OnlyTries (own_events cpu_of_action cpu between) → same_cpu cpu other ≡ false
-    → gives lock (own_events cpu_of_action other between) ≤ 1
+pub given_once : {N : Type 0} (past between : List (Action N)) (cpu other : CpuId) (lock : LockId) → AreLegal (between ++ (Take cpu lock ∷ past))
+    → OnlyTries (own_events cpu_of_action cpu between) → same_cpu cpu other ≡ false → gives lock (own_events cpu_of_action other between) ≤ 1
 given_once past between cpu other lock legal tries differ = (meanwhile past between cpu other lock differ legal tries).once
 
 own_acts : {M N : Type 0} (name : M → N) (cpu : CpuId) (log : List (Event M))

@@ -69,5 +69,4 @@ pub one_inside : {M : Type 0} (log : List (Event M)) → IsLegalWords log → (a
     → lock_phase a log ≡ Holding lock s → lock_phase b log ≡ Holding lock t → a ≡ b
 one_inside {M = M} log legal a b lock s t first second =
     let name : M → M = λ m. m in
-    one_holds (acts_of name log) (legal_acts name log legal) a b lock
-    (phase_acts name a log ∙ ap phase_of first) (phase_acts name b log ∙ ap phase_of second)
+    one_holds (acts_of name log) (legal_acts name log legal) a b lock (phase_acts name a log ∙ ap phase_of first) (phase_acts name b log ∙ ap phase_of second)

@@ -18,12 +18,10 @@ other = Pending a
 
 -- two CPUs at one lock: the second one waits until the first one has freed it
 abbrev two_sections : List (Event ℕ)
-two_sections =
-    Free b lock 8 ∷ Look b lock 1 1 ∷ Free a lock 9 ∷ Look b lock 1 0 ∷ Look a lock 0 0 ∷ Draw b lock 1 ∷ Draw a lock 0 ∷ []
+two_sections = Free b lock 8 ∷ Look b lock 1 1 ∷ Free a lock 9 ∷ Look b lock 1 0 ∷ Look a lock 0 0 ∷ Draw b lock 1 ∷ Draw a lock 0 ∷ []
 
 two_sections_are_legal : IsLegalWords two_sections
-two_sections_are_legal =
-    ((1, refl), ((refl, refl), ((0, refl), ((refl, refl), ((refl, refl), ((omega arith, refl, refl), ((omega arith, refl, refl), tt)))))))
+two_sections_are_legal = ((1, refl), ((refl, refl), ((0, refl), ((refl, refl), ((refl, refl), ((omega arith, refl, refl), ((omega arith, refl, refl), tt)))))))
 
 -- the first CPU draws again while the second one is inside, and enters behind it
 third_section_is_legal : IsLegalWords {M = ℕ} (Look a lock 2 2 ∷ Free b lock 8 ∷ Draw a lock 2 ∷ Look b lock 1 1 ∷ Free a lock 9 ∷ Look b lock 1 0
@@ -66,8 +64,7 @@ abbrev two_grants : List (GrantEvent ℕ)
 two_grants = Give b lock 8 ∷ Peek b lock 1 2 ∷ Give a lock 9 ∷ Peek b lock 1 0 ∷ Peek a lock 0 1 ∷ Take b lock 1 ∷ Take a lock 0 ∷ []
 
 two_grants_are_legal : IsLegalGrants two_grants
-two_grants_are_legal =
-    ((1, refl), ((refl, refl), ((0, refl), ((refl, refl), ((refl, refl), ((omega arith, refl, refl), ((omega arith, refl, refl), tt)))))))
+two_grants_are_legal = ((1, refl), ((refl, refl), ((0, refl), ((refl, refl), ((refl, refl), ((omega arith, refl, refl), ((omega arith, refl, refl), tt)))))))
 
 -- after two sections words 0, 1 and 2 hold 1, 2 and 3, and the next one 0
 words_after_two : (grant_word lock 0 two_grants ≡ 1) × (grant_word lock 1 two_grants ≡ 2) × (grant_word lock 2 two_grants ≡ 3)
@@ -84,8 +81,7 @@ give_while_waiting legal = cc (legal.0.1)
 abbrev inside : List (Event ℕ)
 inside = Look a lock 0 0 ∷ Draw a lock 0 ∷ []
 
-more_are_legal : IsLegalWords {M = ℕ} [] × IsLegalWords inside
-    × IsLegalWords {M = ℕ} (Draw b lock 0 ∷ Draw a other 0 ∷ [])
+more_are_legal : IsLegalWords {M = ℕ} [] × IsLegalWords inside × IsLegalWords {M = ℕ} (Draw b lock 0 ∷ Draw a other 0 ∷ [])
 more_are_legal = (tt, ((refl, refl), ((omega arith, refl, refl), tt)), ((omega arith, refl, refl), ((omega arith, refl, refl), tt)))
 
 look_by_another : IsLegalWords {M = ℕ} (Look b lock 0 0 ∷ Draw a lock 0 ∷ []) → ⊥

@@ -80,6 +80,7 @@ fn long_number(text: &[u8], most: u64) -> Option<u64>
 
 /// The number that `text` spells, if it spells one of at most `most`: `0`, or digits of which the
 /// first is not `0`. Any other text gives `None`, a sign or a leading zero included.
+#[tactic(auto, using(crate::proofs::DigitsLemmas::early_answers))]
 pub fn number_to(text: &[u8], most: u64) -> Option<u64>
     ensures number { result ≡ number_to most text.now }
     ensures within { IfSome result (λ number. number ≤ most) }
@@ -102,6 +103,7 @@ pub fn number_to(text: &[u8], most: u64) -> Option<u64>
 
 /// The law of the spelling: each number up to `most` is spelled by one text, the one that `{}`
 /// writes of it, and that text is read as the number.
+#[tactic(auto, using(crate::proofs::DigitsLemmas::one_spelling))]
 pub fn number_has_one_spelling()
     ensures read_back { (most n : ℕ) → n < 2 ^ 64 → n ≤ most → number_to most (decimal n) ≡ Some n }
     ensures only { (most n : ℕ) (text : List ℕ) → most < 2 ^ 64 → number_to most text ≡ Some n → text ≡ decimal n }

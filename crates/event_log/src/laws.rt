@@ -18,12 +18,14 @@ pub fn legal_logs_grow<M>()
 {}
 
 /// In a legal list of actions two CPUs never hold one lock.
+#[tactic(auto, using(crate::proofs::Exclusion::one_holds))]
 pub fn one_holds<N>()
     ensures { OneHolds N }
 {}
 
 /// In a legal words log two CPUs are never inside one lock, although its tickets are numbers modulo
 /// 2^64: at most [`CPUS`](crate::CPUS) of them wait at a time.
+#[tactic(auto, using(crate::proofs::Tickets::one_inside))]
 pub fn one_inside<M>()
     ensures { OneInside M }
 {}
@@ -36,6 +38,7 @@ pub fn tickets_tell_spots<M>()
 
 /// Where a CPU is alone at a free lock, three of its actions are exactly one section: it takes a
 /// spot, enters at its first try and gives the lock on.
+#[tactic(auto, using(crate::proofs::Alone::three_are_one))]
 pub fn three_are_one_section<N>()
     ensures { ThreeAreOneSection N }
 {}
@@ -47,6 +50,7 @@ pub fn free_where_all_rest<N>()
 
 /// From the time that a CPU takes a spot in the line of a lock, and while it does nothing but try,
 /// no other CPU gives that lock on twice: to come back it would have to pass the first one.
+#[tactic(auto, using(crate::proofs::OneFree::given_once))]
 pub fn given_once_meanwhile<N>()
     ensures { GivenOnceMeanwhile N }
 {}
@@ -54,6 +58,7 @@ pub fn given_once_meanwhile<N>()
 /// Bounded waiting: from the time that a CPU takes a spot in the line of a lock, and while it does
 /// nothing but try, the lock is given on fewer than [`CPUS`](crate::CPUS) times. So fewer sections
 /// than that pass it by. That its turn comes is not said.
+#[tactic(auto, using(crate::proofs::Bypass::few_pass))]
 pub fn waits_for_few<N>()
     ensures { WaitsForFew N }
 {}
@@ -71,6 +76,7 @@ pub fn grants_tell_spots<M>()
 {}
 
 /// In a legal log of grant words two CPUs are never inside one lock.
+#[tactic(auto, using(crate::proofs::GrantWords::one_inside_grants))]
 pub fn one_inside_grants<M>()
     ensures { OneInsideGrants M }
 {}

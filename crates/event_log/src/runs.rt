@@ -7,6 +7,7 @@ ghost use Rattle.event_log.specs.{Streams.TakenIsPut, Traces.HasOpOrder};
 
 /// A law: a run with one entry more at its end, which may come there, is a run, and ends in what
 /// that entry leaves.
+#[tactic(auto, using(crate::proofs::RunLemmas::run_more))]
 pub fn run_grows()
     ensures { (caps : List ℕ) (es : List AnEntry) (left : List (List Message)) (e : AnEntry) → IsRun caps es left → IsNext caps es left e
         → IsRun caps (es ++ e ∷ []) (after_entry left e) }
@@ -15,6 +16,7 @@ pub fn run_grows()
 /// A law: entries are a run that ends in what is left exactly if what is left is the contents after
 /// them, and each entry may come behind the entries that stand before it. So its op and its pos
 /// are the numbers of entries before it, of its buffer, and of its buffer and kind.
+#[tactic(auto, using(crate::proofs::RunLemmas::run_from_next))]
 pub fn run_by_index()
     ensures runs { (caps : List ℕ) (es : List AnEntry) (left : List (List Message)) → IsRun caps es left
         → (left ≡ contents_after caps es)
@@ -25,12 +27,14 @@ pub fn run_by_index()
 {}
 
 /// A law: in a run the op numbers of each buffer are 0, 1, 2 and so on.
+#[tactic(auto, using(crate::proofs::RunLemmas::op_order_from))]
 pub fn run_has_op_order()
     ensures { (caps : List ℕ) (es : List AnEntry) (left : List (List Message)) → IsRun caps es left → HasOpOrder es }
 {}
 
 /// A law: in a run the messages that were put into each buffer are those that were taken from it,
 /// in that order, and then those that are left. So none is lost, none comes twice, none overtakes.
+#[tactic(auto, using(crate::proofs::Streams::taken_put))]
 pub fn taken_is_put()
     ensures { TakenIsPut }
 {}

@@ -1,12 +1,16 @@
 -- The trace text of a run, and of where it ends, gets yes.
-use Rattle.std.proofs.Common.{◌≡◌, ℕ, ◌+◌, ◌<◌, ◌≤◌, ◌^◌, true, false, List, [], ◌∷◌, ◌++◌, length, get_or, drop, map, Ok, refl, sym, ap, subst, ◌∙◌}
+use Rattle.std.specs.Prelude.{decimal}
+use Rattle.tracer.specs.TraceText.{message_text}
+use Rattle.tracer.proofs.OpeningLemmas.{behind_cap}
+use Rattle.std.proofs.Common.{cond, lit<, append-nil}
+use Rattle.std.proofs.Common.{◌≡◌, ℕ, ◌+◌, ◌<◌, ◌≤◌, true, false, List, [], ◌∷◌, ◌++◌, length, drop, map, refl, sym, ap, subst, ◌∙◌}
 use Rattle.std.proofs.{Common.{append_assoc, lt-ltb, le-ltb, arith}, lemmas.List.{length_push, length-drop, length-set, length-map, get_or-drop, drop-drop}}
-use Rattle.std.specs.{Prelude.{codes, nat_lt}, List.{AllByRecursion, flat_map, join_with_byte}}
+use Rattle.std.specs.{Prelude.{codes, nat_lt}, List.{AllByRecursion, flat_map}}
 use Rattle.event_log.specs.{Messages.Message, declared.{ids.TheConstants.{BUFFERS, ENTRIES}, entries.Entry.Entry}, Buffers.{items_of, empty_buffers}}
 use Rattle.{event_log.specs.{Buffers.{after_effect, IsCapacity}, Runs.{after_entry, IsRunFrom, IsRun}}, tracer.specs.declared.verdicts.Verdict.TheVariants.Yes}
 use Rattle.tracer.specs.{declared.versions.Version.{Version, TheVariants.One}, TraceText.{text_line, version_word, count_pieces, cap_pieces}}
 use Rattle.tracer.specs.TraceText.{entry_pieces, left_pieces, end_pieces, numbered, lines_of, spelling, IsEntryOf, IsSpellable, IsTraceText, AreItemsOf}
-use Rattle.tracer.specs.{Judging.{TextProgress, text_start, step, lines_in, verdict_from, verdict_of}, Versions.{covers, version_from, version_of}}
+use Rattle.tracer.specs.{Judging.{TextProgress, text_start, lines_in, verdict_from, verdict_of}, Versions.{covers, version_from, version_of}}
 use Rattle.tracer.proofs.{VersionLemmas.{covers_next, version_more}, SplitLemmas.{IsLine, line_read}, KnownLemmas.known_fresh_from}
 use Rattle.tracer.proofs.{EntryLemmas.{progress, behind_e}, StepLemmas.{entry_is_line, step_entry, behind_left, left_is_line, step_first_left, step_left}}
 use Rattle.tracer.proofs.OpeningLemmas.{step_head, step_end, count_is_line_of, step_count, opened, cap_is_line, step_cap}
@@ -14,7 +18,7 @@ use Rattle.tracer.specs.declared.next_lines.NextLine.TheVariants as wants
 
 -- the last line
 end_is_line : IsLine end_pieces
-end_is_line = grind arith
+end_is_line at lt = grind arith
 
 complete_end : (s : TextProgress) (n : ℕ) → s.at ≡ wants.End → covers s.lowest s.version ≡ true
     → verdict_from s n (lines_in (flat_map text_line (end_pieces ∷ []))) ≡ Yes
@@ -22,40 +26,29 @@ complete_end s n at low = line_read s (record s { at = wants.Done }) n (codes "e
 
 -- what is left of a buffer, and of those behind it
 first_of : (contents : List (List Message)) (b : ℕ) (x : List Message) (xs : List (List Message)) → drop b contents ≡ x ∷ xs → items_of contents b ≡ x
-first_of contents b x xs e =
-    let none : b + 0 ≡ b = omega arith in
-    ap (λ (k : ℕ). get_or contents k []) (sym none) ∙ sym (get_or-drop b contents 0 []) ∙ ap (λ (t : List (List Message)). get_or t 0 []) e
+first_of contents b x xs e = grind (arith, get_or-drop b contents 0, e)
 
 behind_first : (contents : List (List Message)) (b : ℕ) (x : List Message) (xs : List (List Message)) → drop b contents ≡ x ∷ xs → drop (b + 1) contents ≡ xs
-behind_first contents b x xs e = sym (drop-drop 1 b contents) ∙ ap (λ (t : List (List Message)). drop 1 t) e
+behind_first contents b x xs e = grind (arith, drop-drop 1 b contents, e)
 
-complete_left : (v : Version) (caps : List ℕ) (earlier : List Entry) (contents : List (List Message)) (s : TextProgress) (b n : ℕ) (x : List Message)
-    (xs : List (List Message)) → length contents ≡ length caps → length caps ≤ BUFFERS → b < length caps → drop b contents ≡ x ∷ xs
-    → AllByRecursion (AreItemsOf v) (x ∷ xs) → covers (version_of earlier) v ≡ true
-    → step s (join_with_byte 32 (left_pieces b (items_of contents b))) ≡ Ok (progress v (behind_left b caps) caps earlier contents)
-    → verdict_from s n (lines_in (flat_map text_line (numbered left_pieces b (x ∷ xs) ++ end_pieces ∷ []))) ≡ Yes
-complete_left v caps earlier contents s b n x [] long few inside rest small low taken =
-    let here = first_of contents b x [] rest in
-    let last : (b + 1 ≡ length caps) = omega (arith, ap length rest, length-drop b contents) in
-    let stops : nat_lt (b + 1) (length caps) ≡ false = le-ltb (b + 1) (length caps) (omega arith) in
-    let next : step s (join_with_byte 32 (left_pieces b x)) ≡ Ok (progress v wants.End caps earlier contents) =
-    subst (λ (t : List Message). step s (join_with_byte 32 (left_pieces b t)) ≡ Ok (progress v wants.End caps earlier contents)) here (taken ∙ rw stops refl) in
-    let fits : b < 2 ^ 64 = omega arith in
-    line_read s (progress v wants.End caps earlier contents) n (codes "left") _ (flat_map text_line (end_pieces ∷ [])) (left_is_line v b x fits small.0) next
-    ∙ complete_end (progress v wants.End caps earlier contents) (n + 1) refl low
-complete_left v caps earlier contents s b n x (y ∷ ys) long few inside rest small low taken =
-    let here = first_of contents b x (y ∷ ys) rest in
-    let more : (b + 1 < length caps) = omega (arith, ap length rest, length-drop b contents) in
-    let goes : nat_lt (b + 1) (length caps) ≡ true = lt-ltb (b + 1) (length caps) more in
-    let s' = progress v (wants.Contents (b + 1)) caps earlier contents in
-    let next : step s (join_with_byte 32 (left_pieces b x)) ≡ Ok s' =
-    subst (λ (t : List Message). step s (join_with_byte 32 (left_pieces b t)) ≡ Ok s') here (taken ∙ rw goes refl) in
-    let behind = behind_first contents b x (y ∷ ys) rest in
-    let fits : b < 2 ^ 64 = omega arith in
-    let following : AreItemsOf v (items_of contents (b + 1)) = subst (AreItemsOf v) (sym (first_of contents (b + 1) y ys behind)) small.1.0 in
-    line_read s s' n (codes "left") _ (flat_map text_line (numbered left_pieces (b + 1) (y ∷ ys) ++ end_pieces ∷ [])) (left_is_line v b x fits small.0) next
-    ∙ complete_left v caps earlier contents s' (b + 1) (n + 1) y ys long few more behind small.1 low (step_left v
-    (b + 1) caps earlier contents more few following)
+complete_left : (v : Version) (caps : List ℕ) (earlier : List Entry) (contents : List (List Message)) (b n : ℕ) (left : List (List Message))
+    → length contents ≡ length caps → length caps ≤ BUFFERS → drop b contents ≡ left → AllByRecursion (AreItemsOf v) left → covers (version_of earlier) v ≡ true
+    → verdict_from (progress v (cond (nat_lt b (length caps)) (wants.Contents b) wants.End) caps earlier contents) n
+    (lines_in (flat_map text_line (numbered left_pieces b left ++ end_pieces ∷ []))) ≡ Yes
+complete_left v caps earlier contents b n [] long few rest small low =
+    let stops : nat_lt b (length caps) ≡ false = le-ltb b (length caps) (omega (arith, ap length rest, length-drop b contents)) in
+    rw stops (complete_end (progress v wants.End caps earlier contents) n refl low)
+complete_left v caps earlier contents b n (x ∷ xs) long few rest small low =
+    let inside : b < length caps = omega (arith, ap length rest, length-drop b contents) in
+    let here = first_of contents b x xs rest in
+    let fits : AreItemsOf v (items_of contents b) = rw here small.0 in
+    let s = progress v (wants.Contents b) caps earlier contents in
+    let after = progress v (behind_left b caps) caps earlier contents in
+    rw (lt-ltb b (length caps) inside, ← here)
+    (line_read s after n (codes "left") (decimal b ∷ map message_text (items_of contents b))
+    (flat_map text_line (numbered left_pieces (b + 1) xs ++ end_pieces ∷ []))
+    (left_is_line v b (items_of contents b) (omega arith) fits) (step_left v b caps earlier contents inside few fits)
+    ∙ complete_left v caps earlier contents (b + 1) (n + 1) xs long few (behind_first contents b x xs rest) small.1 low)
 
 -- the entries
 complete_first : (v : Version) (caps : List ℕ) (earlier : List Entry) (contents left : List (List Message)) (n : ℕ) → contents ≡ left
@@ -63,11 +56,14 @@ complete_first : (v : Version) (caps : List ℕ) (earlier : List Entry) (content
     → verdict_from (progress v wants.Entries caps earlier contents) n (lines_in (flat_map text_line (numbered left_pieces 0 left ++ end_pieces ∷ []))) ≡ Yes
 complete_first v caps earlier contents [] n same long some few small lowest = absurd (omega (arith, ap length same))
 complete_first v caps earlier contents (x ∷ xs) n same long some few small lowest =
-    let inside : 0 < length caps = omega arith in
-    let first : AreItemsOf v (items_of contents 0) = subst (AreItemsOf v) (sym (first_of contents 0 x xs same)) small.0 in
-    let low : covers (version_of earlier) v ≡ true = rw lowest (grind arith) in
-    complete_left v caps earlier contents (progress v wants.Entries caps earlier contents) 0 n x xs long few inside same small low
-    (step_first_left v caps earlier contents inside first)
+    let here = first_of contents 0 x xs same in
+    let fits : AreItemsOf v (items_of contents 0) = rw here small.0 in
+    let s = progress v wants.Entries caps earlier contents in
+    let after = progress v (behind_left 0 caps) caps earlier contents in
+    rw (← here)
+    (line_read s after n (codes "left") (decimal 0 ∷ map message_text (items_of contents 0)) (flat_map text_line (numbered left_pieces 1 xs ++ end_pieces ∷ []))
+    (left_is_line v 0 (items_of contents 0) (lit< tt) fits) (step_first_left v caps earlier contents (omega arith) fits)
+    ∙ complete_left v caps earlier contents 1 (n + 1) xs long few (behind_first contents 0 x xs same) small.1 (rw lowest (grind arith)))
 
 pub complete_entries : (v : Version) (caps : List ℕ) (earlier : List Entry) (contents : List (List Message)) (es : List Entry) (left : List (List Message))
     (n : ℕ) → IsRunFrom caps earlier contents es left → AllByRecursion (IsEntryOf (length caps)) es → length earlier + length es ≤ ENTRIES
@@ -89,29 +85,17 @@ complete_entries v caps earlier contents (e ∷ es) left n run each room long so
     ∙ complete_entries v caps (earlier ++ e ∷ []) after es left (n + 1) run.1 each.1 less after_long some few small onwards
 
 -- the capacities
-complete_caps : (v : Version) (count : ℕ) (caps more : List ℕ) (tail : List (List (List ℕ))) (n : ℕ) → 0 < length more → length caps + length more ≡ count
-    → count ≤ BUFFERS
+complete_caps : (v : Version) (count : ℕ) (caps more : List ℕ) (tail : List (List (List ℕ))) (n : ℕ) → length caps + length more ≡ count → count ≤ BUFFERS
     → AllByRecursion IsCapacity more → ((m : ℕ) → verdict_from (opened v wants.Entries (caps ++ more)) m (lines_in (flat_map text_line tail)) ≡ Yes)
-    → verdict_from (opened v (wants.Capacities count) caps) n (lines_in (flat_map text_line (numbered cap_pieces (length caps) more ++ tail))) ≡ Yes
-complete_caps v count caps [] tail n some all few small behind = absurd (let z : 0 < 0 = some in omega arith)
-complete_caps v count caps (k ∷ []) tail n some all few small behind =
-    let stops : nat_lt (length caps + 1) count ≡ false = le-ltb (length caps + 1) count (omega arith) in
-    let next = step_cap v count caps k small.0 (omega arith) ∙ rw stops refl in
-    line_read (opened v (wants.Capacities count) caps) (opened v wants.Entries (caps ++ k ∷ [])) n (codes "cap") _ (flat_map text_line tail)
-    (cap_is_line (length caps) k (omega arith) small.0) next ∙ behind (n + 1)
-complete_caps v count caps (k ∷ j ∷ ks) tail n some all few small behind =
-    let goes : nat_lt (length caps + 1) count ≡ true = lt-ltb (length caps + 1) count (omega arith) in
-    let next = step_cap v count caps k small.0 (omega arith) ∙ rw goes refl in
+    → verdict_from (opened v (behind_cap (length caps) count) caps) n (lines_in (flat_map text_line (numbered cap_pieces (length caps) more ++ tail))) ≡ Yes
+complete_caps v count caps [] tail n all few small behind = rw (le-ltb (length caps) count (omega arith)) (rw append-nil at (behind n))
+complete_caps v count caps (k ∷ ks) tail n all few small behind =
     let longer : length (caps ++ k ∷ []) ≡ length caps + 1 = length_push caps k in
-    let rest : (m : ℕ) → verdict_from (opened v wants.Entries ((caps ++ k ∷ []) ++ (j ∷ ks))) m (lines_in (flat_map text_line tail)) ≡ Yes =
-    λ m. rw append_assoc (behind m) in
-    let others : 0 < length (j ∷ ks) = omega arith in
-    let counted : length (caps ++ k ∷ []) + length (j ∷ ks) ≡ count = omega arith in
-    line_read (opened v (wants.Capacities count) caps) (opened v (wants.Capacities count) (caps ++ k ∷ [])) n (codes "cap")
-    _ (flat_map text_line (numbered cap_pieces (length caps + 1) (j ∷ ks) ++ tail)) (cap_is_line (length caps) k (omega arith) small.0) next
-    ∙ subst (λ (b : ℕ). verdict_from (opened v (wants.Capacities count) (caps ++ k ∷ [])) (n + 1)
-    (lines_in (flat_map text_line (numbered cap_pieces b (j ∷ ks) ++ tail))) ≡ Yes) longer
-    (complete_caps v count (caps ++ k ∷ []) (j ∷ ks) tail (n + 1) others counted few small.1 rest)
+    rw (lt-ltb (length caps) count (omega arith))
+    (line_read (opened v (wants.Capacities count) caps) (opened v (behind_cap (length caps + 1) count) (caps ++ k ∷ [])) n (codes "cap")
+    (decimal (length caps) ∷ decimal k ∷ []) (flat_map text_line (numbered cap_pieces (length caps + 1) ks ++ tail))
+    (cap_is_line (length caps) k (omega arith) small.0) (step_cap v count caps k small.0 (omega arith))
+    ∙ rw longer at (complete_caps v count (caps ++ k ∷ []) ks tail (n + 1) (omega arith) few small.1 (λ m. rw append_assoc (behind m))))
 
 complete_lines : (caps : List ℕ) (es : List Entry) (left : List (List Message)) → IsSpellable caps es left → IsRun caps es left
     → verdict_from text_start 1 (lines_in (spelling caps es left)) ≡ Yes
@@ -126,13 +110,14 @@ complete_lines caps es left fits run =
     subst (λ (s : TextProgress). verdict_from s m (lines_in (flat_map text_line tail)) ≡ Yes)
     (ap (λ buffers. record { at = wants.Entries; version = v; lowest = One; buffers = buffers; entries = 0 }) (known_fresh_from 0 caps caps))
     (complete_entries v caps [] (empty_buffers caps) es left m run fits.entries room long fits.some_buffer fits.few_buffers fits.values refl) in
-    let some : 0 < length caps = (let h = fits.some_buffer in omega arith) in
+    let goes : nat_lt 0 (length caps) ≡ true = lt-ltb 0 (length caps) (let h = fits.some_buffer in omega arith) in
     let none : 0 + length caps ≡ length caps = omega arith in
+    let all = complete_caps v (length caps) [] caps tail (1 + 1 + 1) none fits.few_buffers fits.capacities entries in
     line_read text_start opens 1 (codes "mctower-trace") (version_word v ∷ [])
-    (text_line (count_pieces (length caps)) ++ flat_map text_line (numbered cap_pieces 0 caps ++ tail)) (grind arith) (step_head v text_start refl)
-    ∙ line_read opens (opened v (wants.Capacities (length caps)) []) (1 + 1) (codes "buffers") _ (flat_map text_line (numbered cap_pieces 0 caps ++ tail))
-    (count_is_line_of (length caps) fits.few_buffers) (step_count (length caps) opens refl fits.some_buffer fits.few_buffers)
-    ∙ complete_caps v (length caps) [] caps tail (1 + 1 + 1) some none fits.few_buffers fits.capacities entries
+    (text_line (count_pieces (length caps)) ++ flat_map text_line (numbered cap_pieces 0 caps ++ tail)) (λ at lt. grind arith) (step_head v text_start refl)
+    ∙ line_read opens (opened v (wants.Capacities (length caps)) []) (1 + 1) (codes "buffers") (decimal (length caps) ∷ [])
+    (flat_map text_line (numbered cap_pieces 0 caps ++ tail)) (count_is_line_of (length caps) fits.few_buffers)
+    (step_count (length caps) opens refl fits.some_buffer fits.few_buffers) ∙ rw goes at all
 
 pub complete : (text caps : List ℕ) (es : List Entry) (left : List (List Message)) → IsTraceText text caps es left → IsRun caps es left → verdict_of text ≡ Yes
 unfolding verdict_of

@@ -1,6 +1,6 @@
 -- A text cut at the first place of a byte.
-use Rattle.std.proofs.Common.{◌≡◌, ℕ, ◌+◌, ◌-◌, ◌<◌, ◌≤◌, ◌==◌, true, false, ⊎_elim, List, [], ◌∷◌, ◌++◌, length, get_or, take, drop, sym, ap, ◌∙◌, arith}
-use Rattle.std.proofs.lemmas.{Bool.{cases_lt, false_from_ne_true, true≢false}, List.{take-append-drop, take_rest, drop_more, get_or-take, get_or-drop}}
+use Rattle.std.proofs.Common.{◌≡◌, ℕ, ◌+◌, ◌-◌, ◌<◌, ◌≤◌, ◌==◌, true, false, List, [], ◌∷◌, ◌++◌, length, get_or, take, drop, sym, ap, ◌∙◌, arith}
+use Rattle.std.proofs.lemmas.{Bool.{cases_lt}, List.{take-append-drop, take_rest, drop_more, get_or-take, get_or-drop}}
 use Rattle.std.proofs.lemmas.List.{length-take, length-drop, get_or_default, Folds.list_any_at, Splits.{slice_split_at, slice_split_none}}
 use Rattle.{std.specs.{Array.IsFirstChunk, List.{list_any, slice_split}}, tracer.specs.Lines.IsFirstLine}
 
@@ -21,10 +21,7 @@ cut_at at text i lt before here =
 -- the text up to its first line feed
 pub line_at : (text : List ℕ) (i : ℕ) → i < length text → ((k : ℕ) → k < i → (get_or text k 0 == 10) ≡ false) → get_or text i 0 ≡ 10
     → IsFirstLine text (take i text) (drop (i + 1) text)
-line_at text i lt before here = record {
-  whole = sym (cut_whole text i lt) ∙ ap (λ b. take i text ++ b ∷ drop (i + 1) text) here;
-  first = before_first 10 text i lt before;
-}
+line_at text i lt before here = grind (arith, cut_whole, before_first)
 
 pub cut_none : (at : ℕ) (text : List ℕ) → ((k : ℕ) → k < length text → (get_or text k 0 == at) ≡ false) → slice_split (λ b. b == at) text ≡ text ∷ []
 cut_none at text before =
@@ -41,13 +38,14 @@ pub chunk_passed : (at : ℕ) (text : List ℕ) (start n : ℕ) (chunk : List �
     → IsFirstChunk (take (length text - start) (drop start text)) chunk n → list_any (λ b. b == at) chunk ≡ false
     → ((k : ℕ) → k < start → (get_or text k 0 == at) ≡ false) → (k : ℕ) → k < start + n → (get_or text k 0 == at) ≡ false
 chunk_passed at text start n chunk inside first lacks before k below =
-    let within : start + n ≤ length text = chunk_inside text start n chunk inside first in
-    let same : chunk ≡ take n (drop start text) = first.same ∙ ap (take n) (take_rest text start) in
-    let behind : start ≤ k → (get_or text k 0 == at) ≡ false = λ high.
-    let here : get_or chunk (k - start) 0 ≡ get_or text k 0 =
-    ap (λ bytes. get_or bytes (k - start) 0) same ∙ get_or-take n (drop start text) (k - start) 0 (omega arith) ∙ get_or-drop start text (k - start) 0
-    ∙ ap (λ i. get_or text i 0) (omega arith) in
-    let inner : k - start < length chunk = omega (arith, ap length same, length-take n (drop start text), length-drop start text) in
-    false_from_ne_true (get_or text k 0 == at)
-    (λ found. true≢false (sym (list_any_at (λ b. b == at) chunk (k - start) 0 inner (ap (λ b. b == at) here ∙ found)) ∙ lacks)) in
-    ⊎_elim (λ low. before k low) behind (cases_lt k start)
+    grind (
+      arith,
+      cases_lt k start,
+      take_rest text start,
+      list_any_at (λ b. b == at) chunk (k - start) 0,
+      get_or-take n (drop start text) (k - start) 0,
+      get_or-drop start text (k - start) 0,
+      length-take n (drop start text),
+      length-drop start text,
+      before k,
+    )

@@ -1,10 +1,10 @@
 -- Each line of a trace text is taken where it may stand, and a line that is taken is spelled so.
-use Rattle.std.proofs.Common.{◌-◌, ◌≡◌, ℕ, ◌<◌, ◌≤◌, ◌^◌, true, List, [], ◌∷◌, length, Ok, refl, ap, ◌∙◌, subst, lit<, arith}
+use Rattle.std.proofs.Common.{◌-◌, ◌≡◌, ℕ, ◌<◌, ◌≤◌, ◌^◌, true, List, [], ◌∷◌, length, Ok, refl, subst, lit<, arith}
 use Rattle.std.{proofs.lemmas.Slice.Eq.bytes_eq-Decides, specs.{Prelude.{decimal, codes}, Str.bytes_eq}}
 use Rattle.event_log.specs.declared.{ids.TheConstants.{CPUS, THREADS, BUFFERS, ENTRIES}, entries.{Kind.{Kind, TheVariants.{Close, RecvClosed}}, Entry.Entry}}
 use Rattle.{event_log.{specs.Messages.{Message, no_message}, proofs.DigitsLemmas.number_to-decimal}, tracer.specs.declared.next_lines.NextLine.NextLine}
-use Rattle.tracer.specs.{declared.versions.Version.Version, Versions.{covers, version_of_kind, version_of_message, version_of_entry, version_of}}
-use Rattle.tracer.specs.{TraceText.{kind_word, value_piece, IsValueOf}, Judging.{Digits, TextProgress, piece_at, digits_at, ended, in_range, kind_in}}
+use Rattle.tracer.specs.{declared.versions.Version.Version, Versions.{covers, version_of_message, version_of_entry, version_of}}
+use Rattle.tracer.specs.{TraceText.{kind_word, value_piece, IsValueOf}, Judging.{Digits, TextProgress, in_range, kind_in}}
 use Rattle.tracer.{specs.Judging.{spells_value, value_in, is_of_version, entry_digits, entry_in}, proofs.ReadLemmas.{bind_ok, fine, same_ok, in_range_taken}}
 use Rattle.tracer.proofs.{ReadLemmas.{decimal_is_number, piece_taken, digits_taken, ended_taken}, KnownLemmas.known_from, VersionLemmas.covers_first_one}
 use Rattle.tracer.proofs.{VersionLemmas.{covers_first, covers_second}, MessageLemmas.{message_again, spells_message_again, item_taken}}
@@ -68,10 +68,7 @@ spells_again v kind value fits high = grind (arith, spells_message_again)
 
 -- the entry's line is one of this version
 pub of_version_again : (v : Version) (e : Entry) → covers v (version_of_entry e) ≡ true → IsValueOf e.kind e.value → is_of_version v (digits_in e) ≡ true
-of_version_again v e high fits =
-    let kind : covers v (version_of_kind e.kind) ≡ true = covers_first v (version_of_kind e.kind) (version_of_message e.value) high in
-    let message : covers v (version_of_message e.value) ≡ true = covers_second v (version_of_kind e.kind) (version_of_message e.value) high in
-    rw (kind, spells_again v e.kind e.value fits message) refl
+of_version_again v e high fits = grind (arith, covers_first, covers_second, spells_again)
 
 -- ---- the pieces of an entry
 
@@ -83,39 +80,12 @@ shape_of d = d.cpu ∷ d.thread ∷ kind_word d.kind ∷ d.buffer ∷ d.value �
 
 pub entry_digits_taken : (pieces : List (List ℕ)) (d : Digits) → entry_digits pieces ≡ Ok d → pieces ≡ shape_of d
 unfolding entry_digits
-entry_digits_taken pieces d e =
-    let cpu = bind_ok (digits_at pieces) _ d e in
-    let thread = bind_ok (digits_at cpu.0.1) _ d cpu.2 in
-    let word = bind_ok (piece_at thread.0.1) _ d thread.2 in
-    let kind = bind_ok (kind_in word.0.0) _ d word.2 in
-    let buffer = bind_ok (digits_at word.0.1) _ d kind.2 in
-    let value = bind_ok (piece_at buffer.0.1) _ d buffer.2 in
-    let op = bind_ok (digits_at value.0.1) _ d value.2 in
-    let pos = bind_ok (digits_at op.0.1) _ d op.2 in
-    let last = bind_ok (ended pos.0.1) _ d pos.2 in
-    let shape = ap shape_of (same_ok (spelled_as cpu.0.0 thread.0.0 kind.0 buffer.0.0 value.0.0 op.0.0 pos.0.0) d last.2) in
-    digits_taken pieces cpu.0 cpu.1 ∙ ap (λ (t : List (List ℕ)). cpu.0.0 ∷ t)
-    (digits_taken cpu.0.1 thread.0 thread.1 ∙ ap (λ (t : List (List ℕ)). thread.0.0 ∷ t)
-    (piece_taken thread.0.1 word.0 word.1 ∙ ap (λ (w : List ℕ). w ∷ word.0.1) (kind_taken word.0.0 kind.0 kind.1)
-    ∙ ap (λ (t : List (List ℕ)). kind_word kind.0 ∷ t)
-    (digits_taken word.0.1 buffer.0 buffer.1 ∙ ap (λ (t : List (List ℕ)). buffer.0.0 ∷ t)
-    (piece_taken buffer.0.1 value.0 value.1 ∙ ap (λ (t : List (List ℕ)). value.0.0 ∷ t)
-    (digits_taken value.0.1 op.0 op.1 ∙ ap (λ (t : List (List ℕ)). op.0.0 ∷ t)
-    (digits_taken op.0.1 pos.0 pos.1 ∙ ap (λ (t : List (List ℕ)). pos.0.0 ∷ t) (ended_taken pos.0.1 last.0 last.1)))))))
-    ∙ shape
+entry_digits_taken pieces d e = grind (arith, same_ok, digits_taken, piece_taken, kind_taken, ended_taken)
 
 pub entry_digits_again : (e : Entry) → e.cpu.0 < 2 ^ 64 → e.thread.0 < 2 ^ 64 → e.buffer.0 < 2 ^ 64 → e.op < 2 ^ 64 → e.pos < 2 ^ 64
     → entry_digits (behind_e e) ≡ Ok (digits_in e)
 unfolding entry_digits
-entry_digits_again e cpu thread buffer op pos =
-    rw (
-      decimal_is_number e.cpu.0 cpu,
-      decimal_is_number e.thread.0 thread,
-      kind_again e.kind,
-      decimal_is_number e.buffer.0 buffer,
-      decimal_is_number e.op op,
-      decimal_is_number e.pos pos,
-    ) refl
+entry_digits_again e cpu thread buffer op pos = grind (arith, decimal_is_number, kind_again)
 
 -- the numbers of an entry, where there may be so many buffers as there can be
 pub record IsSmall (v : Version) (digits : Digits) (e : Entry) : Type 0 where
@@ -158,12 +128,4 @@ entry_in_taken v digits e spells taken =
 pub entry_in_again : (e : Entry) → e.cpu.0 ≤ CPUS - 1 → e.thread.0 ≤ THREADS - 1 → e.buffer.0 ≤ BUFFERS - 1 → IsValueOf e.kind e.value
     → e.op ≤ ENTRIES - 1 → e.pos ≤ ENTRIES - 1 → entry_in (digits_in e) ≡ Ok e
 unfolding entry_in
-entry_in_again e cpu thread buffer value op pos =
-    rw (
-      number_to-decimal (CPUS - 1) e.cpu.0 (omega arith) cpu,
-      number_to-decimal (THREADS - 1) e.thread.0 (omega arith) thread,
-      number_to-decimal (BUFFERS - 1) e.buffer.0 (omega arith) buffer,
-      value_again e.kind e.value value,
-      number_to-decimal (ENTRIES - 1) e.op (omega arith) op,
-      number_to-decimal (ENTRIES - 1) e.pos (omega arith) pos,
-    ) refl
+entry_in_again e cpu thread buffer value op pos = grind (arith, number_to-decimal, value_again)

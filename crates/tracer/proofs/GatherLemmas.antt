@@ -6,6 +6,7 @@ use Rattle.std.{proofs.lemmas.{List.Sums.get_or-le-sum_by, Bool.cases_eq, Option
 use Rattle.std.specs.Prelude.{slice_get}
 use Rattle.{event_log.specs.{declared.entries.Entry.Entry, Runs.count_of, Traces.{IsInterleaving, HasOpOrderFrom, HasOpOrder}}, tracer.specs.Gather.traces_in}
 use Rattle.tracer.specs.Gather.{entries_in, IsOrder, IsFrontReady, TakesFirstReadyFrom, TakesFirstReady, HasNoOrder, next_entry, IsNextOp, NoneDueBelow}
+use Rattle.event_log.proofs.ListLemmas.{alike_at}
 use Rattle.tracer.proofs.OrderLemmas.{at_head, head_at, count_more_same, count_more_other, CameFirst, may_come_first}
 
 -- what is left of each trace, where so many of each are taken
@@ -27,7 +28,7 @@ rests_none (trace ∷ traces) (suc n) = ap (λ ts. trace ∷ ts) (rests_none tra
 
 -- the first entry of a rest is the next one
 behind_head : (trace : List Entry) (n : ℕ) (e : Entry) (rest : List Entry) → drop n trace ≡ e ∷ rest → drop (n + 1) trace ≡ rest
-behind_head trace n e rest at = sym (drop-drop 1 n trace) ∙ ap (drop 1) at
+behind_head trace n e rest at = grind (arith, drop-drop 1 n trace, at)
 
 rests_more : (traces : List (List Entry)) (taken : List ℕ) (k : ℕ) (e : Entry) (rest : List Entry) → k < length taken
     → get_or (rests traces taken) k [] ≡ e ∷ rest → rests traces (set taken k (get_or taken k 0 + 1)) ≡ set (rests traces taken) k rest
@@ -71,21 +72,13 @@ one_more (p ∷ places) place = ap (λ es. p.now ∷ es) (one_more places place)
 none_left : (traces : List (List Entry)) → left_of traces ≡ 0 → (k : ℕ) → get_or traces k [] ≡ []
 none_left traces none k = grind (arith, nil_from_length, get_or-le-sum_by, get_or_past)
 
-all_used : (traces : List (List Entry)) → ((k : ℕ) → get_or traces k [] ≡ []) → left_of traces ≡ 0
+pub all_used : (traces : List (List Entry)) → ((k : ℕ) → get_or traces k [] ≡ []) → left_of traces ≡ 0
 all_used [] used = refl
 all_used (trace ∷ traces) used = omega (arith, sum_by-cons length trace traces, all_used traces (λ k. used (suc k)), ap length (used 0))
 
-left_of_more : (traces : List (List Entry)) (k : ℕ) (e : Entry) (rest : List Entry) → get_or traces k [] ≡ e ∷ rest
+pub left_of_more : (traces : List (List Entry)) (k : ℕ) (e : Entry) (rest : List Entry) → get_or traces k [] ≡ e ∷ rest
     → left_of (set traces k rest) + 1 ≡ left_of traces
-left_of_more traces k e rest at =
-    let one : length (get_or traces k []) ≡ length rest + 1 = ap length at ∙ sym (add-one (length rest)) in
-    omega (arith, one, sum_by-set length traces k rest [] (grind (arith, get_or_past)))
-
--- a table of zeros has a zero at each slot
-zero_at : (n b : ℕ) → get_or {A = ℕ} (replicate n 0) b 0 ≡ 0
-zero_at zero b = refl
-zero_at (suc n) zero = refl
-zero_at (suc n) (suc b) = zero_at n b
+left_of_more traces k e rest at = grind (arith, add-one, sum_by-set, get_or_past)
 
 -- what a gathering keeps: its tables, and that the entries taken go on as each order of the rests goes on
 pub record Gathers (traces : List (List Entry)) (total : ℕ) (taken counts : List ℕ) (done : List Entry) : Type 0 where
@@ -99,37 +92,27 @@ pub record Gathers (traces : List (List Entry)) (total : ℕ) (taken counts : Li
   pub greedy : (es : List Entry) → TakesFirstReadyFrom done (rests traces taken) es → TakesFirstReady traces (done ++ es)
   pub loses : (order : List Entry) → IsOrder traces order → (es : List Entry) × IsInterleaving (rests traces taken) es × HasOpOrderFrom done es
 
-gathers_none : (traces : List (List Entry)) (n total : ℕ) (taken counts : List ℕ) → n ≡ length traces → taken ≡ replicate n 0 → counts ≡ replicate 256 0
-    → total ≡ left_of traces → Gathers traces total taken counts []
-gathers_none traces n total taken counts size fresh zeros all =
+pub gathers_start : (traces : List (List Entry)) (n total : ℕ) (taken counts : List ℕ) (done : List Entry) → n ≡ length traces → taken ≡ replicate n 0
+    → counts ≡ replicate 256 0 → total ≡ left_of traces → done ≡ [] → Gathers traces total taken counts done
+gathers_start traces n total taken counts done size fresh zeros all none =
     let whole : rests traces taken ≡ traces = ap (rests traces) fresh ∙ rests_none traces n in
-    record {
+    rw none (record {
       slots = ap length fresh ∙ (length-replicate n 0 ∙ size);
       table = ap length zeros;
-      counted = λ b. ap (λ t. get_or t b 0) zeros ∙ zero_at 256 b;
+      counted = λ b. ap (λ t. get_or t b 0) zeros ∙ alike_at 256 b 0;
       whole = sym all;
       left = omega (arith, ap left_of whole, all);
       keeps = λ es kept. subst (λ ts. IsInterleaving ts es) whole kept;
       ops = λ es ops. ops;
       greedy = λ es first. subst (λ ts. TakesFirstReadyFrom [] ts es) whole first;
       loses = λ order it. (order, subst (λ ts. IsInterleaving ts order) (sym whole) it.0, it.1);
-    }
+    })
 
-pub gathers_start : (traces : List (List Entry)) (n total : ℕ) (taken counts : List ℕ) (done : List Entry) → n ≡ length traces → taken ≡ replicate n 0
-    → counts ≡ replicate 256 0 → total ≡ left_of traces → done ≡ [] → Gathers traces total taken counts done
-gathers_start traces n total taken counts done size fresh zeros all none =
-    subst (Gathers traces total taken counts) (sym none) (gathers_none traces n total taken counts size fresh zeros all)
-
-none_ready_in : (traces : List (List Entry)) (taken counts : List ℕ) (done : List Entry) (j : ℕ) (rest : List Entry) → get_or (rests traces taken) j [] ≡ rest
+-- a trace whose next entry is not due is not ready
+none_ready : (traces : List (List Entry)) (taken counts : List ℕ) (done : List Entry) (j : ℕ) (rest : List Entry) → get_or (rests traces taken) j [] ≡ rest
     → ((b : ℕ) → get_or counts b 0 ≡ count_of done b) → ((e : Entry) → next_entry traces taken j ≡ Some e → ¬ IsNextOp counts e) → ¬ IsFrontReady done rest
-none_ready_in traces taken counts done j [] at counted none ready = ready
-none_ready_in traces taken counts done j (e ∷ rest) at counted none ready = none e (head_is_next traces taken j e rest at) (ready ∙ sym (counted e.buffer.0))
-
--- below the first trace that is due none is ready
-none_ready : (traces : List (List Entry)) (total : ℕ) (taken counts : List ℕ) (done : List Entry) (k : ℕ) → Gathers traces total taken counts done
-    → NoneDueBelow traces taken counts k → (j : ℕ) → j < k → ¬ IsFrontReady done (get_or (rests traces taken) j [])
-none_ready traces total taken counts done k g below j under ready =
-    none_ready_in traces taken counts done j (get_or (rests traces taken) j []) refl g.counted (λ e. below j e under) ready
+none_ready traces taken counts done j [] at counted none ready = ready
+none_ready traces taken counts done j (e ∷ rest) at counted none ready = none e (head_is_next traces taken j e rest at) (ready ∙ sym (counted e.buffer.0))
 
 -- a trace that has a next entry is one of the traces
 pub next_within : (traces : List (List Entry)) (taken : List ℕ) (k : ℕ) (e : Entry) → length taken ≡ length traces → next_entry traces taken k ≡ Some e
@@ -147,63 +130,48 @@ counted_more counts done e counted within b = elim (cases_eq b e.buffer.0) [
 -- where a trace has a next entry, fewer than all are taken
 pub some_left : (traces : List (List Entry)) (total : ℕ) (taken counts : List ℕ) (done : List Entry) (k : ℕ) (e : Entry)
     → Gathers traces total taken counts done → next_entry traces taken k ≡ Some e → length done < total
-some_left traces total taken counts done k e g next =
-    let rest = drop (get_or taken k 0 + 1) (get_or traces k []) in
-    omega (arith, g.left, left_of_more (rests traces taken) k e rest (next_is_head traces taken k e next))
+some_left traces total taken counts done k e g next = grind (arith, left_of_more, next_is_head)
 
 pub some_left_in : (traces : List (List Entry)) (total : ℕ) (taken counts : List ℕ) (done : List Entry) (k : ℕ) (e : Entry)
     → Gathers traces total taken counts done → next_entry traces taken k ≡ Some e → get_or taken k 0 < total
 some_left_in traces total taken counts done k e g next = grind (arith, slice_get_within, get_or-le-sum_by length traces k [], next_within)
 
 -- one entry more
-gathers_more : (traces : List (List Entry)) (total : ℕ) (taken counts : List ℕ) (done : List Entry) (k : ℕ) (e : Entry) → Gathers traces total taken counts done
-    → e.buffer.0 < 256 → next_entry traces taken k ≡ Some e → IsNextOp counts e → NoneDueBelow traces taken counts k
-    → Gathers traces total (set taken k (get_or taken k 0 + 1)) (set counts e.buffer.0 (get_or counts e.buffer.0 0 + 1)) (done ++ e ∷ [])
-gathers_more traces total taken counts done k e g small next due below =
-    let rest = drop (get_or taken k 0 + 1) (get_or traces k []) in
-    let at : get_or (rests traces taken) k [] ≡ e ∷ rest = next_is_head traces taken k e next in
-    let within : k < length taken = next_within traces taken k e g.slots next in
-    let others : rests traces (set taken k (get_or taken k 0 + 1)) ≡ set (rests traces taken) k rest = rests_more traces taken k e rest within at in
-    let ready : e.op ≡ count_of done e.buffer.0 = due ∙ g.counted e.buffer.0 in
-    record {
-      slots = length-set taken k (get_or taken k 0 + 1) ∙ g.slots;
-      table = length-set counts e.buffer.0 (get_or counts e.buffer.0 0 + 1) ∙ g.table;
-      counted = counted_more counts done e g.counted (omega (arith, small, g.table));
-      whole = g.whole;
-      left = omega (arith, g.left, ap left_of others, left_of_more (rests traces taken) k e rest at, length-append done (e ∷ []));
-      keeps = λ es kept. rw append_assoc (g.keeps (e ∷ es) (k, rest, head_at (rests traces taken) k e rest at, subst (λ ts. IsInterleaving ts es) others kept));
-      ops = λ es ops. rw append_assoc (g.ops (e ∷ es) (ready, ops));
-      greedy = λ es first. rw append_assoc
-          (g.greedy (e ∷ es) (
-            k,
-            rest,
-            head_at (rests traces taken) k e rest at,
-            ready,
-            none_ready traces total taken counts done k g below,
-            subst (λ ts. TakesFirstReadyFrom (done ++ e ∷ []) ts es) others first,
-          ));
-      loses = λ order it.
-          let went = g.loses order it in
-          let first : CameFirst done (set (rests traces taken) k rest) went.0 e =
-          may_come_first done (rests traces taken) went.0 k e rest went.1 went.2 at ready in
-          (first.later, subst (λ ts. IsInterleaving ts first.later) (sym others) first.keeps, first.ops);
-    }
-
 pub gathers_next : (traces : List (List Entry)) (total : ℕ) (taken counts : List ℕ) (done : List Entry) (k : ℕ) (e : Entry) (count buffer : ℕ)
     (after : List Entry) → Gathers traces total taken counts done → buffer < 256 → next_entry traces taken k ≡ Some e → IsNextOp counts e
     → NoneDueBelow traces taken counts k → count ≡ get_or taken k 0 → buffer ≡ e.buffer.0 → after ≡ done ++ e ∷ []
     → Gathers traces total (set taken k (count + 1)) (set counts buffer (get_or counts buffer 0 + 1)) after
 gathers_next traces total taken counts done k e count buffer after g small next due below same_count same_buffer same_done =
-    rw (same_count, same_buffer, same_done) (gathers_more traces total taken counts done k e g (omega (arith, small, same_buffer)) next due below)
+    let rest = drop (get_or taken k 0 + 1) (get_or traces k []) in
+    let at : get_or (rests traces taken) k [] ≡ e ∷ rest = next_is_head traces taken k e next in
+    let within : k < length taken = next_within traces taken k e g.slots next in
+    let others : rests traces (set taken k (get_or taken k 0 + 1)) ≡ set (rests traces taken) k rest = rests_more traces taken k e rest within at in
+    let ready : e.op ≡ count_of done e.buffer.0 = due ∙ g.counted e.buffer.0 in
+    let here : slice_get (rests traces taken) k ≡ Some (e ∷ rest) = head_at (rests traces taken) k e rest at in
+    let none = λ (j : ℕ) (under : j < k). none_ready traces taken counts done j (get_or (rests traces taken) j []) refl g.counted (λ e. below j e under) in
+    rw (same_count, same_buffer, same_done) (record {
+      slots = length-set taken k (get_or taken k 0 + 1) ∙ g.slots;
+      table = length-set counts e.buffer.0 (get_or counts e.buffer.0 0 + 1) ∙ g.table;
+      counted = counted_more counts done e g.counted (omega (arith, small, same_buffer, g.table));
+      whole = g.whole;
+      left = omega (arith, g.left, ap left_of others, left_of_more (rests traces taken) k e rest at, length-append done (e ∷ []));
+      keeps = λ es kept. rw append_assoc (g.keeps (e ∷ es) (k, rest, here, subst (λ ts. IsInterleaving ts es) others kept));
+      ops = λ es ops. rw append_assoc (g.ops (e ∷ es) (ready, ops));
+      greedy = λ es first. rw append_assoc
+          (g.greedy (e ∷ es) (k, rest, here, ready, none, subst (λ ts. TakesFirstReadyFrom (done ++ e ∷ []) ts es) others first));
+      loses = λ order it.
+          let went = g.loses order it in
+          let first : CameFirst done (set (rests traces taken) k rest) went.0 e =
+          may_come_first done (rests traces taken) went.0 k e rest went.1 went.2 at ready in
+          (first.later, subst (λ ts. IsInterleaving ts first.later) (sym others) first.keeps, first.ops);
+    })
 
 -- at the end the entries taken are an order, by first choice
 pub gathered_all : (traces : List (List Entry)) (total : ℕ) (taken counts : List ℕ) (done : List Entry) → Gathers traces total taken counts done
     → length done ≡ total → IsOrder traces done × TakesFirstReady traces done
 gathered_all traces total taken counts done g all =
-    let used : (k : ℕ) → get_or (rests traces taken) k [] ≡ [] = none_left (rests traces taken) (omega (arith, g.left, all)) in (
-      (subst (IsInterleaving traces) (append-nil done) (g.keeps [] used), subst HasOpOrder (append-nil done) (g.ops [] tt)),
-      subst (TakesFirstReady traces) (append-nil done) (g.greedy [] tt),
-    )
+    let used = none_left (rests traces taken) (omega (arith, g.left, all)) in
+    grind (arith, used, g.keeps [], g.ops [], g.greedy [], append-nil)
 
 no_later : (traces : List (List Entry)) (total : ℕ) (taken counts : List ℕ) (done es : List Entry) → Gathers traces total taken counts done
     → length done ≢ total → NoneDueBelow traces taken counts (length traces) → IsInterleaving (rests traces taken) es → HasOpOrderFrom done es → ⊥

@@ -1,12 +1,12 @@
 -- A message is spelled and read again, and what is read as a message is spelled so.
-use Rattle.std.proofs.Common.{◌≡◌, ℕ, ◌<◌, ◌^◌, ◌==◌, Bool, true, false, not, ◌&&◌, List, [], ◌∷◌, length, map, Result, Ok, Some, refl, sym, ap, subst, ◌∙◌}
+use Rattle.std.proofs.Common.{◌≡◌, ℕ, ◌<◌, ◌^◌, ◌==◌, Bool, true, false, not, ◌&&◌, List, [], ◌∷◌, length, map, Result, Ok, Some, refl, ap, subst, ◌∙◌}
 use Rattle.std.proofs.{Common.{lit<, arith}, lemmas.{Bool.and_parts, List.{length-map, Splits.{length-slice_split, join_with_byte-slice_split}}}}
-use Rattle.std.{proofs.lemmas.Slice.Eq.bytes_eq-Decides, specs.{Prelude.{decimal, nat_le}, Str.bytes_eq, List.{AllByRecursion, list_all, join_with_byte}}}
-use Rattle.event_log.specs.{declared.messages.TheConstants.WORDS, Messages.{Message, IsMessage, padded}, Digits.{is_number, number_to}, Rings.front_item}
+use Rattle.std.{proofs.lemmas.Slice.Eq.bytes_eq-Decides, specs.{Prelude.{decimal}, Str.bytes_eq, List.{AllByRecursion, list_all}}}
+use Rattle.event_log.specs.{Messages.{Message, IsMessage, padded}, Digits.{is_number, number_to}, Rings.front_item}
 use Rattle.event_log.{specs.Rings.items_behind, proofs.{DigitsLemmas.{IsSpelled, number_to-Some, number_to-decimal, spelled_number}, MessageLemmas.padded_eq}}
-use Rattle.tracer.specs.{declared.{verdicts.Reason.{Reason, TheVariants.Range}, versions.Version.{Version, TheVariants.Three}}, Versions.covers}
+use Rattle.tracer.specs.{declared.{verdicts.Reason.{Reason}, versions.Version.{Version, TheVariants.Three}}, Versions.covers}
 use Rattle.tracer.specs.{Versions.version_of_count, TraceText.{message_text, IsItemOf}, Judging.{take_first, comma_parts, spells_message, numbers_in}}
-use Rattle.tracer.{specs.Judging.{message_in, is_same, is_message, is_within}, proofs.{VersionLemmas.covers_first_one, ReadLemmas.{wanted_ok, same_ok}}}
+use Rattle.tracer.{specs.Judging.{message_in, is_same, is_message, is_within}, proofs.{VersionLemmas.covers_first_one, ReadLemmas.{same_ok}}}
 use Rattle.tracer.proofs.{ReadLemmas.{in_range_taken, decimal_is_number}, SplitLemmas.{Lacks, digits_alone, split_join, join_lacks, decimal_lacks}}
 
 -- words of 64 bits
@@ -66,15 +66,13 @@ are_numbers_again (n ∷ ns) small = rw (decimal_is_number n small.0, are_number
 
 numbers_again : (ns : List ℕ) → AreWords ns → numbers_in (map decimal ns) ≡ Ok ns
 numbers_again [] small = refl
-numbers_again (n ∷ ns) small = rw (number_to-decimal 18446744073709551615 n small.0 (let h = small.0 in omega arith), numbers_again ns small.1) refl
+numbers_again (n ∷ ns) small = grind (arith, number_to-decimal 18446744073709551615 n, numbers_again ns small.1)
 
 pub spells_message_again : (v : Version) (m : Message) → IsItemOf v m → spells_message v (message_text m) ≡ true
 spells_message_again v m is = rw (words_again m is.small, length-map m decimal, is.version, are_numbers_again m is.small.words) refl
 
 pub message_again : (m : Message) → IsMessage m → message_in (message_text m) ≡ Ok m
-message_again m is =
-    let few : nat_le (length m) WORDS ≡ true = grind (arith, is.most) in
-    rw (words_again m is, length-map m decimal, few, numbers_again m is.words) refl
+message_again m is = grind (arith, words_again, length-map, numbers_again)
 
 pub is_message_again : (m : Message) → IsMessage m → is_message (message_text m) m ≡ true
 is_message_again m is = rw (message_again m is) ((bytes_eq-Decides m m).1 refl)
@@ -110,11 +108,7 @@ pub record MessageTaken (piece : List ℕ) (m : Message) : Type 0 where
   pub count : length (comma_parts piece) ≡ length m
 
 pub message_taken : (piece : List ℕ) (m : Message) → message_in piece ≡ Ok m → MessageTaken piece m
-message_taken piece m e =
-    let few = wanted_ok (nat_le (length (comma_parts piece)) WORDS) Range (numbers_in (comma_parts piece)) m e in
-    let read = numbers_taken (comma_parts piece) m few.1 in
-    let spelled : piece ≡ message_text m = sym (join_with_byte-slice_split 44 piece) ∙ ap (join_with_byte 44) read.spelled in
-    grind (arith, spelled, read, few.0, length-slice_split (λ b. b == 44) piece)
+message_taken piece m e = grind (arith, numbers_taken (comma_parts piece) m, join_with_byte-slice_split 44 piece, length-slice_split (λ b. b == 44) piece)
 
 -- a message in a text of this version
 pub record ItemTaken (v : Version) (piece : List ℕ) (m : Message) : Type 0 where

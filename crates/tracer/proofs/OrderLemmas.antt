@@ -1,10 +1,10 @@
 -- Orders of traces: an entry that is due at the head of its trace may come first.
-use Rattle.std.proofs.Common.{◌≡◌, ◌≢◌, ℕ, ◌+◌, ◌<◌, ◌≤◌, Bool, true, false, cond, eqb, ◌&&◌, refl, List, [], ◌∷◌, ◌++◌, get_or, set, Some, sym, ap}
+use Rattle.std.proofs.Common.{◌≡◌, ◌≢◌, ℕ, ◌+◌, ◌<◌, Bool, cond, eqb, ◌&&◌, refl, List, [], ◌∷◌, ◌++◌, get_or, set, Some, sym, ap}
 use Rattle.std.proofs.{Common.{◌∙◌, subst, inl, inr, arith, count_by}, lemmas.{List.{set_comm, get_or-set_other, get_or_past, Sums.sum_by_push}, Bool.cases_eq}}
-use Rattle.std.{proofs.lemmas.{Bool.{eqb-true, Decides.nat_tests}, Option.{get_or_from_slice_get, slice_get-get_or}}, specs.Prelude.{nat_lt, slice_get, ◌==◌}}
+use Rattle.std.{proofs.lemmas.{Bool.{eqb-true, Decides.nat_tests}, Option.{get_or_from_slice_get, slice_get-get_or}}, specs.Prelude.{slice_get, ◌==◌}}
 use Rattle.std.specs.Prelude.{if◌then◌else◌}
 use Rattle.event_log.specs.{Messages.Message, declared.entries.{Entry.Entry, Kind.{Kind, TheVariants.Close}}, Buffers.{items_of, after_effect, empty_buffers}}
-use Rattle.event_log.specs.{Runs.{count_of, count_of_kind, is_closed, kind_eq, IsNext, IsRunFrom, after_entry}, Traces.{IsInterleaving, HasOpOrderFrom}}
+use Rattle.event_log.specs.{Runs.{count_of, count_of_kind, kind_eq, IsNext, IsRunFrom, after_entry}, Traces.{IsInterleaving, HasOpOrderFrom}}
 use Rattle.{event_log.proofs.RunLemmas.{op_order_from, count_more, count_kind_more}, tracer.specs.Gather.{OrdersAgreeByBuffer, RunsHaveOrder, OrdersRunAlike}}
 use Rattle.tracer.specs.Gather.{on_buffer}
 
@@ -13,7 +13,7 @@ pub at_head : (traces : List (List Entry)) (k : ℕ) (e : Entry) (rest : List En
 at_head traces k e rest at = get_or_from_slice_get traces k (e ∷ rest) [] at
 
 pub head_at : (traces : List (List Entry)) (k : ℕ) (e : Entry) (rest : List Entry) → get_or traces k [] ≡ e ∷ rest → slice_get traces k ≡ Some (e ∷ rest)
-head_at traces k e rest at = slice_get-get_or traces k [] (grind (arith, get_or_past)) ∙ ap Some at
+head_at traces k e rest at = grind (arith, slice_get-get_or, get_or_past)
 
 -- how one entry more changes the count of a buffer
 pub count_more_same : (earlier : List Entry) (e : Entry) (b : ℕ) → e.buffer.0 ≡ b → count_of (earlier ++ e ∷ []) b ≡ count_of earlier b + 1
@@ -26,26 +26,19 @@ kind_more_other : (earlier : List Entry) (e : Entry) (b : ℕ) (kind : Kind) →
     → count_of_kind (earlier ++ e ∷ []) b kind ≡ count_of_kind earlier b kind
 kind_more_other earlier e b kind differ = grind (arith, nat_tests, count_kind_more earlier e b kind)
 
--- an entry of another buffer closes none of this one
-closed_more_other : (earlier : List Entry) (e : Entry) (b : ℕ) → e.buffer.0 ≢ b → is_closed (earlier ++ e ∷ []) b ≡ is_closed earlier b
-closed_more_other earlier e b differ = ap (nat_lt 0) (kind_more_other earlier e b Close differ)
-
 -- an entry whose op number has gone by is never taken
 stuck : (earlier : List Entry) (traces : List (List Entry)) (order : List Entry) (k : ℕ) (e : Entry) (rest : List Entry) → IsInterleaving traces order
     → HasOpOrderFrom earlier order → get_or traces k [] ≡ e ∷ rest → e.op < count_of earlier e.buffer.0 → ⊥
-stuck earlier traces [] k e rest keeps ops at gone = let bad : [] ≡ e ∷ rest = sym (keeps k) ∙ at in (cc)
+stuck earlier traces [] k e rest keeps ops at gone = cc (keeps k, at)
 stuck earlier traces (f ∷ order) k e rest keeps ops at gone =
-    elim (cases_eq k keeps.0) [
-      | inl same ↦
-          let here : f ∷ keeps.1 ≡ e ∷ rest = sym (at_head traces keeps.0 f keeps.1 keeps.2) ∙ (ap (λ n. get_or traces n []) (sym same) ∙ at) in
-          let it : f ≡ e = cc in
-          let now : e.op ≡ count_of earlier e.buffer.0 = subst (λ x. x.op ≡ count_of earlier x.buffer.0) it ops.0 in
-          omega (arith, now, gone)
-      | inr differ ↦
-          let still : count_of earlier e.buffer.0 ≤ count_of (earlier ++ f ∷ []) e.buffer.0 = omega (arith, count_more earlier f e.buffer.0) in
-          stuck (earlier ++ f ∷ []) (set traces keeps.0 keeps.1) order k e rest keeps.3 ops.1 (get_or-set_other traces keeps.0 k keeps.1 [] differ ∙ at)
-          (omega (arith, gone, still))
-    ]
+    grind (
+      arith,
+      cases_eq k keeps.0,
+      at_head traces keeps.0 f keeps.1 keeps.2,
+      count_more earlier f e.buffer.0,
+      get_or-set_other traces keeps.0 k keeps.1 [],
+      stuck (earlier ++ f ∷ []) (set traces keeps.0 keeps.1) order k e rest keeps.3 ops.1,
+    )
 
 -- two lists of earlier entries that count the same for every test
 record SameCounts (a b : List Entry) : Type 0 where
@@ -61,22 +54,21 @@ ops_like : (a b order : List Entry) → SameCounts a b → HasOpOrderFrom a orde
 ops_like a b [] s ops = tt
 ops_like a b (e ∷ order) s ops = (ops.0 ∙ s.same (λ x. eqb x.buffer.0 e.buffer.0), ops_like (a ++ e ∷ []) (b ++ e ∷ []) order (counts_more a b e s) ops.1)
 
-next_like : (caps : List ℕ) (a b : List Entry) (contents : List (List Message)) (e : Entry) → SameCounts a b → IsNext caps a contents e
-    → IsNext caps b contents e
-next_like caps a b contents e s n =
-    grind (
-      arith,
-      n,
-      s.same (λ x. eqb x.buffer.0 e.buffer.0),
-      s.same (λ x. eqb x.buffer.0 e.buffer.0 && kind_eq x.kind Close),
-      s.same (λ x. eqb x.buffer.0 e.buffer.0 && kind_eq x.kind e.kind),
-    )
+-- whether an entry may come next hangs on what its buffer holds, and on the counts of it
+next_alike : (caps : List ℕ) (a b : List Entry) (x y : List (List Message)) (e : Entry) → items_of x e.buffer.0 ≡ items_of y e.buffer.0
+    → count_of a e.buffer.0 ≡ count_of b e.buffer.0 → ((kind : Kind) → count_of_kind a e.buffer.0 kind ≡ count_of_kind b e.buffer.0 kind)
+    → IsNext caps a x e → IsNext caps b y e
+next_alike caps a b x y e items counts kinds n =
+    record { known = n.known; allowed = rw (← items, ← kinds Close) n.allowed; op = n.op ∙ counts; pos = n.pos ∙ kinds e.kind }
 
 run_like : (caps : List ℕ) (a b : List Entry) (contents : List (List Message)) (order : List Entry) (left : List (List Message)) → SameCounts a b
     → IsRunFrom caps a contents order left → IsRunFrom caps b contents order left
 run_like caps a b contents [] left s run = run
-run_like caps a b contents (e ∷ order) left s run =
-    (next_like caps a b contents e s run.0, run_like caps (a ++ e ∷ []) (b ++ e ∷ []) (after_entry contents e) order left (counts_more a b e s) run.1)
+run_like caps a b contents (e ∷ order) left s run = (
+  next_alike caps a b contents contents e refl (s.same (λ x. eqb x.buffer.0 e.buffer.0))
+      (λ kind. s.same (λ x. eqb x.buffer.0 e.buffer.0 && kind_eq x.kind kind)) run.0,
+  run_like caps (a ++ e ∷ []) (b ++ e ∷ []) (after_entry contents e) order left (counts_more a b e s) run.1,
+)
 
 -- an entry leaves the items of other buffers as they are
 items_other : (contents : List (List Message)) (e : Entry) (b : ℕ) → b ≢ e.buffer.0 → items_of (after_entry contents e) b ≡ items_of contents b
@@ -85,39 +77,23 @@ items_other contents e b differ = get_or-set_other contents e.buffer.0 b (after_
 -- entries of two buffers may change places
 next_before : (caps : List ℕ) (earlier : List Entry) (contents : List (List Message)) (e f : Entry) → f.buffer.0 ≢ e.buffer.0
     → IsNext caps (earlier ++ f ∷ []) (after_entry contents f) e → IsNext caps earlier contents e
-next_before caps earlier contents e f differ n = record {
-  known = n.known;
-  allowed = rw (closed_more_other earlier f e.buffer.0 differ, items_other contents f e.buffer.0 (λ same. differ (sym same))) at n.allowed;
-  op = n.op ∙ count_more_other earlier f e.buffer.0 differ;
-  pos = n.pos ∙ kind_more_other earlier f e.buffer.0 e.kind differ;
-}
+next_before caps earlier contents e f differ =
+    next_alike caps (earlier ++ f ∷ []) earlier (after_entry contents f) contents e (items_other contents f e.buffer.0 (λ same. differ (sym same)))
+    (count_more_other earlier f e.buffer.0 differ) (λ kind. kind_more_other earlier f e.buffer.0 kind differ)
 
 next_behind : (caps : List ℕ) (earlier : List Entry) (contents : List (List Message)) (e f : Entry) → f.buffer.0 ≢ e.buffer.0 → IsNext caps earlier contents e
     → IsNext caps (earlier ++ f ∷ []) (after_entry contents f) e
-next_behind caps earlier contents e f differ n = record {
-  known = n.known;
-  allowed = rw (closed_more_other earlier f e.buffer.0 differ, items_other contents f e.buffer.0 (λ same. differ (sym same))) n.allowed;
-  op = n.op ∙ sym (count_more_other earlier f e.buffer.0 differ);
-  pos = n.pos ∙ sym (kind_more_other earlier f e.buffer.0 e.kind differ);
-}
+next_behind caps earlier contents e f differ =
+    next_alike caps earlier (earlier ++ f ∷ []) contents (after_entry contents f) e (sym (items_other contents f e.buffer.0 (λ same. differ (sym same))))
+    (sym (count_more_other earlier f e.buffer.0 differ)) (λ kind. sym (kind_more_other earlier f e.buffer.0 kind differ))
 
 after_swap : (contents : List (List Message)) (e f : Entry) → f.buffer.0 ≢ e.buffer.0
     → after_entry (after_entry contents f) e ≡ after_entry (after_entry contents e) f
-after_swap contents e f differ =
-    ap (λ items. set (after_entry contents f) e.buffer.0 (after_effect e.kind items e.value)) (items_other contents f e.buffer.0 (λ same. differ (sym same)))
-    ∙ (set_comm contents f.buffer.0 e.buffer.0 (after_effect f.kind (items_of contents f.buffer.0) f.value)
-    (after_effect e.kind (items_of contents e.buffer.0) e.value) differ
-    ∙ sym (ap (λ items. set (after_entry contents e) f.buffer.0 (after_effect f.kind items f.value)) (items_other contents e f.buffer.0 differ)))
+after_swap contents e f differ = grind (arith, items_other, set_comm)
 
 -- entries of two buffers may change places: each buffer's own stand as before
 swapped_first : (b : ℕ) (e f : Entry) (es : List Entry) → f.buffer.0 ≢ e.buffer.0 → on_buffer b (f ∷ e ∷ es) ≡ on_buffer b (e ∷ f ∷ es)
-swapped_first b e f es differ = go (f.buffer.0 == b) (e.buffer.0 == b) refl refl
-  where
-    go : (of_f of_e : Bool) → (f.buffer.0 == b) ≡ of_f → (e.buffer.0 == b) ≡ of_e → on_buffer b (f ∷ e ∷ es) ≡ on_buffer b (e ∷ f ∷ es)
-    go true true is_f is_e = absurd (differ (eqb-true f.buffer.0 b is_f ∙ sym (eqb-true e.buffer.0 b is_e)))
-    go true false is_f is_e = rw (is_f, is_e) refl
-    go false true is_f is_e = rw (is_f, is_e) refl
-    go false false is_f is_e = rw (is_f, is_e) refl
+swapped_first b e f es differ = grind (arith, eqb-true)
 
 -- an entry in front of entries that stand alike
 alike_behind : (b : ℕ) (e : Entry) (es fs : List Entry) → on_buffer b es ≡ on_buffer b fs → on_buffer b (e ∷ es) ≡ on_buffer b (e ∷ fs)
@@ -136,20 +112,15 @@ pub record CameFirst (earlier : List Entry) (others : List (List Entry)) (order 
 pub may_come_first : (earlier : List Entry) (traces : List (List Entry)) (order : List Entry) (k : ℕ) (e : Entry) (rest : List Entry)
     → IsInterleaving traces order → HasOpOrderFrom earlier order → get_or traces k [] ≡ e ∷ rest → e.op ≡ count_of earlier e.buffer.0
     → CameFirst earlier (set traces k rest) order e
-may_come_first earlier traces [] k e rest keeps ops at due = let bad : [] ≡ e ∷ rest = sym (keeps k) ∙ at in absurd (cc)
+may_come_first earlier traces [] k e rest keeps ops at due = absurd (cc (keeps k, at))
 may_come_first earlier traces (f ∷ order) k e rest keeps ops at due =
     elim (cases_eq k keeps.0) [
       | inl same ↦
-          let here : f ∷ keeps.1 ≡ e ∷ rest = sym (at_head traces keeps.0 f keeps.1 keeps.2) ∙ (ap (λ n. get_or traces n []) (sym same) ∙ at) in
+          let here : f ∷ keeps.1 ≡ e ∷ rest = cc (at_head traces keeps.0 f keeps.1 keeps.2, same, at) in
           let it : f ≡ e = cc in
           let there : keeps.1 ≡ rest = cc in
-          record {
-            later = order;
-            keeps = subst (λ n. IsInterleaving (set traces n rest) order) (sym same) (subst (λ r. IsInterleaving (set traces keeps.0 r) order) there keeps.3);
-            ops = subst (λ x. HasOpOrderFrom (earlier ++ x ∷ []) order) it ops.1;
-            runs = λ caps contents left run. subst (λ x. IsRunFrom caps earlier contents (x ∷ order) left) it run;
-            alike = λ b. ap (λ (x : Entry). on_buffer b (x ∷ order)) it;
-          }
+          rw (same, ← it, ← there)
+          (record { later = order; keeps = keeps.3; ops = ops.1; runs = λ caps contents left run. run; alike = λ b. refl })
       | inr differ ↦ elim (cases_eq f.buffer.0 e.buffer.0) [
         | inl alike ↦
             absurd (stuck (earlier ++ f ∷ []) (set traces keeps.0 keeps.1) order k e rest keeps.3 ops.1
@@ -192,8 +163,7 @@ run_alike_from : (caps : List ℕ) (earlier : List Entry) (contents : List (List
     (left : List (List Message)) → IsInterleaving traces order → IsRunFrom caps earlier contents order left → IsInterleaving traces other
     → HasOpOrderFrom earlier other → IsRunFrom caps earlier contents other left
 run_alike_from caps earlier contents traces [] [] left keeps run others ops = run
-run_alike_from caps earlier contents traces (f ∷ order) [] left keeps run others ops =
-    let bad : [] ≡ f ∷ keeps.1 = sym (others keeps.0) ∙ at_head traces keeps.0 f keeps.1 keeps.2 in absurd (cc)
+run_alike_from caps earlier contents traces (f ∷ order) [] left keeps run others ops = absurd (cc (others keeps.0, at_head traces keeps.0 f keeps.1 keeps.2))
 run_alike_from caps earlier contents traces order (e ∷ other) left keeps run others ops =
     let first : CameFirst earlier (set traces others.0 others.1) order e
     = may_come_first earlier traces order others.0 e others.1 keeps (op_order_from caps earlier contents order left run)
@@ -214,8 +184,7 @@ run_alike traces caps order other left keeps run others = run_alike_from caps []
 agree_from : (earlier : List Entry) (traces : List (List Entry)) (order other : List Entry) → IsInterleaving traces order → HasOpOrderFrom earlier order
     → IsInterleaving traces other → HasOpOrderFrom earlier other → (b : ℕ) → on_buffer b order ≡ on_buffer b other
 agree_from earlier traces [] [] keeps ops others others_ops b = refl
-agree_from earlier traces (f ∷ order) [] keeps ops others others_ops b =
-    let bad : [] ≡ f ∷ keeps.1 = sym (others keeps.0) ∙ at_head traces keeps.0 f keeps.1 keeps.2 in absurd (cc)
+agree_from earlier traces (f ∷ order) [] keeps ops others others_ops b = absurd (cc (others keeps.0, at_head traces keeps.0 f keeps.1 keeps.2))
 agree_from earlier traces order (e ∷ other) keeps ops others others_ops b =
     let first : CameFirst earlier (set traces others.0 others.1) order e
     = may_come_first earlier traces order others.0 e others.1 keeps ops (at_head traces others.0 e others.1 others.2) others_ops.0 in

@@ -1,8 +1,8 @@
 -- A text that is read and judged in parts has the verdict of the whole.
-use Rattle.std.proofs.Common.{◌≡◌, ℕ, ◌+◌, ◌-◌, ◌≤◌, ◌==◌, List, [], ◌∷◌, ◌++◌, length, take, drop, Option, Some, None, Ok, Err, refl, sym, ap, ◌∙◌}
+use Rattle.std.proofs.Common.{◌≡◌, ℕ, ◌+◌, ◌-◌, ◌≤◌, List, [], ◌∷◌, ◌++◌, length, take, drop, Option, Some, None, Ok, Err, refl, sym, ◌∙◌}
 use Rattle.std.proofs.{Common.{append_assoc, append-nil, eq-eqb, arith, length-append}, lemmas.List.{drop-take, length-drop, length-take, Edits.take-paste}}
 use Rattle.{std.{proofs.lemmas.List.Splits.slice_split_at, specs.Io.KnownBytes.{Consumes, IsAtEnd}}, tracer.specs.declared.checking.TextJudge.TextJudge}
-use Rattle.tracer.specs.{declared.verdicts.{Reason.Reason, Verdict.{Verdict, TheVariants.{No, Yes}}}, Judging.{lines_in, step, verdict_from, verdict_of}}
+use Rattle.tracer.specs.{declared.verdicts.{Reason.Reason, Verdict.{Verdict, TheVariants.{Yes}}}, Judging.{lines_in, step, verdict_from, verdict_of}}
 use Rattle.tracer.specs.{Inputs.IsReadBehind, Lines.IsFirstLine, Parts.verdict_behind, Tallies.progress_of, Verdicts.{IsTraceOfRun, IsVerdictOn}}
 use Rattle.tracer.proofs.VerdictLemmas.{line_taken, line_refused}
 use lib.Seq.{paste, take-add}
@@ -11,31 +11,19 @@ use lib.Seq.{paste, take-add}
 
 pub read_then : (old mid new : List ℕ) (from between now : Option (List ℕ)) → IsReadBehind old mid from between → IsReadBehind mid new between now
     → IsReadBehind old new from now
-read_then old mid new from between now first second = record {
-  more = first.more ++ second.more;
-  read = grind (arith, append_assoc);
-  grown = second.grown ∙ ap (λ (t : List ℕ). t ++ second.more) first.grown ∙ append_assoc old first.more second.more;
-}
+read_then old mid new from between now first second =
+    record { more = first.more ++ second.more; read = grind (arith, append_assoc); grown = grind (arith, append_assoc) }
 
 -- one read behind the first `at` bytes, which stay
 pub read_more : (xs ys : List ℕ) (at n : ℕ) (mid now : Option (List ℕ)) → take at ys ≡ take at xs → Consumes mid now (take n (drop at ys))
     → IsReadBehind (take at xs) (take (at + n) ys) mid now
-read_more xs ys at n mid now front read = record {
-  more = take n (drop at ys);
-  read = read;
-  grown = take-add at n ys ∙ ap (λ (t : List ℕ). t ++ take n (drop at ys)) front;
-}
+read_more xs ys at n mid now front read = record { more = take n (drop at ys); read = read; grown = grind (arith, take-add at n ys) }
 
 -- what stands behind the first `count` bytes is moved to the front
 pub bytes_moved : (xs : List ℕ) (filled count : ℕ) → count ≤ length (take filled xs) → filled ≤ length xs
     → take (filled - count) (paste xs 0 (drop count xs) (filled - count)) ≡ drop count (take filled xs)
 bytes_moved xs filled count few inside =
-    let within : count ≤ filled = omega (arith, length-take filled xs) in
-    let parts : filled ≡ count + (filled - count) = omega arith in
-    let rest : filled - count ≤ length (drop count xs) = omega (arith, length-drop count xs) in
-    let first : filled - count ≡ 0 + (filled - count) = omega arith in
-    ap (λ n. take n (paste xs 0 (drop count xs) (filled - count))) first ∙ take-paste xs 0 (drop count xs) (filled - count) (omega arith) rest
-    ∙ sym (ap (λ n. drop count (take n xs)) parts ∙ drop-take count (filled - count) xs)
+    grind (arith, length-take filled xs, length-drop count xs, take-paste xs 0 (drop count xs) (filled - count), drop-take count (filled - count) xs)
 
 -- ---- the lines of a part
 
@@ -45,9 +33,7 @@ live_verdict : (judge : TextJudge) (text : List ℕ) → judge.fault ≡ None �
 live_verdict judge text none = rw none refl
 
 first_line : (text line behind more : List ℕ) → IsFirstLine text line behind → lines_in (text ++ more) ≡ line ∷ lines_in (behind ++ more)
-first_line text line behind more is =
-    ap (λ (t : List ℕ). lines_in (t ++ more)) is.whole ∙ ap lines_in (append_assoc line (10 ∷ behind) more)
-    ∙ slice_split_at (λ b. b == 10) line 10 (behind ++ more) is.first (eq-eqb 10 10 refl)
+first_line text line behind more is = grind (arith, append_assoc, slice_split_at, eq-eqb)
 
 -- the rest of the part is still to be judged, by a judge that found no fault
 pub record IsTakenTo (old : TextJudge) (part : List ℕ) (now : TextJudge) (rest : List ℕ) : Type 0 where
@@ -60,31 +46,20 @@ pub record IsTakenTo (old : TextJudge) (part : List ℕ) (now : TextJudge) (rest
 -- one line more
 pub one_taken : (old : TextJudge) (part : List ℕ) (now new : TextJudge) (rest line behind : List ℕ) → IsTakenTo old part now rest → IsFirstLine rest line behind
     → step (progress_of now.judge) line ≡ Ok (progress_of new.judge) → new.line ≡ now.line + 1 → new.fault ≡ now.fault → IsTakenTo old part new behind
-one_taken old part now new rest line behind taken is stepped next fault =
-    let live_now = taken.live in
-    let live_new : new.fault ≡ None = fault ∙ live_now in
-    let long = ap length is.whole ∙ length-append line (10 ∷ behind) in
-    let counted = taken.counted in
-    record {
-      front = taken.front ++ (line ++ 10 ∷ []);
-      whole = taken.whole ∙ ap (λ (t : List ℕ). taken.front ++ t) (is.whole ∙ sym (append_assoc line (10 ∷ []) behind))
-          ∙ sym (append_assoc taken.front (line ++ 10 ∷ []) behind);
-      judged = (λ more.
-          taken.judged more ∙ live_verdict now (rest ++ more) live_now ∙ line_taken (progress_of now.judge) (progress_of new.judge) now.line (rest ++ more) line
-          (behind ++ more) (first_line rest line behind more is) stepped
-          ∙ ap (λ n. verdict_from (progress_of new.judge) n (lines_in (behind ++ more))) (sym next) ∙ sym (live_verdict new (behind ++ more) live_new));
-      live = live_new;
-      counted = omega arith;
-    }
+one_taken old part now new rest line behind taken is stepped next fault = record {
+  front = taken.front ++ (line ++ 10 ∷ []);
+  whole = grind (arith, append_assoc);
+  judged = λ more. grind (arith, taken.judged more, first_line rest line behind more is, line_taken);
+  live = fault ∙ taken.live;
+  counted = grind (arith, length-append);
+}
 
 -- a line with a fault
 pub faulty_line_refused : (old : TextJudge) (part : List ℕ) (now new : TextJudge) (rest line behind : List ℕ) (reason : Reason) → IsTakenTo old part now rest
     → IsFirstLine rest line behind → step (progress_of now.judge) line ≡ Err reason → new.line ≡ now.line → new.fault ≡ Some reason
     → (more : List ℕ) → verdict_behind old (part ++ more) ≡ verdict_behind new (drop (length part) part ++ more)
 faulty_line_refused old part now new rest line behind reason taken is stepped same fault more =
-    taken.judged more ∙ live_verdict now (rest ++ more) taken.live
-    ∙ line_refused (progress_of now.judge) now.line (rest ++ more) line (behind ++ more) reason (first_line rest line behind more is) stepped
-    ∙ ap (λ n. No n reason) (sym same) ∙ (rw fault refl)
+    grind (arith, taken.judged more, first_line rest line behind more is, line_refused)
 
 -- ---- an input that is judged as far as it was read
 
@@ -93,35 +68,18 @@ pub record IsJudgedTo (from now : Option (List ℕ)) (judge : TextJudge) (held :
   pub read : Consumes from now seen
   pub judged : (more : List ℕ) → verdict_of (seen ++ more) ≡ verdict_behind judge (held ++ more)
 
-pub judged_read : (from mid now : Option (List ℕ)) (judge : TextJudge) (held longer : List ℕ) → IsJudgedTo from mid judge held
-    → IsReadBehind held longer mid now → IsJudgedTo from now judge longer
-judged_read from mid now judge held longer before read = record {
-  seen = before.seen ++ read.more;
-  read = grind (arith, append_assoc);
-  judged = (λ more.
-      ap verdict_of (append_assoc before.seen read.more more) ∙ before.judged (read.more ++ more)
-      ∙ ap (verdict_behind judge) (sym (append_assoc held read.more more) ∙ ap (λ (t : List ℕ). t ++ more) (sym read.grown)));
-}
-
-pub judged_lines : (from now : Option (List ℕ)) (old new : TextJudge) (held rest : List ℕ) → IsJudgedTo from now old held
-    → ((more : List ℕ) → verdict_behind old (held ++ more) ≡ verdict_behind new (rest ++ more)) → IsJudgedTo from now new rest
-judged_lines from now old new held rest before taken = record { seen = before.seen; read = before.read; judged = (λ more. before.judged more ∙ taken more) }
-
 -- one part more: it is read, its lines are judged, and what is left is kept
 pub judged_part : (from mid now : Option (List ℕ)) (old new : TextJudge) (held longer part rest : List ℕ) (taken : ℕ) → IsJudgedTo from mid old held
     → IsReadBehind held longer mid now → part ≡ longer → ((more : List ℕ) → verdict_behind old (part ++ more) ≡ verdict_behind new (drop taken part ++ more))
     → rest ≡ drop taken longer → IsJudgedTo from now new rest
-judged_part from mid now old new held longer part rest taken before read same lines left =
-    rw left (judged_lines from now old new longer (drop taken longer) (judged_read from mid now old held longer before read) (rw same at lines))
+judged_part from mid now old new held longer part rest taken before read same lines left = record {
+  seen = before.seen ++ read.more;
+  read = grind (arith, append_assoc);
+  judged = λ more. grind (arith, append_assoc, before.judged (read.more ++ more), lines more);
+}
 
 pub judged_all : (from now : Option (List ℕ)) (judge : TextJudge) (held : List ℕ) (verdict : Verdict) → IsJudgedTo from now judge held → IsAtEnd now
     → verdict ≡ verdict_behind judge held → ((text : List ℕ) → verdict_of text ≡ Yes → IsTraceOfRun text) → IsVerdictOn from verdict
 judged_all from now judge held verdict before end is sound =
-    let same : verdict ≡ verdict_of before.seen =
-    is ∙ ap (verdict_behind judge) (sym (append-nil held)) ∙ sym (before.judged []) ∙ ap verdict_of (append-nil before.seen) in
-    record {
-      text = before.seen;
-      whole = grind (arith, append-nil);
-      judged = same;
-      run = (λ yes. sound before.seen (sym same ∙ yes));
-    }
+    let same : verdict ≡ verdict_of before.seen = grind (arith, append-nil, before.judged []) in
+    record { text = before.seen; whole = grind (arith, append-nil); judged = same; run = λ yes. sound before.seen (sym same ∙ yes) }

@@ -1,5 +1,5 @@
 -- What it says of the pieces of a line that one was read, or that none was left.
-use Rattle.std.proofs.Common.{◌≡◌, ℕ, ◌<◌, ◌≤◌, ◌==◌, Bool, false, not, List, [], ◌∷◌, length, drop, Option, Some, None, Err, refl, sym, ap, ◌∙◌, arith}
+use Rattle.std.proofs.Common.{◌≡◌, ℕ, ◌<◌, ◌≤◌, ◌==◌, Bool, false, not, List, [], ◌∷◌, length, drop, Option, Err, refl, ap, arith}
 use Rattle.{std.{proofs.lemmas.List.{drop_more, drop_all, Splits.length-slice_split}, specs.Prelude.{is_none, is_some}}, event_log.specs.Messages.Message}
 use Rattle.tracer.specs.{declared.{verdicts.Reason.Reason, pieces.Pieces.Pieces}, Judging.{piece_at, line_pieces, are_values}, Lines.left_of}
 use denote.Ref.{Bor}
@@ -19,15 +19,11 @@ no_pieces line (p ∷ ps) e = refl
 
 -- all numbers are read
 pieces_end : (pieces : Pieces) (ns : List Message) (i : ℕ) → length ns ≤ i → are_values (left_of pieces) (drop i ns) ≡ is_none pieces.rest
-pieces_end pieces ns i le =
-    rw (drop_all i ns le) (elim pieces.rest as (λ r. are_values (elim r [ None ↦ [] | Some line ↦ line_pieces line.now ]) [] ≡ is_none r) [
-      | None ↦ refl
-      | Some line ↦ no_pieces line.now (line_pieces line.now) refl
-    ])
+pieces_end pieces ns i le = grind (arith, drop_all, no_pieces)
 
 same_none : (line : Option (Bor (List ℕ))) (b : Bool) → is_some line ≡ not b → b ≡ is_none line
 same_none line b e = grind arith
 
 pub none_left : (pieces : Pieces) (ns : List Message) (i : ℕ) (b : Bool) → length ns ≤ i → is_some pieces.rest ≡ not b
     → b ≡ are_values (left_of pieces) (drop i ns)
-none_left pieces ns i b le e = same_none pieces.rest b e ∙ sym (pieces_end pieces ns i le)
+none_left pieces ns i b le e = grind (arith, drop_all, no_pieces)

@@ -1,7 +1,7 @@
 -- What the readers of pieces take, and what they give again.
 use Rattle.std.proofs.Common.{◌≡◌, ℕ, ◌<◌, ◌≤◌, ◌^◌, Bool, true, List, [], ◌∷◌, Option, Some, Result, Ok, Err, refl, eq-eqb, eqb-true, lit<, arith}
 use Rattle.std.{proofs.lemmas.Slice.Eq.bytes_eq-Decides, specs.Prelude.decimal}
-use Rattle.event_log.{specs.{Digits.{is_number, number_to}, Reading.{◌>>=◌}}, proofs.DigitsLemmas.{decimal-spelled, is_number-spelled, number_to-decimal}}
+use Rattle.event_log.{specs.{Digits.{is_number}, Reading.{◌>>=◌}}, proofs.DigitsLemmas.{decimal-spelled, is_number-spelled, number_to-decimal}}
 use Rattle.event_log.proofs.DigitsLemmas.{number_to-spelling, number_to-Some}
 use Rattle.tracer.specs.{declared.verdicts.Reason.Reason, Judging.{or_reason, piece_at, expected_word, digits_at, ended, or_range, in_range, is_value}}
 
@@ -41,9 +41,7 @@ pub record IsInRange (most : ℕ) (digits : List ℕ) (n : ℕ) : Type 0 where
   pub within : n ≤ most
 
 pub in_range_taken : (most : ℕ) (digits : List ℕ) (n : ℕ) → most < 2 ^ 64 → in_range most digits ≡ Ok n → IsInRange most digits n
-in_range_taken most digits n small e =
-    let read = or_range_taken (number_to most digits) n e in
-    record { spelled = number_to-spelling most digits n small read; within = (number_to-Some most digits n read).within }
+in_range_taken most digits n small e = grind (arith, or_range_taken, number_to-spelling, number_to-Some)
 
 pub is_value_taken : (digits : List ℕ) (n : ℕ) → is_value digits n ≡ true → digits ≡ decimal n
 is_value_taken digits n e = number_to-spelling 18446744073709551615 digits n (lit< tt) (grind (arith, eqb-true))

@@ -1,4 +1,5 @@
 -- A text that gets yes is the trace text of a run, and of where it ends.
+use Rattle.std.proofs.Common.{lt-ltb}
 use Rattle.std.proofs.Common.{◌≡◌, inl, inr, ℕ, ◌+◌, ◌<◌, ◌≤◌, Bool, true, false, cond, List, [], ◌∷◌, ◌++◌, length, drop, map, Result, Ok, Err}
 use Rattle.std.proofs.{Common.{refl, sym, ap, subst, ◌∙◌, append_assoc, eqb-true, ltb-true, ltb-false, arith}, lemmas.List.{append-nil, length_push}}
 use Rattle.std.proofs.lemmas.List.{length-set, length-map, drop_more, drop_all, nil_from_length, Concat.flat_map-append, Splits.join_with_byte-slice_split}
@@ -11,7 +12,7 @@ use Rattle.tracer.specs.Judging.{after_line, line_pieces, lines_in, verdict_from
 use Rattle.tracer.specs.{Judging.left_line, TraceText.{text_line, head_pieces, count_pieces, cap_pieces, entry_pieces, left_pieces, end_pieces, numbered}}
 use Rattle.tracer.{specs.TraceText.{lines_of, spelling, IsEntryOf, IsSpellable, AreItemsOf}, proofs.{KnownLemmas.known_fresh_from, EntryLemmas.progress}}
 use Rattle.tracer.proofs.{StepLemmas.{left_line_taken, entries_taken}, VersionLemmas.{covers_first_one, covers_both, version_more}}
-use Rattle.tracer.proofs.OpeningLemmas.{head_taken, end_taken, count_line_taken, opened, behind_cap, capacity_line_taken}
+use Rattle.tracer.proofs.OpeningLemmas.{head_taken, end_taken, count_line_taken, opened, capacity_line_taken}
 use Rattle.tracer.specs.declared.next_lines.NextLine.TheVariants as wants
 
 -- ---- one line
@@ -33,22 +34,20 @@ done_end : (v low : Version) (buffers : _) (entries n : ℕ) (lines : List (List
     → verdict_from (record { at = wants.Done; version = v; lowest = low; buffers = buffers; entries = entries }) n lines ≡ Yes
     → join_with_byte 10 lines ≡ []
 unfolding step
-done_end v low buffers entries n [] e = absurd (cc)
 done_end v low buffers entries n (rest ∷ []) e = nil_from_length rest (eqb-true (length rest) 0 (grind arith))
-done_end v low buffers entries n (line ∷ next ∷ more) e = absurd (cc)
+done_end v low buffers entries n others e = absurd (cc)
 
 sound_end : (v low : Version) (buffers : _) (entries n : ℕ) (lines : List (List ℕ))
     → verdict_from (record { at = wants.End; version = v; lowest = low; buffers = buffers; entries = entries }) n lines ≡ Yes
     → (join_with_byte 10 lines ≡ flat_map text_line (end_pieces ∷ [])) × (covers low v ≡ true)
 unfolding step
-sound_end v low buffers entries n [] e = absurd (cc)
-sound_end v low buffers entries n (rest ∷ []) e = absurd (cc)
 sound_end v low buffers entries n (line ∷ next ∷ more) e =
     let s : TextProgress = record { at = wants.End; version = v; lowest = low; buffers = buffers; entries = entries } in
     let go = went (end_line line s) n (λ after. verdict_from after (n + 1) (next ∷ more)) e in
     let word = end_taken line s go.0 go.1 in
-    let rest = done_end v low buffers entries (n + 1) (next ∷ more) (subst (λ (a : TextProgress). verdict_from a (n + 1) (next ∷ more) ≡ Yes) word.2 go.2) in
+    let rest = done_end v low buffers entries (n + 1) (next ∷ more) (rw word.2 at go.2) in
     (rw (word.0, rest) refl, word.1)
+sound_end v low buffers entries n others e = absurd (cc)
 
 -- ---- what is left
 
@@ -57,45 +56,31 @@ abbrev LeftText : Version → Version → ℕ → List (List Message) → List (
 LeftText v low b contents lines = (join_with_byte 10 lines ≡ flat_map text_line (numbered left_pieces b (drop b contents) ++ end_pieces ∷ []))
     × AllByRecursion (AreItemsOf v) (drop b contents) × (covers low v ≡ true)
 
-behind_cases : (v : Version) (b : ℕ) (caps : List ℕ) (earlier : List Entry) (contents : List (List Message)) (n : ℕ) (lines : List (List ℕ)) (more : Bool)
-    → nat_lt (b + 1) (length caps) ≡ more → length contents ≡ length caps
-    → (b + 1 < length caps → verdict_from (progress v (wants.Contents (b + 1)) caps earlier contents) n lines ≡ Yes
-    → LeftText v (version_of earlier) (b + 1) contents lines)
-    → verdict_from (progress v (cond more (wants.Contents (b + 1)) wants.End) caps earlier contents) n lines ≡ Yes
-    → LeftText v (version_of earlier) (b + 1) contents lines
-behind_cases v b caps earlier contents n lines true is long again e = again (ltb-true (b + 1) (length caps) is) e
-behind_cases v b caps earlier contents n lines false is long again e =
-    let past : length contents ≤ b + 1 = (let h = ltb-false (b + 1) (length caps) is in omega arith) in
-    let last = sound_end v (version_of earlier) _ _ n lines e in
-    rw (drop_all (b + 1) contents past) (last.0, tt, last.1)
-
 -- a line of what is left of buffer b, and the lines behind it
-left_text : (v low : Version) (b : ℕ) (contents : List (List Message)) (line : List ℕ) (ps : List (List ℕ)) (next : List ℕ) (more : List (List ℕ))
-    → line_pieces line ≡ ps → b < length contents → ps ≡ left_pieces b (items_of contents b) → AreItemsOf v (items_of contents b)
-    → LeftText v low (b + 1) contents (next ∷ more) → LeftText v low b contents (line ∷ next ∷ more)
-left_text v low b contents line ps next more is inside spelled small behind =
-    let cut : drop b contents ≡ items_of contents b ∷ drop (b + 1) contents = drop_more contents b [] inside in
-    let text : line ++ 10 ∷ join_with_byte 10 (next ∷ more) ≡ text_line (left_pieces b (items_of contents b))
-    ++ flat_map text_line (numbered left_pieces (b + 1) (drop (b + 1) contents) ++ end_pieces ∷ []) =
-    line_spelled line (left_pieces b (items_of contents b)) (join_with_byte 10 (next ∷ more)) (is ∙ spelled)
-    ∙ ap (λ (t : List ℕ). text_line (left_pieces b (items_of contents b)) ++ t) behind.0 in
-    subst (λ (all : List (List Message)). (line ++ 10 ∷ join_with_byte 10 (next ∷ more) ≡ flat_map text_line (numbered left_pieces b all ++ end_pieces ∷ []))
-    × AllByRecursion (AreItemsOf v) all × (covers low v ≡ true)) (sym cut) (text, (small, behind.1), behind.2)
+left_text : (v low : Version) (b : ℕ) (contents : List (List Message)) (line next : List ℕ) (more : List (List ℕ)) → b < length contents
+    → line_pieces line ≡ left_pieces b (items_of contents b) → AreItemsOf v (items_of contents b) → LeftText v low (b + 1) contents (next ∷ more)
+    → LeftText v low b contents (line ∷ next ∷ more)
+left_text v low b contents line next more inside spelled small behind = grind (arith, drop_more, line_spelled)
 
-sound_left : (v : Version) (b : ℕ) (caps : List ℕ) (earlier : List Entry) (contents : List (List Message)) (n : ℕ) (lines : List (List ℕ))
-    → length contents ≡ length caps
-    → verdict_from (progress v (wants.Contents b) caps earlier contents) n lines ≡ Yes → LeftText v (version_of earlier) b contents lines
+-- where what is left of buffer b was taken, the lines behind it are what is left of the others
+sound_left : (v : Version) (b : ℕ) (caps : List ℕ) (earlier : List Entry) (contents : List (List Message)) (n : ℕ) (line next : List ℕ) (rest : List (List ℕ))
+    (more : Bool) → nat_lt (b + 1) (length caps) ≡ more → length contents ≡ length caps → b < length caps
+    → line_pieces line ≡ left_pieces b (items_of contents b) → AreItemsOf v (items_of contents b)
+    → verdict_from (progress v (cond more (wants.Contents (b + 1)) wants.End) caps earlier contents) n (next ∷ rest) ≡ Yes
+    → LeftText v (version_of earlier) b contents (line ∷ next ∷ rest)
 unfolding step
-sound_left v b caps earlier contents n [] long e = absurd (cc)
-sound_left v b caps earlier contents n (rest ∷ []) long e = absurd (cc)
-sound_left v b caps earlier contents n (line ∷ next ∷ more) long e =
-    let s = progress v (wants.Contents b) caps earlier contents in
-    let go = went (left_line b (line_pieces line) s) n (λ after. verdict_from after (n + 1) (next ∷ more)) e in
-    let taken = left_line_taken v (wants.Contents b) b caps earlier contents (line_pieces line) go.0 go.1 in
-    let behind = behind_cases v b caps earlier contents (n + 1) (next ∷ more) (nat_lt (b + 1) (length caps)) refl long
-    (λ _ again. sound_left v (b + 1) caps earlier contents (n + 1) (next ∷ more) long again)
-    (subst (λ (a : TextProgress). verdict_from a (n + 1) (next ∷ more) ≡ Yes) taken.is go.2) in
-    left_text v (version_of earlier) b contents line (line_pieces line) next more refl (let h = taken.known in omega arith) taken.spelled taken.small behind
+sound_left v b caps earlier contents n line next rest false is long inside spelled small e =
+    let past : length contents ≤ b + 1 = (let h = ltb-false (b + 1) (length caps) is in omega arith) in
+    let last = sound_end v (version_of earlier) _ _ n (next ∷ rest) e in
+    left_text v (version_of earlier) b contents line next rest (omega arith) spelled small (rw (drop_all (b + 1) contents past) (last.0, tt, last.1))
+sound_left v b caps earlier contents n line next [] true is long inside spelled small e = absurd (cc)
+sound_left v b caps earlier contents n line next (third ∷ others) true is long inside spelled small e =
+    let s = progress v (wants.Contents (b + 1)) caps earlier contents in
+    let go = went (left_line (b + 1) (line_pieces next) s) n (λ after. verdict_from after (n + 1) (third ∷ others)) e in
+    let taken = left_line_taken v (wants.Contents (b + 1)) (b + 1) caps earlier contents (line_pieces next) go.0 go.1 in
+    left_text v (version_of earlier) b contents line next (third ∷ others) (omega arith) spelled small
+    (sound_left v (b + 1) caps earlier contents (n + 1) next third others (nat_lt (b + 1 + 1) (length caps)) refl long taken.known taken.spelled taken.small
+    (rw taken.is at go.2))
 
 -- ---- the entries
 
@@ -118,10 +103,7 @@ judged_more : (v : Version) (caps : List ℕ) (earlier : List Entry) (contents :
     → line_pieces line ≡ entry_pieces e → IsEntryOf (length caps) e → IsNext caps earlier contents e
     → IsJudged v caps (earlier ++ e ∷ []) (after_entry contents e) (next ∷ more) → IsJudged v caps earlier contents (line ∷ next ∷ more)
 judged_more v caps earlier contents line next more e spelled small can behind =
-    let rest = behind.2 in
-    let text : line ++ 10 ∷ join_with_byte 10 (next ∷ more) ≡ text_line (entry_pieces e) ++ _ =
-    line_spelled line (entry_pieces e) (join_with_byte 10 (next ∷ more)) spelled ∙ ap (λ (t : List ℕ). text_line (entry_pieces e) ++ t) rest.text in
-    (e ∷ behind.0, behind.1, grind (arith, text, length_push earlier e, version_more earlier e))
+    (e ∷ behind.0, behind.1, grind (arith, line_spelled, length_push earlier e, version_more earlier e))
 
 judged_left : (v : Version) (caps : List ℕ) (earlier : List Entry) (contents : List (List Message)) (lines : List (List ℕ)) → length earlier ≤ ENTRIES
     → length contents ≡ length caps → covers v (version_of earlier) ≡ true → LeftText v (version_of earlier) 0 contents lines
@@ -132,25 +114,22 @@ sound_entries : (v : Version) (caps : List ℕ) (earlier : List Entry) (contents
     → length contents ≡ length caps → covers v (version_of earlier) ≡ true → verdict_from (progress v wants.Entries caps earlier contents) n lines ≡ Yes
     → IsJudged v caps earlier contents lines
 unfolding step
-sound_entries v caps earlier contents n [] few long high e = absurd (cc)
-sound_entries v caps earlier contents n (rest ∷ []) few long high e = absurd (cc)
 sound_entries v caps earlier contents n (line ∷ next ∷ more) few long high e =
     let s = progress v wants.Entries caps earlier contents in
     let go = went (entries_line (line_pieces line) s) n (λ after. verdict_from after (n + 1) (next ∷ more)) e in
     elim (entries_taken v caps earlier contents (line_pieces line) go.0 long go.1) [
       | inl entry ↦
-          judged_more v caps earlier contents line next more entry.0 entry.1 entry.2 entry.4
+          let here = entry.1 in
+          judged_more v caps earlier contents line next more entry.0 here.spelled here.small here.next
           (sound_entries v caps (earlier ++ entry.0 ∷ []) (after_entry contents entry.0) (n + 1) (next ∷ more)
-          (let room = entry.5 in omega (arith, length_push earlier entry.0)) (length-set contents entry.0.buffer.0 _ ∙ long)
-          (rw (version_more earlier entry.0) (covers_both v (version_of earlier) (version_of_entry entry.0) high entry.3))
-          (subst (λ (a : TextProgress). verdict_from a (n + 1) (next ∷ more) ≡ Yes) entry.6 go.2))
+          (let room = here.room in omega (arith, length_push earlier entry.0)) (length-set contents entry.0.buffer.0 _ ∙ long)
+          (rw (version_more earlier entry.0) (covers_both v (version_of earlier) (version_of_entry entry.0) high here.high)) (rw here.is at go.2))
       | inr left ↦
           judged_left v caps earlier contents (line ∷ next ∷ more) few long high
-          (left_text v (version_of earlier) 0 contents line (line_pieces line) next more refl (let h = left.known in omega arith) left.spelled left.small
-          (behind_cases v 0 caps earlier contents (n + 1) (next ∷ more) (nat_lt (0 + 1) (length caps)) refl long
-          (λ _ again. sound_left v (0 + 1) caps earlier contents (n + 1) (next ∷ more) long again)
-          (subst (λ (a : TextProgress). verdict_from a (n + 1) (next ∷ more) ≡ Yes) left.is go.2)))
+          (sound_left v 0 caps earlier contents (n + 1) line next more (nat_lt (0 + 1) (length caps)) refl long left.known left.spelled left.small
+          (rw left.is at go.2))
     ]
+sound_entries v caps earlier contents n others few long high e = absurd (cc)
 
 -- ---- the capacities
 
@@ -164,50 +143,27 @@ pub record CapsJudged (v : Version) (count : ℕ) (caps : List ℕ) (lines : Lis
 abbrev AreCaps : Version → ℕ → List ℕ → List (List ℕ) → Type 0
 AreCaps v count caps lines = (more : List ℕ) × (m : ℕ) × (rest : List (List ℕ)) × CapsJudged v count caps lines more m rest
 
-caps_cases : (v : Version) (count : ℕ) (caps : List ℕ) (n : ℕ) (lines : List (List ℕ)) (goes : Bool) → nat_lt (length caps) count ≡ goes → length caps ≤ count
-    → (length caps < count → verdict_from (opened v (wants.Capacities count) caps) n lines ≡ Yes → AreCaps v count caps lines)
-    → verdict_from (opened v (cond goes (wants.Capacities count) wants.Entries) caps) n lines ≡ Yes → AreCaps v count caps lines
-caps_cases v count caps n lines true is le again e = again (ltb-true (length caps) count is) e
-caps_cases v count caps n lines false is le again e =
-    let past = ltb-false (length caps) count is in
-    ([], n, lines, record { counted = omega arith; small = tt; judged = rw (append-nil caps) e; text = refl })
-
 caps_more : (v : Version) (count : ℕ) (caps : List ℕ) (line next : List ℕ) (more : List (List ℕ)) (k : ℕ) → line_pieces line ≡ cap_pieces (length caps) k
     → IsCapacity k → AreCaps v count (caps ++ k ∷ []) (next ∷ more) → AreCaps v count caps (line ∷ next ∷ more)
-caps_more v count caps line next more k spelled small behind =
-    let rest = behind.3 in
-    let others = behind.0 in
-    let longer : length (caps ++ k ∷ []) ≡ length caps + 1 = length_push caps k in (
-      k ∷ others,
-      behind.1,
-      behind.2,
-      record {
-        counted = (let h = rest.counted in omega arith);
-        small = (small, rest.small);
-        judged = rw (← append_assoc caps (k ∷ []) others) rest.judged;
-        text = line_spelled line (cap_pieces (length caps) k) (join_with_byte 10 (next ∷ more)) spelled
-            ∙ ap (λ (t : List ℕ). text_line (cap_pieces (length caps) k) ++ t)
-            (rest.text ∙ ap (λ (b : ℕ). flat_map text_line (numbered cap_pieces b others) ++ join_with_byte 10 behind.2) longer)
-            ∙ sym (append_assoc (text_line (cap_pieces (length caps) k)) (flat_map text_line (numbered cap_pieces (length caps + 1) others))
-            (join_with_byte 10 behind.2));
-      },
-    )
+caps_more v count caps line next more k spelled small behind = grind (arith, length_push, append_assoc, line_spelled)
 
-sound_caps : (v : Version) (count : ℕ) (caps : List ℕ) (n : ℕ) (lines : List (List ℕ)) → length caps < count
-    → verdict_from (opened v (wants.Capacities count) caps) n lines ≡ Yes → AreCaps v count caps lines
+sound_caps : (v : Version) (count : ℕ) (caps : List ℕ) (n : ℕ) (lines : List (List ℕ)) (goes : Bool) → nat_lt (length caps) count ≡ goes
+    → length caps ≤ count → verdict_from (opened v (cond goes (wants.Capacities count) wants.Entries) caps) n lines ≡ Yes → AreCaps v count caps lines
 unfolding step
-sound_caps v count caps n [] lt e = absurd (cc)
-sound_caps v count caps n (rest ∷ []) lt e = absurd (cc)
-sound_caps v count caps n (line ∷ next ∷ more) lt e =
+sound_caps v count caps n lines false is le e =
+    let past = ltb-false (length caps) count is in
+    ([], n, lines, record { counted = omega arith; small = tt; judged = rw (append-nil caps) e; text = refl })
+sound_caps v count caps n (line ∷ next ∷ more) true is le e =
     let s = opened v (wants.Capacities count) caps in
     let go = went (capacity_line count (line_pieces line) s) n (λ after. verdict_from after (n + 1) (next ∷ more)) e in
     let taken = capacity_line_taken v (wants.Capacities count) count caps (line_pieces line) go.0 go.1 in
     let k = taken.0 in
     let longer : length (caps ++ k ∷ []) ≡ length caps + 1 = length_push caps k in
-    let judged : verdict_from (opened v (behind_cap (length (caps ++ k ∷ [])) count) (caps ++ k ∷ [])) (n + 1) (next ∷ more) ≡ Yes =
-    rw longer (subst (λ (a : TextProgress). verdict_from a (n + 1) (next ∷ more) ≡ Yes) taken.1.is go.2) in
-    caps_more v count caps line next more k taken.1.spelled taken.1.small (caps_cases v count (caps ++ k ∷ []) (n + 1) (next ∷ more)
-    (nat_lt (length (caps ++ k ∷ [])) count) refl (omega arith) (λ less again. sound_caps v count (caps ++ k ∷ []) (n + 1) (next ∷ more) less again) judged)
+    let below = ltb-true (length caps) count is in
+    caps_more v count caps line next more k taken.1.spelled taken.1.small
+    (sound_caps v count (caps ++ k ∷ []) (n + 1) (next ∷ more) (nat_lt (length (caps ++ k ∷ [])) count) refl (omega arith)
+    (rw longer (rw taken.1.is at go.2)))
+sound_caps v count caps n others true is le e = absurd (cc)
 
 -- ---- the whole text
 
@@ -221,31 +177,18 @@ tail_of : (v : Version) (line next : List ℕ) (more : List (List ℕ)) (n : ℕ
     (left : List (List Message)) → line_pieces line ≡ count_pieces n → 1 ≤ n → n ≤ BUFFERS → length caps ≡ n → AllByRecursion IsCapacity caps
     → join_with_byte 10 (next ∷ more) ≡ flat_map text_line (numbered cap_pieces 0 caps) ++ join_with_byte 10 rest
     → Judged v caps [] (empty_buffers caps) rest es left → IsTail v (join_with_byte 10 (line ∷ next ∷ more))
-tail_of v line next more n caps rest es left spelled some few counted small text judged = (
-  caps,
-  es,
-  left,
-  grind (arith, judged),
-  judged.run,
-  judged.lowest,
-  line_spelled line (count_pieces n) (join_with_byte 10 (next ∷ more)) spelled
-      ∙ rw (counted, text, judged.text) (ap (λ (t : List ℕ). text_line (count_pieces n) ++ t) (sym (flat_map-append text_line (numbered cap_pieces 0 caps) _))),
-)
+tail_of v line next more n caps rest es left spelled some few counted small text judged = grind (arith, line_spelled, flat_map-append)
 
 sound_count : (v : Version) (n : ℕ) (lines : List (List ℕ)) → verdict_from (record text_start { at = wants.Count; version = v }) n lines ≡ Yes
     → IsTail v (join_with_byte 10 lines)
 unfolding step
-sound_count v n [] e = absurd (cc)
-sound_count v n (rest ∷ []) e = absurd (cc)
 sound_count v n (line ∷ next ∷ more) e =
     let s : TextProgress = record text_start { at = wants.Count; version = v } in
     let go = went (count_line (line_pieces line) s) n (λ after. verdict_from after (n + 1) (next ∷ more)) e in
     let taken = count_line_taken (line_pieces line) s go.0 go.1 in
     let count = taken.0 in
-    let judged : verdict_from (opened v (wants.Capacities count) []) (n + 1) (next ∷ more) ≡ Yes =
-    subst (λ (a : TextProgress). verdict_from a (n + 1) (next ∷ more) ≡ Yes) taken.1.is go.2 in
     let some : 0 < count = (let h = taken.1.some in omega arith) in
-    let all = sound_caps v count [] (n + 1) (next ∷ more) some judged in
+    let all = sound_caps v count [] (n + 1) (next ∷ more) true (lt-ltb 0 count some) (omega arith) (rw taken.1.is at go.2) in
     let caps = all.0 in
     let long : length (empty_buffers caps) ≡ length caps = length-map caps (λ (k : ℕ). []) in
     let opens : opened v wants.Entries caps ≡ progress v wants.Entries caps [] (empty_buffers caps) =
@@ -254,6 +197,7 @@ sound_count v n (line ∷ next ∷ more) e =
     (subst (λ (a : TextProgress). verdict_from a all.1 all.2 ≡ Yes) opens all.3.judged) in
     tail_of v line next more count caps all.2 entries.0 entries.1 taken.1.spelled taken.1.some taken.1.few (let h = all.3.counted in omega arith) all.3.small
     all.3.text entries.2
+sound_count v n others e = absurd (cc)
 
 head_text : (v : Version) (es : List Entry) (line rest body : List ℕ) → line ≡ join_with_byte 32 (head_pieces v) → v ≡ version_of es → rest ≡ body
     → line ++ 10 ∷ rest ≡ text_line (head_pieces (version_of es)) ++ body
@@ -261,12 +205,10 @@ head_text v es line rest body e1 e2 e3 = rw (e1, e3, ← e2) (sym (append_assoc 
 
 sound_lines : (n : ℕ) (lines : List (List ℕ)) → verdict_from text_start n lines ≡ Yes → IsTraceOfRun (join_with_byte 10 lines)
 unfolding step spelling lines_of
-sound_lines n [] e = absurd (cc)
-sound_lines n (rest ∷ []) e = absurd (cc)
 sound_lines n (line ∷ next ∷ more) e =
     let go = went (head_line line text_start) n (λ after. verdict_from after (n + 1) (next ∷ more)) e in
     let head = head_taken line text_start go.0 go.1 in
-    let tail = sound_count head.0 (n + 1) (next ∷ more) (subst (λ (a : TextProgress). verdict_from a (n + 1) (next ∷ more) ≡ Yes) head.2 go.2) in (
+    let tail = sound_count head.0 (n + 1) (next ∷ more) (rw head.2 at go.2) in (
       tail.0,
       tail.1,
       tail.2,
@@ -274,6 +216,7 @@ sound_lines n (line ∷ next ∷ more) e =
       tail.4,
       taken_put tail.0 tail.1 tail.2 tail.4,
     )
+sound_lines n others e = absurd (cc)
 
 pub sound : (text : List ℕ) → verdict_of text ≡ Yes → IsTraceOfRun text
 unfolding verdict_of

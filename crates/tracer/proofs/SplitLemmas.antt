@@ -1,4 +1,5 @@
 -- What is joined by a byte that no piece has is cut again into its pieces.
+use Rattle.std.proofs.Common.{lit<}
 use Rattle.std.proofs.Common.{◌≡◌, ℕ, ◌+◌, ◌<◌, ◌≤◌, ◌^◌, ◌==◌, true, false, List, [], ◌∷◌, ◌++◌, Ok, length, get_or, take, drop, refl, ap, sym, ◌∙◌}
 use Rattle.std.proofs.{Common.{append_assoc, eq-eqb, arith, take_all}, lemmas.{Bool.{Decides.nat_tests, and_parts}, List.Elements.All-from_recursion}}
 use Rattle.std.{proofs.lemmas.List.{Splits.{slice_split_at, slice_split_none}, drop_more, take-append-drop}, specs.{Prelude.decimal, Char.is_ascii_digit}}
@@ -49,27 +50,24 @@ digits_alone at cs lt digits = split_alone at cs (digits_lack at cs lt digits)
 pub digits_cut : (text : List ℕ) (count : ℕ) → all_ascii_digits (take count text) ≡ true → count < length text → get_or text count 0 ≡ 32
     → line_pieces text ≡ take count text ∷ line_pieces (drop (count + 1) text)
 digits_cut text count digits inside space =
-    let whole : take count text ++ get_or text count 0 ∷ drop (count + 1) text ≡ text = rw (← drop_more text count 0 inside) (take-append-drop count text) in
-    let joined : take count text ++ 32 ∷ drop (count + 1) text ≡ text = rw space at whole in
-    ap line_pieces (sym joined) ∙ split_behind 32 (take count text) (drop (count + 1) text) (digits_lack 32 (take count text) (omega arith) digits)
+    grind (arith, drop_more text count 0 inside, take-append-drop count text, split_behind 32 (take count text), digits_lack 32 (take count text))
 
 -- digits to the end of the text are its one piece
 pub digits_end : (text : List ℕ) (count : ℕ) → all_ascii_digits (take count text) ≡ true → length text ≤ count → line_pieces text ≡ text ∷ []
 digits_end text count digits end = digits_alone 32 text (omega arith) (ap all_ascii_digits (sym (take_all count text end)) ∙ digits)
 
--- no piece has a space or a line feed
-pub record IsLine (ps : List (List ℕ)) : Type 0 where
-  pub spaces : AllByRecursion (Lacks 32) ps
-  pub feeds : AllByRecursion (Lacks 10) ps
+-- no piece has a byte below the comma, as a space or a line feed
+abbrev pub IsLine : List (List ℕ) → Type 0
+IsLine ps = (at : ℕ) → at < 44 → AllByRecursion (Lacks at) ps
 
 pub pieces_again : (p : List ℕ) (ps : List (List ℕ)) → IsLine (p ∷ ps) → line_pieces (join_with_byte 32 (p ∷ ps)) ≡ p ∷ ps
-pieces_again p ps line = split_join 32 p ps line.spaces
+pieces_again p ps line = split_join 32 p ps (line 32 (lit< tt))
 
 line_again : (p : List ℕ) (ps : List (List ℕ)) (rest : List ℕ) → IsLine (p ∷ ps)
     → lines_in (text_line (p ∷ ps) ++ rest) ≡ join_with_byte 32 (p ∷ ps) ∷ lines_in rest
 line_again p ps rest line =
     let text : text_line (p ∷ ps) ++ rest ≡ join_with_byte 32 (p ∷ ps) ++ 10 ∷ rest = append_assoc (join_with_byte 32 (p ∷ ps)) (10 ∷ []) rest in
-    ap lines_in text ∙ split_behind 10 (join_with_byte 32 (p ∷ ps)) rest (join_lacks 10 32 (p ∷ ps) refl line.feeds)
+    ap lines_in text ∙ split_behind 10 (join_with_byte 32 (p ∷ ps)) rest (join_lacks 10 32 (p ∷ ps) refl (line 10 (lit< tt)))
 
 -- a line that is taken
 pub line_read : (s after : TextProgress) (n : ℕ) (p : List ℕ) (ps : List (List ℕ)) (rest : List ℕ) → IsLine (p ∷ ps)

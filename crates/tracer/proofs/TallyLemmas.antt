@@ -1,5 +1,5 @@
 -- A step on one buffer is a step among the buffers.
-use Rattle.std.proofs.Common.{◌≡◌, ℕ, ◌<◌, ◌≤◌, List, length, get_or, set, map, Option, Some, None, Result, Ok, Err, refl, sym, ap, subst, ◌∙◌, arith}
+use Rattle.std.proofs.Common.{◌≡◌, ℕ, ◌<◌, ◌≤◌, List, length, get_or, set, map, Option, Some, Result, Ok, Err, ap, ◌∙◌, arith}
 use Rattle.std.{proofs.lemmas.{List.{map-set, length-map}, Option.{slice_get-map, slice_get-get_or, slice_get_past}}, specs.Prelude.{slice_get, slice_set}}
 use Rattle.std.specs.Prelude.{option_map}
 use Rattle.event_log.specs.{declared.entries.Entry.Entry, Reading.{◌>>=◌}}
@@ -15,22 +15,14 @@ among e buffers seen = or_range seen >>= λ here. entry_on e here >>= λ next. O
 
 stepped : (e : Entry) (ts : List Tally) (seen : Seen) (new : Tally) (r : Result (Unit {0}) Reason) → StepsTo (entry_on e seen) r (seen_in new)
     → StepsTo (among e (map seen_in ts) (Some seen)) r (map seen_in (set ts e.buffer.0 new))
-stepped e ts seen new (Ok done) steps = rw steps (ap Ok (sym (map-set seen_in ts e.buffer.0 new)))
-stepped e ts seen new (Err reason) steps = rw steps refl
+stepped e ts seen new r given = grind (arith, map-set)
 
 pub entered : (e : Entry) (ts : List Tally) (b : ℕ) (d new : Tally) (r : Result (Unit {0}) Reason) → b ≡ e.buffer.0 → b < length ts
     → StepsTo (entry_on e (seen_in (get_or ts b d))) r (seen_in new) → StepsTo (entry_among e (map seen_in ts)) r (map seen_in (set ts b new))
 unfolding entry_among
-entered e ts b d new r same lt steps =
-    let here : b < length ts = lt in
-    let at : slice_get (map seen_in ts) e.buffer.0 ≡ Some (seen_in (get_or ts b d)) = rw (← same) (seen_at ts b d lt) in
-    subst (λ (seen : Option Seen). StepsTo (among e (map seen_in ts) seen) r (map seen_in (set ts b new))) (sym at)
-    (subst (λ (k : ℕ). StepsTo (among e (map seen_in ts) (Some (seen_in (get_or ts b d)))) r (map seen_in (set ts k new))) (sym same)
-    (stepped e ts (seen_in (get_or ts b d)) new r steps))
+entered e ts b d new r same lt steps = grind (arith, seen_at, stepped)
 
 -- where there is no such buffer
 pub entered_nowhere : (e : Entry) (ts : List Tally) (b : ℕ) → b ≡ e.buffer.0 → length ts ≤ b → entry_among e (map seen_in ts) ≡ Err Range
 unfolding entry_among
-entered_nowhere e ts b same le =
-    let at : slice_get (map seen_in ts) e.buffer.0 ≡ None = rw (← same) (slice_get_past (map seen_in ts) b (omega (arith, length-map ts seen_in))) in
-    ap (among e (map seen_in ts)) at
+entered_nowhere e ts b same le = grind (arith, slice_get_past, length-map)

@@ -1,12 +1,11 @@
 -- One line more of a text that is judged.
-use Rattle.std.proofs.{Common.{◌≡◌, ℕ, ◌+◌, ◌<◌, ◌==◌, List, [], ◌∷◌, length, Ok, Err, refl, ap, ◌∙◌, arith}, lemmas.List.Splits.length-slice_split}
+use Rattle.std.proofs.{Common.{◌≡◌, ℕ, ◌+◌, ◌<◌, ◌==◌, List, ◌∷◌, length, Ok, Err, refl, ap, ◌∙◌, arith}, lemmas.List.Splits.length-slice_split}
 use Rattle.tracer.specs.{declared.verdicts.{Reason.Reason, Verdict.TheVariants.No}, Judging.{TextProgress, lines_in, step, after_line, verdict_from}}
 
 -- a line that is not the last
 more_lines : (s : TextProgress) (n : ℕ) (line : List ℕ) (parts : List (List ℕ)) → 0 < length parts
     → verdict_from s n (line ∷ parts) ≡ after_line (step s line) n (λ after. verdict_from after (n + 1) parts)
-more_lines s n line [] some = absurd (let z : 0 < 0 = some in omega arith)
-more_lines s n line (next ∷ more) some = refl
+more_lines s n line parts some = grind arith
 
 cut_line : (s : TextProgress) (n : ℕ) (rest line behind : List ℕ) → lines_in rest ≡ line ∷ lines_in behind
     → verdict_from s n (lines_in rest) ≡ after_line (step s line) n (λ after. verdict_from after (n + 1) (lines_in behind))

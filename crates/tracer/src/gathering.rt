@@ -128,6 +128,7 @@ fn first_ready<'t>(
 /// A law: traces of which some order is a run have an order for [`gather`] to find, and each order
 /// of them is a run that ends in the same contents. So the gathered order of a system's traces is
 /// a run that ends in the system's contents.
+#[tactic(auto, using(crate::proofs::OrderLemmas::orders_agree, crate::proofs::OrderLemmas::runs_have_order, crate::proofs::OrderLemmas::run_alike))]
 pub fn gathered_is_a_run()
     ensures found { (traces : List (List AnEntry)) → RunsHaveOrder traces }
     ensures alike { (traces : List (List AnEntry)) → OrdersRunAlike traces }

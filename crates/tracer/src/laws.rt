@@ -8,6 +8,7 @@ ghost use Rattle.tracer.specs.{OneOrder.OneOrderIsTaken, TraceText.IsTraceText, 
 
 /// A law: the judge says yes exactly to the texts that spell a run and where it ends. So the text
 /// that `write_trace` writes of a run, and of what it leaves, gets yes.
+#[tactic(auto, using(crate::proofs::CompleteLemmas::complete, crate::proofs::SoundLemmas::sound))]
 pub fn yes_is_right()
     ensures sound { (text : List ℕ) → verdict_of text ≡ SaysYes → IsTraceOfRun text }
     ensures complete { (text caps : List ℕ) (es : List AnEntry) (left : List (List Message))
@@ -16,6 +17,7 @@ pub fn yes_is_right()
 
 /// A law: traces have at most one order that takes at each point the first trace that is ready. That is
 /// the order which `gather` returns, so a run has one text.
+#[tactic(auto, using(crate::proofs::TakenLemmas::one_order))]
 pub fn one_order_is_taken()
     ensures { OneOrderIsTaken }
 {}

@@ -7,14 +7,10 @@ returns-then-not-is_ascii_digit-clause-digits c =
     read_digits 18446744073709551615 c.args.text.now c.loop-count.count c.loop-count.number c.loop-count.invariant
 
 pub overflow_mul-number : goal.overflow_mul-number
-overflow_mul-number c =
-    let below = short_stays_below c.args.text.now c.loop-count.count c.loop-count.number c.loop-count.invariant in
-    grind (arith, below, c.min-most.ensures, c.loop-count-test.true, c.is_ascii_digit.ensures.value, c.if-not-is_ascii_digit.false)
+overflow_mul-number c = grind (arith, short_stays_below)
 
 pub overflow_add-number : goal.overflow_add-number
-overflow_add-number c =
-    let below = short_stays_below c.args.text.now c.loop-count.count c.loop-count.number c.loop-count.invariant in
-    grind (arith, below, c.from.ensures, c.min-most.ensures, c.loop-count-test.true, c.is_ascii_digit.ensures.value, c.if-not-is_ascii_digit.false)
+overflow_add-number c = grind (arith, short_stays_below)
 
 pub loop-count-preserved : goal.loop-count-preserved
 loop-count-preserved c =

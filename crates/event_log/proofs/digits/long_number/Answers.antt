@@ -4,19 +4,13 @@ use Rattle.event_log.proofs.DigitsLemmas.{number_to-not_a_digit, number_to-too_l
 use Rattle.event_log.proofs.digits.long_number.Goals as goal
 
 pub returns-then-not-is_ascii_digit-clause-number : goal.returns-then-not-is_ascii_digit-clause-number
-returns-then-not-is_ascii_digit-clause-number c =
-    sym (number_to-not_a_digit c.args.most c.args.text.now c.loop-byte.byte-index c.loop-byte-test.true
-    (sym c.is_ascii_digit.ensures.value ∙ c.if-not-is_ascii_digit.true))
+returns-then-not-is_ascii_digit-clause-number c = grind (arith, number_to-not_a_digit)
 
 pub returns-then-number-tenth-clause-number : goal.returns-then-number-tenth-clause-number
-returns-then-number-tenth-clause-number c =
-    let none = number_to-too_large c.args.most c.args.text.now c.loop-byte.byte-index c.loop-byte.number c.loop-byte.invariant c.loop-byte-test.true in
-    grind (arith, none, c.is_ascii_digit.ensures.value, c.if-not-is_ascii_digit.false, c.if-number-tenth.true)
+returns-then-number-tenth-clause-number c = grind (arith, number_to-too_large)
 
 pub returns-then-digit-most-clause-number : goal.returns-then-digit-most-clause-number
-returns-then-digit-most-clause-number c =
-    let none = number_to-too_large c.args.most c.args.text.now c.loop-byte.byte-index c.loop-byte.number c.loop-byte.invariant c.loop-byte-test.true in
-    grind (arith, none, c.is_ascii_digit.ensures.value, c.if-not-is_ascii_digit.false, c.if-digit-most.true)
+returns-then-digit-most-clause-number c = grind (arith, number_to-too_large)
 
 pub loop-byte-preserved : goal.loop-byte-preserved
 loop-byte-preserved c =
@@ -26,6 +20,4 @@ loop-byte-preserved c =
     (sym c.is_ascii_digit.ensures.value ∙ c.if-not-is_ascii_digit.false) fits)
 
 pub returns-clause-number : goal.returns-clause-number
-returns-clause-number c =
-    sym (reads_all c.args.most c.args.text.now c.loop-byte.byte-index c.loop-byte.number c.loop-byte.invariant c.loop-byte-test.false c.requires.some
-    c.requires.lead)
+returns-clause-number c = grind (arith, reads_all)

@@ -1,14 +1,8 @@
 -- A text that is digits to its end spells the number that was read; any other is read again, one digit at a time.
 use Rattle.std.{proofs.{Common.{◌≡◌, ◌<◌, length, get_or, arith, sym, ◌∙◌, ap, Some, take_all}, lemmas.Bool.Decides.nat_tests}, specs.Str.Parse.digits_value}
-use Rattle.event_log.proofs.DigitsLemmas.{IsSpelled, digits_spelled, number_to-beyond, number_to-empty, number_to-leading_zero, number_to-spelled}
+use Rattle.event_log.proofs.DigitsLemmas.{IsSpelled, digits_spelled, number_to-beyond, number_to-spelled}
 use Rattle.event_log.proofs.digits.number_to.Goals.{else-text-eq48-via-then-text-eq48+else-text-gt1, else-text-eq48-via-else-text-eq48}
 use Rattle.event_log.proofs.digits.number_to.Goals as goal
-
-pub returns-then-is_empty-clause-number : goal.returns-then-is_empty-clause-number
-returns-then-is_empty-clause-number c = sym (number_to-empty c.args.most c.args.text.now (grind (arith, nat_tests)))
-
-pub returns-then-text-gt1-clause-number : goal.returns-then-text-gt1-clause-number
-returns-then-text-gt1-clause-number c = sym (number_to-leading_zero c.args.most c.args.text.now c.if-text-eq48.true c.if-text-gt1.true)
 
 pub returns-then-number-most-clause-number : goal.returns-then-number-most-clause-number
 returns-then-number-most-clause-number c =

@@ -1,13 +1,11 @@
-use Rattle.std.{proofs.{Common.{◌≡◌, Ok, ap, ◌∙◌}, lemmas.Result.err_from_is_err_and}, specs.declared.io.ErrorKind.TheVariants.Interrupted}
-use Rattle.tracer.{specs.{declared.checking.InputFault.TheVariants.ReadFault as FaultOfRead, Parts.{held, verdict_behind}}, proofs.PartLemmas.judged_all}
+use Rattle.std.{proofs.{Common.{Ok, ap, ◌∙◌}, lemmas.Result.err_from_is_err_and}}
+use Rattle.std.proofs.Common.{arith}
+use Rattle.tracer.{specs.{Parts.{held, verdict_behind}}, proofs.PartLemmas.judged_all}
 use Rattle.tracer.proofs.PartLemmas.{judged_part}
 use Rattle.tracer.proofs.checking.check_input.Goals as goal
 
 pub returns-in_err-ended-clause-retried : goal.returns-in_err-ended-clause-retried
-returns-in_err-ended-clause-retried g c =
-    let failed = err_from_is_err_and c.from_residual-in_err-ended.result c.from_residual-in_err-ended.ensures.1 in
-    let told : failed.0 ≡ FaultOfRead c.in_err-ended.field-0.0.kind = failed.2 in
-    rw failed.1 (λ same. c.in_err-ended.ensures.retried (let again : failed.0 ≡ FaultOfRead Interrupted = same in cc))
+returns-in_err-ended-clause-retried g c = grind (arith, err_from_is_err_and)
 
 pub returns-then-ended-clause-verdict : goal.returns-then-ended-clause-verdict
 returns-then-ended-clause-verdict g c =

@@ -1,10 +1,10 @@
-use Rattle.std.proofs.Common.{sym, ◌∙◌}
-use Rattle.tracer.{specs.Lines.left_of, proofs.PieceLemmas.{piece_missing, none_left}}
+use Rattle.std.proofs.Common.{◌∙◌}
+use Rattle.std.proofs.Common.{arith}
+use Rattle.tracer.{proofs.PieceLemmas.{piece_missing, none_left}}
 use Rattle.tracer.proofs.words.are_values.Goals as goal
 
 pub returns-in_default : goal.returns-in_default
-returns-in_default c = sym (piece_missing (left_of c.loop-message.pieces) c.in_default.field-0 c.args.messages.now c.loop-message.message-index
-    c.in_default.ensures c.loop-message-test.true) ∙ c.loop-message.invariant
+returns-in_default c = grind (arith, piece_missing)
 
 pub returns : goal.returns
 returns c = none_left c.loop-message.pieces c.args.messages.now c.loop-message.message-index _ c.loop-message-test.false c.is_none.ensures

@@ -1,10 +1,9 @@
 use Rattle.std.proofs.{Common.{◌≡◌, ◌+◌, ◌-◌, ◌≤◌, length, arith}, lemmas.List.{drop-set, drop_all}}
-use Rattle.{event_log.specs.declared.entries.Kind.{Kind, TheVariants.Send}, tracer.{specs.TraceText.kind_word, proofs.LineLemmas.line_end}}
+use Rattle.{event_log.specs.declared.entries.Kind.{Kind}, tracer.{specs.TraceText.kind_word, proofs.LineLemmas.line_end}}
 use Rattle.tracer.proofs.writing.add_entry.Goals as goal
 
 kind_word_short : (k : Kind) → length (kind_word k) ≤ 5
-kind_word_short Send = omega arith
-kind_word_short other = omega arith
+kind_word_short k = grind arith
 
 pub returns-clause-line : goal.returns-clause-line
 returns-clause-line c =

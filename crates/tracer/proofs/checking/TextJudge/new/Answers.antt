@@ -1,6 +1,7 @@
-use Rattle.{std.proofs.Common.ap, tracer.specs.Judging.{lines_in, verdict_from, verdict_of}}
+use Rattle.{tracer.specs.Judging.{verdict_of}}
+use Rattle.std.proofs.Common.{arith}
 use Rattle.tracer.proofs.checking.TextJudge.new.Goals as goal
 
 pub returns-clause-judged : goal.returns-clause-judged
 unfolding verdict_of
-returns-clause-judged c = λ text. ap (λ s. verdict_from s 1 (lines_in text)) c.new.ensures
+returns-clause-judged c = grind arith

@@ -1,4 +1,5 @@
-use Rattle.std.proofs.Common.{◌+◌, Some, refl}
+use Rattle.std.proofs.Common.{Some, refl}
+use Rattle.std.proofs.Common.{arith}
 use Rattle.tracer.{specs.declared.checking.TextJudge.TextJudge, proofs.PartLemmas.{one_taken, faulty_line_refused}}
 use Rattle.tracer.proofs.checking.TextJudge.take_lines.Goals as goal
 
@@ -9,7 +10,4 @@ returns-in-Err-clause-judged c =
     c.loop-line.invariant c.in-Some.ensures.line c.in-Err.ensures refl refl
 
 pub loop-line-preserved : goal.loop-line-preserved
-loop-line-preserved c =
-    let new : TextJudge = record { judge = c.step.new.self; line = c.loop-line.self.line + 1; fault = c.loop-line.self.fault } in
-    one_taken c.args.self.now c.args.part.now c.loop-line.self new c.loop-line.rest.now c.in-Some.line.now c.in-Some.behind.now c.loop-line.invariant
-    c.in-Some.ensures.line c.in_default-step.ensures refl refl
+loop-line-preserved c = grind (arith, one_taken)

@@ -9,4 +9,4 @@ pub returns-in_default-clause-exact : goal.returns-in_default-clause-exact
 returns-in_default-clause-exact c = sym (in_range_beyond c.args.most c.args.self.text.now c.in-Some.number (sym c.args.self.read ∙ c.in-Some.is) (omega arith))
 
 pub returns-in_default-2-clause-exact : goal.returns-in_default-2-clause-exact
-returns-in_default-2-clause-exact c = sym (in_range_unread c.args.most c.args.self.text.now (omega arith) (sym c.args.self.read ∙ c.in_default.is))
+returns-in_default-2-clause-exact c = grind (arith, in_range_unread)
