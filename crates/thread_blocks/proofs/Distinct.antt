@@ -1,18 +1,13 @@
 -- Queues as lists in which no thread stands twice.
-use Rattle.std.proofs.Common.{◌≡◌, ◌≢◌, ℕ, ◌<◌, ◌≤◌, Bool, true, false, List, [], ◌∷◌, ◌++◌, length, refl, sym, ap, ◌∙◌, arith, subst, eqb, ◌||◌, ◌⊎◌, inl, inr}
-use Rattle.std.proofs.{Common.{suc, ◌==◌, slice_index_or, remove, Some, None, if◌then◌else◌}, lemmas.Bool.{or_parts, or_cases, or_from, or_left, or_right}}
-use Rattle.std.proofs.lemmas.{Bool.{true≢false, cond_both}, List.Folds.list_any-append, Map.Keys.{IsDistinct-head, IsDistinct-tail, IsDistinct-cons}}
-use Rattle.std.{proofs.lemmas.{Map.{Keys.IsDistinct-push, Steps.length-le_from_distinct_below}, Option.same_Some}, specs.Cmp.{IsEquivalence, nat_eq_equiv}}
-use Rattle.{std.specs.List.{IsDistinct, AllByRecursion, list_any}, event_log.specs.declared.ids.{Tid.Tid, TheConstants.THREADS}}
-use Rattle.thread_blocks.{specs.Queues.{same_tid, is_in, first, rest, without, IsQueue}, proofs.{Linking.{IsOff, AreDistinct, AreBelow}, Members.tid_numbered}}
-use Rattle.thread_blocks.proofs.Members.{same_tid_self, same_tid_true}
+use Rattle.std.proofs.Common.{◌≡◌, ◌≢◌, ℕ, ◌<◌, ◌≤◌, Bool, true, false, List, [], ◌∷◌, ◌++◌, length, refl, sym, ap, ◌∙◌, arith, subst, eqb, ◌||◌, suc, ◌==◌}
+use Rattle.std.proofs.{Common.{slice_index_or, remove, Some, None}, lemmas.Bool.{or_parts, or_from, or_left, or_right, true≢false}}
+use Rattle.std.proofs.lemmas.{List.Folds.list_any-append, Map.Keys.{IsDistinct-head, IsDistinct-tail, IsDistinct-cons, IsDistinct-push}}
+use Rattle.std.{proofs.lemmas.Map.Steps.length-le_from_distinct_below, specs.{Cmp.IsEquivalence, List.{IsDistinct, AllByRecursion, list_any}}}
+use Rattle.{event_log.specs.declared.ids.{Tid.Tid, TheConstants.THREADS}, thread_blocks.specs.Queues.{same_tid, is_in, first, rest, without, IsQueue}}
+use Rattle.thread_blocks.proofs.{Linking.{IsOff, AreDistinct, AreBelow}, Members.{tid_numbered, same_tid_self, same_tid_true}}
 
 laws : IsEquivalence same_tid
-laws = record {
-  refl = λ x. nat_eq_equiv.refl x.0;
-  symm = λ x y. nat_eq_equiv.symm x.0 y.0;
-  congr = λ x y z. nat_eq_equiv.congr x.0 y.0 z.0;
-}
+laws = grind arith
 
 -- no thread stands in none
 pub queue_of_none : IsQueue []
@@ -46,26 +41,14 @@ distinct_numbers (x ∷ queue) distinct = (apart_numbers x queue distinct.0, dis
 -- a queue is no longer than there are threads
 no_more : (queue : List Tid) → IsQueue queue → length queue ≤ THREADS
 no_more queue is = subst (λ n. n ≤ THREADS) (length_numbers queue)
-    (length-le_from_distinct_below (numbers queue) THREADS (distinct_numbers queue is.0)
-    (λ n found. is.1 (tid_numbered n) (sym (is_numbered n queue) ∙ found)))
-
-known_one : (t u : Tid) → t.0 < THREADS → same_tid u t ≡ true → u.0 < THREADS
-known_one t u known same = subst (λ (x : Tid). x.0 < THREADS) (sym (same_tid_true u t same)) known
-
-known_more : (t u : Tid) (queue : List Tid) → ((x : Tid) → is_in x queue ≡ true → x.0 < THREADS) → t.0 < THREADS
-    → (same_tid u t ≡ true) ⊎ (is_in u queue ≡ true) → u.0 < THREADS
-known_more t u queue all known (inl same) = known_one t u known same
-known_more t u queue all known (inr found) = all u found
+    (length-le_from_distinct_below (numbers queue) THREADS (distinct_numbers queue is.0) (λ n found. is.1 (tid_numbered n) (sym (is_numbered n queue) ∙ found)))
 
 not_apart : (t : Tid) (queue : List Tid) → is_in t queue ≡ false → AllByRecursion (λ y. same_tid t y ≡ false) queue
 not_apart t [] new = tt
 not_apart t (x ∷ queue) new = let parts = or_parts _ _ new in (parts.0, not_apart t queue parts.1)
 
 one_more : (queue : List Tid) (t : Tid) → IsQueue queue → t.0 < THREADS → is_in t queue ≡ false → IsQueue (t ∷ queue)
-one_more queue t is known new = (
-  IsDistinct-cons same_tid t queue (not_apart t queue new) is.0,
-  λ u found. known_more t u queue is.1 known (or_cases (same_tid u t) (is_in u queue) found),
-)
+one_more queue t is known new = (IsDistinct-cons same_tid t queue (not_apart t queue new) is.0, λ u found. grind (arith, is.1 u))
 
 -- there is room for one more
 pub has_room : (queue : List Tid) (t : Tid) → IsQueue queue → t.0 < THREADS → is_in t queue ≡ false → length queue < THREADS
@@ -75,44 +58,22 @@ pub apart_is : (t : Tid) (queue : List Tid) → AllByRecursion (λ y. same_tid t
 apart_is t [] apart = refl
 apart_is t (x ∷ queue) apart = or_from _ _ apart.0 (apart_is t queue apart.1)
 
-last_known : (t u : Tid) (queue : List Tid) → ((x : Tid) → is_in x queue ≡ true → x.0 < THREADS) → t.0 < THREADS
-    → (is_in u queue ≡ true) ⊎ (is_in u (t ∷ []) ≡ true) → u.0 < THREADS
-last_known t u queue all known (inl found) = all u found
-last_known t u queue all known (inr last) = known_more t u [] (λ x found. absurd (true≢false (sym found))) known (or_cases (same_tid u t) false last)
-
 -- one more thread behind the others
 pub queue_pushed : (queue : List Tid) (t : Tid) → IsQueue queue → t.0 < THREADS → is_in t queue ≡ false → IsQueue (queue ++ t ∷ [])
-queue_pushed queue t is known new = (
-  IsDistinct-push laws queue t is.0 new,
-  λ u found. last_known t u queue is.1 known (or_cases (is_in u queue) (is_in u (t ∷ [])) (sym (list_any-append (same_tid u) queue (t ∷ [])) ∙ found)),
-)
+queue_pushed queue t is known new = (IsDistinct-push laws queue t is.0 new, λ u found. grind (arith, is.1 u, list_any-append))
 
-others_apart : (t x : Tid) (queue : List Tid) → AllByRecursion (λ y. same_tid x y ≡ false) queue
-    → AllByRecursion (λ y. same_tid x y ≡ false) (without t queue)
+others_apart : (t x : Tid) (queue : List Tid) → AllByRecursion (λ y. same_tid x y ≡ false) queue → AllByRecursion (λ y. same_tid x y ≡ false) (without t queue)
 others_apart t x [] apart = tt
-others_apart t x (y ∷ queue) apart = cond_both (same_tid t y) (without t queue) (y ∷ without t queue) (λ ys. AllByRecursion (λ z. same_tid x z ≡ false) ys)
-    (λ same. others_apart t x queue apart.1)
-    (λ other. (apart.0, others_apart t x queue apart.1))
+others_apart t x (y ∷ queue) apart = grind (arith, others_apart t x queue apart.1)
 
 distinct_without : (t : Tid) (queue : List Tid) → IsDistinct same_tid queue → IsDistinct same_tid (without t queue)
 unfolding IsDistinct
 distinct_without t [] distinct = tt
-distinct_without t (x ∷ queue) distinct = cond_both (same_tid t x) (without t queue) (x ∷ without t queue) (λ ys. IsDistinct same_tid ys)
-    (λ same. distinct_without t queue distinct.1)
-    (λ other. (others_apart t x queue distinct.0, distinct_without t queue distinct.1))
-
-cases_without : (b : Bool) (u t x : Tid) (queue : List Tid) → (is_in u (without t queue) ≡ true → is_in u queue ≡ true)
-    → is_in u (if b then without t queue else x ∷ without t queue) ≡ true → is_in u (x ∷ queue) ≡ true
-cases_without true u t x queue stays found = or_right _ _ (stays found)
-cases_without false u t x queue stays found = either (or_cases (same_tid u x) (is_in u (without t queue)) found)
-  where
-    either : (same_tid u x ≡ true) ⊎ (is_in u (without t queue) ≡ true) → is_in u (x ∷ queue) ≡ true
-    either (inl same) = or_left _ _ same
-    either (inr found) = or_right _ _ (stays found)
+distinct_without t (x ∷ queue) distinct = grind (arith, others_apart t x queue distinct.0, distinct_without t queue distinct.1)
 
 in_without : (u t : Tid) (queue : List Tid) → is_in u (without t queue) ≡ true → is_in u queue ≡ true
 in_without u t [] found = found
-in_without u t (x ∷ queue) found = cases_without (same_tid t x) u t x queue (in_without u t queue) found
+in_without u t (x ∷ queue) found = grind (arith, in_without u t queue)
 
 -- a thread taken out
 pub taken_out : (t : Tid) (queue : List Tid) → IsQueue queue → IsQueue (without t queue)
@@ -121,38 +82,22 @@ taken_out t queue is = (distinct_without t queue is.0, λ u found. is.1 u (in_wi
 -- a thread that stands nowhere is taken out of nothing
 pub without_none : (t : Tid) (queue : List Tid) → is_in t queue ≡ false → without t queue ≡ queue
 without_none t [] absent = refl
-without_none t (x ∷ queue) absent =
-    let parts = or_parts (same_tid t x) (is_in t queue) absent in
-    ap (λ b. if b then without t queue else x ∷ without t queue) parts.0 ∙ ap (λ (ys : List Tid). x ∷ ys) (without_none t queue parts.1)
+without_none t (x ∷ queue) absent = grind (arith, without_none t queue)
 
 -- a thread that stands once is taken out from between the others
 pub without_parted : (t : Tid) (ys zs : List Tid) → is_in t ys ≡ false → is_in t zs ≡ false → without t (ys ++ t ∷ zs) ≡ ys ++ zs
-without_parted t [] zs before after = ap (λ b. if b then without t zs else t ∷ without t zs) (same_tid_self t) ∙ without_none t zs after
-without_parted t (y ∷ ys) zs before after =
-    let parts = or_parts (same_tid t y) (is_in t ys) before in
-    ap (λ b. if b then without t (ys ++ t ∷ zs) else y ∷ without t (ys ++ t ∷ zs)) parts.0
-    ∙ ap (λ (xs : List Tid). y ∷ xs) (without_parted t ys zs parts.1 after)
-
-absent_step : (b : Bool) (t x : Tid) (queue : List Tid) → same_tid t x ≡ b → is_in t (without t queue) ≡ false
-    → is_in t (if b then without t queue else x ∷ without t queue) ≡ false
-absent_step true t x queue is absent = absent
-absent_step false t x queue is absent = or_from _ _ is absent
+without_parted t [] zs before after = grind (arith, same_tid_self, without_none)
+without_parted t (y ∷ ys) zs before after = grind (arith, without_parted t ys zs)
 
 -- a thread that was taken out stands there no more
 pub taken_absent : (t : Tid) (queue : List Tid) → is_in t (without t queue) ≡ false
 taken_absent t [] = refl
-taken_absent t (x ∷ queue) = absent_step (same_tid t x) t x queue refl (taken_absent t queue)
-
-stay_step : (b : Bool) (u t x : Tid) (queue : List Tid) → same_tid t x ≡ b → same_tid u t ≡ false → is_in u (without t queue) ≡ is_in u queue
-    → is_in u (if b then without t queue else x ∷ without t queue) ≡ is_in u (x ∷ queue)
-stay_step true u t x queue is differ stays =
-    stays ∙ sym (ap (λ b. b || is_in u queue) (ap (same_tid u) (sym (same_tid_true t x is)) ∙ differ))
-stay_step false u t x queue is differ stays = ap (λ b. same_tid u x || b) stays
+taken_absent t (x ∷ queue) = grind (arith, taken_absent t queue)
 
 -- the others stand where they stood
 pub others_stay : (u t : Tid) (queue : List Tid) → same_tid u t ≡ false → is_in u (without t queue) ≡ is_in u queue
 others_stay u t [] differ = refl
-others_stay u t (x ∷ queue) differ = stay_step (same_tid t x) u t x queue refl differ (others_stay u t queue differ)
+others_stay u t (x ∷ queue) differ = grind (arith, others_stay u t queue differ)
 
 -- who stands in a queue with one more thread behind the others
 pub pushed_in : (u t : Tid) (queue : List Tid) → is_in u (queue ++ t ∷ []) ≡ (is_in u queue || (same_tid u t || false))
@@ -176,8 +121,7 @@ pub record Parted (t : Tid) (queue : List Tid) : Type 0 where
 
 parted_step : (b : Bool) (t x : Tid) (queue : List Tid) → same_tid t x ≡ b → (is_in t queue ≡ true → Parted t queue) → (b || is_in t queue) ≡ true
     → Parted t (x ∷ queue)
-parted_step true t x queue same later found =
-    record { before = []; after = queue; is = ap (λ (y : Tid). y ∷ queue) (sym (same_tid_true t x same)) }
+parted_step true t x queue same later found = record { before = []; after = queue; is = ap (λ (y : Tid). y ∷ queue) (sym (same_tid_true t x same)) }
 parted_step false t x queue same later found =
     let p = later found in record { before = x ∷ p.before; after = p.after; is = ap (λ (ys : List Tid). x ∷ ys) p.is }
 
@@ -208,30 +152,19 @@ queue_behind t queue is = (IsDistinct-tail same_tid t queue is.0, λ u found. is
 
 -- a list that is not empty is the thread at 0 before the others
 pub front_out : (queue : List Tid) (t : Tid) → (length queue == 0) ≡ false → t ≡ slice_index_or queue 0 t → queue ≡ t ∷ remove queue 0
-front_out [] t some is = absurd (true≢false some)
-front_out (x ∷ queue) t some is = ap (λ (y : Tid). y ∷ queue) (sym is)
+front_out queue t some is = grind arith
 
 pub first_once : (t : Tid) (queue : List Tid) → IsQueue (t ∷ queue) → is_in t queue ≡ false
 first_once t queue is = apart_is t queue (IsDistinct-head same_tid t queue is.0)
 
--- a queue with a first thread is that one before the others
-pub front_is : (t : Tid) (queue : List Tid) → first queue ≡ Some t → queue ≡ t ∷ rest queue
-front_is t [] is = absurd cc
-front_is t (x ∷ queue) is = ap (λ (y : Tid). y ∷ queue) (same_Some x t is)
-
 -- who does not stand in a queue is not its first, and does not stand behind the first
 pub out_of_rest : (t : Tid) (queue : List Tid) → is_in t queue ≡ false → (first queue ≢ Some t) × (is_in t (rest queue) ≡ false)
-out_of_rest t [] out = (λ is. absurd (cc is), refl)
-out_of_rest t (x ∷ queue) out =
-    let parts = or_parts (same_tid t x) (is_in t queue) out in
-    (λ same. true≢false (sym (same_tid_self t) ∙ ap (same_tid t) (same_Some t x (sym same)) ∙ parts.0), parts.1)
+out_of_rest t queue out = grind (arith, same_tid_self)
 
 -- the same in the words of links
 pub is_off_absent : (t : Tid) (queue : List Tid) → is_in t queue ≡ false → IsOff (Some t) queue
 is_off_absent t [] absent = tt
-is_off_absent t (x ∷ queue) absent =
-    let each = or_parts (same_tid t x) (is_in t queue) absent in
-    (λ same. true≢false (sym (same_tid_self t) ∙ ap (same_tid t) (same_Some t x (sym same)) ∙ each.0), is_off_absent t queue each.1)
+is_off_absent t (x ∷ queue) absent = grind (arith, same_tid_self, is_off_absent t queue)
 
 pub all_off_end : (queue : List Tid) → IsOff None queue
 all_off_end [] = tt

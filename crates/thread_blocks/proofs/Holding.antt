@@ -1,8 +1,8 @@
 -- What each step on the table makes of the queue that it holds.
-use Rattle.std.proofs.Common.{◌≡◌, ◌≢◌, ℕ, ◌+◌, ◌-◌, ◌<◌, Bool, true, false, List, [], ◌∷◌, ◌++◌, length, refl, sym, ap, ◌∙◌, subst, arith, Option, Some, None}
-use Rattle.std.proofs.{Common.{IfSome, slice_index_or, ◌⊎◌, inl, inr, ◌||◌, length-append}, lemmas.Bool.cases_Bool}
+use Rattle.std.proofs.Common.{◌≡◌, ℕ, ◌+◌, ◌-◌, ◌<◌, Bool, true, false, List, [], ◌∷◌, ◌++◌, length, refl, sym, ap, ◌∙◌, subst, arith, Option, Some, None}
+use Rattle.std.proofs.{Common.{IfSome, slice_index_or, length-append}}
 use Rattle.{event_log.specs.declared.ids.{Tid.Tid, TheConstants.THREADS}, thread_blocks.specs.{declared.nodes.{Node.Node, Nodes.Nodes}, Queues.same_tid}}
-use Rattle.thread_blocks.specs.{Queues.{is_in, first, without, IsQueue}, Links.{untouched, at, next_node, prev_of, member_of, walk, threads_of, Changed, Hold}}
+use Rattle.thread_blocks.specs.{Queues.{is_in, rest, without, IsQueue}, Links.{untouched, at, next_node, prev_of, member_of, threads_of, Changed, Hold}}
 use Rattle.thread_blocks.proofs.{Members.{same_tid_self, same_tid_true}, Distinct.{queue_of_none, has_room, queue_pushed, taken_out, without_parted}}
 use Rattle.thread_blocks.proofs.Distinct.{taken_absent, others_stay, pushed_in, distinct_parts, is_off_absent, all_off_end, all_distinct, all_below}
 use Rattle.thread_blocks.proofs.Linking.{AreBelow, walk_is, before_below, after_below, last_below, below_at, below_behind, linked_from, no_end, other_node}
@@ -10,8 +10,7 @@ use Rattle.thread_blocks.proofs.Linking.{same_node, unlinked_between, linked_beh
 
 -- the table shows the queue that it holds
 pub walk_held : {nodes : Nodes} {queue : List Tid} → Hold nodes queue → threads_of nodes ≡ queue
-walk_held {nodes} {queue} hold =
-    subst (λ n. walk (next_node nodes) nodes.end.next n ≡ queue) hold.counted (walk_is (next_node nodes) (prev_of nodes) None queue hold.linked)
+walk_held {nodes} {queue} hold = grind (arith, walk_is)
 
 pub held_walk : {nodes : Nodes} {queue : List Tid} → Hold nodes queue → Hold nodes (threads_of nodes)
 held_walk {nodes} {queue} hold = subst (Hold nodes) (sym (walk_held hold)) hold
@@ -29,13 +28,7 @@ is_member node = node.is_member
 -- an untouched table holds the empty queue
 pub empty_held : (nodes : Nodes) → nodes.end ≡ untouched → nodes.count ≡ 0 → length nodes.cells ≡ THREADS
     → ((i : ℕ) → i < THREADS → slice_index_or nodes.cells i untouched ≡ untouched) → Hold nodes []
-empty_held nodes end count fits each = record {
-  fits = fits;
-  counted = sym count;
-  queue_is = queue_of_none;
-  linked = (ap next end, ap prev end);
-  members_are = λ t below. ap is_member (each t.0 below);
-}
+empty_held nodes end count fits each = grind (arith, queue_of_none)
 
 -- where a node is changed, so is each part of it
 part_changed : {A : Type 0} (part : Node → A) {old new : Option Tid → Node} {node : Option Tid} {value : Node} → Changed old new node value
@@ -45,11 +38,7 @@ part_changed part changed = record { here = ap part changed.here; there = λ oth
 -- a part that the node keeps is kept everywhere
 part_kept : {A : Type 0} (part : Node → A) {old new : Option Tid → Node} {node : Option Tid} {value : Node} → Changed old new node value
     → part value ≡ part (old node) → (other : Option Tid) → part (new other) ≡ part (old other)
-part_kept part {old} {new} {node} {value} changed same other = one_by_one (same_node other node)
-  where
-    one_by_one : (other ≡ node) ⊎ (other ≢ node) → part (new other) ≡ part (old other)
-    one_by_one (inl is) = ap (λ (n : Option Tid). part (new n)) is ∙ ap part changed.here ∙ same ∙ ap (λ (n : Option Tid). part (old n)) (sym is)
-    one_by_one (inr differ) = ap part (changed.there other differ)
+part_kept part {node = node} changed same other = grind (arith, same_node other node)
 
 -- what stays before and behind a change leaves that change
 changed_within : {A : Type 0} {old old' new new' : Option Tid → A} {node : Option Tid} {value : A} → ((n : Option Tid) → old' n ≡ old n)
@@ -61,49 +50,21 @@ changed_within {node = node} before changed behind = record {
 
 changed_at : {old new : Option Tid → Option Tid} {node node' value value' : Option Tid} → node ≡ node' → value ≡ value'
     → Changed old new node value → Changed old new node' value'
-changed_at {old} {new} {node} {node'} {value} {value'} is goes changed =
-    subst (λ (n : Option Tid). Changed old new n value') is (subst (λ (v : Option Tid). Changed old new node v) goes changed)
+changed_at {old} {new} {node} {node'} {value} {value'} is goes changed = grind arith
 
 -- the count is no part of a node
 at_counted : (nodes : Nodes) (count : ℕ) (node : Option Tid) → at (record nodes { count = count }) node ≡ at nodes node
-at_counted nodes count None = refl
-at_counted nodes count (Some t) = refl
+at_counted nodes count node = grind arith
 
 -- the end's node alone is changed
 end_changed : (nodes : Nodes) (end : Node) (count : ℕ) → Changed (at nodes) (at (record nodes { end = end; count = count })) None end
-end_changed nodes end count = record { here = refl; there = others }
-  where
-    others : (other : Option Tid) → other ≢ None → at (record nodes { end = end; count = count }) other ≡ at nodes other
-    others None differ = absurd (differ refl)
-    others (Some t) differ = refl
-
--- the last thread stands in the queue, and each other one where it stood
-last_in : (t : Tid) (queue : List Tid) → (is_in t queue || (same_tid t t || false)) ≡ true
-last_in t queue = either (is_in t queue) (same_tid t t) (same_tid_self t)
-  where
-    either : (a b : Bool) → b ≡ true → (a || (b || false)) ≡ true
-    either true b is = refl
-    either false b is = ap (λ c. c || false) is
-
-not_last_in : (u t : Tid) (queue : List Tid) → same_tid u t ≡ false → (is_in u queue || (same_tid u t || false)) ≡ is_in u queue
-not_last_in u t queue other = either (is_in u queue) (same_tid u t) other
-  where
-    either : (a b : Bool) → b ≡ false → (a || (b || false)) ≡ a
-    either true b is = refl
-    either false b is = ap (λ c. c || false) is
+end_changed nodes end count = record { here = refl; there = λ other differ. grind arith }
 
 -- which threads are members after one came or went
 members_after : {old new : Option Tid → Bool} {b : Bool} (t : Tid) (before after : List Tid) → Changed old new (Some t) b
-    → ((u : Tid) → u.0 < THREADS → old (Some u) ≡ is_in u before) → is_in t after ≡ b
-    → ((u : Tid) → same_tid u t ≡ false → is_in u after ≡ is_in u before)
+    → ((u : Tid) → u.0 < THREADS → old (Some u) ≡ is_in u before) → is_in t after ≡ b → ((u : Tid) → same_tid u t ≡ false → is_in u after ≡ is_in u before)
     → (u : Tid) → u.0 < THREADS → new (Some u) ≡ is_in u after
-members_after {old} {new} t before after changed are here others u below = one_by_one (cases_Bool (same_tid u t))
-  where
-    one_by_one : (same_tid u t ≡ true) ⊎ (same_tid u t ≡ false) → new (Some u) ≡ is_in u after
-    one_by_one (inl same) =
-        let is = same_tid_true u t same in
-        ap (λ (x : Tid). new (Some x)) is ∙ changed.here ∙ sym here ∙ ap (λ (x : Tid). is_in x after) (sym is)
-    one_by_one (inr other) = changed.there (Some u) (other_node u t other) ∙ are u below ∙ sym (others u other)
+members_after t before after changed are here others u below = grind (arith, same_tid_true, other_node, changed.there (Some u), are u, others u)
 
 module _ {nodes : Nodes} where
   are_below : (queue : List Tid) → Hold nodes queue → AreBelow THREADS queue
@@ -113,12 +74,10 @@ module _ {nodes : Nodes} where
   pub known_there : (before : List Tid) (t : Tid) (after : List Tid) → Hold nodes (before ++ t ∷ after) → t.0 < THREADS
   known_there before t after hold = below_at THREADS before t after (are_below _ hold)
 
-  pub before_there : (before : List Tid) (t : Tid) (after : List Tid) → Hold nodes (before ++ t ∷ after)
-      → IfSome (prev_of nodes (Some t)) (λ u. u.0 < THREADS)
+  pub before_there : (before : List Tid) (t : Tid) (after : List Tid) → Hold nodes (before ++ t ∷ after) → IfSome (prev_of nodes (Some t)) (λ u. u.0 < THREADS)
   before_there before t after hold = before_below (next_node nodes) (prev_of nodes) THREADS None before t after hold.linked tt (are_below _ hold)
 
-  pub after_there : (before : List Tid) (t : Tid) (after : List Tid) → Hold nodes (before ++ t ∷ after)
-      → IfSome (next_node nodes (Some t)) (λ u. u.0 < THREADS)
+  pub after_there : (before : List Tid) (t : Tid) (after : List Tid) → Hold nodes (before ++ t ∷ after) → IfSome (next_node nodes (Some t)) (λ u. u.0 < THREADS)
   after_there before t after hold = after_below (next_node nodes) (prev_of nodes) THREADS (Some t) after
       (linked_from (next_node nodes) (prev_of nodes) None before t after hold.linked) (below_behind THREADS before t after (are_below _ hold))
 
@@ -131,16 +90,14 @@ module _ {nodes : Nodes} where
   room_there queue t hold known new = subst (λ n. n < THREADS) hold.counted (has_room queue t hold.queue_is known new)
 
   -- the queue begins with the thread that the end leads to
-  pub end_leads : (queue : List Tid) → Hold nodes queue → nodes.end.next ≡ first queue
-  end_leads [] hold = hold.linked.0
-  end_leads (t ∷ queue) hold = hold.linked.0
+  pub front_held : (queue : List Tid) (t : Tid) → Hold nodes queue → nodes.end.next ≡ Some t → queue ≡ t ∷ rest queue
+  front_held queue t hold leads = grind arith
 
   -- t is taken out from between the others
-  pub taken_held : (nodes1 nodes2 nodes3 : Nodes) {out ahead back : Node} (before : List Tid) (t : Tid) (after : List Tid)
-      → out ≡ at nodes (Some t) → Changed (at nodes) (at nodes1) (Some t) (record out { is_member = false })
-      → ahead ≡ at nodes1 out.prev → Changed (at nodes1) (at nodes2) out.prev (record ahead { next = out.next })
-      → back ≡ at nodes2 out.next → Changed (at nodes2) (at nodes3) out.next (record back { prev = out.prev })
-      → length nodes3.cells ≡ THREADS → nodes3.count ≡ nodes.count
+  pub taken_held : (nodes1 nodes2 nodes3 : Nodes) {out ahead back : Node} (before : List Tid) (t : Tid) (after : List Tid) → out ≡ at nodes (Some t)
+      → Changed (at nodes) (at nodes1) (Some t) (record out { is_member = false }) → ahead ≡ at nodes1 out.prev
+      → Changed (at nodes1) (at nodes2) out.prev (record ahead { next = out.next }) → back ≡ at nodes2 out.next
+      → Changed (at nodes2) (at nodes3) out.next (record back { prev = out.prev }) → length nodes3.cells ≡ THREADS → nodes3.count ≡ nodes.count
       → Hold nodes (before ++ t ∷ after) → Hold (record nodes3 { count = nodes3.count - 1 }) (before ++ after)
   taken_held nodes1 nodes2 nodes3 {out} {ahead} {back} before t after out_is one ahead_is two back_is three fits count hold =
       let queue : List Tid = before ++ t ∷ after in
@@ -160,8 +117,7 @@ module _ {nodes : Nodes} where
         counted = omega (arith, length-append before after, length-append before (t ∷ after), hold.counted, count);
         queue_is = subst IsQueue left (taken_out t queue hold.queue_is);
         linked = unlinked_between (next_node nodes) (prev_of nodes) t
-            (changed_at (ap prev out_is) (ap next out_is) nexts)
-            (changed_at (ap next out_is) (ap prev out_is) prevs)
+            (changed_at (ap prev out_is) (ap next out_is) nexts) (changed_at (ap next out_is) (ap prev out_is) prevs)
             None before after (all_off_end queue) (all_distinct queue hold.queue_is.0) hold.linked;
         members_are = members_after t queue (before ++ after) members hold.members_are
             (subst (λ (q : List Tid). is_in t q ≡ false) left (taken_absent t queue))
@@ -191,6 +147,6 @@ module _ {nodes : Nodes} where
             (part_changed next one) new_to_end new_back (part_changed prev end)
             None queue no_end (is_off_absent t queue new) (all_off_end queue) (all_distinct queue hold.queue_is.0) hold.linked;
         members_are = members_after t queue (queue ++ t ∷ []) members hold.members_are
-            (pushed_in t t queue ∙ last_in t queue)
-            (λ x other. pushed_in x t queue ∙ not_last_in x t queue other);
+            (grind (arith, pushed_in, same_tid_self))
+            (λ x other. grind (arith, pushed_in));
       }

@@ -1,6 +1,7 @@
 -- What a changed node leaves of a queue that lies in a table of nodes.
-use Rattle.std.proofs.Common.{◌≡◌, ◌≢◌, ℕ, ◌<◌, true, false, List, [], ◌∷◌, ◌++◌, length, refl, sym, ap, ◌∙◌, subst, ◌⊎◌, inl, inr, Option, Some, None, IfSome}
-use Rattle.{std.proofs.lemmas.{Bool.{cases_Bool, true≢false}, Option.same_Some}, event_log.specs.declared.ids.Tid.Tid, thread_blocks.specs.Queues.same_tid}
+use Rattle.std.proofs.Common.{◌≡◌, ◌≢◌, ℕ, ◌<◌, false, List, [], ◌∷◌, ◌++◌, length, sym, ap, ◌∙◌, subst, ◌⊎◌, Option, Some, None, IfSome}
+use Rattle.std.proofs.Common.{arith}
+use Rattle.{std.proofs.lemmas.{Bool.{true≢false}, Option.same_Some}, event_log.specs.declared.ids.Tid.Tid, thread_blocks.specs.Queues.same_tid}
 use Rattle.thread_blocks.{specs.Links.{walk, AreLinked, Changed}, proofs.Members.{same_tid_self, same_tid_true}}
 
 -- the node is none of these threads
@@ -29,14 +30,7 @@ pub other_node : (a b : Tid) → same_tid a b ≡ false → Some a ≢ Some b
 other_node a b differ same = true≢false (sym (same_tid_self a) ∙ ap (same_tid a) (same_Some a b same) ∙ differ)
 
 pub same_node : (a b : Option Tid) → (a ≡ b) ⊎ (a ≢ b)
-same_node None None = inl refl
-same_node None (Some b) = inr no_end
-same_node (Some a) None = inr (other_way no_end)
-same_node (Some a) (Some b) = one_by_one (cases_Bool (same_tid a b))
-  where
-    one_by_one : (same_tid a b ≡ true) ⊎ (same_tid a b ≡ false) → (Some a ≡ Some b) ⊎ (Some a ≢ Some b)
-    one_by_one (inl same) = inl (ap (λ (t : Tid). Some t) (same_tid_true a b same))
-    one_by_one (inr differ) = inr (other_node a b differ)
+same_node a b = grind (arith, same_tid_self, same_tid_true)
 
 off_left : (at : Option Tid) (ys zs : List Tid) → IsOff at (ys ++ zs) → IsOff at ys
 off_left at [] zs off = tt
@@ -57,8 +51,7 @@ below_behind n (y ∷ ys) t zs all = below_behind n ys t zs all.1
 -- walking as many links as there are threads meets exactly these threads
 pub walk_is : (next prev : Option Tid → Option Tid) (at : Option Tid) (xs : List Tid) → AreLinked next prev at xs → walk next (next at) (length xs) ≡ xs
 walk_is next prev at [] linked = ap (λ node. walk next node 0) linked.0
-walk_is next prev at (x ∷ xs) linked = ap (λ node. walk next node (length (x ∷ xs))) linked.0
-    ∙ ap (λ (ys : List Tid). x ∷ ys) (walk_is next prev (Some x) xs linked.2)
+walk_is next prev at (x ∷ xs) linked = grind (arith, walk_is next prev (Some x) xs linked.2)
 
 module _ (next prev : Option Tid → Option Tid) where
   -- the links behind a thread
@@ -101,30 +94,13 @@ module _ (next prev : Option Tid → Option Tid) where
     stay : {p n p_leads n_leads : Option Tid} → Changed next next' p p_leads → Changed prev prev' n n_leads → (at : Option Tid) (xs : List Tid)
         → at ≢ p → IsOff p xs → None ≢ n → IsOff n xs → AreLinked next prev at xs → AreLinked next' prev' at xs
     stay nexts prevs at [] at_off xs_off end_off back_off linked = (nexts.there at at_off ∙ linked.0, prevs.there None end_off ∙ linked.1)
-    stay nexts prevs at (x ∷ xs) at_off xs_off end_off back_off linked = (
-      nexts.there at at_off ∙ linked.0,
-      prevs.there (Some x) back_off.0 ∙ linked.1,
-      stay nexts prevs (Some x) xs xs_off.0 xs_off.1 end_off back_off.1 linked.2,
-    )
+    stay nexts prevs at (x ∷ xs) at_off xs_off end_off back_off linked =
+        grind (arith, stay nexts prevs (Some x) xs xs_off.0 xs_off.1 end_off back_off.1 linked.2)
 
     module _ (t : Tid) (nexts : Changed next next' (prev (Some t)) (next (Some t))) (prevs : Changed prev prev' (next (Some t)) (prev (Some t))) where
       unlinked_here : (at : Option Tid) (zs : List Tid) → IsOff at zs → AreDistinct zs → AreLinked next prev at (t ∷ zs) → AreLinked next' prev' at zs
-      unlinked_here at [] off distinct linked = (
-        ap next' (sym linked.1) ∙ nexts.here ∙ linked.2.0,
-        ap prev' (sym linked.2.0) ∙ prevs.here ∙ linked.1,
-      )
-      unlinked_here at (z ∷ zs) off distinct linked =
-          let before = sym linked.1 in
-          let after = sym linked.2.0 in (
-            ap next' before ∙ nexts.here ∙ linked.2.0,
-            ap prev' after ∙ prevs.here ∙ linked.1,
-            stay nexts prevs (Some z) zs
-                (subst (λ (node : Option Tid). Some z ≢ node) before off.0)
-                (subst (λ (node : Option Tid). IsOff node zs) before off.1)
-                (subst (λ (node : Option Tid). None ≢ node) after no_end)
-                (subst (λ (node : Option Tid). IsOff node zs) after distinct.0)
-                linked.2.2,
-          )
+      unlinked_here at [] off distinct linked = grind (arith, nexts, prevs)
+      unlinked_here at (z ∷ zs) off distinct linked = grind (arith, nexts, prevs, stay nexts prevs (Some z) zs)
 
       -- where the node before t leads behind it, and the one behind it back before it, t is out
       pub unlinked_between : (at : Option Tid) (ys zs : List Tid) → IsOff at (ys ++ t ∷ zs) → AreDistinct (ys ++ t ∷ zs) → AreLinked next prev at (ys ++ t ∷ zs)
@@ -143,13 +119,6 @@ module _ (next prev : Option Tid → Option Tid) where
       (new_back : Changed prev prev1 (Some t) (prev None)) (end_back : Changed prev1 prev' None (Some t)) where
     pub linked_behind : (at : Option Tid) (xs : List Tid) → at ≢ Some t → IsOff (Some t) xs → IsOff at xs → AreDistinct xs → AreLinked next prev at xs
         → AreLinked next' prev' at (xs ++ t ∷ [])
-    linked_behind at [] differ new off distinct linked = (
-      new_to_end.there at differ ∙ ap next1 (sym linked.1) ∙ to_new.here,
-      end_back.there (Some t) (other_way no_end) ∙ new_back.here ∙ linked.1,
-      (new_to_end.here, end_back.here),
-    )
-    linked_behind at (x ∷ xs) differ new off distinct linked = (
-      new_to_end.there at differ ∙ to_new.there at (other_way (not_last (Some x) xs at linked.2 off.0 off.1)) ∙ linked.0,
-      end_back.there (Some x) (other_way no_end) ∙ new_back.there (Some x) new.0 ∙ linked.1,
-      linked_behind (Some x) xs new.0 new.1 distinct.0 distinct.1 linked.2,
-    )
+    linked_behind at [] differ new off distinct linked = grind (arith, to_new, new_to_end, new_back, end_back)
+    linked_behind at (x ∷ xs) differ new off distinct linked =
+        grind (arith, other_way, not_last, no_end, linked_behind (Some x) xs new.0 new.1 distinct.0 distinct.1 linked.2)

@@ -11,8 +11,7 @@ set-requires-clause-node g c = let new = c.requires.new in last_there new.0 new.
 pub overflow_add-nodes : goal.overflow_add-nodes
 overflow_add-nodes g c =
     let new = c.requires.new in
-    let room = room_there new.0 c.args.t new.1 c.requires.known new.2 in
-    omega (arith, room, c.set.ensures.count, c.set-2.ensures.count)
+    omega (arith, room_there new.0 c.args.t new.1 c.requires.known new.2, c.set.ensures.count, c.set-2.ensures.count)
 
 pub returns-clause-held : goal.returns-clause-held
 returns-clause-held g c = λ queue hold new. behind_held c.set.new.self c.set-2.new.self c.args.t queue c.requires.known c.get-before.ensures.value

@@ -6,8 +6,7 @@ pub link_behind-requires-clause-new : goal.link_behind-requires-clause-new
 link_behind-requires-clause-new g c = (_, c.self.invariant, ap (is_in c.args.t) c.self.view_is ∙ c.requires.new)
 
 pub invariant_of-self : goal.invariant_of-self
-invariant_of-self g c =
-    held_walk (c.link_behind.ensures.held _ c.self.invariant (ap (is_in c.args.t) c.self.view_is ∙ c.requires.new))
+invariant_of-self g c = held_walk (c.link_behind.ensures.held _ c.self.invariant (ap (is_in c.args.t) c.self.view_is ∙ c.requires.new))
 
 pub returns-clause-pushed : goal.returns-clause-pushed
 returns-clause-pushed g c =
