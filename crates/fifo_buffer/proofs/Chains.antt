@@ -7,7 +7,7 @@ use Rattle.layer_traits.specs.{declared.call_states.{Stage.TheVariants.{Idle, Ac
 use Rattle.layer_traits.specs.Layers.BufferLaw.{BufferPlan, buffer_of, chained, recorded, plan_at, plan_beneath, stage_plan, section_at, call_state_of}
 use Rattle.layer_traits.specs.Layers.{Conditions.CvCall, CvLaw.Waiting, QLockLaw.slept_for, QLocking.lock_moves, Scheds.sched_plan, SleepLaw.due}
 use Rattle.layer_traits.specs.{Blocks.BufferProtocol.buffer_rules, Polling.Plans.{Follows, Left, Plan, Now, Act, Table, raised}}
-use Rattle.fifo_buffer.{specs.{Stances.{called_at, waits_at}, SectionPolls.{BufferOutcome, is_at_once}}, proofs.Events.caller_is}
+use Rattle.fifo_buffer.{specs.{Stances.{called_at, waits_at}, SectionPolls.{BufferOutcome, is_at_once}}, proofs.OtherSteps.caller_is}
 
 some_of : {A : Type 0} (x : Option A) → is_some x ≡ true → (a : A) × (x ≡ Some a)
 some_of x is = grind arith

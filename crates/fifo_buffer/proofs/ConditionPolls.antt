@@ -1,7 +1,7 @@
 -- One poll of the conditions, for a call: who was woken out of its wait, who was handed the lock, and whose section went on.
 use Rattle.std.proofs.Common.{ℕ, ◌≡◌, true, false, List, [], length, Option, Some, None, IsSome, is_some, slice_set, refl, ap, sym, ◌∙◌, subst, arith}
 use Rattle.std.proofs.lemmas.List.{length-set}
-use Rattle.fifo_buffer.proofs.{Callers.{monitored, kernel_of, AreLawful, Caller}, Events.caller_is, Polls.{lock_section_poll, other_mark, own_mark}}
+use Rattle.fifo_buffer.proofs.{Callers.{monitored, kernel_of, AreLawful, Caller}, OtherSteps.caller_is, Polls.{lock_section_poll, other_mark, own_mark}}
 use Rattle.fifo_buffer.specs.{Stances.{HoldsLock, InCall, CallStateFits, call_state_in, waits_at}, SectionPolls.{SectionBegins, BufferEvent, BufferOutcome}}
 use Rattle.{fifo_buffer.specs.SectionPolls.{SectionGoes, SectionPolled, recorded_if}, event_log.specs.declared.ids.{BufId.BufId, LockId.LockId}}
 use Rattle.{event_log.specs.declared.ids.{LockId.TheVariants.Buffer, Tid.Tid}, layer_traits.specs.declared.buffer_edits.BufferEdit.BufferEdit}

@@ -3,16 +3,16 @@ use Rattle.std.proofs.Common.{ℕ, ◌≡◌, ◌<◌, Bool, true, false, ◌&&�
 use Rattle.std.proofs.{Common.{rules, is_some, not, subst, arith, lt-ltb}, lemmas.Bool.{and_parts, and_right}, Math.Bool.and-true}
 use Rattle.fifo_buffer.specs.Stances.{IsMark, waits_at, asks_at, called_at, lined_at, holds_at, Grip, InCall, Stance, CallStateFits}
 use Rattle.fifo_buffer.specs.{Stances.{done_at, recorded_by, line_at, same_side, slept_by, call_state_in, waits_by, EntersLine}, Laws.BlockSteps.kind_counts}
-use Rattle.{fifo_buffer.proofs.Apart.side_self, layer_traits.specs.declared.conditions.CvLeave.{CvLeave, TheVariants.{Leave, Wait}}}
+use Rattle.{fifo_buffer.proofs.OtherSteps.side_self, layer_traits.specs.declared.conditions.CvLeave.{CvLeave, TheVariants.{Leave, Wait}}}
 use Rattle.layer_traits.specs.declared.{conditions.{CvEdit.TheVariants.Edit, CvOut.CvOut}, buffer_edits.BufferEdit.{BufferEdit, TheVariants.{Enter, Shut}}}
 use Rattle.layer_traits.specs.declared.{buffer_edits.BufferOut.BufferOut, calls.{Call.{Call, TheVariants.{Send, Recv, Close}}, Effect.Effect}}
-use Rattle.layer_traits.specs.declared.locked.{QEdit.TheVariants.{Acquire, Inside, Release}, QOut.{QOut, TheVariants.{Did, Released}}, Side.Side}
+use Rattle.layer_traits.specs.declared.locked.{QEdit.TheVariants.{Acquire, Inside, Release}, QOut.{QOut, TheVariants.Did}, Side.Side}
 use Rattle.layer_traits.specs.declared.{locked.Side.TheVariants.{Receivers, Senders}, call_states.Stage.{Stage, TheVariants.{Idle, Acquires, Enters, Tries}}}
 use Rattle.layer_traits.specs.{declared.call_states.Stage.TheVariants.{Waits, AcquiresAgain, Signals, SignalsOwn, Releases}, Blocks.BufferBlocks.BufferState}
 use Rattle.layer_traits.specs.Blocks.{BufferBlocks.{effect_kind, entered, first_item, is_next, line_of, may_join, drawn_of}, BufferEffects.drawn}
 use Rattle.layer_traits.specs.Blocks.{BufferEffects.{effect_of, effect_on, is_enter, drawn_in}, BufferProtocol.{BufferLock, BufferSection, buffer_lock_at}}
 use Rattle.layer_traits.specs.{Blocks.BufferProtocol.{buffer_rules, has_tried_in_vain}, Layers.BufferLaw.{IsEffectOf, buffer_of, entry_of, section_at, side_of}}
-use Rattle.layer_traits.specs.Layers.{BufferLaw.other_side, Conditions.CvCall, QLocking.{lock_edited, lock_out, asker_report}}
+use Rattle.layer_traits.specs.Layers.{Conditions.CvCall, QLocking.{lock_edited, lock_out, asker_report}}
 use Rattle.layer_traits.{specs.{Threads.Places.{count_in, one_if}, Protocols.Protocol.section}, proofs.CountLemmas.{count_append, not_counted}}
 use Rattle.event_log.specs.declared.{entries.Entry.Entry, ids.{BufId.BufId, CpuId.CpuId, LockId.{LockId, TheVariants.Buffer}, Tid.Tid, TheConstants.THREADS}}
 use Rattle.event_log.{specs.{History.same_lock, Messages.{Message, no_message}, Runs.group_of}, proofs.Same.{same_lock_self, same_lock_true}}
@@ -90,8 +90,7 @@ module _ {opening : LockId → Option BufferLock} {past : List BufferSection} (c
   took_lock : {lined : Bool} {position : ℕ} → lock.owner ≡ None → Stance opening past t b side false false lined position
       → Stance opening (section c (Buffer b) (Acquire t) ∷ past) t b side true false lined position
   took_lock free stance =
-      kept_line (Acquire t) stance true false (grind arith) refl
-      (λ at. ap (λ x. count_in t (line_of at x)) (grind arith))
+      kept_line (Acquire t) stance true false (grind arith) refl (λ at. ap (λ x. count_in t (line_of at x)) (grind arith))
 
   asked_lock : {lined : Bool} {position : ℕ} → Stance opening past t b side false false lined position
       → Stance opening (section c (Buffer b) (Acquire t) ∷ past) t b side false true lined position
@@ -234,32 +233,7 @@ module _ (opening : LockId → Option BufferLock) (past : List BufferSection) (c
           (section c (Buffer (buffer_of call)) (section_at t call Tries) ∷ past) ≡ true
       in_vain next = grind (arith, is, same_tid_self, same_lock_self)
 
-  waits_step : (call : Call) → At call → Within call Waits → Steps call Waits (Released (answer.Waited (side_of call)))
-  waits_step call is now = silent call Waits _ is refl
-      (call_within refl (released c is (Wait t (side_of call)) now.stance) (λ w. absurd cc) (λ w. now.joins refl) now.effect_is tt (refl, refl)) refl
-
-  -- a signal changes no line and keeps the owner
-  signals_step : (call : Call) (front : Option Tid) → At call → Within call Signals → Steps call Signals (Did (answer.Signalled (other_side call) front))
-  signals_step call front is now = silent call Signals _ is refl
-      (call_within refl (kept_line c is (section_at t call Signals) now.stance true false (λ grip. grip) refl (λ at. refl))
-      (λ w. absurd cc) (λ w. absurd cc) now.effect_is tt tt) refl
-
-  signals_own_step : (call : Call) (front : Option Tid) → At call → Within call SignalsOwn → Steps call SignalsOwn (Did (answer.Signalled (side_of call) front))
-  signals_own_step call front is now = silent call SignalsOwn _ is refl
-      (call_within refl (kept_line c is (section_at t call SignalsOwn) now.stance true false (λ grip. grip) refl (λ at. refl))
-      (λ w. absurd cc) (λ w. absurd cc) now.effect_is tt tt) refl
-
-  releases_step : (call : Call) → At call → Within call Releases → Steps call Releases (Released answer.Left)
-  releases_step call is now =
-      let left = released c is (Leave t) now.stance in
-      silent call Releases _ is refl (record {
-        stage_is = refl;
-        stance = record { grip = left.grip; line = left.line; drawn_is = λ w. absurd cc };
-        slept_none = refl;
-        waits_none = refl;
-      }) refl
-
-  -- the section of any stage of a call
+  -- the section of any stage of a call: a signal changes no line and keeps the owner
   pub own_step : (call : Call) (stage : Stage) → t.0 < THREADS → At call → Within call stage → Steps call stage
       (lock_out buffer_rules (section_at t call stage) lock)
   own_step call Idle small is now = absurd (let called = now.called in cc)
@@ -268,8 +242,20 @@ module _ (opening : LockId → Option BufferLock) (past : List BufferSection) (c
   own_step (Send b m) Tries small is now = tries_step (Send b m) tt is now (is_next Senders t lock.above) refl
   own_step (Recv b) Tries small is now = tries_step (Recv b) tt is now (is_next Receivers t lock.above) refl
   own_step (Close b) Tries small is now = absurd (now.joins refl)
-  own_step call Waits small is now = waits_step call is now
+  own_step call Waits small is now = silent call Waits _ is refl
+      (call_within refl (released c is (Wait t (side_of call)) now.stance) (λ w. absurd cc) (λ w. now.joins refl) now.effect_is tt (refl, refl)) refl
   own_step call AcquiresAgain small is now = asks_again_step call is now lock.owner refl
-  own_step call Signals small is now = signals_step call _ is now
-  own_step call SignalsOwn small is now = signals_own_step call _ is now
-  own_step call Releases small is now = releases_step call is now
+  own_step call Signals small is now = silent call Signals _ is refl
+      (call_within refl (kept_line c is (section_at t call Signals) now.stance true false (λ grip. grip) refl (λ at. refl))
+      (λ w. absurd cc) (λ w. absurd cc) now.effect_is tt tt) refl
+  own_step call SignalsOwn small is now = silent call SignalsOwn _ is refl
+      (call_within refl (kept_line c is (section_at t call SignalsOwn) now.stance true false (λ grip. grip) refl (λ at. refl))
+      (λ w. absurd cc) (λ w. absurd cc) now.effect_is tt tt) refl
+  own_step call Releases small is now =
+      let left = released c is (Leave t) now.stance in
+      silent call Releases _ is refl (record {
+        stage_is = refl;
+        stance = record { grip = left.grip; line = left.line; drawn_is = λ w. absurd cc };
+        slept_none = refl;
+        waits_none = refl;
+      }) refl

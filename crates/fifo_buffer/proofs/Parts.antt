@@ -1,17 +1,20 @@
--- How the effects and the moves of the buffers grow with events, and that a part keeps fitting over events of other CPUs.
+-- How the effects and the moves of the buffers grow with events, that a part keeps fitting over those of other CPUs, and what calls leave as it was.
 use Rattle.std.proofs.Common.{ℕ, ◌≡◌, ◌≢◌, Bool, false, List, [], ◌∷◌, ◌++◌, Option, Some, None, option_to_list, refl, ap, sym, ◌∙◌, subst, append_assoc, arith}
-use Rattle.std.{proofs.Common.rules, specs.List.AllByRecursion}
-use Rattle.fifo_buffer.{proofs.{Callers.{kernel_of, AreLawful}, Events.keeps_fits}, specs.{FifoFits.PartFits, Stances.CallStateFits}}
-use Rattle.fifo_buffer.specs.{Laws.Tallies.effect_position, SectionPolls.{BufferEvent, BufferOutcome, CallsFit, SectionGoes, IsDeferred, Midway}}
-use Rattle.event_log.specs.{declared.{entries.Entry.Entry, ids.{BufId.BufId, CpuId.CpuId, LockId.{LockId, TheVariants.Buffer}, Tid.Tid}}, History.AreForeign}
-use Rattle.event_log.{specs.History.{AreOthers, same_cpu}, proofs.{Same.same_cpu_true, Foreign.others_both}}
-use Rattle.layer_traits.specs.declared.{buffer_edits.{BufferEdit.BufferEdit, BufferOut.BufferOut}, calls.Call.Call, locked.Side.Side}
-use Rattle.layer_traits.specs.declared.{queue_edits.QueueBlock.QueueBlock, queues.QueueCall.{QueueCall, TheVariants.{Push, TakeAll, OnBuffer}}}
-use Rattle.layer_traits.specs.{declared.{scheds.SchedCall.SchedCall, call_states.CallState.CallState}, Blocks.BufferEffects.{effect_of, effect_on, effects_in}}
-use Rattle.layer_traits.specs.{Blocks.{BufferProtocol.{BufferLock, BufferSection}, QueueBlocks.{homes_in, inner}}, Layers.BufferLaw.{MovesGrow, OthersSeen}}
-use Rattle.layer_traits.specs.Layers.{BufferLaw.{cpu_of_entry, recorded, call_state_of}, Conditions.CvCall, CvLaw.Waiting}
-use Rattle.layer_traits.specs.{Layers.Queues.{buffer_sections, cpu_of_queue_event, moves_in, with_section}, Threads.Places.home_of, Protocols.Protocol.section}
-use Rattle.layer_traits.proofs.CallLemmas.{moves_append, moves_others, moves_over}
+use Rattle.std.{proofs.Common.{rules, true, is_some, if◌then◌else◌}, specs.List.AllByRecursion}
+use Rattle.fifo_buffer.{proofs.{Callers.{kernel_of, AreLawful}, OtherSteps.keeps_fits}, specs.{FifoFits.{PartFits, BootsSo}, Stances.CallStateFits}}
+use Rattle.fifo_buffer.specs.{Laws.Tallies.effect_position, SectionPolls.{BufferEvent, BufferOutcome, CallsFit, SectionGoes, IsDeferred, Midway, NoSection}}
+use Rattle.{fifo_buffer.specs.{SectionPolls.under_way_at, declared.fifo.Fifo.Fifo}, event_log.specs.declared.{entries.Entry.Entry, ids.BufId.BufId}}
+use Rattle.event_log.specs.{declared.ids.{CpuId.CpuId, LockId.{LockId, TheVariants.Buffer}, Tid.Tid}, History.{AreForeign, AreOthers, same_cpu}}
+use Rattle.{event_log.proofs.{Same.same_cpu_true, Foreign.others_both}, layer_traits.specs.declared.buffer_edits.{BufferEdit.BufferEdit, BufferOut.BufferOut}}
+use Rattle.layer_traits.specs.declared.{calls.Call.Call, locked.Side.Side, queue_edits.QueueBlock.QueueBlock, queues.QueueCall.{QueueCall, TheVariants.Push}}
+use Rattle.layer_traits.specs.declared.{queues.QueueCall.TheVariants.{TakeAll, OnBuffer}, scheds.SchedCall.SchedCall, call_states.CallState.CallState}
+use Rattle.layer_traits.specs.{declared.passes.Pass.Pass, Blocks.{BufferEffects.{effect_of, effect_on, effects_in}, BufferProtocol.{BufferLock, BufferSection}}}
+use Rattle.layer_traits.specs.{Blocks.QueueBlocks.{homes_in, inner}, Layers.BufferLaw.{MovesGrow, OthersSeen, cpu_of_entry, recorded, call_state_of, Calling}}
+use Rattle.layer_traits.specs.Layers.{BufferLaw.{MayGoOn, Passing}, Conditions.CvCall, CvLaw.Waiting, Queues.{buffer_sections, cpu_of_queue_event, moves_in}}
+use Rattle.layer_traits.specs.{Layers.{Queues.with_section, Scheds.{SchedPolled, events_of, pass_call}, SleepLaw.done_if}, Threads.Places.{home_of, Threads}}
+use Rattle.layer_traits.{specs.{Threads.Passes.PassPolled, Protocols.Protocol.section, Polling.Framed.Framed}, proofs.CallLemmas.{moves_append, moves_others}}
+use Rattle.layer_traits.proofs.{CallLemmas.{moves_over, pass_polled}, SleepLemmas.done_same, Seen.lawful_rest}
+use Rattle.layer_traits.specs.declared.scheds.SchedCall.TheVariants as sched
 
 -- an effect has its section's CPU
 one_entry : (d cpu : CpuId) (b : BufId) (call : CvCall BufferEdit) (position : Side → Tid → ℕ) (x : Option BufferLock) → same_cpu cpu d ≡ false
@@ -85,8 +88,7 @@ module _ (opening : LockId → Option (QueueBlock BufferLock)) (d : CpuId) (more
       → CallsFit (homes_in opening) d (inner opening) (buffer_sections past) own call_states under_way calling
       → CallsFit (homes_in opening) d (inner opening) (buffer_sections (more ++ past)) own call_states under_way calling
   calls_on own call_states under_way None fits = search (rules, call_state_on)
-  calls_on own call_states under_way (Some t) fits =
-      search (rules, call_state_on, goes_on t fits.home fits.call (call_state_of call_states t) own under_way)
+  calls_on own call_states under_way (Some t) fits = search (rules, call_state_on, goes_on t fits.home fits.call (call_state_of call_states t) own under_way)
 
   pub part_on : {own : Waiting BufferOut} {call_states : List CallState} {under_way : Option (SchedCall (CvCall BufferEdit))} {calling : Option Tid}
       → PartFits opening d past own call_states under_way calling → PartFits opening d (more ++ past) own call_states under_way calling
@@ -143,3 +145,94 @@ pub other_part : (opening : LockId → Option (QueueBlock BufferLock)) (c d : Cp
 other_part opening c d apart mine others past new own_events foreign is lawful fits =
     part_grown opening d (mine ++ others) past new (others_both cpu_of_queue_event d mine others (own_others c d apart mine own_events) foreign) lawful
     (is ∙ sym (append_assoc mine others past)) fits
+
+-- the call beneath was of a part of the same CPU, and the part agrees again; and so does each of another CPU
+pub framed_over : {P M : Type 0} (Part : Fifo P → M → Type 0) {Fits : P → M → Type 0} {cpu_of : P → CpuId}
+    {opening : M → LockId → Option (QueueBlock BufferLock)} {site : M → List ℕ} {room : M → ℕ} {ActsFor MayHold : M → CpuId → Type 0} {old new : Fifo P}
+    {p p' : P} {m n : M} → Framed Fits cpu_of opening site room ActsFor MayHold p p' m n → cpu_of p ≡ cpu_of old.lower → new.lower ≡ p' → Part new n
+    → ((q : Fifo P) → cpu_of q.lower ≢ cpu_of old.lower → Fits q.lower m → Part q m → Part q n)
+    → Framed (λ q k. Fits q.lower k × Part q k) (λ q. cpu_of q.lower) opening site room (λ k c. ActsFor k c × BootsSo (opening k)) MayHold old new m n
+framed_over Part {cpu_of = cpu_of} framed cpu new_is part others = record {
+  fits = (rw new_is framed.fits, part);
+  cpu = ap cpu_of new_is ∙ framed.cpu ∙ cpu;
+  stays = record {
+    opening = framed.stays.opening;
+    site = framed.stays.site;
+    room = framed.stays.room;
+    acts = λ c both. (framed.stays.acts c both.0, rw framed.stays.opening both.1);
+  };
+  others = λ q other both. (framed.others q.lower (rw cpu other) both.0, others q other both.0 both.1);
+  holders = λ c other both held. framed.holders c (rw cpu other) both.0 held;
+}
+
+-- its event, where it has one, is no section of a buffer
+abbrev pub pass_events : List CpuId → CpuId → Pass → Bool → List BufferEvent
+pass_events homes c p done = if done then events_of c (pass_call homes c p) else []
+
+no_sections : (homes : List CpuId) (c : CpuId) (p : Pass) (done : Bool) (past : List BufferEvent)
+    → buffer_sections (pass_events homes c p done ++ past) ≡ buffer_sections past
+no_sections homes c p done past = grind arith
+
+split : (homes : List CpuId) (c : CpuId) (p : Pass) (done : Bool) (past : List BufferEvent)
+    → (if done then events_of c (pass_call homes c p) ++ past else past) ≡ pass_events homes c p done ++ past
+split homes c p done past = grind arith
+
+-- a call that was passed on to the scheduler of CPU c: the log and the CPU's threads before it and after it, and what it did
+module _ (opening : LockId → Option (QueueBlock BufferLock)) {ActsFor : CpuId → Type 0} {c : CpuId} (p : Pass) (result : Option (Unit {0}))
+    {old new : List BufferEvent} {own own' : Threads}
+    (polled : SchedPolled (kernel_of opening) ActsFor c (sched.Pass p) (done_if result) old new own own') where
+  pub pass_grown : new ≡ pass_events (homes_in opening) c p (is_some (done_if {O = BufferOutcome} result)) ++ (polled.others ++ old)
+  pass_grown = polled.is ∙ split (homes_in opening) c p (is_some (done_if {O = BufferOutcome} result)) (polled.others ++ old)
+
+  same_sections : buffer_sections new ≡ buffer_sections (polled.others ++ old)
+  same_sections = ap buffer_sections pass_grown ∙ no_sections (homes_in opening) c p (is_some (done_if {O = BufferOutcome} result)) (polled.others ++ old)
+
+  pub pass_seen : (Acts : CpuId → Type 0) → ((d : CpuId) → Acts d → ActsFor d)
+      → OthersSeen Acts (effects_in (inner opening) (buffer_sections old)) (effects_in (inner opening) (buffer_sections new))
+  pass_seen Acts weaker = record {
+    others = effects_over (inner opening) polled.others old;
+    foreign = λ d acts. effects_others (inner opening) d polled.others old (polled.foreign d (weaker d acts));
+    is = ap (effects_in (inner opening)) same_sections ∙ effects_append (inner opening) polled.others old;
+  }
+
+  pub pass_moved : (Acts : CpuId → Type 0) → ((d : CpuId) → Acts d → ActsFor d)
+      → PassPolled (homes_in opening) Acts c p result (moves_in (kernel_of opening) old) (moves_in (kernel_of opening) new) own own'
+  pass_moved Acts weaker =
+      let moved = pass_polled (kernel_of opening) ActsFor c p (done_if result) old new own own' polled in
+      let same : is_some (done_if {O = BufferOutcome} result) ≡ is_some result = done_same BufferOutcome result in
+      record {
+        others = moved.others;
+        foreign = λ d acts. moved.foreign d (weaker d acts);
+        is = rw (← same) moved.is;
+        after = rw (← same) moved.after;
+        at_once = λ local. sym same ∙ moved.at_once local;
+      }
+
+  -- the part of this CPU, and those of other CPUs
+  pub part_passed : (d : CpuId) → AreOthers cpu_of_queue_event d polled.others → AreLawful opening (polled.others ++ old)
+      → {cv : Waiting BufferOut} {call_states : List CallState} {under_way : Option (SchedCall (CvCall BufferEdit))} {calling : Option Tid}
+      → PartFits opening d old cv call_states under_way calling → PartFits opening d new cv call_states under_way calling
+  part_passed d others lawful fits =
+      let on = part_on opening d polled.others old others lawful fits in
+      record { boots = on.boots; sizes = on.sizes; calls = rw same_sections on.calls }
+
+pub lawful_before : (opening : LockId → Option (QueueBlock BufferLock)) (mine past new : List BufferEvent) → new ≡ mine ++ past → AreLawful opening new
+    → AreLawful opening past
+lawful_before opening mine past new is lawful = grind (arith, lawful_rest)
+
+-- what a pass changes of the part: its threads, and which pass is under way
+pub passed_own : (opening : LockId → Option (QueueBlock BufferLock)) (c : CpuId) (past : List BufferEvent) (cv cv' : Waiting BufferOut)
+    (call_states : List CallState)
+    (under_way : Option (SchedCall (CvCall BufferEdit))) (calling : Option Tid) (p : Pass) (done : Bool) → MayGoOn (under_way_at calling under_way) (Passing p)
+    → (cv'.lock.sleep.deferred ≡ cv.lock.sleep.deferred) × (cv'.lock.slept ≡ cv.lock.slept) × (cv'.waits ≡ cv.waits)
+    → PartFits opening c past cv call_states under_way calling → PartFits opening c past cv' call_states (if done then None else Some (sched.Pass p)) calling
+passed_own opening c past cv cv' call_states under_way (Some t) p done may rest fits = absurd (let same : Calling t ≡ Passing p = may in cc)
+passed_own opening c past cv cv' call_states under_way None p done may (deferred, slept, waits) fits = record {
+  boots = fits.boots;
+  sizes = record { slept = rw slept fits.sizes.slept; waits = rw waits fits.sizes.waits; call_states_are = fits.sizes.call_states_are };
+  calls = record { none = none done; deferred = deferred ∙ fits.calls.deferred; fit = λ u home. rw (slept, waits) (fits.calls.fit u home) };
+}
+  where
+    none : (b : Bool) → NoSection (if b then None else Some (sched.Pass p))
+    none true = tt
+    none false = tt

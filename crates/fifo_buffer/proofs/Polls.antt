@@ -2,8 +2,9 @@
 use Rattle.std.proofs.Common.{ℕ, ◌≡◌, ◌⊎◌, inl, inr, ◌<◌, Bool, true, false, not, ◌&&◌, List, [], ◌∷◌, ◌++◌, length, Option, Some, None, option_map}
 use Rattle.std.proofs.{Common.{option_to_list, is_some, slice_set, if◌then◌else◌, refl, ap, sym, ◌∙◌, subst, arith}, lemmas.Bool.eqb-false}
 use Rattle.std.proofs.lemmas.List.{get_or-set_other, get_or-set_same, length-set}
-use Rattle.fifo_buffer.proofs.{Callers.{monitored, kernel_of, AreLawful, Caller}, Parts.deferred_on, Apart.fits_apart, Events.{caller_is, due_now, keeps_fits}}
-use Rattle.fifo_buffer.{proofs.{Events.owner_due, OwnSteps.{Stepped, own_step}}, specs.Stances.{InCall, CallStateFits, recorded_by, slept_by, call_state_in}}
+use Rattle.fifo_buffer.proofs.{Callers.{monitored, kernel_of, AreLawful, Caller}, Parts.deferred_on, OtherSteps.{fits_apart, caller_is, due_now, keeps_fits}}
+use Rattle.fifo_buffer.{proofs.{OtherSteps.owner_due, OwnSteps.{Stepped, own_step}}, specs.Stances.{InCall, CallStateFits, recorded_by, slept_by}}
+use Rattle.fifo_buffer.specs.Stances.{call_state_in}
 use Rattle.fifo_buffer.specs.{Stances.{waits_at, waits_by}, SectionPolls.{After, BufferEvent, BufferOutcome, SectionGoes, IsDeferred, MayPollSection, Midway}}
 use Rattle.{fifo_buffer.specs.SectionPolls.{SectionPolled, recorded_if, is_plain}, event_log.specs.declared.ids.{BufId.BufId, CpuId.CpuId, LockId.LockId}}
 use Rattle.event_log.{specs.{declared.ids.{LockId.TheVariants.Buffer, Tid.Tid, TheConstants.THREADS}, History.AreForeign}, proofs.BoolLemmas.none_of}

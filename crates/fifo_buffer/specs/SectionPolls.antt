@@ -175,8 +175,7 @@ pub record SectionPolled (homes : List CpuId) (ActsFor : CpuId → Type 0) (O : 
       ≡ option_to_list (option_map (entry_of c t (buffer_of call)) effect) ++ effects_in O (buffer_sections (others ++ old))
   pub fresh : (f : Effect) → effect ≡ Some f → (call_state.effect ≡ None) × (later.effect ≡ Some f) × IsEffectOf call f
   pub stays : effect ≡ None → later.effect ≡ call_state.effect
-  pub marks : (u : Tid) → same_tid t u ≡ false
-      → (slept_for left.lock.slept u ≡ slept_for own.lock.slept u) × (slept_for left.waits u ≡ slept_for own.waits u)
+  pub marks : (u : Tid) → same_tid t u ≡ false → (slept_for left.lock.slept u ≡ slept_for own.lock.slept u) × (slept_for left.waits u ≡ slept_for own.waits u)
   pub sizes : (length left.lock.slept ≡ length own.lock.slept) × (length left.waits ≡ length own.waits)
   pub ended : left.lock.sleep.threads.ended ≡ own.lock.sleep.threads.ended
   pub apart : (u : Tid) → home_of homes u ≡ Some c → same_tid t u ≡ false → (of : Option Call) (slept waits : Option BufId) (its : CallState)

@@ -22,8 +22,7 @@ group_on Senders = Sends
 -- the threads whose calls of this side took effect on buffer b, the first in front
 abbrev pub served : Side → ℕ → List Entry → List Tid
 served side b [] = []
-served side b (e ∷ past) =
-    if (b == e.buffer.0) && same_group (group_of e.kind) (group_on side) then served side b past ++ e.thread ∷ [] else served side b past
+served side b (e ∷ past) = if (b == e.buffer.0) && same_group (group_of e.kind) (group_on side) then served side b past ++ e.thread ∷ [] else served side b past
 
 -- after lawful events those who joined a line are those whose calls of its side took effect, in the same order, and then those who still stand in line
 abbrev pub FirstComeFirstServed : Type 0

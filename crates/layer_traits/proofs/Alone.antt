@@ -1,10 +1,9 @@
 -- A machine whose holder acts for every CPU sees no foreign events; and a section where every CPU rests.
-use Rattle.std.proofs.Common.{◌≡◌, ◌<◌, true, false, List, [], ◌∷◌, ◌++◌, Option, IsSome, option_map, if◌then◌else◌, refl, ap, sym, ◌∙◌, arith}
-use Rattle.std.proofs.lemmas.Bool.{eq-eqb}
+use Rattle.std.proofs.{Common.{◌≡◌, ◌<◌, true, false, List, [], ◌∷◌, ◌++◌, Option, IsSome, option_map, refl, ap, ◌∙◌, arith}, lemmas.Bool.eq-eqb}
 use Rattle.event_log.specs.{declared.ids.{CpuId.CpuId, LockId.LockId, TheConstants.CPUS}, History.AreForeign, Actions.{Action, Take, Try, Give, Rests, Waits}}
-use Rattle.event_log.specs.{Actions.{Holds, cpu_of_action, phase, takes, gives, spot_of, AreLegal, next_action, action_in}, Sections.{Section, sections_in}}
-use Rattle.event_log.{specs.Sections.block_after, proofs.{Exclusion.{is_at, line_at, phase_own}, Foreign.cpu_of_action_known, Line.{crowd, crowd_same}}}
-use Rattle.{event_log.proofs.{Line.crowd_none, Same.same_cpu_self}, layer_traits.specs.Polling.Plans.{Table, Left, Acting, at_give, reply}}
+use Rattle.event_log.specs.{Actions.{Holds, cpu_of_action, phase, takes, gives, AreLegal, next_action, action_in}, Sections.{Section, sections_in, block_after}}
+use Rattle.event_log.proofs.{Exclusion.{is_at, line_at, phase_own}, Foreign.cpu_of_action_known, Line.{crowd, crowd_same, crowd_none}, Same.same_cpu_self}
+use Rattle.layer_traits.specs.Polling.Plans.{Table, Left, Acting, at_give, reply}
 
 -- no action is foreign to a holder that acts for every CPU
 pub no_foreign_acts : {N : Type 0} (ActsFor : CpuId → Type 0) → ((c : CpuId) → c.0 < CPUS → ActsFor c) → (others old : List (Action N))
@@ -37,11 +36,7 @@ module _ {N : Type 0} (cpu : CpuId) (lock : LockId) (name : N) (past : List (Act
   waits = phase_own {N = N} (Take cpu lock) past
 
   pub second_action : AreLegal past → next_action cpu lock name (Take cpu lock ∷ past) ≡ Try cpu lock true
-  second_action legal =
-      let placed : spot_of {N = N} cpu (Take cpu lock ∷ past) ≡ gives lock past
-      = ap (λ b. if b then takes lock past else spot_of cpu past) (same_cpu_self cpu) ∙ all_given legal in
-      ap (action_in cpu lock name (Take cpu lock ∷ past)) waits
-      ∙ ap (Try cpu lock) (eq-eqb (gives lock past) (spot_of {N = N} cpu (Take cpu lock ∷ past)) (sym placed))
+  second_action legal = grind (arith, same_cpu_self, all_given, waits, eq-eqb)
 
   holds : phase cpu (Try cpu lock true ∷ Take cpu lock ∷ past) ≡ Holds lock
   holds = phase_own {N = N} (Try cpu lock true) (Take cpu lock ∷ past)

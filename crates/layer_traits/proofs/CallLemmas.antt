@@ -1,14 +1,13 @@
 -- Calls at shared queues: their steps are lawful moves, calls of others are moves of others, and what a poll of a pass means in moves.
-use Rattle.std.proofs.Common.{◌≡◌, Bool, true, false, List, [], ◌∷◌, ◌++◌, Option, Some, None, MatchOption, is_some, if◌then◌else◌, refl, ap, sym, ◌∙◌, arith}
+use Rattle.std.proofs.Common.{◌≡◌, Bool, true, List, [], ◌∷◌, ◌++◌, Option, Some, None, is_some, if◌then◌else◌, refl, ap, sym, ◌∙◌, arith}
 use Rattle.event_log.specs.{declared.ids.{BufId.BufId, CpuId.CpuId, LockId.{LockId, TheVariants.Buffer}, Tid.Tid}, History.{AreOthers, IsLawful}}
-use Rattle.{event_log.specs.Actions.Action, thread_blocks.proofs.Members.same_tid_true, layer_traits.specs.declared.queues.QueueCall.QueueCall}
-use Rattle.layer_traits.specs.declared.{queues.{QueueCall.TheVariants.{Push, TakeAll, OnBuffer}, QueueEvent.QueueEvent}, scheds.SchedAnswer.SchedAnswer}
-use Rattle.layer_traits.specs.{declared.passes.Pass.{Pass, TheVariants.Switch}, Threads.MoveRules.{WakesSleepers, edit_move, section_moves, asleep_after}}
-use Rattle.layer_traits.specs.Threads.{MoveRules.asleep_by, Passes.{PassPolled, pass_after, pass_steps}, Places.{AreMoves, MayMove, Move, Moved, Pushed, Step}}
-use Rattle.layer_traits.specs.Threads.Places.{Still, Threads, Took, Where, is_asleep, is_wait_channel, pending_by, wait_channel_of, step_with, cpu_of_step}
-use Rattle.layer_traits.specs.{Threads.Places.{where_after, where_is, where_taken, where_woken}, Polling.Plans.{Act, Follows, Left, Now, Plan, Table, raised}}
-use Rattle.layer_traits.specs.Layers.Queues.{CallAllowed, Kernel, QueueAllowed, buffer_sections, call_move, event, cpu_of_queue_event, moves_in, out_at}
-use Rattle.layer_traits.specs.Layers.Scheds.{SchedPolled, events_of, pass_call}
+use Rattle.{event_log.specs.Actions.Action, thread_blocks.proofs.Members.same_tid_true, layer_traits.specs.declared.queues.QueueCall.TheVariants.OnBuffer}
+use Rattle.layer_traits.specs.{declared.{queues.QueueEvent.QueueEvent, scheds.SchedAnswer.SchedAnswer, passes.Pass.Pass}, Threads.MoveRules.WakesSleepers}
+use Rattle.layer_traits.specs.Threads.{MoveRules.{section_moves, asleep_after, asleep_by}, Passes.{PassPolled, pass_after, pass_steps}, Places.AreMoves}
+use Rattle.layer_traits.specs.Threads.Places.{MayMove, Move, Step, Threads, Where, is_asleep, is_wait_channel, pending_by, wait_channel_of, step_with}
+use Rattle.layer_traits.specs.{Threads.Places.{cpu_of_step, where_after, where_is, where_taken, where_woken}, Polling.Plans.{Follows, Left, Plan, Table}}
+use Rattle.layer_traits.specs.{Polling.Plans.raised, Layers.Queues.{CallAllowed, Kernel, QueueAllowed, buffer_sections, call_move, cpu_of_queue_event}}
+use Rattle.layer_traits.specs.Layers.{Queues.{moves_in, out_at}, Scheds.{SchedPolled, events_of, pass_call}}
 use Rattle.layer_traits.specs.declared.scheds.SchedCall.TheVariants as call
 
 -- Where a thread sleeps needs no home.
@@ -23,10 +22,7 @@ module _ (homes : List CpuId) where
   wait_channel_after : (past : List Step) (c : CpuId) (move : Move) (t : Tid) → MayMove homes past c move
       → wait_channel_of (where_is homes past t) ≡ asleep_by past t
       → wait_channel_of (where_after homes c move t (where_is homes past t)) ≡ asleep_after move t (asleep_by past t)
-  wait_channel_after past c (Pushed d u) t may is = grind (arith, same_tid_true, may.held)
-  wait_channel_after past c (Took d) t may is = taken_wait_channel d (where_is homes past t) ∙ is
-  wait_channel_after past c (Moved lock caller slept woke) t may is = grind (arith, woken_wait_channel)
-  wait_channel_after past c Still t may is = is
+  wait_channel_after past c move t may is = grind (arith, same_tid_true, taken_wait_channel, woken_wait_channel)
 
   -- where a thread sleeps by its place is where it sleeps by the moves alone
   pub asleep_wait_channel : (moves : List Step) (t : Tid) → AreMoves homes moves → wait_channel_of (where_is homes moves t) ≡ asleep_by moves t
@@ -53,25 +49,13 @@ module _ {E B O : Type 0} (k : Kernel E B O) where
   -- the sections of the layer above are allowed where the calls are
   pub upper_lawful : (log : List (QueueEvent E)) → IsLawful (QueueAllowed k) log → IsLawful (k.rules.allowed k.opening) (buffer_sections log)
   upper_lawful [] lawful = tt
-  upper_lawful (e ∷ past) lawful = by_call e.cpu e.call past lawful.0 (upper_lawful past lawful.1)
-    where
-      by_call : (c : CpuId) (q : QueueCall E) (past : List (QueueEvent E)) → CallAllowed k past c q
-          → IsLawful (k.rules.allowed k.opening) (buffer_sections past)
-          → IsLawful (k.rules.allowed k.opening) (buffer_sections (event c q ∷ past))
-      by_call c (OnBuffer b e) past allowed before = (allowed.upper, before)
-      by_call c q past allowed before = before
+  upper_lawful (e ∷ past) lawful = grind (arith, upper_lawful past lawful.1)
 
   -- pushes and takings put nobody to sleep and wake nobody
   pub sections_asleep : (past : List (QueueEvent E)) (u : Tid) → asleep_by (section_moves k.rules k.moves k.opening (buffer_sections past)) u
       ≡ asleep_by (moves_in k past) u
   sections_asleep [] u = refl
-  sections_asleep (e ∷ past) u = by_call e.cpu e.call past (sections_asleep past u)
-    where
-      by_call : (c : CpuId) (q : QueueCall E) (past : List (QueueEvent E))
-          → asleep_by (section_moves k.rules k.moves k.opening (buffer_sections past)) u ≡ asleep_by (moves_in k past) u
-          → asleep_by (section_moves k.rules k.moves k.opening (buffer_sections (event c q ∷ past))) u ≡ asleep_by (moves_in k (event c q ∷ past)) u
-      by_call c (OnBuffer b e) past before = ap (asleep_after (edit_move k.moves (Buffer b) e (out_at k past b e)) u) before
-      by_call c q past before = before
+  sections_asleep (e ∷ past) u = grind (arith, sections_asleep past u)
 
   module _ (wakes : WakesSleepers k.rules k.moves) where
     sleeps : (past : List (QueueEvent E)) → IsLawful (QueueAllowed k) past → AreMoves k.homes (moves_in k past) → (c : CpuId) (b : BufId) (e : E)
@@ -84,36 +68,18 @@ module _ {E B O : Type 0} (k : Kernel E B O) where
     -- the steps of allowed calls are moves that may be made
     pub moves_lawful : (log : List (QueueEvent E)) → IsLawful (QueueAllowed k) log → AreMoves k.homes (moves_in k log)
     moves_lawful [] lawful = tt
-    moves_lawful (e ∷ past) lawful = (by_call e.cpu e.call past lawful.0 lawful.1 (moves_lawful past lawful.1), moves_lawful past lawful.1)
-      where
-        by_call : (c : CpuId) (q : QueueCall E) (past : List (QueueEvent E)) → CallAllowed k past c q → IsLawful (QueueAllowed k) past
-            → AreMoves k.homes (moves_in k past)
-            → MayMove k.homes (moves_in k past) c (call_move k past q)
-        by_call c (Push d t) past allowed lawful moves = allowed
-        by_call c (TakeAll d) past allowed lawful moves = allowed
-        by_call c (OnBuffer b e) past allowed lawful moves = by_out (out_at k past b e) refl
-          where
-            by_woke : (o : O) → out_at k past b e ≡ Some o → (w : Option Tid) → k.moves.woke o ≡ w
-                → MatchOption w (Unit {0}) (λ u. is_asleep (where_is k.homes (moves_in k past) u) ≡ true)
-            by_woke o answers None woke = tt
-            by_woke o answers (Some u) woke = sleeps past lawful moves c b e allowed o answers u woke
-
-            by_out : (out : Option O) → out_at k past b e ≡ out → MayMove k.homes (moves_in k past) c (edit_move k.moves (Buffer b) e out)
-            by_out None answers = tt
-            by_out (Some o) answers = (allowed.caller, by_woke o answers (k.moves.woke o) refl)
+    moves_lawful (e ∷ past) lawful = grind (arith, moves_lawful past lawful.1, sleeps)
 
     -- whom an allowed edit wakes sleeps
-    pub woken_sleeps : (past : List (QueueEvent E)) → IsLawful (QueueAllowed k) past → (c : CpuId) (b : BufId) (e : E)
-        → CallAllowed k past c (OnBuffer b e) → (o : O) → out_at k past b e ≡ Some o → (u : Tid) → k.moves.woke o ≡ Some u
-        → is_asleep (where_is k.homes (moves_in k past) u) ≡ true
+    pub woken_sleeps : (past : List (QueueEvent E)) → IsLawful (QueueAllowed k) past → (c : CpuId) (b : BufId) (e : E) → CallAllowed k past c (OnBuffer b e)
+        → (o : O) → out_at k past b e ≡ Some o → (u : Tid) → k.moves.woke o ≡ Some u → is_asleep (where_is k.homes (moves_in k past) u) ≡ true
     woken_sleeps past lawful = sleeps past lawful (moves_lawful past lawful)
 
   -- A pass in moves.
 
   pass_moves : (c : CpuId) (p : Pass) (past : List (QueueEvent E))
       → moves_in k (events_of c (pass_call k.homes c p) ++ past) ≡ pass_steps k.homes c p ++ moves_in k past
-  pass_moves c Switch past = refl
-  pass_moves c other past = refl
+  pass_moves c p past = grind arith
 
   -- a poll of a pass, in moves alone
   pub pass_polled : (ActsFor : CpuId → Type 0) (c : CpuId) (p : Pass) (result : Option (SchedAnswer O)) (old new : List (QueueEvent E)) (own own' : Threads)
@@ -128,13 +94,10 @@ module _ {E B O : Type 0} (k : Kernel E B O) where
     where
       by_answer : (b : Bool) → moves_in k (if b then events_of c (pass_call k.homes c p) ++ (polled.others ++ old) else polled.others ++ old)
           ≡ (if b then pass_steps k.homes c p ++ (moves_over polled.others old ++ moves_in k old) else moves_over polled.others old ++ moves_in k old)
-      by_answer true = pass_moves c p (polled.others ++ old) ∙ ap (λ l. pass_steps k.homes c p ++ l) (moves_append polled.others old)
-      by_answer false = moves_append polled.others old
+      by_answer b = grind (arith, pass_moves, moves_append)
 
 -- a poll that followed a plan followed the plan raised, with what is made of what it left
 pub follows_raised : {N B R S T A Q : Type 0} (ActsFor : CpuId → Type 0) (table : Table N B R) (opening : LockId → Option B) (cpu : CpuId)
     (f : Left S A → Left T Q) (plan : Plan N R S A) (old new : List (Action N)) (got : Left S A) → Follows ActsFor table opening cpu plan old new got
     → Follows ActsFor table opening cpu (raised f plan) old new (f got)
-follows_raised ActsFor table opening cpu f (Now left) old new got follows = (follows.0, ap f follows.1)
-follows_raised ActsFor table opening cpu f (Act lock name react) old new got follows =
-    record { past = follows.past; acted = follows.acted; moves = ap f follows.moves }
+follows_raised ActsFor table opening cpu f plan old new got follows = grind arith

@@ -1,6 +1,5 @@
 -- Locks that opened with these capacities tell them.
-use Rattle.std.proofs.Common.{◌≡◌, ℕ, zero, suc, ◌+◌, ◌≤◌, List, [], ◌∷◌, length, Option, Some, None, option_map, refl, ap, ◌∙◌, arith}
-use Rattle.std.specs.Prelude.{slice_get}
+use Rattle.std.{proofs.Common.{◌≡◌, ℕ, zero, suc, ◌+◌, ◌≤◌, List, [], ◌∷◌, length, Option, None, option_map, refl, ap, ◌∙◌, arith}, specs.Prelude.slice_get}
 use Rattle.{event_log.specs.declared.ids.LockId.{LockId, TheVariants.Buffer}, layer_traits.specs.Blocks.Capacities.{with_cap_of, caps_from}}
 
 module _ {L : Type 0} (capacity : L → ℕ) (fresh : ℕ → L) (shows : (n : ℕ) → capacity (fresh n) ≡ n) (all : List ℕ) (locks : LockId → Option L)
@@ -11,20 +10,13 @@ module _ {L : Type 0} (capacity : L → ℕ) (fresh : ℕ → L) (shows : (n : �
   further : (n i : ℕ) (o : Option ℕ) → slice_get all (n + suc i) ≡ o → slice_get all (n + 1 + i) ≡ o
   further n i o is = let at : n + 1 + i ≡ n + suc i = omega arith in ap (slice_get all) at ∙ is
 
-  caps_read : (caps : List ℕ) (more n : ℕ) → ((i : ℕ) → slice_get all (n + i) ≡ slice_get caps i) → length caps ≤ more
-      → caps_from capacity more n locks ≡ caps
+  caps_read : (caps : List ℕ) (more n : ℕ) → ((i : ℕ) → slice_get all (n + i) ≡ slice_get caps i) → length caps ≤ more → caps_from capacity more n locks ≡ caps
   unfolding caps_from
   caps_read [] zero n same few = refl
   caps_read (k ∷ caps) zero n same few = absurd (omega (arith, few))
   caps_read [] (suc more) n same few = ap (λ o. with_cap_of capacity o (caps_from capacity more (n + 1) locks)) (here n None (same 0))
-  caps_read (k ∷ caps) (suc more) n same few =
-      ap (λ o. with_cap_of capacity o (caps_from capacity more (n + 1) locks)) (here n (Some k) (same 0))
-      ∙ ap (λ m. m ∷ caps_from capacity more (n + 1) locks) (shows k)
-      ∙ ap (λ rest. k ∷ rest) (caps_read caps more (n + 1) (λ i. further n i (slice_get caps i) (same (suc i))) (omega (arith, few)))
+  caps_read (k ∷ caps) (suc more) n same few = grind (arith, caps_read caps more (n + 1), here, further)
 
   -- the capacities that the locks tell are those with which they opened
   pub caps_observed : (most : ℕ) → length all ≤ most → caps_from capacity most 0 locks ≡ all
-  caps_observed most few = caps_read all most 0 from_zero few
-    where
-      from_zero : (i : ℕ) → slice_get all (0 + i) ≡ slice_get all i
-      from_zero i = let at : 0 + i ≡ i = omega arith in ap (slice_get all) at
+  caps_observed most few = grind (arith, caps_read)

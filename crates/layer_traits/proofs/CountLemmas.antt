@@ -1,5 +1,5 @@
 -- Threads in lists, by count.
-use Rattle.std.proofs.Common.{◌≡◌, ◌+◌, ◌<◌, true, false, List, [], ◌∷◌, ◌++◌, Option, Some, None, refl, ap, sym, ◌∙◌, arith, add_assoc, zero-add}
+use Rattle.std.proofs.Common.{◌≡◌, ◌+◌, ◌<◌, true, false, List, [], ◌∷◌, ◌++◌, Option, Some, ap, sym, ◌∙◌, arith, add_assoc, zero-add}
 use Rattle.event_log.{specs.{declared.ids.{CpuId.CpuId, Tid.Tid}, History.same_cpu}, proofs.Same.{same_cpu_self, same_cpu_true}}
 use Rattle.{thread_blocks.{specs.Queues.{same_tid, is_in, first, rest}, proofs.Members.same_tid_self}, layer_traits.specs.Threads.Passes.as_list}
 use Rattle.layer_traits.specs.Threads.Places.{is_cpu, is_thread, one_if, count_in}
@@ -11,8 +11,7 @@ pub same_cpu_sym : (c d : CpuId) → same_cpu c d ≡ same_cpu d c
 same_cpu_sym c d = grind arith
 
 pub is_cpu_true : (c : CpuId) (home : Option CpuId) → is_cpu c home ≡ true → home ≡ Some c
-is_cpu_true c None is = absurd cc
-is_cpu_true c (Some d) is = ap Some (sym (same_cpu_true c d is))
+is_cpu_true c home is = grind (arith, same_cpu_true)
 
 pub is_cpu_of : (c : CpuId) (home : Option CpuId) → home ≡ Some c → is_cpu c home ≡ true
 is_cpu_of c home is = ap (is_cpu c) is ∙ same_cpu_self c
@@ -36,13 +35,11 @@ pub count_behind : (t u : Tid) (q : List Tid) → same_tid u t ≡ false → cou
 count_behind t u q other = omega (arith, count_other t u other, count_append t q (u ∷ []))
 
 pub count_as_list : (t : Tid) (o : Option Tid) → count_in t (as_list o) ≡ one_if (is_thread t o)
-count_as_list t None = refl
-count_as_list t (Some u) = let turned : one_if (same_tid t u) ≡ one_if (same_tid u t) = ap one_if (same_tid_sym t u) in omega (arith, turned)
+count_as_list t o = grind (arith, same_tid_sym)
 
 -- the front and the rest are the whole
 pub count_front : (t : Tid) (q : List Tid) → one_if (is_thread t (first q)) + count_in t (rest q) ≡ count_in t q
-count_front t [] = refl
-count_front t (x ∷ q) = ap (λ b. one_if b + count_in t q) (same_tid_sym x t)
+count_front t q = grind (arith, same_tid_sym)
 
 -- who stands in a list is counted, and the other way round
 pub in_counted : (t : Tid) (q : List Tid) → is_in t q ≡ true → 0 < count_in t q

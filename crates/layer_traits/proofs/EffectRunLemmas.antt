@@ -1,5 +1,5 @@
 -- Effects that may come one after the other are a run.
-use Rattle.std.proofs.Common.{◌≡◌, ℕ, ◌+◌, ◌<◌, ◌%◌, ◌^◌, ◌≤◌, Bool, ◌&&◌, ◌==◌, List, [], ◌∷◌, ◌++◌, length, reverse, if◌then◌else◌, refl, ap, sym, ◌∙◌, subst}
+use Rattle.std.proofs.Common.{◌≡◌, ℕ, ◌+◌, ◌<◌, ◌%◌, ◌^◌, Bool, ◌&&◌, ◌==◌, List, [], ◌∷◌, ◌++◌, length, reverse, if◌then◌else◌, refl, ap, sym, ◌∙◌, subst}
 use Rattle.std.proofs.{Common.{arith, count_by, add_comm}, lemmas.List.{reverse-append, Sums.{count_by-le-length, sum_by-cons, sum_by_push}}}
 use Rattle.std.specs.Prelude.{nat_lt, slice_index}
 use Rattle.event_log.specs.{declared.entries.{Entry.Entry, Kind.TheVariants.Close}, Buffers.{IsAllowedEffect, items_of}, Runs.{IsNext, IsRun, after_entry}}
@@ -18,12 +18,8 @@ count_reversed {E} picks (e ∷ es) =
     ∙ add_comm (count_by picks es) (one e) ∙ sym (sum_by-cons one e es)
 
 -- a number that is small enough is not changed by the width of a counter
-counted_exactly : {E : Type 0} (picks : E → Bool) (es : List E) (n : ℕ) → length es < 2 ^ 64 → n ≡ count_by picks es % 2 ^ 64
-    → n ≡ count_by picks (reverse es)
-counted_exactly picks es n few is =
-    let most : count_by picks es ≤ length es = count_by-le-length picks es in
-    let exact : n ≡ count_by picks es = omega (arith, most, few, is) in
-    exact ∙ sym (count_reversed picks es)
+counted_exactly : {E : Type 0} (picks : E → Bool) (es : List E) (n : ℕ) → length es < 2 ^ 64 → n ≡ count_by picks es % 2 ^ 64 → n ≡ count_by picks (reverse es)
+counted_exactly picks es n few is = grind (arith, count_by-le-length, count_reversed)
 
 pub effects_are_run : EffectsAreRun
 effects_are_run caps [] lawful few = run_none caps

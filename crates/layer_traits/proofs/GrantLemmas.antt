@@ -1,12 +1,11 @@
 -- How the told log of grant words grows, and what its counts and words are.
-use Rattle.std.proofs.Common.{◌≡◌, ℕ, ◌<◌, List, [], ◌∷◌, ◌++◌, Option, Some, None, MatchOption, slice_index, refl, ap, sym, ◌∙◌}
-use Rattle.event_log.specs.declared.{ids.{CpuId.CpuId, LockId.LockId, TheConstants.CPUS}, grants.GrantEvent.GrantEvent, events.Event.{Event, TheVariants.Draw}}
-use Rattle.event_log.specs.{declared.events.Event.TheVariants.{Look, Free}, Actions.{gives, takes}, Grants.{WordFits, cpu_of_grant, grant_lock_phase}}
-use Rattle.event_log.specs.{Grants.{grant_word, tickets}, History.{AreOthers, Adds, same_cpu}, Sections.block_after, WordsLog.{IsLegalWords, Holding, Waiting}}
-use Rattle.event_log.{specs.WordsLog.{cpu_of_event, draws, frees, lock_phase}, proofs.GrantWords.{legal_grants, one_word, takes_grants, words_fit}}
-use Rattle.{event_log.proofs.Tickets.{gives_acts, takes_acts}, layer_traits.specs.{declared.edits.Mark.Mark, Protocols.GrantProtocol.grant_sections}}
-use Rattle.layer_traits.specs.{Protocols.{AsGrants.{as_grant, as_grants}, WordsProtocol.sections}, Laws.AsGrants.{acts_as_grants, sections_as_grants}}
-use Rattle.layer_traits.specs.Laws.AsGrants.{stands_as_grants, grants_agree}
+use Rattle.std.proofs.Common.{arith, ◌≡◌, ℕ, ◌<◌, List, [], ◌∷◌, ◌++◌, Option, Some, None, MatchOption, slice_index, refl, ap, sym, ◌∙◌}
+use Rattle.event_log.specs.{declared.{ids.{CpuId.CpuId, LockId.LockId, TheConstants.CPUS}, grants.GrantEvent.GrantEvent, events.Event.Event}, Actions.gives}
+use Rattle.event_log.specs.{Actions.takes, Grants.{WordFits, cpu_of_grant, grant_lock_phase, grant_word, tickets}, History.{AreOthers, Adds, same_cpu}}
+use Rattle.event_log.specs.{Sections.block_after, WordsLog.{IsLegalWords, Holding, Waiting, cpu_of_event, draws, frees, lock_phase}}
+use Rattle.event_log.proofs.{GrantWords.{legal_grants, one_word, takes_grants, words_fit}, Tickets.{gives_acts, takes_acts}}
+use Rattle.layer_traits.specs.{declared.edits.Mark.Mark, Protocols.{GrantProtocol.grant_sections, AsGrants.{as_grant, as_grants}, WordsProtocol.sections}}
+use Rattle.layer_traits.specs.Laws.AsGrants.{acts_as_grants, sections_as_grants, stands_as_grants, grants_agree}
 
 module _ {M : Type 0} where
   -- the events that came after these, as they are told
@@ -16,9 +15,7 @@ module _ {M : Type 0} where
     foreign : (c : CpuId) → AreOthers cpu_of_event c others → AreOthers cpu_of_grant c more
 
   cpu_as_grant : (e : Event M) (past : List (GrantEvent M)) → cpu_of_grant (as_grant e past) ≡ cpu_of_event e
-  cpu_as_grant (Draw cpu lock ticket) past = refl
-  cpu_as_grant (Look cpu lock ticket read) past = refl
-  cpu_as_grant (Free cpu lock mark) past = refl
+  cpu_as_grant e past = grind arith
 
   more_as_grants : (others old : List (Event M)) → MoreAsGrants others old
   more_as_grants [] old = record { more = []; is = refl; foreign = λ c others. tt }

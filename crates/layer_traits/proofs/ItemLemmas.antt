@@ -1,5 +1,5 @@
 -- Items and counters of a buffer's block, one more or one fewer.
-use Rattle.std.proofs.Common.{◌≡◌, ℕ, ◌+◌, ◌%◌, ◌^◌, List, [], ◌∷◌, drop, refl, arith}
+use Rattle.std.proofs.Common.{◌≡◌, ℕ, ◌+◌, ◌%◌, ◌^◌, List, drop, arith}
 use Rattle.{event_log.specs.Messages.Message, layer_traits.specs.Blocks.BufferBlocks.{counted, other_items}}
 
 -- a counter counts on, modulo 2^64
@@ -7,5 +7,4 @@ pub one_more : (a n : ℕ) → a ≡ n % 2 ^ 64 → counted a ≡ (n + 1) % 2 ^ 
 one_more a n is = omega (arith, is)
 
 pub drop_one : (items : List Message) → drop 1 items ≡ other_items items
-drop_one [] = refl
-drop_one (m ∷ items) = refl
+drop_one items = grind arith

@@ -1,25 +1,19 @@
 -- A layer that wraps its edits in those of the layer beneath: what was seen, allowed, polled and planned there is so here, under the
 -- layer's own names.
-use Rattle.std.proofs.Common.{◌≡◌, ◌≤◌, length, Bool, true, false, List, [], ◌∷◌, ◌++◌, Option, Some, None, IsSome, MatchOption, option_map, is_some}
-use Rattle.std.proofs.{Common.{if◌then◌else◌, map, refl, ap, sym, ◌∙◌, subst, arith}, Math.Path.transport}
-use Rattle.event_log.specs.{declared.ids.{BufId.BufId, CpuId.CpuId, LockId.{LockId, TheVariants.{Pending, Buffer}}, TheConstants.THREADS}, History.IsLawful}
-use Rattle.event_log.specs.{History.{AreOthers, Grows}, Actions.{Action, renamed}, Sections.{Section, renamed_section, sections_in, block_after}}
-use Rattle.{event_log.proofs.Renaming.{next_action_renamed, others_renamed, sections_in_renamed}, layer_traits.specs.declared.passes.Pass.TheVariants.YieldNow}
-use Rattle.layer_traits.specs.declared.{passes.Pass.TheVariants.{Drain, MakeReady}, queue_edits.{QueueBlock.QueueBlock, QueueEdit.QueueEdit}}
-use Rattle.layer_traits.specs.declared.{queue_edits.QueueAnswer.QueueAnswer, queues.{QueueCall.QueueCall, QueueEvent.QueueEvent}}
-use Rattle.layer_traits.specs.{declared.scheds.{SchedAnswer.{SchedAnswer, TheVariants.Answer}, SchedCall.SchedCall}, Threads.MoveRules.edit_move}
-use Rattle.layer_traits.specs.Threads.{Passes.{own_slept, own_woken, pass_after, queue_for}, Places.{Threads, Moved, step_with, MayEditFor, MayPush, home_of}}
-use Rattle.layer_traits.specs.{Threads.Places.pending_by, Polling.Plans.{Left, Plan, Now, Act, Follows, raised, reply, table_of}, Protocols.Protocol.section}
-use Rattle.layer_traits.specs.Blocks.{QueueBlocks.{StartsAs, StartsWell, homes_in, homes_of, inner}, QueueRules.{AreProper, IsProper, queue_answer}}
-use Rattle.layer_traits.specs.{Blocks.QueueRules.{queue_edited, queue_rules}, Layers.Queues.{Kernel, CallAllowed, IsKnownEvent, QueueAllowed, buffer_sections}}
-use Rattle.layer_traits.specs.Layers.{Queues.{call_move, event, cpu_of_queue_event, event_of, call_at, moves_in, out_at, with_section}, Scheds.EditStays}
-use Rattle.layer_traits.specs.Layers.Scheds.{IsLocal, SchedPolled, answer_to, events_of, sched_left, sched_left_by, own_after, own_answered, queue_call}
-use Rattle.layer_traits.specs.{Layers.Scheds.sched_plan, Views.Renaming.{plan_named, renamed_call, renamed_edit, renamed_event, renamed_events, renamed_sched}}
-use Rattle.layer_traits.{specs.Views.Renaming.{viewed, viewed_block}, proofs.PlanRenaming.{block_viewed, map-append, reply_viewed}}
-use Rattle.layer_traits.specs.declared.queue_edits.QueueBlock.TheVariants as block
-use Rattle.layer_traits.specs.declared.queue_edits.QueueEdit.TheVariants as edit
-use Rattle.layer_traits.specs.declared.queue_edits.QueueAnswer.TheVariants as told
-use Rattle.layer_traits.specs.declared.queues.QueueCall.TheVariants as queue
+use Rattle.std.proofs.Common.{◌≡◌, Bool, List, [], ◌∷◌, ◌++◌, Option, Some, None, IsSome, MatchOption, option_map, is_some, if◌then◌else◌, map, refl, ap, sym}
+use Rattle.std.proofs.{Common.{◌∙◌, subst, arith}, Math.Path.transport}
+use Rattle.event_log.specs.{declared.ids.{BufId.BufId, CpuId.CpuId, LockId.{LockId, TheVariants.{Pending, Buffer}}}, History.{IsLawful, AreOthers, Grows}}
+use Rattle.event_log.{specs.{Actions.{Action, renamed}, Sections.{Section, renamed_section, sections_in, block_after}}, proofs.Renaming.next_action_renamed}
+use Rattle.{event_log.proofs.Renaming.{others_renamed, sections_in_renamed}, layer_traits.specs.declared.queue_edits.QueueBlock.QueueBlock}
+use Rattle.layer_traits.specs.declared.{queue_edits.{QueueEdit.QueueEdit, QueueAnswer.QueueAnswer}, queues.{QueueCall.QueueCall, QueueEvent.QueueEvent}}
+use Rattle.layer_traits.specs.{declared.scheds.{SchedAnswer.SchedAnswer, SchedCall.SchedCall}, Threads.{MoveRules.edit_move, Places.{Threads, step_with}}}
+use Rattle.layer_traits.specs.{Polling.Plans.{Left, Plan, Now, Act, Follows, raised, reply, table_of}, Protocols.Protocol.section}
+use Rattle.layer_traits.specs.Blocks.{QueueBlocks.{StartsWell, homes_in, homes_of, inner}, QueueRules.{AreProper, IsProper, queue_answer, queue_edited}}
+use Rattle.layer_traits.specs.{Blocks.QueueRules.queue_rules, Layers.Queues.{Kernel, CallAllowed, IsKnownEvent, QueueAllowed, buffer_sections, call_move}}
+use Rattle.layer_traits.specs.Layers.{Queues.{event, cpu_of_queue_event, event_of, call_at, moves_in, out_at, with_section}, Scheds.{EditStays, IsLocal}}
+use Rattle.layer_traits.specs.Layers.Scheds.{SchedPolled, answer_to, events_of, sched_left_by, own_after, own_answered, queue_call, sched_plan}
+use Rattle.layer_traits.specs.Views.Renaming.{plan_named, renamed_call, renamed_edit, renamed_event, renamed_events, renamed_sched, viewed, viewed_block}
+use Rattle.layer_traits.proofs.PlanRenaming.{block_viewed, map-append, reply_viewed}
 use Rattle.layer_traits.specs.declared.scheds.SchedCall.TheVariants as call
 
 -- Openings that are seen so.
@@ -49,24 +43,14 @@ module _ {A B : Type 0} (view : A → B) (opening : LockId → Option (QueueBloc
 
   -- a boot's blocks are those of a boot
   pub starts_viewed : StartsWell opening → StartsWell (viewed view opening)
-  starts_viewed starts = record {
-    kinds = λ lock. kind lock (opening lock) (starts.kinds lock);
-    queues = λ t home at. viewed_there (Pending home) (starts.queues t home (subst (λ h. home_of h t ≡ Some home) homes_viewed at));
-    room = subst (λ h. length h ≤ THREADS) (sym homes_viewed) starts.room;
-  }
-    where
-      kind : (lock : LockId) (o : Option (QueueBlock A)) → StartsAs lock o → StartsAs lock (option_map (viewed_block view) o)
-      kind (Pending c) (Some (block.Queue queue homes)) is = is
-      kind (Buffer b) (Some (block.Above above)) is = is
-      kind lock o is = is
+  starts_viewed starts = grind (arith, viewed_there, homes_viewed)
 
 -- Histories under other names.
 
 module _ {D E : Type 0} (name : D → E) where
   with_renamed : (c : CpuId) (q : QueueCall D) (past : List (Section D)) (above : List (Section E)) → above ≡ map (renamed_section name) past
       → with_section c (renamed_call name q) above ≡ map (renamed_section name) (with_section c q past)
-  with_renamed c (queue.OnBuffer b d) past above same = ap (λ p. section c (Buffer b) (name d) ∷ p) same
-  with_renamed c q past above same = same
+  with_renamed c q past above given = grind arith
 
   -- the sections are the same
   pub sections_renamed : (past : List (QueueEvent D)) → buffer_sections (renamed_events name past) ≡ map (renamed_section name) (buffer_sections past)
@@ -121,8 +105,7 @@ module _ {D E : Type 0} (name : D → E) where
 
 pub named_raised : {M N R S T A C : Type 0} (name : M → N) (f : Left S A → Left T C) (plan : Plan M R S A)
     → plan_named name (raised f plan) ≡ raised f (plan_named name plan)
-named_raised name f (Now left) = refl
-named_raised name f (Act lock m react) = refl
+named_raised name f plan = grind arith
 
 -- The kernel j of a layer wraps the kernel k beneath: j's edits go under a name of theirs, and its blocks are views of those beneath.
 -- What is edited, answered, opened and moved there is so here, and what is allowed there is allowed here.
@@ -153,18 +136,13 @@ module _ {D E A B O : Type 0} (k : Kernel D A O) (j : Kernel E B O) (name : D �
 
   -- an edit answers the same
   pub out_renamed : (past : List (QueueEvent D)) (b : BufId) (d : D) → out_at j (renamed_events name past) b (name d) ≡ out_at k past b d
-  out_renamed past b d =
-      ap (λ p. option_map (j.rules.answer (name d)) (block_after j.rules.edited j.opening (Buffer b) p)) (sections_renamed name past)
-      ∙ (ap (option_map (j.rules.answer (name d))) (block_renamed (Buffer b) (buffer_sections past))
-      ∙ out_viewed d (block_after k.rules.edited k.opening (Buffer b) (buffer_sections past)))
+  out_renamed past b d = grind (arith, sections_renamed, block_renamed, out_viewed)
 
   move_out : (lock : LockId) (d : D) (o : Option O) → edit_move j.moves lock (name d) o ≡ edit_move k.moves lock d o
-  move_out lock d None = refl
-  move_out lock d (Some out) = λ i. Moved lock (callers d i) (slept i out) (woke i out)
+  move_out lock d o = grind (arith, callers, slept, woke)
 
   move_renamed : (past : List (QueueEvent D)) (q : QueueCall D) → call_move j (renamed_events name past) (renamed_call name q) ≡ call_move k past q
-  move_renamed past (queue.OnBuffer b d) = ap (edit_move j.moves (Buffer b) (name d)) (out_renamed past b d) ∙ move_out (Buffer b) d (out_at k past b d)
-  move_renamed past q = refl
+  move_renamed past q = grind (arith, out_renamed, move_out)
 
   -- the threads move alike
   pub moves_renamed : (past : List (QueueEvent D)) → moves_in j (renamed_events name past) ≡ moves_in k past
@@ -173,13 +151,7 @@ module _ {D E A B O : Type 0} (k : Kernel D A O) (j : Kernel E B O) (name : D �
 
   allowed_renamed : (past : List (QueueEvent D)) (c : CpuId) (q : QueueCall D) → CallAllowed k past c q
       → CallAllowed j (renamed_events name past) c (renamed_call name q)
-  allowed_renamed past c (queue.Push d t) may = transport (λ i. MayPush (sym homes i) (sym (moves_renamed past) i) c d t) may
-  allowed_renamed past c (queue.TakeAll d) may = may
-  allowed_renamed past c (queue.OnBuffer b d) may = record {
-    caller = transport (λ i. MayEditFor (sym homes i) (sym (moves_renamed past) i) c (sym (callers d) i)) may.caller;
-    upper = subst (λ p. j.rules.allowed j.opening p (section c (Buffer b) (name d))) (sym (sections_renamed name past))
-        (allowed (buffer_sections past) (section c (Buffer b) d) may.upper);
-  }
+  allowed_renamed past c q may = grind (arith, transport, homes, moves_renamed, callers, sections_renamed)
 
   -- what is lawful beneath is lawful here
   pub lawful_renamed : (past : List (QueueEvent D)) → IsLawful (QueueAllowed k) past → IsLawful (QueueAllowed j) (renamed_events name past)
@@ -197,32 +169,25 @@ module _ {D E A B O : Type 0} (k : Kernel D A O) (j : Kernel E B O) (name : D �
       (subst (IsLawful (QueueAllowed j)) (events_append name more past) (lawful_renamed (more ++ past) lawful)))
 
   pub answered_renamed : (c : CpuId) (o : Option O) (own : Threads) → own_answered j.moves j.homes c o own ≡ own_answered k.moves k.homes c o own
-  answered_renamed c None own = refl
-  answered_renamed c (Some out) own = λ i. own_woken (homes i) c (woke i out) (own_slept (slept i out) own)
+  answered_renamed c o own = grind (arith, homes, woke, slept)
 
   own_renamed : (c : CpuId) (past : List (QueueEvent D)) (s : SchedCall D) (own : Threads)
       → own_after j c (renamed_events name past) (renamed_sched name s) own ≡ own_after k c past s own
-  own_renamed c past (call.Pass p) own = ap (λ moves. pass_after p (pending_by moves c) own) (moves_renamed past)
-  own_renamed c past (call.OnBuffer b d) own = ap (λ o. own_answered j.moves j.homes c o own) (out_renamed past b d)
-      ∙ answered_renamed c (out_at k past b d) own
+  own_renamed c past s own = grind (arith, moves_renamed, out_renamed, answered_renamed)
 
   report_renamed : (past : List (QueueEvent D)) (s : SchedCall D) → answer_to j (renamed_events name past) (renamed_sched name s) ≡ answer_to k past s
-  report_renamed past (call.Pass p) = refl
-  report_renamed past (call.OnBuffer b d) = ap (option_map Answer) (out_renamed past b d)
+  report_renamed past s = grind (arith, out_renamed)
 
   call_seen : (c : CpuId) (s : SchedCall D) (past : List (QueueEvent D)) → renamed_events name (events_of c (queue_call k.homes c s) ++ past)
       ≡ events_of c (queue_call j.homes c (renamed_sched name s)) ++ renamed_events name past
-  call_seen c (call.Pass (MakeReady t)) past = ap (λ (h : List CpuId). event c (queue.Push (queue_for h c t) t) ∷ renamed_events name past) (sym homes)
-  call_seen c s past = refl
+  call_seen c s past = grind (arith, homes)
 
   local_renamed : (s : SchedCall D) → IsLocal (renamed_sched name s) → IsLocal s
-  local_renamed (call.Pass p) local = local
-  local_renamed (call.OnBuffer b d) local = local
+  local_renamed s local = grind arith
 
   -- a poll beneath is a poll here
   pub polled_renamed : (ActsFor : CpuId → Type 0) (c : CpuId) (s : SchedCall D) (result : Option (SchedAnswer O)) (old new : List (QueueEvent D))
-      (own own' : Threads)
-      → SchedPolled k ActsFor c s result old new own own'
+      (own own' : Threads) → SchedPolled k ActsFor c s result old new own own'
       → SchedPolled j ActsFor c (renamed_sched name s) result (renamed_events name old) (renamed_events name new) own own'
   polled_renamed ActsFor c s result old new own own' polled = record {
     others = renamed_events name polled.others;
@@ -239,13 +204,11 @@ module _ {D E A B O : Type 0} (k : Kernel D A O) (j : Kernel E B O) (name : D �
       seen : (b : Bool) → renamed_events name (if b then events_of c (queue_call k.homes c s) ++ (polled.others ++ old) else polled.others ++ old)
           ≡ (if b then events_of c (queue_call j.homes c (renamed_sched name s)) ++
           (renamed_events name polled.others ++ renamed_events name old) else renamed_events name polled.others ++ renamed_events name old)
-      seen true = call_seen c s (polled.others ++ old) ∙ ap (λ p. events_of c (queue_call j.homes c (renamed_sched name s)) ++ p) here
-      seen false = here
+      seen b = grind (arith, call_seen, here)
 
       after : (b : Bool) → (if b then own_after k c (polled.others ++ old) s own else own)
           ≡ (if b then own_after j c (renamed_events name polled.others ++ renamed_events name old) (renamed_sched name s) own else own)
-      after true = sym (own_renamed c (polled.others ++ old) s own) ∙ ap (λ p. own_after j c p (renamed_sched name s) own) here
-      after false = refl
+      after b = grind (arith, own_renamed, here)
 
       told : (r : Option (SchedAnswer O)) → MatchOption r (Unit {0}) (λ answer. answer_to k (polled.others ++ old) s ≡ Some answer)
           → MatchOption r (Unit {0}) (λ answer. answer_to j (renamed_events name polled.others ++ renamed_events name old) (renamed_sched name s) ≡ Some answer)
@@ -255,17 +218,12 @@ module _ {D E A B O : Type 0} (k : Kernel D A O) (j : Kernel E B O) (name : D �
   -- Plans and actions.
 
   by_renamed : (c : CpuId) (h : List CpuId) (own : Threads) (r : Option (QueueAnswer O)) → sched_left_by k.moves h c own r ≡ sched_left_by j.moves h c own r
-  by_renamed c h own (Some (told.Answer out)) = λ i. sched_left (own_woken h c (sym woke i out) (own_slept (sym slept i out) own)) (Some (Answer out))
-  by_renamed c h own r = refl
+  by_renamed c h own r = grind (arith, woke, slept)
 
   -- the plan beneath is the plan here
   pub plan_renamed : (h : List CpuId) (c : CpuId) (s : SchedCall D) (own : Threads)
       → plan_named (renamed_edit name) (sched_plan k.moves h c s own) ≡ sched_plan j.moves h c (renamed_sched name s) own
-  plan_renamed h c (call.Pass YieldNow) own = λ i. Act (Pending c) edit.TakeAll (λ r. by_renamed c h own r i)
-  plan_renamed h c (call.Pass Drain) own = λ i. Act (Pending c) edit.TakeAll (λ r. by_renamed c h own r i)
-  plan_renamed h c (call.Pass (MakeReady t)) own = λ i. Act (Pending (queue_for h c t)) (edit.Push t) (λ r. by_renamed c h own r i)
-  plan_renamed h c (call.OnBuffer b d) own = λ i. Act (Buffer b) (edit.Above (name d)) (λ r. by_renamed c h own r i)
-  plan_renamed h c s own = refl
+  plan_renamed h c s own = grind (arith, by_renamed)
 
   queue_edits : (m : QueueEdit D) (b : QueueBlock A)
       → viewed_block view (queue_edited k.rules.edited m b) ≡ queue_edited j.rules.edited (renamed_edit name m) (viewed_block view b)

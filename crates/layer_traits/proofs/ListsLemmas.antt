@@ -70,9 +70,7 @@ module _ (lock : LockId) (lines : WaitList → List Tid) (asleep : Tid → Optio
   -- a list that nobody left, where who left stood in another
   stays_there : (line other : WaitList) (t : Tid) (b : Bool) → (b ≡ true → 0 < count_in t (lines line)) → same_list line other ≡ false
       → count_in t (lines other) ≡ one_if (is_at lock other (if b then None else asleep t))
-  stays_there line other t false stood apart = agrees other t
-  stays_there line other t true stood apart =
-      agrees other t ∙ (ap (λ p. one_if (is_at lock other p)) (stands_asleep line t (stood refl)) ∙ ap one_if (other_list lock line other apart))
+  stays_there line other t b stood apart = grind (arith, stands_asleep, other_list)
 
   first_stood : (line : WaitList) (t : Tid) → is_thread t (first (lines line)) ≡ true → 0 < count_in t (lines line)
   first_stood line t is = grind (arith, count_front t (lines line))
@@ -115,9 +113,7 @@ module _ (lock : LockId) (lines : WaitList → List Tid) (asleep : Tid → Optio
     -- the list that an awake thread joined
     joined_here : (line : WaitList) (t : Tid) → count_in t (joined caller (lines line))
         ≡ one_if (is_at lock line (if same_tid caller t then Some (At lock line) else asleep t))
-    joined_here line t =
-        let out = awake_out line caller awake in
-        grind (arith, count_joined t caller (lines line) small (not_counted caller (lines line) out), out, agrees line t, same_tid_true, wait_channel_here)
+    joined_here line t = grind (arith, awake_out, count_joined, not_counted, same_tid_true, wait_channel_here)
 
     -- a list that it did not join
     joined_there : (line at : WaitList) (t : Tid) → same_list at line ≡ false
@@ -196,9 +192,8 @@ module _ {E B O : Type 0} (rules : SleepRules E B O) (opening : LockId → Optio
       ≡ one_if (is_at lock line (asleep_after (Moved lock (rules.caller s.edit) (rules.joins (answer_above rules s.edit state))
       (sleep_woke rules s.edit state)) t (asleep past t)))
   edited_agrees lock past s state awake agrees line t =
-      ap (count_in t) (edited_is line s.edit state)
-      ∙ own_agrees lock (λ l. wait_list_of l state) (asleep past) agrees (rules.leaves (answer_above rules s.edit state)) (rules.caller s.edit)
-      awake.awake awake.small (rules.joins (answer_above rules s.edit state)) line t
+      ap (count_in t) (edited_is line s.edit state) ∙ own_agrees lock (λ l. wait_list_of l state) (asleep past) agrees
+      (rules.leaves (answer_above rules s.edit state)) (rules.caller s.edit) awake.awake awake.small (rules.joins (answer_above rules s.edit state)) line t
 
   agree_step : (past : List (Section E)) (s : Section E) → IsAwake rules opening past s
       → ((lock : LockId) → Agrees lock (λ line. wait_list_at line (after lock past)) (asleep past))
@@ -209,9 +204,7 @@ module _ {E B O : Type 0} (rules : SleepRules E B O) (opening : LockId → Optio
           → count_in t (wait_list_at line (if b then option_map (sleep_edited rules s.edit) (after lock past) else after lock past))
           ≡ one_if (is_at lock line (asleep_after (edit_move (sleep_moves rules) s.lock s.edit (option_map (sleep_answer rules s.edit) o)) t (asleep past t)))
       go None is false other = agree lock line t
-      go None is true same =
-          let none = ap (λ l. after l past) (same_lock_true lock s.lock same) ∙ is in
-          rw none (rw none at (agree lock line t))
+      go None is true same = grind (arith, same_lock_true)
       go (Some state) is true same =
           let one = same_lock_true lock s.lock same in
           rw (ap (λ l. after l past) one ∙ is, one) (edited_agrees s.lock past s state awake (rw is at (agree s.lock)) line t)

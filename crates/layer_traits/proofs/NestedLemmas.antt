@@ -1,18 +1,18 @@
 -- Sections of the edits of shared queues as calls: a section is its call, what the blocks of the locks hold after calls, and what one
 -- poll of a section means as a poll of its call.
-use Rattle.std.proofs.Common.{◌≡◌, ◌<◌, Bool, true, false, ◌&&◌, not, List, [], ◌∷◌, ◌++◌, Option, Some, None, MatchOption, is_some, option_map, if◌then◌else◌}
-use Rattle.std.proofs.{Common.{map, refl, ap, sym, ◌∙◌, subst, arith}, lemmas.{Bool.lt-ltb, Option.slice_get_within}}
+use Rattle.std.proofs.Common.{◌≡◌, ◌<◌, Bool, false, ◌&&◌, not, List, [], ◌∷◌, ◌++◌, Option, Some, None, MatchOption, is_some, option_map, if◌then◌else◌}
+use Rattle.std.proofs.{Common.{map, refl, ap, ◌∙◌, subst, arith}, lemmas.{Bool.lt-ltb, Option.slice_get_within}}
 use Rattle.event_log.specs.declared.ids.{BufId.BufId, CpuId.CpuId, LockId.{LockId, TheVariants.{Pending, Buffer}}, Tid.Tid, TheConstants.THREADS}
-use Rattle.event_log.specs.{History.{AreForeign, AreOthers, Grows, IsLawful, same_cpu, same_lock}, Sections.{Section, block_after, cpu_of_section}}
+use Rattle.event_log.specs.{History.{AreForeign, AreOthers, Grows, IsLawful, same_cpu}, Sections.{Section, block_after, cpu_of_section}}
 use Rattle.{thread_blocks.specs.Queues.is_in, layer_traits.specs.declared.queue_edits.{QueueBlock.QueueBlock, QueueEdit.QueueEdit, QueueAnswer.QueueAnswer}}
 use Rattle.layer_traits.specs.declared.{queue_edits.QueueAnswer.TheVariants.{Done, Taken, Answer}, queues.QueueCall.{QueueCall, TheVariants.{Push, TakeAll}}}
-use Rattle.layer_traits.specs.{declared.queues.{QueueCall.TheVariants.OnBuffer, QueueEvent.QueueEvent}, Threads.MoveRules.{MoveRules, WakesSleepers, edit_move}}
+use Rattle.layer_traits.specs.{declared.queues.QueueEvent.QueueEvent, Threads.MoveRules.{MoveRules, WakesSleepers, edit_move}}
 use Rattle.layer_traits.specs.{Threads.Places.{AreMoves, MayMove, MayPush, pending_after, pending_by}, Protocols.Protocol.{IsKnown, Rules, StaysAllowed}}
 use Rattle.layer_traits.specs.{Protocols.Protocol.section, Blocks.{QueueBlocks.{StartsAs, StartsWell, homes_in, inner, with_queue}, QueueRules.AreProper}}
 use Rattle.layer_traits.specs.{Blocks.QueueRules.{IsProper, IsProperCall, SectionAllowed, queue_answer, queue_edited, queue_rules}, Polling.Polls.MayPoll}
-use Rattle.layer_traits.specs.{Polling.Polls.PolledAtLock, Layers.{Sleeping.joined, Queues.{CallAllowed, call_move, IsKnownEvent, Kernel, MayQueue}}}
+use Rattle.layer_traits.specs.{Polling.Polls.PolledAtLock, Layers.{Sleeping.joined, Queues.{call_move, IsKnownEvent, Kernel, MayQueue}}}
 use Rattle.layer_traits.specs.Layers.Queues.{QueueAllowed, QueuePolled, StaysCallable, answer_of, buffer_sections, call_at, queue_edit_of, event}
-use Rattle.layer_traits.specs.{Layers.Queues.{cpu_of_queue_event, event_of, kernel, lock_of, moves_in, out_at}, Laws.Openings.above_is}
+use Rattle.layer_traits.specs.{Layers.Queues.{cpu_of_queue_event, event_of, kernel, lock_of, moves_in}, Laws.Openings.above_is}
 use Rattle.layer_traits.proofs.{CallLemmas.moves_lawful, CountLemmas.same_cpu_sym, PlaceLemmas.pend_where, PlanRenaming.map-append}
 use Rattle.layer_traits.specs.declared.queue_edits.QueueBlock.TheVariants as block
 use Rattle.layer_traits.specs.declared.queue_edits.QueueEdit.TheVariants as edit
@@ -36,10 +36,7 @@ event_is c call = ap (event c) (call_at_of call)
 -- a section of a block of its kind is that of its call
 pub section_is : {E : Type 0} (s : Section (QueueEdit E)) (c : CpuId) (call : QueueCall E) → IsProper s.lock s.edit → event_of s ≡ event c call
     → s ≡ section c (lock_of call) (queue_edit_of call)
-section_is s c call proper is =
-    let at : s.lock ≡ lock_of call = sym proper ∙ ap (λ e. lock_of e.call) is in
-    let edits : s.edit ≡ queue_edit_of call = sym (edit_of_at s.lock s.edit) ∙ ap (λ e. queue_edit_of e.call) is in
-    λ i. section (is i).cpu (at i) (edits i)
+section_is s c call proper is = grind (arith, edit_of_at)
 
 pub others_events : {E : Type 0} (c : CpuId) (more : List (Section (QueueEdit E))) → AreOthers cpu_of_section c more
     → AreOthers cpu_of_queue_event c (map event_of more)
@@ -84,15 +81,7 @@ module _ {E B O : Type 0} (rules : Rules E B O) (mv : MoveRules E O) (opening : 
   pub stays_section : (old : List (Section (QueueEdit E))) (c : CpuId) (call : QueueCall E)
       → StaysCallable (QueueAllowed beneath) (map event_of old) (event c call)
       → StaysAllowed (SectionAllowed rules mv opening) old (section c (lock_of call) (queue_edit_of call))
-  stays_section old c call stays = λ more others lawful.
-      let joined : map event_of (more ++ old) ≡ map event_of more ++ map event_of old = map-append event_of more old in
-      let allowed : CallAllowed beneath (map event_of more ++ map event_of old) c call
-      = stays (map event_of more) (others_events c more others) (subst (IsLawful (QueueAllowed beneath)) joined (lawful_events (more ++ old) lawful)) in
-      record {
-        proper = proper_of call;
-        call = subst (λ l. CallAllowed beneath l c (call_at (lock_of call) (queue_edit_of call))) (sym joined)
-            (subst (λ q. CallAllowed beneath (map event_of more ++ map event_of old) c q) (sym (call_at_of call)) allowed);
-      }
+  stays_section old c call stays = grind (arith, map-append, others_events, lawful_events, proper_of, call_at_of)
 
   -- a call that may be polled is a section that may
   pub may_section : (old : List (Section (QueueEdit E))) (under : Option (Section (QueueEdit E))) (c : CpuId) (call : QueueCall E) → IsProperCall under
@@ -114,12 +103,7 @@ module _ {E B O : Type 0} (rules : Rules E B O) (mv : MoveRules E O) (opening : 
         ≡ option_map block.Above (block_after rules.edited (inner opening) (Buffer b) (buffer_sections (map event_of past)))
         → block_after (queue_edited rules.edited) opening (Buffer b) (section c lock x ∷ past)
         ≡ option_map block.Above (block_after rules.edited (inner opening) (Buffer b) (buffer_sections (map event_of (section c lock x ∷ past))))
-    buffer_step b (Pending d) (edit.Push t) c past proper is = is
-    buffer_step b (Pending d) edit.TakeAll c past proper is = is
-    buffer_step b (Buffer at) (edit.Above e) c past proper is =
-        edits_above e (same_lock (Buffer b) (Buffer at)) (block_after (queue_edited rules.edited) opening (Buffer b) past)
-        (block_after rules.edited (inner opening) (Buffer b) (buffer_sections (map event_of past))) is
-    buffer_step b lock x c past proper is = absurd cc
+    buffer_step b lock x c past proper is = grind (arith, edits_above)
 
     -- a buffer's block is that which the sections of the layer above leave
     pub proper_buffer : (b : BufId) (log : List (Section (QueueEdit E))) → AreProper log
@@ -138,12 +122,10 @@ module _ {E B O : Type 0} (rules : Rules E B O) (mv : MoveRules E O) (opening : 
 
     -- who may be pushed is one of the machine's threads, and does not stand in the queue
     pub push_known : (past : List (QueueEvent E)) (c d : CpuId) (t : Tid) → MayPush (homes_in opening) (moves_in beneath past) c d t → t.0 < THREADS
-    push_known past c d t may =
-        omega (arith, slice_get_within (homes_in opening) t.0 d may.home, starts.room)
+    push_known past c d t may = grind (arith, slice_get_within)
 
     pub push_new : (past : List (QueueEvent E)) → AreMoves (homes_in opening) (moves_in beneath past) → (c d e : CpuId) (t : Tid)
-        → MayPush (homes_in opening) (moves_in beneath past) c d t
-        → is_in t (pending_by (moves_in beneath past) e) ≡ false
+        → MayPush (homes_in opening) (moves_in beneath past) c d t → is_in t (pending_by (moves_in beneath past) e) ≡ false
     push_new past moving c d e t may = grind (arith, may.held, pend_where (homes_in opening) (moves_in beneath past) moving e t)
 
     pushed_is : (t : Tid) (queue : List Tid) → t.0 < THREADS → is_in t queue ≡ false → joined t queue ≡ queue ++ t ∷ []
@@ -173,14 +155,8 @@ module _ {E B O : Type 0} (rules : Rules E B O) (mv : MoveRules E O) (opening : 
         (pushed_is t queue (push_known (map event_of past) c at t may) (push_new (map event_of past) moving c at d t may)))
         (λ b. refl)
         ∙ ap (λ b. with_queue (if b then queue ++ t ∷ [] else queue) (opening (Pending d))) (same_cpu_sym d at)
-    queue_step d (Pending at) edit.TakeAll c past proper may moving is =
-        let queue = pending_by (moves_in beneath (map event_of past)) d in
-        edits_queue edit.TakeAll (same_cpu d at) (block_after (queue_edited rules.edited) opening (Pending d) past) (opening (Pending d)) queue [] is
-        (λ homes. refl) (λ b. refl)
-        ∙ ap (λ b. with_queue (if b then [] else queue) (opening (Pending d))) (same_cpu_sym d at)
-    queue_step d (Buffer at) (edit.Above e) c past proper may moving is =
-        is ∙ ap (λ q. with_queue q (opening (Pending d)))
-        (sym (still_pending at e d (pending_by (moves_in beneath (map event_of past)) d) (out_at beneath (map event_of past) at e)))
+    queue_step d (Pending at) edit.TakeAll c past proper may moving is = grind (arith, edits_queue, same_cpu_sym)
+    queue_step d (Buffer at) (edit.Above e) c past proper may moving is = grind (arith, still_pending)
     queue_step d lock x c past proper may moving is = absurd cc
 
     -- a queue's block holds who is pending there by the moves
@@ -194,14 +170,12 @@ module _ {E B O : Type 0} (rules : Rules E B O) (mv : MoveRules E O) (opening : 
       pub queue_block : (d : CpuId) (log : List (Section (QueueEdit E))) → Lawful log
           → block_after (queue_edited rules.edited) opening (Pending d) log
           ≡ with_queue (pending_by (moves_in beneath (map event_of log)) d) (opening (Pending d))
-      queue_block d log lawful =
-          proper_queue d log (lawful_proper log lawful) (moves_lawful beneath wakes (map event_of log) (lawful_events log lawful))
+      queue_block d log lawful = grind (arith, proper_queue, lawful_proper, moves_lawful, lawful_events)
 
       -- What a poll of a section means as a poll of its call.
 
       report_push : (found : Option (QueueBlock B)) (t : Tid) (answer : QueueAnswer O)
-          → option_map (queue_answer rules.answer (edit.Push t)) found ≡ Some answer
-          → Some Done ≡ Some answer
+          → option_map (queue_answer rules.answer (edit.Push t)) found ≡ Some answer → Some Done ≡ Some answer
       report_push found t answer is = grind (arith, is)
 
       report_taken : (d : CpuId) (opened : Option (QueueBlock B)) → StartsAs (Pending d) opened → (queue : List Tid) (answer : QueueAnswer O)
@@ -216,13 +190,7 @@ module _ {E B O : Type 0} (rules : Rules E B O) (mv : MoveRules E O) (opening : 
       pub answers_call : (log : List (Section (QueueEdit E))) → Lawful log → (call : QueueCall E) (answer : QueueAnswer O)
           → option_map (queue_answer rules.answer (queue_edit_of call)) (block_after (queue_edited rules.edited) opening (lock_of call) log) ≡ Some answer
           → answer_of beneath (map event_of log) call ≡ Some answer
-      answers_call log lawful (Push d t) answer is = report_push (block_after (queue_edited rules.edited) opening (Pending d) log) t answer is
-      answers_call log lawful (TakeAll d) answer is =
-          report_taken d (opening (Pending d)) (starts.kinds (Pending d)) (pending_by (moves_in beneath (map event_of log)) d) answer
-          (ap (option_map (queue_answer rules.answer edit.TakeAll)) (sym (queue_block d log lawful)) ∙ is)
-      answers_call log lawful (OnBuffer b e) answer is =
-          report_above e (block_after rules.edited (inner opening) (Buffer b) (buffer_sections (map event_of log)))
-          ∙ (ap (option_map (queue_answer rules.answer (edit.Above e))) (sym (buffer_block b log lawful)) ∙ is)
+      answers_call log lawful call answer is = grind (arith, report_push, report_taken, queue_block, report_above, buffer_block)
 
       -- a poll of a section is a poll of its call
       pub polled_event : (ActsFor Acts : CpuId → Type 0) → ((d : CpuId) → Acts d → ActsFor d)
@@ -241,8 +209,7 @@ module _ {E B O : Type 0} (rules : Rules E B O) (mv : MoveRules E O) (opening : 
 
           grown : (b : Bool) → map event_of (if b then section c (lock_of call) (queue_edit_of call) ∷ (polled.others ++ old) else polled.others ++ old)
               ≡ (if b then event c call ∷ (map event_of polled.others ++ map event_of old) else map event_of polled.others ++ map event_of old)
-          grown true = λ i. event_is c call i ∷ joined i
-          grown false = joined
+          grown b = grind (arith, event_is, joined)
 
           answers : (out : Option (QueueAnswer O))
               → new ≡ (if is_some out then section c (lock_of call) (queue_edit_of call) ∷ (polled.others ++ old) else polled.others ++ old)

@@ -20,9 +20,7 @@ lock_phase_own e log = ap (λ b. if b then left_by e else lock_phase (cpu_of_eve
 -- an event at another lock counts nothing here
 pub counts_elsewhere : {M : Type 0} (Fit : ℕ → ℕ → Type 0) (e : Event M) (log : List (Event M)) (lock : LockId) → same_lock lock (event_lock e) ≡ false
     → Fit (draws lock log) (frees lock log) → Fit (draws lock (e ∷ log)) (frees lock (e ∷ log))
-counts_elsewhere Fit (Draw cpu at ticket) log lock other fits = rw other fits
-counts_elsewhere Fit (Look cpu at ticket read) log lock other fits = fits
-counts_elsewhere Fit (Free cpu at mark) log lock other fits = rw other fits
+counts_elsewhere Fit e log lock other fits = grind arith
 
 -- for a CPU that waits, words that tell which spot is served tell whether its look hits
 pub serves_exactly : {E : Type 0} (log : List (Event (Mark E))) → IsLegalWords log → (cpu : CpuId) (lock : LockId) (ticket : ℕ)
@@ -49,8 +47,7 @@ someone_stays lock e log was (c, t, inside) = (c, t, grind (arith, lock_phase_ot
 -- where nobody is inside, an event by which its CPU does not enter leaves nobody inside
 nobody_stays : {M : Type 0} (lock : LockId) (e : Event M) (log : List (Event M)) → ((t : ℕ) → left_by e ≡ Holding lock t → ⊥)
     → NobodyInside lock log → NobodyInside lock (e ∷ log)
-nobody_stays lock e log now nobody c t inside =
-    grind (arith, lock_phase_own e log, lock_phase_other e log c, now t, nobody c t, same_cpu_true (cpu_of_event e) c)
+nobody_stays lock e log now nobody c t inside = grind (arith, lock_phase_own, lock_phase_other, same_cpu_true)
 
 not_here : (lock at : LockId) (t s : ℕ) → same_lock lock at ≡ false → Holding at s ≡ Holding lock t → ⊥
 not_here lock at t s other e = grind (arith, same_lock_self)
@@ -61,27 +58,17 @@ not_entered lock at b t s other h = grind (arith, not_here)
 module _ {E B : Type 0} (edited : E → B → B) (opening : LockId → Option B) (lock : LockId) where
   block_keeps : (e : Event (Mark E)) (log : List (Event (Mark E))) → is_free lock e ≡ false
       → block_after edited opening lock (sections (e ∷ log)) ≡ block_after edited opening lock (sections log)
-  block_keeps (Draw cpu at ticket) log other = refl
-  block_keeps (Look cpu at ticket read) log other = refl
-  block_keeps (Free cpu at mark) log other =
-      let before = block_after edited opening lock (sections log) in
-      ap (λ b. if b then option_map (edited mark.edit) before else before) other
+  block_keeps e log other = grind arith
 
   -- an event that does not free this lock, and by which nobody enters or leaves it
-  lock_stays : (e : Event (Mark E)) (log : List (Event (Mark E))) → is_free lock e ≡ false
-      → ((t : ℕ) → lock_phase (cpu_of_event e) log ≡ Holding lock t → ⊥) → ((t : ℕ) → left_by e ≡ Holding lock t → ⊥)
-      → (home : Option B) → HomeFits edited opening log lock home → HomeFits edited opening (e ∷ log) lock home
-  lock_stays e log not_freed was now None fits = someone_stays lock e log was fits
-  lock_stays e log not_freed was now (Some block) fits = (nobody_stays lock e log now fits.0, block_keeps e log not_freed ∙ fits.1)
+  lock_stays : (e : Event (Mark E)) (log : List (Event (Mark E))) → is_free lock e ≡ false → ((t : ℕ) → lock_phase (cpu_of_event e) log ≡ Holding lock t → ⊥)
+      → ((t : ℕ) → left_by e ≡ Holding lock t → ⊥) → (home : Option B) → HomeFits edited opening log lock home → HomeFits edited opening (e ∷ log) lock home
+  lock_stays e log not_freed was now home fits = grind (arith, someone_stays, nobody_stays, block_keeps)
 
   -- an event at another lock changes nothing here
   pub home_elsewhere : (e : Event (Mark E)) (log : List (Event (Mark E))) → MayFollow log e → same_lock lock (event_lock e) ≡ false
       → (home : Option B) → HomeFits edited opening log lock home → HomeFits edited opening (e ∷ log) lock home
-  home_elsewhere (Draw cpu at ticket) log may other = lock_stays (Draw cpu at ticket) log refl (λ t h. absurd (cc (may.1, h))) (λ t h. absurd (cc h))
-  home_elsewhere (Look cpu at ticket read) log may other =
-      lock_stays (Look cpu at ticket read) log refl (λ t h. absurd (cc (may.0, h))) (λ t h. not_entered lock at (read == ticket) t ticket other h)
-  home_elsewhere (Free cpu at mark) log may other =
-      lock_stays (Free cpu at mark) log other (λ t h. not_here lock at t may.0 other (sym may.1 ∙ h)) (λ t h. absurd (cc h))
+  home_elsewhere e log may other = grind (arith, lock_stays, not_entered, not_here)
 
   -- a draw leaves the home as it is
   pub home_after_draw : (cpu : CpuId) (ticket : ℕ) (log : List (Event (Mark E))) → lock_phase cpu log ≡ Idle → (home : Option B)
@@ -91,9 +78,7 @@ module _ {E B : Type 0} (edited : E → B → B) (opening : LockId → Option B)
   -- and so does a look that misses
   pub home_after_miss : (cpu : CpuId) (ticket read : ℕ) (log : List (Event (Mark E))) → lock_phase cpu log ≡ Waiting lock ticket → (read == ticket) ≡ false
       → (home : Option B) → HomeFits edited opening log lock home → HomeFits edited opening (Look cpu lock ticket read ∷ log) lock home
-  home_after_miss cpu ticket read log waiting misses =
-      lock_stays (Look cpu lock ticket read) log refl (λ t h. absurd (cc (waiting, h)))
-      (λ t h. absurd (cc (subst (λ b. (if b then Holding lock ticket else Waiting lock ticket) ≡ Holding lock t) misses h)))
+  home_after_miss cpu ticket read log waiting misses = grind (arith, lock_stays)
 
   -- a look that hits leaves the home empty
   pub home_after_hit : (cpu : CpuId) (ticket read : ℕ) (log : List (Event (Mark E))) → (read == ticket) ≡ true
@@ -106,16 +91,7 @@ module _ {E B : Type 0} (edited : E → B → B) (opening : LockId → Option B)
       → (block : B) → option_map (edited mark.edit) (block_after edited opening lock (sections log)) ≡ Some block
       → HomeFits edited opening (Free cpu lock mark ∷ log) lock (Some block)
   home_after_free cpu ticket mark log legal inside block is =
-      (nobody, rw same_lock_self is)
-    where
-      nobody : NobodyInside lock (Free cpu lock mark ∷ log)
-      nobody c t h = go (same_cpu cpu c) refl
-        where
-          go : (b : Bool) → same_cpu cpu c ≡ b → ⊥
-          go true same = absurd (cc (lock_phase_own (Free cpu lock mark) log, rw (← same_cpu_true cpu c same) at h))
-          go false other =
-              let there = sym (lock_phase_other (Free cpu lock mark) log c other) ∙ h in
-              absurd (cc (other, ap (same_cpu cpu) (one_inside log legal c cpu lock t ticket there inside), same_cpu_self cpu))
+      grind (arith, same_lock_self, lock_phase_own, same_cpu_true, lock_phase_other, one_inside, same_cpu_self)
 
   -- a look that hits finds the block at home
   pub hit_finds : (cpu : CpuId) (ticket read : ℕ) (log : List (Event (Mark E))) → IsLegalWords (Look cpu lock ticket read ∷ log) → (read == ticket) ≡ true
@@ -135,8 +111,7 @@ module _ {E B : Type 0} (edited : E → B → B) (opening : LockId → Option B)
 
   -- where nobody is inside, the block is home
   pub all_home : (log : List (Event (Mark E))) → NobodyInside lock log → (home : Option B) → HomeFits edited opening log lock home → IsSome home
-  all_home log nobody (Some block) fits = refl
-  all_home log nobody None fits = absurd (nobody fits.0 fits.1 fits.2)
+  all_home log nobody home fits = grind arith
 
   -- before the first event the block is home
   pub home_at_start : (block : B) → opening lock ≡ Some block → HomeFits edited opening [] lock (Some block)

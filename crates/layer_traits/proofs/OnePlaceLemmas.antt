@@ -1,5 +1,5 @@
 -- Each thread stands in exactly one place: the sums over all CPUs, by cases on the thread's home and place.
-use Rattle.std.proofs.Common.{◌≡◌, ℕ, zero, suc, ◌+◌, ◌<◌, ◌⊎◌, inl, inr, true, false, ◌&&◌, List, Option, Some, None, is_some, refl, ap, sym, ◌∙◌, arith}
+use Rattle.std.proofs.Common.{◌≡◌, ℕ, zero, suc, ◌+◌, ◌<◌, true, false, ◌&&◌, List, Option, Some, None, is_some, refl, ap, sym, ◌∙◌, arith}
 use Rattle.std.proofs.lemmas.Bool.{and_right, cases_eq, ne_eqb}
 use Rattle.{event_log.{specs.{declared.ids.{CpuId.CpuId, Tid.Tid}, History.same_cpu}, proofs.Same.same_cpu_self}, layer_traits.specs.Threads.OnePlace.total}
 use Rattle.layer_traits.specs.Threads.{OnePlace.{cpu_at, AllStand, OnePlace}, Places.{Step, Threads, Where, Home, Hand, IsPending, Asleep, home_of, is_cpu}}
@@ -8,13 +8,11 @@ use Rattle.layer_traits.proofs.PlaceLemmas.{pend_home, away_known, hand_home, pe
 
 pub total_same : (f g : ℕ → ℕ) (n : ℕ) → ((k : ℕ) → k < n → f k ≡ g k) → total f n ≡ total g n
 total_same f g zero same = refl
-total_same f g (suc n) same =
-    omega (arith, total_same f g n (λ k within. same k (omega arith)), same n (omega arith))
+total_same f g (suc n) same = grind (arith, total_same f g n)
 
 pub total_none : (f : ℕ → ℕ) (n : ℕ) → ((k : ℕ) → k < n → f k ≡ 0) → total f n ≡ 0
 total_none f zero none = refl
-total_none f (suc n) none =
-    omega (arith, total_none f n (λ k within. none k (omega arith)), none n (omega arith))
+total_none f (suc n) none = grind (arith, total_none f n)
 
 total_sum : (f g : ℕ → ℕ) (n : ℕ) → total (λ k. f k + g k) n ≡ total f n + total g n
 total_sum f g zero = omega arith
@@ -23,11 +21,7 @@ total_sum f g (suc n) = let below = total_sum f g n in omega (arith, below)
 -- where f is 0 but at d
 pub total_at : (f : ℕ → ℕ) (n d : ℕ) → d < n → ((k : ℕ) → k < n → (k ≡ d → ⊥) → f k ≡ 0) → total f n ≡ f d
 total_at f zero d within none = absurd (omega arith)
-total_at f (suc n) d within none = go (cases_eq d n) (λ before. total_at f n d before (λ k under. none k (omega arith)))
-  where
-    go : (d ≡ n) ⊎ (d ≡ n → ⊥) → (d < n → total f n ≡ f d) → total f n + f n ≡ f d
-    go (inl last) more = omega (arith, total_none f n (λ k before. none k (omega arith) (λ e. omega arith)), ap f last)
-    go (inr other) more = omega (arith, more (omega (arith, other)), none n (omega arith) (λ e. other (sym e)))
+total_at f (suc n) d within none = grind (arith, total_at f n d, cases_eq, total_none)
 
 -- where f is 1 at d and 0 elsewhere
 pub total_one : (d : ℕ) (f : ℕ → ℕ) (n : ℕ) → d < n → f d ≡ 1 → ((k : ℕ) → (d ≡ k → ⊥) → f k ≡ 0) → total f n ≡ 1
@@ -49,8 +43,7 @@ module _ (homes : List CpuId) (n : ℕ) (moves : List Step) (own : ℕ → Threa
   in_queue w = total (λ k. one_if (is_pend (cpu_at k) w)) n
 
   away : (w : Where) → is_home w ≡ false → at_home w ≡ 0
-  away w is = total_none (λ k. one_if (is_cpu (cpu_at k) (home_of homes t) && is_home w)) n
-      (λ k within. ap one_if (and_right (is_cpu (cpu_at k) (home_of homes t)) (is_home w) is))
+  away w is = grind (arith, total_none, and_right)
 
   present : (home : Option CpuId) → home_of homes t ≡ home → total (λ k. one_if (is_cpu (cpu_at k) home && true)) n ≡ one_if (is_some home)
   present None is = total_none (λ k. 0) n (λ k within. refl)

@@ -4,8 +4,7 @@ use Rattle.{event_log.specs.declared.ids.CpuId.CpuId, layer_traits.specs.Views.{
 
 -- what is true under one name is true under another
 pub same_shown : {P A : Type 0} (Fits : P → Type 0) (cpu_of : P → CpuId) (IsInside : CpuId → Type 0) (here : P → Option A) (home truth other : Option A)
-    → truth ≡ other
-    → IsObserved Fits cpu_of IsInside here home truth → IsObserved Fits cpu_of IsInside here home other
+    → truth ≡ other → IsObserved Fits cpu_of IsInside here home truth → IsObserved Fits cpu_of IsInside here home other
 same_shown Fits cpu_of IsInside here home truth other same shown = subst (λ o. IsObserved Fits cpu_of IsInside here home o) same shown
 
 module _ {P Q A : Type 0} (below : Q → P) (FitsP : P → Type 0) (FitsQ : Q → Type 0) (cpu_below : P → CpuId) (cpu_of : Q → CpuId)
@@ -62,8 +61,7 @@ shown_on parts tells home truth shown =
     shown_under parts.below parts.FitsP parts.FitsQ parts.cpu_below (λ q. parts.cpu_below (parts.below q)) parts.MayHold parts.MayHold
     tells home truth parts.fits (λ q fit. refl) (λ c held. held) shown
 
-viewed_some : {A B : Type 0} (view : A → B) (truth : Option A) (o : Option A) (y : B)
-    → ((x : A) → o ≡ Some x → truth ≡ Some x) → option_map view o ≡ Some y
+viewed_some : {A B : Type 0} (view : A → B) (truth : Option A) (o : Option A) (y : B) → ((x : A) → o ≡ Some x → truth ≡ Some x) → option_map view o ≡ Some y
     → option_map view truth ≡ Some y
 viewed_some view truth o y tells is = grind (arith, tells)
 
@@ -72,8 +70,7 @@ viewed_none view o none = grind (arith, none)
 
 -- what is told of a block is told of its view
 pub viewed_shown : {P A B : Type 0} (view : A → B) (Fits : P → Type 0) (cpu_of : P → CpuId) (IsInside : CpuId → Type 0) (here : P → Option A)
-    (home truth : Option A) (seen : Option B)
-    → seen ≡ option_map view truth → IsObserved Fits cpu_of IsInside here home truth
+    (home truth : Option A) (seen : Option B) → seen ≡ option_map view truth → IsObserved Fits cpu_of IsInside here home truth
     → IsObserved Fits cpu_of IsInside (λ p. option_map view (here p)) (option_map view home) seen
 viewed_shown view Fits cpu_of IsInside here home truth seen is shown = record {
   by_machine = λ y tells. is ∙ viewed_some view truth home y shown.by_machine tells;
@@ -91,8 +88,7 @@ viewed_shown view Fits cpu_of IsInside here home truth seen is shown = record {
 
 -- what is shown of a block that there is is true of it
 pub observed_as : {P A : Type 0} (Fits : P → Type 0) (cpu_of : P → CpuId) (IsInside : CpuId → Type 0) (here : P → Option A) (home truth : Option A) (x : A)
-    → truth ≡ Some x
-    → IsObserved Fits cpu_of IsInside here home truth → IsObservedAs Fits cpu_of IsInside here home x
+    → truth ≡ Some x → IsObserved Fits cpu_of IsInside here home truth → IsObservedAs Fits cpu_of IsInside here home x
 observed_as Fits cpu_of IsInside here home truth x is shown = record {
   by_machine = λ y tells. same_Some y x (sym (shown.by_machine y tells) ∙ is);
   by_part = λ p y fits tells. same_Some y x (sym (shown.by_part p y fits tells) ∙ is);

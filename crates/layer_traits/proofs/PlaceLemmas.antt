@@ -1,6 +1,6 @@
 -- Places under moves: what a move may do to a place, that moves of others leave a CPU's own alone, who stands in a pending queue,
 -- and that each change of what a CPU has of its own keeps its agreement with the places.
-use Rattle.std.proofs.Common.{◌≡◌, ◌≢◌, ℕ, zero, suc, ◌+◌, ◌<◌, Bool, true, false, ◌&&◌, List, [], ◌∷◌, ◌++◌, Option, Some, None, MatchOption, IsSome, is_some}
+use Rattle.std.proofs.Common.{◌≡◌, ◌≢◌, ℕ, zero, suc, ◌+◌, ◌<◌, Bool, true, false, ◌&&◌, List, [], ◌∷◌, ◌++◌, Option, Some, None, MatchOption, IsSome}
 use Rattle.std.proofs.{Common.{if◌then◌else◌, refl, ap, sym, ◌∙◌, arith, zero-add, slice_get}, lemmas.Bool.and_parts}
 use Rattle.event_log.{specs.{declared.ids.{CpuId.CpuId, LockId.LockId, Tid.Tid}, History.{same_cpu, AreOthers}}, proofs.Same.{same_cpu_self, same_cpu_true}}
 use Rattle.{thread_blocks.{specs.Queues.{same_tid, is_in}, proofs.Members.same_tid_true}, layer_traits.specs.declared.moves.WaitList.WaitList}
@@ -48,24 +48,20 @@ woken_elsewhere : (c d : CpuId) (home : Option CpuId) → same_cpu c d ≡ false
 woken_elsewhere c d home other = grind (arith, is_cpu_other)
 
 is_pend_true : (d : CpuId) (w : Where) → is_pend d w ≡ true → w ≡ IsPending d
-is_pend_true d (IsPending q) is = ap IsPending (same_cpu_true q d is)
-is_pend_true d w is = absurd cc
+is_pend_true d w is = grind (arith, same_cpu_true)
 
 pub is_hand_true : (d : CpuId) (w : Where) → is_hand d w ≡ true → w ≡ Hand d
-is_hand_true d (Hand c) is = ap Hand (same_cpu_true c d is)
-is_hand_true d w is = absurd cc
+is_hand_true d w is = grind (arith, same_cpu_true)
 
 pub is_home_true : (w : Where) → is_home w ≡ true → w ≡ Home
-is_home_true Home is = refl
-is_home_true w is = absurd cc
+is_home_true w is = grind arith
 
 -- An edit: its caller may fall asleep, and then a sleeper may be woken.
 
 module _ (homes : List CpuId) (c : CpuId) (own : Threads) where
   -- how often the CPU has a thread at home with it after the caller's sleep
   slept_copies : (lock : LockId) (caller t : Tid) (w : Where) (slept : Option WaitList) → own.current ≡ Some caller
-      → (same_tid caller t ≡ true → (count_in t own.ready ≡ 0) × (count_in t own.ended ≡ 0))
-      → copies own t ≡ one_if (is_cpu c (home_of homes t) && is_home w)
+      → (same_tid caller t ≡ true → (count_in t own.ready ≡ 0) × (count_in t own.ended ≡ 0)) → copies own t ≡ one_if (is_cpu c (home_of homes t) && is_home w)
       → copies (own_slept slept own) t ≡ one_if (is_cpu c (home_of homes t) && is_home (if same_tid caller t then where_slept lock slept w else w))
   slept_copies lock caller t w slept runs once before = grind arith
 
@@ -144,26 +140,12 @@ module _ (homes : List CpuId) where
   -- who is pending is so at home
   pub pend_home : (moves : List Step) (t : Tid) (d : CpuId) → AreMoves homes moves → where_is homes moves t ≡ IsPending d → home_of homes t ≡ Some d
   pend_home [] t d legal is = absurd cc
-  pend_home (s ∷ past) t d legal is = view_step past s.cpu s.move t (λ w after. (w ≡ IsPending d → home_of homes t ≡ Some d) → after ≡ IsPending d
-      → home_of homes t ≡ Some d)
-      legal.0 (λ w before. before)
-      (λ home is_home before now. is_home ∙ ap Some (let one : home ≡ d = cc in one))
-      (λ was before now. absurd cc)
-      (λ u home p before now. absurd (cc (woken_pending s.cpu d (home_of homes t), ap (is_pend d) now, same_cpu_self d)))
-      (λ home p before now. absurd cc)
-      (pend_home past t d legal.1) is
+  pend_home (s ∷ past) t d legal is = grind (arith, pend_home past t d legal.1, woken_pending, same_cpu_self)
 
   -- who is away from home has one
   pub away_known : (moves : List Step) (t : Tid) → AreMoves homes moves → is_home (where_is homes moves t) ≡ false → IsSome (home_of homes t)
   away_known [] t legal away = absurd cc
-  away_known (s ∷ past) t legal away = view_step past s.cpu s.move t (λ w after. (is_home w ≡ false → IsSome (home_of homes t)) → is_home after ≡ false
-      → IsSome (home_of homes t))
-      legal.0 (λ w before. before)
-      (λ home is before now. ap is_some is)
-      (λ was before now. before refl)
-      (λ u home p before now. before refl)
-      (λ home p before now. ap is_some home)
-      (away_known past t legal.1) away
+  away_known (s ∷ past) t legal away = grind (arith, away_known past t legal.1)
 
   -- a hand that holds a thread is that of a CPU which is some thread's home
   pub hand_home : (moves : List Step) (t : Tid) (d : CpuId) → AreMoves homes moves → where_is homes moves t ≡ Hand d → (u : Tid) × (home_of homes u ≡ Some d)
@@ -181,18 +163,7 @@ module _ (homes : List CpuId) where
   step_keeps : (d : CpuId) (past : List Step) (c : CpuId) (move : Move) (t : Tid) → AreMoves homes past → MayMove homes past c move → same_cpu c d ≡ false
       → (is_hand d (where_is homes (step_with c move ∷ past) t) ≡ is_hand d (where_is homes past t))
       × (is_here homes d (step_with c move ∷ past) t ≡ is_here homes d past t)
-  step_keeps d past c move t legal may other =
-      view_step past c move t (λ w after. (is_hand d after ≡ is_hand d w)
-      × ((is_cpu d (home_of homes t) && is_home after) ≡ (is_cpu d (home_of homes t) && is_home w)))
-      may
-      (λ w. (refl, refl))
-      (λ home is. (sym other, refl))
-      (λ was. (refl, rw (elsewhere (pend_home past t c legal was))))
-      (λ u home p. woken_elsewhere c d (home_of homes t) other)
-      (λ home p. (refl, rw (elsewhere home)))
-    where
-      elsewhere : home_of homes t ≡ Some c → is_cpu d (home_of homes t) ≡ false
-      elsewhere home = is_cpu_other c d (home_of homes t) other (is_cpu_of c (home_of homes t) home)
+  step_keeps d past c move t legal may other = grind (arith, pend_home, woken_elsewhere, is_cpu_other, is_cpu_of)
 
   pub others_keep : (d : CpuId) (others old : List Step) (t : Tid) → AreOthers cpu_of_step d others → AreMoves homes (others ++ old)
       → (is_hand d (where_is homes (others ++ old) t) ≡ is_hand d (where_is homes old t)) × (is_here homes d (others ++ old) t ≡ is_here homes d old t)
@@ -221,10 +192,7 @@ module _ (homes : List CpuId) where
       go (Pushed e u) may before =
           pushed_count s.cpu d e t u (pending_by past d) (where_is homes past t) (λ same. rw (same_tid_true u t same) at may.held) before
       go (Took e) may before = taken_count d e t (pending_by past d) (where_is homes past t) before
-      go (Moved lock caller slept woke) may before =
-          view_moved past s.cpu lock caller slept woke t (λ w after. count_in t (pending_by past d) ≡ one_if (is_pend d w)
-          → count_in t (pending_by past d) ≡ one_if (is_pend d after))
-          may (λ w was. was) (λ u home p was. was ∙ sym (ap one_if (woken_pending s.cpu d (home_of homes t)))) (λ home p was. was) before
+      go (Moved lock caller slept woke) may before = grind (arith, woken_pending)
       go Still may before = before
 
   pub pend_where : (moves : List Step) → AreMoves homes moves → (d : CpuId) (t : Tid) → is_in t (pending_by moves d) ≡ true
@@ -238,17 +206,11 @@ module _ (homes : List CpuId) where
   module _ (c : CpuId) (moves : List Step) (own : Threads) (legal : AreMoves homes moves) (stands : Stands homes c moves own) where
     -- a thread that this CPU has among its own once stands at home with it
     here : (t : Tid) → is_here homes c moves t ≡ true → (home_of homes t ≡ Some c) × (where_is homes moves t ≡ Home)
-    here t is =
-        let both = and_parts (is_cpu c (home_of homes t)) (is_home (where_is homes moves t)) is in
-        (is_cpu_true c (home_of homes t) both.0, is_home_true (where_is homes moves t) both.1)
+    here t is = grind (arith, and_parts, is_cpu_true, is_home_true)
 
     pub current_at : (t : Tid) → own.current ≡ Some t
         → (home_of homes t ≡ Some c) × (where_is homes moves t ≡ Home) × (count_in t own.ready ≡ 0) × (count_in t own.ended ≡ 0)
-    current_at t is =
-        let runs = ap one_if (is_thread_self t own.current is) in
-        let there : is_here homes c moves t ≡ true = grind (arith, runs, stands.places t) in
-        let at = here t there in
-        (at.0, at.1, omega (arith, stands.places t, runs, ap one_if there), omega (arith, stands.places t, runs, ap one_if there))
+    current_at t is = grind (arith, is_thread_self, here)
 
     pub hand_at : (t : Tid) → own.hand ≡ Some t → where_is homes moves t ≡ Hand c
     hand_at t is = is_hand_true c (where_is homes moves t) (sym (stands.hand t) ∙ is_thread_self t own.hand is)
@@ -260,15 +222,10 @@ module _ (homes : List CpuId) where
     away_from t away = grind (arith, stands.places t)
 
     pub pending_at : (t : Tid) → is_in t (pending_by moves c) ≡ true → (home_of homes t ≡ Some c) × (is_in t own.ready ≡ false)
-    pending_at t is =
-        let at = pend_where moves legal c t is in
-        (pend_home moves t c legal at, not_counted t own.ready (away_from t (ap is_home at)))
+    pending_at t is = grind (arith, pend_where, pend_home, not_counted, away_from)
 
     pub current_new : (t : Tid) → own.current ≡ Some t → is_in t (own.ready ++ pending_by moves c) ≡ false
-    current_new t is =
-        let at = current_at t is in
-        let pends = pend_count moves legal c t ∙ ap (λ w. one_if (is_pend c w)) at.1 in
-        not_counted t (own.ready ++ pending_by moves c) (omega (arith, count_append t own.ready (pending_by moves c), pends, at.2))
+    current_new t is = grind (arith, current_at, pend_count, not_counted, count_append)
 
     pub stands_taken : Stands homes c (step_with c (Took c) ∷ moves) (took_pending (pending_by moves c) own)
     stands_taken = record {
@@ -277,9 +234,7 @@ module _ (homes : List CpuId) where
     }
       where
         copied : (t : Tid) → copies (took_pending (pending_by moves c) own) t ≡ one_if (is_here homes c moves t) + one_if (is_pend c (where_is homes moves t))
-        copied t =
-            let outer = count_append t (own.ready ++ pending_by moves c) (as_list own.current) in
-            omega (arith, outer, count_append t own.ready (pending_by moves c), count_as_list t own.current, stands.places t, pend_count moves legal c t)
+        copied t = grind (arith, count_append, count_as_list, pend_count)
 
     pub stands_pushed : (d : CpuId) (u : Tid) → own.hand ≡ Some u → Stands homes c (step_with c (Pushed d u) ∷ moves) (passed_on own)
     stands_pushed d u held = record {
@@ -329,9 +284,7 @@ stands_boot homes c = record {
 -- Homes, and who runs after a wake.
 
 pub home_there : (c : CpuId) (o : Option CpuId) → IsSome o → o ≡ Some (or_else c o)
-home_there c None there = absurd (cc there)
-home_there c (Some d) there = refl
+home_there c o there = grind arith
 
 pub woken_current : (homes : List CpuId) (c : CpuId) (woke : Option Tid) (own : Threads) → (own_woken homes c woke own).current ≡ own.current
-woken_current homes c None own = refl
-woken_current homes c (Some u) own = refl
+woken_current homes c woke own = grind arith

@@ -21,9 +21,8 @@ module _ {E B O : Type 0} (k : Kernel E B (Outcome O)) (b : BufId) (e : E) where
   no_answer past answers = grind (arith, answers)
 
   -- what the scheduler's poll did is a poll here, and leaves what its answer tells
-  pub sleep_polled : (ActsFor : CpuId → Type 0) (c : CpuId) (old new : List (QueueEvent E)) (own : Sleeping O) (own' : Threads)
-      (hand : Option Tid) (deferred : Option (Outcome O)) (answer : Option (SchedAnswer (Outcome O))) → own.threads.hand ≡ hand → own.deferred ≡ deferred
-      → HandDefers hand deferred
+  pub sleep_polled : (ActsFor : CpuId → Type 0) (c : CpuId) (old new : List (QueueEvent E)) (own : Sleeping O) (own' : Threads) (hand : Option Tid)
+      (deferred : Option (Outcome O)) (answer : Option (SchedAnswer (Outcome O))) → own.threads.hand ≡ hand → own.deferred ≡ deferred → HandDefers hand deferred
       → SchedPolled k ActsFor c (due hand b e) answer old new own.threads own' → SleepPolled k ActsFor c b e old new own (left_reported deferred own' answer)
   sleep_polled ActsFor c old new own own' hand deferred None in_hand is_deferred fits polled = record {
     others = polled.others;

@@ -1,35 +1,26 @@
 -- A layer that wraps its edits in those of a sleeping layer beneath: a poll and a plan there are a poll and a plan here, under the
 -- layer's own names.
-use Rattle.std.proofs.Common.{◌≡◌, List, ◌∷◌, ◌++◌, Option, Some, refl, ap, sym, ◌∙◌, subst, arith}
+use Rattle.std.proofs.Common.{◌≡◌, List, ◌++◌, Option, ap, ◌∙◌, subst, arith}
 use Rattle.{event_log.specs.declared.ids.{BufId.BufId, CpuId.CpuId, Tid.Tid}, layer_traits.specs.declared.{passes.Pass.Pass, queues.QueueEvent.QueueEvent}}
-use Rattle.layer_traits.specs.{declared.sleeps.Outcome.Outcome, Threads.Passes.queue_for, Polling.Plans.{Left, raised}, Layers.Queues.{Kernel, event}}
-use Rattle.layer_traits.specs.Layers.{Scheds.sched_plan, SleepLaw.{PollResult, MayDo, SleepPolled, Sleeping, WaitsStill, Does, SendsHome, due, left_done}}
-use Rattle.layer_traits.specs.{Layers.SleepLaw.{left_passed, left_reported, left_with, pass_plan, seen_with, sleep_plan}, Views.Renaming.plan_named}
+use Rattle.layer_traits.specs.{declared.sleeps.Outcome.Outcome, Polling.Plans.Left, Layers.{Queues.Kernel, SleepLaw.{PollResult, MayDo, SleepPolled, Sleeping}}}
+use Rattle.layer_traits.specs.{Layers.SleepLaw.{WaitsStill, Does, SendsHome, due, left_with, pass_plan, seen_with, sleep_plan}, Views.Renaming.plan_named}
 use Rattle.layer_traits.{specs.Views.Renaming.{renamed_edit, renamed_events, renamed_sched}, proofs.KernelRenaming.{Wraps, answered_renamed, events_append}}
 use Rattle.layer_traits.proofs.KernelRenaming.{events_others, named_raised, out_renamed, plan_renamed}
-use Rattle.layer_traits.specs.declared.queues.QueueCall.TheVariants as queue
-use Rattle.layer_traits.specs.declared.scheds.SchedCall.TheVariants as call
 
 module _ {D E A B O : Type 0} (k : Kernel D A (Outcome O)) (j : Kernel E B (Outcome O)) (name : D → E) (view : A → B) (wraps : Wraps k j name view) where
   may_renamed : (c : CpuId) (b : BufId) (d : D) (poll_result : PollResult O) (past : List (QueueEvent D)) (own : Sleeping O)
-      → MayDo k c b d poll_result past own
-      → MayDo j c b (name d) poll_result (renamed_events name past) own
+      → MayDo k c b d poll_result past own → MayDo j c b (name d) poll_result (renamed_events name past) own
   may_renamed c b d WaitsStill past own may = tt
   may_renamed c b d (Does outcome) past own may = (may.0, out_renamed k j name view wraps past b d ∙ may.1)
   may_renamed c b d (SendsHome t) past own may = may
 
   seen_renamed : (c : CpuId) (b : BufId) (d : D) (poll_result : PollResult O) (past : List (QueueEvent D))
       → renamed_events name (seen_with k c b d poll_result past) ≡ seen_with j c b (name d) poll_result (renamed_events name past)
-  seen_renamed c b d WaitsStill past = refl
-  seen_renamed c b d (Does outcome) past = refl
-  seen_renamed c b d (SendsHome t) past = ap (λ (h : List CpuId). event c (queue.Push (queue_for h c t) t) ∷ renamed_events name past) (sym wraps.homes)
+  seen_renamed c b d poll_result past = grind arith
 
   left_renamed : (c : CpuId) (b : BufId) (d : D) (poll_result : PollResult O) (own : Sleeping O)
       → left_with k c b d poll_result own ≡ left_with j c b (name d) poll_result own
-  left_renamed c b d WaitsStill own = refl
-  left_renamed c b d (Does outcome) own =
-      ap (left_done outcome) (sym (answered_renamed k j name view wraps c (Some outcome) own.threads))
-  left_renamed c b d (SendsHome t) own = refl
+  left_renamed c b d poll_result own = grind (arith, answered_renamed)
 
   -- a poll beneath is a poll here
   pub sleeps_renamed : (ActsFor : CpuId → Type 0) (c : CpuId) (b : BufId) (d : D) (old new : List (QueueEvent D)) (own : Sleeping O)
@@ -54,14 +45,8 @@ module _ {D E A B O : Type 0} (k : Kernel D A (Outcome O)) (j : Kernel E B (Outc
   -- the plan beneath is the plan here
   pub sleep_plan_renamed : (h : List CpuId) (c : CpuId) (b : BufId) (d : D) (own : Sleeping O)
       → plan_named (renamed_edit name) (sleep_plan k.moves h c b d own) ≡ sleep_plan j.moves h c b (name d) own
-  sleep_plan_renamed h c b d own =
-      named_raised (renamed_edit name) (λ l. left_reported own.deferred l.own l.answer) (sched_plan k.moves h c (due own.threads.hand b d) own.threads)
-      ∙ (ap (raised (λ l. left_reported own.deferred l.own l.answer))
-      (plan_renamed k j name view wraps h c (due own.threads.hand b d) own.threads)
-      ∙ ap (λ s. raised (λ l. left_reported own.deferred l.own l.answer) (sched_plan j.moves h c s own.threads)) (due_renamed own.threads.hand b d))
+  sleep_plan_renamed h c b d own = grind (arith, named_raised, plan_renamed, due_renamed)
 
   pub pass_plan_renamed : (h : List CpuId) (c : CpuId) (p : Pass) (own : Sleeping O)
       → plan_named (renamed_edit name) (pass_plan k.moves h c p own) ≡ pass_plan j.moves h c p own
-  pass_plan_renamed h c p own =
-      named_raised (renamed_edit name) (left_passed own.deferred) (sched_plan k.moves h c (call.Pass p) own.threads)
-      ∙ ap (raised (left_passed own.deferred)) (plan_renamed k j name view wraps h c (call.Pass p) own.threads)
+  pass_plan_renamed h c p own = grind (arith, named_raised, plan_renamed)

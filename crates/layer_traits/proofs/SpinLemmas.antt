@@ -18,8 +18,7 @@ module _ {N : Type 0} (cpu : CpuId) (lock : LockId) (old : List (Action N)) wher
   phase_missed c (suc looks) waits = grind (arith, waits, same_cpu_true cpu c, phase_missed c looks waits)
 
   pub same_phase : (c : CpuId) (looks : ℕ) → (0 < looks → phase cpu old ≡ Waits lock) → phase c (missed looks) ≡ phase c old
-  same_phase c zero waits = refl
-  same_phase c (suc looks) waits = phase_missed c (suc looks) (waits (omega arith))
+  same_phase c looks given = grind (arith, phase_missed)
 
   pub same_spot : (c : CpuId) (looks : ℕ) → spot_of c (missed looks) ≡ spot_of c old
   same_spot c zero = refl
@@ -68,7 +67,4 @@ module _ {M : Type 0} (cpu : CpuId) (lock : LockId) (ticket read : ℕ) (old : L
   -- looks, told as peeks
   pub as_peeks : (looks : ℕ) → as_grants (replicate looks (Look cpu lock ticket read) ++ old) ≡ replicate looks (Peek cpu lock ticket shown) ++ as_grants old
   as_peeks zero = refl
-  as_peeks (suc looks) =
-      let rest = as_peeks looks in
-      ap (λ l. Peek cpu lock ticket (grant_word lock (ticket % CPUS) l) ∷ l) rest
-      ∙ ap (λ n. Peek cpu lock ticket n ∷ replicate looks (Peek cpu lock ticket shown) ++ as_grants old) (word_peeked shown looks (as_grants old))
+  as_peeks (suc looks) = grind (arith, as_peeks looks, word_peeked)

@@ -35,8 +35,7 @@ put_allowed : (closed : Bool) (capacity : ℕ) (items : List Message) (m : Messa
 put_allowed true capacity items m may = refl
 put_allowed false capacity items m may = (refl, ltb-true (length items) capacity may)
 
-put_items : (closed : Bool) (items : List Message) (m : Message)
-    → items_put closed m items ≡ after_effect (if closed then SendClosed else Send) items m
+put_items : (closed : Bool) (items : List Message) (m : Message) → items_put closed m items ≡ after_effect (if closed then SendClosed else Send) items m
 put_items true items m = refl
 put_items false items m = refl
 

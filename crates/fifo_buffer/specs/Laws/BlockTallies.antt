@@ -26,8 +26,7 @@ all_but P u (t ∷ queue) out each =
     let parts = or_parts (same_tid u t) (is_in u queue) out in
     (each t parts.0, all_but P u queue parts.1 each)
 
-renumbered : (p q : Tid → ℕ) (n next : ℕ) (queue : List Tid) → AllByRecursion (λ t. q t ≡ p t) queue → IsNumbered p n next queue
-    → IsNumbered q n next queue
+renumbered : (p q : Tid → ℕ) (n next : ℕ) (queue : List Tid) → AllByRecursion (λ t. q t ≡ p t) queue → IsNumbered p n next queue → IsNumbered q n next queue
 renumbered p q n next [] same numbered = numbered
 renumbered p q n next (t ∷ queue) same numbered = (same.0 ∙ numbered.0, renumbered p q (n + 1) next queue same.1 numbered.1)
 
@@ -45,8 +44,7 @@ Agree p q x = (g : Group) → AllByRecursion (λ t. q g t ≡ p g t) (line_by g 
 
 -- an effect, if there is one, may come, and the block tells the effects with it
 abbrev pub Steps : List ℕ → ℕ → List Entry → Option Entry → (Group → Tid → ℕ) → BufferState → Type 0
-Steps caps b es effect position x =
-    ((e : Entry) → effect ≡ Some e → MayTakeEffect caps es e) × Tally caps b (option_to_list effect ++ es) position x
+Steps caps b es effect position x = ((e : Entry) → effect ≡ Some e → MayTakeEffect caps es e) × Tally caps b (option_to_list effect ++ es) position x
 
 module _ {caps : List ℕ} {b : ℕ} {es : List Entry} {p : Group → Tid → ℕ} {x : BufferState} (tally : Tally caps b es p x) where
   -- the lines change, and nothing else
@@ -195,8 +193,7 @@ module _ {E B : Type 0} (edited : E → B → B) (O : LockId → Option B) (caps
 
       go : (b : BufId) (x : B) (o : Option ℕ) → slice_get caps b.0 ≡ o → option_map fresh o ≡ Some x → Tally caps b.0 [] (position b []) (view x)
       go b x None is at = absurd cc
-      go b x (Some n) is at =
-          subst (λ y. Tally caps b.0 [] (position b []) y) (sym (empty n) ∙ ap view (same_Some (fresh n) x at)) (start b n is)
+      go b x (Some n) is at = subst (λ y. Tally caps b.0 [] (position b []) y) (sym (empty n) ∙ ap view (same_Some (fresh n) x at)) (start b n is)
 
   -- and one section further
   module _ (es : List Entry) (past : List (Section E)) (kept : Kept past es) (c : CpuId) (d : BufId) (a : E) (effect : Option B → Option Entry)

@@ -28,9 +28,8 @@ fifo_wait_lists opening past boots agree =
 
 -- a CPU that is at nothing has no call under way beneath
 pub no_call_beneath : (opening : LockId → Option (QueueBlock BufferLock)) (c : CpuId) (past : List BufferEvent) (own : Waiting BufferOut)
-    (call_states : List CallState)
-    (under_way : Option (SchedCall (CvCall BufferEdit))) (calling : Option Tid) → PartFits opening c past own call_states under_way calling
-    → under_way_at calling under_way ≡ None → under_way ≡ None
+    (call_states : List CallState) (under_way : Option (SchedCall (CvCall BufferEdit))) (calling : Option Tid)
+    → PartFits opening c past own call_states under_way calling → under_way_at calling under_way ≡ None → under_way ≡ None
 no_call_beneath opening c past own call_states None calling fits nothing = refl
 no_call_beneath opening c past own call_states (Some (sched.Pass p)) None fits nothing = absurd cc
 no_call_beneath opening c past own call_states (Some (sched.OnBuffer b e)) None fits nothing = absurd fits.calls.none

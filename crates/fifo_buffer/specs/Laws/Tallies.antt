@@ -30,10 +30,8 @@ effect_position cpu d (Inside (Edit (Enter u side))) p (Some lock) e is = absurd
 effect_position cpu d (Inside (Edit (TryPut u m))) p (Some lock) e is =
     placed_as cpu d u (effect_kind Senders lock.above) m lock.above.effects (p Senders u) (is_next Senders u lock.above) e is
 effect_position cpu d (Inside (Edit (TryTake u))) p (Some lock) e is =
-    placed_as cpu d u (effect_kind Receivers lock.above) (first_item lock.above.items) lock.above.effects (p Receivers u)
-    (is_next Receivers u lock.above) e is
-effect_position cpu d (Inside (Edit (Shut u))) p (Some lock) e is =
-    placed_as cpu d u Close no_message lock.above.effects lock.above.closes true e is
+    placed_as cpu d u (effect_kind Receivers lock.above) (first_item lock.above.items) lock.above.effects (p Receivers u) (is_next Receivers u lock.above) e is
+effect_position cpu d (Inside (Edit (Shut u))) p (Some lock) e is = placed_as cpu d u Close no_message lock.above.effects lock.above.closes true e is
 effect_position cpu d (Inside (SignalFront u side)) p (Some lock) e is = absurd cc
 effect_position cpu d (Release leave) p (Some lock) e is = absurd cc
 
@@ -68,8 +66,7 @@ module _ (O : LockId → Option BufferLock) (past : List BufferSection) (cpu : C
 
   agree : (call : CvCall BufferEdit) → ((side : Side) (t : Tid) → is_enter side t call ≡ false) → (x : BufferState)
       → Agree (by_side before) (by_side (after call)) x
-  agree call none x Sends =
-      all_along (λ t. after call Senders t ≡ before Senders t) x.send_line (λ t. drawn_is call Senders t false (none Senders t))
+  agree call none x Sends = all_along (λ t. after call Senders t ≡ before Senders t) x.send_line (λ t. drawn_is call Senders t false (none Senders t))
   agree call none x Receives =
       all_along (λ t. after call Receivers t ≡ before Receivers t) x.receive_line (λ t. drawn_is call Receivers t false (none Receivers t))
   agree call none x Closes = tt
@@ -78,8 +75,7 @@ module _ (O : LockId → Option BufferLock) (past : List BufferSection) (cpu : C
   agree_but : (call : CvCall BufferEdit) (u : Tid) (x : BufferState) → ((side : Side) → is_in u (line_of side x) ≡ false)
       → ((side : Side) (t : Tid) → same_tid u t ≡ false → is_enter side t call ≡ false) → Agree (by_side before) (by_side (after call)) x
   agree_but call u x out none Sends =
-      all_but (λ t. after call Senders t ≡ before Senders t) u x.send_line (out Senders)
-      (λ t other. drawn_is call Senders t false (none Senders t other))
+      all_but (λ t. after call Senders t ≡ before Senders t) u x.send_line (out Senders) (λ t other. drawn_is call Senders t false (none Senders t other))
   agree_but call u x out none Receives =
       all_but (λ t. after call Receivers t ≡ before Receivers t) u x.receive_line (out Receivers)
       (λ t other. drawn_is call Receivers t false (none Receivers t other))
@@ -100,8 +96,7 @@ module _ (O : LockId → Option BufferLock) (past : List BufferSection) (cpu : C
 
     here_step : (call : CvCall BufferEdit) → IsDue O past (Buffer d) call
         → StepHere call (effect_on cpu d call before (Some lock)) (lock_edited buffer_rules call lock).above
-    here_step (Acquire u) due =
-        subst (StepHere (Acquire u) None) (above_same u lock.owner lock) (no_effect (Acquire u) (λ side t. refl))
+    here_step (Acquire u) due = subst (StepHere (Acquire u) None) (above_same u lock.owner lock) (no_effect (Acquire u) (λ side t. refl))
     here_step (Inside (Edit (Enter u side))) due = (λ e none. absurd (cc none), go (may_join u (line_of side lock.above)))
       where
         call : CvCall BufferEdit
@@ -126,8 +121,7 @@ module _ (O : LockId → Option BufferLock) (past : List BufferSection) (cpu : C
             → StepHere call (if v then Some (entry cpu u (effect_kind Senders lock.above) d m lock.above.effects (before Senders u)) else None)
             (if v then put_in m lock.above else lock.above)
         go true next =
-            takes (put_step cpu d u (by_side before) lock.above m next) tally (by_side (after call))
-            (agree call (λ side t. refl) (put_in m lock.above))
+            takes (put_step cpu d u (by_side before) lock.above m next) tally (by_side (after call)) (agree call (λ side t. refl) (put_in m lock.above))
         go false next = no_effect call (λ side t. refl)
     here_step (Inside (Edit (TryTake u))) due = go (is_next Receivers u lock.above) refl
       where
@@ -141,8 +135,7 @@ module _ (O : LockId → Option BufferLock) (past : List BufferSection) (cpu : C
             → StepHere call (if v then Some (entry cpu u (effect_kind Receivers lock.above) d item lock.above.effects (before Receivers u)) else None)
             (if v then taken_out lock.above else lock.above)
         go true next =
-            takes (take_step cpu d u (by_side before) lock.above next) tally (by_side (after call))
-            (agree call (λ side t. refl) (taken_out lock.above))
+            takes (take_step cpu d u (by_side before) lock.above next) tally (by_side (after call)) (agree call (λ side t. refl) (taken_out lock.above))
         go false next = no_effect call (λ side t. refl)
     here_step (Inside (Edit (Shut u))) due =
         takes (shut_step cpu d u (by_side before) lock.above) tally (by_side (after (Inside (Edit (Shut u)))))

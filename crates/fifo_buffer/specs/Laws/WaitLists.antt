@@ -30,8 +30,7 @@ lists_agree edited O past fresh caps list_in homes moves pending opens empty agr
         ∙ agree lock line t ∙ ap (λ w. one_if (is_at lock line (wait_channel_of w))) is ∙ ap one_if (wait_channel_here lock line) in
         absurd (omega (arith, count))
 
-    go : (t : Tid) (lock : LockId) (line : WaitList) → where_is homes moves t ≡ Asleep (At lock line)
-        → (b : BufId) × (lock ≡ Buffer b) × (b.0 < length caps)
+    go : (t : Tid) (lock : LockId) (line : WaitList) → where_is homes moves t ≡ Asleep (At lock line) → (b : BufId) × (lock ≡ Buffer b) × (b.0 < length caps)
     go t (Pending d) line is = absurd (nobody t (Pending d) line is (pending d))
     go t (Buffer b) line is = at (slice_get caps b.0) refl
       where

@@ -62,8 +62,7 @@ effect_on cpu b (Release leave) position (Some lock) = None
 -- the effect of a section at a lock
 abbrev pub effect_at : (LockId → Option BufferLock) → List BufferSection → CpuId → LockId → CvCall BufferEdit → Option Entry
 effect_at opening past cpu (Pending d) call = None
-effect_at opening past cpu (Buffer b) call =
-    effect_on cpu b call (λ side t. drawn opening (Buffer b) side t past) (buffer_lock_at opening past (Buffer b))
+effect_at opening past cpu (Buffer b) call = effect_on cpu b call (λ side t. drawn opening (Buffer b) side t past) (buffer_lock_at opening past (Buffer b))
 
 -- the effect of a section, if it has one
 abbrev pub effect_of : (LockId → Option BufferLock) → List BufferSection → BufferSection → Option Entry

@@ -88,8 +88,7 @@ module _ {E : Type 0} (Allowed : List (Section E) → Section E → Type 0) wher
 
 -- what is told of a home in terms of the one log holds in terms of the other
 pub home_as_grants : {E B : Type 0} (edited : E → B → B) (opening : LockId → Option B) (log : List (Event (Mark E))) → IsLegalWords log → (lock : LockId)
-    (home : Option B)
-    → MatchOption home (SomeoneInside lock log) (λ block. block_after edited opening lock (sections log) ≡ Some block)
+    (home : Option B) → MatchOption home (SomeoneInside lock log) (λ block. block_after edited opening lock (sections log) ≡ Some block)
     → MatchOption home (SomeoneHasIt lock (as_grants log)) (λ block. block_after edited opening lock (grant_sections (as_grants log)) ≡ Some block)
 home_as_grants edited opening log legal lock None inside = (inside.0, inside.1, stands_as_grants log legal inside.0 ∙ inside.2)
 home_as_grants edited opening log legal lock (Some block) is = ap (block_after edited opening lock) (sections_as_grants log legal) ∙ is

@@ -91,8 +91,7 @@ pub record WaitOver {G B O : Type 0} (monitor_rules : MonitorRules G B O) (openi
 
 -- a poll of a call, by the buffer at which its caller waits
 abbrev pub CvPolled : {G B O : Type 0} → MonitorRules G B O → Kernel (CvCall G) (LockState B) (Outcome (QOut (CvOut O))) → (CpuId → Type 0) → CpuId → BufId
-    → CvCall G
-    → Option BufId → List (QueueEvent (CvCall G)) → List (QueueEvent (CvCall G)) → Waiting O → Option (SchedCall (CvCall G))
+    → CvCall G → Option BufId → List (QueueEvent (CvCall G)) → List (QueueEvent (CvCall G)) → Waiting O → Option (SchedCall (CvCall G))
     → Left (Waiting O) (Outcome (QOut (CvOut O))) → Type 0
 CvPolled monitor_rules k ActsFor c b call None old new own under_way got = PollsItsLock monitor_rules k ActsFor c b call old new own under_way got
 CvPolled monitor_rules k ActsFor c b call (Some at) old new own under_way got = WaitOver monitor_rules k.opening b call old own under_way got
@@ -107,8 +106,7 @@ left_over t (Release (Wait u side)) own = left_woken t side own.waits own.lock
 -- the plan of a call, by the buffer at which its caller waits
 abbrev pub cv_plan_for : {G O : Type 0} → MoveRules (CvCall G) (Outcome (QOut (CvOut O))) → List CpuId → CpuId → BufId → CvCall G → Waiting O → Option BufId
     → Plan (QueueEdit (CvCall G)) (QueueAnswer (Outcome (QOut (CvOut O)))) (Waiting O) (Outcome (QOut (CvOut O)))
-cv_plan_for mv homes c b call own None =
-    raised (λ l. left_waiting (mv.caller call) b own.waits l.own l.answer) (lock_plan mv homes c b call own.lock)
+cv_plan_for mv homes c b call own None = raised (λ l. left_waiting (mv.caller call) b own.waits l.own l.answer) (lock_plan mv homes c b call own.lock)
 cv_plan_for mv homes c b call own (Some at) = Now (left_over (mv.caller call) call own)
 
 -- the plan of a call

@@ -11,8 +11,7 @@ use Rattle.layer_traits.specs.Layers.BufferLaw.{BufferPlan, Buffering, buffer_of
 pub record WaitListsAgree (buffers : ℕ) (homes : List CpuId) (moves : List Step) (lines : BufId → WaitList → List Tid) : Type 0 where
   pub once : (b : BufId) (line : WaitList) (t : Tid) → b.0 < buffers
       → count_in t (lines b line) ≡ one_if (is_at (Buffer b) line (wait_channel_of (where_is homes moves t)))
-  pub known : (t : Tid) (lock : LockId) (line : WaitList) → where_is homes moves t ≡ Asleep (At lock line)
-      → (b : BufId) × (lock ≡ Buffer b) × (b.0 < buffers)
+  pub known : (t : Tid) (lock : LockId) (line : WaitList) → where_is homes moves t ≡ Asleep (At lock line) → (b : BufId) × (lock ≡ Buffer b) × (b.0 < buffers)
 
 -- a call on a number that is no buffer's: nothing is done
 pub record NothingDone {M P : Type 0} (old new : M) (before after : P) (answer : Option Reply) : Type 0 where

@@ -143,8 +143,7 @@ pub record LockAgrees {F R B O : Type 0} (rules : LockRules F R B O) (opening : 
     (seen : List (QueueEvent (QEdit F R))) (own : Locking O) : Type 0 where
   pub stands : Stands (homes_in opening) c (moves_in (lock_kernel rules opening) seen) own.sleep.threads
   pub lists : LocksAgree rules opening seen
-  pub awaits : (t : Tid) (b : BufId) → slept_for own.slept t ≡ Some b
-      → HasOrAwaits t (lock_after rules (inner opening) (Buffer b) (buffer_sections seen))
+  pub awaits : (t : Tid) (b : BufId) → slept_for own.slept t ≡ Some b → HasOrAwaits t (lock_after rules (inner opening) (Buffer b) (buffer_sections seen))
 
 -- why the poll of a whole machine answers nothing: a woken thread is now to be sent home, or the caller now sleeps for the lock
 abbrev pub MustWait : {O : Type 0} → Tid → BufId → Locking O → Locking O → Type 0

@@ -76,8 +76,7 @@ IsKnownEvent past e = e.cpu.0 < CPUS
 
 -- a call is allowed, and stays so whatever allowed calls of other CPUs come before it
 abbrev pub StaysCallable : {E : Type 0} → (List (QueueEvent E) → QueueEvent E → Type 0) → List (QueueEvent E) → QueueEvent E → Type 0
-StaysCallable Allowed past e =
-    (more : List _) → AreOthers cpu_of_queue_event e.cpu more → IsLawful Allowed (more ++ past) → Allowed (more ++ past) e
+StaysCallable Allowed past e = (more : List _) → AreOthers cpu_of_queue_event e.cpu more → IsLawful Allowed (more ++ past) → Allowed (more ++ past) e
 
 -- a call may be polled: at its first poll it is allowed and stays so; after that it is the one under way
 abbrev pub MayQueue : {E : Type 0} → (List (QueueEvent E) → QueueEvent E → Type 0) → List (QueueEvent E) → Option (QueueEvent E) → QueueEvent E → Type 0

@@ -38,8 +38,7 @@ at_give (Holds lock) answer = answer
 
 -- what the next action of a CPU answers, after this past: at a Give the answer of its section on the block that the past leaves
 abbrev pub reply : {N B R : Type 0} → Table N B R → (LockId → Option B) → CpuId → LockId → N → List (Action N) → Option R
-reply table opening cpu lock name past =
-    at_give (phase cpu past) (option_map (table.answer name) (block_after table.edited opening lock (sections_in past)))
+reply table opening cpu lock name past = at_give (phase cpu past) (option_map (table.answer name) (block_after table.edited opening lock (sections_in past)))
 
 -- one action was done: foreign ones came first, then the one that was due to this CPU
 pub record Acted {N : Type 0} (ActsFor : CpuId → Type 0) (cpu : CpuId) (lock : LockId) (name : N) (old new past : List (Action N)) : Type 0 where

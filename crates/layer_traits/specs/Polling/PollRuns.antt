@@ -32,8 +32,7 @@ module _ {P M : Type 0} (Fits : P → M → Type 0) (cpu_of : P → CpuId) (open
       pub called : (buffer_of call).0 < length (caps_in (opening_of m))
           → Called (ActsFor m) (cpu_of p) t call (own_of p).call_states (own_of q).call_states (seen_of m) (seen_of n) answer
       pub runs : (buffer_of call).0 < length (caps_in (opening_of m)) → RunsOn t (threads_in (own_of p)) (threads_in (own_of q)) answer
-      pub under_way : (buffer_of call).0 < length (caps_in (opening_of m))
-          → under_way_of q ≡ still_calling t (threads_in (own_of q)).current answer
+      pub under_way : (buffer_of call).0 < length (caps_in (opening_of m)) → under_way_of q ≡ still_calling t (threads_in (own_of q)).current answer
       pub moves : MovesGrow (ActsFor m) (cpu_of p) (moves_of m) (moves_of n)
       pub prompt : IsWhole → answer ≡ None → IsRefused call (caps_in (opening_of m)) (seen_of n) × ((threads_in (own_of q)).current ≡ None)
       pub framed : Framed Fits cpu_of opening_of site_of room_of ActsFor MayHold p q m n

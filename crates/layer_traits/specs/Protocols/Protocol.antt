@@ -14,8 +14,7 @@ section cpu lock edit = record { cpu = cpu; lock = lock; edit = edit }
 
 -- a section is allowed, and stays so whatever allowed sections of other CPUs come before it
 abbrev pub StaysAllowed : {E : Type 0} → (List (Section E) → Section E → Type 0) → List (Section E) → Section E → Type 0
-StaysAllowed Allowed past s =
-    (more : List _) → AreOthers cpu_of_section s.cpu more → IsLawful Allowed (more ++ past) → Allowed (more ++ past) s
+StaysAllowed Allowed past s = (more : List _) → AreOthers cpu_of_section s.cpu more → IsLawful Allowed (more ++ past) → Allowed (more ++ past) s
 
 -- the CPU of a section is one that a machine may have
 abbrev pub IsKnown : {E : Type 0} → List (Section E) → Section E → Type 0

@@ -17,8 +17,7 @@ edit_move mv lock edit (Some out) = Moved lock (mv.caller edit) (mv.slept out) (
 
 -- the move of a section after these sections
 abbrev pub section_move : {E B O : Type 0} → Rules E B O → MoveRules E O → (LockId → Option B) → List (Section E) → Section E → Move
-section_move rules mv opening past s =
-    edit_move mv s.lock s.edit (option_map (rules.answer s.edit) (block_after rules.edited opening s.lock past))
+section_move rules mv opening past s = edit_move mv s.lock s.edit (option_map (rules.answer s.edit) (block_after rules.edited opening s.lock past))
 
 -- the steps of these sections
 abbrev pub section_moves : {E B O : Type 0} → Rules E B O → MoveRules E O → (LockId → Option B) → List (Section E) → List Step
@@ -34,8 +33,7 @@ slept_at lock (Some line) p = Some (At lock line)
 abbrev pub asleep_after : Move → Tid → Option WaitChannel → Option WaitChannel
 asleep_after (Pushed d u) t p = p
 asleep_after (Took d) t p = p
-asleep_after (Moved lock caller slept woke) t p =
-    if is_thread t woke then None else (if same_tid caller t then slept_at lock slept p else p)
+asleep_after (Moved lock caller slept woke) t p = if is_thread t woke then None else (if same_tid caller t then slept_at lock slept p else p)
 asleep_after Still t p = p
 
 -- where a thread sleeps after these steps, if it does; no home is asked for

@@ -1,4 +1,4 @@
-use Rattle.fifo_buffer.proofs.PositionLemmas.{positions_are_counts}
+use Rattle.fifo_buffer.proofs.LineLemmas.{positions_are_counts}
 use Rattle.fifo_buffer.proofs.laws.positions_are_counts.Goals as goal
 
 pub returns : goal.returns

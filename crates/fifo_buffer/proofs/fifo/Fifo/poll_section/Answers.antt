@@ -1,6 +1,6 @@
 use Rattle.std.proofs.{Common.{◌≡◌, ◌∙◌, ap, arith, inl, inr, sym}, lemmas.List.get_or-set_same}
-use Rattle.fifo_buffer.proofs.{Callers.{monitored, Caller}, Recorded.{recorded_left, runs_awake, runs_home}}
-use Rattle.fifo_buffer.{proofs.{Events.caller_is, Polls.may_poll_section, ConditionPolls.polled_section}, specs.SectionPolls.{outcome_of, recorded_if}}
+use Rattle.fifo_buffer.proofs.{Callers.{monitored, Caller}, CallPolls.{recorded_left, runs_awake, runs_home}}
+use Rattle.fifo_buffer.{proofs.{OtherSteps.caller_is, Polls.may_poll_section, ConditionPolls.polled_section}, specs.SectionPolls.{outcome_of, recorded_if}}
 use Rattle.{event_log.specs.declared.ids.LockId.TheVariants.Buffer, layer_traits.specs.Layers.BufferLaw.{buffer_of, going, left_recorded, plan_beneath}}
 use Rattle.layer_traits.specs.Layers.{BufferLaw.{no_call, section_at, call_state_of}, QLocking.{lock_caller, lock_moves, lock_rules}}
 use Rattle.layer_traits.specs.{Blocks.{BufferProtocol.buffer_rules, Payloads.told_by, QueueBlocks.homes_in, QueueRules.queue_rules}, Polling.Plans.table_of}

@@ -1,4 +1,4 @@
-use Rattle.{std.proofs.Common.{[], refl, rules}, layer_traits.specs.Blocks.QueueBlocks.inner, fifo_buffer.proofs.{Frames.framed_over, Parts.moves_grown}}
+use Rattle.{std.proofs.Common.{[], refl, rules}, layer_traits.specs.Blocks.QueueBlocks.inner, fifo_buffer.proofs.Parts.{framed_over, moves_grown}}
 use Rattle.fifo_buffer.proofs.Parts.{part_grown, seen_grown}
 use Rattle.fifo_buffer.proofs.fifo.FifoCallLayerBufferLaw.look.Goals as goal
 

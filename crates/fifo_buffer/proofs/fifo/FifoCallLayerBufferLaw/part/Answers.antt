@@ -1,4 +1,4 @@
-use Rattle.fifo_buffer.proofs.Starting.{all_rest, no_events, start_fits}
+use Rattle.fifo_buffer.proofs.Opening.{all_rest, no_events, start_fits}
 use Rattle.fifo_buffer.proofs.fifo.FifoCallLayerBufferLaw.part.Goals as goal
 
 pub returns-clause-fits : goal.returns-clause-fits

@@ -1,5 +1,5 @@
 use Rattle.std.proofs.Common.{◌++◌, is_some, refl}
-use Rattle.fifo_buffer.proofs.{Frames.framed_over, Passes.{lawful_before, part_passed, pass_done, pass_events, pass_grown, pass_moved, pass_seen, passed_own}}
+use Rattle.fifo_buffer.proofs.Parts.{framed_over, lawful_before, part_passed, pass_events, pass_grown, pass_moved, pass_seen, passed_own}
 use Rattle.{fifo_buffer.specs.SectionPolls.BufferOutcome, layer_traits.specs.{Blocks.QueueBlocks.homes_in, Layers.SleepLaw.done_if}}
 use Rattle.fifo_buffer.proofs.fifo.FifoCallLayerBufferLaw.pass.Goals as goal
 
@@ -7,13 +7,13 @@ pub returns-clause-seen : goal.returns-clause-seen
 returns-clause-seen g c =
     let C = g.C.ThreadLayer in
     let m = c.args.m.now in
-    rw c.pass.ensures.framed.stays.opening (pass_seen (pass_done (C.opening m) c.args.call c.pass.result c.pass.ensures.seen) _ (λ d both. both.0))
+    rw c.pass.ensures.framed.stays.opening (pass_seen (C.opening m) c.args.call c.pass.result c.pass.ensures.seen _ (λ d both. both.0))
 
 pub returns-clause-passed : goal.returns-clause-passed
 returns-clause-passed g c =
     let C = g.C.ThreadLayer in
     let m = c.args.m.now in
-    rw c.pass.ensures.framed.stays.opening (pass_moved (pass_done (C.opening m) c.args.call c.pass.result c.pass.ensures.seen) _ (λ d both. both.0))
+    rw c.pass.ensures.framed.stays.opening (pass_moved (C.opening m) c.args.call c.pass.result c.pass.ensures.seen _ (λ d both. both.0))
 
 pub returns-clause-framed : goal.returns-clause-framed
 returns-clause-framed g c =
@@ -25,12 +25,12 @@ returns-clause-framed g c =
     let framed = c.pass.ensures.framed in
     let acts = law.own_cpu p.lower m c.requires.fits.0 in
     let polled = c.pass.ensures.seen in
-    let pass = pass_done (C.opening m) c.args.call c.pass.result polled in
+    let grown = pass_grown (C.opening m) c.args.call c.pass.result polled in
     let before = lawful_before (C.opening m) (pass_events (homes_in (C.opening m)) cpu c.args.call
-    (is_some (done_if {O = BufferOutcome} c.pass.result))) (polled.others ++ C.seen m) (C.seen c.pass.new.m) (pass_grown pass)
+    (is_some (done_if {O = BufferOutcome} c.pass.result))) (polled.others ++ C.seen m) (C.seen c.pass.new.m) grown
     (rw framed.stays.opening at (law.lawful c.pass.new.m cpu (framed.stays.acts cpu acts))) in
-    let on = part_passed pass cpu (polled.foreign cpu acts) before c.requires.fits.1 in
+    let on = part_passed (C.opening m) c.args.call c.pass.result polled cpu (polled.foreign cpu acts) before c.requires.fits.1 in
     framed_over _ framed refl refl (rw (framed.stays.opening, framed.cpu, c.pass.ensures.call)
     (passed_own (C.opening m) cpu (C.seen c.pass.new.m) (C.own p.lower) (C.own c.pass.new.self) p.call_states.call_states (C.under_way p.lower) p.calling
-    c.args.call (is_some c.pass.result) c.requires.goes_on c.pass.ensures.rest on)) (λ q other fits part. rw framed.stays.opening
-    (part_passed pass (C.cpu_of q.lower) (polled.foreign (C.cpu_of q.lower) (law.own_cpu q.lower m fits)) before part))
+    c.args.call (is_some c.pass.result) c.requires.goes_on c.pass.ensures.rest on)) (λ q other fits part. rw framed.stays.opening (part_passed (C.opening m)
+    c.args.call c.pass.result polled (C.cpu_of q.lower) (polled.foreign (C.cpu_of q.lower) (law.own_cpu q.lower m fits)) before part))

@@ -1,14 +1,10 @@
-use Rattle.std.proofs.Common.{◌%◌, ◌++◌, sym, ◌∙◌}
+use Rattle.std.proofs.Common.{arith, ◌%◌, ◌++◌}
 use Rattle.{event_log.specs.{declared.{events.Event.TheVariants.Look, ids.TheConstants.CPUS}, Grants.grant_word}, layer_traits.proofs.GrantLemmas.adds_mapped}
 use Rattle.layer_traits.{proofs.GrantLemmas.hits_as_grants, specs.{Protocols.{AsGrants.as_grants, WordsProtocol.words_legal}, Laws.AsGrants.stands_as_grants}}
 use Rattle.layer_traits.proofs.uses_grant_words.AnyGrantWords.peek.Goals as goal
 
 pub look-requires-clause-waiting : goal.look-requires-clause-waiting
-look-requires-clause-waiting g c =
-    let W = g.W.Words in
-    let m = c.args.self.now in
-    let legal = words_legal (g.W.Edit.SplitEdit.rules.allowed (W.opening m)) (W.seen m) (g.met.W.Words.legal m c.args.cpu c.requires.cpu) in
-    sym (stands_as_grants (W.seen m) legal c.args.cpu) ∙ c.requires.waiting
+look-requires-clause-waiting g c = grind (arith, words_legal, stands_as_grants, g.met.W.Words.legal)
 
 pub returns-clause-adds : goal.returns-clause-adds
 returns-clause-adds g c =

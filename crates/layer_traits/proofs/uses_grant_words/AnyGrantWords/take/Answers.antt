@@ -1,14 +1,9 @@
-use Rattle.std.proofs.Common.{sym, ◌∙◌}
-use Rattle.{event_log.specs.declared.events.Event.TheVariants.Draw, layer_traits.{proofs.GrantLemmas.adds_mapped, specs.Laws.AsGrants.stands_as_grants}}
-use Rattle.layer_traits.specs.Protocols.WordsProtocol.{words_legal}
+use Rattle.{std.proofs.Common.arith, event_log.specs.declared.events.Event.TheVariants.Draw, layer_traits.proofs.GrantLemmas.adds_mapped}
+use Rattle.layer_traits.specs.{Laws.AsGrants.stands_as_grants, Protocols.WordsProtocol.words_legal}
 use Rattle.layer_traits.proofs.uses_grant_words.AnyGrantWords.take.Goals as goal
 
 pub draw-requires-clause-outside : goal.draw-requires-clause-outside
-draw-requires-clause-outside g c =
-    let W = g.W.Words in
-    let m = c.args.self.now in
-    let legal = words_legal (g.W.Edit.SplitEdit.rules.allowed (W.opening m)) (W.seen m) (g.met.W.Words.legal m c.args.cpu c.requires.cpu) in
-    sym (stands_as_grants (W.seen m) legal c.args.cpu) ∙ c.requires.outside
+draw-requires-clause-outside g c = grind (arith, words_legal, stands_as_grants, g.met.W.Words.legal)
 
 pub returns-clause-adds : goal.returns-clause-adds
 returns-clause-adds g c =
