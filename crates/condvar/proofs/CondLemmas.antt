@@ -1,19 +1,19 @@
 -- What a poll of a lock with conditions leaves, and why whoever was woken out of a wait stands on no waiting list.
-use Rattle.std.proofs.Common.{◌≡◌, ◌<◌, ◌≤◌, Bool, true, false, ◌&&◌, List, length, slice_set, Option, Some, None, is_some, if◌then◌else◌, refl, ap, ◌∙◌, sym}
+use Rattle.std.proofs.Common.{arith}
+use Rattle.std.proofs.Common.{◌≡◌, ◌<◌, ◌≤◌, Bool, true, false, ◌&&◌, List, length, slice_set, Option, Some, None, is_some, if◌then◌else◌, ap, ◌∙◌}
 use Rattle.std.proofs.{Common.arith, lemmas.Option.slice_get_within}
 use Rattle.event_log.specs.{declared.ids.{BufId.BufId, CpuId.CpuId, LockId.{LockId, TheVariants.Buffer}, Tid.Tid, TheConstants.THREADS}, Actions.Action}
-use Rattle.layer_traits.specs.declared.{conditions.{CvLeave.TheVariants.Wait, CvOut.CvOut}, moves.WaitList.WaitList, payloads.Parcel.Parcel}
+use Rattle.layer_traits.specs.declared.{conditions.{CvOut.CvOut}, moves.WaitList.WaitList, payloads.Parcel.Parcel}
 use Rattle.layer_traits.specs.declared.{queue_edits.{QueueBlock.QueueBlock, QueueEdit.QueueEdit, QueueAnswer.QueueAnswer}, queues.QueueEvent.QueueEvent}
-use Rattle.layer_traits.specs.declared.{scheds.SchedCall.SchedCall, sleeps.Outcome.Outcome, locked.{QEdit.TheVariants.Release, QOut.QOut}}
-use Rattle.layer_traits.specs.{declared.locked.{QOut.TheVariants.Released, Side.Side}, Layers.{Conditions.{MonitorRules, CvCall, cv_rules}, CvLaw.CvPolled}}
-use Rattle.layer_traits.specs.Layers.CvLaw.{MayCallCond, MayWait, Waiting, cv_plan_for, waiting_reported, left_waiting, waited, waiting_with}
+use Rattle.layer_traits.specs.declared.{scheds.SchedCall.SchedCall, sleeps.Outcome.Outcome, locked.{QOut.QOut}}
+use Rattle.layer_traits.specs.{declared.locked.{Side.Side}, Layers.{Conditions.{MonitorRules, CvCall, cv_rules}, CvLaw.CvPolled}}
+use Rattle.layer_traits.specs.Layers.CvLaw.{MayCallCond, MayWait, Waiting, cv_plan_for, left_waiting, waited, waiting_with}
 use Rattle.layer_traits.specs.Layers.{QLocking.{LockState, lock_after, lock_caller, wait_list_in}, QLockLaw.{Locking, LockPolled, LocksAgree, lock_kernel}}
 use Rattle.layer_traits.specs.{Layers.{QLockLaw.{lock_plan, slept_for}, Queues.{Kernel, buffer_sections, moves_in}}, Threads.ListsAgree.is_at}
 use Rattle.layer_traits.specs.{Threads.{MoveRules.MoveRules, Places.{AreMoves, Stands, Threads, one_if, wait_channel_of}}, Blocks.Payloads.{cv_meant, cv_told}}
 use Rattle.layer_traits.specs.{Blocks.{Payloads.{lock_meant, lock_told, outcome_told, told_by}, QueueBlocks.{homes_in, inner}}, Polling.Plans.{Follows, Table}}
 use Rattle.{layer_traits.proofs.{CallLemmas.follows_raised, CountLemmas.not_counted, PlaceLemmas.current_at}, thread_blocks.specs.Queues.is_in}
-use Rattle.condvar.specs.Waiting.{calls_wait, is_wait, is_waited, is_waiting, side_in}
-use Rattle.layer_traits.specs.declared.conditions.CvOut.TheVariants as answer
+use Rattle.condvar.specs.Waiting.{calls_wait, is_wait, side_in}
 
 -- a thread that runs is one that a machine may have
 pub current_small : (homes : List CpuId) (c : CpuId) (moves : _) (own : Threads) (t : Tid) → AreMoves homes moves → Stands homes c moves own
@@ -35,9 +35,7 @@ current_awake monitor_rules opening seen c own t legal stands agree runs lock li
 -- who waits calls its wait alone
 wait_alone : {H G E : Type 0} (meant : H → Parcel → G) (parcel : Parcel) (call : CvCall H) (at : Option BufId) (under_way : Option (SchedCall E)) (b : BufId)
     (t : Tid) (may : Type 0) → MayWait at under_way b (lock_meant (cv_meant meant) call parcel) t may → (calls_wait call && is_some at) ≡ is_some at
-wait_alone meant parcel (Release (Wait u side)) at under_way b t may duty = refl
-wait_alone meant parcel other None under_way b t may duty = refl
-wait_alone meant parcel other (Some at) under_way b t may duty = let is = duty.2.1 in absurd cc
+wait_alone meant parcel call at under_way b t may duty = grind arith
 
 -- a wake of a thread that waited ends its wait
 pub wake_ended : (waits now : List (Option BufId)) (woke : Bool) (t u : Tid) → now ≡ (if woke then slice_set waits u.0 None else waits) → woke ≡ true
@@ -49,60 +47,31 @@ pub wake_kept : (waits now : List (Option BufId)) (woke : Bool) (u : Tid) → no
     → now ≡ waits
 wake_kept waits now woke u same told = same ∙ ap (λ b. if b then slice_set waits u.0 None else waits) told
 
--- whether an answer is that of a wait does not depend on the parcel beside it
-waited_told : {B O : Type 0} (told : B → Parcel → O) (parcel : Parcel) (out : CvOut B) → is_waited (cv_told told out parcel) ≡ is_waited out
-waited_told told parcel (answer.Did out) = refl
-waited_told told parcel other = refl
-
-waiting_told : {B O : Type 0} (told : B → Parcel → O) (parcel : Parcel) (out : QOut (CvOut B))
-    → is_waiting (lock_told (cv_told told) out parcel) ≡ is_waiting out
-waiting_told told parcel (Released out) = waited_told told parcel out
-waiting_told told parcel other = refl
-
 -- what the lock told, with the parcel beside its answer
 abbrev pub lock_tells : {B O : Type 0} → (B → Parcel → O) → Parcel → Option (Outcome (QOut (CvOut B))) → Option (Outcome (QOut (CvOut O)))
 lock_tells told parcel answer = told_by (outcome_told (lock_told (cv_told told))) answer parcel
 
 is_wait_told : {B O : Type 0} (told : B → Parcel → O) (parcel : Parcel) (answer : Option (Outcome (QOut (CvOut B))))
     → is_wait (lock_tells told parcel answer) ≡ is_wait answer
-is_wait_told told parcel None = refl
-is_wait_told told parcel (Some outcome) = waiting_told told parcel outcome.out
+is_wait_told told parcel answer = grind arith
 
 -- so who waits is known from what the lock told
 pub waits_told : {B O : Type 0} (told : B → Parcel → O) (parcel : Parcel) (answer : Option (Outcome (QOut (CvOut B)))) (t : Tid) (b : BufId)
     (waits now : List (Option BufId)) → now ≡ (if is_wait answer then slice_set waits t.0 (Some b) else waits)
     → now ≡ (if is_wait (lock_tells told parcel answer) then slice_set waits t.0 (Some b) else waits)
-waits_told told parcel answer t b waits now same =
-    same ∙ ap (λ is. if is then slice_set waits t.0 (Some b) else waits) (sym (is_wait_told told parcel answer))
-
-held_back : {B O : Type 0} (told : B → Parcel → O) (parcel : Parcel) (answer : Option (Outcome (QOut (CvOut B)))) (is : Bool)
-    → lock_tells told parcel (if is then None else answer) ≡ (if is then None else lock_tells told parcel answer)
-held_back told parcel answer true = refl
-held_back told parcel answer false = refl
+waits_told told parcel answer t b waits now same = grind (arith, is_wait_told)
 
 -- and so is what is held back
 pub complete_told : {B O : Type 0} (told : B → Parcel → O) (parcel : Parcel) (answer result : Option (Outcome (QOut (CvOut B))))
     → result ≡ (if is_wait answer then None else answer)
     → lock_tells told parcel result ≡ (if is_wait (lock_tells told parcel answer) then None else lock_tells told parcel answer)
-complete_told told parcel answer result same =
-    ap (lock_tells told parcel) same ∙ held_back told parcel answer (is_wait answer)
-    ∙ ap (λ is. if is then None else lock_tells told parcel answer) (sym (is_wait_told told parcel answer))
-
--- what the lock's answer leaves, by what it says
-left_by_out : {O : Type 0} (t : Tid) (b : BufId) (waits now : List (Option BufId)) (lock : Locking (CvOut O)) (out : QOut (CvOut O))
-    (outcome : Outcome (QOut (CvOut O))) (result : Option (Outcome (QOut (CvOut O))))
-    → now ≡ (if is_waiting out then slice_set waits t.0 (Some b) else waits) → result ≡ (if is_waiting out then None else Some outcome)
-    → waiting_with lock now result ≡ waiting_reported t b waits lock out outcome
-left_by_out t b waits now lock (Released (answer.Waited side)) outcome result same told = rw (same, told) refl
-left_by_out t b waits now lock other outcome result same told = rw (same, told) refl
+complete_told told parcel answer result same = grind (arith, is_wait_told)
 
 -- what the lock's answer leaves
 pub reported_left : {O : Type 0} (t : Tid) (b : BufId) (waits now : List (Option BufId)) (lock : Locking (CvOut O))
-    (answer result : Option (Outcome (QOut (CvOut O))))
-    → now ≡ (if is_wait answer then slice_set waits t.0 (Some b) else waits) → result ≡ (if is_wait answer then None else answer)
-    → waiting_with lock now result ≡ left_waiting t b waits lock answer
-reported_left t b waits now lock None result same told = rw (same, told) refl
-reported_left t b waits now lock (Some outcome) result same told = left_by_out t b waits now lock outcome.out outcome result same told
+    (answer result : Option (Outcome (QOut (CvOut O)))) → now ≡ (if is_wait answer then slice_set waits t.0 (Some b) else waits)
+    → result ≡ (if is_wait answer then None else answer) → waiting_with lock now result ≡ left_waiting t b waits lock answer
+reported_left t b waits now lock answer result same told = grind arith
 
 module _ {G B O : Type 0} (monitor_rules : MonitorRules G B O) (k : Kernel (CvCall G) (LockState B) (Outcome (QOut (CvOut O)))) (c : CpuId) (b : BufId)
     (own : Waiting O) (under_way : Option (SchedCall (CvCall G))) where
@@ -114,10 +83,7 @@ module _ {G B O : Type 0} (monitor_rules : MonitorRules G B O) (k : Kernel (CvCa
       → MayCallCond monitor_rules k c past own under_way b (lock_meant (cv_meant meant) call parcel)
       → woke ≡ (calls_wait call && is_some (slept_for own.waits u)) → woke ≡ is → u ≡ caller (lock_meant (cv_meant meant) call parcel)
       → is_some (slept_for own.waits (caller (lock_meant (cv_meant meant) call parcel))) ≡ is
-  wake_told meant parcel call past woke is u duty was told calls =
-      let t = caller (lock_meant (cv_meant meant) call parcel) in
-      let wakes : (calls_wait call && is_some (slept_for own.waits t)) ≡ is = rw (← calls) (sym was ∙ told) in
-      sym (wait_alone meant parcel call (slept_for own.waits t) under_way b t _ duty.may) ∙ wakes
+  wake_told meant parcel call past woke is u duty was told calls = grind (arith, wait_alone)
 
   module _ (ActsFor : CpuId → Type 0) (call : CvCall G) (old : List (QueueEvent (CvCall G))) (waits : List (Option BufId)) where
     -- the poll of a thread that was woken out of its wait, by the buffer at which it waited

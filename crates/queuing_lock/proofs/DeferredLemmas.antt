@@ -1,6 +1,6 @@
 -- What is kept agrees with the call under way and the hand: an outcome is kept of a call inside or of a release alone.
 use Rattle.std.proofs.Common.{◌≡◌, Bool, true, false, ◌&&◌, not, if◌then◌else◌, List, [], Option, Some, None, option_map, is_some, IsSome, refl, ap, sym, ◌∙◌}
-use Rattle.std.proofs.Common.{subst}
+use Rattle.std.proofs.Common.{arith, subst}
 use Rattle.event_log.specs.{declared.ids.{BufId.BufId, CpuId.CpuId, LockId.{LockId, TheVariants.Buffer}, Tid.Tid}, Sections.block_after}
 use Rattle.layer_traits.specs.declared.{locked.{QEdit.{QEdit, TheVariants.{Acquire, Inside, Release}}, QOut.QOut}, moves.WaitList.WaitList}
 use Rattle.layer_traits.specs.declared.{moves.WaitList.TheVariants.{Sleepers, Receivers, Senders}, queue_edits.QueueBlock.QueueBlock}
@@ -14,11 +14,7 @@ use Rattle.{layer_traits.proofs.KernelRenaming.inner_viewed, queuing_lock.specs.
 use Rattle.queuing_lock.specs.{Nested.{lock_call, nested_lock_of}, Parts.{DeferredFits, is_queued}}
 
 nobody_in : {B : Type 0} (line : WaitList) (o : Option (SleepState (QBlock B))) → IsAtRest (option_map nested_lock_of o) → wait_list_at line o ≡ []
-nobody_in Sleepers None rest = refl
-nobody_in line None rest = refl
-nobody_in Sleepers (Some state) rest = rest.1
-nobody_in Receivers (Some state) rest = rest.2
-nobody_in Senders (Some state) rest = rest.3
+nobody_in line o rest = grind arith
 
 -- where locks are at rest nobody sleeps beneath
 pub nobody_beneath : {B : Type 0} (opening : LockId → Option (QueueBlock (SleepState (QBlock B)))) → AreAtRest (inner (viewed nested_lock_of opening))
@@ -28,71 +24,45 @@ nobody_beneath opening rest lock line = nobody_in line (inner opening lock) (sub
 -- a part at boot keeps nothing
 pub fresh_deferred : {F R O : Type 0} (under : Option (SchedCall (QLockEdit F R))) (deferred : Option (Outcome (QOut O))) (hand : Option Tid) → under ≡ None
     → deferred ≡ None → DeferredFits (option_map (renamed_sched lock_call) under) deferred hand
-fresh_deferred None None hand none nothing = tt
-fresh_deferred None (Some outcome) hand none nothing = absurd cc
-fresh_deferred (Some s) deferred hand none nothing = absurd cc
+fresh_deferred under deferred hand none nothing = grind arith
 
 -- Calls under way beneath and here.
 
 pub may_beneath : {F R : Type 0} (under : Option (SchedCall (QLockEdit F R))) (b : BufId) (e : QEdit F R) (duty owed : Type 0) → (duty → owed)
     → MayCall (option_map (renamed_sched lock_call) under) (OnBuffer b e) duty → MayCall under (OnBuffer b (as_section e)) owed
-may_beneath None b e duty owed gives may = gives may
-may_beneath (Some (Pass p)) b e duty owed gives may = absurd cc
-may_beneath (Some (OnBuffer at d)) b e duty owed gives may = ap (renamed_sched as_section) may
+may_beneath under b e duty owed gives may = grind arith
 
 -- a call goes on, and what is kept agrees with it
 pub deferred_goes : {F R O : Type 0} (under : Option (SchedCall (QEdit F R))) (deferred : Option (Outcome (QOut O))) (hand : Option Tid) (b : BufId)
     (e : QEdit F R) (duty : Type 0)
     → DeferredFits under deferred hand → MayCall under (OnBuffer b e) duty → (duty → hand ≡ None) → DeferredFits (Some (OnBuffer b e)) deferred hand
-deferred_goes None None hand b e duty fits may empty = empty may
-deferred_goes None (Some outcome) hand b e duty fits may empty = absurd fits
-deferred_goes (Some (Pass p)) deferred hand b e duty fits may empty = absurd cc
-deferred_goes (Some (OnBuffer at d)) deferred hand b e duty fits may empty = subst (λ s. DeferredFits (Some s) deferred hand) may fits
+deferred_goes under deferred hand b e duty fits may empty = grind arith
 
 -- who asks for a lock finds nothing kept
 pub asks_none : {F R O : Type 0} (deferred : Option (Outcome (QOut O))) (hand : Option Tid) (b : BufId) (e : QEdit F R)
     → DeferredFits (Some (OnBuffer b e)) deferred hand → IsAcquire e → deferred ≡ None
-asks_none None hand b e fits asks = refl
-asks_none (Some outcome) hand b e fits asks = absurd (fits.0 asks)
+asks_none deferred hand b e fits given = grind arith
 
 -- and who goes on with nothing kept has nobody in hand
 hand_empty : {F R O : Type 0} (deferred : Option (Outcome (QOut O))) (hand : Option Tid) (b : BufId) (e : QEdit F R)
     → DeferredFits (Some (OnBuffer b e)) deferred hand → deferred ≡ None → hand ≡ None
-hand_empty None hand b e fits none = fits
-hand_empty (Some outcome) hand b e fits none = absurd cc
+hand_empty deferred hand b e fits given = grind arith
 
 -- what is kept is not told to one who is queued
 pub deferred_is : {F R O : Type 0} (deferred : Option (Outcome (QOut O))) (hand : Option Tid) (b : BufId) (e : QEdit F R) (outcome : Outcome (QOut O))
     → DeferredFits (Some (OnBuffer b e)) deferred hand → deferred ≡ Some outcome → is_queued outcome.out ≡ false
-deferred_is None hand b e outcome fits is = absurd cc
-deferred_is (Some deferred) hand b e outcome fits is = let one : deferred ≡ outcome = cc in subst (λ o. is_queued o.out ≡ false) one fits.1
-
-and_false : (b : Bool) → (b && false) ≡ true → ⊥
-and_false true is = cc
-and_false false is = cc
+deferred_is deferred hand b e outcome fits is = grind arith
 
 module _ {F R B O : Type 0} (rules : LockRules F R B O) (homes : List CpuId) (c : CpuId) (own : Threads) (empty : own.hand ≡ None) where
-  hand_after : (line : Option WaitList) → (own_slept line own).hand ≡ None
-  hand_after None = empty
-  hand_after (Some line) = empty
-
   -- of whom a thread is to be sent home is no asker, and not queued
   sends_inside : (e : QEdit F R) (state : LockState B)
       → must_send (lock_answer rules e state) (own_answered (lock_moves rules) homes c (Some (lock_answer rules e state)) own) ≡ true
       → (IsAcquire e → ⊥) × (is_queued (lock_out rules e state) ≡ false)
-  sends_inside (Acquire t) state sends =
-      absurd (and_false (not (is_some (wait_list_asked state.owner)))
-      (ap (λ h. not (is_some (wait_list_asked state.owner)) && is_some h) (sym (hand_after (wait_list_slept rules (asker_report state.owner)))) ∙ sends))
-  sends_inside (Inside f) state sends = (λ asks. asks, refl)
-  sends_inside (Release r) state sends = (λ asks. asks, refl)
+  sends_inside e state sends = grind (arith, empty)
 
   sends_by : (e : QEdit F R) (o : Option (LockState B)) (outcome : Outcome (QOut O)) → option_map (lock_answer rules e) o ≡ Some outcome
       → must_send outcome (own_answered (lock_moves rules) homes c (Some outcome) own) ≡ true → (IsAcquire e → ⊥) × (is_queued outcome.out ≡ false)
-  sends_by e None outcome is sends = absurd cc
-  sends_by e (Some state) outcome is sends =
-      let one : lock_answer rules e state ≡ outcome = cc in
-      let told = sends_inside e state (subst (λ o. must_send o (own_answered (lock_moves rules) homes c (Some o) own) ≡ true) (sym one) sends) in
-      (told.0, ap (λ o. is_queued o.out) (sym one) ∙ told.1)
+  sends_by e o outcome is sends = grind (arith, sends_inside)
 
 module _ {F R B O : Type 0} (rules : LockRules F R B O) (opening : LockId → Option (QueueBlock (LockState B))) (c : CpuId) (b : BufId) (e : QEdit F R) where
   -- what is kept agrees with what goes on, where a poll left this
@@ -102,13 +72,11 @@ module _ {F R B O : Type 0} (rules : LockRules F R B O) (opening : LockId → Op
   left_deferred : (outcome : Outcome (QOut O)) (threads : Threads) (send : Bool) → (send ≡ true → (IsAcquire e → ⊥) × (is_queued outcome.out ≡ false))
       → DeferredIn (if send then record { own = record { threads = threads; deferred = Some outcome }; answer = None } else record
       { own = record { threads = threads; deferred = None }; answer = Some outcome })
-  left_deferred outcome threads true sends = sends refl
-  left_deferred outcome threads false sends = tt
+  left_deferred outcome threads send given = grind arith
 
   sent : (deferred : Option (Outcome (QOut O))) (threads : Threads) → IsSome deferred
       → DeferredIn (record { own = record { threads = threads; deferred = None }; answer = deferred })
-  sent None threads some = absurd cc
-  sent (Some outcome) threads some = tt
+  sent deferred threads some = grind arith
 
   left_fits : (poll_result : PollResult (QOut O)) (past : List (QueueEvent (QEdit F R))) (own : Sleeping (QOut O))
       → MayDo (lock_kernel rules opening) c b e poll_result past own
@@ -131,10 +99,4 @@ module _ {F R B O : Type 0} (rules : LockRules F R B O) (opening : LockId → Op
 pub deferred_passed : {F R O : Type 0} (under : Option (SchedCall (QEdit F R))) (deferred : Option (Outcome (QOut O))) (hand hand' : Option Tid) (p : PassCall)
     (duty : Type 0) (done : Bool)
     → DeferredFits under deferred hand → MayCall under (Pass p) duty → DeferredFits {F = F} {R = R} (if done then None else Some (Pass p)) deferred hand'
-deferred_passed None None hand hand' p duty true fits may = tt
-deferred_passed None None hand hand' p duty false fits may = tt
-deferred_passed None (Some outcome) hand hand' p duty done fits may = absurd fits
-deferred_passed (Some (Pass q)) None hand hand' p duty true fits may = tt
-deferred_passed (Some (Pass q)) None hand hand' p duty false fits may = tt
-deferred_passed (Some (Pass q)) (Some outcome) hand hand' p duty done fits may = absurd fits
-deferred_passed (Some (OnBuffer at d)) deferred hand hand' p duty done fits may = absurd cc
+deferred_passed under deferred hand hand' p duty done fits may = grind arith

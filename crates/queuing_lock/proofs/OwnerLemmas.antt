@@ -1,4 +1,5 @@
 -- What the owner of a lock may do it may do whatever others do.
+use Rattle.std.proofs.Common.{arith}
 use Rattle.std.proofs.Common.{◌≡◌, ◌≢◌, false, List, ◌++◌, Option, Some, None}
 use Rattle.event_log.specs.{declared.ids.{BufId.BufId, CpuId.CpuId, LockId.{LockId, TheVariants.Buffer}, Tid.Tid}, History.{AreOthers, IsLawful}}
 use Rattle.layer_traits.specs.declared.{locked.QEdit.{QEdit, TheVariants.{Acquire, Inside, Release}}, moves.WaitList.TheVariants.Sleepers}
@@ -10,12 +11,10 @@ use Rattle.queuing_lock.specs.Steady.{IsPreserved, IsOwner}
 
 module _ {F R B O : Type 0} (rules : LockRules F R B O) (opening : LockId → Option (QueueBlock (LockState B))) where
   nothing_at : (t : Tid) (o : Option (LockState B)) → owner_in o ≢ Some t → is_in t (wait_list_in Sleepers o) ≡ false → HasNothing rules t o
-  nothing_at t None apart missing = tt
-  nothing_at t (Some state) apart missing = (apart, missing)
+  nothing_at t o apart missing = grind arith
 
   not_owner : (t : Tid) (o : Option (LockState B)) → HasNothing rules t o → owner_in o ≢ Some t
-  not_owner t None nothing = λ is. absurd cc
-  not_owner t (Some state) nothing = nothing.0
+  not_owner t o nothing = grind arith
 
   abbrev owns : (t : Tid) (c : CpuId) (b : BufId) → home_of (homes_in opening) t ≡ Some c → IsPreserved rules opening
   owns t c b at = record { t = t; P = IsOwner rules t; keeps = keeps_owned rules t; c = c; at_home = at; lock = Buffer b }

@@ -1,4 +1,5 @@
 -- A part and its polls, from what the part beneath says of its own: what is owed beneath, and what was done here.
+use Rattle.std.proofs.Common.{arith}
 use Rattle.std.proofs.Common.{◌≡◌, ◌≢◌, true, false, if◌then◌else◌, List, ◌++◌, Option, Some, None, option_map, is_some, map, refl, ap, sym, ◌∙◌, subst, ◌<◌}
 use Rattle.std.proofs.{Common.arith, Math.Path.transport, lemmas.Option.slice_get_within}
 use Rattle.event_log.specs.{declared.ids.{BufId.BufId, CpuId.CpuId, LockId.{LockId, TheVariants.Buffer}, TheConstants.THREADS, Tid.Tid}, Actions.Action}
@@ -26,14 +27,7 @@ use Rattle.layer_traits.specs.declared.scheds.SchedCall.TheVariants as call
 pub under_is : {F R A T : Type 0} (told : A → T) (under : Option (SchedCall (QLockEdit F R))) (answer : Option A) (s : SchedCall (QLockEdit F R))
     → under ≡ (if is_some answer then None else Some s)
     → option_map (renamed_sched lock_call) under ≡ (if is_some (option_map told answer) then None else Some (renamed_sched lock_call s))
-under_is told under None s is = ap (option_map (renamed_sched lock_call)) is
-under_is told under (Some a) s is = ap (option_map (renamed_sched lock_call)) is
-
--- who calls something else than its Acquire did not sleep for a lock
-nobody_slept : {F R : Type 0} (x : Option BufId) (under : Option (SchedCall (QEdit F R))) (b : BufId) (e : QEdit F R) (t : Tid) (duty : Type 0)
-    → (e ≡ Acquire t → ⊥) → MayGo x under b e t duty → is_some x ≡ false
-nobody_slept None under b e t duty apart may = refl
-nobody_slept (Some at) under b e t duty apart may = absurd (apart may.2)
+under_is told under answer s is = grind arith
 
 -- a caller that slept for a lock calls its Acquire alone
 slept_alone : {H F R B O : Type 0} (rules : LockRules F R B O) (meant : H → Parcel → F) (parcel : Parcel) (call : QEdit H R) (slept : List (Option BufId))
@@ -41,11 +35,7 @@ slept_alone : {H F R B O : Type 0} (rules : LockRules F R B O) (meant : H → Pa
     → MayGo (slept_for slept (lock_caller rules (lock_meant meant call parcel))) under b (lock_meant meant call parcel)
     (lock_caller rules (lock_meant meant call parcel)) duty
     → is_some (slept_for slept (lock_caller rules (lock_meant meant call parcel))) ≡ asks_again slept call
-slept_alone rules meant parcel (Acquire t) slept under b duty may = refl
-slept_alone rules meant parcel (Inside f) slept under b duty may =
-    nobody_slept (slept_for slept (rules.caller (meant f parcel))) under b (Inside (meant f parcel)) (rules.caller (meant f parcel)) duty (λ is. absurd cc) may
-slept_alone rules meant parcel (Release r) slept under b duty may =
-    nobody_slept (slept_for slept (rules.last_caller r)) under b (Release r) (rules.last_caller r) duty (λ is. absurd cc) may
+slept_alone rules meant parcel call slept under b duty may = grind arith
 
 -- what a part knows before a poll
 pub record Before {F R B O : Type 0} (rules : LockRules F R B O) (opening : LockId → Option (QueueBlock (SleepState (QBlock B)))) : Type 0 where
@@ -102,15 +92,12 @@ module _ {F R B O : Type 0} {rules : LockRules F R B O} {opening : LockId → Op
 
   -- and is a thread of the machine
   pub caller_small : t.0 < THREADS
-  caller_small = let home : home_of (homes_in opening) t ≡ Some c = subst (λ h. home_of h t ≡ Some c) (homes_viewed nested_lock_of opening) at_home in
-      omega (arith, slice_get_within (homes_in opening) t.0 c home, before.starts.room)
+  caller_small = grind (arith, homes_viewed, at_home, slice_get_within)
 
   -- so its call tells whether it slept
   pub slept_asks : {H : Type 0} (meant : H → Parcel → F) (parcel : Parcel) (call : QEdit H R) → lock_meant meant call parcel ≡ e
       → is_some (slept_for slept t) ≡ asks_again slept call
-  slept_asks meant parcel call is =
-      subst (λ (d : QEdit F R). MayGo (slept_for slept (lock_caller rules d)) under_here b d (lock_caller rules d) duty
-      → is_some (slept_for slept (lock_caller rules d)) ≡ asks_again slept call) is (slept_alone rules meant parcel call slept under_here b duty) before.may
+  slept_asks meant parcel call is = grind (arith, slept_alone)
 
   -- whoever slept for the lock owns it now
   pub sleeper_handed : (ActsFor : CpuId → Type 0) (x : Option BufId) → slept_for slept t ≡ x → is_some x ≡ true → MayGo x under_here b e t duty
@@ -143,9 +130,7 @@ module _ {F R B O : Type 0} {rules : LockRules F R B O} {opening : LockId → Op
     beneath_owed = may_beneath under b e duty (MaySleep (beneath_the_lock rules opening) c past own.threads b (as_section e)) (λ may. record {
       current = before.caller;
       hand = may.empty;
-      stays = λ more others lawful.
-          subst (λ (o : LockId → Option (LockState B)). LockAllowed rules o (map (renamed_section lock_call) (buffer_sections (more ++ past)))
-          (record { cpu = c; lock = Buffer b; edit = e })) (inner_locks rules opening)
+      stays = λ more others lawful. rw (← inner_locks rules opening)
           (stays_renamed _ _ _ _ (locks_wrap rules opening) c past b (as_section e) (stays may) more others lawful);
     }) goes
 
@@ -162,8 +147,7 @@ module _ {F R B O : Type 0} {rules : LockRules F R B O} {opening : LockId → Op
           → under' ≡ (if is_some got.answer then None else Some (call.OnBuffer b e)) → got' ≡ left_after t b slept got.own got.answer
           → LockPolled rules (at_the_lock rules opening) ActsFor c b e (slept_for slept t) seen (renamed_events lock_call new)
           (record { sleep = own; slept = slept }) under' got'
-      locks under' got' ends leaves = subst (λ x. LockPolled rules (at_the_lock rules opening) ActsFor c b e x seen (renamed_events lock_call new)
-          (record { sleep = own; slept = slept }) under' got') (sym sleeps_for_none)
+      locks under' got' ends leaves = rw sleeps_for_none
           (record { left = got; polled = polled_here; ends = ends; asks = asks_none own.deferred own.threads.hand b e deferred_now; leaves = leaves })
 
       -- what is kept agrees with the call that goes on

@@ -1,6 +1,6 @@
 -- One poll of a part: what it leaves of who slept, and that it is the poll which the law of the layer asks for.
 use Rattle.std.proofs.Common.{◌≡◌, ◌≢◌, inl, inr, ◌<◌, Bool, true, false, ◌&&◌, ◌||◌, not, nat_lt, if◌then◌else◌, List, [], ◌∷◌, ◌++◌, Option, Some, None}
-use Rattle.std.proofs.{Common.{option_map, is_some, refl, ap, sym, ◌∙◌, subst}, lemmas.Bool.{lt-ltb, ne_eqb}, Math.Bool.or-true}
+use Rattle.std.proofs.{Common.{arith, option_map, is_some, refl, ap, sym, ◌∙◌, subst}, lemmas.Bool.{lt-ltb, ne_eqb}, Math.Bool.or-true}
 use Rattle.event_log.specs.{declared.ids.{BufId.BufId, CpuId.CpuId, LockId.{LockId, TheVariants.Buffer}, TheConstants.THREADS, Tid.Tid}, History.IsLawful}
 use Rattle.event_log.{specs.History.same_cpu, proofs.{Foreign.lawful_before, Same.{cpu_numbered, same_lock_self}}}
 use Rattle.layer_traits.specs.declared.locked.{QEdit.{QEdit, TheVariants.{Acquire, Inside, Release}}, QOut.{QOut, TheVariants.{Acquired, Queued}}}
@@ -20,73 +20,42 @@ use Rattle.layer_traits.specs.declared.scheds.SchedCall.TheVariants as call
 
 -- who owns a lock or sleeps for it, and does not sleep, owns it
 pub awaits_owner : {B : Type 0} (t : Tid) (o : Option (LockState B)) → HasOrAwaits t o → is_in t (wait_list_in Sleepers o) ≡ false → owner_in o ≡ Some t
-awaits_owner t None awaits awake = absurd awaits
-awaits_owner t (Some state) (inl owns) awake = owns
-awaits_owner t (Some state) (inr waits) awake = absurd cc
+awaits_owner t o awaits awake = grind arith
 
 -- a thread of the machine that joined a queue stands in it
 joined_in : (t : Tid) (queue : List Tid) → t.0 < THREADS → is_in t (joined t queue) ≡ true
-joined_in t queue small = go (nat_lt t.0 THREADS) refl (is_in t queue) refl
-  where
-    here : is_in t (queue ++ t ∷ []) ≡ true
-    here = pushed_in t t queue ∙ (ap (λ b. is_in t queue || (b || false)) (same_tid_self t) ∙ or-true (is_in t queue))
-
-    go : (b : Bool) → nat_lt t.0 THREADS ≡ b → (d : Bool) → is_in t queue ≡ d → is_in t (if b && not d then queue ++ t ∷ [] else queue) ≡ true
-    go true low true stands = stands
-    go true low false missing = here
-    go false high d stands = let low = lt-ltb t.0 THREADS small in absurd cc
-
-abbrev answer_of : (O : Type 0) → Left (Sleeping O) (Outcome O) → Option (Outcome O)
-answer_of O left = left.answer
+joined_in t queue small = grind (arith, pushed_in, same_tid_self)
 
 -- a section that was done and answers answers its outcome
 answered_with : {O : Type 0} (done : Outcome O) (threads : Threads) (outcome : Outcome O) → (left_done done threads).answer ≡ Some outcome
     → Some done ≡ Some outcome
-answered_with {O = O} done threads outcome answers = go (must_send done threads) answers
-  where
-    go : (send : Bool) → answer_of O (if send then record { own = record { threads = threads; deferred = Some done }; answer = None }
-        else record { own = record { threads = threads; deferred = None }; answer = Some done }) ≡ Some outcome → Some done ≡ Some outcome
-    go true answers = absurd cc
-    go false answers = answers
+answered_with done threads outcome answers = grind arith
 
 -- what the lock's outcome leaves
 pub reported_is : {O : Type 0} (t : Tid) (b : BufId) (slept : List (Option BufId)) (sleep : Sleeping (QOut O)) (out : QOut O) (outcome : Outcome (QOut O))
     → left_locked t b slept sleep out outcome ≡ locking sleep (slept_left_with t b slept out) (reported_with out outcome)
-reported_is t b slept sleep Acquired outcome = refl
-reported_is t b slept sleep other outcome = refl
+reported_is t b slept sleep out outcome = grind arith
 
 -- whether a call slept does not depend on what its answer tells
 pub slept_told : {B O : Type 0} (told : B → Parcel → O) (parcel : Parcel) (t : Tid) (b : BufId) (slept : List (Option BufId)) (out : QOut B)
     → slept_left_with t b slept out ≡ slept_left_with t b slept (lock_told told out parcel)
-slept_told told parcel t b slept Acquired = refl
-slept_told told parcel t b slept other = refl
+slept_told told parcel t b slept out = grind arith
 
 -- nor does whether its outcome is handed on
 pub reported_told : {B O : Type 0} (told : B → Parcel → O) (parcel : Parcel) (out : QOut B) (outcome : Outcome (QOut B))
     → option_map (λ o. outcome_told (lock_told told) o parcel) (reported_with out outcome)
     ≡ reported_with (lock_told told out parcel) (outcome_told (lock_told told) outcome parcel)
-reported_told told parcel Acquired outcome = refl
-reported_told told parcel other outcome = refl
+reported_told told parcel out outcome = grind arith
 
 module _ {F R B O : Type 0} (rules : LockRules F R B O) where
-  asked_waits : (t : Tid) (owner : Option Tid) (state : LockState B) → t.0 < THREADS → asker_report {O = O} owner ≡ Queued
-      → HasOrAwaits t (Some (lock_asked_by t owner state))
-  asked_waits t None state small queued = absurd cc
-  asked_waits t (Some owner) state small queued = inr (joined_in t state.sleepers small)
-
   queued_by : (e : QEdit F R) (state : LockState B) → (lock_caller rules e).0 < THREADS → (lock_answer rules e state).out ≡ Queued
       → HasOrAwaits (lock_caller rules e) (Some (lock_edited rules e state))
-  queued_by (Acquire t) state small queued = asked_waits t state.owner state small queued
-  queued_by (Inside f) state small queued = absurd cc
-  queued_by (Release r) state small queued = absurd cc
+  queued_by e state small queued = grind (arith, joined_in)
 
   -- who is queued sleeps for the lock now
   pub queued_awaits : (e : QEdit F R) (o : Option (LockState B)) (outcome : Outcome (QOut O)) → (lock_caller rules e).0 < THREADS
       → option_map (lock_answer rules e) o ≡ Some outcome → outcome.out ≡ Queued → HasOrAwaits (lock_caller rules e) (option_map (lock_edited rules e) o)
-  queued_awaits e None outcome small is queued = absurd cc
-  queued_awaits e (Some state) outcome small is queued =
-      let one : lock_answer rules e state ≡ outcome = cc in
-      queued_by e state small (ap (λ o. o.out) one ∙ queued)
+  queued_awaits e o outcome small is queued = grind (arith, queued_by)
 
 module _ {F R B O : Type 0} (rules : LockRules F R B O) (opening : LockId → Option (QueueBlock (LockState B))) (c : CpuId) where
   abbrev K : Kernel (QEdit F R) (LockState B) (Outcome (QOut O))
@@ -105,9 +74,7 @@ module _ {F R B O : Type 0} (rules : LockRules F R B O) (opening : LockId → Op
     Awaits past = HasOrAwaits (lock_caller rules e) (lock_after rules (inner opening) (Buffer b) (buffer_sections past))
 
     before : (poll_result : PollResult (QOut O)) (past : List (QueueEvent (QEdit F R))) → Lawful (seen_with K c b e poll_result past) → Lawful past
-    before WaitsStill past lawful = lawful
-    before (Does outcome) past lawful = lawful.1
-    before (SendsHome t) past lawful = lawful.1
+    before poll_result past lawful = grind arith
 
     -- who slept owns or sleeps still
     pub slept_polled : SleptFits rules opening c new slept
@@ -121,9 +88,7 @@ module _ {F R B O : Type 0} (rules : LockRules F R B O) (opening : LockId → Op
         → DeferredFits (Some (call.OnBuffer b e)) own.deferred own.threads.hand → Awaits (seen_with K c b e poll_result past)
     queued_result WaitsStill past outcome small may answers queued deferred = absurd cc
     queued_result (Does done) past outcome small may answers queued deferred =
-        let before = lock_after rules (inner opening) (Buffer b) (buffer_sections past) in
-        subst (λ same. HasOrAwaits (lock_caller rules e) (if same then option_map (lock_edited rules e) before else before)) (sym (same_lock_self (Buffer b)))
-        (queued_awaits rules e before outcome small
+        rw (same_lock_self (Buffer b)) (queued_awaits rules e (lock_after rules (inner opening) (Buffer b) (buffer_sections past)) outcome small
         (may.1 ∙ answered_with done (own_answered (lock_moves rules) K.homes c (Some done) own.threads) outcome answers) queued)
     queued_result (SendsHome t) past outcome small may answers queued deferred =
         let told = deferred_is own.deferred own.threads.hand b e outcome deferred answers in
@@ -172,15 +137,11 @@ module _ {F R B O : Type 0} (rules : LockRules F R B O) (opening : LockId → Op
   with_pass done p = if done then events_of by (queue_call (homes_in opening) by (call.Pass p)) ++ past else past
 
   same_sections : (done : Bool) (p : PassCall) → buffer_sections (with_pass done p) ≡ buffer_sections past
-  same_sections false p = refl
-  same_sections true pass.Switch = refl
-  same_sections true other = refl
+  same_sections done p = grind arith
 
   before_pass : (done : Bool) (p : PassCall) → IsLawful (QueueAllowed (lock_kernel rules opening)) (with_pass done p)
       → IsLawful (QueueAllowed (lock_kernel rules opening)) past
-  before_pass false p lawful = lawful
-  before_pass true p lawful =
-      lawful_before (QueueAllowed (lock_kernel rules opening)) (events_of by (queue_call (homes_in opening) by (call.Pass p))) past lawful
+  before_pass done p lawful = grind (arith, lawful_before)
 
 -- who slept owns or sleeps still after a pass, seen by any part
 pub slept_passed : {F R B O : Type 0} (rules : LockRules F R B O) (opening : LockId → Option (QueueBlock (LockState B))) {ActsFor : CpuId → Type 0}

@@ -8,26 +8,12 @@ use Rattle.layer_traits.specs.Threads.Places.{homed}
 homed_more : (c : CpuId) (n : ℕ) (homes : List CpuId) (home : CpuId)
     → homed c n (homes ++ home ∷ []) ≡ (if same_cpu c home then homed c n homes ++ tid_numbered (n + length homes) ∷ [] else homed c n homes)
 homed_more c n [] home = ap (λ k. if same_cpu c home then tid_numbered k ∷ [] else []) (omega arith)
-homed_more c n (x ∷ homes) home = go (same_cpu c x) (same_cpu c home) (homed_more c (n + 1) homes home)
-  where
-    later : n + 1 + length homes ≡ n + length (x ∷ homes)
-    later = omega arith
-
-    go : (here last : Bool) → homed c (n + 1) (homes ++ home ∷ [])
-        ≡ (if last then homed c (n + 1) homes ++ tid_numbered (n + 1 + length homes) ∷ [] else homed c (n + 1) homes)
-        → (if here then tid_numbered n ∷ homed c (n + 1) (homes ++ home ∷ []) else homed c (n + 1) (homes ++ home ∷ []))
-        ≡ (if last then (if here then tid_numbered n ∷ homed c (n + 1) homes else homed c (n + 1) homes) ++ tid_numbered (n + length (x ∷ homes)) ∷ []
-        else (if here then tid_numbered n ∷ homed c (n + 1) homes else homed c (n + 1) homes))
-    go here last is = grind (arith, later)
+homed_more c n (x ∷ homes) home = grind (arith, homed_more c (n + 1) homes home)
 
 -- no thread beyond the homes is among them
 homed_beyond : (c : CpuId) (n : ℕ) (homes : List CpuId) (t : Tid) → n + length homes ≤ t.0 → is_in t (homed c n homes) ≡ false
 homed_beyond c n [] t beyond = refl
-homed_beyond c n (x ∷ homes) t beyond = go (same_cpu c x) (homed_beyond c (n + 1) homes t (omega arith))
-  where
-    go : (here : Bool) → is_in t (homed c (n + 1) homes) ≡ false
-        → is_in t (if here then tid_numbered n ∷ homed c (n + 1) homes else homed c (n + 1) homes) ≡ false
-    go here rest = grind (arith, ne_eqb)
+homed_beyond c n (x ∷ homes) t beyond = grind (arith, ne_eqb, homed_beyond c (n + 1) homes t (omega arith))
 
 -- the loop over the homes: the next thread is not among those before it
 pub next_new : (c : CpuId) (homes : List CpuId) (i : ℕ) → is_in (tid_numbered i) (homed c 0 (take i homes)) ≡ false
@@ -37,8 +23,7 @@ next : (c : CpuId) (homes : List CpuId) (i : ℕ) (d : CpuId) → i < length hom
     → homed c 0 (take (i + 1) homes) ≡ (if b then homed c 0 (take i homes) ++ tid_numbered i ∷ [] else homed c 0 (take i homes))
 next c homes i d within b is =
     let most : 0 + length (take i homes) ≡ i = let so : length (take i homes) ≡ min i (length homes) = length-take i homes in omega (arith, so) in
-    ap (homed c 0) (take_more homes i d within)
-    ∙ (homed_more c 0 (take i homes) (get_or homes i d)
+    ap (homed c 0) (take_more homes i d within) ∙ (homed_more c 0 (take i homes) (get_or homes i d)
     ∙ (λ j. if is j then homed c 0 (take i homes) ++ tid_numbered (most j) ∷ [] else homed c 0 (take i homes)))
 
 -- and joins them, if it is at home here

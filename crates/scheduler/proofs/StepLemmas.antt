@@ -1,20 +1,20 @@
 -- One poll of a scheduler's part: a call that touches nothing shared, a poll that waits, and one that answers. In each what the CPU has of
 -- its own goes on agreeing with the places.
-use Rattle.std.proofs.Common.{◌≡◌, ℕ, zero, suc, ◌<◌, true, false, List, [], ◌∷◌, ◌++◌, Option, Some, None, IsSome, option_map, length, slice_get, refl, ap}
-use Rattle.std.proofs.{Common.{sym, ◌∙◌, subst, subst₂, arith}, lemmas.Option.same_Some}
+use Rattle.std.proofs.Common.{◌≡◌, ℕ, zero, suc, ◌<◌, true, false, List, [], ◌∷◌, ◌++◌, Option, Some, None, IsSome, length, slice_get, refl, ap}
+use Rattle.std.proofs.{Common.{sym, ◌∙◌, subst, arith}, lemmas.Option.same_Some}
 use Rattle.event_log.specs.{declared.ids.{BufId.BufId, CpuId.CpuId, LockId.{LockId, TheVariants.Buffer}, Tid.Tid, TheConstants.THREADS}, History.AreOthers}
 use Rattle.{event_log.specs.History.{Grows, IsLawful, same_cpu}, layer_traits.specs.declared.passes.Pass.TheVariants.{Switch, MakeReady, End}}
 use Rattle.layer_traits.specs.declared.{queue_edits.{QueueBlock.QueueBlock, QueueAnswer.QueueAnswer}, queues.QueueCall.{QueueCall, TheVariants.{Push, TakeAll}}}
 use Rattle.layer_traits.specs.declared.{queues.{QueueCall.TheVariants.OnBuffer, QueueEvent.QueueEvent}, scheds.SchedAnswer.TheVariants.Done}
-use Rattle.layer_traits.specs.{declared.scheds.SchedCall.SchedCall, Threads.{MoveRules.{MoveRules, WakesSleepers, edit_move}, Passes.{or_else, queue_for}}}
-use Rattle.layer_traits.specs.Threads.Places.{AreMoves, Where, MayEditFor, MayMove, Stands, Threads, home_of, is_asleep, is_home, pending_by, step_with}
-use Rattle.layer_traits.specs.{Threads.Places.where_is, Polling.Plans.answered, Protocols.Protocol.{Rules, section}, Blocks.QueueBlocks.{StartsWell, homes_in}}
-use Rattle.layer_traits.specs.Layers.Queues.{CallAllowed, Kernel, buffer_sections, MayQueue, QueueAllowed, QueuePolled, answer_of, call_move, event}
+use Rattle.layer_traits.specs.{declared.scheds.SchedCall.SchedCall, Threads.{MoveRules.{MoveRules, WakesSleepers}, Passes.{or_else, queue_for}}}
+use Rattle.layer_traits.specs.Threads.Places.{AreMoves, Where, MayEditFor, Stands, Threads, home_of, is_asleep, is_home, pending_by}
+use Rattle.layer_traits.specs.{Threads.Places.where_is, Protocols.Protocol.{Rules, section}, Blocks.QueueBlocks.{StartsWell, homes_in}}
+use Rattle.layer_traits.specs.Layers.Queues.{CallAllowed, Kernel, buffer_sections, MayQueue, QueueAllowed, QueuePolled, answer_of, event}
 use Rattle.layer_traits.specs.Layers.{Queues.{cpu_of_queue_event, kernel, lock_of, moves_in, out_at}, Scheds.{BufferIsThere, EditStays, MaySched, SchedPolled}}
 use Rattle.layer_traits.{specs.Layers.Scheds.{StateFor, answer_by, answer_to, events_of, own_after, own_by, queue_call}, proofs.CallLemmas.moves_append}
 use Rattle.layer_traits.proofs.{CallLemmas.{moves_lawful, moves_others, moves_over, woken_sleeps}, CountLemmas.not_counted, PlaceLemmas.{away_from, away_known}}
 use Rattle.layer_traits.proofs.PlaceLemmas.{current_at, current_new, hand_free, hand_at, pending_at, stands_finished, stands_moved, stands_others}
-use Rattle.{layer_traits.proofs.PlaceLemmas.{stands_pushed, stands_switched, stands_taken, home_there}, scheduler.specs.Owns.{MayFinish, MayJoin, MaySettle}}
+use Rattle.{layer_traits.proofs.PlaceLemmas.{stands_pushed, stands_switched, stands_taken, home_there}, scheduler.specs.Owns.{MayFinish, MaySettle}}
 use Rattle.scheduler.specs.{Owns.{MayTake, local_after}, Parts.{IsCalling, SchedPartFits, UnderFits, sched_call, sched_under}}
 use Rattle.layer_traits.specs.declared.queue_edits.QueueAnswer.TheVariants as told
 use Rattle.layer_traits.specs.declared.scheds.SchedCall.TheVariants as call
@@ -57,10 +57,8 @@ module _ {E B O : Type 0} (rules : Rules E B O) (mv : MoveRules E O) (opening : 
   UpperNow c past (call.OnBuffer b e) = rules.allowed K.opening (buffer_sections past) (section c (Buffer b) e)
 
   upper_stays : (c : CpuId) (past more : List (QueueEvent E)) (s : SchedCall E) → EditStays K c past s → AreOthers cpu_of_queue_event c more
-      → Lawful (more ++ past)
-      → UpperNow c (more ++ past) s
-  upper_stays c past more (call.Pass p) stays others lawful = tt
-  upper_stays c past more (call.OnBuffer b e) stays others lawful = stays more others lawful
+      → Lawful (more ++ past) → UpperNow c (more ++ past) s
+  upper_stays c past more s given given' lawful = grind arith
 
   module _ (c : CpuId) (past : List (QueueEvent E)) (own : Threads) (lawful : Lawful past) (stands : Stands H c (moves_in K past) own) where
     moves : AreMoves H (moves_in K past)
@@ -98,16 +96,14 @@ module _ {E B O : Type 0} (rules : Rules E B O) (mv : MoveRules E O) (opening : 
       → Stands H c (moves_in K past) own → Stands H c (moves_in K (more ++ past)) own
   stands_on c more past own others lawful stands =
       let joined = moves_append K more past in
-      subst (λ l. Stands H c l own) (sym joined)
-      (stands_others H c (moves_over K more past) (moves_in K past) own (moves_others K c more past others)
+      rw joined (stands_others H c (moves_over K more past) (moves_in K past) own (moves_others K c more past others)
       (subst (AreMoves H) joined (moves_lawful K wakes (more ++ past) lawful)) stands)
 
   module _ {c below : CpuId} {table : List CpuId} {under : Option (QueueEvent E)} {past : List (QueueEvent E)} {own : Threads} (lawful : Lawful past)
       (fits : SchedPartFits rules mv opening c below table under past own) (s : SchedCall E)
       (may : MaySched K c past own (sched_under under own.current) s) where
     state_of : (o : Option (QueueEvent E)) → UnderFits mv H c o own → MaySched K c past own (sched_under o own.current) s → StateFor mv s own
-    state_of None calls may = may.0
-    state_of (Some e) calls may = subst (λ x. StateFor mv x own) may calls.state
+    state_of o calls may = grind arith
 
     -- what the CPU has of its own lets the call come, at each of its polls
     pub state : StateFor mv s own
@@ -154,13 +150,10 @@ module _ {E B O : Type 0} (rules : Rules E B O) (mv : MoveRules E O) (opening : 
       }
         where
           after : (s : SchedCall E) → queue_call H c s ≡ None → local_after s own ≡ own_after K c past s own
-          after (call.Pass Switch) none = refl
-          after (call.Pass End) none = refl
-          after other none = absurd cc
+          after s none = grind arith
 
           answers : (s : SchedCall E) → queue_call H c s ≡ None → answer_to K past s ≡ Some Done
-          answers (call.OnBuffer b e) none = absurd cc
-          answers other none = refl
+          answers s none = grind arith
 
     -- A call that is one at the shared queues.
 
@@ -172,8 +165,7 @@ module _ {E B O : Type 0} (rules : Rules E B O) (mv : MoveRules E O) (opening : 
         cpu = same ∙ fits.cpu;
         homes = fits.homes;
         queue = fits.queue;
-        stands = subst (λ l. Stands H c (moves_in K l) own) (sym polled.is)
-            (stands_on c polled.others past own (polled.foreign c acts) (subst Lawful polled.is legal) fits.stands);
+        stands = rw polled.is (stands_on c polled.others past own (polled.foreign c acts) (subst Lawful polled.is legal) fits.stands);
         calls = subst (λ o. UnderFits mv H c o own) (sym goes) calling;
       }
         where
@@ -191,12 +183,7 @@ module _ {E B O : Type 0} (rules : Rules E B O) (mv : MoveRules E O) (opening : 
 
         -- the answer of an edit
         edit_out : (b : BufId) (e : E) → q ≡ OnBuffer b e → (o : O) × (out_at K before b e ≡ Some o) × (answer ≡ told.Answer o)
-        edit_out b e edits = go (out_at K before b e) refl (subst (λ x. answer_of K before x ≡ Some answer) edits answers)
-          where
-            go : (out : Option O) → out_at K before b e ≡ out → option_map told.Answer out ≡ Some answer
-                → (o : O) × (out_at K before b e ≡ Some o) × (answer ≡ told.Answer o)
-            go None is answered = absurd cc
-            go (Some o) is answered = (o, is, sym (same_Some (told.Answer o) answer answered))
+        edit_out b e edits = grind arith
 
         -- who was woken is away from home, and one of the threads that a machine may have
         settles : (b : BufId) (e : E) → q ≡ OnBuffer b e → (o : O) → out_at K before b e ≡ Some o → MaySettle (mv.woke o) own
@@ -206,54 +193,40 @@ module _ {E B O : Type 0} (rules : Rules E B O) (mv : MoveRules E O) (opening : 
             let home = home_there c (home_of H u) (away_known H (moves_in K before) u legal_moves away) in
             (known u (or_else c (home_of H u)) home, not_counted u own.ready (away_from H c (moves_in K before) own legal_moves stands_so u away))
 
+        -- a taking answers the pending queue
+        all_taken : q ≡ TakeAll c → told.Taken (pending_by (moves_in K before) c) ≡ answer
+        all_taken takes = same_Some (told.Taken (pending_by (moves_in K before) c)) answer (subst (λ x. answer_of K before x ≡ Some answer) takes answers)
+
         may_take_by : (x : QueueCall E) → q ≡ x → MayTake mv answer own
         may_take_by (Push d t) pushes = grind (arith, same_Some)
         may_take_by (TakeAll d) takes =
             let mine : d ≡ c = subst (CallAllowed K before c) takes legal.0 in
-            let all : told.Taken (pending_by (moves_in K before) d) ≡ answer =
-            same_Some (told.Taken (pending_by (moves_in K before) d)) answer (subst (λ x. answer_of K before x ≡ Some answer) takes answers) in
-            let joins : MayJoin (pending_by (moves_in K before) c) own = (
+            rw (← all_taken (takes ∙ ap TakeAll mine)) (
               λ t there. (pending_at H c (moves_in K before) own legal_moves stands_so t there).1,
               λ t runs. (
                 known t c (current_at H c (moves_in K before) own legal_moves stands_so t runs).0,
                 current_new H c (moves_in K before) own legal_moves stands_so t runs,
               ),
-            ) in
-            subst (λ a. MayTake mv a own) all (subst (λ x. MayJoin (pending_by (moves_in K before) x) own) (sym mine) joins)
-        may_take_by (OnBuffer b e) edits =
-            let out = edit_out b e edits in
-            subst (λ a. MayTake mv a own) (sym out.2) (settles b e edits out.0 out.1)
-
-        -- a taking answers the pending queue
-        all_taken : q ≡ TakeAll c → told.Taken (pending_by (moves_in K before) c) ≡ answer
-        all_taken takes = same_Some (told.Taken (pending_by (moves_in K before) c)) answer (subst (λ x. answer_of K before x ≡ Some answer) takes answers)
+            )
+        may_take_by (OnBuffer b e) edits = let out = edit_out b e edits in rw out.2 (settles b e edits out.0 out.1)
 
         pushed_done : (d : CpuId) (t : Tid) → q ≡ Push d t → told.Done ≡ answer
         pushed_done d t pushes = same_Some told.Done answer (subst (λ x. answer_of K before x ≡ Some answer) pushes answers)
 
         -- what the answer leaves agrees with the places after the call
         taken_stands : q ≡ TakeAll c → Stands H c (moves_in K (event c q ∷ before)) (own_by mv H c answer own)
-        taken_stands takes =
-            subst₂ (λ x a. Stands H c (step_with c (call_move K before x) ∷ moves_in K before) (own_by mv H c a own)) (sym takes) (all_taken takes)
-            (stands_taken H c (moves_in K before) own legal_moves stands_so)
+        taken_stands takes = rw (takes, ← all_taken takes) (stands_taken H c (moves_in K before) own legal_moves stands_so)
 
         pushed_stands : (d : CpuId) (t : Tid) → own.hand ≡ Some t → q ≡ Push d t → Stands H c (moves_in K (event c q ∷ before)) (own_by mv H c answer own)
-        pushed_stands d t held pushes = subst₂ (λ x a. Stands H c (step_with c (call_move K before x) ∷ moves_in K before) (own_by mv H c a own)) (sym pushes)
-            (pushed_done d t pushes)
-            (stands_pushed H c (moves_in K before) own legal_moves stands_so d t held)
+        pushed_stands d t held pushes = rw (pushes, ← pushed_done d t pushes) (stands_pushed H c (moves_in K before) own legal_moves stands_so d t held)
 
         edited_stands : (b : BufId) (e : E) → own.current ≡ Some (mv.caller e) → own.hand ≡ None → q ≡ OnBuffer b e
             → Stands H c (moves_in K (event c q ∷ before)) (own_by mv H c answer own)
         edited_stands b e runs empty edits =
             let out = edit_out b e edits in
-            let all = moves_lawful K wakes (event c q ∷ before) legal in
-            let may : MayMove H (moves_in K before) c (edit_move mv (Buffer b) e (out_at K before b e)) =
-            subst (λ x. MayMove H (moves_in K before) c (call_move K before x)) edits all.0 in
-            let moved = stands_moved H c (moves_in K before) own legal_moves stands_so (Buffer b) (mv.caller e) (mv.slept out.0) (mv.woke out.0)
-            (subst (λ o. MayMove H (moves_in K before) c (edit_move mv (Buffer b) e o)) out.1 may) runs empty in
-            let here : Stands H c (step_with c (edit_move mv (Buffer b) e (out_at K before b e)) ∷ moves_in K before) (own_by mv H c (told.Answer out.0) own) =
-            subst (λ o. Stands H c (step_with c (edit_move mv (Buffer b) e o) ∷ moves_in K before) (own_by mv H c (told.Answer out.0) own)) (sym out.1) moved in
-            subst₂ (λ x a. Stands H c (step_with c (call_move K before x) ∷ moves_in K before) (own_by mv H c a own)) (sym edits) (sym out.2) here
+            let may = rw (edits, out.1) at (moves_lawful K wakes (event c q ∷ before) legal).0 in
+            rw (edits, out.2, out.1) (stands_moved H c (moves_in K before) own legal_moves stands_so (Buffer b) (mv.caller e) (mv.slept out.0) (mv.woke out.0)
+            may runs empty)
 
         done_stands : (s : SchedCall E) → StateFor mv s own → queue_call H c s ≡ Some q
             → Stands H c (moves_in K (event c q ∷ before)) (own_by mv H c answer own)
@@ -294,8 +267,7 @@ module _ {E B O : Type 0} (rules : Rules E B O) (mv : MoveRules E O) (opening : 
           cpu = same ∙ fits.cpu;
           homes = fits.homes;
           queue = fits.queue;
-          stands = subst (λ l. Stands H c (moves_in K l) (own_by mv H c answer own)) (sym last)
-              (done_stands answer joined legal_last stands_before polled.answers s state is);
+          stands = rw last (done_stands answer joined legal_last stands_before polled.answers s state is);
           calls = subst (λ o. UnderFits mv H c o (own_by mv H c answer own)) (sym ends) tt;
         }
 
@@ -313,9 +285,8 @@ module _ {E B O : Type 0} (rules : Rules E B O) (mv : MoveRules E O) (opening : 
 
   -- what others do keeps a part in agreement with the machine
   grown_fits : {d below : CpuId} {table : List CpuId} {under : Option (QueueEvent E)} {past : List (QueueEvent E)} {own : Threads}
-      (more new : List (QueueEvent E))
-      → AreOthers cpu_of_queue_event d more → new ≡ more ++ past → Lawful new → SchedPartFits rules mv opening d below table under past own
-      → SchedPartFits rules mv opening d below table under new own
+      (more new : List (QueueEvent E)) → AreOthers cpu_of_queue_event d more → new ≡ more ++ past → Lawful new
+      → SchedPartFits rules mv opening d below table under past own → SchedPartFits rules mv opening d below table under new own
   grown_fits {d} {past = past} {own = own} more new others is legal fits = record {
     cpu = fits.cpu;
     homes = fits.homes;
@@ -339,5 +310,4 @@ module _ {E B O : Type 0} (rules : Rules E B O) (mv : MoveRules E O) (opening : 
       {past new : List (QueueEvent E)} {own : Threads} → Grows ActsFor cpu_of_queue_event past new → ActsFor d → Lawful new → below' ≡ below → under' ≡ under
       → SchedPartFits rules mv opening d below table under past own → SchedPartFits rules mv opening d below' table under' new own
   looked_fits {d = d} {table = table} {new = new} {own = own} grows acts legal same goes fits =
-      subst₂ (λ x u. SchedPartFits rules mv opening d x table u new own) (sym same) (sym goes)
-      (grown_fits grows.others new (grows.foreign d acts) grows.is legal fits)
+      rw (same, goes) (grown_fits grows.others new (grows.foreign d acts) grows.is legal fits)

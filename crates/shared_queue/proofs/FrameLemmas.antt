@@ -1,5 +1,6 @@
 -- What a poll or a look of the locks beneath leaves, shared queues leave: they keep nothing of their own.
-use Rattle.std.proofs.Common.{◌≡◌, ℕ, Bool, true, false, List, Option, Some, None, if◌then◌else◌, sym, subst}
+use Rattle.std.proofs.Common.{arith}
+use Rattle.std.proofs.Common.{◌≡◌, ℕ, Bool, List, Option, Some, None, if◌then◌else◌, sym, subst}
 use Rattle.{event_log.specs.{declared.ids.{CpuId.CpuId, LockId.LockId}, Sections.Section}, layer_traits.specs.declared.queue_edits.QueueBlock.QueueBlock}
 use Rattle.layer_traits.specs.{declared.{queue_edits.QueueEdit.QueueEdit, queues.QueueCall.QueueCall}, Polling.Framed.Framed, Protocols.Protocol.section}
 use Rattle.layer_traits.specs.{Blocks.{QueueBlocks.StartsWell, QueueRules.IsProperCall}, Layers.Queues.{queue_edit_of, lock_of}}
@@ -8,8 +9,7 @@ use Rattle.layer_traits.proofs.NestedLemmas.{proper_of}
 -- the section that a poll leaves under way is that of its call
 pub call_proper : {E : Type 0} (cpu : CpuId) (call : QueueCall E) (ends : Bool) (under : Option (Section (QueueEdit E)))
     → under ≡ (if ends then None else Some (section cpu (lock_of call) (queue_edit_of call))) → IsProperCall under
-call_proper cpu call true under is = subst IsProperCall (sym is) tt
-call_proper cpu call false under is = subst IsProperCall (sym is) (proper_of call)
+call_proper cpu call ends under is = grind (arith, proper_of)
 
 pub frame_raised : {P Q M B E : Type 0} {below : Q → P} {Fits : P → M → Type 0} {cpu_of : P → CpuId} (opening : M → LockId → Option (QueueBlock B))
     (under_way : P → Option (Section (QueueEdit E))) {site : M → List ℕ} {room : M → ℕ} {ActsFor MayHold : M → CpuId → Type 0} {old new : Q} {m n : M}

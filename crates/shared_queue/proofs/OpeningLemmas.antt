@@ -1,16 +1,15 @@
 -- The locks with which shared queues open are distinct, and each opens with its block.
-use Rattle.std.proofs.Common.{◌≡◌, ◌≢◌, ◌≤◌, ◌<◌, ℕ, zero, suc, ◌+◌, Bool, true, false, All, List, [], ◌∷◌, ◌++◌, length, Option, Some, None, IsSome}
-use Rattle.std.proofs.{Common.{if◌then◌else◌, refl, ap, sym, ◌∙◌, subst, arith, append-nil, slice_get, ◌==◌}, lemmas.Bool.{eq-eqb, eqb-false, ne_eqb}}
+use Rattle.std.proofs.Common.{◌≡◌, ◌≤◌, ◌<◌, ℕ, zero, suc, ◌+◌, All, List, [], ◌∷◌, ◌++◌, length, Option, Some, None, IsSome}
+use Rattle.std.proofs.{Common.{if◌then◌else◌, refl, ap, sym, ◌∙◌, subst, arith, append-nil, slice_get}, lemmas.Bool.{eq-eqb, eqb-false, ne_eqb}}
 use Rattle.std.proofs.lemmas.Option.{get_or_from_slice_get, slice_get_within}
 use Rattle.event_log.specs.{declared.ids.{BufId.BufId, CpuId.CpuId, LockId.{LockId, TheVariants.{Pending, Buffer}}, TheConstants.THREADS}, History.same_lock}
-use Rattle.{event_log.proofs.Same.same_lock_true, layer_traits.specs.declared.queue_edits.QueueBlock.{QueueBlock, TheVariants.{Queue, Above}}}
+use Rattle.{event_log.proofs.Same.same_lock_true, layer_traits.specs.declared.queue_edits.QueueBlock.{QueueBlock}}
 use Rattle.layer_traits.specs.{Protocols.OneLock.{AreDistinct, IsMissing, opened}, Threads.Places.home_of, Blocks.QueueBlocks.{StartsAs, StartsWell, above_of}}
 use Rattle.{layer_traits.specs.Blocks.QueueBlocks.{homes_in, homes_of, inner}, shared_queue.specs.Opening.{AreEmptyQueues, AreQueues, IsEmptyQueue}}
 use Rattle.shared_queue.specs.Opening.{buffers_from}
 
 each_within : (n : ℕ) (homes : List CpuId) (i : ℕ) (home : CpuId) → All (λ h. h.0 < n) homes → slice_get homes i ≡ Some home → home.0 < n
-each_within n homes i home within at =
-    subst (λ c. c.0 < n) (get_or_from_slice_get homes i home home at) (within i home (slice_get_within homes i home at))
+each_within n homes i home within at = grind (arith, get_or_from_slice_get, slice_get_within)
 
 module _ {B : Type 0} (homes : List CpuId) where
   -- one queue more
@@ -34,56 +33,35 @@ module _ {B : Type 0} (homes : List CpuId) where
   queue_opens : (n : ℕ) (locks more : List (LockId × QueueBlock B)) → AreEmptyQueues homes n locks → (c : CpuId) → n ≤ c.0 → c.0 < n + length locks
       → OpensEmpty (opened (locks ++ more) (Pending c))
   queue_opens n [] more are c from below = absurd (omega (arith, from, below))
-  queue_opens n (o ∷ locks) more are c from below =
-      go (n == c.0) refl (λ other. queue_opens (n + 1) locks more are.2 c (omega (arith, from, other)) (omega (arith, below)))
-    where
-      at : same_lock o.0 (Pending c) ≡ (n == c.0)
-      at = ap (λ lock. same_lock lock (Pending c)) are.0
-
-      go : (b : Bool) → (n == c.0) ≡ b → (n ≢ c.0 → OpensEmpty (opened (locks ++ more) (Pending c)))
-          → OpensEmpty (if same_lock o.0 (Pending c) then Some o.1 else opened (locks ++ more) (Pending c))
-      go true is further = subst (λ b. OpensEmpty (if b then Some o.1 else opened (locks ++ more) (Pending c))) (sym (at ∙ is)) are.1
-      go false is further =
-          subst (λ b. OpensEmpty (if b then Some o.1 else opened (locks ++ more) (Pending c))) (sym (at ∙ is)) (further (eqb-false n c.0 is))
+  queue_opens n (o ∷ locks) more are c from below = grind (arith, eqb-false, queue_opens (n + 1) locks more are.2 c)
 
   -- each lock opens with a block of its kind
   more_kinds : (o : LockId × QueueBlock B) (opens : LockId → Option (QueueBlock B)) → StartsAs o.0 (Some o.1) → ((lock : LockId) → StartsAs lock (opens lock))
       → (lock : LockId) → StartsAs lock (if same_lock o.0 lock then Some o.1 else opens lock)
-  more_kinds o opens kind kinds lock = go (same_lock o.0 lock) refl
-    where
-      go : (b : Bool) → same_lock o.0 lock ≡ b → StartsAs lock (if b then Some o.1 else opens lock)
-      go true same = subst (λ at. StartsAs at (Some o.1)) (same_lock_true o.0 lock same) kind
-      go false other = kinds lock
+  more_kinds o opens kind kinds lock = grind (arith, same_lock_true)
 
   empty_kind : (n : ℕ) (lock : LockId) (block : QueueBlock B) → lock ≡ Pending (record { 0 = n }) → IsEmptyQueue homes block → StartsAs lock (Some block)
-  empty_kind n lock (Queue queue told) at empty = subst (λ l. StartsAs {B = B} l (Some (Queue queue told))) (sym at) empty.0
-  empty_kind n lock (Above block) at empty = absurd empty
+  empty_kind n lock block at empty = grind arith
 
   queue_kinds : (n : ℕ) (locks more : List (LockId × QueueBlock B)) → AreEmptyQueues homes n locks → ((lock : LockId) → StartsAs lock (opened more lock))
       → (lock : LockId) → StartsAs lock (opened (locks ++ more) lock)
   queue_kinds n [] more are kinds = kinds
-  queue_kinds n (o ∷ locks) more are kinds = more_kinds o (opened (locks ++ more)) (empty_kind n o.0 o.1 are.0 are.1)
-      (queue_kinds (n + 1) locks more are.2 kinds)
+  queue_kinds n (o ∷ locks) more are kinds = grind (arith, more_kinds, empty_kind, queue_kinds (n + 1) locks more are.2 kinds)
 
   buffer_kinds : (n : ℕ) (blocks : List B) (lock : LockId) → StartsAs lock (opened (buffers_from n blocks) lock)
   buffer_kinds n [] lock = tt
-  buffer_kinds n (block ∷ blocks) lock = more_kinds (Buffer (record { 0 = n }), Above block) (opened (buffers_from (n + 1) blocks)) tt
-      (buffer_kinds (n + 1) blocks) lock
+  buffer_kinds n (block ∷ blocks) lock = grind (arith, more_kinds, buffer_kinds (n + 1) blocks)
 
   -- a buffer opens with the block in its place
   past_queues : (n : ℕ) (locks more : List (LockId × QueueBlock B)) → AreEmptyQueues homes n locks → (b : BufId)
       → opened (locks ++ more) (Buffer b) ≡ opened more (Buffer b)
   past_queues n [] more are b = refl
-  past_queues n (o ∷ locks) more are b =
-      ap (λ lock. if same_lock lock (Buffer b) then Some o.1 else opened (locks ++ more) (Buffer b)) are.0 ∙ past_queues (n + 1) locks more are.2 b
+  past_queues n (o ∷ locks) more are b = grind (arith, past_queues (n + 1) locks more are.2 b)
 
   buffer_opens : (n : ℕ) (blocks : List B) (b : BufId) (i : ℕ) → b.0 ≡ n + i → above_of (opened (buffers_from n blocks) (Buffer b)) ≡ slice_get blocks i
   buffer_opens n [] b i at = refl
-  buffer_opens n (block ∷ blocks) b zero at =
-      ap (λ x. above_of (if x then Some (Above block) else opened (buffers_from (n + 1) blocks) (Buffer b))) (eq-eqb n b.0 (omega (arith, at)))
-  buffer_opens n (block ∷ blocks) b (suc i) at =
-      ap (λ x. above_of (if x then Some (Above block) else opened (buffers_from (n + 1) blocks) (Buffer b))) (ne_eqb n b.0 (λ e. absurd (omega (arith, at, e))))
-      ∙ buffer_opens (n + 1) blocks b i (omega (arith, at))
+  buffer_opens n (block ∷ blocks) b zero at = grind (arith, eq-eqb)
+  buffer_opens n (block ∷ blocks) b (suc i) at = grind (arith, ne_eqb, buffer_opens (n + 1) blocks b i)
 
   -- No lock stands twice.
 
@@ -93,10 +71,7 @@ module _ {B : Type 0} (homes : List CpuId) where
 
   queue_missing : (k n : ℕ) (locks : List (LockId × QueueBlock B)) → AreEmptyQueues homes n locks → k < n → IsMissing (Pending (record { 0 = k })) locks
   queue_missing k n [] are less = tt
-  queue_missing k n (o ∷ locks) are less = (
-    ap (same_lock (Pending (record { 0 = k }))) are.0 ∙ ne_eqb k n (λ e. absurd (omega (arith, less, e))),
-    queue_missing k (n + 1) locks are.2 (omega (arith, less)),
-  )
+  queue_missing k n (o ∷ locks) are less = grind (arith, ne_eqb, queue_missing k (n + 1) locks are.2 (omega (arith, less)))
 
   no_queue : (k n : ℕ) (blocks : List B) → IsMissing (Pending (record { 0 = k })) (buffers_from n blocks)
   no_queue k n [] = tt
@@ -127,13 +102,10 @@ module _ {B : Type 0} (homes : List CpuId) where
     queue_there c less = queue_opens 0 locks (buffers_from 0 blocks) are c (omega arith) (omega (arith, less))
 
     is_there : (found : Option (QueueBlock B)) → OpensEmpty found → IsSome found
-    is_there None empty = absurd empty
-    is_there (Some block) empty = refl
+    is_there found empty = grind arith
 
     tells : (found : Option (QueueBlock B)) → OpensEmpty found → homes_of found ≡ homes
-    tells None empty = absurd empty
-    tells (Some (Queue queue told)) empty = empty.1
-    tells (Some (Above block)) empty = absurd empty
+    tells found empty = grind arith
 
     pub queues_there : (c : CpuId) → c.0 < length locks → IsSome (opened (locks ++ buffers_from 0 blocks) (Pending c))
     queues_there c less = is_there (opened (locks ++ buffers_from 0 blocks) (Pending c)) (queue_there c less)

@@ -24,27 +24,23 @@ nobody_beneath opening nobody lock line = ap (wait_list_at line) (sym (inner_vie
 -- a part at boot keeps nothing
 pub fresh_deferred : {E : Type 0} (O : Type 0) (under : Option (SchedCall (SleepEdit E))) (hand : Option Tid) → under ≡ None
     → SectionDeferredFits {E = E} {O = O} None under hand
-fresh_deferred O None hand none = tt
-fresh_deferred O (Some s) hand none = absurd cc
+fresh_deferred O under hand none = grind arith
 
 -- an outcome is kept exactly while a thread stands in the hand, where a section may be polled
-pub hand_defers : {E O : Type 0} (deferred : Option (Deferred E O)) (under : Option (SchedCall (SleepEdit E))) (hand : Option Tid) (b : BufId)
-    (e : E) (duty : Type 0)
-    → SectionDeferredFits deferred under hand
-    → MayCall (under_of deferred under) (call.OnBuffer b e) duty → (duty → hand ≡ None) → HandDefers hand (outcome_in deferred)
+pub hand_defers : {E O : Type 0} (deferred : Option (Deferred E O)) (under : Option (SchedCall (SleepEdit E))) (hand : Option Tid) (b : BufId) (e : E)
+    (duty : Type 0) → SectionDeferredFits deferred under hand → MayCall (under_of deferred under) (call.OnBuffer b e) duty → (duty → hand ≡ None)
+    → HandDefers hand (outcome_in deferred)
 hand_defers deferred under hand b e duty fits may empty = grind arith
 
 -- the scheduler's answer to a call that is passed on tells no more than that it is done
 pub done_is : {O : Type 0} (answer : Option (SchedAnswer (Outcome O))) → ((a : SchedAnswer (Outcome O)) → answer ≡ Some a → a ≡ Done)
     → done_if (done_of answer) ≡ answer
-done_is None only = refl
-done_is (Some a) only = ap Some (sym (only a refl))
+done_is answer only = grind arith
 
 -- whether it is done does not depend on what its answer tells
 pub done_told : {B O : Type 0} (told : SchedAnswer B → Payload → SchedAnswer O) (answer : Option (SchedAnswer B)) (payload : Payload)
     → done_of answer ≡ done_of (told_by told answer payload)
-done_told told None payload = refl
-done_told told (Some a) payload = refl
+done_told told answer payload = grind arith
 
 -- what is kept and answered is what the scheduler's answer tells
 pub reported_is : {E B O : Type 0} (told : B → Parcel → O) (deferred : Option (DeferredOutcome E B)) (threads : Threads) (b : BufId) (e : E)
@@ -55,8 +51,7 @@ pub reported_is : {E B O : Type 0} (told : B → Parcel → O) (deferred : Optio
     → left_reported (outcome_in (option_map (deferred_told told) deferred)) threads (Some (sched_told (nested_told told) answer payload))
     ≡ record { own = own_of (option_map (deferred_told told) deferred') threads; answer = told_by (nested_told told) result payload' }
 reported_is {E = E} {B = B} {O = O} told deferred threads b e answer payload payload' hand deferred' result in_hand keeps gives brings =
-    by_answer deferred answer
-    ∙ ((λ i. leaves deferred answer (sym in_hand i))
+    by_answer deferred answer ∙ ((λ i. leaves deferred answer (sym in_hand i))
     ∙ λ i. record {
       own = own_of (option_map (deferred_told told) (sym keeps i)) threads;
       answer = option_map (λ o. outcome_told told o (sym brings i)) (sym gives i);
@@ -82,18 +77,13 @@ module _ {E B O : Type 0} (rules : SleepRules E B O) (opening : LockId → Optio
         → MayCall (under_of deferred under) (call.OnBuffer b e) (MaySleep (here rules opening) c (renamed_events slept_edit past) threads b e)
         → MaySched (beneath rules opening) c past threads under (due hand b (as_edit e))
     nested_may None None None is fits may = ((may.current, may.hand), nested_stays rules opening c past threads b e starts lawful nobody stands may)
-    nested_may None None (Some t) is fits may = let none = may.hand in absurd cc
-    nested_may None (Some (call.Pass p)) hand is fits may = absurd cc
     nested_may None (Some (call.OnBuffer at d)) None is fits may = ap (renamed_sched as_edit) may
-    nested_may None (Some (call.OnBuffer at d)) (Some t) is fits may = absurd cc
-    nested_may (Some k) None None is fits may = absurd fits
-    nested_may (Some k) (Some under) None is fits may = absurd fits
     nested_may (Some k) None (Some t) is fits may = (sym is, tt)
     nested_may (Some k) (Some under) (Some t) is fits may = fits
+    nested_may deferred under hand is fits may = absurd (grind arith)
 
   due_renamed : (hand : Option Tid) (b : BufId) (e : E) → renamed_sched slept_edit (due hand b (as_edit e)) ≡ due hand b e
-  due_renamed None b e = refl
-  due_renamed (Some t) b e = refl
+  due_renamed hand b e = grind arith
 
   module _ (ActsFor : CpuId → Type 0) (c : CpuId) (answer : Option (SchedAnswer (Outcome O))) (old new : List (QueueEvent (SleepEdit E)))
       (threads threads' : Threads) where
@@ -122,8 +112,7 @@ module _ {E B O : Type 0} (rules : SleepRules E B O) (opening : LockId → Optio
         (nested_polled (call.Pass p) polled)
       where
         only : (r : Option (SchedAnswer (Outcome O))) → Polled (call.Pass p) r → (a : SchedAnswer (Outcome O)) → r ≡ Some a → a ≡ Done
-        only None told a is = absurd cc
-        only (Some b) told a is = let done = told.answers in cc
+        only r told a is = grind arith
 
   module _ (ActsFor : CpuId → Type 0) (c : CpuId) (acts acts' : List (Action (QueueEdit (SleepEdit E)))) where
     -- a poll followed a plan beneath
@@ -155,9 +144,8 @@ module _ {E B O : Type 0} (rules : SleepRules E B O) (opening : LockId → Optio
           → FollowsHere (sleep_plan (sleep_moves rules) (homes_in (viewed state_of opening)) c b e (own_of deferred threads))
           (left_reported (outcome_in deferred) threads' answer)
       nested_sleep_follows b e hand is follows = follows_raised _ _ _ _ (λ l. left_reported (outcome_in deferred) l.own l.answer)
-          (plan_here (due threads.hand b e)) _ _ (sched_left threads' answer)
-          (subst (λ s. FollowsHere (plan_here s) (sched_left threads' answer)) (due_renamed hand b e ∙ ap (λ h. due h b e) is)
-          (nested_follows (due hand b (as_edit e)) follows))
+          (plan_here (due threads.hand b e)) _ _ (sched_left threads' answer) (subst (λ s. FollowsHere (plan_here s) (sched_left threads' answer))
+          (due_renamed hand b e ∙ ap (λ h. due h b e) is) (nested_follows (due hand b (as_edit e)) follows))
 
       pub nested_pass_follows : (p : Pass) (result : Option (Unit {0})) → result ≡ done_of answer
           → FollowsBeneath (sched_plan (nested_moves rules) (homes_in opening) c (call.Pass p) threads) (sched_left threads' answer)

@@ -1,4 +1,5 @@
 -- The laws of the layer, by those of the layer beneath: the same history, threads and waiting lists under the layer's own names.
+use Rattle.std.proofs.Common.{arith}
 use Rattle.std.proofs.{Common.{◌≡◌, Bool, List, [], ◌∷◌, Option, Some, None, option_map, map, refl, ap, sym, ◌∙◌, subst}, Math.Path.transport}
 use Rattle.event_log.specs.{declared.ids.{CpuId.CpuId, LockId.LockId}, History.IsLawful, Actions.{Action, phase, renamed}, Sections.{Section, block_after}}
 use Rattle.{event_log.{specs.Sections.renamed_section, proofs.Renaming.phase_renamed}, layer_traits.specs.declared.locked.{QEdit.QEdit, QOut.QOut}}
@@ -27,8 +28,7 @@ module _ {F R B O : Type 0} (rules : LockRules F R B O) (opening : LockId → Op
   pub allowed_here : (past : List (Section (QLockEdit F R))) (s : Section (QLockEdit F R))
       → LockAllowed rules (locks (inner opening)) (map (renamed_section lock_call) past) (renamed_section lock_call s)
       → LockAllowed rules (inner (viewed nested_lock_of opening)) (map (renamed_section lock_call) past) (renamed_section lock_call s)
-  allowed_here past s allowed =
-      subst (λ o. LockAllowed rules o (map (renamed_section lock_call) past) (renamed_section lock_call s)) (sym inner_locks) allowed
+  allowed_here past s allowed = rw inner_locks allowed
 
   pub locks_wrap : Wraps beneath_the_lock at_the_lock lock_call nested_lock_of
   locks_wrap = record {
@@ -67,19 +67,13 @@ module _ {F R B O : Type 0} (rules : LockRules F R B O) (opening : LockId → Op
       ∙ block_renamed _ _ _ _ locks_wrap lock (buffer_sections past)
 
   wait_list_seen : (line : WaitList) (o : Option (SleepState (QBlock B))) → wait_list_in line (option_map nested_lock_of o) ≡ wait_list_at line o
-  wait_list_seen Sleepers None = refl
-  wait_list_seen line None = refl
-  wait_list_seen Sleepers (Some state) = refl
-  wait_list_seen line (Some state) = refl
+  wait_list_seen line o = grind arith
 
   -- the waiting lists agree with the places
   pub locks_lists : (past : List (QueueEvent (QLockEdit F R))) → ListsAgree (busy_rules rules) opening past
       → LocksAgree rules (viewed nested_lock_of opening) (renamed_events lock_call past)
   locks_lists past lists lock line t =
-      ap (λ o. count_in t (wait_list_in line o)) (lock_is lock past)
-      ∙ (ap (count_in t) (wait_list_seen line (block_after (sleep_edited (busy_rules rules)) (inner opening) lock (buffer_sections past)))
-      ∙ (lists lock line t
-      ∙ λ i. one_if (is_at lock line (wait_channel_of (where_is (sym (homes_viewed nested_lock_of opening) i) (sym (same_moves past) i) t)))))
+      rw (lock_is lock past, wait_list_seen line, homes_viewed nested_lock_of opening, same_moves past) (lists lock line t)
 
 -- a layer with no history beneath has none here
 pub nothing_seen_at_the_lock : {F R : Type 0} (past : List (QueueEvent (QLockEdit F R))) → renamed_events lock_call past ≡ [] → past ≡ []
@@ -88,8 +82,7 @@ nothing_seen_at_the_lock (e ∷ past) none = absurd cc
 
 -- while no call is under way here none is beneath
 pub none_beneath : {F R : Type 0} (under : Option (SchedCall (QLockEdit F R))) → option_map (renamed_sched lock_call) under ≡ None → under ≡ None
-none_beneath None none = refl
-none_beneath (Some s) none = absurd cc
+none_beneath under given = grind arith
 
 -- a CPU waits or holds here as it does beneath
 pub locks_busy : {F R : Type 0} (c : CpuId) (acts : List (Action (QueueEdit (QLockEdit F R)))) (b : Bool) → b ≡ is_in_section (phase c acts)

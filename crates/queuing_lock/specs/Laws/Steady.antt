@@ -1,6 +1,6 @@
 -- What calls of other CPUs leave as it is: whether a thread owns a lock or sleeps for it, or neither.
 use Rattle.std.proofs.Common.{◌≡◌, ◌≢◌, ◌⊎◌, inl, inr, Bool, ◌&&◌, ◌||◌, not, nat_lt, true, false, List, [], ◌∷◌, ◌++◌, Option, Some, None, option_map}
-use Rattle.std.proofs.Common.{if◌then◌else◌, refl, ap, sym, ◌∙◌, subst}
+use Rattle.std.proofs.Common.{arith, if◌then◌else◌, refl, ap, sym, ◌∙◌, subst}
 use Rattle.event_log.specs.{declared.ids.{BufId.BufId, CpuId.CpuId, LockId.{LockId, TheVariants.Buffer}, Tid.Tid, TheConstants.THREADS}, History.AreOthers}
 use Rattle.event_log.{specs.History.{IsLawful, same_cpu, same_lock}, proofs.Same.{same_cpu_self, same_lock_true}}
 use Rattle.layer_traits.specs.declared.{locked.QEdit.{QEdit, TheVariants.{Acquire, Inside, Release}}, queue_edits.QueueBlock.QueueBlock}
@@ -32,10 +32,7 @@ module _ {F R B O : Type 0} (rules : LockRules F R B O) (opening : LockId → Op
       (λ is. ap (λ l. lock_after rules (inner opening) l (buffer_sections past)) is) owners apart (same_lock lock (Buffer b)) refl holds
 
   other_caller : (d : CpuId) (u : Tid) → same_cpu d c ≡ false → home_of (homes_in opening) u ≡ Some d → u ≡ t → ⊥
-  other_caller d u differs home is =
-      let same : Some d ≡ Some c = sym home ∙ (ap (home_of (homes_in opening)) is ∙ at_home) in
-      let one : d ≡ c = cc in
-      absurd (cc (same_cpu_self c, rw one at differs))
+  other_caller d u differs home is = grind (arith, at_home, same_cpu_self)
 
   preserved_call : (past : List (QueueEvent (QEdit F R))) (d : CpuId) (q : QueueCall (QEdit F R)) → CallAllowed (lock_kernel rules opening) past d q
       → same_cpu d c ≡ false
@@ -56,77 +53,28 @@ module _ {F R B O : Type 0} (rules : LockRules F R B O) (opening : LockId → Op
 -- Lists of sleepers.
 
 joined_keeps : (t u : Tid) (queue : List Tid) → is_in t queue ≡ true → is_in t (joined u queue) ≡ true
-joined_keeps t u queue stands = go (nat_lt u.0 THREADS && not (is_in u queue))
-  where
-    go : (b : Bool) → is_in t (if b then queue ++ u ∷ [] else queue) ≡ true
-    go false = stands
-    go true = pushed_in t u queue ∙ ap (λ b. b || (same_tid t u || false)) stands
+joined_keeps t u queue stands = grind (arith, pushed_in)
 
 joined_only : (t u : Tid) (queue : List Tid) → (u ≡ t → ⊥) → is_in t queue ≡ false → is_in t (joined u queue) ≡ false
-joined_only t u queue apart missing = go (nat_lt u.0 THREADS && not (is_in u queue))
-  where
-    differs : (b : Bool) → same_tid t u ≡ b → (b || false) ≡ false
-    differs false is = refl
-    differs true is = absurd (apart (sym (same_tid_true t u is)))
-
-    go : (b : Bool) → is_in t (if b then queue ++ u ∷ [] else queue) ≡ false
-    go false = missing
-    go true = pushed_in t u queue ∙ (ap (λ b. b || (same_tid t u || false)) missing ∙ differs (same_tid t u) refl)
+joined_only t u queue apart missing = grind (arith, pushed_in, same_tid_true)
 
 -- who stands in a queue is its first or stands behind
 front_or_behind : (t : Tid) (queue : List Tid) → is_in t queue ≡ true → (first queue ≡ Some t) ⊎ (is_in t (rest queue) ≡ true)
-front_or_behind t [] stands = absurd cc
-front_or_behind t (x ∷ queue) stands = go (same_tid t x) refl stands
-  where
-    go : (b : Bool) → same_tid t x ≡ b → (b || is_in t queue) ≡ true → (Some x ≡ Some t) ⊎ (is_in t queue ≡ true)
-    go true is stands = inl (ap Some (sym (same_tid_true t x is)))
-    go false is stands = inr stands
+front_or_behind t queue stands = grind (arith, same_tid_true)
 
 -- The three that stay.
 
 module _ {F R B O : Type 0} (rules : LockRules F R B O) (t : Tid) where
-  asked_awaits : (u : Tid) (owner : Option Tid) (state : LockState B) → (owner ≡ Some t) ⊎ (is_in t state.sleepers ≡ true)
-      → HasOrAwaits t (Some (lock_asked_by u owner state))
-  asked_awaits u None state (inl owns) = absurd cc
-  asked_awaits u None state (inr waits) = inr waits
-  asked_awaits u (Some o) state (inl owns) = inl owns
-  asked_awaits u (Some o) state (inr waits) = inr (joined_keeps t u state.sleepers waits)
-
-  released_awaits : (r : R) (state : LockState B) → state.owner ≡ Some (rules.last_caller r) → (rules.last_caller r ≡ t → ⊥)
-      → (state.owner ≡ Some t) ⊎ (is_in t state.sleepers ≡ true)
-      → HasOrAwaits t (Some (lock_edited rules (Release r) state))
-  released_awaits r state owner apart (inl owns) =
-      let same : Some (rules.last_caller r) ≡ Some t = sym owner ∙ owns in
-      let one : rules.last_caller r ≡ t = cc in
-      absurd (apart one)
-  released_awaits r state owner apart (inr waits) = front_or_behind t state.sleepers waits
-
   -- whoever owns a lock or sleeps for it goes on to do so while others call
   pub keeps_awaits : IsKeptByOwners rules t (HasOrAwaits t)
-  keeps_awaits (Acquire u) state owners apart holds = asked_awaits u state.owner state holds
-  keeps_awaits (Inside f) state owners apart holds = holds
-  keeps_awaits (Release r) state owners apart holds = released_awaits r state owners apart holds
-
-  asked_nothing : (u : Tid) (owner : Option Tid) (state : LockState B) → (u ≡ t → ⊥) → (owner ≢ Some t) × (is_in t state.sleepers ≡ false)
-      → HasNothing rules t (Some (lock_asked_by u owner state))
-  asked_nothing u None state apart nothing = (λ same. let one : u ≡ t = cc in apart one, nothing.1)
-  asked_nothing u (Some o) state apart nothing = (nothing.0, joined_only t u state.sleepers apart nothing.1)
+  keeps_awaits e state owners apart holds = grind (arith, joined_keeps, front_or_behind)
 
   -- whoever has no part in a lock goes on to have none
   pub keeps_nothing : IsKeptByOwners rules t (HasNothing rules t)
-  keeps_nothing (Acquire u) state owners apart holds = asked_nothing u state.owner state apart holds
+  keeps_nothing (Acquire u) state owners apart holds = grind (arith, joined_only)
   keeps_nothing (Inside f) state owners apart holds = holds
   keeps_nothing (Release r) state owners apart holds = out_of_rest t state.sleepers holds.1
 
-  asked_owned : (u : Tid) (owner : Option Tid) (state : LockState B) → owner ≡ Some t → owner_in (Some (lock_asked_by u owner state)) ≡ Some t
-  asked_owned u None state owns = absurd cc
-  asked_owned u (Some o) state owns = owns
-
   -- and an owner owns it until it releases it
   pub keeps_owned : IsKeptByOwners rules t (IsOwner rules t)
-  keeps_owned (Acquire u) state owners apart holds = asked_owned u state.owner state holds
-  keeps_owned (Inside f) state owners apart holds = holds
-  keeps_owned (Release r) state owners apart holds =
-      let same : Some (rules.last_caller r) ≡ Some t = sym owners ∙ holds in
-      let one : rules.last_caller r ≡ t = cc in
-      absurd (apart one)
+  keeps_owned e state owners apart holds = grind arith

@@ -1,17 +1,15 @@
 -- A scheduler's call is under way exactly where one is at the shared queues.
-use Rattle.std.{specs.Prelude.{◌≡◌, Bool, List, Option, Some, None, is_some}, proofs.Common.{refl, ap, ◌∙◌}}
+use Rattle.std.{proofs.Common.{arith, ap, ◌∙◌}, specs.Prelude.{◌≡◌, Bool, List, Option, None, is_some}}
 use Rattle.{event_log.specs.{declared.ids.{CpuId.CpuId, Tid.Tid}, Actions.{Action, phase}}, layer_traits.specs.declared.queues.QueueEvent.QueueEvent}
 use Rattle.{layer_traits.specs.Polling.Plans.is_in_section, scheduler.specs.Parts.sched_under}
 
 -- a call is under way exactly where one is at the shared queues
 pub under_is_some : {E : Type 0} (under : Option (QueueEvent E)) (current : Option Tid) → is_some (sched_under under current) ≡ is_some under
-under_is_some None current = refl
-under_is_some (Some e) current = refl
+under_is_some under current = grind arith
 
 -- so none is where none is there
 pub none_under : {E : Type 0} (under : Option (QueueEvent E)) (current : Option Tid) → sched_under under current ≡ None → under ≡ None
-none_under None current none = refl
-none_under (Some e) current none = absurd (cc none)
+none_under under current given = grind arith
 
 -- if a poll is one action, a part is inside exactly while this CPU waits at a lock or holds one
 pub busy_under : {N : Type 0} (acts : List (Action N)) (inside : Bool) (c below : CpuId) → below ≡ c

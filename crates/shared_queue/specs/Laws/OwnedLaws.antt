@@ -1,4 +1,5 @@
 -- What the locks beneath tell of their blocks, shared queues tell of what they read off them: a buffer's block, or a queue's threads.
+use Rattle.std.proofs.Common.{arith}
 use Rattle.std.{specs.{Prelude.{◌≡◌, List, Option, Some, None, IsSome, option_map, map, refl}, Option.option_and_then}, proofs.Common.{ap, sym, ◌∙◌}}
 use Rattle.event_log.specs.{declared.ids.{BufId.BufId, CpuId.CpuId, LockId.{LockId, TheVariants.{Pending, Buffer}}, Tid.Tid}, Sections.block_after}
 use Rattle.layer_traits.specs.{declared.queue_edits.QueueBlock.{QueueBlock, TheVariants.{Queue, Above}}, Threads.MoveRules.{MoveRules, WakesSleepers}}
@@ -12,17 +13,14 @@ CanRead {A} {B} read truth seen = (x : A) → truth ≡ Some x → (y : B) × (r
 
 module _ {A B : Type 0} (read : A → Option B) (truth : Option A) (seen : Option B) (can : CanRead read truth seen) where
   read_some : (o : Option A) → ((x : A) → o ≡ Some x → truth ≡ Some x) → (y : B) → option_and_then read o ≡ Some y → seen ≡ Some y
-  read_some None tells y is = absurd cc
-  read_some (Some x) tells y is = let found = can x (tells x refl) in found.2 ∙ (sym found.1 ∙ is)
+  read_some o tells y is = grind arith
 
   read_none : (o : Option A) → ((x : A) → o ≡ Some x → truth ≡ Some x) → option_and_then read o ≡ None → o ≡ None
-  read_none None tells none = refl
-  read_none (Some x) tells none = let found = can x (tells x refl) in absurd (cc (found.1, none))
+  read_none o tells given = grind arith
 
   -- what is told of a block is told of what is read off it
   shown_read : {P : Type 0} (Fits : P → Type 0) (cpu_of : P → CpuId) (IsInside : CpuId → Type 0) (here : P → Option A) (home : Option A)
-      → IsObserved Fits cpu_of IsInside here home truth
-      → IsObserved Fits cpu_of IsInside (λ p. option_and_then read (here p)) (option_and_then read home) seen
+      → IsObserved Fits cpu_of IsInside here home truth → IsObserved Fits cpu_of IsInside (λ p. option_and_then read (here p)) (option_and_then read home) seen
   shown_read Fits cpu_of IsInside here home shown = record {
     by_machine = λ y tells. read_some home shown.by_machine y tells;
     by_part = λ p y fits tells. read_some (here p) (λ x told. shown.by_part p x fits told) y tells;
@@ -38,9 +36,8 @@ can_read_above : {B : Type 0} (truth : Option (QueueBlock B)) (above : Option B)
 can_read_above truth None is x tells = let none = is in absurd (cc (none, tells))
 can_read_above truth (Some block) is x tells = (block, ap (option_and_then above_in) (sym tells ∙ is), refl)
 
-can_read_queue : {B : Type 0} (d : CpuId) (opened : Option (QueueBlock B)) → IsSome opened → StartsAs (Pending d) opened
-    → (truth : Option (QueueBlock B)) (queue : List Tid)
-    → truth ≡ with_queue queue opened → CanRead queue_in truth (Some queue)
+can_read_queue : {B : Type 0} (d : CpuId) (opened : Option (QueueBlock B)) → IsSome opened → StartsAs (Pending d) opened → (truth : Option (QueueBlock B))
+    (queue : List Tid) → truth ≡ with_queue queue opened → CanRead queue_in truth (Some queue)
 can_read_queue d None there kind truth queue is x tells = absurd cc
 can_read_queue d (Some (Queue old homes)) there kind truth queue is x tells = (queue, ap (option_and_then queue_in) (sym tells ∙ is), refl)
 can_read_queue d (Some (Above block)) there kind truth queue is x tells = absurd kind
@@ -62,6 +59,5 @@ module _ {P E B O : Type 0} (rules : Rules E B O) (mv : MoveRules E O) (opening 
       → IsObserved Fits cpu_of IsInside (λ p. option_and_then queue_in (here p)) (option_and_then queue_in home)
       (Some (pending_by (moves_in (kernel rules mv opening) (map event_of past)) d))
   queue_shown wakes d there here home shown = shown_read queue_in _ _
-      (can_read_queue d (opening (Pending d)) there (starts.kinds (Pending d)) _ _ (queue_block rules mv opening starts wakes d past lawful))
-      Fits cpu_of IsInside
-      here home shown
+      (can_read_queue d (opening (Pending d)) there (starts.kinds (Pending d)) _ _ (queue_block rules mv opening starts wakes d past lawful)) Fits cpu_of
+      IsInside here home shown

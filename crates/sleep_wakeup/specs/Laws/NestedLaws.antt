@@ -1,12 +1,12 @@
 -- The laws of the layer, by those of the scheduler beneath.
-use Rattle.std.proofs.Common.{◌≡◌, Bool, true, List, [], ◌∷◌, ◌++◌, Option, Some, None, option_map, map, refl, ap, sym, ◌∙◌, subst, arith}
+use Rattle.std.proofs.Common.{◌≡◌, Bool, List, [], ◌∷◌, ◌++◌, Option, None, option_map, map, refl, ap, sym, ◌∙◌, subst, arith}
 use Rattle.std.proofs.{Math.Path.transport, lemmas.Option.slice_get_within}
-use Rattle.event_log.specs.{declared.ids.{BufId.BufId, CpuId.CpuId, LockId.{LockId, TheVariants.Buffer}, Tid.Tid}, History.IsLawful, Actions.{Action, phase}}
+use Rattle.event_log.specs.{declared.ids.{BufId.BufId, CpuId.CpuId, LockId.{LockId}, Tid.Tid}, History.IsLawful, Actions.{Action, phase}}
 use Rattle.event_log.{specs.{Actions.renamed, Sections.{Section, block_after, renamed_section}}, proofs.Renaming.phase_renamed}
 use Rattle.layer_traits.specs.declared.{queue_edits.{QueueBlock.QueueBlock, QueueEdit.QueueEdit}, queues.QueueEvent.QueueEvent, scheds.SchedCall.SchedCall}
 use Rattle.layer_traits.specs.{declared.sleeps.Outcome.Outcome, Threads.{ListsAgree.{ListsAgree, is_at}, MoveRules.{WakesSleepers, asleep_by, edit_move}}}
-use Rattle.layer_traits.specs.Threads.{MoveRules.section_moves, Places.{AreMoves, Stands, count_in, Threads, is_wait_channel, one_if, wait_channel_of}}
-use Rattle.layer_traits.specs.{Threads.Places.{step_with, where_is}, Polling.Plans.{is_in_section, table_of}, Blocks.QueueBlocks.{StartsWell, homes_in, inner}}
+use Rattle.layer_traits.specs.Threads.{MoveRules.section_moves, Places.{AreMoves, Stands, count_in, Threads, one_if, wait_channel_of}}
+use Rattle.layer_traits.specs.{Threads.Places.{where_is}, Polling.Plans.{is_in_section, table_of}, Blocks.QueueBlocks.{StartsWell, homes_in, inner}}
 use Rattle.layer_traits.specs.Layers.{Queues.{Kernel, QueueAllowed, buffer_sections, kernel, moves_in}, Scheds.EditStays, SleepLaw.{MaySleep, sleep_kernel}}
 use Rattle.layer_traits.specs.Layers.Sleeping.{IsAwake, NobodySleeps, SleepRules, SleepState, wait_list_at, sleep_answer, sleep_edited, sleep_moves}
 use Rattle.layer_traits.{specs.{Layers.Sleeping.sleep_rules, Views.Renaming.{renamed_edit, renamed_events, viewed}}, proofs.CallLemmas.asleep_wait_channel}
@@ -33,28 +33,24 @@ module _ {E B O : Type 0} (rules : SleepRules E B O) (opening : LockId → Optio
 
   answer_seen : (d : SleepEdit E) (o : Option (SleepBlock B))
       → option_map (sleep_answer rules (slept_edit d)) (option_map state_of o) ≡ option_map (nested_answer rules d) o
-  answer_seen d None = refl
-  answer_seen d (Some a) = refl
+  answer_seen d o = grind arith
 
   -- and so is its answer
   out_after : (past : List (Section (SleepEdit E))) (s : Section (SleepEdit E))
       → option_map (sleep_answer rules (slept_edit s.edit)) (block_after (sleep_edited rules) (states opening) s.lock (above past))
       ≡ option_map (nested_answer rules s.edit) (block_after (nested_edited rules) opening s.lock past)
-  out_after past s = ap (option_map (sleep_answer rules (slept_edit s.edit))) (state_after s.lock past)
-      ∙ answer_seen s.edit (block_after (nested_edited rules) opening s.lock past)
+  out_after past s = grind (arith, state_after, answer_seen)
 
   move_out : (lock : LockId) (d : SleepEdit E) (o : Option (Outcome O))
       → edit_move (sleep_moves rules) lock (slept_edit d) o ≡ edit_move (nested_moves rules) lock d o
-  move_out lock d None = refl
-  move_out lock d (Some out) = refl
+  move_out lock d o = grind arith
 
   -- the sections move threads alike
   pub moves_above : (past : List (Section (SleepEdit E)))
       → section_moves (sleep_rules rules) (sleep_moves rules) (states opening) (above past)
       ≡ section_moves (nested_rules rules) (nested_moves rules) opening past
   moves_above [] = refl
-  moves_above (s ∷ past) = λ i. step_with s.cpu ((ap (edit_move (sleep_moves rules) s.lock (slept_edit s.edit)) (out_after past s)
-      ∙ move_out s.lock s.edit (option_map (nested_answer rules s.edit) (block_after (nested_edited rules) opening s.lock past))) i) ∷ moves_above past i
+  moves_above (s ∷ past) = grind (arith, out_after, move_out, moves_above past)
 
   -- the callers of allowed sections are awake
   pub awake_above : (past : List (Section (SleepEdit E))) → IsLawful (NestedAllowed rules opening) past → IsLawful (IsAwake rules (states opening)) (above past)
@@ -63,11 +59,9 @@ module _ {E B O : Type 0} (rules : SleepRules E B O) (opening : LockId → Optio
 
 -- whom an allowed section wakes sleeps
 pub nested_wakes : {E B O : Type 0} (rules : SleepRules E B O) → WakesSleepers (nested_rules rules) (nested_moves rules)
-nested_wakes rules opening past s out u lawful allowed answers wakes =
-    subst (λ moves. is_wait_channel (asleep_by moves u) ≡ true) (moves_above rules opening past)
+nested_wakes rules opening past s out u lawful allowed answers wakes = rw (← moves_above rules opening past)
     (section_wakes rules (states opening) (map (renamed_section slept_edit) past) (renamed_section slept_edit s) out u
-    (awake_above rules opening past lawful) allowed.start
-    (out_after rules opening past s ∙ answers) wakes)
+    (awake_above rules opening past lawful) allowed.start (out_after rules opening past s ∙ answers) wakes)
 
 -- Histories. The kernel beneath is that of the nested edits over this opening, and the kernel here that of the layer's own.
 
@@ -85,9 +79,7 @@ module _ {E B O : Type 0} (rules : SleepRules E B O) (opening : LockId → Optio
 
   pub allowed_here : (past : List (Section (SleepEdit E))) (s : Section (SleepEdit E)) → NestedAllowed rules (inner opening) past s
       → rules.allowed (inner (viewed state_of opening)) (map (renamed_section slept_edit) past) (renamed_section slept_edit s)
-  allowed_here past s allowed =
-      subst (λ (o : LockId → Option (SleepState B)). rules.allowed o (map (renamed_section slept_edit) past) (renamed_section slept_edit s))
-      (sym inner_states) allowed.upper
+  allowed_here past s allowed = rw inner_states allowed.upper
 
   pub nested_wraps : Wraps beneath here slept_edit state_of
   nested_wraps = record {
@@ -123,28 +115,23 @@ module _ {E B O : Type 0} (rules : SleepRules E B O) (opening : LockId → Optio
   asleep_here : (past : List (QueueEvent (SleepEdit E))) (t : Tid) → IsLawful (QueueAllowed beneath) past
       → wait_channel_of (where_is (homes_in opening) (moves_in beneath past) t)
       ≡ asleep_by (section_moves (sleep_rules rules) (sleep_moves rules) (states (inner opening)) (map (renamed_section slept_edit) (buffer_sections past))) t
-  asleep_here past t lawful =
-      asleep_wait_channel (homes_in opening) (moves_in beneath past) t (moves_lawful beneath (nested_wakes rules) past lawful)
-      ∙ (sym (sections_asleep beneath past t) ∙ ap (λ moves. asleep_by moves t) (sym (moves_above rules (inner opening) (buffer_sections past))))
+  asleep_here past t lawful = grind (arith, asleep_wait_channel, moves_lawful, nested_wakes, sections_asleep, moves_above)
 
   -- the waiting lists agree with the places
   pub nested_lists : (past : List (QueueEvent (SleepEdit E))) → IsLawful (QueueAllowed beneath) past → NobodySleeps (states (inner opening))
       → ListsAgree rules (viewed state_of opening) (renamed_events slept_edit past)
   nested_lists past lawful nobody lock line t =
       ap (λ (o : LockId → Option (SleepState B)). count_in t
-      (wait_list_at line (block_after (sleep_edited rules) o lock (buffer_sections (renamed_events slept_edit past))))) inner_states
-      ∙ (ap (λ sections. count_in t (wait_list_at line (block_after (sleep_edited rules) (states (inner opening)) lock sections)))
-      (sections_renamed slept_edit past)
-      ∙ (lists_agree rules (states (inner opening)) (map (renamed_section slept_edit) (buffer_sections past))
-      (awake_above rules (inner opening) (buffer_sections past) (upper_lawful beneath past lawful)) nobody lock line t
-      ∙ (ap (λ p. one_if (is_at lock line p)) (sym (asleep_here past t lawful))
+      (wait_list_at line (block_after (sleep_edited rules) o lock (buffer_sections (renamed_events slept_edit past))))) inner_states ∙ (ap
+      (λ sections. count_in t (wait_list_at line (block_after (sleep_edited rules) (states (inner opening)) lock sections))) (sections_renamed slept_edit past)
+      ∙ (lists_agree rules (states (inner opening)) (map (renamed_section slept_edit) (buffer_sections past)) (awake_above rules (inner opening)
+      (buffer_sections past) (upper_lawful beneath past lawful)) nobody lock line t ∙ (ap (λ p. one_if (is_at lock line p)) (sym (asleep_here past t lawful))
       ∙ λ i. one_if (is_at lock line (wait_channel_of (where_is (sym (homes_viewed state_of opening) i) (sym (same_moves past) i) t))))))
 
   -- A section that may begin here may begin beneath, and stays allowed there.
 
   pub nested_stays : (c : CpuId) (past : List (QueueEvent (SleepEdit E))) (own : Threads) (b : BufId) (e : E) → StartsWell opening
-      → IsLawful (QueueAllowed beneath) past
-      → NobodySleeps (states (inner opening)) → Stands (homes_in opening) c (moves_in beneath past) own
+      → IsLawful (QueueAllowed beneath) past → NobodySleeps (states (inner opening)) → Stands (homes_in opening) c (moves_in beneath past) own
       → MaySleep here c (renamed_events slept_edit past) own b e → EditStays beneath c past (call.OnBuffer b (as_edit e))
   nested_stays c past own b e starts lawful nobody stands may more others legal =
       let moving = moves_lawful beneath (nested_wakes rules) (more ++ past) legal in
@@ -158,8 +145,7 @@ module _ {E B O : Type 0} (rules : SleepRules E B O) (opening : LockId → Optio
           awake = sym (asleep_here (more ++ past) (rules.caller e) legal) ∙ ap wait_channel_of at.1;
           small = omega (arith, slice_get_within (homes_in opening) (rules.caller e).0 c at.0, starts.room);
         };
-        upper = subst (λ (o : LockId → Option (SleepState B)). rules.allowed o (map (renamed_section slept_edit) (buffer_sections (more ++ past)))
-            (record { cpu = c; lock = Buffer b; edit = e })) inner_states (stays_renamed _ _ _ _ nested_wraps c past b (as_edit e) may.stays more others legal);
+        upper = rw (← inner_states) (stays_renamed _ _ _ _ nested_wraps c past b (as_edit e) may.stays more others legal);
       }
 
 -- The part.
@@ -170,11 +156,8 @@ nothing_seen [] none = refl
 nothing_seen (e ∷ past) none = absurd cc
 
 -- while no call is under way here none is beneath
-pub nested_idle : {E O : Type 0} (deferred : Option (Deferred E O)) (under : Option (SchedCall (SleepEdit E))) → under_of deferred under ≡ None
-    → under ≡ None
-nested_idle None None none = refl
-nested_idle None (Some s) none = absurd cc
-nested_idle (Some k) under none = absurd cc
+pub nested_idle : {E O : Type 0} (deferred : Option (Deferred E O)) (under : Option (SchedCall (SleepEdit E))) → under_of deferred under ≡ None → under ≡ None
+nested_idle deferred under given = grind arith
 
 -- a CPU waits or holds here as it does beneath
 pub nested_busy : {E : Type 0} (c : CpuId) (acts : List (Action (QueueEdit (SleepEdit E)))) (b : Bool) → b ≡ is_in_section (phase c acts)

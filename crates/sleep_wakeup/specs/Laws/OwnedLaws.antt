@@ -21,8 +21,7 @@ module _ {P Q E B O : Type 0} (rules : SleepRules E B O) (opening : LockId → O
   -- so what is told of that block is told of its waiting lists
   pub nested_shown : (b : BufId) (tells : P → Option (SleepBlock B)) (home : Option (SleepBlock B))
       → IsObserved FitsP cpu_below MayHold tells home (block_after (nested_edited rules) (inner opening) (Buffer b) (buffer_sections past))
-      → IsObserved FitsQ (λ q. cpu_below (below q)) MayHold
-      (λ q. option_map state_of (tells (below q))) (option_map state_of home)
+      → IsObserved FitsQ (λ q. cpu_below (below q)) MayHold (λ q. option_map state_of (tells (below q))) (option_map state_of home)
       (block_after (sleep_edited rules) (inner (viewed state_of opening)) (Buffer b) (buffer_sections (renamed_events slept_edit past)))
   nested_shown b tells home shown =
       let truth = block_after (nested_edited rules) (inner opening) (Buffer b) (buffer_sections past) in

@@ -1,7 +1,6 @@
-use Rattle.std.proofs.{Common.{◌≡◌, ◌<◌, ◌++◌, IsSome, length, sym, subst, arith, rules, slice_get}, lemmas.Grind.common_steps}
+use Rattle.std.proofs.{Common.{◌≡◌, ◌++◌, length, sym, subst, arith, rules}, lemmas.Grind.common_steps}
 use Rattle.std.specs.Vec.Iter.{into_iter_items}
-use Rattle.{event_log.specs.declared.ids.LockId.TheVariants.{Pending, Buffer}, layer_traits.specs.Protocols.OneLock.{AreDistinct, opened}}
-use Rattle.{layer_traits.specs.Blocks.QueueBlocks.{StartsWell, homes_in, inner}, shared_queue.proofs.OpeningLemmas.{all_there, blocks_there, homes_read}}
+use Rattle.{shared_queue.proofs.OpeningLemmas.{all_there, blocks_there, homes_read}}
 use Rattle.shared_queue.{proofs.OpeningLemmas.{locks_distinct, queues_there, starts_well}, specs.Opening.{AreQueues, buffers_from}}
 use Rattle.shared_queue.proofs.opening.queue_blocks.Goals as goal
 
@@ -20,10 +19,9 @@ returns g c =
     let count : length locks.items ≡ c.args.cpus = omega (arith, c.in_ok-locks.ensures.count, locks.ok.0) in
     let queues : AreQueues (length locks.items) homes (length blocks) = subst (λ n. AreQueues n homes (length blocks)) (sym count) c.requires in
     record {
-      distinct = subst (λ ls. AreDistinct ls) (sym all) (locks_distinct homes 0 locks.items 0 blocks are);
-      starts = subst (λ ls. StartsWell (opened ls)) (sym all) (starts_well homes locks.items blocks are queues);
-      homes = subst (λ ls. homes_in (opened ls) ≡ homes) (sym all) (homes_read homes locks.items blocks are queues);
-      queues = λ cpu less. subst (λ ls. IsSome (opened ls (Pending cpu))) (sym all)
-          (queues_there homes locks.items blocks are queues cpu (subst (λ n. cpu.0 < n) (sym count) less));
-      blocks = λ b. subst (λ ls. inner (opened ls) (Buffer b) ≡ slice_get blocks b.0) (sym all) (blocks_there homes locks.items blocks are queues b);
+      distinct = rw all (locks_distinct homes 0 locks.items 0 blocks are);
+      starts = rw all (starts_well homes locks.items blocks are queues);
+      homes = rw all (homes_read homes locks.items blocks are queues);
+      queues = λ cpu less. rw all (queues_there homes locks.items blocks are queues cpu (rw count less));
+      blocks = λ b. rw all (blocks_there homes locks.items blocks are queues b);
     }

@@ -1,4 +1,5 @@
-use Rattle.std.proofs.Common.{◌≡◌, ◌<◌, ◌∙◌, List, Option, None, if◌then◌else◌, is_some, slice_set, ap, sym, true, false, Some}
+use Rattle.std.proofs.Common.{arith}
+use Rattle.std.proofs.Common.{◌≡◌, ◌<◌, List, Option, None, if◌then◌else◌, is_some, slice_set, true, false, Some}
 use Rattle.layer_traits.specs.{declared.{conditions.CvOut.CvOut, locked.QOut.QOut, sleeps.Outcome.Outcome}, Layers.Conditions.{CvCall, cv_rules}}
 use Rattle.layer_traits.specs.Layers.{CvLaw.Waiting, QLocking.{lock_caller, lock_moves, lock_rules}, QLockLaw.{lock_kernel, slept_for}}
 use Rattle.layer_traits.specs.{Blocks.{Payloads.{cv_meant, lock_meant}, QueueRules.queue_rules}, Polling.Plans.table_of}
@@ -9,13 +10,7 @@ use Rattle.condvar.proofs.cond.CondThreadLayerCvLaw.poll.Goals as goal
 
 -- the caller is a thread of the machine
 small : (g : Over) (c : After-caller_of-t g) → c.caller_of-t.result.0 < THREADS
-small g c =
-    let law = g.met.Q.ThreadLayer in
-    let m = c.args.m.now in
-    let p = c.args.self.now.lower in
-    let acts = law.own_cpu p m c.requires.fits in
-    current_small _ _ _ (g.Q.ThreadLayer.own p).sleep.threads c.caller_of-t.result (law.moves_legal m _ acts) (law.stands p m c.requires.fits).stands
-    (law.opens m _ acts).room (c.requires.call.runs ∙ ap Some (sym c.caller_of-t.ensures))
+small g c = grind (arith, current_small)
 
 pub ends_wait-requires : goal.ends_wait-requires
 ends_wait-requires g c = small g (goal.at.ends_wait-requires g c).After-caller_of-t
@@ -65,16 +60,11 @@ module _ (g : Over) (c : After-complete g) where
   answer = lock_tells told c.poll-answer.new.payload.parcel c.poll-answer.result
 
   none : is_some (slept_for waits (lock_caller (cv_rules monitor_rules) call)) ≡ false
-  none = wake_told monitor_rules _ _ c.args.call.buffer own _ meant c.args.payload.now.parcel c.args.call.edit _ c.ends_wait.result false
-      c.caller_of-t.result c.requires.call c.ends_wait.ensures.was c.if-ends_wait.false c.caller_of-t.ensures
+  none = grind (arith, wake_told)
 
   noted : c.complete.new.self.buffers
       ≡ (if is_wait answer then slice_set waits (lock_caller (cv_rules monitor_rules) call).0 (Some c.args.call.buffer) else waits)
-  noted =
-      let kept = wake_kept waits c.ends_wait.new.self.buffers c.ends_wait.result c.caller_of-t.result c.ends_wait.ensures.now c.if-ends_wait.false in
-      let caller = c.caller_of-t.ensures in
-      waits_told told c.poll-answer.new.payload.parcel c.poll-answer.result _ c.args.call.buffer waits c.complete.new.self.buffers
-      (rw (← kept, ← caller) c.complete.ensures.waits)
+  noted = grind (arith, wake_kept, waits_told)
 
   gives : lock_tells told c.poll-answer.new.payload.parcel c.complete.result ≡ (if is_wait answer then None else answer)
   gives = complete_told told c.poll-answer.new.payload.parcel c.poll-answer.result c.complete.result c.complete.ensures.complete

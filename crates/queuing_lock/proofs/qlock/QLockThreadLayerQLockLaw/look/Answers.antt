@@ -15,7 +15,6 @@ returns-clause-framed g c =
     let acts = met.own_cpu self.lower m c.requires.fits.0 in
     let said = c.look.ensures in
     let n = c.look.new.m in
-    let part = c.look.new.self in
     let lawful = rw said.framed.stays.opening at (met.lawful n cpu (said.framed.stays.acts cpu acts)) in
     let grown = grows_renamed lock_call (λ d. S.ActsFor m d) (S.seen m) (S.seen n) said.seen in
     let after = λ (d : CpuId) (acts : S.ActsFor m d) (slept : List (Option BufId))

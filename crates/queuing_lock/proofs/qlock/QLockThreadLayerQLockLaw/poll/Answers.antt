@@ -1,3 +1,4 @@
+use Rattle.std.proofs.Common.{arith}
 use Rattle.std.proofs.Common.{◌≡◌, refl, false, Option, Some, None, ◌≢◌, if◌then◌else◌, List, ◌<◌, is_some, option_map, slice_set, ap, sym, ◌∙◌, subst}
 use Rattle.std.proofs.Math.Path.{transport}
 use Rattle.{event_log.specs.{declared.ids.{BufId.BufId, CpuId.CpuId, TheConstants.THREADS}, History.IsLawful}, layer_traits.specs.declared.locked.QOut.QOut}
@@ -73,8 +74,7 @@ returns-then-asks_again-clause-seen g c =
 -- who calls beneath did not sleep for the lock
 awake : (g : Over) (c : goal.After-poll-arg-3-1 g) → (let was = before g (goal.at.poll-requires-clause-call g c).Start in
     is_some (slept_for was.slept (lock_caller g.F.Locked.rules was.e)) ≡ false)
-awake g c = slept_asks (before g (goal.at.poll-requires-clause-call g c).Start) g.F.Locked.meant c.args.payload.now.parcel c.args.call.edit refl
-    ∙ (sym c.asks_again.ensures ∙ c.if-asks_again.false)
+awake g c = grind (arith, slept_asks)
 
 pub poll-requires-clause-call : goal.poll-requires-clause-call
 poll-requires-clause-call g c = beneath_owed (before g (goal.at.poll-requires-clause-call g c).Start) (awake g c)
@@ -127,9 +127,7 @@ module _ (g : Over) (c : After-poll g) where
 
 went_on : (g : Over) (c : goal.In-None g) → (let p = (goal.at.returns-in-None-clause-seen g c).After-poll in let gave = gave g p in let was = was g p in
     locking gave.own was.slept None ≡ left_after (lock_caller g.F.Locked.rules was.e) was.b was.slept gave.own gave.answer)
-went_on g c =
-    let p = (goal.at.returns-in-None-clause-seen g c).After-poll in
-    λ i. left_after (lock_caller g.F.Locked.rules (was g p).e) (was g p).b (was g p).slept (gave g p).own (option_map (told g p) (sym c.in-None.is i))
+went_on g c = grind arith
 
 pub returns-in-None-clause-framed : goal.returns-in-None-clause-framed
 returns-in-None-clause-framed g c =
@@ -176,16 +174,11 @@ module _ (g : Over) (c : After-complete g) where
   p = (goal.at.returns-in-Some-clause-framed g c).After-poll
 
   keeps : c.complete.new.self.buffers ≡ slept_left_by (lock_caller rules (was g p).e) (was g p).b (was g p).slept (told g p c.in-Some.outcome)
-  keeps = c.complete.ensures.slept ∙ (ap (λ t. slept_left_by t (was g p).b (was g p).slept c.in-Some.outcome) (c.caller-t.ensures c.args.payload.now.parcel)
-      ∙ slept_told g.F.Locked.told c.poll.new.payload.parcel (lock_caller rules (was g p).e) (was g p).b (was g p).slept c.in-Some.outcome.out)
+  keeps = grind (arith, slept_told)
 
   answers : locking (gave g p).own c.complete.new.self.buffers (option_map (told g p) c.complete.result)
       ≡ left_after (lock_caller rules (was g p).e) (was g p).b (was g p).slept (gave g p).own (gave g p).answer
-  answers = (λ i. locking (gave g p).own (keeps i)
-      ((ap (option_map (told g p)) c.complete.ensures.complete
-      ∙ reported_told g.F.Locked.told c.poll.new.payload.parcel c.in-Some.outcome.out c.in-Some.outcome) i)) ∙ (sym
-      (reported_is (lock_caller rules (was g p).e) (was g p).b (was g p).slept (gave g p).own (told g p c.in-Some.outcome).out (told g p c.in-Some.outcome))
-      ∙ λ i. left_after (lock_caller rules (was g p).e) (was g p).b (was g p).slept (gave g p).own (option_map (told g p) (sym c.in-Some.is i)))
+  answers = grind (arith, keeps, reported_told, reported_is)
 
 pub returns-in-Some-clause-framed : goal.returns-in-Some-clause-framed
 returns-in-Some-clause-framed g c =

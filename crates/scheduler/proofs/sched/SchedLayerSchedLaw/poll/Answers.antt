@@ -30,23 +30,18 @@ step_of g c = call_meant g.E.SplitEdit.meant c.in-Ok.step c.args.payload.now
 
 is_shared : (g : Over) (c : In-Ok g) → queue_call (homes_in (g.Q.Layer.opening c.args.m.now)) c.args.self.now.cpu
     (sched_meant g.E.SplitEdit.meant c.args.call c.args.payload.now) ≡ Some (step_of g c)
-is_shared g c = ap (λ h. queue_call h c.args.self.now.cpu (sched_meant g.E.SplitEdit.meant c.args.call c.args.payload.now))
-    (c.requires.fits.1.homes ∙ sym c.as_slice-homes.ensures.value) ∙ c.in-Ok.ensures.shared c.args.payload.now
+is_shared g c = rw (c.requires.fits.1.homes ∙ sym c.as_slice-homes.ensures.value) (c.in-Ok.ensures.shared c.args.payload.now)
 
 pub pass_locally-requires : goal.pass_locally-requires
 pass_locally-requires g c =
     let at = goal.at.pass_locally-requires g c in
-    let self = c.args.self.now in
-    let m = c.args.m.now in
-    finish_ok g.E.SplitEdit.rules g.E.Moves.moves (g.Q.Layer.opening m) g.met.E.Moves.wakes_sleepers (opens g at.Start) self.cpu (g.Q.Layer.seen m) self.own
-    (lawful g at.Start) c.requires.fits.1.stands
+    finish_ok _ _ _ g.met.E.Moves.wakes_sleepers (opens g at.Start) _ _ _ (lawful g at.Start) c.requires.fits.1.stands
 
 pub poll-requires-clause-call : goal.poll-requires-clause-call
 poll-requires-clause-call g c =
     let at = goal.at.poll-requires-clause-call g c in
     call_may _ _ _ g.met.E.Moves.wakes_sleepers (opens g at.Start) (lawful g at.Start) c.requires.fits.1 (call_of g at.Start) c.requires.call
-    (step_of g at.In-Ok)
-    (is_shared g at.In-Ok)
+    (step_of g at.In-Ok) (is_shared g at.In-Ok)
 
 -- the poll beneath
 module _ (g : Over) (c : After-poll g) where
@@ -82,15 +77,13 @@ pub take_answer-requires : goal.take_answer-requires
 take_answer-requires g c =
     let at = goal.at.take_answer-requires g c in
     may_take _ _ _ g.met.E.Moves.wakes_sleepers (opens g at.Start) (lawful g at.Start) c.requires.fits.1 (call_of g at.Start) c.requires.call
-    (step_of g at.In-Ok)
-    (is_shared g at.In-Ok) (acts g at.Start) c.in-Some.ensures.seen (legal g at.After-poll c.args.self.now.cpu (acts g at.Start))
+    (step_of g at.In-Ok) (is_shared g at.In-Ok) (acts g at.Start) c.in-Some.ensures.seen (legal g at.After-poll c.args.self.now.cpu (acts g at.Start))
 
 -- a call that touches nothing shared
 
 is_local : (g : Over) (c : In-Err g) → queue_call (homes_in (g.Q.Layer.opening c.args.m.now)) c.args.self.now.cpu
     (sched_meant g.E.SplitEdit.meant c.args.call c.args.payload.now) ≡ None
-is_local g c = ap (λ h. queue_call h c.args.self.now.cpu (sched_meant g.E.SplitEdit.meant c.args.call c.args.payload.now))
-    (c.requires.fits.1.homes ∙ sym c.as_slice-homes.ensures.value) ∙ (c.in-Err.ensures.local c.args.payload.now).1
+is_local g c = rw (c.requires.fits.1.homes ∙ sym c.as_slice-homes.ensures.value) (c.in-Err.ensures.local c.args.payload.now).1
 
 passed : (g : Over) (c : After-pass_locally g) → c.pass_locally.new.own
     ≡ local_after (sched_meant g.E.SplitEdit.meant c.args.call c.args.payload.now) c.args.self.now.own
@@ -100,8 +93,6 @@ pub returns-in-Err-clause-framed : goal.returns-in-Err-clause-framed
 returns-in-Err-clause-framed g c =
     let at = goal.at.returns-in-Err-clause-framed g c in
     let Q = g.Q.Layer in
-    let self = c.args.self.now in
-    let m = c.args.m.now in
     record {
       fits = (
         c.requires.fits.0,
@@ -118,12 +109,8 @@ returns-in-Err-clause-framed g c =
 pub returns-in-Err-clause-seen : goal.returns-in-Err-clause-seen
 returns-in-Err-clause-seen g c =
     let at = goal.at.returns-in-Err-clause-seen g c in
-    let Q = g.Q.Layer in
-    let self = c.args.self.now in
-    let m = c.args.m.now in
-    rw (passed g at.After-pass_locally)
-    (local_polled _ _ _ g.met.E.Moves.wakes_sleepers (opens g at.Start) (lawful g at.Start) c.requires.fits.1 (call_of g at.Start) c.requires.call
-    (is_local g at.In-Err) (Q.ActsFor m))
+    rw (passed g at.After-pass_locally) (local_polled _ _ _ g.met.E.Moves.wakes_sleepers (opens g at.Start) (lawful g at.Start) c.requires.fits.1
+    (call_of g at.Start) c.requires.call (is_local g at.In-Err) (g.Q.Layer.ActsFor c.args.m.now))
 
 -- a poll that waits
 
@@ -158,7 +145,6 @@ returns-in-Some-clause-framed g c =
     let Q = g.Q.Layer in
     let self = c.args.self.now in
     let part = c.poll.new.self in
-    let n = c.poll.new.m in
     let said = c.in-Some.ensures in
     let answer = queue_told g.E.SplitEdit.told c.in-Some.answer c.poll.new.payload in
     let own : c.take_answer.new.own ≡ own_by g.E.Moves.moves (homes_in (Q.opening c.args.m.now)) self.cpu answer self.own

@@ -1,5 +1,5 @@
 use Rattle.{std.proofs.{Common.{subst, sym}, Math.Path.transport}, event_log.specs.declared.ids.CpuId.CpuId, layer_traits.specs.Polling.Spins.BeginWith}
-use Rattle.{layer_traits.specs.Polling.Spins.Misses, scheduler.specs.Parts.SchedPartFits}
+use Rattle.{scheduler.specs.Parts.SchedPartFits}
 use Rattle.scheduler.proofs.sched.SchedLayerSchedLaw.spin.Goals as goal
 
 pub returns-clause-few : goal.returns-clause-few
@@ -24,6 +24,4 @@ returns-clause-spun g c =
     }
 
 pub returns-clause-tries : goal.returns-clause-tries
-returns-clause-tries g c = λ step.
-    let Q = g.Q.Layer in
-    subst (λ (d : CpuId). Misses d c.spin.result (Q.acts c.args.m.now) (Q.acts c.spin.new.m)) c.requires.fits.1.cpu (c.spin.ensures.tries step)
+returns-clause-tries g c = λ step. rw c.requires.fits.1.cpu at (c.spin.ensures.tries step)

@@ -8,15 +8,12 @@ use Rattle.shared_queue.proofs.shared.SharedQueuesLayerQueueLaw.poll.Goals as go
 pub poll-requires-clause-call : goal.poll-requires-clause-call
 poll-requires-clause-call g c =
     let L = g.L.Layer in
-    let rules = g.E.SplitEdit.rules in
-    let mv = g.E.Moves.moves in
     let m = c.args.m.now in
     let lower = c.args.self.now.lower in
     let is = c.section_of.ensures in
-    subst (λ s. MayPoll (SectionAllowed rules mv (L.opening m)) (L.seen m) (L.under_way lower) s)
+    subst (λ s. MayPoll (SectionAllowed g.E.SplitEdit.rules g.E.Moves.moves (L.opening m)) (L.seen m) (L.under_way lower) s)
     (sym (meant_section g.E.SplitEdit.meant c.args.payload.now (L.cpu_of lower) c.args.call _ _ is.lock is.edit))
-    (may_section rules mv (L.opening m) (L.seen m) (L.under_way lower) (L.cpu_of lower) (call_meant g.E.SplitEdit.meant c.args.call c.args.payload.now)
-    c.requires.fits.2 c.requires.call)
+    (may_section _ _ (L.opening m) _ _ _ (call_meant g.E.SplitEdit.meant c.args.call c.args.payload.now) c.requires.fits.2 c.requires.call)
 
 -- and its poll is a poll of the call
 pub returns-clause-seen : goal.returns-clause-seen

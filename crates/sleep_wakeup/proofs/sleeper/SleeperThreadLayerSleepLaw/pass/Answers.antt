@@ -13,10 +13,9 @@ returns-clause-seen g c =
 pub returns-clause-follows : goal.returns-clause-follows
 returns-clause-follows g c = λ step.
     let S = g.S.Layer in
-    let self = c.args.self.now in
     let m = c.args.m.now in
     let told = sched_told (nested_told g.E.Sleeps.told) in
     let answered = c.poll-answer in
-    nested_pass_follows g.E.Sleeps.rules (S.opening m) (λ d. S.ActsFor m d) (S.cpu_of self.lower) (S.acts m) (S.acts answered.new.m) (S.own self.lower)
-    (S.own answered.new.self) (told_by told answered.result answered.new.payload) (option_map (deferred_told g.E.Sleeps.told) self.deferred) c.args.call
-    c.done.result (c.done.ensures ∙ done_told told answered.result answered.new.payload) (answered.ensures.follows step)
+    nested_pass_follows g.E.Sleeps.rules (S.opening m) (λ d. S.ActsFor m d) (S.cpu_of c.args.self.now.lower) (S.acts m) (S.acts answered.new.m) _ _
+    (told_by told answered.result answered.new.payload) (option_map (deferred_told g.E.Sleeps.told) c.args.self.now.deferred) c.args.call c.done.result
+    (c.done.ensures ∙ done_told told answered.result answered.new.payload) (answered.ensures.follows step)

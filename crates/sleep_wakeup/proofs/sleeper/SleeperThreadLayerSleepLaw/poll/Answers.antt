@@ -1,3 +1,4 @@
+use Rattle.std.proofs.Common.{arith}
 use Rattle.std.proofs.Common.{◌≡◌, Option, Some, None, refl, option_map, ap, subst, sym, ◌∙◌}
 use Rattle.{event_log.specs.declared.ids.{BufId.BufId, Tid.Tid}, layer_traits.specs.declared.{payloads.Payload.Payload, scheds.SchedAnswer.SchedAnswer}}
 use Rattle.layer_traits.specs.{declared.{scheds.SchedCall.SchedCall, sleeps.Outcome.Outcome}, Blocks.Payloads.{sched_meant, sched_told, told_by}}
@@ -43,9 +44,8 @@ module _ (g : Over) (c : Start g) (hand : Option Tid) (is : hand ≡ (g.S.Layer.
   may =
       let met = g.met.S.Layer in
       let acts = met.own_cpu lower m c.requires.fits.0 in
-      nested_may rules _ _ _ (own lower) buffer edit (met.opens m _ acts) (met.lawful m _ acts) c.requires.fits.1
-      (met.stands lower m c.requires.fits.0) deferred
-      (under_way lower) hand is fits c.requires.call
+      nested_may rules _ _ _ (own lower) buffer edit (met.opens m _ acts) (met.lawful m _ acts) c.requires.fits.1 (met.stands lower m c.requires.fits.0)
+      deferred (under_way lower) hand is fits c.requires.call
 
   module _ (after : g.row.S.Denot) (result : Option (SchedAnswer (Outcome g.row.E-Brought.Denot))) (payload : Payload) where
     abbrev answer : Option (SchedAnswer (Outcome g.row.E-Out.Denot))
@@ -60,13 +60,11 @@ module _ (g : Over) (c : Start g) (hand : Option Tid) (is : hand ≡ (g.S.Layer.
         (calls : call ≡ due hand buffer (as_edit edit)) (leaves : left_reported (outcome_in deferred) (own after) answer ≡ left) where
       sleeps : SchedPolled (beneath rules (opening m)) (ActsFor m) (cpu_of lower) call answer (seen m) (seen n) (own lower) (own after)
           → SleepPolled (here rules (opening m)) (ActsFor m) (cpu_of lower) buffer edit (renamed_events slept_edit (seen m))
-          (renamed_events slept_edit (seen n))
-          (own_of deferred (own lower)) left
+          (renamed_events slept_edit (seen n)) (own_of deferred (own lower)) left
       sleeps polled = rw (← leaves) (nested_sleeps rules (opening m) (ActsFor m) (cpu_of lower) answer (seen m) (seen n) (own lower) (own after) buffer edit
           deferred hand is (hand_defers deferred (under_way lower) hand buffer edit
           (MaySleep (here rules (opening m)) (cpu_of lower) (renamed_events slept_edit (seen m)) (own lower) buffer edit) fits c.requires.call
-          (λ may. is ∙ may.hand))
-          (rw calls at polled))
+          (λ may. is ∙ may.hand)) (rw calls at polled))
 
       follows : FollowsBeneath rules (opening m) (ActsFor m) (cpu_of lower) (acts m) (acts n)
           (sched_plan (nested_moves rules) (homes_in (opening m)) (cpu_of lower) call (own lower)) (sched_left (own after) answer)
@@ -98,15 +96,13 @@ pub returns-in-None-poll-clause-seen : goal.returns-in-None-poll-clause-seen
 returns-in-None-poll-clause-seen g c =
     let at = goal.at.returns-in-None-poll-clause-seen g c in
     let none = none g at.In-None in
-    sleeps g at.Start None none c.poll.new.self c.poll.result c.poll.new.payload c.poll.new.m (due_of g at.After-poll)
-    (waits g at.Start None none c.poll.new.self c.poll.result c.poll.new.payload c.in-None-poll.is) c.poll.ensures.seen
+    sleeps g at.Start None none _ _ _ _ (due_of g at.After-poll) (waits g at.Start None none _ _ _ c.in-None-poll.is) c.poll.ensures.seen
 
 pub returns-in-None-poll-clause-follows : goal.returns-in-None-poll-clause-follows
 returns-in-None-poll-clause-follows g c = λ step.
     let at = goal.at.returns-in-None-poll-clause-follows g c in
     let none = none g at.In-None in
-    follows g at.Start None none c.poll.new.self c.poll.result c.poll.new.payload c.poll.new.m (due_of g at.After-poll)
-    (waits g at.Start None none c.poll.new.self c.poll.result c.poll.new.payload c.in-None-poll.is) (c.poll.ensures.follows step)
+    follows g at.Start None none _ _ _ _ (due_of g at.After-poll) (waits g at.Start None none _ _ _ c.in-None-poll.is) (c.poll.ensures.follows step)
 
 module _ (g : Over) where
   abbrev left_at : (deferred : Option (DeferredOutcome g.row.E.Denot g.row.E-Brought.Denot)) (after : g.row.S.Denot)
@@ -124,10 +120,7 @@ module _ (g : Over) where
   -- what is left where it answers
   answers : (c : After-complete g) → left_at c.args.self.now.deferred c.poll.new.self c.poll.result c.poll.new.payload
       ≡ kept_at c.complete.new.deferred c.poll.new.self c.complete.result c.complete.new.payload
-  answers c = ap (λ r. left_at c.args.self.now.deferred c.poll.new.self r c.poll.new.payload) c.in-Some-poll.is
-      ∙ reported_is g.E.Sleeps.told c.args.self.now.deferred (g.S.Layer.own c.poll.new.self) c.args.call.buffer c.kept_edit-kept.result c.in-Some-poll.answer
-      c.poll.new.payload c.complete.new.payload c.hand-hand.result c.complete.new.deferred c.complete.result
-      (c.hand-hand.ensures ∙ ap in_hand c.own_here-in-Some-poll.ensures) c.complete.ensures.deferred c.complete.ensures.answer c.complete.ensures.parcel
+  answers c = grind (arith, reported_is)
 
   answers_home : (c : After-complete_home g) → (let poll = c.send_home in let done = c.complete_home in
       left_at c.args.self.now.deferred poll.new.lower poll.result poll.new.payload ≡ kept_at done.new.deferred poll.new.lower done.result done.new.payload)
@@ -143,14 +136,12 @@ module _ (g : Over) where
 pub returns-in-None-clause-seen : goal.returns-in-None-clause-seen
 returns-in-None-clause-seen g c =
     let at = goal.at.returns-in-None-clause-seen g c in
-    sleeps g at.Start None (none g at.In-None) c.poll.new.self c.poll.result c.poll.new.payload c.poll.new.m (due_of g at.After-poll) (answers g c)
-    c.poll.ensures.seen
+    sleeps g at.Start None (none g at.In-None) _ _ _ _ (due_of g at.After-poll) (answers g c) c.poll.ensures.seen
 
 pub returns-in-None-clause-follows : goal.returns-in-None-clause-follows
 returns-in-None-clause-follows g c = λ step.
     let at = goal.at.returns-in-None-clause-follows g c in
-    follows g at.Start None (none g at.In-None) c.poll.new.self c.poll.result c.poll.new.payload c.poll.new.m (due_of g at.After-poll) (answers g c)
-    (c.poll.ensures.follows step)
+    follows g at.Start None (none g at.In-None) _ _ _ _ (due_of g at.After-poll) (answers g c) (c.poll.ensures.follows step)
 
 -- the thread in the hand is sent home first
 
@@ -165,29 +156,21 @@ send_home-requires-clause-call g c =
 pub returns-in-None-send_home-clause-seen : goal.returns-in-None-send_home-clause-seen
 returns-in-None-send_home-clause-seen g c =
     let at = goal.at.returns-in-None-send_home-clause-seen g c in
-    let poll = c.send_home in
     let some = some g at.In-Some in
-    sleeps g at.Start (Some c.in-Some.t) some poll.new.lower poll.result poll.new.payload poll.new.m refl
-    (waits g at.Start (Some c.in-Some.t) some poll.new.lower poll.result poll.new.payload c.in-None-send_home.is) poll.ensures.seen
+    sleeps g at.Start (Some c.in-Some.t) some _ _ _ _ refl (waits g at.Start _ some _ _ _ c.in-None-send_home.is) c.send_home.ensures.seen
 
 pub returns-in-None-send_home-clause-follows : goal.returns-in-None-send_home-clause-follows
 returns-in-None-send_home-clause-follows g c = λ step.
     let at = goal.at.returns-in-None-send_home-clause-follows g c in
-    let poll = c.send_home in
     let some = some g at.In-Some in
-    follows g at.Start (Some c.in-Some.t) some poll.new.lower poll.result poll.new.payload poll.new.m refl
-    (waits g at.Start (Some c.in-Some.t) some poll.new.lower poll.result poll.new.payload c.in-None-send_home.is) (poll.ensures.follows step)
+    follows g at.Start (Some c.in-Some.t) some _ _ _ _ refl (waits g at.Start _ some _ _ _ c.in-None-send_home.is) (c.send_home.ensures.follows step)
 
 pub returns-clause-seen : goal.returns-clause-seen
 returns-clause-seen g c =
     let at = goal.at.returns-clause-seen g c in
-    let poll = c.send_home in
-    sleeps g at.Start (Some c.in-Some.t) (some g at.In-Some) poll.new.lower poll.result poll.new.payload poll.new.m refl
-    (answers_home g at.After-complete_home) poll.ensures.seen
+    sleeps g at.Start (Some c.in-Some.t) (some g at.In-Some) _ _ _ _ refl (answers_home g at.After-complete_home) c.send_home.ensures.seen
 
 pub returns-clause-follows : goal.returns-clause-follows
 returns-clause-follows g c = λ step.
     let at = goal.at.returns-clause-follows g c in
-    let poll = c.send_home in
-    follows g at.Start (Some c.in-Some.t) (some g at.In-Some) poll.new.lower poll.result poll.new.payload poll.new.m refl
-    (answers_home g at.After-complete_home) (poll.ensures.follows step)
+    follows g at.Start (Some c.in-Some.t) (some g at.In-Some) _ _ _ _ refl (answers_home g at.After-complete_home) (c.send_home.ensures.follows step)
