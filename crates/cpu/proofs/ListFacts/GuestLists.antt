@@ -1,8 +1,7 @@
 -- Tables of guests with one guest changed, and the entries of a CPU and of a thread in a grown history.
-use Rattle.std.proofs.Common.{◌⊎◌, inl, inr, ◌≡◌, ◌≢◌, ℕ, zero, suc, ◌+◌, ◌<◌, ◌≤◌, ◌==◌, true, not, List, [], ◌∷◌, ◌++◌, length, slice_index_or, count_by}
-use Rattle.std.proofs.{Common.{reverse, get_or, Option, Some, None, option_map, refl, ap, sym, ◌∙◌, subst, arith, slice_set}, lemmas.Bool.{cases_eq, eq-eqb}}
-use Rattle.std.proofs.lemmas.{Option.same_Some, List.{append-nil, reverse-append, get_or-set_same, get_or-set_other, set-get_or, map-set}}
-use Rattle.std.proofs.lemmas.List.{Elements.filter-append, Sums.sum_by-set}
+use Rattle.std.proofs.Common.{◌≡◌, ◌≢◌, ℕ, zero, suc, ◌+◌, ◌<◌, ◌≤◌, ◌==◌, true, not, List, [], ◌∷◌, ◌++◌, length, slice_index_or, count_by, reverse, get_or}
+use Rattle.std.proofs.{Common.{Option, Some, None, option_map, refl, ap, sym, ◌∙◌, subst, arith, slice_set}, lemmas.{Bool.{cases_eq, eq-eqb}, Option.same_Some}}
+use Rattle.std.proofs.lemmas.List.{append-nil, reverse-append, get_or-set_same, get_or-set_other, set-get_or, map-set, Elements.filter-append, Sums.sum_by-set}
 use Rattle.event_log.specs.{declared.{entries.Entry.Entry, ids.{BufId.BufId, CpuId.CpuId, Tid.Tid}}, History.{AreOthers, AreForeign}}
 use Rattle.layer_traits.specs.{declared.calls.{Effect.Effect, Reply.Reply}, Layers.BufferLaw.{cpu_of_entry, entry_of}, Threads.Places.one_if}
 use Rattle.cpu.specs.{declared.guests.{Guest.Guest, GuestStage.{GuestStage, TheVariants.Done}}, Guests.{entries_of, fresh_effect, is_begun, is_calling}}
@@ -24,8 +23,7 @@ guest_with guests t program at = absurd (cc at)
 -- the changed guest
 pub at_same : (guests : List (Option Guest)) (t : ℕ) (f : Guest → Guest) (g : Guest) → guest_at guests t ≡ Some g
     → guest_at (with_guest guests t f) t ≡ Some (f g)
-at_same guests t f g is =
-    get_or-set_same guests t (option_map f (guest_at guests t)) None (guest_within guests t g is) ∙ ap (λ (x : Option Guest). option_map f x) is
+at_same guests t f g is = grind (arith, get_or-set_same, guest_within)
 
 -- another guest
 pub at_other : (guests : List (Option Guest)) (t u : ℕ) (f : Guest → Guest) → u ≢ t → guest_at (with_guest guests t f) u ≡ guest_at guests u
@@ -35,13 +33,7 @@ at_other guests t u f other = get_or-set_other guests t u (option_map f (guest_a
 pub with_each : (guests guests2 : List (Option Guest)) (t : ℕ) (next : Guest) → guest_at guests2 t ≡ Some next
     → ((u : ℕ) → u ≢ t → guest_at guests2 u ≡ guest_at guests u) → (P : ℕ → Guest → Type 0) → P t next
     → ((u : ℕ) (x : Guest) → u ≢ t → guest_at guests u ≡ Some x → P u x) → (u : ℕ) (x : Guest) → guest_at guests2 u ≡ Some x → P u x
-with_each guests guests2 t next new others P here there u x found = go (cases_eq u t)
-  where
-    go : (u ≡ t) ⊎ (u ≡ t → ⊥) → P u x
-    go (inl same) =
-        let equal : next ≡ x = cc (found, subst (λ (k : ℕ). guest_at guests2 k ≡ Some next) (sym same) new) in
-        subst (λ (k : ℕ). P k x) (sym same) (subst (λ (y : Guest). P t y) equal here)
-    go (inr other) = there u x other (sym (others u other) ∙ found)
+with_each guests guests2 t next new others P here there u x found = grind (arith, cases_eq)
 
 pub at_programs : (guests : List (Option Guest)) (t : ℕ) → get_or (programs_of guests) t None ≡ option_map (λ x. x.program) (guest_at guests t)
 at_programs (x ∷ guests) (suc t) = at_programs guests t
@@ -77,8 +69,7 @@ none_of number (e ∷ others) theirs = rw theirs.0 (none_of number others theirs
 -- this CPU's entries after foreign ones
 pub cpu_same : (ActsFor : CpuId → Type 0) (number : CpuId) (others old : List Entry) → AreForeign ActsFor cpu_of_entry others → ActsFor number
     → of_cpu number (others ++ old) ≡ of_cpu number old
-cpu_same ActsFor number others old foreign acts =
-    filter-append (λ e. e.cpu.0 == number.0) others old ∙ ap (λ l. l ++ of_cpu number old) (none_of number others (foreign number acts))
+cpu_same ActsFor number others old foreign acts = grind (arith, filter-append, none_of)
 
 -- and after an own one too
 pub cpu_grown : (ActsFor : CpuId → Type 0) (number : CpuId) (t : Tid) (b : BufId) (mine : Option Effect) (others old : List Entry)

@@ -1,6 +1,6 @@
 -- Reads and writes of lists by their index.
 use Rattle.std.proofs.Common.{◌≡◌, ℕ, zero, suc, ◌+◌, ◌<◌, List, [], ◌∷◌, ◌++◌, length, map, reverse, Some, option_map, refl, ap, sym, ◌∙◌, subst, arith}
-use Rattle.std.proofs.{Common.{slice_set, Option, Bool, true, false, if◌then◌else◌}, lemmas.{List.{reverse-append, length-map}, Option.slice_get-map}}
+use Rattle.std.proofs.{Common.{slice_set, Option, Bool, if◌then◌else◌}, lemmas.{List.{reverse-append, length-map}, Option.slice_get-map}}
 use Rattle.std.{proofs.lemmas.Option.slice_get_read, specs.{Prelude.{slice_get, slice_index_or}, List.AllByRecursion}}
 use Rattle.{event_log.specs.{declared.ids.LockId.LockId, History.same_lock, Sections.{Section, block_after}}, cpu.specs.Claims.listed}
 pub use Rattle.event_log.proofs.ListLemmas.{set_else, set_there, there_is}
@@ -13,8 +13,7 @@ blocks_keep {B = B} P edited opening lock opens keeps (s ∷ past) =
     by_test (same_lock lock s.lock) (block_after edited opening lock past) (blocks_keep P edited opening lock opens keeps past)
   where
     by_test : (here : Bool) (o : Option B) → P o → P (if here then option_map (edited s.edit) o else o)
-    by_test true o before = keeps s.edit o before
-    by_test false o before = before
+    by_test here o before = grind arith
 
 -- a write of what stands there changes nothing
 pub set_again : {X : Type 0} (xs : List X) (i : ℕ) (x : X) → slice_get xs i ≡ Some x → slice_set xs i x ≡ xs

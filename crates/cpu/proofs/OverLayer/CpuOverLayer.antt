@@ -33,13 +33,7 @@ pub record PartLaws {P L M : Type 0} (I : Ghosts P L M) : Type 0 where
 -- from all that a bound by the layer's trait gives
 pub laws_of : {world : World} {Part Law Machine : RattleType} {I : Ghosts Part.Denot Law.Denot Machine.Denot} {dict : Dict} {calls : LawGhosts Law.Denot}
     {calls_dict : Dict} → Met {M = world.M} {𝓤 = world.𝓤} world.𝓛 world.𝓜 world.𝓡 world.𝓡.env Part Law Machine I dict calls calls_dict → PartLaws I
-laws_of law = record {
-  own_cpu = law.own_cpu;
-  stands = law.stands;
-  moves_legal = law.moves_legal;
-  idle = law.idle;
-  busy = law.busy;
-}
+laws_of law = grind arith
 
 -- a CPU whose part fits the machine
 pub layered : {P L M : Type 0} {I : Ghosts P L M} (laws : PartLaws I) (m : M) (p : Cpu P M) → AgreesAt I m p → IsLayered I m p

@@ -1,7 +1,7 @@
 -- A system over a layer of message calls, after steps of one of its CPUs, one behind the other.
 use Rattle.std.proofs.{lemmas.{Bool.ne_eqb, List.replicate-append-replicate, Option.{same_Some, slice_get-map, slice_get_within}}, Common.{◌≡◌, ℕ, ◌+◌, ◌<◌}}
 use Rattle.std.proofs.Common.{◌≤◌, List, [], ◌∷◌, ◌++◌, length, map, replicate, reverse, Some, None, slice_set, refl, ap, sym, ◌∙◌, subst, arith}
-use Rattle.std.specs.Prelude.{slice_get, Option, option_map}
+use Rattle.std.specs.Prelude.{slice_get, Option}
 use Rattle.{event_log.specs.declared.ids.{BufId.BufId, CpuId.CpuId, Tid.Tid}, layer_traits.specs.Threads.OnePlace.cpu_at}
 use Rattle.layer_traits.specs.{declared.{call_layers.CallLayer.Ghosts, steps.Step.TheVariants.Stepped}, Polling.Spins.{Misses, Spun}}
 use Rattle.cpu.specs.{declared.cpus.Cpu.Cpu, Claims.{CpuShown, Shown}, CpuSteps.{RunsAt, SteppedAt}, Cpus.{GuestsWent, SeenGrows}, Linear.CallsGoOn}
@@ -42,18 +42,13 @@ module _ {P L M : Type 0} (I : Ghosts P L M) (laws : MachineLaws I) (owner : M �
       order = grows_one;
       own = λ p q at_p at_q.
           let number : x.number ≡ c = (is.each k x at).number_is ∙ ap (λ (j : ℕ). cpu_at j) same in
-          let was : shown_by I x ≡ p = same_Some (shown_by I x) p (sym (subst (λ (j : ℕ). slice_get (map (shown_by I) cpus) j ≡ Some (shown_by I x)) same
-          (shows_at (shown_by I) cpus k x at)) ∙ at_p) in
+          let was : shown_by I x ≡ p = grind (arith, same_Some, shows_at) in
           let there : slice_get (slice_set cpus k y) k ≡ Some y = set_there cpus k y (slice_get_within cpus k x at) in
-          let now : shown_by I y ≡ q =
-          same_Some (shown_by I y) q (sym (subst (λ (j : ℕ). slice_get (map (shown_by I) (slice_set cpus k y)) j ≡ Some (shown_by I y)) same
-          (shows_at (shown_by I) (slice_set cpus k y) k y there)) ∙ at_q) in
+          let now : shown_by I y ≡ q = grind (arith, same_Some, shows_at) in
           subst (λ (d : CpuId). GuestsWent d p.guests p.trace q.guests q.trace) number
           (subst (λ (z : CpuShown). GuestsWent x.number p.guests p.trace z.guests z.trace) now
           (subst (λ (z : CpuShown). GuestsWent x.number z.guests z.trace y.guests.items y.trace.items) was step.leaves.guests));
-      others = λ j other.
-          slice_get-map (shown_by I) (slice_set cpus k y) j ∙ ap (λ o. option_map (shown_by I) o) (set_else cpus k j y (λ e. other (e ∙ same)))
-          ∙ sym (slice_get-map (shown_by I) cpus j);
+      others = grind (arith, slice_get-map, set_else);
     }
 
     leads_one : (s : Shown) (schedule : List CpuId) → Leads I.IsStepwise s schedule (shows m cpus taken)

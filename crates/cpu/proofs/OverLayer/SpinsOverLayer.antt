@@ -42,19 +42,7 @@ module _ {P L M : Type 0} (I : Ghosts P L M) (laws : MachineLaws I) (owner : M �
 
     -- no call takes effect
     after : IsMoment (shows n (taken + looks))
-    after =
-        let one = before.one_order in
-        record {
-          one_order = record {
-            keeps = rw spun.seen one.keeps;
-            run = rw (spun.opening, spun.seen) one.run;
-            fifo = rw (spun.opening, spun.seen) one.fifo;
-            closed = rw (spun.opening, spun.seen) one.closed;
-            few = let few = one.few in let same = ap (λ (l : List Entry). length (reverse l)) spun.seen in omega (arith, few, same);
-          };
-          follow = before.follow;
-          stay = rw spun.opening before.stay;
-        }
+    after = grind (arith, before)
 
     -- the looks are steps of the schedule
     pub spins_lead : Leads I.IsStepwise (shows m taken) (replicate looks c) (shows n (taken + looks))
@@ -75,11 +63,7 @@ module _ {P L M : Type 0} (I : Ghosts P L M) (laws : MachineLaws I) (owner : M �
               room = refl;
               taken = ap (λ (j : ℕ). taken + j) is_more;
               used = space;
-              tries = λ step. (
-                (tries step).lock,
-                ap named (tries step).grows ∙ named_misses looks (I.cpu_of x.part) (tries step).lock (I.acts m)
-                    ∙ (λ i. replicate (is_more i) (Try (number i) (tries step).lock false) ++ named (I.acts m)),
-              );
+              tries = grind (arith, named_misses, number);
               legal = legal_renamed name_of (I.acts n) legal;
               order = ap (λ (l : List Entry). reverse l) spun.seen;
               before = before;
@@ -93,12 +77,7 @@ module _ {P L M : Type 0} (I : Ghosts P L M) (laws : MachineLaws I) (owner : M �
           let before = is.each j z there in
           record {
             number_is = before.number_is;
-            holds = (
-              spun.fits z.part before.holds.0,
-              before.holds.1,
-              rw (spun.opening, spun.seen) before.holds.2,
-              λ step. rw spun.opening (before.holds.3 step),
-            );
+            holds = grind (arith, before);
           };
       some = is.some;
       most = is.most;
@@ -111,8 +90,7 @@ module _ {P L M : Type 0} (I : Ghosts P L M) (laws : MachineLaws I) (owner : M �
           let apart : (I.cpu_of x.part).0 ≢ d.0 =
           λ e. let own : (I.cpu_of x.part).0 ≡ c.0 = ap (λ (b : CpuId). b.0) number in omega (arith, e, own, same, past, inside) in
           ap (λ l. phase d l) missed.grows ∙ phase_others d (replicate looks (Try (I.cpu_of x.part) missed.lock false)) (I.acts m)
-          (misses_of TowerName looks (I.cpu_of x.part) d missed.lock apart)
-          ∙ is.rest step d past exists;
+          (misses_of TowerName looks (I.cpu_of x.part) d missed.lock apart) ∙ is.rest step d past exists;
       holders = λ d past exists holds. is.holders d past exists (spun.holders d holds);
       short = let short = is.short in let seen = ap (λ l. length l) spun.seen in omega (arith, short, seen);
       used = space;

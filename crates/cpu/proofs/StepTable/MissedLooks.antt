@@ -1,6 +1,6 @@
 -- Looks of one CPU that all missed: each is a step of the step table that leaves the CPU's private state, and so many of them are so many
 -- steps of the system.
-use Rattle.std.proofs.Common.{◌≡◌, ℕ, zero, suc, ◌+◌, ◌<◌, ◌≤◌, false, List, [], ◌∷◌, ◌++◌, map, replicate, Some, None, refl, ap, sym, ◌∙◌, subst, arith}
+use Rattle.std.proofs.Common.{◌≡◌, ℕ, zero, suc, ◌+◌, ◌<◌, ◌≤◌, false, List, [], ◌∷◌, ◌++◌, replicate, Some, None, refl, ap, sym, ◌∙◌, subst, arith}
 use Rattle.std.{proofs.lemmas.Bool.ne_eqb, specs.Prelude.slice_get}
 use Rattle.event_log.specs.{declared.ids.{CpuId.CpuId, LockId.LockId}, Actions.{Action, Try, AreLegal}}
 use Rattle.{layer_traits.specs.declared.steps.Step.TheVariants.Stepped, cpu.specs.{Claims.{CpuShown, IsMoment, Shown}, Systems.{SamePlan, SteppedByTable}}}
@@ -12,9 +12,7 @@ use Rattle.cpu.proofs.StepTable.Schedules.{Leads, leads_live, leads_nowhere}
 -- the same, of two systems
 missed_one : (c : CpuId) (lock : LockId) (s r : Shown) (here : CpuShown) → slice_get s.cpus c.0 ≡ Some here → r.cpus ≡ s.cpus → r.room ≡ s.room
     → r.taken ≡ s.taken + 1 → r.log ≡ Try c lock false ∷ s.log → AreLegal r.log → s.taken < s.room → SteppedByTable c s r Stepped
-missed_one c lock s r here at cpus room taken log legal live setup for =
-    (λ i. record { next = record { cpus = map (λ p. p.private) (cpus i); log = log i; room = room i; taken = taken i }; answer = Stepped })
-    ∙ grind (arith, ne_eqb, set_again, shows_at (λ (p : CpuShown). p.private) s.cpus c.0 here at, subst AreLegal log legal, live)
+missed_one c lock s r here at cpus room taken log legal live setup for = grind (arith, ne_eqb, set_again, shows_at)
 
 -- So many looks.
 
@@ -35,13 +33,7 @@ replicate_end zero x = refl
 replicate_end (suc n) x = ap (λ l. x ∷ l) (replicate_end n x)
 
 amid_moment : (s : Shown) (log : List (Action Name)) (taken : ℕ) → s.taken ≤ taken → IsMoment s → IsMoment (amid s log taken)
-amid_moment s log taken later now =
-    let one = now.one_order in
-    record {
-      one_order = record { keeps = one.keeps; run = one.run; fifo = one.fifo; closed = one.closed; few = let few = one.few in omega (arith, few, later) };
-      follow = now.follow;
-      stay = now.stay;
-    }
+amid_moment s log taken later now = grind arith
 
 -- r is the system s after so many looks of CPU c, which has a section under way, and each look missed
 pub record AreMisses (IsStepwise : Type 0) (c : CpuId) (s : Shown) (looks : ℕ) (r : Shown) : Type 0 where
@@ -90,8 +82,7 @@ module _ (IsStepwise : Type 0) (c : CpuId) (s : Shown) (here : CpuShown) (at : s
       (λ step. missed_one c (is.tries step).0 before r here at is.cpus is.room one_more (first_is r.log _ _ (is.tries step).1) is.legal has_room))
     where
       legal_behind : (log : List (Action Name)) → AreLegal log → AreLegal (behind log)
-      legal_behind [] legal = tt
-      legal_behind (a ∷ past) legal = legal.1
+      legal_behind log legal = grind arith
 
       first_is : (log : List (Action Name)) (a : Action Name) (past : List (Action Name)) → log ≡ a ∷ past → log ≡ a ∷ behind log
       first_is log a past is = is ∙ ap (λ (l : List (Action Name)). a ∷ behind l) (sym is)

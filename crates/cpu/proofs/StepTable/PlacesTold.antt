@@ -1,6 +1,6 @@
 -- The place that a system tells of a thread is where the thread stands in the table's own lists.
 use Rattle.std.proofs.{Common.{◌≡◌, ℕ, ◌<◌, true, List, length, Option, Some, ap, sym, ◌∙◌, subst, arith}, lemmas.{Bool.and_parts, List.length-map}}
-use Rattle.std.{proofs.lemmas.Option.same_Some, specs.Prelude.{slice_get, slice_index_or}}
+use Rattle.std.{proofs.lemmas.Option.same_Some, specs.Prelude.slice_get}
 use Rattle.layer_traits.specs.{Views.{OwnParts.threads_in, Observed.{IsOwnPlace, queue_place}}, declared.{calls.Place.Place, moves.WaitList.WaitList}}
 use Rattle.layer_traits.specs.{declared.moves.WaitList.TheVariants.{Sleepers, Receivers, Senders}, Layers.{BufferLaw.Buffering, IpcLaw.WaitListsAgree}}
 use Rattle.layer_traits.specs.Threads.{OnePlace.cpu_at, Passes.or_else, Places.{Asleep, At, IsPending, Stands, Step, Threads, Where, home_of, is_pend, one_if}}
@@ -8,7 +8,7 @@ use Rattle.layer_traits.{specs.Threads.Places.{pending_by, where_is}, proofs.{Co
 use Rattle.{layer_traits.proofs.{ListsLemmas.counted_in, PlaceLemmas.{pend_count, pend_home}}, event_log.specs.declared.{entries.Entry.Entry, ids.BufId.BufId}}
 use Rattle.event_log.{specs.declared.ids.{CpuId.CpuId, LockId.TheVariants.Buffer as AtBuffer, Tid.Tid}, proofs.Same.same_cpu_self}
 use Rattle.{thread_blocks.specs.Queues.is_in, cpu.specs.{declared.guests.Guest.Guest, Claims.{Waiters, CpuShown, IsPlaceOf, MovesAgree, Shown, waiters_at}}}
-use Rattle.cpu.specs.{Claims.{waiters_by, listed, no_waiters}, Systems.whole_of, Table.Setups.{Private, Setup, Thread, thread_at, home_cpu}}
+use Rattle.cpu.specs.{Claims.{waiters_by, listed}, Systems.whole_of, Table.Setups.{Private, Setup, Thread, thread_at, home_cpu}}
 use Rattle.cpu.specs.{Tables.{private, guest_state_of, guest_states}, Observed.{CpuHas, CpuIsObserved, HasBuffer, IsPlaceByTable}}
 use Rattle.cpu.proofs.{ListFacts.ListReads.{listed_there, shows_at, there_is}, Tower.BegunPolls.thread_here}
 use Rattle.event_log.specs.declared.ids.LockId.TheVariants as lock
@@ -35,16 +35,11 @@ module _ (s : Shown) (agree : MovesAgree s) (lines : BufId → WaitList → List
   asleep t b line here = grind (arith, wait_channel_here, counted_in)
 
   waiters_of : (b : ℕ) → b < length s.caps → waiters_at s b ≡ waiters_by lines b
-  waiters_of b within = ap (λ (l : List Waiters). slice_index_or l b no_waiters) waiters
-      ∙ listed_there (waiters_by lines) (length s.caps) b no_waiters within
+  waiters_of b within = grind (arith, listed_there)
 
   -- what holds of the private state of a CPU that is shown holds of that CPU in the table
   cpu_has : (c : CpuId) (k : ℕ) (p : CpuShown) (Has : Private → Type 0) → c ≡ cpu_at k → slice_get s.cpus k ≡ Some p → Has p.private → CpuHas (whole_of s) c Has
-  cpu_has c k p Has same there has = (
-    p.private,
-    ap (λ (d : CpuId). slice_get (whole_of s).cpus d.0) same ∙ shows_at (λ (q : CpuShown). q.private) s.cpus k p there,
-    has,
-  )
+  cpu_has c k p Has same there has = grind (arith, shows_at)
 
   -- a thread that a CPU has of its own
   own_so : (k : ℕ) (p : CpuShown) (t : Tid) (at : Place) → t.0 < length s.homes → slice_get s.cpus k ≡ Some p → IsOwnPlace (cpu_at k) p.own t at

@@ -28,8 +28,7 @@ pub leads_more : (IsStepwise : Type 0) (s r t : Shown) (schedule : List CpuId) (
 leads_more IsStepwise s r t schedule c answer leads same went by = record {
   plan = grind (arith, leads.plan, same);
   ran = goes c t leads.ran went;
-  table = λ step setup for.
-      grind (arith, goes_on, after_more);
+  table = λ step setup for. grind (arith, goes_on, after_more);
 }
 
 -- a step more that is taken
@@ -66,8 +65,7 @@ pub leads_on : (IsStepwise : Type 0) (s r t : Shown) (first second : List CpuId)
 leads_on IsStepwise s r t first second one two = record {
   plan = grind (arith, one.plan, two.plan);
   ran = ran_on IsStepwise s r t first second one.ran two.ran;
-  table = λ step setup for.
-      grind (arith, goes_on, after_both);
+  table = λ step setup for. grind (arith, goes_on, after_both);
 }
 
 -- the front of what is left of a schedule stands behind what was taken of it

@@ -1,21 +1,19 @@
 -- The clauses of a CPU's calls on the table, from those of the layer: its part tells its threads and its call states.
-use Rattle.std.proofs.Common.{◌≡◌, ◌<◌, ℕ, false, List, slice_get, Option, Some, None, IsSome, option_map, if◌then◌else◌, ap, sym, ◌∙◌, subst, arith}
-use Rattle.std.proofs.lemmas.Bool.{lt-ltb}
+use Rattle.std.proofs.{Common.{◌≡◌, ◌<◌, ℕ, false, List, slice_get, Option, Some, None, IsSome, option_map, ap, sym, ◌∙◌, subst, arith}, lemmas.Bool.lt-ltb}
 use Rattle.cpu.proofs.{Tower.{Polls.{halts_exactly, look_is_step}, KeptByPasses.boots_part}, CpuSteps.CpuStates.{TabledCpu, Outset}}
 use Rattle.cpu.{proofs.StepTable.TableRows.halted_same, specs.{declared.guests.Guest.Guest, Guests.is_ended, Cpus.{cpu_halted_at, reason_in, step_answer}}}
 use Rattle.cpu.specs.{Boots.AreGuests, Table.{Setups.Setup, Steps.cpu_step}, Tower.{Views.{TowerBlock, TowerName, name_of, tower, view}, Composed.OpensAs}}
 use Rattle.{cpu.specs.{Tower.Composed.named, Tables.{IsSetupOf, IsTabled, WentByTable, bare, private}}, layer_traits.specs.Views.OwnParts.threads_in}
-use Rattle.layer_traits.specs.{declared.{calls.{Call.Call, Reply.{Reply, TheVariants.NoBuffer}}, steps.Step.TheVariants.Stepped}, Polling.Looks.Tries}
-use Rattle.layer_traits.specs.{Polling.Plans.{Follows, Now, is_in_section}, Layers.BufferLaw.{Buffering, buffer_of, buffering_at_start, fifo_plan}}
-use Rattle.layer_traits.{specs.{Layers.IpcLaw.{OpensSo, ipc_plan}, Threads.Places.{AreMoves, Stands, Step, Threads, is_thread}}, proofs.PlaceLemmas.away_known}
-use Rattle.event_log.specs.declared.{entries.Entry.Entry, ids.{CpuId.CpuId, LockId.{LockId, TheVariants.{Pending, Buffer as AtBuffer}}, Tid.Tid}}
-use Rattle.{event_log.{specs.Actions.Action, proofs.Renaming.phase_renamed}, thread_blocks.proofs.Members.same_tid_self}
+use Rattle.layer_traits.specs.{declared.{calls.{Call.Call, Reply.Reply}, steps.Step.TheVariants.Stepped}, Polling.{Looks.Tries, Plans.{Follows, is_in_section}}}
+use Rattle.layer_traits.specs.{Layers.{BufferLaw.{Buffering, buffer_of, buffering_at_start, fifo_plan}, IpcLaw.{OpensSo, ipc_plan}}, Threads.Places.AreMoves}
+use Rattle.{layer_traits.{specs.Threads.Places.{Stands, Step, Threads}, proofs.PlaceLemmas.away_known}, event_log.specs.declared.entries.Entry.Entry}
+use Rattle.event_log.specs.{declared.ids.{CpuId.CpuId, LockId.{LockId, TheVariants.{Pending, Buffer as AtBuffer}}, Tid.Tid}, Actions.Action}
+use Rattle.{event_log.proofs.Renaming.phase_renamed, thread_blocks.proofs.Members.same_tid_self}
 
 -- a thread in the hand has a home
 pub hand_known : (homes : List CpuId) (c : CpuId) (moves : List Step) (own : Threads) → Stands homes c moves own → AreMoves homes moves
     → (u : Tid) → own.hand ≡ Some u → IsSome (slice_get homes u.0)
-hand_known homes c moves own stands lawful u has =
-    away_known homes moves u lawful (grind (arith, sym (stands.hand u) ∙ (ap (is_thread u) has ∙ same_tid_self u)))
+hand_known homes c moves own stands lawful u has = grind (arith, away_known, same_tid_self)
 
 -- also where another machine has the same homes
 pub hand_preserved : (homes now : List CpuId) (c : CpuId) (moves : List Step) (own : Threads) → now ≡ homes → Stands now c moves own → AreMoves now moves
@@ -27,10 +25,7 @@ pub fifo_follows : (ActsFor : CpuId → Type 0) (opening : LockId → Option Tow
     (c : Call) (own own2 : Buffering) (old new : List (Action TowerName)) (result : Option Reply) → part_of ≡ number → (buffer_of c).0 < buffers
     → Follows ActsFor tower opening part_of (ipc_plan buffers homes part_of t c own) old new (record { own = own2; answer = result })
     → Follows ActsFor tower opening number (fifo_plan homes number t c own) old new (record { own = own2; answer = result })
-fifo_follows ActsFor opening homes buffers part_of number t c own own2 old new result same within follows =
-    subst (λ p. Follows ActsFor tower opening number p old new (record { own = own2; answer = result }))
-    (ap (λ b. if b then fifo_plan homes number t c own else Now (record { own = own; answer = Some NoBuffer })) (lt-ltb (buffer_of c).0 buffers within))
-    (subst (λ d. Follows ActsFor tower opening d (ipc_plan buffers homes d t c own) old new (record { own = own2; answer = result })) same follows)
+fifo_follows ActsFor opening homes buffers part_of number t c own own2 old new result same within follows = grind (arith, lt-ltb)
 
 -- what the table's step answers, by the CPU's own reason to take none
 pub answers_step : (cpu : TabledCpu) (ActsFor : CpuId → Type 0) (old : List (Action TowerName)) (outset : Outset ActsFor cpu old) (setup : Setup)

@@ -13,7 +13,7 @@ use Rattle.cpu.specs.{Guests.{after_pass, computed, guest_ended, is_calling, pas
 use Rattle.cpu.specs.{Cpus.{of_cpu, of_thread, passed_by, reason_in, with_guest}, Table.{Setups.{Setup, Call as TableCall, Private, thread_at}, Choice.Alone}}
 use Rattle.cpu.specs.{Table.{Choice.{Goes, at_instruction, at_ready, choice, ends, with_state}, Steps.{cpu_step, halted_at}}, Tower.Views.{TowerName, name_of}}
 use Rattle.cpu.specs.Tower.{Views.tower, Privates.{guests_passed, private_of, private_passed}, Composed.{HandIsKnown, IsLine, OpensAs, named}, Positions.IsPart}
-use Rattle.cpu.{specs.Tables.{IsSetupOf, IsTabled, private, guest_state_of, guest_states}, proofs.CpuSteps.CpuStates.{TabledCpu, Outset, valid}}
+use Rattle.cpu.{specs.Tables.{IsSetupOf, IsTabled, private, guest_states}, proofs.CpuSteps.CpuStates.{TabledCpu, Outset, valid}}
 use Rattle.cpu.proofs.CpuSteps.PassSteps.{PassCase, computes_at, finish_exit, in_no_call, pass_case, switches, drains, sends_idle, sends_on, passes_on}
 use Rattle.cpu.proofs.{CpuSteps.PassSteps.finishes, ListFacts.GuestLists.guest_within, StepTable.TableRows.{call_is, call_of, guest_there, halted_same}}
 use Rattle.cpu.proofs.{StepTable.{TableRows.{stands_there, states_at, states_long}, TablePolls.{not_halted_so, opens_as, tabled_with}}, Tower.Chains.put_same}
@@ -37,8 +37,7 @@ unbegun f call_state at_idle = ap (λ s. option_map f (begun_of (record call_sta
 -- the states of the guests, where one guest changed
 states_changed : (guests : List (Option Guest)) (t : ℕ) (f : Guest → Guest) (g : Guest) → guest_at guests t ≡ Some g
     → guest_states (with_guest guests t f) ≡ slice_set (guest_states guests) t ((f g).thread)
-states_changed guests t f g at =
-    map-set guest_state_of guests t (option_map f (guest_at guests t)) ∙ ap (λ o. slice_set (guest_states guests) t (guest_state_of (option_map f o))) at
+states_changed guests t f g at = grind (arith, map-set)
 
 -- the guests and the threads after a poll of a pass
 abbrev pub passed_if : Option Tid → List (Option Guest) → Pass → Option (Unit {0}) → List (Option Guest)
@@ -356,8 +355,7 @@ module _ (cpu : TabledCpu) where
         let outside : is_in_section (phase number old) ≡ false = sym outset.busy ∙ outset.idle (idle under_way refl) in
         let live_now = halted_same cpu setup of
         ∙ not_halted_so outset.inside (is_in_section (phase number old)) (cpu_halted_at (threads_in own) guests trace limit) outset.busy live outside in
-        let quiet = call_of cpu setup of t g at
-        ∙ unbegun _ (call_state_of own.call_states t) at_idle in
+        let quiet = call_of cpu setup of t g at ∙ unbegun _ (call_state_of own.call_states t) at_idle in
         let there = guest_there own guests trace t g at in
         let i : Instruction = next_of g.program g.thread in
         let within : t.0 < length (guest_states guests) = subst (λ n. t.0 < n) (sym (states_long guests)) (guest_within guests t.0 g at) in

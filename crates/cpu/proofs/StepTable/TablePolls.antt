@@ -3,7 +3,7 @@ use Rattle.std.proofs.Common.{◌≡◌, ◌≢◌, ◌⊎◌, inl, inr, ℕ, �
 use Rattle.std.proofs.{Common.{option_map, ap, sym, ◌∙◌, subst, arith}, lemmas.List.{append-nil, length-set, map-set}}
 use Rattle.layer_traits.specs.{Views.OwnParts.threads_in, declared.{calls.{Call.Call, Effect.Effect, Reply.Reply}, passes.Pass.Pass, steps.Reason.Reason}}
 use Rattle.layer_traits.specs.{declared.{steps.Step.TheVariants.Stepped, call_states.{Stage.Stage, CallState.CallState}}, Polling.{Along.IsStep, Plans.Follows}}
-use Rattle.layer_traits.specs.{Polling.Plans.is_in_section, Threads.{Passes.IsLocalPass, Places.home_of}, Layers.BufferLaw.{Buffering, UnderWay, Passing}}
+use Rattle.layer_traits.specs.{Polling.Plans.is_in_section, Threads.Passes.IsLocalPass, Layers.BufferLaw.{Buffering, UnderWay, Passing}}
 use Rattle.layer_traits.specs.Layers.BufferLaw.{begun_of, buffer_of, fifo_plan, going, going_at, still_calling, call_state_of}
 use Rattle.event_log.specs.{declared.{entries.Entry.Entry, ids.{BufId.BufId, CpuId.CpuId, LockId.LockId, Tid.Tid, TheConstants.THREADS}}, Actions.Action}
 use Rattle.{event_log.specs.Actions.phase, guest.specs.{declared.instructions.Instruction.Instruction, State.{State, at_start, next_of}}}
@@ -12,7 +12,7 @@ use Rattle.cpu.specs.{declared.guests.Todo.TheVariants.Calls, Guests.{HasComeIn,
 use Rattle.cpu.specs.{Cpus.{chosen, fresh_at, guest_at, cpu_halted_at, of_cpu, of_thread, reason_in, with_guest}, Table.{Setups.Setup, Steps.cpu_step}}
 use Rattle.cpu.specs.{Table.Steps.halted_at, Tower.{Views.{TowerBlock, TowerName, tower}, Privates.{guests_after, private_after, private_of, trace_after}}}
 use Rattle.cpu.specs.{Tower.{Composed.{AsksFor, HandIsKnown, IsBeginning, IsGoing, OpensAs, named}, Positions.IsPart}, Tables.{IsSetupOf, IsTabled, bare}}
-use Rattle.cpu.{specs.Tables.{private, guest_state_of, guest_states}, proofs.ListFacts.GuestLists.{with_each, at_other, at_same, guest_within}}
+use Rattle.cpu.{specs.Tables.{private, guest_state_of, guest_states}, proofs.ListFacts.GuestLists.{at_other, at_same, guest_within}}
 use Rattle.cpu.proofs.CpuSteps.{CpuStates.{TabledCpu, Outset, valid}, GuestsFollow.had_going, CallSteps.{PollsAt, polls_at, poll_number, poll_call_states}}
 use Rattle.cpu.proofs.{StepTable.TableRows.{call_is, halted_same, states_at, states_long}, Tower.BegunPolls.{first_polls_are_steps, polls_are_steps}}
 use Rattle.cpu.proofs.Tower.{Chains.put_same, KeptByPolls.{IsFree, begins_keep, preserved_by, plans_keep}, PolledSystem.Polled, KeptByPasses.at_rest}
@@ -63,18 +63,7 @@ module _ (cpu : TabledCpu) where
       → (is_ended (f g).stage ≡ true → is_in t (threads_in own2).ended ≡ true)
       → ((u : Tid) → u.0 ≢ t.0 → is_in u (threads_in own).ended ≡ true → is_in u (threads_in own2).ended ≡ true)
       → ((p : Pass) → under_way2 ≡ Some (Passing p) → IsLocalPass p → ⊥) → IsTabled homes caps number own2 under_way2 (with_guest guests t.0 f) opening
-  tabled_with t g f own2 under_way2 at part over_t over quick =
-      let each = with_each guests (with_guest guests t.0 f) t.0 (f g) (at_same guests t.0 f g at) (λ u other. at_other guests t.0 u f other) in record {
-        part = part;
-        opens = tabled.opens;
-        only = λ (u : Tid) (x : Guest) found. each (λ (k : ℕ) (y : Guest). home_of homes (record { 0 = k }) ≡ Some number)
-            (tabled.only t g at) (λ k y other there. tabled.only (record { 0 = k }) y there) u.0 x found;
-        ends = λ (u : Tid) (x : Guest) found ended. each
-            (λ (k : ℕ) (y : Guest). is_ended y.stage ≡ true → is_in (record { 0 = k }) (threads_in own2).ended ≡ true) over_t
-            (λ k y other there now. over (record { 0 = k }) other (tabled.ends (record { 0 = k }) y there now)) u.0 x found ended;
-        size = length-set guests t.0 (option_map f (guest_at guests t.0)) ∙ tabled.size;
-        quick = quick;
-      }
+  tabled_with t g f own2 under_way2 at part over_t over quick = grind (arith, at_same, at_other, length-set)
 
   module _ (t : Tid) (c : Call) (chose : chosen (threads_in own) guests ≡ Polls t c) where
     abbrev polls : PollsAt (threads_in own) guests t c
@@ -98,8 +87,7 @@ module _ (cpu : TabledCpu) where
     going_so : (call_state.stage ≡ at_stage.Idle → ⊥) → IsGoing own (guest_states guests) t c
     going_so calls = record {
       current = polls.runs;
-      begun = sym (ap (λ x. x.call) (goes_same call_state.stage call_state c calls))
-          ∙ poll_call_states (valid cpu) t c chose;
+      begun = sym (ap (λ x. x.call) (goes_same call_state.stage call_state c calls)) ∙ poll_call_states (valid cpu) t c chose;
       stands = grind (arith, tabled.part.mine t polls.runs, calls);
       fits = tabled.part.fits t;
       in_guests = in_guests;

@@ -124,8 +124,7 @@ module _ (s : Shown) (told : ObservedByTable s) (setup : Setup) (is : IsSetupFor
         let free : p.busy ≡ false = sym one.inside ∙ quiet.outside c (inside_of c within) in
         let so = subst (λ (o : Option Reason). IsQuietBy setup c p.private o) one.halted (quiet.cpus c p.private (shows_private c.0 p there.1)) in
         let calm = quiet_is_calm setup c p.private p.own (cpu_halted_at p.own p.guests p.trace p.limit) one.current one.ready one.hand one.halted so in
-        ap is_calm there.1
-        ∙ subst (λ (b : Bool). calm_by (reason_in b (cpu_halted_at p.own p.guests p.trace p.limit)) b p.own ≡ true) (sym free) calm;
+        ap is_calm there.1 ∙ subst (λ (b : Bool). calm_by (reason_in b (cpu_halted_at p.own p.guests p.trace p.limit)) b p.own ≡ true) (sym free) calm;
     pending = λ c within.
         let there = there_is s.cpus c.0 within in
         same_queue _ (sym (told.cpus setup is c.0 there.0 there.1).pending ∙ quiet.pending c (inside_of c within));

@@ -40,37 +40,26 @@ row_first : (c : CpuId) (p : Private) (h : CpuId) (homes : List CpuId) (o : Opti
     → Rows c p (h ∷ homes) (o ∷ guests) n → Row c p (tid n) h o
 row_first c p h homes o guests n rows = let e : n + 0 ≡ n = omega arith in subst (λ m. Row c p (tid m) h o) e (rows 0 h refl)
 
-rows_ended : (c : CpuId) (p : Private) (homes : List CpuId) (guests : List (Option Guest)) (n : ℕ) → length guests ≡ length homes → Rows c p homes guests n
-    → have_ended p (home_threads_from c homes n) ≡ list_all is_over guests
-rows_ended c p [] [] n long rows = refl
-rows_ended c p (h ∷ homes) (o ∷ guests) n long rows =
+-- all have ended where all are over, and as many calls are open as have begun
+rows_told : (c : CpuId) (p : Private) (homes : List CpuId) (guests : List (Option Guest)) (n : ℕ) → length guests ≡ length homes → Rows c p homes guests n
+    → (have_ended p (home_threads_from c homes n) ≡ list_all is_over guests) × (open_calls p (home_threads_from c homes n) ≡ begun_count guests)
+rows_told c p [] [] n long rows = (refl, refl)
+rows_told c p (h ∷ homes) (o ∷ guests) n long rows =
     let behind : length guests ≡ length homes = omega (arith, long) in
-    go (same_cpu h c) refl (rows_ended c p homes guests (n + 1) behind (rows_behind c p h homes o guests n rows))
+    let told = go (same_cpu h c) refl (rows_told c p homes guests (n + 1) behind (rows_behind c p h homes o guests n rows)) in
+    (told.0, told.1 ∙ sym (sum_by-cons (λ (g : Option Guest). cond (is_begun_guest g) 1 0) o guests))
   where
     first_row : Row c p (tid n) h o
     first_row = row_first c p h homes o guests n rows
 
-    go : (b : Bool) → same_cpu h c ≡ b → have_ended p (home_threads_from c homes (n + 1)) ≡ list_all is_over guests
-        → have_ended p (if b then tid n ∷ home_threads_from c homes (n + 1) else home_threads_from c homes (n + 1)) ≡ (is_over o && list_all is_over guests)
+    go : (b : Bool) → same_cpu h c ≡ b
+        → (have_ended p (home_threads_from c homes (n + 1)) ≡ list_all is_over guests)
+        × (open_calls p (home_threads_from c homes (n + 1)) ≡ begun_count guests)
+        → (have_ended p (if b then tid n ∷ home_threads_from c homes (n + 1) else home_threads_from c homes (n + 1)) ≡ (is_over o && list_all is_over guests))
+        × (open_calls p (if b then tid n ∷ home_threads_from c homes (n + 1) else home_threads_from c homes (n + 1))
+        ≡ cond (is_begun_guest o) 1 0 + begun_count guests)
     go b is more = grind (arith, first_row)
-rows_ended c p homes guests n long rows = absurd (omega (arith, long))
-
-rows_open : (c : CpuId) (p : Private) (homes : List CpuId) (guests : List (Option Guest)) (n : ℕ) → length guests ≡ length homes → Rows c p homes guests n
-    → open_calls p (home_threads_from c homes n) ≡ begun_count guests
-rows_open c p [] [] n long rows = refl
-rows_open c p (h ∷ homes) (o ∷ guests) n long rows =
-    let behind : length guests ≡ length homes = omega (arith, long) in
-    go (same_cpu h c) refl (rows_open c p homes guests (n + 1) behind (rows_behind c p h homes o guests n rows))
-    ∙ sym (sum_by-cons (λ (g : Option Guest). cond (is_begun_guest g) 1 0) o guests)
-  where
-    first_row : Row c p (tid n) h o
-    first_row = row_first c p h homes o guests n rows
-
-    go : (b : Bool) → same_cpu h c ≡ b → open_calls p (home_threads_from c homes (n + 1)) ≡ begun_count guests
-        → open_calls p (if b then tid n ∷ home_threads_from c homes (n + 1) else home_threads_from c homes (n + 1))
-        ≡ cond (is_begun_guest o) 1 0 + begun_count guests
-    go b is more = grind (arith, first_row)
-rows_open c p homes guests n long rows = absurd (omega (arith, long))
+rows_told c p homes guests n long rows = absurd (omega (arith, long))
 
 -- whether there is a call at all
 pub call_is : (stage : GuestStage) (program : List Instruction) (s : State) (es : List Entry) (begun : Option Call) (effect : Option Effect)
@@ -99,14 +88,10 @@ module _ (cpu : TabledCpu) where
   follows_at t g at = (is.follow t g at).1
 
   open_at : (t : Tid) (g : Guest) → guest_at guests t.0 ≡ Some g → is_open_call (thread_at p t).call ≡ is_begun g.stage
-  open_at t g at =
-      ap (λ (x : Thread). is_open_call x.call) (guest_there own guests trace t g at)
-      ∙ (grind (arith, follows_at t g at))
+  open_at t g at = ap (λ (x : Thread). is_open_call x.call) (guest_there own guests trace t g at) ∙ (grind (arith, follows_at t g at))
 
   ended_at : (t : Tid) (g : Guest) → guest_at guests t.0 ≡ Some g → (thread_at p t).ended ≡ is_ended g.stage
-  ended_at t g at =
-      ap (λ (x : Thread). x.ended) (guest_there own guests trace t g at)
-      ∙ (grind arith)
+  ended_at t g at = ap (λ (x : Thread). x.ended) (guest_there own guests trace t g at) ∙ (grind arith)
 
   row : Rows number p homes guests 0
   row k home at =
@@ -123,10 +108,10 @@ module _ (cpu : TabledCpu) where
 
   module _ (setup : Setup) (of : IsSetupOf setup homes caps guests limit) where
     all_ended : have_ended p (home_threads setup number) ≡ list_all is_over guests
-    all_ended = ap (λ l. have_ended p (home_threads_from number l 0)) of.homes_are ∙ rows_ended number p homes guests 0 tabled.size row
+    all_ended = ap (λ l. have_ended p (home_threads_from number l 0)) of.homes_are ∙ (rows_told number p homes guests 0 tabled.size row).0
 
     all_open : open_calls p (home_threads setup number) ≡ begun_count guests
-    all_open = ap (λ l. open_calls p (home_threads_from number l 0)) of.homes_are ∙ rows_open number p homes guests 0 tabled.size row
+    all_open = ap (λ l. open_calls p (home_threads_from number l 0)) of.homes_are ∙ (rows_told number p homes guests 0 tabled.size row).1
 
     -- the instruction at which a thread stands
     pub stands_there : (t : Tid) (g : Guest) → guest_at guests t.0 ≡ Some g → stands_at setup p t ≡ next_of g.program g.thread

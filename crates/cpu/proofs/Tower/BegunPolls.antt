@@ -33,8 +33,7 @@ module _ (polled : Polled) (own : Buffering) (guests : List State) (trace : List
       let p : Private = private_of own guests trace in
       let call_state_now : CallState = call_state_of own.call_states t in
       let begun : begun_at call_state_now.stage call_state_now.call ≡ Some call
-      = ap (begun_at call_state_now.stage) going.begun
-      ∙ (grind (arith, going.stands)) in
+      = ap (begun_at call_state_now.stage) going.begun ∙ (grind (arith, going.stands)) in
       let is = ap (λ x. x.call) (thread_here own guests trace t going.in_guests) ∙ ap (option_map _) begun in
       let way : Way Reply polled = record {
         p = p;
@@ -42,8 +41,7 @@ module _ (polled : Polled) (own : Buffering) (guests : List State) (trace : List
         plan = fifo_plan setup.homes c t call own;
         after = private_after setup c t call own guests trace;
         line = plans_are_lines setup c own guests trace t call going known;
-        goes = λ past same. step_goes setup c p p old past same (λ inside. refl)
-            (λ outside. grind (arith, choice_current, choice_hand, going.current, is, live outside));
+        goes = grind (arith, step_goes, choice_current, choice_hand);
       } in
       line_is_step polled way got known2 follows
 

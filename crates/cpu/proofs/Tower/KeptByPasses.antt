@@ -3,7 +3,7 @@ use Rattle.std.proofs.{Common.{◌≡◌, ℕ, zero, suc, List, length, replicat
 use Rattle.layer_traits.specs.{Views.OwnParts.threads_in, declared.{calls.Effect.Effect, passes.Pass.Pass, call_states.Stage.Stage}, Threads.Passes.pass_after}
 use Rattle.{layer_traits.specs.{Threads.Places.Threads, Layers.BufferLaw.{Buffering, buffering_at_start, no_call}}, event_log.specs.declared.ids.BufId.BufId}
 use Rattle.{event_log.{specs.declared.ids.{CpuId.CpuId, Tid.Tid, TheConstants.THREADS}, proofs.ListLemmas.alike_at}, cpu.specs.Tower.Views.TowerOut}
-use Rattle.cpu.specs.Tower.{Positions.{IsPart, MayStand, outside}, Composed.{CallStands, asks, waits}}
+use Rattle.cpu.specs.Tower.{Positions.{IsPart, MayStand, outside}, Composed.{CallStands, waits}}
 use Rattle.layer_traits.specs.declared.passes.Pass.TheVariants as pass
 use Rattle.layer_traits.specs.declared.call_states.Stage.TheVariants as at
 
@@ -25,8 +25,7 @@ deferred_none stage hand deferred s w effect given is = grind arith
 
 stands_calls : (stage : Stage) (hand : Option Tid) (deferred : Option TowerOut) (s w : Option BufId) (effect : Option Effect)
     → CallStands stage hand deferred s w effect → stage ≡ at.Idle → ⊥
-stands_calls stage hand deferred s w effect asks is = absurd (cc is)
-stands_calls stage hand deferred s w effect given is = absurd (cc is)
+stands_calls stage hand deferred s w effect given is = grind arith
 
 -- a thread in no call neither sleeps nor waits, and nobody is in the hand
 pub record AtRest (h : Option Tid) (k : Option TowerOut) (s w : Option BufId) : Type 0 where

@@ -112,8 +112,7 @@ module _ (site : Site) (effect : Option Effect) (had : HasHad site effect) (othe
   woke_on : (stage : Stage) (out : TowerOut) (u : Tid) → IsPart (lift site effect had stage out (waking site effect had (Some t) u true)).own
       → IsPart (lift site effect had stage out (waking site effect had (Some t) u false)).own
       → (b : Bool) → IsPart (lift site effect had stage out (waking site effect had (Some t) u b)).own
-  woke_on stage out u here there true = here
-  woke_on stage out u here there false = there
+  woke_on stage out u here there b = grind arith
 
 -- Before the effect.
 
@@ -147,7 +146,7 @@ module _ (site : Site) (had : HasHad site None) (others : Rest site.t site.slept
   tries_by x lined (inr tried) =
       subst (λ o. Keeps at.Tries (did_out o)) (sym tried.is) (effects_by (effect_by call tried.closed tried.op tried.message position))
 
-  waits_by : IsLined call → (side : Side) (o : Option Tid) → IsPart (waited site had side o).own
+  waits_by : IsLined call → (side : Side) (o : Option Tid) → IsPart (waited site None had side o).own
   waits_by lined Receivers None = waits_on site None had others None ready at.Waits (was_woken _) lined
   waits_by lined Senders None = waits_on site None had others None ready at.Waits (was_woken _) lined
   waits_by lined Receivers (Some u) = waits_on site None had others _ _ at.Waits (was_woken _) lined

@@ -1,15 +1,14 @@
 -- The passes from thread to thread are lines of the table, or steps of it without an action.
-use Rattle.std.proofs.Common.{◌≡◌, ◌≢◌, ℕ, ◌+◌, ◌<◌, true, false, ◌&&◌, List, [], ◌∷◌, ◌++◌, length, slice_get, slice_set, Option, Some, None, IsSome}
-use Rattle.std.proofs.{Common.{refl, ap, sym, ◌∙◌, arith, inl, inr}, lemmas.{Bool.ne_eqb, List.append-nil}, Math.Bool.or-true}
-use Rattle.{event_log.specs.declared.{entries.Entry.Entry, ids.{BufId.BufId, CpuId.CpuId, LockId.TheVariants.Pending, Tid.Tid}}, guest.specs.State.State}
-use Rattle.{guest.specs.State.{after_yield, at_start, next_of}, thread_blocks.{specs.Queues.is_in, proofs.{Members.same_tid_self, Distinct.pushed_in}}}
-use Rattle.layer_traits.specs.{declared.{passes.Pass.Pass, call_states.CallState.CallState}, Layers.{QLockLaw.slept_for, BufferLaw.{Buffering, fifo_pass_plan}}}
-use Rattle.layer_traits.specs.{Layers.BufferLaw.{no_call, call_state_of}, Threads.Passes.queue_for, Polling.Plans.Left}
-use Rattle.cpu.specs.Table.{Blocks.Pend, Setups.{Setup, Private, Thread, program_of, thread_at}, Choice.{after_by, after_section, asked_by, at_pending, ends}}
-use Rattle.cpu.specs.{Table.Choice.with_state, Tower.{Views.{TowerAnswer, TowerBlock, answer_view, tower}, Privates.{state_at, private_of, private_passed}}}
-use Rattle.cpu.{specs.Tower.{Privates.{thread_from, thread_of, tid}, Composed.{HandIsKnown, IsKind, IsLine}}, proofs.Tower.Callers.Runner}
-use Rattle.cpu.proofs.Tower.{ChangedThread.{changed, numbered_changed, numbered_same, own_at, part_at, parts, threads_at}, SectionLines.react_in}
-use Rattle.cpu.proofs.Tower.{HandLines.home_there, Chains.put_same, BegunPolls.thread_here}
+use Rattle.std.proofs.Common.{◌≡◌, ◌≢◌, ℕ, ◌+◌, ◌<◌, true, false, ◌&&◌, List, [], ◌∷◌, ◌++◌, length, slice_get, slice_set, Option, Some, None, IsSome, refl, ap}
+use Rattle.std.proofs.{Common.{sym, ◌∙◌, arith}, lemmas.{Bool.ne_eqb, List.append-nil}, Math.Bool.or-true}
+use Rattle.{event_log.specs.declared.{entries.Entry.Entry, ids.{BufId.BufId, CpuId.CpuId, Tid.Tid}}, guest.specs.State.{State, after_yield, at_start, next_of}}
+use Rattle.{thread_blocks.{specs.Queues.is_in, proofs.{Members.same_tid_self, Distinct.pushed_in}}, layer_traits.specs.declared.passes.Pass.Pass}
+use Rattle.layer_traits.specs.{declared.call_states.CallState.CallState, Layers.{QLockLaw.slept_for, BufferLaw.{Buffering, fifo_pass_plan, no_call}}}
+use Rattle.{layer_traits.specs.{Layers.BufferLaw.call_state_of, Polling.Plans.Left}, cpu.specs.Table.Setups.{Setup, Private, Thread, program_of, thread_at}}
+use Rattle.cpu.specs.{Table.Choice.{after_by, after_section, ends, with_state}, Tower.{Views.{TowerAnswer, answer_view}, Privates.{state_at, private_of}}}
+use Rattle.cpu.{specs.Tower.{Privates.{private_passed, thread_from, thread_of, tid}, Composed.IsLine}, proofs.Tower.{Callers.Runner, ChangedThread.changed}}
+use Rattle.cpu.proofs.Tower.{ChangedThread.{numbered_changed, numbered_same, own_at, part_at, parts, threads_at}, SectionLines.react_in, HandLines.home_there}
+use Rattle.cpu.proofs.Tower.{Chains.put_same, BegunPolls.thread_here}
 use Rattle.layer_traits.specs.declared.passes.Pass.TheVariants as pass
 use Rattle.layer_traits.specs.declared.queue_edits.QueueEdit.TheVariants as queue
 use Rattle.layer_traits.specs.declared.queue_edits.QueueAnswer.TheVariants as told
@@ -27,39 +26,14 @@ module _ (setup : Setup) (c : CpuId) (guests : List State) (trace : List Entry) 
   idle_with ready = own_at None None ready ended None slept waits call_states
 
   pub drain_line : PassLine setup c pass.Drain (idle_with []) guests trace
-  drain_line = record {
-    lock = Pending c;
-    name = queue.TakeAll;
-    react = react_in (fifo_pass_plan setup.homes c pass.Drain (idle_with []));
-    is = refl;
-    asks = refl;
-    used = inl refl;
-    stays = refl;
-    gives = by_block;
-  }
-    where
-      by_block : (x : TowerBlock) → IsKind (Pending c) x
-          → HandIsKnown setup (react_in (fifo_pass_plan setup.homes c pass.Drain (idle_with [])) (Some (tower.answer queue.TakeAll x))).own
-          → private_passed setup (idle_with []) guests trace pass.Drain
-          (react_in (fifo_pass_plan setup.homes c pass.Drain (idle_with [])) (Some (tower.answer queue.TakeAll x)))
-          ≡ after_section setup c (private_of (idle_with []) guests trace) (answer_view (tower.answer queue.TakeAll x))
-      by_block x kind known = grind (arith, append-nil)
+  drain_line = grind (arith, append-nil)
 
   -- the thread in the hand is put among its home's pending
   abbrev holding : Tid → List Tid → Buffering
   holding u ready = own_at None (Some u) ready ended None slept waits call_states
 
   pub make_ready_line : (u : Tid) (ready : List Tid) → IsSome (slice_get setup.homes u.0) → PassLine setup c (pass.MakeReady u) (holding u ready) guests trace
-  make_ready_line u ready known = record {
-    lock = Pending (queue_for setup.homes c u);
-    name = queue.Push u;
-    react = react_in (fifo_pass_plan setup.homes c (pass.MakeReady u) (holding u ready));
-    is = refl;
-    asks = ap (λ d. at_pending d (Pend u)) (sym (grind (arith, known)));
-    used = inr (u, home_there c (slice_get setup.homes u.0) known);
-    stays = refl;
-    gives = λ x kind hand. refl;
-  }
+  make_ready_line u ready known = grind (arith, home_there)
 
   -- The thread that runs is in no call.
 
@@ -114,21 +88,7 @@ module _ (setup : Setup) (c : CpuId) (guests : List State) (trace : List Entry) 
         there_free)))
 
     pub yield_line : PassLine setup c pass.YieldNow running guests trace
-    yield_line = record {
-      lock = Pending c;
-      name = queue.TakeAll;
-      react = yields;
-      is = refl;
-      asks = ap (λ x. asked_by c t x.call) there_free;
-      used = inl refl;
-      stays = refl;
-      gives = by_block;
-    }
-      where
-        by_block : (x : TowerBlock) → IsKind (Pending c) x → HandIsKnown setup (yields (Some (tower.answer queue.TakeAll x))).own
-            → private_passed setup running guests trace pass.YieldNow (yields (Some (tower.answer queue.TakeAll x)))
-            ≡ after_section setup c p (answer_view (tower.answer queue.TakeAll x))
-        by_block x kind known = grind (arith, yielded)
+    yield_line = grind (arith, there_free, yielded)
 
     -- it ends
     pub ended_now : private_of (own_at None None ready (ended ++ t ∷ []) None slept waits call_states) guests trace ≡ ends p t

@@ -2,8 +2,8 @@
 use Rattle.std.proofs.Common.{◌≡◌, slice_get, Option, Some, IsSome, refl, subst}
 use Rattle.{event_log.specs.declared.ids.{BufId.BufId, Tid.Tid}, layer_traits.specs.declared.{calls.Effect.Effect, call_states.Stage.Stage}}
 use Rattle.{layer_traits.specs.{declared.call_states.CallState.CallState, Layers.{QLockLaw.slept_for, BufferLaw.call_state_of}}, cpu.specs.Tower.Views.TowerOut}
-use Rattle.cpu.specs.Tower.Composed.{FitsStage, PlansAreLines, CallStands, asks, was_handed, enters, tries, waits, was_woken, asks_anew, was_handed_again}
-use Rattle.cpu.{specs.Tower.Composed.{signals, signals_own, releases, has_signalled, has_signalled_own, has_released}, proofs.Tower.Callers.{Caller, HasRoom}}
+use Rattle.cpu.specs.Tower.Composed.{FitsStage, PlansAreLines, CallStands, was_handed, waits, was_woken, was_handed_again}
+use Rattle.cpu.{specs.Tower.Composed.{has_signalled, has_signalled_own, has_released}, proofs.Tower.Callers.{Caller, HasRoom}}
 use Rattle.cpu.proofs.Tower.{Callers.{awake, caller_in, call_state_at}, ChangedThread.own_at, HandLines.{has_signalled_line, has_signalled_own_line}}
 use Rattle.cpu.proofs.Tower.{HandLines.has_released_line, Chains.{LineOf, site_line, handed_line, handed_again_line, woken_line}}
 
@@ -14,20 +14,13 @@ module _ (caller : Caller) where
       → CallStands stage hand deferred s w effect → FitsStage stage (Some call) → call_state_of call_states t ≡ call_state_at caller stage effect
       → slept_for slept t ≡ s → slept_for waiting t ≡ w → ((u : Tid) → hand ≡ Some u → IsSome (slice_get setup.homes u.0))
       → LineOf setup c t call (own_at (Some t) hand ready ended deferred slept waiting call_states) guests trace
-  by_stands asks fits is is_s is_w known = site_line (awake caller is_s is_w) _ _ asks fits is
-  by_stands enters fits is is_s is_w known = site_line (awake caller is_s is_w) _ _ enters fits is
-  by_stands tries fits is is_s is_w known = site_line (awake caller is_s is_w) _ _ tries fits is
-  by_stands waits fits is is_s is_w known = site_line (awake caller is_s is_w) _ _ waits fits is
-  by_stands asks_anew fits is is_s is_w known = site_line (awake caller is_s is_w) _ _ asks_anew fits is
-  by_stands (signals f) fits is is_s is_w known = site_line (awake caller is_s is_w) _ _ (signals f) fits is
-  by_stands (signals_own f) fits is is_s is_w known = site_line (awake caller is_s is_w) _ _ (signals_own f) fits is
-  by_stands (releases f) fits is is_s is_w known = site_line (awake caller is_s is_w) _ _ (releases f) fits is
   by_stands (was_handed b) fits is is_s is_w known = handed_line caller b is is_s is_w
   by_stands (was_handed_again b) fits is is_s is_w known = handed_again_line caller b fits is is_s is_w
   by_stands (was_woken b) fits is is_s is_w known = woken_line caller b fits is is_s is_w
   by_stands (has_signalled u v f) fits is is_s is_w known = has_signalled_line (awake caller is_s is_w) u f (known u refl) v is
   by_stands (has_signalled_own u v f) fits is is_s is_w known = has_signalled_own_line (awake caller is_s is_w) u f (known u refl) v is
   by_stands (has_released u f) fits is is_s is_w known = has_released_line (awake caller is_s is_w) u f (known u refl) is
+  by_stands given fits is is_s is_w known = site_line (awake caller is_s is_w) _ _ given fits is
 
 pub plans_are_lines : PlansAreLines
 plans_are_lines setup c own guests trace t call going known =

@@ -124,8 +124,13 @@ module _ (site : Site) where
       (raised (λ l. left_after ((lock_moves buffer_rules).caller s) (buffer_of call) slept l.own l.answer)
       (sleep_plan (lock_moves buffer_rules) setup.homes c (buffer_of call) s (part_at runner hand deferred).cv.lock.sleep))
 
+-- a call that has had no new effect writes no entry
+same_trace : (c : CpuId) (t : Tid) (b : BufId) (effect : Option Effect) (trace : List Entry) → trace_after c t b effect effect trace ≡ trace
+same_trace c t b effect trace = grind arith
+
 module _ (site : Site) (effect : Option Effect) (is_effect : HasHad site effect) where
-  open site use {setup, c, runner, t, ready, ended, slept, waits, call_states, guests, trace, call, position, in_guests, in_call_states, is_slept, is_waits}
+  open site use {setup, c, runner, t, ready, ended, slept, waits, call_states, guests, trace, call, position}
+  open site use {in_guests, in_call_states, in_slept, in_waits, is_slept, is_waits}
 
   abbrev pub own : Buffering
   own = part_at runner None None
@@ -278,43 +283,88 @@ module _ (site : Site) (effect : Option Effect) (is_effect : HasHad site effect)
       by_home u (λ b. lift stage (waking_out out u) (waking (Some t) u b)) (woke_to next u) each hand known
       ∙ sym (by_table stage (waking_out out u) (k next) trace is)
 
+  -- An answer of the layers is taken as the table takes it, whatever effect the call has had.
+
+  abbrev Fits : Stage → TowerOut → Type 0
+  Fits stage out = HandIsKnown setup (reacted stage out).own → after (reacted stage out) ≡ by_answer stage out
+
+  -- it woke nobody, and the call goes on at its next stage
+  stands_at : (stage next : Stage) (out : QOut (CvOut BufferOut)) → Records stage (calm_out out) (k next) trace
+      → ((p : Private) → returned_at setup p t (k next) (k next).stage ≡ p) → thread_from (call_state next) None None false e g ≡ with_call (k next)
+      → after (left_on None ready None (call_state next) None) ≡ by_answer stage (calm_out out)
+  stands_at stage next out is stays same =
+      runs stage out (call_state next) (k next) trace is stays
+      (λ i. parts (Some t) ready None (slice_set threads t.0 (same i)) (same_trace c t buf effect trace i))
+
+  -- it asks for the lock, and has it or sleeps for it
+  sleeps : (stage next : Stage) (owner : Tid) → Records stage (asked_out (Some owner)) (k next) trace
+      → thread_from (call_state stage) (Some buf) None false e g ≡ with_call (k next)
+      → after (left_gone None ready (slice_set slept t.0 (Some buf)) waits stage) ≡ by_answer stage (asked_out (Some owner))
+  sleeps stage next owner is same =
+      gone_now None ready (slice_set slept t.0 (Some buf)) waits stage (Some buf) None (λ j other. get_or-set_other slept t.0 j (Some buf) None other)
+      (λ j other. refl) (get_or-set_same slept t.0 (Some buf) None in_slept) is_waits
+      ∙ (λ i. parts None ready None (slice_set threads t.0 (same i)) (same_trace c t buf effect trace i))
+      ∙ sym (by_table stage (asked_out (Some owner)) (k next) trace is)
+
+  ask : (o : Option Tid) → Fits Acquires (asked_out o)
+  ask None known = stands_at Acquires Enters (asked_out None).out refl (λ p. refl) refl
+  ask (Some owner) known = sleeps Acquires Enters owner refl refl
+
+  ask_again : (o : Option Tid) → Fits AcquiresAgain (asked_out o)
+  ask_again None known = stands_at AcquiresAgain Tries (asked_out None).out refl (λ p. refl) refl
+  ask_again (Some owner) known = sleeps AcquiresAgain Tries owner refl refl
+
+  -- it waits, with the thread that it woke at home or in the hand
+  abbrev gone_so : Private
+  gone_so = slept_if true (stands ready None (k AcquiresAgain) trace)
+
+  abbrev woken_to : Tid → Bool → Private
+  woken_to u b = settled setup (if b then record gone_so { ready = ready ++ u ∷ [] } else record gone_so { hand = Some u })
+
+  abbrev pub waited : Side → Option Tid → Left Buffering Reply
+  waited side o = react Waits (Release (Wait t side)) (Some (told.Answer (wait_out side o)))
+
+  waits_by : (side : Side) (u : Tid) (b : Bool) → after (lift Waits (wait_out side (Some u)) (waking None u b)) ≡ woken_to u b
+  waits_by side u b = grind (arith, gone_now, same_trace, get_or-set_other, get_or-set_same)
+
+  wait_alone : (side : Side) → after (left_gone None ready slept (slice_set waits t.0 (Some buf)) Waits) ≡ by_answer Waits (wait_out side None)
+  wait_alone side =
+      grind (arith, gone_now, same_trace, get_or-set_other, get_or-set_same) ∙ sym (by_table Waits (wait_out side None) (k AcquiresAgain) trace refl)
+
+  abbrev waking_so : Side → Tid → Bool → Left Buffering Reply
+  waking_so side u b = lift Waits (wait_out side (Some u)) (waking None u b)
+
+  wait_waking : (side : Side) (u : Tid) → HandIsKnown setup (waking_so side u (is_cpu c (slice_get setup.homes u.0))).own
+      → after (waking_so side u (is_cpu c (slice_get setup.homes u.0))) ≡ by_answer Waits (wait_out side (Some u))
+  wait_waking side u known =
+      by_home u (waking_so side u) (woken_to u) (waits_by side u) (λ hand. hand u refl) known
+      ∙ sym (by_table Waits (wait_out side (Some u)) (k AcquiresAgain) trace refl)
+
+  wait_now : (side : Side) (o : Option Tid) → HandIsKnown setup (waited side o).own → after (waited side o) ≡ by_answer Waits (wait_out side o)
+  wait_now Receivers None known = wait_alone Receivers
+  wait_now Senders None known = wait_alone Senders
+  wait_now Receivers (Some u) known = wait_waking Receivers u known
+  wait_now Senders (Some u) known = wait_waking Senders u known
+
+  -- it signals
+  signal_by : (v : CvOut BufferOut) (u : Tid) (b : Bool) → after (lift Signals (signal_out v (Some u)) (waking (Some t) u b)) ≡ woke_to SignalsOwn u b
+  signal_by v u b = grind (arith, runs_on, stays_so, same_trace)
+
+  own_signal_by : (v : CvOut BufferOut) (u : Tid) (b : Bool) → after (lift SignalsOwn (signal_out v (Some u)) (waking (Some t) u b)) ≡ woke_to Releases u b
+  own_signal_by v u b = grind (arith, runs_on, stays_so, same_trace)
+
+  signal : (v : CvOut BufferOut) (o : Option Tid) → Fits Signals (signal_out v o)
+  signal v None known = stands_at Signals SignalsOwn (lock.Did v) refl (λ p. refl) refl
+  signal v (Some u) known = wakes Signals SignalsOwn (lock.Did v) u refl (signal_by v u) known (λ hand. hand u refl)
+
+  own_signal : (v : CvOut BufferOut) (o : Option Tid) → Fits SignalsOwn (signal_out v o)
+  own_signal v None known = stands_at SignalsOwn Releases (lock.Did v) refl (λ p. refl) refl
+  own_signal v (Some u) known = wakes SignalsOwn Releases (lock.Did v) u refl (own_signal_by v u) known (λ hand. hand u refl)
+
 -- Before the effect.
 
 module _ (site : Site) (had : HasHad site None) where
-  open site use {setup, c, t, ready, slept, waits, trace, call, position, in_slept, in_waits, is_slept, is_waits}
-
-  -- an answer of the layers is taken as the table takes it
-  abbrev Fits : Stage → TowerOut → Type 0
-  Fits stage out = after site None had (reacted site None had stage out) ≡ by_answer site None had stage out
-
-  -- it asks for the lock, and has it or sleeps for it
-  has_lock : (stage next : Stage) → Records site None had stage (asked_out None) (k site None had next) trace
-      → ((p : Private) → returned_at setup p t (k site None had next) (k site None had next).stage ≡ p)
-      → thread_from (call_state site None had next) None None false (e site None had) (g site None had) ≡ with_call site None had (k site None had next)
-      → after site None had (left_on site None had None ready None (call_state site None had next) None) ≡ by_answer site None had stage (asked_out None)
-  has_lock stage next is stays same =
-      runs site None had stage (asked_out None).out (call_state site None had next) (k site None had next) trace is stays
-      (ap (λ x. parts (Some t) ready None (slice_set (threads site None had) t.0 x) trace) same)
-
-  sleeps : (stage next : Stage) (owner : Tid) → Records site None had stage (asked_out (Some owner)) (k site None had next) trace
-      → thread_from (call_state site None had stage) (Some (buf site None had)) None false (e site None had) (g site None had)
-      ≡ with_call site None had (k site None had next)
-      → after site None had (left_gone site None had None ready (slice_set slept t.0 (Some (buf site None had))) waits stage)
-      ≡ by_answer site None had stage (asked_out (Some owner))
-  sleeps stage next owner is same =
-      gone_now site None had None ready (slice_set slept t.0 (Some (buf site None had))) waits stage (Some (buf site None had)) None
-      (λ j other. get_or-set_other slept t.0 j (Some (buf site None had)) None other) (λ j other. refl)
-      (get_or-set_same slept t.0 (Some (buf site None had)) None in_slept) is_waits
-      ∙ ap (λ x. parts None ready None (slice_set (threads site None had) t.0 x) trace) same
-      ∙ sym (by_table site None had stage (asked_out (Some owner)) (k site None had next) trace is)
-
-  ask : (o : Option Tid) → Fits Acquires (asked_out o)
-  ask None = has_lock Acquires Enters refl (λ p. refl) refl
-  ask (Some owner) = sleeps Acquires Enters owner refl refl
-
-  ask_again : (o : Option Tid) → Fits AcquiresAgain (asked_out o)
-  ask_again None = has_lock AcquiresAgain Tries refl (λ p. refl) refl
-  ask_again (Some owner) = sleeps AcquiresAgain Tries owner refl refl
+  open site use {setup, c, t, ready, trace, call, position}
 
   -- it enters its line, or closes the buffer
   abbrev pub effected_state : Effect → CallState
@@ -329,90 +379,29 @@ module _ (site : Site) (had : HasHad site None) where
   effects stage out f is =
       runs site None had stage (lock.Did (cv.Did out)) (effected_state f) (call_from call position (Some f) Signals) (effected_trace f) is (λ p. refl) refl
 
-  first_by : (x : BufferState) → Draws t call x ⊎ Shuts t call x → Fits Enters (did_out (buffer_answer (first_of t call) x))
+  first_by : (x : BufferState) → Draws t call x ⊎ Shuts t call x → Fits site None had Enters (did_out (buffer_answer (first_of t call) x))
   first_by x (inl draws) =
-      subst (λ o. Fits Enters (did_out o)) (sym draws.is)
-      (runs site None had Enters (lock.Did (cv.Did (Entered draws.pos))) (record { stage = Tries; call = Some call; position = draws.pos; effect = None })
-      (call_from call draws.pos None Tries) trace (grind (arith, draws.lined)) (λ p. refl) refl)
+      subst (λ o. Fits site None had Enters (did_out o)) (sym draws.is) (λ known. runs site None had Enters (lock.Did (cv.Did (Entered draws.pos)))
+      (record { stage = Tries; call = Some call; position = draws.pos; effect = None }) (call_from call draws.pos None Tries) trace (grind (arith, draws.lined))
+      (λ p. refl) refl)
   first_by x (inr shuts) =
-      subst (λ o. Fits Enters (did_out o)) (sym shuts.is)
-      (effects Enters (WasShut shuts.op shuts.pos) (shut_effect shuts.op shuts.pos) (grind (arith, shuts.shuts)))
+      subst (λ o. Fits site None had Enters (did_out o)) (sym shuts.is)
+      (λ known. effects Enters (WasShut shuts.op shuts.pos) (shut_effect shuts.op shuts.pos) (grind (arith, shuts.shuts)))
 
   -- it tries
   tries_by : (x : BufferState) → IsLined call → (buffer_answer (try_of t call) x ≡ NotYet) ⊎ Tried t call x
-      → Fits Tries (did_out (buffer_answer (try_of t call) x))
+      → Fits site None had Tries (did_out (buffer_answer (try_of t call) x))
   tries_by x lined (inl vain) =
-      subst (λ o. Fits Tries (did_out o)) (sym vain)
-      (runs site None had Tries (lock.Did (cv.Did NotYet)) (call_state site None had Waits) (k site None had Waits) trace refl (λ p. refl) refl)
+      subst (λ o. Fits site None had Tries (did_out o)) (sym vain)
+      (λ known. stands_at site None had Tries Waits (lock.Did (cv.Did NotYet)) refl (λ p. refl) refl)
   tries_by x lined (inr tried) =
-      subst (λ o. Fits Tries (did_out o)) (sym tried.is) (effects Tries (Done (kind_for (asks_in call) tried.closed) tried.op tried.message)
-      (effect_by call tried.closed tried.op tried.message position) (grind (arith, lined, tried.same)))
-
-  -- it waits, with the thread that it woke at home or in the hand
-  abbrev gone_so : Private
-  gone_so = slept_if true (stands site None had ready None (k site None had AcquiresAgain) trace)
-
-  abbrev woken_to : Tid → Bool → Private
-  woken_to u b = settled setup (if b then record gone_so { ready = ready ++ u ∷ [] } else record gone_so { hand = Some u })
-
-  abbrev pub waited : Side → Option Tid → Left Buffering Reply
-  waited side o = react site None had Waits (Release (Wait t side)) (Some (told.Answer (wait_out side o)))
-
-  waits_by : (side : Side) (u : Tid) (b : Bool)
-      → after site None had (lift site None had Waits (wait_out side (Some u)) (waking site None had None u b)) ≡ woken_to u b
-  waits_by side u b = grind (arith, gone_now, get_or-set_other, get_or-set_same)
-
-  wait_alone : (side : Side) → after site None had (left_gone site None had None ready slept (slice_set waits t.0 (Some (buf site None had))) Waits)
-      ≡ by_answer site None had Waits (wait_out side None)
-  wait_alone side =
-      grind (arith, gone_now, get_or-set_other, get_or-set_same)
-      ∙ sym (by_table site None had Waits (wait_out side None) (k site None had AcquiresAgain) trace refl)
-
-  abbrev waking_so : Side → Tid → Bool → Left Buffering Reply
-  waking_so side u b = lift site None had Waits (wait_out side (Some u)) (waking site None had None u b)
-
-  wait_waking : (side : Side) (u : Tid) → HandIsKnown setup (waking_so side u (is_cpu c (slice_get setup.homes u.0))).own
-      → after site None had (waking_so side u (is_cpu c (slice_get setup.homes u.0))) ≡ by_answer site None had Waits (wait_out side (Some u))
-  wait_waking side u known =
-      by_home site None had u (waking_so side u) (woken_to u) (waits_by side u) (λ hand. hand u refl) known
-      ∙ sym (by_table site None had Waits (wait_out side (Some u)) (k site None had AcquiresAgain) trace refl)
-
-  wait_now : (side : Side) (o : Option Tid) → HandIsKnown setup (waited side o).own
-      → after site None had (waited side o) ≡ by_answer site None had Waits (wait_out side o)
-  wait_now Receivers None known = wait_alone Receivers
-  wait_now Senders None known = wait_alone Senders
-  wait_now Receivers (Some u) known = wait_waking Receivers u known
-  wait_now Senders (Some u) known = wait_waking Senders u known
+      subst (λ o. Fits site None had Tries (did_out o)) (sym tried.is) (λ known. effects Tries (Done (kind_for (asks_in call) tried.closed) tried.op
+      tried.message) (effect_by call tried.closed tried.op tried.message position) (grind (arith, lined, tried.same)))
 
 -- After the effect.
 
 module _ (site : Site) (f : Effect) (had : HasHad site (Some f)) where
   open site use {setup, c, t, ready, trace, call, position}
-
-  -- an answer of the layers is taken as the table takes it
-  abbrev FitsSome : Stage → TowerOut → Type 0
-  FitsSome stage out = HandIsKnown setup (reacted site (Some f) had stage out).own
-      → after site (Some f) had (reacted site (Some f) had stage out) ≡ by_answer site (Some f) had stage out
-
-  signal_by : (v : CvOut BufferOut) (u : Tid) (b : Bool)
-      → after site (Some f) had (lift site (Some f) had Signals (signal_out v (Some u)) (waking site (Some f) had (Some t) u b))
-      ≡ woke_to site (Some f) had SignalsOwn u b
-  signal_by v u b = grind (arith, runs_on, stays_so)
-
-  own_signal_by : (v : CvOut BufferOut) (u : Tid) (b : Bool)
-      → after site (Some f) had (lift site (Some f) had SignalsOwn (signal_out v (Some u)) (waking site (Some f) had (Some t) u b))
-      ≡ woke_to site (Some f) had Releases u b
-  own_signal_by v u b = grind (arith, runs_on, stays_so)
-
-  signal : (v : CvOut BufferOut) (o : Option Tid) → FitsSome Signals (signal_out v o)
-  signal v None known =
-      runs site (Some f) had Signals (lock.Did v) (call_state site (Some f) had SignalsOwn) (k site (Some f) had SignalsOwn) trace refl (λ p. refl) refl
-  signal v (Some u) known = wakes site (Some f) had Signals SignalsOwn (lock.Did v) u refl (signal_by v u) known (λ hand. hand u refl)
-
-  own_signal : (v : CvOut BufferOut) (o : Option Tid) → FitsSome SignalsOwn (signal_out v o)
-  own_signal v None known =
-      runs site (Some f) had SignalsOwn (lock.Did v) (call_state site (Some f) had Releases) (k site (Some f) had Releases) trace refl (λ p. refl) refl
-  own_signal v (Some u) known = wakes site (Some f) had SignalsOwn Releases (lock.Did v) u refl (own_signal_by v u) known (λ hand. hand u refl)
 
   -- it releases the lock, and its call returns
   abbrev pub over : CallState
@@ -430,7 +419,7 @@ module _ (site : Site) (f : Effect) (had : HasHad site (Some f)) where
       ≡ woke_to site (Some f) had Idle u b
   release_by u b = grind (arith, returned_so, runs_on)
 
-  release : (o : Option Tid) → FitsSome Releases (left_out o)
+  release : (o : Option Tid) → Fits site (Some f) had Releases (left_out o)
   release None known = returned_so ready ∙ sym (by_table site (Some f) had Releases (left_out None) (k site (Some f) had Idle) trace refl)
   release (Some u) known = wakes site (Some f) had Releases Idle (lock.Released cv.Left) u refl (release_by u) known (λ hand. hand u refl)
 
@@ -453,21 +442,18 @@ named_so : (t : Tid) (call : TowerCall) (position : ℕ) {effect : Option Effect
     → FitsStage stage (Some call) → section_due t (call_from call position effect stage) stage ≡ name_of (queue.Above (call_section t call stage))
 named_so t call position given fits = grind arith
 
-same_trace : (c : CpuId) (t : Tid) (b : BufId) (effect : Option Effect) (trace : List Entry) → trace_after c t b effect effect trace ≡ trace
-same_trace c t b effect trace = grind arith
-
 answers : (site : Site) {effect : Option Effect} (had : HasHad site effect) {stage : Stage} → CallStands stage None None None None effect
     → FitsStage stage (Some site.call) → (x : LockState BufferState)
     → HandIsKnown site.setup (reacted site effect had stage (lock_answer buffer_rules (call_section site.t site.call stage) x)).own
     → after site effect had (reacted site effect had stage (lock_answer buffer_rules (call_section site.t site.call stage) x))
     ≡ by_answer site effect had stage (lock_answer buffer_rules (call_section site.t site.call stage) x)
-answers site had asks fits x known = ask site had x.owner
-answers site had enters fits x known = first_by site had x.above (first_answer site.t site.call x.above)
-answers site had tries fits x known = tries_by site had x.above fits (try_answer site.t site.call x.above fits)
+answers site had asks fits x known = ask site None had x.owner known
+answers site had enters fits x known = first_by site had x.above (first_answer site.t site.call x.above) known
+answers site had tries fits x known = tries_by site had x.above fits (try_answer site.t site.call x.above fits) known
 answers site had stands_waits fits x known = grind (arith, wait_now, known)
-answers site had asks_anew fits x known = ask_again site had x.owner
-answers site had (signals f) fits x known = signal site f had _ _ known
-answers site had (signals_own f) fits x known = own_signal site f had _ _ known
+answers site had asks_anew fits x known = ask_again site None had x.owner known
+answers site had (signals f) fits x known = signal site (Some f) had _ _ known
+answers site had (signals_own f) fits x known = own_signal site (Some f) had _ _ known
 answers site had (releases f) fits x known = release site f had (first x.sleepers) known
 
 -- the plan of a section is a line of the table
@@ -480,8 +466,7 @@ section_line site effect had stage given fits = record {
   is = section_planned site had given;
   asks =
       asks_for site.setup site.c site.ready (threads site effect had) site.trace site.t (g site effect had) (e site effect had) (within site effect had)
-      (k site effect had stage)
-      ∙ ap (at_buffer (buf site effect had)) (named_so site.t site.call site.position given fits);
+      (k site effect had stage) ∙ ap (at_buffer (buf site effect had)) (named_so site.t site.call site.position given fits);
   used = tt;
   stays =
       runs_on site effect had None site.ready None (call_state site effect had stage) None

@@ -29,13 +29,7 @@ pub record Good (setup : Setup) (past : List (Section Name)) : Type 0 where
 -- A new log.
 
 pub good_none : (setup : Setup) → Good setup []
-good_none setup = record {
-  ordered = tt;
-  pairs = λ b u k is. grind (arith, same_buffer, paired, marked_none, is);
-  pending = λ d u threads is. grind (arith, and_right, is);
-  small = λ u on. absurd (cc on);
-  known = λ u off. absurd (cc off);
-}
+good_none setup = grind (arith, same_buffer, paired, marked_none, and_right)
 
 -- How a section moves a thread.
 
@@ -134,8 +128,7 @@ module _ (setup : Setup) (past : List (Section Name)) (good : Good setup past) (
   visit_there b off u k g x (Some (OfBuffer was)) pair = by_test (is_caller u name) refl
     where
       by_test : (mine : Bool) → is_caller u name ≡ mine → Pair b u k g (if mine then next_visit d name was (visit setup u past) else visit setup u past) x
-      by_test true own = grind (arith, paired, refuted, stays_apart b d name was (visit setup u past) off (callers u (is_the_caller u name own)).due, pair)
-      by_test false other = pair
+      by_test mine own = grind (arith, paired, refuted, stays_apart, is_the_caller)
   visit_there b off u k g x o pair = pair
 
   there_pair : (b : BufId) → is_buffer b d ≡ false → (u : Tid) (k : Buffer) → block_of setup (AtBuffer b) past ≡ Some (OfBuffer k)

@@ -26,6 +26,14 @@ module _ (setup : Setup) (c : CpuId) (t : Tid) where
     pub inside : InCall setup c state t call traced
     pub block : block_of setup (AtBuffer call.buffer) past ≡ Some (OfBuffer k)
 
+  -- three steps are the section that is due, told this
+  section_done : {k : Buffer} {call : Call} {traced : List Entry} (s : Whole) (n left : ℕ) (a : Answer) (gets : Gets s n k call traced (left + 3))
+      → answer_of_buffer (section_due t call call.stage) k ≡ a → steps_by setup c (n + 3) s ≡ after_three setup c gets.now gets.state a
+  section_done {call = call} {traced = traced} s n left a gets told =
+      steps_more setup c n 3 s ∙ ap (steps_by setup c 3) gets.by ∙ three_steps setup c gets.now gets.before gets.state gets.past left a gets.stands gets.goes
+      (ap (λ ask. option_map (answer ask.name) (block_of setup ask.lock gets.past)) (asks_for setup c gets.state t call traced gets.inside)
+      ∙ ap (option_map (answer (section_due t call call.stage))) gets.block ∙ ap Some told)
+
   -- one section of the call
   advance : (s : Whole) (n : ℕ) (k next : Buffer) (call more : Call) (traced longer : List Entry) (left : ℕ) (a : Answer) → Gets s n k call traced (left + 3)
       → answer_of_buffer (section_due t call call.stage) k ≡ a → edited_buffer (section_due t call call.stage) k ≡ next → call.buffer ≡ more.buffer
@@ -33,13 +41,10 @@ module _ (setup : Setup) (c : CpuId) (t : Tid) where
   advance s n k next call more traced longer left a gets told edits same_buffer goes_so =
       let q = gets.state in
       let asks = asks_for setup c q t call traced gets.inside in
-      let answers = ap (λ ask. option_map (answer ask.name) (block_of setup ask.lock gets.past)) asks
-      ∙ ap (option_map (answer (section_due t call call.stage))) gets.block ∙ ap Some told in
       let after = goes_so q gets.inside in
       record {
         now = after_three setup c gets.now q a;
-        by = steps_more setup c n 3 s ∙ ap (steps_by setup c 3) gets.by
-            ∙ three_steps setup c gets.now gets.before q gets.past left a gets.stands gets.goes answers;
+        by = section_done s n left a gets told;
         before = after_section setup c q a;
         state = after_section setup c q a;
         past = section_of c (asked setup c q) ∷ gets.past;
@@ -53,9 +58,7 @@ module _ (setup : Setup) (c : CpuId) (t : Tid) where
   answer_recorded : (p h : Private) (call more : Call) (traced longer : List Entry) (told : Reported) → InCall setup c p t call traced
       → with_told c p t call call.stage told ≡ h
       → InCall setup c h t more longer → returned_at setup h t more more.stage ≡ h → InCall setup c (after_section setup c p (reports told)) t more longer
-  answer_recorded p h call more traced longer told inside is after stays =
-      let same = after_is setup c p t call traced (reports told) inside ∙ ap (settled setup) is ∙ settled_is setup c h t more longer after ∙ stays in
-      subst (λ x. InCall setup c x t more longer) (sym same) after
+  answer_recorded p h call more traced longer told inside is after stays = grind (arith, after_is, settled_is)
 
   new_in : (p : Private) (call more : Call) (traced : List Entry) → InCall setup c p t call traced → InCall setup c (with_call p t (Some more)) t more traced
   new_in p call more traced at = with_new setup c p t more traced at.hand at.current at.known at.live at.trace
@@ -160,8 +163,6 @@ module _ (setup : Setup) (c : CpuId) (t : Tid) where
     signals_away n left u away told gets =
         let q = gets.state in
         let asks = asks_for setup c q t call traced gets.inside in
-        let answers = ap (λ ask. option_map (answer ask.name) (block_of setup ask.lock gets.past)) asks
-        ∙ ap (option_map (answer (section_due t call call.stage))) gets.block ∙ ap Some told in
         let h = with_call q t (Some more) in
         let held : Private = record h { hand = Some u } in
         let same = after_is setup c q t call traced (wakes (Some u)) gets.inside
@@ -169,8 +170,6 @@ module _ (setup : Setup) (c : CpuId) (t : Tid) where
         ∙ ap (λ b. settled setup (if b then record h { ready = h.ready ++ u ∷ [] } else record h { hand = Some u })) away in
         let one = after_three setup c gets.now q (wakes (Some u)) in
         let past : List (Section Name) = section_of c (asked setup c q) ∷ gets.past in
-        let by_one = steps_more setup c n 3 s ∙ ap (steps_by setup c 3) gets.by
-        ∙ three_steps setup c gets.now gets.before q gets.past (left + 3) (wakes (Some u)) gets.stands gets.goes answers in
         let stands_one : Stands setup c one held past (left + 3) =
         subst (λ x. Stands setup c one x past (left + 3)) same
         (stands_after setup c gets.now gets.before q gets.past (left + 3) (wakes (Some u)) gets.stands) in
@@ -182,7 +181,7 @@ module _ (setup : Setup) (c : CpuId) (t : Tid) where
         let inside_after = subst (λ x. InCall setup c x t more traced) (sym after) at in
         record {
           now = after_three setup c one held (reports Nothing);
-          by = steps_more setup c (n + 3) 3 s ∙ ap (steps_by setup c 3) by_one
+          by = steps_more setup c (n + 3) 3 s ∙ ap (steps_by setup c 3) (section_done s n (left + 3) (wakes (Some u)) gets told)
               ∙ three_steps setup c one held held past left (reports Nothing) stands_one refl pends;
           before = after_section setup c held (reports Nothing);
           state = after_section setup c held (reports Nothing);
@@ -222,15 +221,11 @@ module _ (setup : Setup) (c : CpuId) (t : Tid) where
       let last : Call = record call { stage = Releases } in
       let gone : Call = record call { stage = Idle } in
       let q = gets.state in
-      let asks = asks_for setup c q t last traced gets.inside in
       let told : answer_of_buffer (RelQ t) k ≡ reports Nothing = ap (λ x. wakes (first x)) none in
-      let answers : option_map (answer (asked setup c q).name) (block_of setup (asked setup c q).lock gets.past) ≡ Some (reports Nothing) =
-      ap (λ ask. option_map (answer ask.name) (block_of setup ask.lock gets.past)) asks ∙ ap (option_map (answer (RelQ t))) gets.block ∙ ap Some told in
       let h = with_call q t (Some gone) in
       let now = new_in q last gone traced gets.inside in
       let same = after_is setup c q t last traced (reports Nothing) gets.inside ∙ settled_is setup c h t gone traced now in
-      let by = steps_more setup c n 3 s ∙ ap (steps_by setup c 3) gets.by
-      ∙ three_steps setup c gets.now gets.before q gets.past left (reports Nothing) gets.stands gets.goes answers in
+      let by = section_done s n left (reports Nothing) gets told in
       let stands = stands_after setup c gets.now gets.before q gets.past left (reports Nothing) gets.stands in
       record {
         now = returned setup h t gone;

@@ -1,5 +1,5 @@
 -- What a CPU chooses to do leaves it in agreement.
-use Rattle.std.proofs.{Common.{◌≡◌, ◌<◌, List, [], ◌∷◌, length, Some, None, is_some, refl, ap, arith}, lemmas.{Bool.and_right, List.length-set}}
+use Rattle.std.proofs.{Common.{◌≡◌, ◌<◌, List, length, Some, None, refl, arith}, lemmas.{Bool.and_right, List.length-set}}
 use Rattle.{event_log.specs.declared.ids.{CpuId.CpuId, Tid.Tid}, guest.specs.declared.instructions.Instruction.{Instruction, TheVariants.{Send, Recv, Close}}}
 use Rattle.{guest.specs.{declared.instructions.Instruction.TheVariants.{Yield as YieldLine, Exit}, State.State}, thread_blocks.proofs.Members.same_tid_true}
 use Rattle.layer_traits.{specs.{declared.call_states.Stage.TheVariants.Acquires, Threads.Places.Where}, proofs.CountLemmas.same_tid_sym}
@@ -20,8 +20,7 @@ ChoiceOk setup c T P = OfChoice (λ q. Agrees setup c q T P × IsSettled setup c
 module _ (setup : Setup) (c : CpuId) (p : Private) (T : Tid → Visit) (P : Tid → Where)
     (agrees : Agrees setup c p T P) (settled_before : IsSettled setup c p) where
   switches : (list : List Tid) → p.ready ≡ list → p.current ≡ None → p.hand ≡ None → ChoiceOk setup c T P (at_ready p list)
-  switches [] is idle empty = (agrees, settled_before)
-  switches (t ∷ rest) is idle empty = (grind (arith, agrees, same_tid_sym), λ u local done. refuted (ap is_some empty) (settled_before u local done).0)
+  switches list is idle empty = grind (arith, same_tid_sym, refuted)
 
   module _ (t : Tid) (empty : p.hand ≡ None) (runs_now : p.current ≡ Some t) (outside : (thread_at p t).call ≡ None) where
     known : t.0 < length p.threads

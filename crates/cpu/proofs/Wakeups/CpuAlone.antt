@@ -2,14 +2,13 @@
 use Rattle.std.proofs.Common.{◌≡◌, ℕ, zero, suc, ◌+◌, ◌<◌, ◌≤◌, true, false, ◌&&◌, List, [], ◌∷◌, length, slice_get, slice_set, Some, None, option_map, refl}
 use Rattle.std.proofs.{Common.{sym, ap, ◌∙◌, subst, arith}, lemmas.Bool.ne_eqb}
 use Rattle.event_log.specs.{declared.{ids.{CpuId.CpuId, Tid.Tid, BufId.BufId, LockId.TheVariants.Buffer as AtBuffer}, entries.Entry.Entry}, Sections.Section}
-use Rattle.event_log.specs.{Sections.sections_in, Actions.{Action, Take, Try, Give, Phase, Rests, Waits, Holds, phase, AreFree}}
-use Rattle.event_log.proofs.{Alone.{first_action, second_action, third_action, free_again}, Exclusion.phase_own, Same.same_lock_self}
+use Rattle.event_log.{specs.{Sections.sections_in, Actions.{Action, Take, Try, Give, Phase, Rests, Waits, Holds, phase, AreFree}}, proofs.Alone.first_action}
+use Rattle.event_log.proofs.{Alone.{second_action, third_action, free_again}, Exclusion.phase_own, Same.same_lock_self}
 use Rattle.layer_traits.specs.{declared.steps.Step.TheVariants.Stepped, Polling.{Plans.{is_in_section, at_give}, Along.Outcome}}
 use Rattle.cpu.specs.Table.{Blocks.{Buffer, OfBuffer, Name, Answer}, Edits.{edited_buffer, answer}, Setups.{Setup, Call, Private, thread_at, home_threads}}
 use Rattle.cpu.specs.Table.{Setups.have_ended, Steps.{after_reply, acting, step_in, cpu_step, Whole, whole_after, system_step, steps_by}, Choice.Ask}
-use Rattle.cpu.specs.Table.Choice.{at_buffer, section_due, asked_by, asked_at, asked_in, asked, Goes, choice, with_call, returned_at, returned_by, returned_in}
-use Rattle.cpu.specs.{Table.Choice.{settled, after_call, after_by, after_at, after_in, after_section}, Wakeups.Order.block_of}
-use Rattle.cpu.proofs.Wakeups.{Agreement.{at_same, Same, same_with}, Lists.set_here}
+use Rattle.cpu.specs.Table.Choice.{at_buffer, section_due, asked_by, asked_at, asked_in, asked, Goes, choice, with_call, returned_at, settled, after_call}
+use Rattle.cpu.{specs.{Table.Choice.after_section, Wakeups.Order.block_of}, proofs.Wakeups.{Agreement.{at_same, Same, same_with}, Lists.set_here}}
 
 -- Steps one after the other.
 
@@ -144,13 +143,11 @@ module _ (setup : Setup) (c : CpuId) where
 
   pub after_is : (p : Private) (t : Tid) (call : Call) (traced : List Entry) (a : Answer) → InCall p t call traced
       → after_section setup c p a ≡ after_call setup c p t call a
-  after_is p t call traced a at =
-      ap (λ h. after_in setup c p h a) at.hand ∙ ap (λ h. after_at setup c p h a) at.current ∙ ap (λ h. after_by setup c p t h a) at.calls
+  after_is p t call traced a at = grind arith
 
   pub settled_is : (q : Private) (t : Tid) (call : Call) (traced : List Entry) → InCall q t call traced
       → settled setup q ≡ returned_at setup q t call call.stage
-  settled_is q t call traced at =
-      ap (λ h. returned_in setup q h q.current) at.hand ∙ ap (λ h. returned_in setup q None h) at.current ∙ ap (λ x. returned_by setup q t x) at.calls
+  settled_is q t call traced at = grind arith
 
 -- the block of a buffer after a section on it
 pub block_next : (setup : Setup) (c : CpuId) (b : BufId) (name : Name) (past : List (Section Name)) (k : Buffer)

@@ -4,14 +4,13 @@ use Rattle.std.proofs.lemmas.Bool.{and_parts, false_from_ne_true}
 use Rattle.cpu.proofs.Wakeups.{Agreement.{at_other, at_same, Agrees, IsSettled, runs_at_home, runs_within}, Lists.refuted, ThreadAtBuffer.woken_sleeps}
 use Rattle.cpu.proofs.Wakeups.{BuffersAndThreads.{Good, moves_at, CallersAre, callers_are, is_the_caller, sleeps_not_home}, SectionsAgree.IsCalling}
 use Rattle.cpu.proofs.Wakeups.SectionsAgree.{section_caller, agrees_call, agrees_pended, agrees_drained, agrees_yielded, agrees_foreign, drained_hand}
-use Rattle.cpu.proofs.Wakeups.PostsAndVisits.{caller_in, post_pending, post_buffer, post, visit_moved, visit, is_local, IsCallers, MayComeBy, MayComeTo}
-use Rattle.cpu.{proofs.{Wakeups.PostsAndVisits.{MayComeAt, MayCome}, ListFacts.ListReads.blocks_keep}, specs.Table.Blocks.{Block, OfBuffer, OfPending, Name}}
-use Rattle.cpu.specs.Table.{Blocks.{Pend, TakeAll}, Setups.{opening, Setup, Call, Private, thread_at, home_cpu, stands_at}, Edits.{edited, answer}}
-use Rattle.cpu.specs.Table.{Edits.answer_of_buffer, Steps.after_reply, Choice.{Ask, at_pending, at_buffer, section_due, asked_by, asked_at, asked_in, asked}}
-use Rattle.{cpu.specs.{Table.Choice.{after_call, after_by, after_at, after_in}, Wakeups.Order.block_of}, event_log.specs.declared.ids.{CpuId.CpuId, Tid.Tid}}
-use Rattle.event_log.specs.{declared.ids.{BufId.BufId, LockId.{LockId, TheVariants.{Pending, Buffer as AtBuffer}}}, History.same_cpu, Sections.Section}
-use Rattle.{guest.specs.State.after_yield, thread_blocks.proofs.Members.{same_tid_self, same_tid_true}, layer_traits.specs.Threads.Places.{is_home, is_thread}}
-use Rattle.layer_traits.{specs.Threads.Places.count_in, proofs.PlaceLemmas.{is_hand_true, is_home_true}}
+use Rattle.cpu.proofs.Wakeups.PostsAndVisits.{caller_in, post_pending, post, visit, is_local, IsCallers, MayComeBy, MayComeTo, MayComeAt, MayCome}
+use Rattle.cpu.{proofs.ListFacts.ListReads.blocks_keep, specs.Table.{Blocks.{Block, OfBuffer, OfPending, Name, Pend, TakeAll}, Setups.{opening, Setup, Call}}}
+use Rattle.cpu.specs.Table.{Setups.{Private, thread_at, home_cpu, stands_at}, Edits.{edited, answer, answer_of_buffer}, Steps.after_reply, Choice.Ask}
+use Rattle.cpu.specs.{Table.Choice.{at_pending, at_buffer, section_due, asked_by, asked_at, asked_in, asked, after_call}, Wakeups.Order.block_of}
+use Rattle.event_log.specs.{declared.ids.{CpuId.CpuId, Tid.Tid, BufId.BufId, LockId.{LockId, TheVariants.{Pending, Buffer as AtBuffer}}}, History.same_cpu}
+use Rattle.{event_log.specs.Sections.Section, guest.specs.State.after_yield, thread_blocks.proofs.Members.{same_tid_self, same_tid_true}}
+use Rattle.layer_traits.{specs.Threads.Places.{is_home, is_thread, count_in}, proofs.PlaceLemmas.{is_hand_true, is_home_true}}
 
 -- The locks' blocks are of their kinds.
 
@@ -135,12 +134,10 @@ module _ (setup : Setup) (past : List (Section Name)) (good : Good setup past) (
           let now = agrees_call setup c p (λ u. visit setup u past) (λ u. post setup u past) t call calling k asleep in
           let a = answer_of_buffer (section_due t call call.stage) k in
           let gives : after_reply setup c p (option_map (answer (section_due t call call.stage)) (Some (OfBuffer k))) ≡ after_call setup c p t call a =
-          ap (λ h. after_in setup c p h a) empty ∙ ap (λ h. after_at setup c p h a) runs_now ∙ ap (λ h. after_by setup c p t h a) is in
+          grind arith in
           record {
             may = may_come;
-            agrees = rw block
-                (subst (λ q. Agrees setup c q (λ u. visit_moved call.buffer u (section_due t call call.stage) k (visit setup u past))
-                (λ u. post_buffer setup c call.buffer u (section_due t call call.stage) (Some (OfBuffer k)) (post setup u past))) (sym gives) now.0);
+            agrees = grind arith;
             settled = rw block (subst (IsSettled setup c) (sym gives) now.1);
           }
 
@@ -153,8 +150,7 @@ module _ (setup : Setup) (past : List (Section Name)) (good : Good setup past) (
     where
       by_call : p.hand ≡ None → (t : Tid) → p.current ≡ Some t → (call : Option Call) → (thread_at p t).call ≡ call
           → GiveOk setup past c p (asked setup c p).lock (asked setup c p).name
-      by_call empty t runs_now None is =
-          give_asked (at_pending c TakeAll) (ap (asked_in setup c p) empty ∙ ap (asked_at c p) runs_now ∙ ap (asked_by c t) is) (give_yield empty t runs_now is)
+      by_call empty t runs_now None is = grind (arith, give_asked, give_yield)
       by_call empty t runs_now (Some call) is =
           give_asked (at_buffer call.buffer (section_due t call call.stage)) (ap (asked_in setup c p) empty ∙ ap (asked_at c p) runs_now ∙ ap (asked_by c t) is)
           (give_call empty t runs_now call is)

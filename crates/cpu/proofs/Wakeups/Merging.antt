@@ -127,12 +127,7 @@ cut setup c n p log (steps {n = m} {p = q} {log = before} along taken) =
           count = m;
           along = subst (AlongTable setup c m q) same along;
           mid = (cpu_step setup c q before).next;
-          next = inr (
-            subst (λ x. same_cpu (cpu_of_action x) c ≡ true) head own.2,
-            subst (λ x. (cpu_step setup c q x).acts ≡ a ∷ []) same (own.1 ∙ ap (λ x. x ∷ []) head),
-            subst (λ x. (cpu_step setup c q x).answer ≡ Stepped) same taken,
-            ap (λ x. (cpu_step setup c q x).next) same,
-          );
+          next = grind arith;
           way = stays;
         }
 
@@ -148,9 +143,7 @@ from_boot setup c n p log (steps {n = m} {p = q} {log = before} along taken) = �
     by_acts (inl none) is earlier =
         let same : before ≡ [] = ap (λ acts. acts ++ before) (sym none) ∙ is in
         longer setup c (boot_of setup c) q before [] same (earlier same) taken none
-    by_acts (inr own) is earlier =
-        let list : own.0 ∷ before ≡ [] = ap (λ acts. acts ++ before) (sym own.1) ∙ is in
-        absurd (cc list)
+    by_acts (inr own) is earlier = grind arith
 
 -- ---- all CPUs
 

@@ -5,7 +5,7 @@ use Rattle.event_log.specs.{declared.{ids.{BufId.BufId, LockId.TheVariants.Buffe
 use Rattle.{event_log.{specs.{Runs.group_of, History.same_lock, Sections.Section}, proofs.Same.same_lock_true}, cpu.specs.Table.Blocks.{Buffer, OfBuffer, Name}}
 use Rattle.cpu.specs.{Table.{Edits.{edited, front_may_go, is_due, on_side}, Setups.Setup}, Wakeups.Order.{Progress, progress, progress_by, block_of}}
 use Rattle.cpu.{specs.Wakeups.{Order.{KeepsOrderAt, IsInOrder}, Lost.{Allows, NoWakeUpIsLost, OrderLosesNoWakeUp}}, proofs.Wakeups.{Lists.refuted, Awake.Fits}}
-use Rattle.{cpu.proofs.Wakeups.Awake.{IsAwake, stays_awake, IsCalm}, layer_traits.specs.declared.locked.Side.{Side, TheVariants.{Receivers, Senders}}}
+use Rattle.{cpu.proofs.Wakeups.Awake.{IsAwake, stays_awake, IsCalm}, layer_traits.specs.declared.locked.Side.Side}
 
 pub same_buffer : (k now : Buffer) → Some (OfBuffer k) ≡ Some (OfBuffer now) → k ≡ now
 same_buffer k now is = cc
@@ -32,13 +32,11 @@ some_items (x ∷ items) m is = lt-ltb 0 (length (x ∷ items)) (omega arith)
 
 -- all that an allowed effect says of the buffer
 pub allowed_goes : (side : Side) (k : Buffer) (e : Kind) (m : Message) → group_of e ≡ on_side side Receives Sends → Allows k e m → front_may_go side k ≡ true
-allowed_goes Senders k e m asks allowed = grind (arith, or_right, lt-ltb)
-allowed_goes Receivers k e m asks allowed = grind (arith, or_right, some_items)
+allowed_goes side k e m given allowed = grind (arith, or_right, lt-ltb, some_items)
 
 -- nobody is due on a side of a calm buffer
 pub calm_on : (k : Buffer) → IsCalm k → (side : Side) → is_due side k ≡ false
-calm_on k calm Senders = calm.0
-calm_on k calm Receivers = calm.1
+calm_on k calm side = grind arith
 
 -- a buffer that is awake, with a free lock, has lost no wake-up
 pub calm_loses_nothing : (k : Buffer) (g : Progress) → IsAwake k g → NoWakeUpIsLost k

@@ -7,7 +7,7 @@ use Rattle.layer_traits.specs.{declared.moves.WaitList.WaitList, Threads.Places.
 use Rattle.{layer_traits.proofs.CountLemmas.{count_append, not_counted}, cpu.specs.Table.Blocks.{Buffer, Name, AcqQ, Enter, TryPut, TryTake, Shut, WaitOn}}
 use Rattle.cpu.specs.Table.{Blocks.{SigRecv, SigSend, RelQ}, Edits.{acquired, line_on, lined_up, waiting, released, edited_buffer, answer_of_acquire}}
 use Rattle.cpu.specs.{Table.{Edits.answer_of_buffer, Setups.Setup}, Wakeups.Order.{Progress, Begins, HasEntered, WasRefused, Owes, progress_after, MayEdit}}
-use Rattle.cpu.proofs.Wakeups.{Lists.{refuted, first_is}, PostsAndVisits.{Waiting, Visit, Outside, In, is_buffer, sleeps_in, list_of, names, goes_on}}
+use Rattle.cpu.proofs.Wakeups.{Lists.{refuted, first_is}, PostsAndVisits.{Waiting, Visit, In, is_buffer, sleeps_in, list_of, names, goes_on}}
 use Rattle.cpu.proofs.Wakeups.PostsAndVisits.{is_inside, stands, is_lined, InStep, caller_in, is_caller, waiters_of, post_woken, post_slept, post_moved}
 use Rattle.cpu.proofs.Wakeups.{PostsAndVisits.{acquired_visit, next_visit, visit_moved, IsDue, marked}, ThreadAtBuffer.{Pair, paired, marked_none, marked_most}}
 use Rattle.cpu.proofs.Wakeups.ThreadAtBuffer.{buffer_self, sleeps_here, grown_list, first_left, signal_left, front_counted, woken_sleeps}
@@ -28,24 +28,13 @@ may_edit b name k g visit pair due = grind (arith, not_outside, and_from, buffer
 -- The caller's own section.
 
 module _ (b : BufId) (u : Tid) where
-  -- a thread at home stands in no queue
-  no_sleepers : (k : Buffer) (g : Progress) (visit : Visit) → Pair b u k g visit Home → count_in u k.sleepers ≡ 0
-  no_sleepers k g visit pair = pair.sleepers ∙ marked_none u false refl
-
-  no_senders : (k : Buffer) (g : Progress) (visit : Visit) → Pair b u k g visit Home → count_in u k.waiting_senders ≡ 0
-  no_senders k g visit pair = pair.senders ∙ marked_none u false refl
-
-  no_receivers : (k : Buffer) (g : Progress) (visit : Visit) → Pair b u k g visit Home → count_in u k.waiting_receivers ≡ 0
-  no_receivers k g visit pair = pair.receivers ∙ marked_none u false refl
-
   not_first : (list : List Tid) → count_in u list ≡ 0 → is_thread u (first list) ≡ false
   not_first list none = false_from_ne_true (is_thread u (first list)) (λ is. let some = front_counted u list is in absurd (omega (arith, some, none)))
 
   own_acquire : (k : Buffer) (g : Progress) (o : Option Tid) (visit : Visit) → k.busy ≡ o
       → (k.busy ≡ None → g ≡ Begins) → IsDue b (AcqQ u) visit → Pair b u k g visit Home
       → Pair b u (acquired u o k) g (acquired_visit b visit) (if (answer_of_acquire o).slept then Asleep (At (AtBuffer b) wait_list.Sleepers) else Home)
-  own_acquire k g o visit is idle due pair =
-      grind (arith, paired, not_outside, sleeps_here, and_from, buffer_self, grown_list, no_sleepers, marked_none, and_right)
+  own_acquire k g o visit is idle due pair = grind (arith, paired, not_outside, sleeps_here, and_from, buffer_self, grown_list, marked_none, and_right)
 
   -- the pair of a thread that has the lock and goes on, from its places in the two lines
   at_work : (k : Buffer) (g h : Progress) (before progress : Progress) (sends receives : List Tid) → k.busy ≡ Some u → InStep (In b progress) h
@@ -71,11 +60,11 @@ module _ (b : BufId) (u : Tid) where
       → count_in u sends ≡ marked u (sleeps_in b wait_list.Senders x) → count_in u receives ≡ marked u (sleeps_in b wait_list.Receivers x)
       → Pair b u (released (record k { waiting_senders = sends; waiting_receivers = receives })) Begins next x
   own_release k g visit next x pair outside off in_sends in_receives sends receives now_ws now_wr =
-      grind (arith, paired, refuted, not_first, no_sleepers, same_tid_self, first_left, marked_most, marked_none)
+      grind (arith, paired, refuted, not_first, same_tid_self, first_left, marked_most, marked_none)
 
   own_wait : (k : Buffer) (g : Progress) (side : Side) → Pair b u k g (In b (WasRefused side)) Home
       → Pair b u (released (waiting u side k)) Begins (Waiting b side) (Asleep (At (AtBuffer b) (list_of side)))
-  own_wait k g side pair = grind (arith, own_release, grown_list, no_senders, no_receivers, and_from, and_right, buffer_self, marked_none)
+  own_wait k g side pair = grind (arith, own_release, grown_list, and_from, and_right, buffer_self, marked_none)
 
   -- what the thread's own section makes of the pair, where it is due
   own_at : (name : Name) (k : Buffer) (g : Progress) (visit : Visit) → caller_in name ≡ Some u → (k.busy ≡ None → g ≡ Begins) → MayEdit name k g
@@ -91,18 +80,18 @@ module _ (b : BufId) (u : Tid) where
       let same : u ≡ t = same_Some u t (sym is) in
       rw (← same) (own_enter k g side (may_join u (line_on side k)) refl (subst (λ v. k.busy ≡ Some v) (sym same) may.0) at_b)
   own_at (Shut t) k g (In d Begins) is idle may due pair = grind (arith, at_work, unlined)
-  own_at (TryPut t m) k g (In d (HasEntered Senders)) is idle may due pair
-      = grind (arith, same_Some, and_parts, unlined, at_work, first_left, marked_most, first_is, same_tid_self)
-  own_at (TryTake t) k g (In d (HasEntered Receivers)) is idle may due pair
-      = grind (arith, same_Some, and_parts, unlined, at_work, first_left, marked_most, first_is, same_tid_self)
+  own_at (TryPut t m) k g (In d (HasEntered Senders)) is idle may due pair =
+      grind (arith, same_Some, and_parts, unlined, at_work, first_left, marked_most, first_is, same_tid_self)
+  own_at (TryTake t) k g (In d (HasEntered Receivers)) is idle may due pair =
+      grind (arith, same_Some, and_parts, unlined, at_work, first_left, marked_most, first_is, same_tid_self)
   own_at (WaitOn t side) k g (In d (WasRefused other)) is idle may due pair =
       let at_b : Pair b u k g (In b (WasRefused side)) Home = subst (λ x. x) (λ i. Pair b u k g (In (due.0 i) (WasRefused (due.1 i))) Home) pair in
       subst (λ v. Pair b u (released (waiting v side k)) Begins (Waiting b side) (Asleep (At (AtBuffer b) (list_of side)))) (same_Some u t (sym is))
       (own_wait k g side at_b)
   own_at (SigRecv t) k g (In d (Owes r s)) is idle may due pair
-      = grind (arith, no_senders, no_receivers, paired, and_from, buffer_self, marked_none, unlined, signal_left)
+      = grind (arith, paired, and_from, buffer_self, marked_none, unlined, signal_left)
   own_at (SigSend t) k g (In d (Owes r s)) is idle may due pair
-      = grind (arith, no_senders, no_receivers, paired, and_from, buffer_self, marked_none, unlined, signal_left)
+      = grind (arith, paired, and_from, buffer_self, marked_none, unlined, signal_left)
   own_at (RelQ t) k g (In d (Owes r s)) is idle may due pair = grind (arith, own_release, unlined, marked_none)
   own_at name k g visit is idle may due pair = absurd due
 
@@ -136,7 +125,6 @@ pub record Apart (b : BufId) (visit next : Visit) : Type 0 where
 
 pub stays_apart : (b d : BufId) (name : Name) (k : Buffer) (visit : Visit) → is_buffer b d ≡ false → IsDue d name visit
     → Apart b visit (next_visit d name k visit)
-stays_apart b d (AcqQ t) k Outside off due = record { before = refl; after = off }
 stays_apart b d name k visit off due = grind arith
 
 -- the pair of a thread whose place bears the same marks of the buffer

@@ -1,17 +1,17 @@
 -- Every state that a system reaches is sound: each section of its log may come where it stands, and each CPU agrees with the log.
-use Rattle.std.proofs.Common.{◌≡◌, ℕ, zero, suc, ◌+◌, ◌<◌, ◌==◌, Bool, true, false, ◌&&◌, List, [], ◌∷◌, ◌++◌, length, slice_get, slice_set, Option, Some, None}
+use Rattle.std.proofs.Common.{◌≡◌, ℕ, zero, suc, ◌+◌, ◌<◌, Bool, true, false, ◌&&◌, List, [], ◌∷◌, ◌++◌, length, slice_get, slice_set, Option, Some, None}
 use Rattle.std.proofs.{Common.{option_map, nat_lt, if◌then◌else◌, refl, sym, ap, ◌∙◌, subst, arith}, lemmas.Bool.{and_right, eq-eqb, ne_eqb, eqb-true}}
 use Rattle.std.proofs.{lemmas.{Bool.{eqb-false, lt-ltb, le-ltb, ltb-true, ltb-false}, List.length-map}, Math.Bool.and-true}
 use Rattle.event_log.specs.{declared.ids.{CpuId.CpuId, Tid.Tid, LockId.LockId}, History.{same_cpu, IsLawful}, Sections.sections_in, Actions.{Action, Take, Try}}
-use Rattle.event_log.{specs.Actions.{Give, Phase, Rests, Waits, Holds, phase, cpu_of_action, spot_of, gives, action_in}, proofs.Same.same_cpu_true}
+use Rattle.event_log.{specs.Actions.{Give, Phase, Rests, Waits, Holds, phase, cpu_of_action, action_in}, proofs.Same.same_cpu_true}
 use Rattle.{event_log.proofs.{Exclusion.{phase_own, phase_other}, ListLemmas.set_else}, layer_traits.specs.declared.steps.Step.TheVariants.Stepped}
 use Rattle.layer_traits.specs.{Threads.{Places.{one_if, count_in}, Passes.or_else}, Polling.{Plans.{is_in_section, at_give}, Along.Outcome}}
-use Rattle.cpu.specs.Table.{Blocks.Name, Edits.answer, Setups.{Setup, Private, home_threads_from, boot_of}, Choice.{asked, Choice, Halts, Alone, Goes, choice}}
-use Rattle.cpu.specs.Table.Steps.{after_reply, chosen_step, step_in, cpu_step, Whole, cpu_numbered, boots_from, whole_at_boot, whole_after, step_at}
+use Rattle.cpu.specs.Table.{Blocks.Name, Edits.answer, Setups.{Setup, Private, home_threads_from, boot_of}, Choice.{asked, choice}}
+use Rattle.cpu.specs.Table.Steps.{after_reply, step_in, cpu_step, Whole, cpu_numbered, boots_from, whole_at_boot, whole_after, step_at}
 use Rattle.cpu.specs.{Table.Steps.{system_step, IsReached, boots, steps_once, acting}, Wakeups.{Order.block_of, Lost.{SystemsKeepOrder, SystemsLoseNoWakeUp}}}
 use Rattle.cpu.{specs.Wakeups.Lost.FreeLocksHaveNoSleepers, proofs.Wakeups.{Lists.refuted, Ordered.{buffer_awake, order_loses_no_wake_up}, PostsAndVisits.post}}
 use Rattle.cpu.proofs.Wakeups.{PostsAndVisits.{visit, MayComeAt}, BuffersAndThreads.{Good, good_none, good_step}, Agreement.{Agrees, IsSettled}}
-use Rattle.cpu.proofs.Wakeups.{CpuStep.{foreign_step, give_ok}, ChosenSteps.{ChoiceOk, choice_ok, OfChoice}}
+use Rattle.cpu.proofs.Wakeups.{CpuStep.{foreign_step, give_ok}, ChosenSteps.{choice_ok, OfChoice}}
 pub use Rattle.cpu.proofs.Wakeups.EndedThreads.{all_new}
 
 -- Logs of actions.
@@ -68,20 +68,8 @@ module _ (setup : Setup) (c : CpuId) (log : List (Action Name)) (fair : IsFairLo
   }
 
   acted_ok : (q : Private) → Ok setup c q log → (now : Phase) → phase c log ≡ now → StepOk setup c log (acted q now)
-  acted_ok q ok Rests is = record {
-    fair = (tt, fair);
-    ok = record { agrees = ok.agrees; settled = ok.settled; under = λ lock at. cc (sym (ap lock_in (phase_own (Take c (asked setup c q).lock) log)) ∙ at) };
-    does = (refl, tt);
-  }
-  acted_ok q ok (Waits there) is = record {
-    fair = (tt, fair);
-    ok = record {
-      agrees = ok.agrees;
-      settled = ok.settled;
-      under = λ lock at. grind (arith, ok, sym (ap lock_in (phase_own (Try c there (gives there log == spot_of c log)) log)) ∙ at);
-    };
-    does = (refl, tt);
-  }
+  acted_ok q ok Rests is = grind (arith, phase_own)
+  acted_ok q ok (Waits there) is = grind (arith, phase_own)
   acted_ok q ok (Holds there) is =
       let given = give_ok setup (sections_in log) (fair_good setup log fair) c q ok.agrees ok.settled in
       let P : LockId → Type 0 = λ x. StepOk setup c log (record {
@@ -91,11 +79,7 @@ module _ (setup : Setup) (c : CpuId) (log : List (Action Name)) (fair : IsFairLo
       }) in
       subst P (sym (ok.under there (ap lock_in is))) (record {
         fair = (given.may, fair);
-        ok = record {
-          agrees = given.agrees;
-          settled = given.settled;
-          under = λ lock at. no_lock (sym (ap lock_in (phase_own (Give c (asked setup c q).lock (asked setup c q).name) log)) ∙ at);
-        };
+        ok = grind (arith, phase_own);
         does = (refl, tt);
       })
 
@@ -110,17 +94,7 @@ module _ (setup : Setup) (c : CpuId) (log : List (Action Name)) (fair : IsFairLo
 pub step_keeps : (setup : Setup) (c : CpuId) (p : Private) (log : List (Action Name)) (Q : Private → Type 0) → Ok setup c p log → Q p
     → OfChoice Q (choice setup c p) → ((q : Private) → Agrees setup c q (λ u. visit setup u (sections_in log)) (λ u. post setup u (sections_in log))
     → Q q → Q (acting setup c q log).next) → Q (cpu_step setup c p log).next
-step_keeps setup c p log Q ok now chosen acts = by_section (is_in_section (phase c log))
-  where
-    by_choice : (what : Choice) → ChoiceOk setup c (λ u. visit setup u (sections_in log)) (λ u. post setup u (sections_in log)) what → OfChoice Q what
-        → Q (chosen_step setup c p what log).next
-    by_choice (Halts reason) agrees on = now
-    by_choice (Alone q) agrees on = on
-    by_choice (Goes q) agrees on = acts q agrees.0 on
-
-    by_section : (inside : Bool) → Q (step_in setup c p log inside).next
-    by_section true = acts p ok.agrees now
-    by_section false = by_choice (choice setup c p) (choice_ok setup c p _ _ ok.agrees ok.settled) chosen
+step_keeps setup c p log Q ok now chosen acts = grind (arith, choice_ok)
 
 -- an action of another CPU
 pub ok_beside : (setup : Setup) (e : CpuId) (p : Private) (log : List (Action Name)) (a : Action Name) → same_cpu (cpu_of_action a) e ≡ false
@@ -183,11 +157,7 @@ get_set xs i j x y is same = grind (arith, same)
 pub all_set : (P : CpuId → Private → Type 0) (cpus : List Private) (c : CpuId) (x : Private) → P c x
     → ((e : CpuId) (p : Private) → same_cpu c e ≡ false → slice_get cpus e.0 ≡ Some p → P e p)
     → (e : CpuId) (p : Private) → slice_get (slice_set cpus c.0 x) e.0 ≡ Some p → P e p
-all_set P cpus c x own others e p is = by_test (same_cpu c e) refl
-  where
-    by_test : (mine : Bool) → same_cpu c e ≡ mine → P e p
-    by_test true same = subst (λ d. P d p) (same_cpu_true c e same) (subst (P c) (get_set cpus c.0 e.0 x p is (eqb-true c.0 e.0 same)) own)
-    by_test false off = others e p off (sym (set_else cpus c.0 e.0 x (λ same. eqb-false c.0 e.0 off (sym same))) ∙ is)
+all_set P cpus c x own others e p is = grind (arith, same_cpu_true, get_set, eqb-true, set_else, eqb-false)
 
 pub boots_at : (setup : Setup) (n k i : ℕ) (p : Private) → slice_get (boots_from setup n k) i ≡ Some p → boot_of setup (cpu_numbered (n + i)) ≡ p
 boots_at setup n (suc k) (suc i) p is =

@@ -1,12 +1,12 @@
 -- A quiet state that a system reaches is stuck.
-use Rattle.std.proofs.Common.{◌≡◌, ◌<◌, true, false, ◌&&◌, List, [], ◌∷◌, length, slice_get, Option, Some, None, nat_lt, refl, sym, ap, ◌∙◌, subst}
+use Rattle.std.proofs.Common.{◌≡◌, ◌<◌, true, false, List, [], ◌∷◌, length, slice_get, Option, Some, None, nat_lt, refl, sym, ap, ◌∙◌, subst}
 use Rattle.std.proofs.{Common.arith, lemmas.Bool.{and_parts, and_from, false_from_ne_true, lt-ltb, ltb-true}}
 use Rattle.event_log.specs.declared.ids.{CpuId.CpuId, Tid.Tid, BufId.BufId, LockId.TheVariants.{Pending, Buffer as AtBuffer}, TheConstants.THREADS}
 use Rattle.event_log.specs.{declared.entries.Kind.{Kind, TheVariants.{Recv as RecvKind, SendClosed, RecvClosed}}, Messages.{Message, no_message}, Runs.Group}
-use Rattle.event_log.{specs.{Runs.{Sends, Receives, Closes, group_of}, History.same_cpu, Sections.sections_in}, proofs.Same.same_cpu_self}
+use Rattle.event_log.{specs.{Runs.{Sends, Receives, Closes, group_of}, Sections.sections_in}, proofs.Same.same_cpu_self}
 use Rattle.{guest.specs.{declared.instructions.Instruction.Instruction, State.State}, thread_blocks.{specs.Queues.first, proofs.Members.same_tid_self}}
 use Rattle.layer_traits.specs.declared.{locked.Side.{Side, TheVariants.{Receivers, Senders}}, call_states.Stage.TheVariants.AcquiresAgain}
-use Rattle.layer_traits.specs.Threads.Places.{Where, Home, Hand, IsPending, Asleep, At, is_hand, is_thread, one_if, count_in}
+use Rattle.layer_traits.specs.Threads.Places.{Where, Home, Hand, IsPending, Asleep, At, is_hand, is_thread, count_in}
 use Rattle.{layer_traits.proofs.ListsLemmas.counted_in, cpu.specs.Table.{Blocks.{Buffer, OfBuffer, side_of_group}, Edits.{line_on, waiting_of}, Setups.Setup}}
 use Rattle.cpu.specs.{Table.{Setups.{Call, Private, thread_at, home_cpu, stands_at}, Steps.{Whole, block_at}}, Wakeups.{Order.progress, Lost.Allows}}
 use Rattle.cpu.specs.Wakeups.Quiet.{HomesExist, IsQuietTable, IsNextEffect, IsStuckCall, IsLive, IsStuck, QuietIsStuck}
@@ -54,8 +54,7 @@ module _ (setup : Setup) (s : Whole) (homes : HomesExist setup) (kept : SystemIn
   good = fair_good setup s.log kept.sound.fair
 
   local : (u : Tid) → u.0 < length setup.homes → is_local setup (home_cpu setup u) u ≡ true
-  local u known = and_from (same_cpu (home_cpu setup u) (home_cpu setup u)) (nat_lt u.0 (length setup.homes))
-      (same_cpu_self (home_cpu setup u)) (lt-ltb u.0 (length setup.homes) known)
+  local u known = grind (arith, and_from, same_cpu_self, lt-ltb)
 
   small : (u : Tid) → u.0 < length setup.homes → nat_lt u.0 THREADS ≡ true
   small u known = let few = homes.0 in lt-ltb u.0 THREADS (omega (arith, known, few))
@@ -142,8 +141,7 @@ module _ (setup : Setup) (s : Whole) (homes : HomesExist setup) (kept : SystemIn
       by_sleep (at_lock b at) =
           let placed : (b.0 < length setup.caps) × Unit {0} = subst (IsPlaced setup (visit setup u (sections_in s.log))) at (kept.placed.posts u) in
           let there = buffer_there setup b (sections_in s.log) placed.0 in
-          let one : marked u (sleeps_in b wait_list.Sleepers (post setup u (sections_in s.log))) ≡ 1 =
-          (λ i. one_if (small u live.known i && sleeps_in b wait_list.Sleepers (at i))) ∙ ap one_if (sleeps_here b wait_list.Sleepers) in
+          let one : marked u (sleeps_in b wait_list.Sleepers (post setup u (sections_in s.log))) ≡ 1 = grind (arith, small, sleeps_here) in
           absurd (omega (arith, (good.pairs b u there.0 there.1).sleepers, ap (count_in u) (no_sleepers b there.0 there.1), one))
 
   -- the call of a live thread
@@ -177,11 +175,9 @@ module _ (setup : Setup) (s : Whole) (homes : HomesExist setup) (kept : SystemIn
           refused : (call : Call) → HasLine call.asks → call.buffer ≡ wait.0 → side_of_group call.asks ≡ wait.1 → (k : Buffer) (m : Message) (e : Kind)
               → group_of e ≡ call.asks → block_at setup (AtBuffer call.buffer) s.log ≡ Some (OfBuffer k) → Allows k e m → ⊥
           refused call line same_buffer same_side k m e asks block allowed =
-              let mine : visit setup u (sections_in s.log) ≡ Waiting call.buffer (side_of_group call.asks) =
-              wait.3 ∙ (λ i. Waiting (sym same_buffer i) (sym same_side i)) in
+              let mine : visit setup u (sections_in s.log) ≡ Waiting call.buffer (side_of_group call.asks) = grind arith in
               let one : marked u (is_lined call.buffer (side_of_group call.asks) (visit setup u (sections_in s.log))) ≡ 1 =
-              (λ i. one_if (small u live.known i && is_lined call.buffer (side_of_group call.asks) (mine i)))
-              ∙ (λ i. one_if (buffer_self call.buffer i && side_self (side_of_group call.asks) i)) in
+              grind (arith, small, buffer_self, side_self) in
               let counts = line_count call.buffer u k _ _ _ (good.pairs call.buffer u k block) (side_of_group call.asks) in
               let front = front_of u (line_on (side_of_group call.asks) k) (omega (arith, one, counts)) in
               first_waits call line k m e asks block allowed front.0 front.1
@@ -202,9 +198,9 @@ module _ (setup : Setup) (s : Whole) (homes : HomesExist setup) (kept : SystemIn
                   let same_buffer : call.buffer ≡ at.0 = buffer_true call.buffer at.0 (sym (ap (names call.buffer) at.3) ∙ parts.0) in
                   let same_side : side_of_group call.asks ≡ at.1 = grind (arith, sym (ap (stands (side_of_group call.asks)) at.3) ∙ parts.1) in
                   let there : sleeps_in call.buffer (list_of (side_of_group call.asks)) (post setup t (sections_in s.log)) ≡ true =
-                  (λ i. sleeps_in (same_buffer i) (list_of (same_side i)) (at.2 i)) ∙ sleeps_here at.0 (list_of at.1) in
+                  grind (arith, sleeps_here) in
                   let one : marked t (sleeps_in call.buffer (list_of (side_of_group call.asks)) (post setup t (sections_in s.log))) ≡ 1 =
-                  (λ i. one_if (small t other.1.known i && there i)) in
+                  grind (arith, small) in
                   let counts = wait_count call.buffer t k _ _ _ pair (side_of_group call.asks) in
                   let stands_there = counted_in t (waiting_of (side_of_group call.asks) k) (omega (arith, one, counts)) in
                   grind (

@@ -5,7 +5,7 @@ use Rattle.std.proofs.{Common.arith, lemmas.{Bool.{eq-eqb, eqb-true, and_parts, 
 use Rattle.event_log.specs.{declared.ids.{CpuId.CpuId, Tid.Tid, BufId.BufId, LockId.TheVariants.Buffer as AtBuffer, TheConstants.THREADS}, Messages.Message}
 use Rattle.{event_log.{specs.History.same_cpu, proofs.Same.buffer_numbered}, thread_blocks.{specs.Queues.{same_tid, first, rest}, proofs.Members.same_tid_self}}
 use Rattle.{thread_blocks.proofs.Members.same_tid_true, layer_traits.specs.declared.locked.Side.{Side, TheVariants.{Receivers, Senders}}}
-use Rattle.layer_traits.specs.{declared.moves.WaitList.WaitList, Threads.{ListsAgree.{is_at, same_list}, Places.{Where, Asleep, At, wait_channel_of}}}
+use Rattle.layer_traits.specs.{declared.moves.WaitList.WaitList, Threads.{ListsAgree.same_list, Places.{Where, Asleep, At}}}
 use Rattle.layer_traits.specs.{Threads.Places.{is_thread, one_if, count_in}, Layers.Sleeping.joined, Blocks.BufferBlocks.may_join}
 use Rattle.layer_traits.proofs.{CountLemmas.{same_tid_sym, count_append, count_front, in_counted, not_counted, count_behind}, ListsLemmas.count_without}
 use Rattle.{layer_traits.proofs.ListsLemmas.{at_wait_channel, wait_channel_here}, cpu.specs.Table.Blocks.{Buffer, Name, AcqQ, Enter, TryPut, TryTake, Shut}}
@@ -108,8 +108,7 @@ pub sleeps_here : (b : BufId) (list : WaitList) → sleeps_in b list (Asleep (At
 sleeps_here b list = wait_channel_here (AtBuffer b) list
 
 one_list : (b : BufId) (list other : WaitList) (x : Where) → same_list list other ≡ false → sleeps_in b list x ≡ true → sleeps_in b other x ≡ false
-one_list b list other x apart on =
-    ap (is_at (AtBuffer b) other) (at_wait_channel (AtBuffer b) list (wait_channel_of x) on) ∙ and_right (is_buffer b b) (same_list list other) apart
+one_list b list other x apart on = grind (arith, at_wait_channel, and_right)
 
 module _ (b : BufId) (u : Tid) (k : Buffer) (g : Progress) (visit : Visit) (post : Where) (pair : Pair b u k g visit post) where
   pub first_sleeps : is_thread u (first k.sleepers) ≡ true → (nat_lt u.0 THREADS ≡ true) × (sleeps_in b wait_list.Sleepers post ≡ true)
@@ -146,8 +145,7 @@ module _ (setup : Setup) (c : CpuId) (b : BufId) (u t : Tid) (other : same_tid t
   with_lines : (k : Buffer) (g h : Progress) → k.busy ≡ Some t → Pair b u k g visit post
       → (sends receives : List Tid) → count_in u sends ≡ count_in u k.send_line → count_in u receives ≡ count_in u k.receive_line
       → Pair b u (record k { send_line = sends; receive_line = receives }) h visit post
-  with_lines k g h owner pair sends receives same_sends same_receives = paired (λ e. not_mine u t k.busy owner other e) pair.inside pair.starts pair.sleepers
-      pair.senders pair.receivers (same_sends ∙ pair.send_line) (same_receives ∙ pair.receive_line)
+  with_lines k g h owner pair sends receives same_sends same_receives = grind (arith, paired)
 
   other_enter : (k : Buffer) (g : Progress) (side : Side) (joins : Bool) → k.busy ≡ Some t → Pair b u k g visit post
       → Pair b u (if joins then lined_up t side k else k) (HasEntered side) visit post

@@ -1,8 +1,8 @@
 -- A CPU and a system before their first step are as they are always to be.
 use Rattle.std.proofs.Common.{◌≡◌, ◌⊎◌, inl, inr, ℕ, zero, suc, ◌+◌, ◌^◌, ◌<◌, ◌≤◌, false, List, [], ◌∷◌, ◌++◌, length, map, cond, drop, replicate}
 use Rattle.std.proofs.{Common.{vec_capacity, Option, Some, None, refl, ap, sym, ◌∙◌, subst, arith}, lemmas.{Bool.cases_lt, List.get_or-replicate}}
-use Rattle.std.proofs.lemmas.{List.{get_or_past, length-replicate, Elements.All-get_or, Sums.sum_by-cons}, Option.{get_or_from_slice_get, slice_get_within}}
-use Rattle.std.specs.{Prelude.{slice_get, slice_index_or}, List.AllByRecursion}
+use Rattle.std.proofs.lemmas.{List.{get_or_past, length-replicate, Sums.sum_by-cons}, Option.{get_or_from_slice_get, slice_get_within}}
+use Rattle.std.specs.Prelude.{slice_get, slice_index_or}
 use Rattle.layer_traits.specs.{Blocks.{Capacities.caps_in, QueueBlocks.homes_in}, Views.{OwnParts.threads_in, Openings.AreOpenable}}
 use Rattle.layer_traits.specs.{declared.call_layers.CallLayer.Ghosts, Layers.BufferLaw.{no_call, call_state_of}, Threads.{OnePlace.cpu_at, Places.at_boot}}
 use Rattle.event_log.specs.{declared.{entries.Entry.Entry, ids.{CpuId.CpuId, Tid.Tid, TheConstants.{CPUS, THREADS}}}, Actions.Action}
@@ -69,26 +69,8 @@ pub opens : {X N : Type 0} (IsOne : X → Type 0) (number : X → CpuId) (ActsFo
     → length cpus ≡ n → ((k : ℕ) (x : X) → slice_get cpus k ≡ Some x → IsAt IsOne number k x) → ((c : CpuId) → c.0 < CPUS → ActsFor c)
     → ((c : CpuId) → MayHold c → ⊥) → acts ≡ [] → homes2 ≡ homes → seen ≡ [] → room < 2 ^ 64 → room ≤ left
     → IsSystem IsOne number ActsFor MayHold IsStepwise acts cpus homes2 seen room 0 left Sound
-opens IsOne number ActsFor MayHold IsStepwise acts cpus homes homes2 seen caps room left n Sound sound openable count each acts_for nobody nothing same none
-    small enough = record {
-      each = each;
-      some = let some = openable.some_cpus in omega (arith, some, count);
-      most = let most = openable.most_cpus in omega (arith, most, count);
-      crowd = subst (λ (l : List CpuId). length l ≤ THREADS) (sym same) openable.threads;
-      acts_for = acts_for;
-      known = subst (λ (l : List Entry). AllByRecursion (λ e. e.cpu.0 < length cpus) l) (sym none) tt;
-      within = λ t home at.
-          let there : slice_get homes t.0 ≡ Some home = ap (λ (h : List CpuId). slice_get h t.0) (sym same) ∙ at in
-          let exists = All-get_or (λ (h : CpuId). h.0 < n) homes t.0 home (slice_get_within homes t.0 home there) openable.homes_exist in
-          omega (arith, subst (λ (h : CpuId). h.0 < n) (get_or_from_slice_get homes t.0 home home there) exists, count);
-      rest = λ step c past exists. rw nothing refl;
-      holders = λ c past exists holds. nobody c holds;
-      short = rw none (omega arith);
-      used = omega arith;
-      small = small;
-      enough = omega (arith, enough);
-      sound = sound;
-    }
+opens IsOne number ActsFor MayHold IsStepwise acts cpus homes homes2 seen caps room left n Sound sound openable count each acts_for nobody nothing same none =
+    grind (arith, slice_get_within, get_or_from_slice_get)
 
 -- the same system, of which the table says something that follows
 pub system_sounds : {X N : Type 0} (IsOne : X → Type 0) (number : X → CpuId) (ActsFor MayHold : CpuId → Type 0) (IsStepwise : Type 0) (acts : List (Action N))

@@ -168,8 +168,7 @@ module _ {M X : Type 0} (of : Works M X) where
 
       there : (j : ℕ) (z : X) → j ≢ k → j < CPUS → IsAt (IsOne m) of.number j z → IsOne m2 z
       there j z other below before =
-          let apart : (of.number z).0 ≢ (of.number x).0 =
-          λ e. other (sym (ap (λ (c : CpuId). c.0) before.number_is) ∙ e ∙ ap (λ (c : CpuId). c.0) is_k) in
+          let apart : (of.number z).0 ≢ (of.number x).0 = grind (arith, is_k) in
           let act : of.ActsFor m (of.number z) = subst (λ (c : CpuId). of.ActsFor m c) (sym before.number_is) (is.acts_for (cpu_at j) below) in (
             others z (λ e. apart (ap (λ (c : CpuId). c.0) (sym before.holds.1 ∙ e))) before.holds.0,
             before.holds.1,

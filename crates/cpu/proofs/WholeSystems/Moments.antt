@@ -5,7 +5,7 @@ use Rattle.layer_traits.specs.{Blocks.{Capacities.caps_in, BufferEffects.MayTake
 use Rattle.layer_traits.{specs.{Views.OwnParts.threads_in, Threads.Places.Stands}, proofs.EffectRunLemmas.effects_are_run}
 use Rattle.event_log.specs.{declared.{entries.Entry.Entry, ids.{BufId.BufId, CpuId.CpuId, Tid.Tid, TheConstants.CPUS}}, Actions.AreLegal, History.IsLawful}
 use Rattle.{event_log.proofs.Streams.taken_put, cpu.specs.{declared.cpus.Cpu.Cpu, Claims.{CpuShown, HasOneOrder, IsMoment, Shown}, Cpus.SeenGrows}}
-use Rattle.cpu.{specs.{Cpus.guests_rest, Linear.{CallsGoOn, OrderGrows}}, proofs.WholeSystems.{InvariantOverSteps.{Holds, no_others}, OneOrder.Has}}
+use Rattle.cpu.{specs.Linear.{CallsGoOn, OrderGrows}, proofs.WholeSystems.{InvariantOverSteps.{Holds, no_others}, OneOrder.Has}}
 use Rattle.cpu.proofs.WholeSystems.{OneOrder.{closed_by_order, follow_programs, stay_home, traces_interleaved}, PartsTold.acts_first}
 use Rattle.cpu.proofs.{ListFacts.ListReads.{all_left, all_reversed, all_right}, StepTable.ReachedSystems.shown_in, OverLayer.SystemOverLayer.cpus_have}
 use Rattle.cpu.proofs.OverLayer.SystemOverLayer.{observed_by, shown_by, works_by}
@@ -28,9 +28,7 @@ order_stays c old new same = record { more = []; is = same ∙ sym (append-nil o
 pub calls_stay : (c : CpuId) (old new : Shown) → new.order ≡ old.order → new.cpus ≡ old.cpus → CallsGoOn c old new
 calls_stay c old new order cpus = record {
   order = order_stays c old.order new.order order;
-  own = λ p q at_p at_q.
-      let same : p ≡ q = same_Some p q (sym at_p ∙ ap (λ (l : List CpuShown). slice_get l c.0) (sym cpus) ∙ at_q) in
-      guests_rest (ap (λ (x : CpuShown). x.guests) (sym same)) (ap (λ (x : CpuShown). x.trace) (sym same));
+  own = grind (arith, same_Some);
   others = λ k other. ap (λ (l : List CpuShown). slice_get l k) cpus;
 }
 

@@ -1,5 +1,5 @@
 -- When nobody is pending: by the places of the threads, and by the pending queues.
-use Rattle.std.proofs.Common.{◌≡◌, ◌≢◌, ◌⊎◌, inl, inr, ℕ, ◌+◌, ◌<◌, Bool, true, false, ◌||◌, List, [], ◌∷◌, length, refl, ap, sym, ◌∙◌, subst, arith}
+use Rattle.std.proofs.Common.{◌≡◌, ◌≢◌, inl, inr, ℕ, ◌+◌, ◌<◌, Bool, true, false, ◌||◌, List, [], ◌∷◌, length, refl, ap, sym, ◌∙◌, arith}
 use Rattle.std.proofs.lemmas.{Bool.{and_right, cases_eq}, Option.{slice_get_within, same_Some}}
 use Rattle.{event_log.{specs.declared.ids.{CpuId.CpuId, Tid.Tid}, proofs.Same.same_cpu_self}, thread_blocks.{specs.Queues.is_in, proofs.Members.same_tid_self}}
 use Rattle.layer_traits.specs.{declared.calls.Place.Place, Threads.{OnePlace.cpu_at, Places.{AreMoves, IsPending, Stands, Step, Threads, count_in, is_pend}}}
@@ -51,8 +51,4 @@ pending_is p is = grind arith
 
 -- what holds of each number below n, and of n
 pub up_more : (P : ℕ → Type 0) (n : ℕ) → ((k : ℕ) → k < n → P k) → P n → (k : ℕ) → k < n + 1 → P k
-up_more P n before here k within = go (cases_eq k n)
-  where
-    go : (k ≡ n) ⊎ (k ≡ n → ⊥) → P k
-    go (inl same) = subst P (sym same) here
-    go (inr other) = before k (omega (arith, within, other))
+up_more P n before here k within = grind (arith, cases_eq)

@@ -1,15 +1,14 @@
 -- What always holds of a system says that its calls have one order, that each thread follows its program, and that entries stay at home.
-use Rattle.std.proofs.Common.{◌≡◌, ◌⊎◌, ℕ, zero, suc, ◌<◌, ◌==◌, ◌&&◌, Bool, true, false, nat_lt, List, [], ◌∷◌, ◌++◌, length, map, reverse, Option, Some, refl}
-use Rattle.std.proofs.{Common.{ap, sym, ◌∙◌, subst, arith, slice_set}, lemmas.{Bool.{cases_eq, cases_lt, eq-eqb, ne_eqb}, List.{append-nil, reverse-append}}}
-use Rattle.std.proofs.lemmas.List.{reverse-reverse, length-map, length-set, get_or_past, get_or-set_same, get_or-set_other, Elements.filter-append}
-use Rattle.std.{proofs.lemmas.Option.slice_get-get_or, specs.{Prelude.{filter, slice_get, slice_index_or}, List.AllByRecursion}}
-use Rattle.event_log.specs.{declared.{entries.{Entry.Entry, Kind.TheVariants.Close}, ids.{CpuId.CpuId, Tid.Tid}}, Runs.{is_closed, kind_eq}}
-use Rattle.{event_log.specs.Traces.IsInterleaving, thread_blocks.specs.Queues.is_in, guest.specs.{Calls.{IsProgramsCalls, HasEnded}, State.State}}
-use Rattle.layer_traits.specs.{declared.{calls.{Call.Call, Effect.Effect}, call_states.CallState.CallState}, Layers.BufferLaw.{UnderWay, begun_of}}
-use Rattle.layer_traits.{specs.{Layers.BufferLaw.call_state_of, Threads.{OnePlace.cpu_at, Places.{Stands, Step}}}, proofs.EffectRunLemmas.count_reversed}
-use Rattle.cpu.specs.{declared.guests.{Guest.Guest, GuestStage.{GuestStage, TheVariants.{Idle, Begun, Done, Ended}}}, Guests.{HasComeIn, is_ended}, Cpus.IsCpu}
-use Rattle.cpu.{specs.{Cpus.{IsOfHome, guest_at, of_cpu, of_thread}, Claims.{CpuShown, Keeps, listed}}, proofs.ListFacts.ListReads.{all_reversed, listed_there}}
-use Rattle.cpu.proofs.ListFacts.ListReads.{there_is}
+use Rattle.std.proofs.Common.{◌≡◌, ◌⊎◌, ℕ, zero, suc, ◌<◌, ◌==◌, Bool, true, false, List, [], ◌∷◌, ◌++◌, length, map, reverse, Option, Some, refl, ap, sym, ◌∙◌}
+use Rattle.std.proofs.{Common.{subst, arith, slice_set}, lemmas.{Bool.{cases_eq, cases_lt, eq-eqb, ne_eqb}, List.{append-nil, reverse-append, reverse-reverse}}}
+use Rattle.std.proofs.lemmas.{List.{length-map, length-set, get_or_past, get_or-set_same, get_or-set_other, Elements.filter-append}, Option.slice_get-get_or}
+use Rattle.std.specs.{Prelude.{filter, slice_get, slice_index_or}, List.AllByRecursion}
+use Rattle.event_log.specs.{declared.{entries.Entry.Entry, ids.{CpuId.CpuId, Tid.Tid}}, Runs.is_closed, Traces.IsInterleaving}
+use Rattle.{thread_blocks.specs.Queues.is_in, guest.specs.{Calls.{IsProgramsCalls, HasEnded}, State.State}, layer_traits.specs.declared.calls.Call.Call}
+use Rattle.layer_traits.specs.{declared.{calls.Effect.Effect, call_states.CallState.CallState}, Layers.BufferLaw.{UnderWay, begun_of, call_state_of}}
+use Rattle.{layer_traits.{specs.Threads.{OnePlace.cpu_at, Places.{Stands, Step}}, proofs.EffectRunLemmas.count_reversed}, cpu.specs.declared.guests.Guest.Guest}
+use Rattle.cpu.specs.{declared.guests.GuestStage.{GuestStage, TheVariants.{Idle, Begun, Done, Ended}}, Guests.{HasComeIn, is_ended}, Cpus.{IsCpu, IsOfHome}}
+use Rattle.cpu.{specs.{Cpus.{guest_at, of_cpu, of_thread}, Claims.{CpuShown, Keeps, listed}}, proofs.ListFacts.ListReads.{all_reversed, listed_there, there_is}}
 
 -- what a test picks of a list turned round
 pub filter_reversed : {X : Type 0} (p : X → Bool) (xs : List X) → filter p (reverse xs) ≡ reverse (filter p xs)
@@ -26,8 +25,7 @@ filter_reversed p (x ∷ xs) =
 
 -- a buffer is told to be closed where the effects have closed it, in their order
 pub closed_by_order : (seen : List Entry) (n b : ℕ) → b < n → slice_index_or (listed (is_closed seen) 0 n) b false ≡ is_closed (reverse seen) b
-closed_by_order seen n b within
-    = listed_there (is_closed seen) n b false within ∙ sym (ap (nat_lt 0) (count_reversed (λ (e : Entry). (e.buffer.0 == b) && kind_eq e.kind Close) seen))
+closed_by_order seen n b within = grind (arith, listed_there, count_reversed)
 
 -- The interleaving.
 

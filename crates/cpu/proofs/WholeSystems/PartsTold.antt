@@ -1,5 +1,5 @@
 -- What the machine and the parts of a system tell of its buffers and of where its threads stand: some of them tells.
-use Rattle.std.proofs.{Common.{◌≡◌, ◌⊎◌, inl, inr, ℕ, ◌+◌, ◌<◌, ◌≤◌, List, length, Option, Some, None, refl, ap, sym, ◌∙◌, subst, arith}, lemmas.Bool.cases_eq}
+use Rattle.std.proofs.{Common.{◌≡◌, ℕ, ◌+◌, ◌<◌, ◌≤◌, List, length, Option, Some, None, refl, ◌∙◌, subst, arith}, lemmas.Bool.cases_eq}
 use Rattle.std.{proofs.lemmas.{Bool.cases_lt, Option.{slice_get_read, slice_get_within}}, specs.Prelude.{slice_get, slice_index_or}}
 use Rattle.event_log.specs.{declared.{entries.Entry.Entry, ids.{CpuId.CpuId, Tid.Tid, TheConstants.CPUS}}, Actions.Action}
 use Rattle.layer_traits.specs.{declared.call_layers.CallLayer.Ghosts, Threads.{OnePlace.cpu_at, Places.{AreMoves, Step, home_of, where_is}}}
@@ -15,20 +15,12 @@ acts_first is = let least = is.some in let most = is.most in is.acts_for (cpu_at
 -- a loop over the CPUs: what holds of those before and of this one holds of those up to here
 pub up_to : {X : Type 0} (P : X → Type 0) (xs : List X) (i : ℕ) (y : X) → i < length xs → y ≡ slice_index_or xs i y → P y
     → ((k : ℕ) (x : X) → k < i → slice_get xs k ≡ Some x → P x) → (k : ℕ) (x : X) → k < i + 1 → slice_get xs k ≡ Some x → P x
-up_to P xs i y within reads here before k x below at = go (cases_eq k i)
-  where
-    go : (k ≡ i) ⊎ (k ≡ i → ⊥) → P x
-    go (inl same) =
-        let equal : y ≡ x = cc (sym (slice_get_read xs (length xs) i y refl within reads) ∙ ap (λ (j : ℕ). slice_get xs j) (sym same) ∙ at) in
-        subst (λ z. P z) equal here
-    go (inr other) = before k x (grind (arith, below, other)) at
+up_to P xs i y within reads here before k x below at = grind (arith, cases_eq, slice_get_read)
 
 -- and of all of them once it has come to the end
 pub up_to_end : {X : Type 0} (P : X → Type 0) (xs ys : List X) (i : ℕ) → ys ≡ xs → length ys ≤ i → ((k : ℕ) (x : X) → k < i → slice_get ys k ≡ Some x → P x)
     → (k : ℕ) (x : X) → slice_get xs k ≡ Some x → P x
-up_to_end P xs ys i same over before k x at =
-    let there : slice_get ys k ≡ Some x = ap (λ l. slice_get l k) same ∙ at in
-    before k x (let within = slice_get_within ys k x there in omega (arith, over, within)) there
+up_to_end P xs ys i same over before k x at = grind (arith, slice_get_within)
 
 -- an element that a loop reads
 pub item_at : {X : Type 0} (xs ys : List X) (i : ℕ) (x : X) → ys ≡ xs → i < length ys → x ≡ slice_index_or ys i x → slice_get xs i ≡ Some x

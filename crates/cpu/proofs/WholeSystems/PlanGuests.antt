@@ -1,9 +1,9 @@
 -- The guests, the homes and the capacities of a plan open a system.
-use Rattle.std.proofs.Common.{◌≡◌, ◌≢◌, ◌⊎◌, ℕ, zero, suc, ◌+◌, ◌<◌, ◌≤◌, ◌==◌, Bool, true, false, List, [], ◌∷◌, ◌++◌, length, map, replicate, take, Option}
+use Rattle.std.proofs.Common.{◌≡◌, ◌≢◌, ℕ, zero, suc, ◌+◌, ◌<◌, ◌==◌, Bool, true, false, List, [], ◌∷◌, ◌++◌, length, map, replicate, take, Option}
 use Rattle.std.proofs.{Common.{Some, None, refl, ap, sym, ◌∙◌, subst, arith}, lemmas.{Bool.{cases_lt, eq-eqb, eqb-true, ne_eqb}, List.get_or_past}}
 use Rattle.std.proofs.lemmas.{List.{length-map, map-append, take_more, Elements.{All-from_get_or, All-get_or, All-map}}, Option.get_or_from_slice_get}
 use Rattle.std.{proofs.lemmas.Option.{slice_get_within, unwrap_or-slice_get}, specs.Prelude.{All, IsTrue, slice_get, slice_index_or, if◌then◌else◌}}
-use Rattle.{event_log.specs.declared.ids.CpuId.CpuId, guest.specs.{declared.instructions.Instruction.{Instruction, TheVariants.Exit}, Instructions.names_below}}
+use Rattle.{event_log.specs.declared.ids.CpuId.CpuId, guest.specs.{declared.instructions.Instruction.Instruction, Instructions.names_below}}
 use Rattle.{boot.specs.Plan.{IsPlan, IsTask, BootPlan, Task, plan_home_of, plan_program_of}, layer_traits.specs.Threads.OnePlace.cpu_at}
 use Rattle.{layer_traits.specs.Views.Openings.AreOpenable, cpu.specs.{declared.guests.Guest.Guest, Guests.new_guest, Boots.{AreGuests, AreTables, guest_for}}}
 use Rattle.cpu.{specs.{Boots.{guests_for, homes_for, tables_for}, Claims.listed, Cpus.{NamesBelow, guest_at}}, proofs.ListFacts.GuestLists.guest_within}
@@ -11,10 +11,7 @@ use Rattle.cpu.proofs.ListFacts.ListReads.{listed_length, listed_there, shown_at
 
 -- a program that names none but the first buffers does so in each line
 names_in_lines : (buffers : ℕ) (program : List Instruction) → All (λ i. IsTrue (names_below buffers i)) program → NamesBelow buffers program
-names_in_lines buffers program all line = rw (unwrap_or-slice_get program line Exit) (go (cases_lt line (length program)))
-  where
-    go : (line < length program) ⊎ (length program ≤ line) → names_below buffers (slice_index_or program line Exit) ≡ true
-    go either = grind (arith, get_or_past)
+names_in_lines buffers program all line = grind (arith, unwrap_or-slice_get, cases_lt, get_or_past)
 
 module _ (cpus buffers : ℕ) (tasks : List Task) (all : All (IsTask cpus buffers) tasks) (c : ℕ) where
   -- a guest of CPU c is that of a thread at home there

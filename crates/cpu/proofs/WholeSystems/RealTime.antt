@@ -1,5 +1,5 @@
 -- A run is linearizable by its steps, and the order goes on from that of each of its moments.
-use Rattle.std.proofs.{Common.{◌≡◌, ◌+◌, List, [], ◌∷◌, ◌++◌, length, Some, ap, sym, ◌∙◌, subst, append_assoc, arith}, lemmas.List.{append-nil, length-append}}
+use Rattle.std.proofs.{Common.{◌≡◌, ◌+◌, List, [], ◌∷◌, ◌++◌, ap, sym, ◌∙◌, subst, append_assoc, arith}, lemmas.List.{append-nil, length-append}}
 use Rattle.std.{proofs.lemmas.{List.{get_or_append_left, get_or-append-add}, Option.slice_get-get_or}, specs.Prelude.Contains}
 use Rattle.{event_log.specs.declared.{entries.Entry.Entry, ids.CpuId.CpuId}, cpu.specs.{Claims.{IsMoment, Shown}, Linear.{ComesBefore, IsLinearizable}}}
 use Rattle.cpu.specs.{Linear.{LinearRunsKeepRealTime, begins, takes_none, takes_step}, Systems.{Ran, WentOn, goes, took_none, stayed, took}}
@@ -33,17 +33,7 @@ moment_after (takes_none c before) first = moment_after before first
 moment_after (takes_step c r before grows now) first = now
 
 pub comes_before_more : (first later more : List Entry) → later ≡ first ++ more → (a b : Entry) → Contains first a → Contains more b → ComesBefore later a b
-comes_before_more first later more is a b has has_more =
-    let long = length-append first more in
-    subst (λ (l : List Entry). ComesBefore l a b) (sym is) (
-      has.0,
-      length first + has_more.0,
-      omega (arith, has.1),
-      slice_get-get_or (first ++ more) has.0 a (omega (arith, has.1, long))
-          ∙ ap (λ (e : Entry). Some e) (get_or_append_left first more a has.0 has.1 ∙ has.2),
-      slice_get-get_or (first ++ more) (length first + has_more.0) b (omega (arith, has_more.1, long))
-          ∙ ap (λ (e : Entry). Some e) (get_or-append-add first more has_more.0 b ∙ has_more.2),
-    )
+comes_before_more first later more is a b has has_more = grind (arith, length-append, slice_get-get_or, get_or_append_left, get_or-append-add)
 
 pub real_time : LinearRunsKeepRealTime
 real_time first later steps now linear =

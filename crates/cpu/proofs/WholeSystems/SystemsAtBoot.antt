@@ -1,6 +1,6 @@
 -- A system before its first step is the step table's at boot, and the setup that its plan says is its own.
 use Rattle.std.proofs.Common.{◌≡◌, ℕ, zero, suc, ◌+◌, false, List, [], ◌∷◌, length, map, replicate, Option, Some, None, refl, ap, sym, ◌∙◌, subst, arith}
-use Rattle.std.{proofs.lemmas.{List.length-map, Option.{get_or_from_slice_get, slice_get_within}}, specs.Prelude.{IfOk, Result, Ok, Err, slice_get}}
+use Rattle.std.{proofs.lemmas.{List.length-map, Option.{get_or_from_slice_get, slice_get_within}}, specs.Prelude.{IfOk, Result, slice_get}}
 use Rattle.std.specs.Prelude.{slice_index_or, if◌then◌else◌}
 use Rattle.{event_log.{specs.declared.ids.{CpuId.CpuId, TheConstants.THREADS}, proofs.ListLemmas.alike_at}, guest.specs.State.{State, at_start}}
 use Rattle.layer_traits.{specs.{Layers.BufferLaw.{buffering_at_start, no_call}, Threads.{OnePlace.cpu_at, Places.homed}}, proofs.CountLemmas.same_cpu_sym}
@@ -113,14 +113,11 @@ planned_so plan s is caps homes guests limits = record {
               ap program_or (shows_at (λ (task : Task). task.program) plan.tasks t.0 of.task of.there) ∙ ap (λ (x : Guest). x.program) of.is;
         };
   };
-  count =
-      sym (listed_length (guests_for plan) plan.cpus 0) ∙ ap (λ (l : List (List (Option Guest))). length l) (sym guests) ∙ length-map s.cpus (λ p. p.guests);
+  count = grind (arith, listed_length, length-map);
 }
 
 pub planned_if : {E : Type 0} (plan : BootPlan) (r : Result Shown E) (caps : List ℕ) (homes : List CpuId) (guests : List (List (Option Guest)))
     (limits : List ℕ) → IsPlan plan → caps ≡ plan.caps → homes ≡ homes_for plan → guests ≡ tables_for plan → limits ≡ replicate plan.cpus plan.trace
     → IfOk r (λ s. s.caps ≡ caps) → IfOk r (λ s. s.homes ≡ homes) → IfOk r (λ s. map (λ p. p.guests) s.cpus ≡ guests)
     → IfOk r (λ s. map (λ p. p.limit) s.cpus ≡ limits) → IfOk r (IsSetupFor (setup_for plan))
-planned_if plan (Ok s) caps homes guests limits is caps_are homes_are guests_are limits_are s_caps s_homes s_guests s_limits =
-    planned_so plan s is (s_caps ∙ caps_are) (s_homes ∙ homes_are) (s_guests ∙ guests_are) (s_limits ∙ limits_are)
-planned_if plan (Err e) caps homes guests limits is caps_are homes_are guests_are limits_are s_caps s_homes s_guests s_limits = tt
+planned_if plan r caps homes guests limits is caps_are homes_are guests_are limits_are s_caps s_homes s_guests s_limits = grind (arith, planned_so)

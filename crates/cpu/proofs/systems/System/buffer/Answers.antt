@@ -1,5 +1,5 @@
-use Rattle.std.proofs.Common.{◌≡◌, None, ap, sym, ◌∙◌, subst, option_map}
-use Rattle.{event_log.specs.Buffers.items_of, cpu.{specs.Claims.Shown, proofs.WholeSystems.PartsTold.{acts_first, told_here, told_somewhere, up_to}}}
+use Rattle.std.proofs.Common.{◌≡◌, None, ap, sym, ◌∙◌, option_map}
+use Rattle.cpu.proofs.WholeSystems.PartsTold.{acts_first, told_here, told_somewhere, up_to}
 use Rattle.cpu.proofs.systems.System.buffer.Goals as goal
 
 pub buffer_in-requires-clause-acts : goal.buffer_in-requires-clause-acts
@@ -15,10 +15,9 @@ pub returns-in-Some-buffer_here : goal.returns-in-Some-buffer_here
 returns-in-Some-buffer_here g c =
     let is = c.self.invariant in
     let told = g.met.I.Owned.items c.self.inside.machine (record { 0 = 0 }) c.args.buffer (acts_first is) (rw (← c.self.view_is) at c.requires) in
-    subst (λ (s : Shown). c.in-Some-buffer_here.items.items ≡ items_of s.contents c.args.buffer.0) c.self.view_is
-    (told_here g.I.CallLayer c.self.inside.machine c.self.inside.cpus.items is.each is.holders told c.deref-at-items.result.now c.loop-at.at-index
-    c.deref-at-items.ensures.value c.at-item.result c.in-Some-buffer_here.items.items c.loop-at-test.true c.at-item.is
-    (sym c.buffer_here.ensures ∙ ap (λ o. option_map (λ y. y.items) o) c.in-Some-buffer_here.is))
+    rw (← c.self.view_is) (told_here g.I.CallLayer c.self.inside.machine c.self.inside.cpus.items is.each is.holders told c.deref-at-items.result.now
+    c.loop-at.at-index c.deref-at-items.ensures.value c.at-item.result c.in-Some-buffer_here.items.items c.loop-at-test.true
+    c.at-item.is (sym c.buffer_here.ensures ∙ ap (λ o. option_map (λ y. y.items) o) c.in-Some-buffer_here.is))
 
 pub loop-at-preserved : goal.loop-at-preserved
 loop-at-preserved g c =

@@ -1,5 +1,5 @@
-use Rattle.std.{proofs.Common.{arith, ◌≡◌, None, length, sym, ◌∙◌, subst}, specs.Prelude.slice_index_or}
-use Rattle.{layer_traits.specs.Blocks.Capacities.caps_in, cpu.{specs.Claims.{Shown, buffer_at}, proofs.ListFacts.ListReads.listed_there}}
+use Rattle.std.proofs.Common.{arith, ◌≡◌, None, length, sym, ◌∙◌}
+use Rattle.{layer_traits.specs.Blocks.Capacities.caps_in, cpu.{specs.Claims.buffer_at, proofs.ListFacts.ListReads.listed_there}}
 use Rattle.cpu.proofs.WholeSystems.PartsTold.{acts_first, told_here, told_somewhere, up_to}
 use Rattle.cpu.proofs.systems.System.busy.Goals as goal
 
@@ -17,10 +17,9 @@ pub returns-in-Some-busy_here : goal.returns-in-Some-busy_here
 returns-in-Some-busy_here g c =
     let is = c.self.invariant in
     let told = g.met.I.Owned.owners c.self.inside.machine (record { 0 = 0 }) c.args.buffer (acts_first is) (rw (← c.self.view_is) at c.requires) in
-    subst (λ (s : Shown). c.in-Some-busy_here.owner ≡ slice_index_or s.owners c.args.buffer.0 None) c.self.view_is
-    (told_here g.I.CallLayer c.self.inside.machine c.self.inside.cpus.items is.each is.holders told c.deref-at-items.result.now c.loop-at.at-index
-    c.deref-at-items.ensures.value c.at-item.result c.in-Some-busy_here.owner c.loop-at-test.true c.at-item.is
-    (sym c.busy_here.ensures ∙ c.in-Some-busy_here.is)
+    rw (← c.self.view_is) (told_here g.I.CallLayer c.self.inside.machine c.self.inside.cpus.items is.each is.holders told c.deref-at-items.result.now
+    c.loop-at.at-index c.deref-at-items.ensures.value c.at-item.result c.in-Some-busy_here.owner c.loop-at-test.true
+    c.at-item.is (sym c.busy_here.ensures ∙ c.in-Some-busy_here.is)
     ∙ sym (listed_there (λ b. g.I.Owned.owner c.self.inside.machine (buffer_at b)) (length (caps_in (g.I.CallLayer.opening c.self.inside.machine)))
     c.args.buffer.0 None (rw (← c.self.view_is) at c.requires)))
 

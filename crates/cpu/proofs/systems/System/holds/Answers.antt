@@ -13,13 +13,7 @@ pub returns-clause-sound : goal.returns-clause-sound
 returns-clause-sound g c = λ step. subst (λ (s : Shown). SoundByTable s) c.self.view_is (sound_of _ (c.self.invariant.sound.1 step))
 
 laws : (g : Over) → MachineLaws g.I.CallLayer
-laws g = record {
-  own_cpu = g.met.I.CallLayer.own_cpu;
-  legal = g.met.I.CallLayer.legal;
-  known = g.met.I.Owned.known;
-  lawful = g.met.I.CallLayer.lawful;
-  stands = g.met.I.CallLayer.stands;
-}
+laws g = grind arith
 
 -- each CPU has what always holds of it
 each : (g : Over) (c : After-self g) → let I = g.I.CallLayer in let m = c.self.inside.machine in

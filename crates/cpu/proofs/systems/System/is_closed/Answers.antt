@@ -1,5 +1,5 @@
-use Rattle.std.{proofs.Common.{arith, ◌≡◌, false, length, None, sym, ◌∙◌, subst}, specs.Prelude.slice_index_or}
-use Rattle.{layer_traits.specs.Blocks.Capacities.caps_in, event_log.specs.Runs.is_closed, cpu.{specs.Claims.Shown, proofs.ListFacts.ListReads.listed_there}}
+use Rattle.std.proofs.Common.{arith, ◌≡◌, false, length, None, sym, ◌∙◌}
+use Rattle.{layer_traits.specs.Blocks.Capacities.caps_in, event_log.specs.Runs.is_closed, cpu.proofs.ListFacts.ListReads.listed_there}
 use Rattle.cpu.proofs.WholeSystems.PartsTold.{acts_first, told_here, told_somewhere, up_to}
 use Rattle.cpu.proofs.systems.System.is_closed.Goals as goal
 
@@ -18,10 +18,9 @@ pub returns-in-Some-closed_in_hands : goal.returns-in-Some-closed_in_hands
 returns-in-Some-closed_in_hands g c =
     let is = c.self.invariant in
     let told = g.met.I.Owned.closed c.self.inside.machine (record { 0 = 0 }) c.args.buffer (acts_first is) (rw (← c.self.view_is) at c.requires) in
-    subst (λ (s : Shown). c.in-Some-closed_in_hands.closed ≡ slice_index_or s.closed c.args.buffer.0 false) c.self.view_is
-    (told_here g.I.CallLayer c.self.inside.machine c.self.inside.cpus.items is.each is.holders told c.deref-at-items.result.now c.loop-at.at-index
-    c.deref-at-items.ensures.value c.at-item.result c.in-Some-closed_in_hands.closed c.loop-at-test.true c.at-item.is
-    (sym c.closed_in_hands.ensures ∙ c.in-Some-closed_in_hands.is)
+    rw (← c.self.view_is) (told_here g.I.CallLayer c.self.inside.machine c.self.inside.cpus.items is.each is.holders told c.deref-at-items.result.now
+    c.loop-at.at-index c.deref-at-items.ensures.value c.at-item.result c.in-Some-closed_in_hands.closed c.loop-at-test.true
+    c.at-item.is (sym c.closed_in_hands.ensures ∙ c.in-Some-closed_in_hands.is)
     ∙ sym (listed_there (is_closed (g.I.CallLayer.seen c.self.inside.machine)) (length (caps_in (g.I.CallLayer.opening c.self.inside.machine)))
     c.args.buffer.0 false (rw (← c.self.view_is) at c.requires)))
 

@@ -1,10 +1,9 @@
-use Rattle.std.proofs.Common.{◌≡◌, Option, Some, None, IfSome, refl, arith, ◌∙◌}
+use Rattle.std.proofs.Common.{◌≡◌, Option, Some, IfSome, arith, ◌∙◌}
 use Rattle.cpu.proofs.{ListFacts.ListReads.shows_at, WholeSystems.PartsTold.item_at, OverLayer.SystemOverLayer.shown_by}
 use Rattle.cpu.proofs.systems.System.place_at_home.Goals as goal
 
 by_some : {X : Type 0} (P : X → Type 0) (o : Option X) → ((x : X) → o ≡ Some x → P x) → IfSome o P
-by_some P None each = tt
-by_some P (Some x) each = each x refl
+by_some P o each = grind arith
 
 pub returns-then-has : goal.returns-then-has
 returns-then-has g c =

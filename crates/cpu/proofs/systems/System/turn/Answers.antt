@@ -1,4 +1,4 @@
-use Rattle.std.proofs.Common.{rules, ◌≡◌, ℕ, ◌+◌, ◌<◌, ◌≤◌, List, length, replicate, take, Option, Some, None, is_some, ap, sym, ◌∙◌, subst, arith}
+use Rattle.std.proofs.Common.{rules, ◌≡◌, ℕ, ◌+◌, ◌≤◌, List, replicate, take, Option, Some, None, is_some, ap, sym, ◌∙◌, subst, arith}
 use Rattle.std.{proofs.lemmas.Option.slice_get_within, specs.Prelude.{slice_get, slice_index_or}}
 use Rattle.{event_log.specs.declared.ids.CpuId.CpuId, layer_traits.specs.declared.steps.Reason.Reason, cpu.specs.{Claims.CpuShown, CpuSteps.AgreesAt}}
 use Rattle.cpu.{specs.Systems.{own_reason_in, reason_of, reason_or}, proofs.CpuSteps.CpuRuns.{runs_agree, runs_room}}
@@ -13,9 +13,7 @@ first steps = slice_index_or steps 0 (record { 0 = 0 })
 
 -- the CPU that steps is the one at its number
 at : (g : Over) (c : After-index_mut-at g) → slice_get c.self.inside.cpus.items c.from.result ≡ Some c.index_mut-at.result.now
-at g c =
-    let known : (first c.args.steps.now).0 < length c.args.self.now.cpus = c.requires.known 0 (record { 0 = 0 }) c.requires.some in
-    grind (arith, read_at, known)
+at g c = grind (arith, read_at)
 
 agrees : (g : Over) (c : After-index_mut-at g) → AgreesAt g.I.CallLayer c.self.inside.machine c.index_mut-at.result.now
 agrees g c =
@@ -71,13 +69,7 @@ module _ (g : Over) (c : After-spin-looks g) where
   space = omega arith
 
   laws : MachineLaws g.I.CallLayer
-  laws = record {
-    own_cpu = g.met.I.CallLayer.own_cpu;
-    legal = g.met.I.CallLayer.legal;
-    known = g.met.I.Owned.known;
-    lawful = g.met.I.CallLayer.lawful;
-    stands = g.met.I.CallLayer.stands;
-  }
+  laws = assumption (g.met.I.CallLayer, g.met.I.Owned)
 
   went : WentSo g.I.CallLayer laws g.I.Owned.owner c.self.inside.threads c.self.inside.room c.from.result (first c.args.steps.now) c.from.ensures
       c.self.inside.machine c.self.inside.cpus.items c.self.inside.taken (c.run-taken.result + c.spin-looks.result) c.spin-looks.new.m c.run-taken.new.self
@@ -90,8 +82,7 @@ module _ (g : Over) (c : After-spin-looks g) where
       e.spun e.tries e.still e.live space
 
   front : replicate (c.run-taken.result + c.spin-looks.result) (first c.args.steps.now) ≡ take (c.run-taken.result + c.spin-looks.result) c.args.steps.now
-  front = turn_begun c.args.steps.now (record { 0 = 0 }) c.steps_behind-own.result (c.run-taken.result + c.spin-looks.result) c.requires.some
-      c.steps_behind-own.ensures (omega arith)
+  front = grind (arith, turn_begun)
 
 pub invariant_of-self : goal.invariant_of-self
 invariant_of-self g c = (went g (goal.at.invariant_of-self g c).After-spin-looks).keeps

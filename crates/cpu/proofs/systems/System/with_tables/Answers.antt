@@ -20,8 +20,7 @@ assembled-requires g c =
     let shown = λ (x : Cpu g.row.I.Denot g.row.I-Machine.Denot). cpu_shown (threads_in (I.own x.part)) x.guests.items x.trace.items x.limit (I.is_inside x.part)
     (I.own x.part) in
     let threads = ap (λ (l : List CpuId). length l) (sym c.in_ok-machine.ensures.opened.homes_are) in
-    let below : (k : ℕ) → k < length cpus → k < length tables =
-    λ k within. let count = c.in_ok-cpus.ensures.count in omega (arith, so_many, within, count) in
+    let below : (k : ℕ) → k < length cpus → k < length tables = grind arith in
     let start = shown_of (caps_in (I.opening m)) (homes_in (I.opening m)) (I.seen m) (I.wait_lists m) (g.I.Owned.owner m) (I.moves m) (I.acts m)
     (map shown cpus) c.args.room 0 in
     let boots : I.IsStepwise → BootsByTable start = λ step. starts_by_table start (ap (λ (l : List (Action _)). named l) e.none) refl
