@@ -85,8 +85,7 @@ module _ (setup : Setup) (table_view : TableView (QueueBlock LockBlock)) (so : S
 
   -- The calls of the layers above are allowed.
   lawful_words : IsLawful (tower_rules.allowed opening) (sections_in acts_words)
-  lawful_words = subst (λ l. IsLawful (tower_rules.allowed opening) l) (sym (sections_acts edit_of log))
-      (sections_allowed (tower_rules.allowed opening) log legal)
+  lawful_words = rw (sections_acts edit_of log) (sections_allowed (tower_rules.allowed opening) log legal)
 
   abbrev events : List (QueueEvent (CvCall BufferEdit))
   events = renamed_events lock.lock_call (renamed_events sleep.slept_edit (map event_of (sections_in acts_words)))

@@ -48,6 +48,11 @@ pub both_same : {A : Type 0} (xs ys : List A) → Both (λ x y. y ≡ x) xs ys �
 both_same [] ys same = grind arith
 both_same (x ∷ xs) ys same = grind (arith, both_same xs)
 
+-- so is the list of a loop that has come to its end
+pub filled_with : {A B : Type 0} (h : A → B) {all past rest : List A} {done : List B} {capacity n : ℕ}
+    → Filling (λ x y. y ≡ h x) all past rest done capacity → n ≡ length rest → n ≡ 0 → done ≡ map h all
+filled_with h {all = all} {done = done} filling count none = both_are h all done (filled_all filling count none)
+
 -- Loops by number, which take their elements from the front of a list.
 
 pub is_below : {n count many long : ℕ} → n < count → count ≡ many → many ≡ long → n < long

@@ -41,8 +41,7 @@ module _ (ActsFor : CpuId → Type 0) (cpu : CpuId) (acts : ActsFor cpu) where
     pub keeps_on : {call_states left : List CallState} {now new : List Entry} → OthersSeen ActsFor now new → left ≡ call_states
         → KeepsOn cpu t call call_states left now new
     keeps_on {call_states} {left} {now} {new} seen same =
-        subst (λ (l : List CallState). KeepsOn cpu t call call_states l now new) (sym same)
-        (λ old on. record { may = on.may; one = on.one; went = went_on old now new _ seen on.went })
+        rw same (λ old on. record { may = on.may; one = on.one; went = went_on old now new _ seen on.went })
 
     -- a poll of the call has had its effect, or the call had it before, or has yet to have it
     pub polled : (call_states left : List CallState) (old now new : List Entry) (answer : Option Reply)
@@ -58,10 +57,7 @@ module _ (ActsFor : CpuId → Type 0) (cpu : CpuId) (acts : ActsFor cpu) where
             × ((call_state_of left t).effect ≡ Some f) × IsEffectOf call f)
             → (mine ≡ None → (call_state_of left t).effect ≡ (going (call_state_of call_states t) call).effect)
             → Half cpu t call (call_state_of left t).effect old new
-        go None is fresh stays = subst (λ f. Half cpu t call f old new) (sym (stays refl)) (record {
-          one = on.one;
-          went = went_more cpu old now new _ called.others own is on.went;
-        })
+        go None is fresh stays = rw (stays refl) (record { one = on.one; went = went_more cpu old now new _ called.others own is on.went })
         go (Some f) is fresh stays =
             let it = fresh f refl in
             let before : Went cpu old now [] = subst (λ g. Went cpu old now (entries_of cpu t (buffer_of call) g)) it.0 on.went in

@@ -1,6 +1,7 @@
 -- Lists whose elements belong together, and loops over them.
 use Rattle.std.proofs.Common.{◌≡◌, ℕ, zero, suc, ◌+◌, ◌<◌, ◌≤◌, List, [], ◌∷◌, ◌++◌, length, map, All, refl, ap, sym, ◌∙◌, subst, length-append, arith}
 use Rattle.std.{proofs.lemmas.Option.{get_or_from_slice_get, slice_get_within}, specs.Prelude.{Some, slice_get}}
+use Rattle.std.proofs.lemmas.List.Elements.{All-append, All-cons, All-nil}
 use Rattle.{layer_traits.proofs.PlanRenaming.map-append, event_log.proofs.ListLemmas.there_is, cpu_workers.specs.Reports.Both}
 pub use Rattle.table_machine.proofs.Returning.{all_tail, no_more, yield_more}
 
@@ -82,11 +83,5 @@ both_all Fits P Q over xs ys fits all =
     all_by_number Q ys (λ k y at. let of = both_back Fits xs ys fits k y at in over of.0 y of.2 (all_at P xs k of.0 all of.1))
 
 -- what holds of all of a list, and of one more behind them, holds of them all
-all_then : {A : Type 0} (P : A → Type 0) (xs : List A) (x : A) → All P xs → P x → All P (xs ++ x ∷ [])
-all_then P [] x all one zero d below = one
-all_then P [] x all one (suc k) d below = absurd (omega (arith, below))
-all_then P (y ∷ xs) x all one zero d below = all 0 d (omega arith)
-all_then P (y ∷ xs) x all one (suc k) d below = all_then P xs x (λ i e within. all (suc i) e (omega (arith, within))) one k d (omega (arith, below))
-
 pub all_more : {A : Type 0} (P : A → Type 0) (xs ys : List A) (x : A) → ys ≡ xs ++ x ∷ [] → All P xs → P x → All P ys
-all_more P xs ys x is all one = subst (λ l. All P l) (sym is) (all_then P xs x all one)
+all_more P xs ys x is all one = rw is (All-append P xs (x ∷ []) all (All-cons P x [] one (All-nil P)))

@@ -1,7 +1,7 @@
 -- What holds of workers that run at one table.
-use Rattle.std.proofs.Common.{arith, ◌≡◌, true, List, Option, Some, sym, subst}
+use Rattle.std.proofs.Common.{arith, ◌≡◌, true, List, Option, Some}
 use Rattle.{event_log.specs.{declared.ids.{CpuId.CpuId, Tid.Tid}, Actions.Action}, cpu.specs.Table.{Blocks.Name, Setups.{Setup, Private, have_ended}}}
-use Rattle.cpu.specs.{Table.{Setups.home_threads, Choice.at_current, Steps.{AlongTable, halted_at, halted_by}}, Wakeups.Lost.RanItsPart}
+use Rattle.cpu.specs.{Table.{Setups.home_threads, Choice.at_current, Steps.{halted_at, halted_by}}, Wakeups.Lost.RanItsPart}
 use Rattle.{cpu.proofs.Wakeups.CpusByTable.cpus_lose_no_wake_up, cpu_workers.specs.declared.workers.stops.Stop.TheVariants.{AllEnded, TurnsUsed, TraceFull}}
 use Rattle.cpu_workers.{specs.{declared.workers.stops.Stop.TheVariants.Held, Laws.{HasWorked, StopsAreTrue, WorkersLoseNoWakeUp}}, proofs.Turning.along_others}
 use Rattle.layer_traits.specs.declared.steps.Reason.TheVariants as reason
@@ -10,8 +10,7 @@ has_ran : (setup : Setup) (c : CpuId) (log : List (Action Name)) → HasWorked s
 has_ran setup c log worked = record {
   count = worked.took.count;
   last = worked.last;
-  steps = subst (λ (l : List (Action Name)). AlongTable setup c worked.took.count worked.last l) (sym worked.is)
-      (along_others worked.more worked.others worked.took.steps);
+  steps = rw worked.is (along_others worked.more worked.others worked.took.steps);
 }
 
 pub workers_lose : WorkersLoseNoWakeUp

@@ -1,5 +1,5 @@
 -- Natives at one table of words: what each leaves there, and that the table may be closed.
-use Rattle.std.proofs.{lemmas.{Option.slice_get_within, List.length-map}, Common.{◌≡◌, ℕ, List, length, map, Some, slice_get, ◌∙◌, subst}}
+use Rattle.std.proofs.{lemmas.{Option.slice_get_within, List.length-map}, Common.{◌≡◌, ℕ, List, length, map, Some, slice_get, ◌∙◌}}
 use Rattle.cpu_workers.{proofs.{TableKeys.{Back, as_many}, SeatViews.{SameActs, left_at}}, specs.{Callers.CallerView, Closing.{Key, tower_rules}}}
 use Rattle.{cpu_workers.specs.{Natives.{HasLeftCalls, HaveLeftKeys}, Seating.{AnyBlock, Edit, tower_acts}}, event_log.specs.{Actions.Action, History.IsLawful}}
 use Rattle.{layer_traits.specs.{Protocols.{OneLock.opened, WordsProtocol.MayCome}, Threads.OnePlace.cpu_at}, table_machine.specs.SeatViews.TableView}
@@ -23,8 +23,7 @@ module _ {N X : Type 0} (Kept : N → N → CallerView → Type 0) (caps : List 
         each = λ k native at.
             let one = left_at table_view left machine acts same (length natives) seats new count site owns k (slice_get_within natives k native at) in
             let x = one.0 in
-            let gone = subst (λ (l : List (Action Edit)). HasLeftCalls Kept caps (cpu_at k) native (native_of x) (tower_acts l)) one.3
-            (has k x native one.1 at) in (
+            let gone = rw one.3 at (has k x native one.1 at) in (
               native_of x,
               machine x,
               shows_at native_of left k x one.1,

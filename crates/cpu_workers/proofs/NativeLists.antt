@@ -1,6 +1,6 @@
 -- Natives and what they leave, by their places in the lists.
 use Rattle.std.proofs.Common.{◌≡◌, ℕ, zero, suc, ◌+◌, ◌<◌, ◌≤◌, false, All, List, [], ◌∷◌, ◌++◌, length, Some, slice_get, ap, sym, ◌∙◌, subst, arith}
-use Rattle.std.specs.{List.AllByRecursion, Prelude.{IfOk, Result}}
+use Rattle.std.{proofs.lemmas.List.Elements.All-from_recursion, specs.{List.AllByRecursion, Prelude.{IfOk, Result}}}
 use Rattle.event_log.specs.{declared.ids.{CpuId.CpuId, TheConstants.{BUFFERS, CPUS}}, Actions.{Action, phase}, Buffers.IsCapacity}
 use Rattle.{layer_traits.specs.{Threads.OnePlace.cpu_at, Views.Openings.AreOpenable, Polling.Plans.is_in_section}, cpu.specs.Claims.listed}
 use Rattle.cpu.{specs.Tower.Views.TowerName, proofs.{ListFacts.ListReads.listed_length, WholeSystems.PlanGuests.listed_more}}
@@ -51,11 +51,6 @@ homes_within : (n k d : ℕ) → k + n ≤ d → AllByRecursion (λ (h : CpuId).
 homes_within zero k d below = tt
 homes_within (suc n) k d below = (omega (arith, below), homes_within n (k + 1) d (omega (arith, below)))
 
-all_of_each : {X : Type 0} (P : X → Type 0) (xs : List X) → AllByRecursion P xs → All P xs
-all_of_each P [] each k d within = absurd (omega (arith, within))
-all_of_each P (x ∷ xs) each zero d within = each.0
-all_of_each P (x ∷ xs) each (suc k) d within = all_of_each P xs each.1 k d (omega (arith, within))
-
 pub are_openable : (n : ℕ) (caps : List ℕ) → 0 < n → n ≤ CPUS → length caps ≤ BUFFERS → All IsCapacity caps → AreOpenable n caps (own_homes n)
 are_openable n caps some few buffers capacities = record {
   some_cpus = omega (arith, some);
@@ -63,5 +58,5 @@ are_openable n caps some few buffers capacities = record {
   buffers = buffers;
   capacities = capacities;
   threads = let count = listed_length cpu_at n 0 in omega (arith, count, few);
-  homes_exist = all_of_each (λ (h : CpuId). h.0 < n) (own_homes n) (homes_within n 0 n (omega arith));
+  homes_exist = All-from_recursion (λ (h : CpuId). h.0 < n) (own_homes n) (homes_within n 0 n (omega arith));
 }

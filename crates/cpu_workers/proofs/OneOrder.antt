@@ -105,8 +105,7 @@ module _ (caps : List ℕ) where
   effects_known n [] known = tt
   effects_known n (a ∷ past) known =
       let one = act_adds a past in
-      subst (λ (es : List Entry). AllByRecursion (λ e. e.cpu.0 < n) es) (sym one.is)
-      (all_of n one.effect (effects_of caps past) (λ e at. subst (λ (d : CpuId). d.0 < n) (sym (one.its e at)) known.0) (effects_known n past known.1))
+      rw one.is (all_of n one.effect (effects_of caps past) (λ e at. rw (one.its e at) known.0) (effects_known n past known.1))
     where
       all_of : (m : ℕ) (o : Option Entry) (es : List Entry) → ((e : Entry) → o ≡ Some e → e.cpu.0 < m) → AllByRecursion (λ e. e.cpu.0 < m) es
           → AllByRecursion (λ e. e.cpu.0 < m) (option_to_list o ++ es)

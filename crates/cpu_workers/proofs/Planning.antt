@@ -1,7 +1,7 @@
 -- A worker's plan is its CPU's, and its threads follow their programs.
 use Rattle.std.proofs.Common.{◌≡◌, ◌≢◌, ℕ, zero, suc, ◌+◌, Bool, true, false, not, ◌&&◌, ◌==◌, List, [], ◌∷◌, length, reverse, Option, Some, None, is_some}
 use Rattle.std.proofs.{Common.{option_map, slice_index_or, if◌then◌else◌, refl, ap, sym, ◌∙◌, subst, arith}, lemmas.List.reverse-reverse}
-use Rattle.std.specs.List.{AllByRecursion, list_all}
+use Rattle.std.specs.List.{list_all}
 use Rattle.event_log.specs.{declared.{entries.Entry.Entry, ids.{CpuId.CpuId, Tid.Tid}}, Actions.Action}
 use Rattle.guest.specs.{declared.instructions.Instruction.Instruction, Calls.{IsProgramsCalls, HasEnded}, State.{State, next_of}}
 use Rattle.layer_traits.specs.declared.{calls.{Call.Call, Effect.Effect}, steps.{Reason.TheVariants.{AllEnded, TraceFull, StepsUsed}, Step.Step}}
@@ -85,8 +85,7 @@ module _ (told : TabledCpu) where
   })
   has_followed acts site = record {
     room = let room = is.room in omega (arith, room);
-    stays = subst (λ (l : List Entry). AllByRecursion (IsOfHome homes number) l) (sym is.kept)
-        (all_reversed (IsOfHome homes number) (of_cpu number seen) is.stays);
+    stays = rw is.kept (all_reversed (IsOfHome homes number) (of_cpu number seen) is.stays);
     homed = λ t home. let there = is.homed t home in (there.0.program, program_there guests t.0 there.0 there.1);
     follows = λ t program at. let there = guest_with guests t.0 program at in
         subst (λ (l : List Instruction). FollowsProgram l (of_thread t.0 trace) (thread_at (private part guests trace) t).ended) there.2

@@ -1,19 +1,19 @@
 -- From the workers that came back and the closed table to the lawful report.
-use Rattle.std.{proofs.Common.{◌≡◌, ℕ, ◌+◌, ◌<◌, true, false, List, ◌++◌, length, Some, refl, ap, sym, ◌∙◌, subst, arith}, specs.Prelude.Option}
+use Rattle.std.{proofs.Common.{◌≡◌, ℕ, ◌+◌, ◌<◌, false, List, ◌++◌, length, refl, ap, sym, ◌∙◌, subst, arith}, specs.Prelude.Option}
 use Rattle.cpu_workers.proofs.{TableOrder.{goes_on, traces_ordered, other_cpus_rest, Goes}, Turning.{took_of, within_others}, ClosedLog.acts_legal}
 use Rattle.cpu_workers.proofs.{ClosedLog.{buffers_left, queues_left, buffer_opens, sections_proper, opening_starts}, Lasting.all_ended, OneOrder.HasOrder}
 use Rattle.cpu_workers.{proofs.{OneOrder.trace_in, Fronts.{effects_so, is_front, proper_before}, TableTraces.total}, specs.declared.workers.gates.Go.Go}
 use Rattle.cpu_workers.specs.{declared.workers.{gates.Go.TheVariants.Limit, stops.Stop.Stop}, Lawful.{AreLeft, HasGone, IsLawfulReport, IsCpuReportOf}}
 use Rattle.cpu_workers.specs.{Lawful.{IsReport, CpuReport, ShownReport, ReportsTrue, left_in, held_at}, Logs.IsReportOfWords, Orders.FollowsProgram}
-use Rattle.cpu_workers.specs.{Orders.{effects_of, IsTraceOf}, Working.Charge, Closing.{HasSeen, HaveCome, IsReported, Key, LockBlock, ReportsAreLawful}}
-use Rattle.cpu_workers.specs.{Closing.{StartsSo, acts_in, tower_rules, seen_above}, Reports.{IsTrueStop, TookWithin, WentBy, Within}, Seating.HasLeft}
+use Rattle.cpu_workers.specs.{Orders.{effects_of, IsTraceOf}, Working.Charge, Closing.{HasSeen, IsReported, Key, LockBlock, ReportsAreLawful}}
+use Rattle.cpu_workers.specs.{Closing.{acts_in, seen_above}, Reports.{IsTrueStop, TookWithin, WentBy}, Seating.HasLeft}
 use Rattle.{cpu_workers.specs.Seating.IsApart, event_log.specs.declared.{entries.Entry.Entry, ids.{CpuId.CpuId, LockId.{LockId, TheVariants.Pending}}}}
 use Rattle.event_log.specs.{declared.ids.LockId.TheVariants.Buffer as AtBuffer, Actions.{Action, cpu_of_action, phase, renamed}, History.AreOthers}
 use Rattle.event_log.{specs.Sections.sections_in, proofs.{Foreign.{own_none, phase_others}, Streams.taken_put, Renaming.{legal_renamed, others_renamed}}}
 use Rattle.{event_log.proofs.Same.same_cpu_self, layer_traits.specs.{declared.queue_edits.QueueBlock.QueueBlock, Polling.Plans.is_in_section}}
 use Rattle.layer_traits.{specs.{Protocols.OneLock.opened, Blocks.QueueRules.AreProper}, proofs.PlanRenaming.map-append}
-use Rattle.{table_machine.specs.SeatViews.{TableView, ClosesTable}, cpu.specs.{Claims.{buffer_at, listed}, Cpus.{of_thread, of_cpu}, Table.Blocks.Name}}
-use Rattle.cpu.specs.{Table.{Setups.{Setup, Private, boot_of, thread_at}, Steps.{cpu_step, halted_at}}, Tower.{Composed.named, Views.{TowerName, name_of}}}
+use Rattle.{table_machine.specs.SeatViews.{TableView}, cpu.specs.{Claims.{buffer_at, listed}, Cpus.{of_cpu}, Table.Blocks.Name}}
+use Rattle.cpu.specs.{Table.{Setups.{Setup, boot_of}, Steps.{cpu_step, halted_at}}, Tower.{Composed.named, Views.{TowerName, name_of}}}
 use Rattle.cpu.{specs.{Tower.Views.TowerBlock, Wakeups.Lost.IsWorked, Sound.setup_for}, proofs.StepTable.TableQuiet.ended_at}
 use Rattle.{cpu.proofs.Wakeups.CpusByTable.cpus_lose_no_wake_up, boot.specs.Plan.BootPlan}
 use Rattle.layer_traits.specs.declared.steps.Reason.TheVariants as reason
@@ -29,9 +29,7 @@ module _ {plan : BootPlan} {May : CpuId → Go → ℕ → Type 0} {turns : ℕ}
 
   -- how it went, from boot on
   went : WentBy setup (May c) turns (record left.first { cpu = c; private = boot_of setup c }) left.last line.taken line.stop
-  went = subst (λ (p : Private). WentBy setup (May c) turns (record left.first { cpu = c; private = p }) left.last line.taken line.stop) left.at_boot.boots
-      (subst (λ (d : CpuId). WentBy setup (May d) turns (record left.first { cpu = d }) left.last line.taken line.stop) left.at_boot.cpu_is
-      (left.ran.went setup left.at_boot.planned))
+  went = rw (← left.at_boot.boots) (rw (← left.at_boot.cpu_is) (left.ran.went setup left.at_boot.planned))
 
   -- where it stands, with what it was charged with by the plan
   abbrev charge : Charge
@@ -46,8 +44,7 @@ module _ {plan : BootPlan} {May : CpuId → Go → ℕ → Type 0} {turns : ℕ}
   })
 
   apart : IsApart (record left.last { cpu = c; plan = charge }) acts site line.trace
-  apart = subst (λ (d : CpuId). IsApart (record left.last { cpu = d; plan = charge }) acts site line.trace) same
-      (subst (λ (x : Charge). IsApart (record left.last { plan = x }) acts site line.trace) charged left.apart)
+  apart = rw (← same) (rw (← charged) left.apart)
 
   seen : HasSeen setup (May c) turns c left.last.acts (record line { trace = left.last.private.trace })
   seen = record {
@@ -65,27 +62,18 @@ module _ {plan : BootPlan} {May : CpuId → Go → ℕ → Type 0} {turns : ℕ}
     room = apart.follows.room;
     stays = apart.follows.stays;
     follows = λ t home. let there = apart.follows.homed t home in
-        subst (λ program. FollowsProgram program (of_thread t.0 left.last.private.trace) (thread_at left.last.private t).ended)
-        (sym (left.at_boot.planned.programs_are t there.0 there.1)) (apart.follows.follows t there.0 there.1);
+        rw (left.at_boot.planned.programs_are t there.0 there.1) (apart.follows.follows t there.0 there.1);
   }
 
   pub has_seen : HasSeen (setup_for plan) (May c) turns c acts line
   has_seen =
-      subst (λ (l : List (Action TowerName)). HasSeen (setup_for plan) (May c) turns c l line) (sym left.apart.acts_are)
-      (subst (λ (l : List Entry). HasSeen (setup_for plan) (May c) turns c left.last.acts (record line { trace = l })) (sym left.apart.trace_is) seen)
+      rw left.apart.acts_are (rw left.apart.trace_is seen)
 
 -- The report.
 
 module _ (setup : Setup) (May : CpuId → Go → ℕ → Type 0) (turns : ℕ) (table_view : TableView (QueueBlock LockBlock)) (keys : List Key)
     (blocks : List (LockId × QueueBlock LockBlock)) (r : ShownReport) (it : IsReported setup May turns table_view keys blocks r) where
-  abbrev so : StartsSo setup table_view
-  so = it.starts
-
-  abbrev come : HaveCome setup May turns keys r
-  come = it.come
-
-  abbrev closes : ClosesTable tower_rules table_view keys blocks
-  closes = it.closes
+  open it use {starts as so, come, closes}
 
   abbrev acts : List (Action TowerName)
   acts = acts_in closes.log
@@ -125,8 +113,7 @@ module _ (setup : Setup) (May : CpuId → Go → ℕ → Type 0) (turns : ℕ) (
           → TookWithin (cpu_step setup c) c Goes (boot_of setup c) seen.last (named acts) line.taken
       on {Goes} took = record {
         count = took.count;
-        steps = subst (λ (l : List (Action Name)). Within (cpu_step setup c) c Goes (boot_of setup c) took.count seen.last l) (sym log_is)
-            (within_others (named goes.more) theirs took.steps);
+        steps = rw log_is (within_others (named goes.more) theirs took.steps);
         counted = took.counted;
       }
 
@@ -158,14 +145,12 @@ module _ (setup : Setup) (May : CpuId → Go → ℕ → Type 0) (turns : ℕ) (
     stays = seen.stays;
     calls = λ t home. let follows = seen.follows t home in (follows.state, follows.calls);
     ended = λ is t home. let follows = seen.follows t home in
-        let halted : halted_at setup c seen.last ≡ Some reason.AllEnded =
-        subst (λ (s : Stop). IsTrueStop (halted_at setup c seen.last) (May c Limit) turns line.taken s) is seen.stop_is in
         let zero_plus : 0 + t.0 ≡ t.0 = omega arith in
         record {
           state = follows.state;
           calls = follows.calls;
-          ends = follows.ends (subst (λ (n : ℕ). (thread_at seen.last (record { 0 = n })).ended ≡ true) zero_plus
-              (ended_at seen.last c setup.homes 0 t.0 c home (same_cpu_self c) (all_ended setup c seen.last halted)));
+          ends = follows.ends (rw zero_plus at (ended_at seen.last c setup.homes 0 t.0 c home (same_cpu_self c)
+              (all_ended setup c seen.last (rw is at seen.stop_is))));
         };
     used = λ is. (subst (λ (s : Stop). IsTrueStop (halted_at setup c seen.last) (May c Limit) turns line.taken s) is seen.stop_is).1;
     held = λ is. (subst (λ (s : Stop). IsTrueStop (halted_at setup c seen.last) (May c Limit) turns line.taken s) is seen.stop_is).1;

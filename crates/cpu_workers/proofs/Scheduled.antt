@@ -1,22 +1,14 @@
 -- From a lawful report to a schedule under which the step table's system does the same.
-use Rattle.std.proofs.Common.{◌≡◌, ◌⊎◌, inl, inr, ℕ, suc, ◌<◌, ◌≤◌, List, [], ◌∷◌, All, length, map, Some, option_map, refl, ap, sym, ◌∙◌, arith}
-use Rattle.std.{proofs.lemmas.{Bool.cases_lt, List.length-map, Option.{slice_get_past, slice_get-map}}, specs.Prelude.slice_get}
+use Rattle.std.proofs.Common.{◌≡◌, ◌⊎◌, ℕ, ◌<◌, ◌≤◌, List, [], ◌∷◌, All, length, map, refl, ap, sym, ◌∙◌, arith}
+use Rattle.std.proofs.{Common.get_or, lemmas.{List.{length-map, same_lists}, Option.get_or_from_slice_get}}
+use Rattle.event_log.specs.declared.entries.Entry.{Entry}
+use Rattle.cpu.proofs.ListFacts.ListReads.{shows_at}
 use Rattle.event_log.specs.{declared.ids.{CpuId.CpuId, LockId.TheVariants.{Pending, Buffer as AtBuffer}}, Actions.{Action, phase}}
 use Rattle.{layer_traits.specs.{Threads.OnePlace.cpu_at, Polling.Plans.is_in_section}, cpu.specs.{Sound.after_steps, Wakeups.Lost.IsWorked}}
 use Rattle.cpu.specs.{Wakeups.Merged.IsRunOfTable, Table.{Blocks.Name, Setups.{Private, Setup}, Steps.{IsReached, Whole, block_at, boots, steps_once}}}
 use Rattle.{cpu.{specs.Table.Steps.{system_step, whole_at_boot}, proofs.Wakeups.Merging.work_is_a_run}, cpu_workers.proofs.Joining.{all_head, all_tail}}
 use Rattle.cpu_workers.specs.{declared.workers.gates.Go.Go, Lawful.{AreLeft, CpuReport, IsCpuReportOf, IsLawfulReport, ShownReport}, ReportRuns.IsReportOfRun}
 use Rattle.cpu_workers.specs.ReportRuns.{ReportsAreRuns, StandsAsTold, run_by}
-
--- two lists that read alike are one
-same_list : {X : Type 0} (xs ys : List X) → ((k : ℕ) → slice_get xs k ≡ slice_get ys k) → xs ≡ ys
-same_list [] [] each = refl
-same_list [] (y ∷ ys) each = absurd (cc (each 0))
-same_list (x ∷ xs) [] each = absurd (cc (each 0))
-same_list (x ∷ xs) (y ∷ ys) each =
-    let here : x ≡ y = (cc (each 0)) in
-    let more = same_list xs ys (λ k. each (suc k)) in
-    λ i. here i ∷ more i
 
 -- steps of a setup's CPUs lead on to states that it reaches
 reached_after : (setup : Setup) (room : ℕ) (schedule : List CpuId) (s : Whole) → All (λ c. c.0 < setup.cpus) schedule → IsReached setup room s
@@ -48,16 +40,13 @@ module _ (setup : Setup) (May : CpuId → Go → ℕ → Type 0) (turns : ℕ) (
   traces_long : length (map (λ (p : Private). p.trace) whole.cpus) ≡ setup.cpus
   traces_long = length-map whole.cpus _ ∙ run.many (length run.steps) enough
 
-  read_alike : (k : ℕ) → (k < setup.cpus) ⊎ (setup.cpus ≤ k) → slice_get r.traces k ≡ slice_get (map (λ (p : Private). p.trace) whole.cpus) k
-  read_alike k (inl below) =
-      let at = run.cpus_are (length run.steps) enough (cpu_at k) below in
+  read_alike : (k : ℕ) (d : List Entry) → k < length r.traces → get_or r.traces k d ≡ get_or (map (λ (p : Private). p.trace) whole.cpus) k d
+  read_alike k d below =
+      let at = run.cpus_are (length run.steps) enough (cpu_at k) (rw lawful.report.traces_count at below) in
       let one = lawful.gone (cpu_at k) at.0 in
-      one.1.trace ∙ ap Some one.2.trace_is
-      ∙ sym (slice_get-map (λ (p : Private). p.trace) whole.cpus k ∙ ap (λ o. option_map (λ (p : Private). p.trace) o) at.1)
-  read_alike k (inr beyond) =
-      let count = lawful.report.traces_count in
-      slice_get_past r.traces k (omega (arith, beyond, count))
-      ∙ sym (slice_get_past (map (λ (p : Private). p.trace) whole.cpus) k (omega (arith, beyond, traces_long)))
+      get_or_from_slice_get r.traces k one.0.trace d one.1.trace ∙ one.2.trace_is
+      ∙ sym (get_or_from_slice_get (map (λ (p : Private). p.trace) whole.cpus) k one.2.last.trace d
+      (shows_at (λ (p : Private). p.trace) whole.cpus k one.2.last at.1))
 
   stands : (c : CpuId) → c.0 < setup.cpus → (line : CpuReport) × IsCpuReportOf r c line × StandsAsTold setup (May c) turns whole c line
   stands c below =
@@ -86,7 +75,7 @@ module _ (setup : Setup) (May : CpuId → Go → ℕ → Type 0) (turns : ℕ) (
     known = run.known;
     taken = run.taken_is (length run.steps) enough;
     reached = reached_after setup (length run.steps) run.steps (whole_at_boot setup (length run.steps)) run.known boots;
-    traces = same_list r.traces (map (λ (p : Private). p.trace) whole.cpus) (λ k. read_alike k (cases_lt k setup.cpus));
+    traces = same_lists r.traces (map (λ (p : Private). p.trace) whole.cpus) (lawful.report.traces_count ∙ sym traces_long) read_alike;
     stands = stands;
     left = left;
   }

@@ -18,9 +18,7 @@ pub ready_at : (Opens : (LockId → Option AnyBlock) → Type 0) (table_view : T
     → IsReadySeat ((cpu_at k ≡ key.cpu) × IsLawful (MayCome (tower_rules.allowed (opened key.start))) key.seen) (IsOutside key) (sections_in (acts key) ≡ [])
     (acts key ≡ []) (Opens (opened key.start))
 ready_at Opens table_view n IsOutside acts new k key at outside none opens =
-    subst (λ (x : Key). IsReadySeat ((cpu_at k ≡ x.cpu) × IsLawful (MayCome (tower_rules.allowed (opened x.start))) x.seen) (IsOutside x)
-    (sections_in (acts x) ≡ []) (acts x ≡ []) (Opens (opened x.start)))
-    (sym (seat_views_at table_view n k key (subst (λ (l : List Key). slice_get l k ≡ Some key) new at)))
+    rw (seat_views_at table_view n k key (subst (λ (l : List Key). slice_get l k ≡ Some key) new at))
     (record { acts = (refl, tt); rests = outside; unseen = ap sections_in none; idle = none; opens = opens })
 
 -- What is left.

@@ -1,6 +1,8 @@
 -- From those who came back to a closed table to the one order of their calls.
-use Rattle.std.proofs.Common.{◌≡◌, ℕ, ◌+◌, ◌*◌, ◌^◌, ◌<◌, ◌≤◌, List, [], length, Some, slice_get, slice_index_or, ap, sym, ◌∙◌, subst, arith, zero, suc, ◌∷◌}
-use Rattle.std.proofs.{Common.{◌++◌, map, refl}, lemmas.{Option.get_or_from_slice_get, List.{length-append, length-map, length-set}}}
+use Rattle.std.proofs.Common.{◌≡◌, ℕ, ◌+◌, ◌*◌, ◌^◌, ◌<◌, ◌≤◌, List, [], length, Some, slice_get, slice_index_or, ap, sym, ◌∙◌, subst, arith, ◌∷◌}
+use Rattle.std.proofs.{Common.{◌++◌, map}, lemmas.{Option.get_or_from_slice_get, List.{append_cancel_right, length-map, length-set, same_lists}}}
+use Rattle.std.proofs.{Common.get_or, lemmas.Option.{slice_get-get_or}}
+use Rattle.cpu.proofs.ListFacts.ListReads.{listed_length, listed_there}
 use Rattle.event_log.specs.{declared.{entries.Entry.Entry, ids.{CpuId.CpuId, LockId.{LockId, TheVariants.Buffer as AtBuffer}}}, Actions.{Action, cpu_of_action}}
 use Rattle.event_log.{specs.{Actions.{acts_of, renamed}, History.{AreOthers, own_events}, Messages.Message, WordsLog.cpu_of_event}, proofs.Foreign.own_none}
 use Rattle.event_log.proofs.{Foreign.{acts_of-append, others_acts, own_append}, Renaming.others_renamed}
@@ -33,11 +35,8 @@ acts_others c more others =
 no_more_own : {E : Type 0} (by : E → CpuId) (c : CpuId) (log more past : List E) → log ≡ more ++ past → own_events by c log ≡ own_events by c past
     → AreOthers by c more
 no_more_own by c log more past is same =
-    none_own by c more (nothing (own_events by c more) (own_events by c past) (sym (own_append by c more past) ∙ sym (ap (own_events by c) is) ∙ same))
-  where
-    nothing : {X : Type 0} (xs ys : List X) → xs ++ ys ≡ ys → xs ≡ []
-    nothing [] ys none = refl
-    nothing (x ∷ xs) ys none = absurd (omega (arith, length-append xs ys, ap length none))
+    none_own by c more (append_cancel_right (own_events by c more) [] (own_events by c past)
+    (sym (own_append by c more past) ∙ sym (ap (own_events by c) is) ∙ same))
 
 -- What the buffers hold.
 
@@ -46,16 +45,10 @@ contents_wide caps [] = length-map caps (λ (k : ℕ). [])
 contents_wide caps (e ∷ es) = length-set (contents_of caps es) e.buffer.0 _ ∙ contents_wide caps es
 
 -- a list whose elements are these values is the list of them
-listed_so : {X : Type 0} (d : X) (f : ℕ → X) (n k : ℕ) (xs : List X) → length xs ≡ n → ((i : ℕ) → i < n → slice_index_or xs i d ≡ f (k + i)) → xs ≡ listed f k n
-listed_so d f zero k [] count each = refl
-listed_so d f zero k (x ∷ xs) count each = absurd (omega (arith, count))
-listed_so d f (suc n) k [] count each = absurd (omega (arith, count))
-listed_so d f (suc n) k (x ∷ xs) count each =
-    let here : k + 0 ≡ k = omega arith in
-    let first : x ≡ f k = each 0 (omega arith) ∙ ap f here in
-    let rest = listed_so d f n (k + 1) xs (omega (arith, count))
-    (λ i within. let next : k + suc i ≡ k + 1 + i = omega arith in each (suc i) (omega (arith, within)) ∙ ap f next) in
-    λ i. first i ∷ rest i
+listed_so : {X : Type 0} (d : X) (f : ℕ → X) (n : ℕ) (xs : List X) → length xs ≡ n → ((i : ℕ) → i < n → slice_index_or xs i d ≡ f i) → xs ≡ listed f 0 n
+listed_so d f n xs count each = same_lists xs (listed f 0 n) (count ∙ sym (listed_length f n 0)) (λ k e below.
+    let within : k < n = omega (arith, below, count) in
+    get_or_from_slice_get xs k (get_or xs k d) e (slice_get-get_or xs k d below) ∙ each k within ∙ sym (listed_there f n k e within))
 
 -- The table.
 
@@ -98,17 +91,14 @@ module _ (setup : Setup) (table_view : TableView (QueueBlock LockBlock)) (so : S
 
   contents_are : contents_of setup.caps (effects_of setup.caps acts) ≡ left_among (length setup.caps) blocks
   contents_are =
-      listed_so [] (λ b. messages_in (blocks_read blocks (AtBuffer (buffer_at b)))) (length setup.caps) 0 (contents_of setup.caps (effects_of setup.caps acts))
+      listed_so [] (λ b. messages_in (blocks_read blocks (AtBuffer (buffer_at b)))) (length setup.caps) (contents_of setup.caps (effects_of setup.caps acts))
       (contents_wide setup.caps (effects_of setup.caps acts))
-      (λ b within. let zero_plus : b ≡ 0 + b = omega arith in
-      messages_left setup table_view so closes.log closes.legal blocks closes.count closes.blocks_are (buffer_at b) within
-      ∙ ap (λ k. messages_in (blocks_read blocks (AtBuffer (buffer_at k)))) zero_plus)
+      (λ b within. messages_left setup table_view so closes.log closes.legal blocks closes.count closes.blocks_are (buffer_at b) within)
 
   -- the traces have one order, that of the effects of the list, which is a run and ends in what is left
   pub traces_ordered : (traces : List (List Entry)) → length traces ≡ setup.cpus → ((c : CpuId) → c.0 < setup.cpus → HasCome setup keys traces c)
       → HasOrder setup.caps traces (effects_of setup.caps acts) (left_among (length setup.caps) blocks)
   traces_ordered traces count each =
-      let few = so.small in
       subst (λ (l : List (List Message)). HasOrder setup.caps traces (effects_of setup.caps acts) l) contents_are
       (one_order setup.caps acts traces setup.trace_room (effects_may setup table_view so closes.log closes.legal)
       (λ c beyond. own_none cpu_of_action c acts (other_cpus_rest c (omega (arith, beyond, count))))
@@ -117,7 +107,6 @@ module _ (setup : Setup) (table_view : TableView (QueueBlock LockBlock)) (so : S
       get_or_from_slice_get traces k one.trace [] one.trace_at
       ∙ trace_in setup.caps (cpu_at k) goes.more (acts_in one.key.seen) acts one.trace goes.is goes.others one.own)
       (λ k d within. let one = each (cpu_at k) (omega (arith, within, count)) in
-      let room = one.room in
       let long = ap (λ (l : List Entry). length l) (get_or_from_slice_get traces k one.trace d one.trace_at) in
-      omega (arith, room, long))
-      (subst (λ (n : ℕ). n * setup.trace_room < 2 ^ 64) (sym count) few))
+      omega (arith, one.room, long))
+      (subst (λ (n : ℕ). n * setup.trace_room < 2 ^ 64) (sym count) so.small))

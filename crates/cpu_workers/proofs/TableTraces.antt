@@ -2,13 +2,13 @@
 use Rattle.std.proofs.Common.{◌≡◌, ◌⊎◌, inl, inr, ℕ, ◌+◌, Bool, true, false, List, [], ◌∷◌, ◌++◌, length, Option, Some, None, option_map, if◌then◌else◌, refl}
 use Rattle.std.proofs.{Common.{sym, ap, ◌∙◌, subst, arith, append_assoc}, lemmas.List.{append-nil, length-append}}
 use Rattle.event_log.specs.{declared.{entries.Entry.Entry, ids.{CpuId.CpuId, LockId.LockId, Tid.Tid}}, History.same_cpu, Messages.Message, Actions.Action}
-use Rattle.event_log.specs.{Actions.{Take, Try, Give, Phase, Rests, Waits as WaitsAt, Holds, action_in, cpu_of_action, phase}, Runs.{Group, Sends, Receives}}
+use Rattle.event_log.specs.{Actions.{Take, Try, Give, Phase, Rests, Waits as WaitsAt, Holds, action_in, cpu_of_action, phase}, Runs.{Group}}
 use Rattle.event_log.{specs.{Runs.Closes, Sections.sections_in}, proofs.{Same.same_cpu_self, Foreign.lawful_before}}
 use Rattle.layer_traits.specs.declared.{locked.Side.{Side, TheVariants.{Receivers, Senders}}, call_states.Stage.{Stage, TheVariants.{Idle, Acquires, Enters}}}
 use Rattle.layer_traits.specs.{declared.call_states.Stage.TheVariants.{Tries, Waits, AcquiresAgain, Signals, SignalsOwn, Releases}, Polling.Plans.at_give}
-use Rattle.{layer_traits.specs.Polling.{Plans.is_in_section, Along.{starts, others, steps}}, cpu.specs.Table.Blocks.{Block, OfBuffer, OfPending, Name, TryPut}}
-use Rattle.cpu.specs.Table.{Blocks.{TryTake, Shut, NotYet, side_of_group}, Steps.{AlongTable, after_reply, block_at, chosen_step, cpu_step, step_in}}
-use Rattle.cpu.specs.Table.{Edits.{answer, may_try, report_of_put, report_of_take}, Setups.{Setup, Call, Private, thread_at}, Choice.{asked, asked_at}}
+use Rattle.{layer_traits.specs.Polling.{Plans.is_in_section, Along.{starts, others, steps}}, cpu.specs.Table.Blocks.{Block, OfBuffer, Name, TryPut}}
+use Rattle.cpu.specs.Table.{Blocks.{TryTake, Shut, side_of_group}, Steps.{AlongTable, after_reply, block_at, chosen_step, cpu_step, step_in}}
+use Rattle.cpu.specs.Table.{Edits.{answer, may_try}, Setups.{Setup, Call, Private, thread_at}, Choice.{asked, asked_at}}
 use Rattle.cpu.specs.Table.Choice.{asked_by, asked_in, Choice, Halts, Alone, Goes, after_at, after_by, after_call, after_in, choice, first_section, with_told}
 use Rattle.cpu.specs.{Table.Choice.{recorded_entry, recorded_try, section_due, settled, slept_if, try_due, woken}, Wakeups.Order.block_of}
 use Rattle.cpu.proofs.Wakeups.{CpusByTable.along_ok, ReachedStates.{IsFair, IsFairLog, Ok, lock_in}}
@@ -49,33 +49,13 @@ module _ (setup : Setup) (c : CpuId) where
 
   -- What a section of a call told.
 
-  put_grew : (p : Private) (t : Tid) (call : Call) (lets closed : Bool) (op : ℕ) (m : Message)
-      → Grew p.trace (recorded_try c p t call (if lets then report_of_put closed op m else NotYet)).trace (if lets then 1 else 0)
-  put_grew p t call true true op m = one_more p.trace _
-  put_grew p t call true false op m = one_more p.trace _
-  put_grew p t call false closed op m = stays p.trace p.trace refl
-
-  take_grew : (p : Private) (t : Tid) (call : Call) (lets : Bool) (items : List Message) (op : ℕ)
-      → Grew p.trace (recorded_try c p t call (if lets then report_of_take items op else NotYet)).trace (if lets then 1 else 0)
-  take_grew p t call true [] op = one_more p.trace _
-  take_grew p t call true (m ∷ items) op = one_more p.trace _
-  take_grew p t call false items op = stays p.trace p.trace refl
-
   try_grew : (p : Private) (t : Tid) (call : Call) (side : Side) (x : Block)
       → Grew p.trace (recorded_try c p t call (answer (try_due t call side) x).told).trace (grown (try_due t call side) (Some x))
-  try_grew p t call Senders (OfBuffer k) = put_grew p t call (may_try Senders t k) k.closed k.effects call.message
-  try_grew p t call Receivers (OfBuffer k) = take_grew p t call (may_try Receivers t k) k.items k.effects
-  try_grew p t call Senders (OfPending threads) = stays p.trace p.trace refl
-  try_grew p t call Receivers (OfPending threads) = stays p.trace p.trace refl
+  try_grew p t call side x = grind (arith, stays, one_more)
 
   entry_grew : (p : Private) (t : Tid) (call : Call) (asks : Group) (x : Block)
       → Grew p.trace (recorded_entry c p t call asks (answer (first_section t asks) x).told).trace (grown (first_section t asks) (Some x))
-  entry_grew p t call Sends (OfBuffer k) = stays p.trace p.trace refl
-  entry_grew p t call Receives (OfBuffer k) = stays p.trace p.trace refl
-  entry_grew p t call Closes (OfBuffer k) = one_more p.trace _
-  entry_grew p t call Sends (OfPending threads) = stays p.trace p.trace refl
-  entry_grew p t call Receives (OfPending threads) = stays p.trace p.trace refl
-  entry_grew p t call Closes (OfPending threads) = stays p.trace p.trace refl
+  entry_grew p t call asks x = grind (arith, stays, one_more)
 
   signals_none : (t : Tid) (call : Call) (x : Block) → (grown (section_due t call Signals) (Some x) ≡ 0) × (grown (section_due t call SignalsOwn) (Some x) ≡ 0)
   signals_none t call x = grind arith
@@ -152,9 +132,7 @@ module _ (setup : Setup) (c : CpuId) where
   acting_grew q log under Rests is = stays q.trace q.trace refl
   acting_grew q log under (WaitsAt there) is = stays q.trace q.trace refl
   acting_grew q log under (Holds there) is =
-      subst (λ (lock : LockId). Grew q.trace (after_reply setup c q (option_map (answer (asked setup c q).name) (block_of setup (asked setup c q).lock
-      (sections_in log)))).trace (grown (asked setup c q).name (block_at setup lock log))) (sym (under there (ap lock_in is)))
-      (reply_grew q (block_of setup (asked setup c q).lock (sections_in log)))
+      rw (under there (ap lock_in is)) (reply_grew q (block_of setup (asked setup c q).lock (sections_in log)))
 
   nowhere : {A : Type 0} (now : Phase) (lock : LockId) → is_in_section now ≡ false → lock_in now ≡ Some lock → A
   nowhere Rests lock off at = absurd (cc at)
@@ -210,22 +188,13 @@ module _ (setup : Setup) (c : CpuId) where
       let acts = (cpu_step setup c q past).acts in
       let before = lawful_before (IsFair setup) acts past fair in
       let grew = step_grew q past (along_ok setup c m q past along before) in
-      let now = counts m q past along before in
-      let long = ap length grew.is ∙ length-append q.trace grew.more in
-      let many = grew.many in
-      let all = total_acts acts past (short q past) in
-      omega (arith, now, long, many, all)
+      omega (arith, counts m q past along before, (ap length grew.is ∙ length-append q.trace grew.more), grew.many, total_acts acts past (short q past))
 
   -- the way to where it is, cut at a front of the list
   pub front_of : (n : ℕ) (p : Private) (log : List (Action Name)) → AlongTable setup c n p log → IsFairLog setup log
       → (later earlier : List (Action Name)) → log ≡ later ++ earlier → FrontOf p earlier
-  front_of n p log along fair [] earlier is = subst (λ (l : List (Action Name)). FrontOf p l) is (record {
-    count = n;
-    last = p;
-    along = along;
-    grew = ([], sym (append-nil p.trace));
-    counted = counts n p log along fair;
-  })
+  front_of n p log along fair [] earlier is = rw (← is)
+      (record { count = n; last = p; along = along; grew = ([], sym (append-nil p.trace)); counted = counts n p log along fair })
   front_of n p log starts fair (b ∷ later) earlier is = absurd (cc is)
   front_of n p log (others {n = m} {p = q} {log = past} a along off) fair (b ∷ later) earlier is = front_of m q past along fair.1 later earlier (cc is)
   front_of n p log (steps {n = m} {p = q} {log = past} along stepped) fair (b ∷ later) earlier is =

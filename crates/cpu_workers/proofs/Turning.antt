@@ -14,8 +14,7 @@ use Rattle.cpu_workers.specs.Reports.{another, below, counted_on, most, MayTakeT
 counts_more : (shown count : ℕ) → CountsTurns shown count → CountsTurns (counted_on shown) (count + 1)
 counts_more shown count counts =
     let least = counts.least in
-    let exact = counts.exact in
-    record { least = grind (arith, least); exact = λ few. grind (arith, least, exact, few) }
+    record { least = grind (arith, least); exact = λ few. grind (arith, least, counts.exact, few) }
 
 taken_last : (taken k : ℕ) → k < counted_on taken → k ≤ taken
 taken_last taken k before = grind (arith, before)
@@ -73,9 +72,7 @@ module _ {P N : Type 0} {table : P → List (Action N) → Outcome P N} {cpu : C
       → TookWithin table cpu May first q new (counted_on shown)
   took_one {May} {p} {q} {old} {new} {shown = shown} took went may = record {
     count = took.count + 1;
-    steps = subst (λ (x : P). Within table cpu May first (took.count + 1) x new) (sym went.next)
-        (subst (λ (l : List (Action N)). Within table cpu May first (took.count + 1) (table p (went.others ++ old)).next l) (sym went.grows)
-        (one_taken (within_others went.others (went.foreign cpu refl) took.steps) (go may) (sym went.answers)));
+    steps = rw went.next (rw went.grows (one_taken (within_others went.others (went.foreign cpu refl) took.steps) (go may) (sym went.answers)));
     counted = counts_more shown took.count took.counted;
   }
     where
@@ -104,8 +101,7 @@ ran_none May turns w fresh = record {
   same = record { cpu = refl; plan = refl; site = refl };
   goes = λ setup of. record {
     within =
-        subst (λ (l : List (Action TowerName)). TookWithin (cpu_step setup w.cpu) w.cpu (MayTakeTurn turns (May w.cpu Pass)) w.private w.private (named l) 0)
-        (sym fresh) (record { count = 0; steps = none_taken; counted = record { least = omega arith; exact = λ few. refl } });
+        rw fresh (record { count = 0; steps = none_taken; counted = record { least = omega arith; exact = λ few. refl } });
     was_held = λ is. absurd (cc is);
     asked = λ k before. absurd (omega (arith, before));
     passed = λ is k before. absurd (omega (arith, before));
@@ -220,8 +216,7 @@ module _ {May : CpuId → Go → ℕ → Type 0} {turns : ℕ} {start now : Work
     rests = rests;
     went = λ setup of.
         let goes = ran.goes setup of in
-        let is_true = subst (λ (d : CpuId). IsTrueStop (halted_at setup d now.private) (λ turn. new ≡ true) turns taken stop) ran.same.cpu
-        (stops setup (subst (λ (p : Charge). IsPlanned setup p) (sym ran.same.plan) of)) in record {
+        let is_true = rw ran.same.cpu at (stops setup (rw ran.same.plan of)) in record {
           took = took_of goes.within;
           within = goes.within;
           held = λ is. holds setup of
@@ -256,10 +251,8 @@ module _ {May : CpuId → Go → ℕ → Type 0} {turns : ℕ} {start now : Work
       let allowed = all (omega arith) in
       let below = allowed.below in
       let is : taken + (k + 1) ≡ shown_after taken (k + 1) = grind (arith, below, small) in
-      let pass = subst (λ (d : CpuId). May d Pass (taken + (k + 1))) (ran.same.cpu ∙ sym same.cpu)
-      (allowed.passes (taken + (k + 1)) (omega arith) (omega arith)) in
-      subst (λ n. (new ≡ false → May w.cpu Pass n) × ((is_inside w ≡ true) ⊎ ((new ≡ false) × (n < turns)))) is
-      ((λ free. pass), inr (allowed.free, omega (arith, below)))
+      let pass = rw (ran.same.cpu ∙ sym same.cpu) at (allowed.passes (taken + (k + 1)) (omega arith) (omega arith)) in
+      rw (← is) ((λ free. pass), inr (allowed.free, omega (arith, below)))
 
   -- it takes so many turns more
   pub ran_through : {k : ℕ} {next : Working} → TookTurns now k next → (1 < k → AllAllowed (May now.cpu Pass) turns taken k new)

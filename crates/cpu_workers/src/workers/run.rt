@@ -5,7 +5,6 @@ ghost use Rattle.std.specs.Prelude.{◌≡◌, ◌≤◌, [], IfOk, All, length,
 ghost use Rattle.{layer_traits.specs.Protocols.OneLock.{AreDistinct, opened}, table_machine.specs.SeatViews.{ClosesTable, Covers, IsOf, IsOver}};
 ghost use Rattle.{table_machine.specs.SeatViews.new_seat_views, boot.specs.Plan.IsPlan, cpu.specs.Sound.setup_for, cpu_workers.specs.Closing.shown};
 ghost use Rattle.cpu_workers.specs.{Closing.tower_rules, Lawful.IsLawfulReport, Logs.HasWords, ReportRuns.IsReportOfRun, Seating.{HaveLeft, OpensPlan}};
-ghost use Rattle.boot.specs.declared.locks.LockKind.TheVariants as kind;
 
 use crate::counting::plan_words::PlanWords;
 use crate::refusals::WorkerError;
@@ -19,7 +18,7 @@ use cpu::homes_of;
 use event_log::{Entry, NoMemory};
 use ipc_calls::{TowerEdit, TowerLockLaws, tower_blocks};
 use layer_traits::SplitEdit;
-use spinlock::{Grant, Ticket};
+use spinlock::Ticket;
 use std::alloc::{AllocError, Global};
 use std::marker::PhantomData;
 use std::sync::Wait;
@@ -136,32 +135,6 @@ fn run_tickets<K: PlanWords + Sync, G: Gate + Sync, R: Threads + Wait + Sync>(
     Ok(parted(left, back))
 }
 
-// Lets a worker of each CPU run at its seat of locks with grant words, in events of their own.
-fn run_grants<G: Gate + Sync, R: Threads + Wait + Sync>(
-    rt: &R,
-    alloc: Global,
-    boot: &Boot,
-    turns: u64,
-    gate: &G,
-    shared: &Shared<TowerEdit, WaiterWords>,
-    keys: Vec<Key<TowerEdit>>,
-) -> Result<Back<TowerEdit>, WorkerError>
-    requires lock { boot.now.lock ≡ kind.Grant }
-    requires keys { keys.items ≡ new_seat_views shared.now boot.now.cpus }
-    requires opens { OpensPlan boot.now (opened shared.now.start) }
-    ensures { IfOk result (λ b. HaveLeft boot.now (G.MayAnswer gate.now) turns shared.now b.keys.items (map (λ t. t.items) b.traces.items) b.taken.items
-        b.stops.items) }
-{
-    let back = Back::with_capacity(alloc, boot.cpus() as usize)?;
-    let seats = seats_at(alloc, shared, keys)?;
-    let _laws: TowerLockLaws = PhantomData;
-    let gate = Seated { gate, shared };
-    let left = run_over::<Grant<TowerSeat<'_, WaiterWords>>, Seated<'_, G, WaiterWords>, R>(
-        rt, alloc, boot, turns, &gate, seats,
-    )?;
-    Ok(parted(left, back))
-}
-
 // The table of a plan, with the key of each CPU.
 fn table_of<K: TableWords>(
     alloc: Global,
@@ -199,8 +172,7 @@ fn closed<K: PlanWords>(shared: Shared<TowerEdit, K>, back: Back<TowerEdit>) -> 
     Report::of_closed(shared, keys, traces, stops, taken)
 }
 
-// Runs a plan at a table of locks whose words are read as those of ticket locks, as [`run_workers`]
-// says.
+// Runs a plan at a table of locks with these words, as [`run_workers`] says.
 fn run_words<K: PlanWords + Sync, G: Gate + Sync, R: Threads + Wait + Sync>(
     rt: &R,
     alloc: Global,
@@ -221,30 +193,6 @@ fn run_words<K: PlanWords + Sync, G: Gate + Sync, R: Threads + Wait + Sync>(
     let open = table_of::<K>(alloc, boot)?;
     let (shared, keys) = open;
     let back = run_tickets(rt, alloc, boot, turns, gate, &shared, keys)?;
-    Ok(closed(shared, back))
-}
-
-// Runs a plan at a table of locks with grant words, as [`run_workers`] says.
-fn run_waiters<G: Gate + Sync, R: Threads + Wait + Sync>(
-    rt: &R,
-    alloc: Global,
-    boot: &Boot,
-    turns: u64,
-    gate: &G,
-) -> Result<Report, WorkerError>
-    requires lock { boot.now.lock ≡ kind.Grant }
-    ensures lawful { IfOk result (λ r. IsLawfulReport (setup_for boot.now) (G.MayAnswer gate.now) turns
-        (shown (map (λ t. t.items) r.traces.items) r.taken.items r.stops.items r.blocks.items)) }
-    ensures words { IfOk result (λ r. HasWords boot.now (G.MayAnswer gate.now) turns
-        (shown (map (λ t. t.items) r.traces.items) r.taken.items r.stops.items r.blocks.items)) }
-    ensures is_run { IfOk result (λ r. IsReportOfRun (setup_for boot.now) (G.MayAnswer gate.now) turns
-        (shown (map (λ t. t.items) r.traces.items) r.taken.items r.stops.items r.blocks.items)) }
-    ensures lock { IfOk result (λ r. r.closed.lock ≡ boot.now.lock) }
-    ensures closed { IfOk result (λ r. r.closed.blocks.value ≡ r.blocks) }
-{
-    let open = table_of::<WaiterWords>(alloc, boot)?;
-    let (shared, keys) = open;
-    let back = run_grants(rt, alloc, boot, turns, gate, &shared, keys)?;
     Ok(closed(shared, back))
 }
 
@@ -286,6 +234,6 @@ pub fn run_workers<G: Gate + Sync, R: Threads + Wait + Sync>(
 {
     match boot.lock() {
         LockKind::Ticket => run_words::<TicketWords, G, R>(rt, alloc, boot, turns, gate),
-        LockKind::Grant => run_waiters(rt, alloc, boot, turns, gate),
+        LockKind::Grant => run_words::<WaiterWords, G, R>(rt, alloc, boot, turns, gate),
     }
 }

@@ -1,4 +1,4 @@
-use Rattle.cpu_workers.{specs.Tasks.task_of, proofs.Filling.{both_are, filled_all, filled_none, filled_one, has_room}}
+use Rattle.cpu_workers.{specs.Tasks.task_of, proofs.Filling.{filled_none, filled_one, filled_with, has_room}}
 use Rattle.cpu_workers.proofs.own_threads.take_back.Goals as goal
 
 pub loop-start-init : goal.loop-start-init
@@ -13,5 +13,4 @@ loop-start-preserved g c =
 
 pub returns : goal.returns
 returns g c =
-    both_are (task_of (λ s. s.child.promise.task.value)) c.args.starts.items c.loop-start.back.items
-    (filled_all c.loop-start.invariant c.loop-start.start-iterator.rest.ok.0 c.in-None.ensures.steps.0)
+    filled_with (task_of (λ s. s.child.promise.task.value)) c.loop-start.invariant c.loop-start.start-iterator.rest.ok.0 c.in-None.ensures.steps.0

@@ -1,4 +1,4 @@
-use Rattle.{std.proofs.Common.{sym, subst}, table_machine.specs.SeatViews.new_seat_views, cpu_workers.specs.declared.counting.AddOne.AddOne}
+use Rattle.{std.proofs.Common.{subst}, table_machine.specs.SeatViews.new_seat_views, cpu_workers.specs.declared.counting.AddOne.AddOne}
 use Rattle.cpu_workers.{specs.{declared.counting.TheConstants.NUMBER, Counts.AllHaveMade}, proofs.Counts.new_have_made_none}
 use Rattle.cpu_workers.proofs.counting.counted.number_untouched.Goals as goal
 
@@ -6,5 +6,4 @@ use Rattle.cpu_workers.proofs.counting.counted.number_untouched.Goals as goal
 pub closed-requires-clause-came : goal.closed-requires-clause-came
 closed-requires-clause-came g c =
     let table = c.args.shared in
-    subst (λ l. AllHaveMade NUMBER (new_seat_views {E = AddOne} table table.cpus) l 0) (sym c.requires.keys)
-    (new_have_made_none AddOne NUMBER table table.cpus)
+    rw c.requires.keys (new_have_made_none AddOne NUMBER table table.cpus)

@@ -10,9 +10,8 @@ returns-then-is_some-clause-made g c =
     let told = told_by (λ out payload. out) c.poll.result c.poll.new.payload in
     let some : is_some c.poll.result ≡ true = cc in
     let answers : is_some told ≡ true = told_some (λ out payload. out) c.poll.result c.poll.new.payload ∙ some in
-    let theirs = polled.foreign (L.cpu_of c.loop.part) (g.met.L.Layer.own_cpu c.loop.part c.loop.machine c.loop.invariant.fits) in
     let more = poll_answers (section (L.cpu_of c.loop.part) c.args.lock (record {})) polled.others (L.seen c.loop.machine) (L.seen c.poll.new.m)
-    (is_some told) polled.is theirs answers in
+    (is_some told) polled.is (polled.foreign (L.cpu_of c.loop.part) (g.met.L.Layer.own_cpu c.loop.part c.loop.machine c.loop.invariant.fits)) answers in
     subst (λ cpu. made cpu c.args.lock (L.seen c.poll.new.m) ≡ made cpu c.args.lock (L.seen c.loop.machine) + 1) c.loop.invariant.cpu more
     ∙ ap (λ n. n + 1) c.loop.invariant.made
 
@@ -23,9 +22,8 @@ loop-preserved g c =
     let told = told_by (λ out payload. out) c.poll.result c.poll.new.payload in
     let waits : is_some c.poll.result ≡ false = cc in
     let still : is_some told ≡ false = told_some (λ out payload. out) c.poll.result c.poll.new.payload ∙ waits in
-    let theirs = polled.foreign (L.cpu_of c.loop.part) (g.met.L.Layer.own_cpu c.loop.part c.loop.machine c.loop.invariant.fits) in
     let same = poll_waits (section (L.cpu_of c.loop.part) c.args.lock (record {})) polled.others (L.seen c.loop.machine) (L.seen c.poll.new.m)
-    (is_some told) polled.is theirs still in
+    (is_some told) polled.is (polled.foreign (L.cpu_of c.loop.part) (g.met.L.Layer.own_cpu c.loop.part c.loop.machine c.loop.invariant.fits)) still in
     record {
       fits = c.poll.ensures.framed.fits;
       cpu = c.poll.ensures.framed.cpu ∙ c.loop.invariant.cpu;

@@ -1,4 +1,4 @@
-use Rattle.{std.proofs.Common.refl, cpu_workers.proofs.Filling.{both_are, filled_all, filled_none, filled_one, has_room}}
+use Rattle.{std.proofs.Common.refl, cpu_workers.proofs.Filling.{filled_none, filled_one, filled_with, has_room}}
 use Rattle.cpu_workers.proofs.counting.tasks.keys_of.Goals as goal
 
 pub loop-task-init : goal.loop-task-init
@@ -11,6 +11,4 @@ pub loop-task-preserved : goal.loop-task-preserved
 loop-task-preserved g c = filled_one c.loop-task.invariant c.in-Some.ensures.steps.0 c.push_reserved.ensures.items c.push_reserved.ensures.capacity refl
 
 pub returns : goal.returns
-returns g c =
-    both_are (λ t. t.key) c.args.tasks.items c.loop-task.keys.items
-    (filled_all c.loop-task.invariant c.loop-task.task-iterator.rest.ok.0 c.in-None.ensures.steps.0)
+returns g c = filled_with (λ t. t.key) c.loop-task.invariant c.loop-task.task-iterator.rest.ok.0 c.in-None.ensures.steps.0

@@ -18,6 +18,5 @@ loop-i-preserved c =
 
 pub returns : goal.returns
 returns c =
-    let test = c.loop-i-test.false in
-    let past : length c.args.blocks.now ≤ c.loop-i.i = omega (arith, test) in
+    let past : length c.args.blocks.now ≤ c.loop-i.i = omega (arith, c.loop-i-test.false) in
     c.new.ensures ∙ sym (ap (λ o. messages_in (block_shown o)) (c.loop-i.invariant.left ∙ opened_end c.args.lock c.args.blocks.now c.loop-i.i past))

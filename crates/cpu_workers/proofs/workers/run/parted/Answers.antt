@@ -1,4 +1,4 @@
-use Rattle.{std.proofs.Common.refl, cpu_workers.proofs.Filling.{both_are, both_maps, filled_all, filled_none, filled_one, has_room}}
+use Rattle.{std.proofs.Common.refl, cpu_workers.proofs.Filling.{both_maps, filled_all, filled_none, filled_one, filled_with, has_room}}
 use Rattle.cpu_workers.proofs.workers.run.parted.Goals as goal
 
 pub loop-one-init : goal.loop-one-init
@@ -35,9 +35,7 @@ loop-one-preserved g c =
     }
 
 pub returns-clause-keys : goal.returns-clause-keys
-returns-clause-keys g c =
-    both_are (λ x. x.machine) c.args.left.items c.loop-one.keys.items
-    (filled_all c.loop-one.invariant.keys c.loop-one.one-iterator.rest.ok.0 c.in-None.ensures.steps.0)
+returns-clause-keys g c = filled_with (λ x. x.machine) c.loop-one.invariant.keys c.loop-one.one-iterator.rest.ok.0 c.in-None.ensures.steps.0
 
 pub returns-clause-traces : goal.returns-clause-traces
 returns-clause-traces g c =
@@ -45,11 +43,7 @@ returns-clause-traces g c =
     (filled_all c.loop-one.invariant.traces c.loop-one.one-iterator.rest.ok.0 c.in-None.ensures.steps.0)
 
 pub returns-clause-stops : goal.returns-clause-stops
-returns-clause-stops g c =
-    both_are (λ x. x.did.stop) c.args.left.items c.loop-one.stops.items
-    (filled_all c.loop-one.invariant.stops c.loop-one.one-iterator.rest.ok.0 c.in-None.ensures.steps.0)
+returns-clause-stops g c = filled_with (λ x. x.did.stop) c.loop-one.invariant.stops c.loop-one.one-iterator.rest.ok.0 c.in-None.ensures.steps.0
 
 pub returns-clause-taken : goal.returns-clause-taken
-returns-clause-taken g c =
-    both_are (λ x. x.did.taken) c.args.left.items c.loop-one.taken.items
-    (filled_all c.loop-one.invariant.taken c.loop-one.one-iterator.rest.ok.0 c.in-None.ensures.steps.0)
+returns-clause-taken g c = filled_with (λ x. x.did.taken) c.loop-one.invariant.taken c.loop-one.one-iterator.rest.ok.0 c.in-None.ensures.steps.0

@@ -7,12 +7,9 @@ pub loop-key-init : goal.loop-key-init
 loop-key-init g c =
     let gives = c.into_iter-key-iterator.ensures.into_iter_gives.0 in
     let none : c.in_ok-seats.seats.items ≡ [] = first_of (cc, search rules) in
-    let cap = c.in_ok-seats.ensures.capacity in
-    let len = c.len.ensures in
-    let ok = c.args.keys.ok.0 in
     record {
       ready = subst (λ l. All (IsOf c.args.shared.now) l) (sym gives) c.requires;
-      seats = filled_none gives none (omega (arith, cap, len, ok));
+      seats = filled_none gives none (omega (arith, c.in_ok-seats.ensures.capacity, c.len.ensures, c.args.keys.ok.0));
     }
 
 pub new-seat-requires : goal.new-seat-requires

@@ -1,4 +1,4 @@
-use Rattle.std.proofs.Common.{◌<◌, ℕ, List, sym, ap, ◌∙◌, subst}
+use Rattle.std.proofs.Common.{◌<◌, ℕ, sym, ap, ◌∙◌, subst}
 use Rattle.{event_log.specs.declared.ids.CpuId.CpuId, layer_traits.specs.{Blocks.BufferEffects.opening_locks, Protocols.OneLock.{AreDistinct, opened}}}
 use Rattle.{layer_traits.specs.Views.Openings.AreOpenable, cpu.proofs.WholeSystems.PlanGuests.are_openable, cpu_workers.specs.Seating.OpensPlan}
 use Rattle.cpu_workers.proofs.SeatViews.{ok_with}
@@ -9,9 +9,7 @@ tower_blocks-requires g c =
     let plan = c.args.boot.now in
     let caps = c.as_slice.ensures.value ∙ c.caps-caps.ensures.caps in
     let homes = c.as_slice-2.ensures.value ∙ c.homes_of-homes.ensures in
-    subst (λ (n : ℕ). AreOpenable n c.as_slice.result.now c.as_slice-2.result.now) (sym c.cpus.ensures.cpus)
-    (subst (λ (l : List ℕ). AreOpenable plan.cpus l c.as_slice-2.result.now) (sym caps)
-    (subst (λ (l : List CpuId). AreOpenable plan.cpus plan.caps l) (sym homes) (are_openable plan c.caps-caps.ensures.within)))
+    rw (c.cpus.ensures.cpus, caps, homes) (are_openable plan c.caps-caps.ensures.within)
 
 pub returns-clause-distinct : goal.returns-clause-distinct
 returns-clause-distinct g c =
@@ -19,14 +17,11 @@ returns-clause-distinct g c =
 
 pub returns-clause-opens : goal.returns-clause-opens
 returns-clause-opens g c =
-    let plan = c.args.boot.now in
     let e = c.in_ok-blocks.ensures in
-    let caps = c.as_slice.ensures.value ∙ c.caps-caps.ensures.caps in
-    let homes = c.as_slice-2.ensures.value ∙ c.homes_of-homes.ensures in
-    ok_with (λ r. r.0.start) (λ start. OpensPlan plan (opened start)) c.open.result c.in_ok-blocks.blocks.items c.open.ensures.start
+    ok_with (λ r. r.0.start) (λ start. OpensPlan c.args.boot.now (opened start)) c.open.result c.in_ok-blocks.blocks.items c.open.ensures.start
     (record {
       starts = e.starts;
-      homes = e.homes ∙ homes;
+      homes = e.homes ∙ (c.as_slice-2.ensures.value ∙ c.homes_of-homes.ensures);
       queues = λ d below. e.queues d (subst (λ (n : ℕ). d.0 < n) (sym c.cpus.ensures.cpus) below);
-      locks = e.locks ∙ ap opening_locks caps;
+      locks = e.locks ∙ ap opening_locks (c.as_slice.ensures.value ∙ c.caps-caps.ensures.caps);
     })

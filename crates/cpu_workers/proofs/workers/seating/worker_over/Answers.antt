@@ -1,13 +1,12 @@
-use Rattle.std.proofs.Common.{List, Option, length, ap, sym, ◌∙◌, subst}
-use Rattle.{event_log.specs.declared.ids.CpuId.CpuId, cpu.specs.{declared.guests.Guest.Guest, Boots.{AreGuests, homes_for}}}
+use Rattle.std.proofs.Common.{length, ap, sym, ◌∙◌}
+use Rattle.{event_log.specs.declared.ids.CpuId.CpuId, cpu.specs.{declared.guests.Guest.Guest, Boots.{homes_for}}}
 use Rattle.{cpu.proofs.WholeSystems.PlanGuests.are_guests, cpu_workers.proofs.Seated.{at_boot_if, planned_by}}
 use Rattle.cpu_workers.proofs.workers.seating.worker_over.Goals as goal
 
 -- nothing was done in the machine
 pub at_boot-requires-clause-fresh : goal.at_boot-requires-clause-fresh
 at_boot-requires-clause-fresh g c =
-    subst (λ (l : List CpuId). g.I.CallLayer.IsFresh c.args.machine l c.args.number) (sym (c.as_slice.ensures.value ∙ c.homes_of-homes.ensures))
-    c.requires.unused.fresh
+    rw (c.as_slice.ensures.value ∙ c.homes_of-homes.ensures) c.requires.unused.fresh
 
 pub at_boot-requires-clause-homes : goal.at_boot-requires-clause-homes
 at_boot-requires-clause-homes g c = c.requires.unused.homes ∙ sym (c.as_slice.ensures.value ∙ c.homes_of-homes.ensures)
@@ -20,10 +19,7 @@ at_boot-requires-clause-guests g c =
     let plan = c.args.boot.now in
     let homes = c.as_slice.ensures.value ∙ c.homes_of-homes.ensures in
     let count = c.len-buffers.ensures.value ∙ ap length c.caps.ensures.caps in
-    subst (λ (l : List CpuId). AreGuests l c.len-buffers.result c.args.number c.in_ok-guests.guests.items) (sym homes)
-    (subst (λ n. AreGuests (homes_for plan) n c.args.number c.in_ok-guests.guests.items) (sym count)
-    (subst (λ (l : List (Option Guest)). AreGuests (homes_for plan) (length plan.caps) c.args.number l) (sym c.in_ok-guests.ensures)
-    (are_guests plan.cpus (length plan.caps) plan.tasks c.caps.ensures.within.tasks.each c.args.number.0)))
+    rw (homes, count, c.in_ok-guests.ensures) (are_guests plan.cpus (length plan.caps) plan.tasks c.caps.ensures.within.tasks.each c.args.number.0)
 
 pub at_boot-requires-clause-seen : goal.at_boot-requires-clause-seen
 at_boot-requires-clause-seen g c = c.requires.unused.unseen

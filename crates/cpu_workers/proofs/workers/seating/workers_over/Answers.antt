@@ -39,8 +39,7 @@ loop-number-preserved g c =
 pub returns-clause-count : goal.returns-clause-count
 returns-clause-count g c =
     let all : c.loop-number.number ≡ length c.args.machines.items =
-    let test = c.loop-number-test.false in let last = c.loop-number.auto.number-end in let count = c.len-count.ensures in let ok = c.args.machines.ok.0 in
-    omega (arith, test, last, count, ok) in
+    omega (arith, c.loop-number-test.false, c.loop-number.auto.number-end, c.len-count.ensures, c.args.machines.ok.0) in
     c.loop-number.invariant.workers.count ∙ all
 
 pub returns-clause-each : goal.returns-clause-each

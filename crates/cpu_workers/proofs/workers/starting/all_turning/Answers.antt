@@ -5,10 +5,7 @@ use Rattle.cpu_workers.proofs.workers.starting.all_turning.Goals as goal
 pub loop-worker-init : goal.loop-worker-init
 loop-worker-init g c =
     let none : c.in_ok-tasks.tasks.items ≡ [] = first_of (cc, search rules) in
-    let cap = c.in_ok-tasks.ensures.capacity in
-    let len = c.len.ensures in
-    let ok = c.args.workers.ok.0 in
-    filled_none c.into_iter-worker-iterator.ensures.into_iter_gives.0 none (omega (arith, cap, len, ok))
+    filled_none c.into_iter-worker-iterator.ensures.into_iter_gives.0 none (omega (arith, c.in_ok-tasks.ensures.capacity, c.len.ensures, c.args.workers.ok.0))
 
 pub push_reserved-requires : goal.push_reserved-requires
 push_reserved-requires g c = has_room c.loop-worker.invariant c.in-Some.ensures.steps.0 c.loop-worker.tasks.ok.0

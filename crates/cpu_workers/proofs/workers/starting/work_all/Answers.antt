@@ -1,4 +1,4 @@
-use Rattle.std.proofs.Common.{◌≡◌, [], subst, ap, ◌∙◌}
+use Rattle.std.proofs.Common.{◌≡◌, [], ap, ◌∙◌}
 use Rattle.cpu_workers.{specs.Reports.HasRun, proofs.Joining.{both_all, both_then}}
 use Rattle.cpu_workers.proofs.workers.starting.work_all.Goals as goal
 
@@ -12,7 +12,5 @@ returns-in-Ok g c =
     both_then (λ w t. (t.worker ≡ w) × (t.gate.now ≡ c.args.gate.now) × (t.turns ≡ c.args.turns))
     (λ t r. HasRun (g.G.Gate.MayAnswer t.gate.now) t.turns t.worker r.worker r.did.taken r.did.stop)
     (λ w r. HasRun (g.G.Gate.MayAnswer c.args.gate.now) c.args.turns w r.worker r.did.taken r.did.stop)
-    (λ w t r is ran. subst (λ v. HasRun (g.G.Gate.MayAnswer c.args.gate.now) c.args.turns v r.worker r.did.taken r.did.stop) is.0
-    (subst (λ n. HasRun (g.G.Gate.MayAnswer c.args.gate.now) n t.worker r.worker r.did.taken r.did.stop) is.2
-    (subst (λ x. HasRun (g.G.Gate.MayAnswer x) t.turns t.worker r.worker r.did.taken r.did.stop) is.1 ran)))
+    (λ w t r is ran. rw (← is.0, ← is.1, ← is.2) ran)
     c.args.workers.items c.in_ok-tasks.tasks.items c.in-Ok.came.done.items c.in_ok-tasks.ensures c.in-Ok.ensures.ran

@@ -1,7 +1,7 @@
 use Rattle.std.proofs.Common.{◌≡◌, ◌+◌, ℕ, ap, subst, sym, ◌∙◌}
 use Rattle.{event_log.specs.{Grants.grant_lock_phase, WordsLog.{IsLegalWords, Idle, lock_phase}}, layer_traits.specs.Protocols.GrantProtocol.grant_sections}
 use Rattle.layer_traits.{specs.{Protocols.{OneLock.opened, AsGrants.as_grants}, Laws.AsGrants.{sections_as_grants, stands_as_grants}}, proofs.Seen.words_legal}
-use Rattle.{table_machine.specs.SeatViews.SeatView, cpu_workers.specs.{Counts.{counting, HasMade, made}, declared.counting.AddOne.AddOne}}
+use Rattle.{table_machine.specs.SeatViews.SeatView, cpu_workers.specs.{Counts.{counting, made}, declared.counting.AddOne.AddOne}}
 use Rattle.cpu_workers.{specs.declared.counting.TheConstants.NUMBER, proofs.Counts.has_made}
 use Rattle.cpu_workers.proofs.counting.plan_words.WaiterWordsPlanWords.work.Goals as goal
 
@@ -24,5 +24,4 @@ returns g c =
     let more = ap (made cpu NUMBER) (sym (sections_as_grants new after))
     ∙ (c.work_at.ensures.made ∙ (ap (λ (d : SeatView AddOne ℕ). made cpu NUMBER (grant_sections (as_grants d.seen)) + times) c.seat-seat.ensures.seat
     ∙ ap (λ l. made cpu NUMBER l + times) (sections_as_grants key.seen before))) in
-    subst (λ (d : SeatView AddOne ℕ). HasMade NUMBER key d times) (sym c.back.ensures)
-    (has_made NUMBER key c.work_at.new.seat cpu times (cc) (cc) (cc) (sym (stands_as_grants new after cpu) ∙ c.work_at.ensures.outside) more)
+    rw c.back.ensures (has_made NUMBER key c.work_at.new.seat cpu times (cc) (cc) (cc) (sym (stands_as_grants new after cpu) ∙ c.work_at.ensures.outside) more)

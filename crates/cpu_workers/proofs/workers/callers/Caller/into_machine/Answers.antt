@@ -6,9 +6,8 @@ use Rattle.cpu_workers.proofs.workers.callers.Caller.into_machine.Goals as goal
 pub returns-clause-trace : goal.returns-clause-trace
 returns-clause-trace g c =
     let x = c.self.inside in
-    let acts = g.I.CallLayer.acts x.machine in
     rw (← c.self.view_is) (λ step. ap (λ (l : List Entry). reverse (of_cpu x.cpu l)) (g.met.I.CallLayer.seen_is step x.machine
-    ∙ ap (λ o. effects_in o (buffer_sections (map event_of (sections_in acts)))) c.self.invariant.opens))
+    ∙ ap (λ o. effects_in o (buffer_sections (map event_of (sections_in (g.I.CallLayer.acts x.machine))))) c.self.invariant.opens))
 
 pub returns-clause-rests : goal.returns-clause-rests
 returns-clause-rests g c =

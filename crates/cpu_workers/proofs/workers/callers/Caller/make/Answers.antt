@@ -12,16 +12,14 @@ invariant_of-self g c =
     let back = subst (λ (d : CpuId). Returned d x.thread c.args.call.now c.call-reply.result (I.seen x.machine) (I.seen c.call-reply.new.m))
     is.fits.1 e.returned in
     let one = ap (λ (l : List Entry). length l) back.went.own in
-    let before = is.counted in
-    let more = c.if-self-lt-MOST_CALLS.true in
     record {
       fits = (e.fits, e.cpu ∙ is.fits.1);
       room = is.room;
       nothing = e.under_way;
       rests = e.idle;
       opens = rw e.opening is.opens;
-      counted = omega (arith, one, before);
-      few = omega (arith, more);
+      counted = omega (arith, one, is.counted);
+      few = omega (arith, c.if-self-lt-MOST_CALLS.true);
     }
 
 pub returns-then-self-lt-MOST_CALLS : goal.returns-then-self-lt-MOST_CALLS

@@ -7,9 +7,8 @@ use Rattle.cpu_workers.proofs.workers.worker.Worker.halted.Goals as goal
 pub halted-requires : goal.halted-requires
 halted-requires g c =
     let m = c.self.inside.machine in
-    let p = c.self.inside.cpu in
     let is = c.self.invariant in
-    let cpu = layered (laws_of g.met.I.CallLayer) m p (record { fits = is.fits; number = is.number; is = is.is; table = λ step. is.tabled }) in
+    let cpu = layered (laws_of g.met.I.CallLayer) m c.self.inside.cpu (record { fits = is.fits; number = is.number; is = is.is; table = λ step. is.tabled }) in
     current_within (valid_cpu is.is) (runs_home cpu)
 
 pub returns-clause-is : goal.returns-clause-is
@@ -26,6 +25,5 @@ returns-clause-is g c = λ setup of.
 
 pub returns-clause-own : goal.returns-clause-own
 returns-clause-own g c = λ used.
-    let I = g.I.CallLayer in
     let p = c.self.inside.cpu in
-    own_reason (threads_in (I.own p.part)) p.guests.items p.trace.items p.limit (sym c.halted.ensures ∙ used)
+    own_reason (threads_in (g.I.CallLayer.own p.part)) p.guests.items p.trace.items p.limit (sym c.halted.ensures ∙ used)

@@ -4,8 +4,7 @@ use Rattle.{cpu.specs.{Tables.private, Tower.Composed.named}, cpu_workers.proofs
 use Rattle.cpu_workers.proofs.workers.worker.Worker.step.Goals as goal
 
 pub step-requires-clause-room : goal.step-requires-clause-room
-step-requires-clause-room g c =
-    let some = c.self.invariant.room.0 in let room = c.self.invariant.room.1 c.self.inside.machine in omega (arith, some, room)
+step-requires-clause-room g c = omega (arith, c.self.invariant.room.0, c.self.invariant.room.1 c.self.inside.machine)
 
 pub step-requires-clause-agrees : goal.step-requires-clause-agrees
 step-requires-clause-agrees g c =
@@ -28,12 +27,11 @@ invariant_of-self g c =
 pub returns-clause-turned : goal.returns-clause-turned
 returns-clause-turned g c =
     let I = g.I.CallLayer in
-    let law = g.met.I.CallLayer in
     let m = c.self.inside.machine in
     let p = c.self.inside.cpu in
     let q = c.step.new.self in
     let is = c.self.invariant in
-    let acts = subst (λ (d : CpuId). I.ActsFor m d) is.number (law.own_cpu p.part m is.fits) in
+    let acts = subst (λ (d : CpuId). I.ActsFor m d) is.number (g.met.I.CallLayer.own_cpu p.part m is.fits) in
     rw (← c.self.view_is) (λ setup of. step_behind (λ d. I.ActsFor m d) p.number (cpu_step setup p.number) (private (I.own p.part) p.guests.items p.trace.items)
     (private (I.own q.part) q.guests.items q.trace.items) (named (I.acts m)) (named (I.acts c.step.new.m)) c.step.result acts
     (c.step.ensures.steps is.stepwise setup (table_planned setup (homes_in (I.opening m)) (caps_in (I.opening m)) p.guests.items p.limit of)))

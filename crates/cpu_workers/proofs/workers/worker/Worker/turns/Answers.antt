@@ -19,11 +19,10 @@ pub run-requires : goal.run-requires
 run-requires g c =
     let is = c.self.invariant in
     let some = is.room.0 in
-    let room = is.room.1 c.self.inside.machine in
     record {
       agrees = record { fits = is.fits; number = is.number; is = is.is; table = λ step. is.tabled };
       some = grind (arith, some);
-      room = grind (arith, some, room);
+      room = grind (arith, some, is.room.1 c.self.inside.machine);
       live = search rules;
     }
 
