@@ -1,20 +1,18 @@
 -- The lists that all CPUs share: an allowed call can be done on them, and it keeps them in agreement with the calls.
-use Rattle.std.proofs.Common.{◌≡◌, ◌≢◌, ℕ, ◌<◌, Bool, true, false, List, [], ◌∷◌, ◌++◌, length, slice_get, slice_set, ◌==◌, if◌then◌else◌, Option, Some, None}
-use Rattle.std.proofs.Common.{IsSome, IfSome, option_map, refl, ap, sym, ◌∙◌, subst, arith, Result, Ok, OnOk, replicate, reverse, unwrap_or, ◌≤◌}
-use Rattle.std.proofs.lemmas.{Bool.{eq-eqb, eqb-true}, List.{get_or-replicate, length-replicate, reverse-append}, Option.get_or_from_slice_get}
-use Rattle.std.proofs.lemmas.Option.{slice_get-get_or, slice_get_within}
-use Rattle.event_log.specs.declared.ids.{BufId.BufId, CpuId.CpuId, LockId.{LockId, TheVariants.{Pending, Buffer}}, Tid.Tid, TheConstants.{CPUS, THREADS}}
+use Rattle.std.proofs.Common.{◌≡◌, ◌≢◌, ℕ, ◌<◌, true, false, List, [], ◌∷◌, ◌++◌, length, slice_get, slice_set, ◌==◌, if◌then◌else◌, Option, Some, IsSome}
+use Rattle.std.proofs.{Common.{option_map, refl, ap, sym, ◌∙◌, subst, arith, Result, Ok, OnOk, replicate, reverse}, lemmas.Bool.{eq-eqb, eqb-true}}
+use Rattle.std.proofs.lemmas.{List.{get_or-replicate, length-replicate, reverse-append}, Option.{get_or_from_slice_get, slice_get-get_or, slice_get_within}}
+use Rattle.event_log.specs.declared.ids.{BufId.BufId, CpuId.CpuId, LockId.{LockId, TheVariants.{Pending, Buffer}}, Tid.Tid, TheConstants.CPUS}
 use Rattle.event_log.{specs.{History.same_cpu, Sections.block_after}, proofs.{Same.same_cpu_true, ListLemmas.{set_else, set_there}}}
 use Rattle.{thread_blocks.specs.Queues.is_in, layer_traits.specs.declared.queue_edits.QueueBlock.{QueueBlock, TheVariants.{Queue, Above}}}
 use Rattle.layer_traits.specs.declared.{queue_edits.QueueAnswer.{QueueAnswer, TheVariants.{Taken, Answer}}, payloads.Payload.Payload}
 use Rattle.layer_traits.specs.declared.{scheds.SchedCall.SchedCall, queues.QueueCall.{QueueCall, TheVariants.{Push, TakeAll, OnBuffer}}}
-use Rattle.layer_traits.specs.{declared.queues.QueueEvent.QueueEvent, Threads.{MoveRules.{MoveRules, WakesSleepers, edit_move}, Places.home_of}}
-use Rattle.layer_traits.specs.{Threads.Places.{pending_after, pending_by}, Blocks.{Payloads.{call_meant, sched_meant}, QueueBlocks.{StartsAs, above_of}}}
-use Rattle.layer_traits.specs.{Blocks.QueueBlocks.{homes_in, homes_of, inner}, Protocols.Protocol.Rules, Layers.Queues.{CallAllowed, Kernel, answer_of}}
-use Rattle.layer_traits.{specs.Layers.{Queues.{buffer_sections, event, kernel, lock_of, moves_in, out_at}, Scheds.BufferIsThere}, proofs.Alone.block_there}
-use Rattle.{layer_traits.proofs.{CallLemmas.moves_lawful, NestedLemmas.{push_known, push_new}}, plain_layers.specs.declared.kernel.Lists.Lists}
-use Rattle.plain_layers.specs.{declared.kernel.Opening.Opening, Kernels.{CanDo, IsDone, IsKernel, SetsBlock, SetsQueue, opening_of, pending_in}}
-use Rattle.shared_queue.specs.Opening.{AreQueues}
+use Rattle.layer_traits.specs.{declared.queues.QueueEvent.QueueEvent, Threads.{MoveRules.{MoveRules, WakesSleepers, edit_move}, Places.pending_after}}
+use Rattle.layer_traits.specs.{Threads.Places.pending_by, Blocks.{Payloads.{call_meant, sched_meant}, QueueBlocks.{StartsAs, above_of, homes_in, homes_of}}}
+use Rattle.layer_traits.specs.{Blocks.QueueBlocks.inner, Protocols.Protocol.Rules, Layers.Queues.{CallAllowed, Kernel, answer_of, buffer_sections, event}}
+use Rattle.layer_traits.{specs.Layers.{Queues.{kernel, lock_of, moves_in, out_at}, Scheds.BufferIsThere}, proofs.{Alone.block_there, CallLemmas.moves_lawful}}
+use Rattle.{layer_traits.proofs.NestedLemmas.{push_known, push_new}, plain_layers.specs.{declared.kernel.{Lists.Lists, Opening.Opening}, Kernels.CanDo}}
+use Rattle.{plain_layers.specs.Kernels.{IsDone, IsKernel, SetsBlock, SetsQueue, opening_of, pending_in}, shared_queue.specs.Opening.AreQueues}
 use Rattle.layer_traits.specs.declared.scheds.SchedCall.TheVariants as sched
 
 -- a list of events that has grown by one, newest first
@@ -23,30 +21,24 @@ log_grown r a old new x is pushed = ap reverse (subst (λ o. OnOk o (new ≡ old
 
 -- what is handed on of a call names the lock of the call that is meant
 pub lock_handed : {H E : Type 0} (meant : H → Payload → E) (call : QueueCall H) (payload : Payload) → lock_of (call_meant meant call payload) ≡ lock_of call
-lock_handed meant (Push d t) payload = refl
-lock_handed meant (TakeAll d) payload = refl
-lock_handed meant (OnBuffer b e) payload = refl
+lock_handed meant call payload = grind arith
 
 -- the buffer of a scheduler's call that is meant is there where that of what is handed on is
 pub there_meant : {H E B : Type 0} (meant : H → Payload → E) (opening : LockId → Option (QueueBlock B)) (call : SchedCall H) (payload : Payload)
     → BufferIsThere opening call → BufferIsThere opening (sched_meant meant call payload)
-there_meant meant opening (sched.Pass pass) payload there = there
-there_meant meant opening (sched.OnBuffer b e) payload there = there
+there_meant meant opening call payload there = grind arith
 
 -- what is handed on of a call can be done where that can which is meant
 pub can_handed : {H E B : Type 0} (meant : H → Payload → E) (call : QueueCall H) (payload : Payload) (lists : Lists B)
     → CanDo (call_meant meant call payload) lists → CanDo call lists
-can_handed meant (Push d t) payload lists can = can
-can_handed meant (TakeAll d) payload lists can = can
-can_handed meant (OnBuffer b e) payload lists can = can
+can_handed meant call payload lists can = grind arith
 
 not_equal : (i j : ℕ) → (i == j) ≡ false → i ≢ j
 not_equal i j other same = let equal : (i == j) ≡ true = eq-eqb i j same in absurd (cc (equal, other))
 
 -- a list read at a place where there is something
 within_some : {X : Type 0} (xs : List X) (i : ℕ) (o : Option X) → slice_get xs i ≡ o → IsSome o → i < length xs
-within_some xs i None is there = absurd cc
-within_some xs i (Some x) is there = slice_get_within xs i x is
+within_some xs i o is there = grind (arith, slice_get_within)
 
 -- so many times the same
 pub repeated : {X : Type 0} (n i : ℕ) (x : X) → i < n → slice_get (replicate n x) i ≡ Some x
@@ -61,15 +53,7 @@ module _ {E B O : Type 0} (rules : Rules E B O) (mv : MoveRules E O) (wakes : Wa
 
   -- a queue that opened is there, and holds who is pending by the moves
   queue_is : (d : CpuId) → IsSome (opening_of start (Pending d)) → slice_get lists.pending.items d.0 ≡ Some (pending_by (moves_in K past) d)
-  queue_is d there = sound.queues d ∙ go (slice_get start.lists.value.pending.items d.0) there
-    where
-      opened : List Tid → QueueBlock B
-      opened queue = Queue queue start.homes
-
-      go : (o : Option (List Tid)) → IsSome (option_map opened o)
-          → option_map (λ queue. pending_by (moves_in K past) d) o ≡ Some (pending_by (moves_in K past) d)
-      go None there = absurd cc
-      go (Some queue) there = refl
+  queue_is d there = grind arith
 
   pending_is : (d : CpuId) → IsSome (opening_of start (Pending d)) → pending_in lists d ≡ pending_by (moves_in K past) d
   pending_is d there = get_or_from_slice_get lists.pending.items d.0 (pending_by (moves_in K past) d) [] (queue_is d there)
@@ -80,12 +64,7 @@ module _ {E B O : Type 0} (rules : Rules E B O) (mv : MoveRules E O) (wakes : Wa
   -- a buffer that opened has its block
   block_some : (b : BufId) → IsSome (opening_of start (Buffer b))
       → IsSome (block_after rules.edited (inner (opening_of start)) (Buffer b) (buffer_sections past))
-  block_some b there = block_there rules.edited (inner (opening_of start)) (Buffer b) (buffer_sections past)
-      (go (slice_get start.lists.value.buffers.items b.0) there)
-    where
-      go : (o : Option B) → IsSome (option_map Above o) → IsSome (above_of (option_map Above o))
-      go None there = absurd cc
-      go (Some block) there = refl
+  block_some b there = grind (arith, block_there)
 
   block_within : (b : BufId) → IsSome (opening_of start (Buffer b)) → b.0 < length lists.buffers.items
   block_within b there = within_some lists.buffers.items b.0 _ (sound.blocks b) (block_some b there)
@@ -107,57 +86,23 @@ module _ {E B O : Type 0} (rules : Rules E B O) (mv : MoveRules E O) (wakes : Wa
       → queue ≡ after d → (e : CpuId)
       → slice_get new.pending.items e.0
       ≡ option_map (λ opened. if same_cpu d e then after e else pending_by (moves_in K past) e) (slice_get start.lists.value.pending.items e.0)
-  queues_set d queue after new there sets is e = ap (λ l. slice_get l e.0) sets.0 ∙ go (same_cpu d e) refl
-    where
-      queue_of : List Tid → QueueBlock B
-      queue_of queue = Queue queue start.homes
-
-      opened : (q : List Tid) (o : Option (List Tid)) → IsSome (option_map queue_of o) → Some q ≡ option_map (λ queue. q) o
-      opened q None there = absurd cc
-      opened q (Some queue) there = refl
-
-      go : (b : Bool) → same_cpu d e ≡ b → slice_get (slice_set lists.pending.items d.0 queue) e.0
-          ≡ option_map (λ opened. if b then after e else pending_by (moves_in K past) e) (slice_get start.lists.value.pending.items e.0)
-      go true same =
-          let one = same_cpu_true d e same in
-          subst (λ x. slice_get (slice_set lists.pending.items d.0 queue) x.0 ≡ option_map (λ opened. after x) (slice_get start.lists.value.pending.items x.0))
-          one (set_there lists.pending.items d.0 queue (queue_within d there)
-          ∙ (ap Some is ∙ opened (after d) (slice_get start.lists.value.pending.items d.0) there))
-      go false other = set_else lists.pending.items d.0 e.0 queue (λ same. not_equal d.0 e.0 other (sym same)) ∙ sound.queues e
+  queues_set d queue after new there sets is e = grind (arith, same_cpu_true, set_there, queue_within, set_else, not_equal)
 
   -- an edit moves nobody into a queue
   still : (b : BufId) (e : E) (queue : List Tid) (d : CpuId) (out : Option O) → pending_after (edit_move mv (Buffer b) e out) d queue ≡ queue
-  still b e queue d None = refl
-  still b e queue d (Some out) = refl
+  still b e queue d out = grind arith
 
   -- the blocks after one was edited
   blocks_set : (b : BufId) (e : E) (block : B) (c : CpuId) (new : Lists B) → slice_get lists.buffers.items b.0 ≡ Some block
       → new.buffers.items ≡ slice_set lists.buffers.items b.0 (rules.edited e block) → (at : BufId)
       → slice_get new.buffers.items at.0 ≡ block_after rules.edited (inner (opening_of start)) (Buffer at) (buffer_sections (event c (OnBuffer b e) ∷ past))
-  blocks_set b e block c new was sets at = ap (λ l. slice_get l at.0) sets ∙ go (at.0 == b.0) refl
-    where
-      go : (x : Bool) → (at.0 == b.0) ≡ x → slice_get (slice_set lists.buffers.items b.0 (rules.edited e block)) at.0
-          ≡ (if x then option_map (rules.edited e) (block_after rules.edited (inner (opening_of start)) (Buffer at) (buffer_sections past))
-          else block_after rules.edited (inner (opening_of start)) (Buffer at) (buffer_sections past))
-      go true same =
-          let one : b.0 ≡ at.0 = sym (eqb-true at.0 b.0 same) in
-          subst (λ n. slice_get (slice_set lists.buffers.items b.0 (rules.edited e block)) n ≡ option_map (rules.edited e) (slice_get lists.buffers.items n))
-          one (set_there lists.buffers.items b.0 (rules.edited e block) (slice_get_within lists.buffers.items b.0 block was)
-          ∙ sym (ap (option_map (rules.edited e)) was)) ∙ ap (option_map (rules.edited e)) (sound.blocks at)
-      go false other = set_else lists.buffers.items b.0 at.0 (rules.edited e block) (not_equal at.0 b.0 other) ∙ sound.blocks at
+  blocks_set b e block c new was sets at = grind (arith, eqb-true, set_there, slice_get_within, set_else, not_equal)
 
   -- what was done at a block that is there
   done_block : (b : BufId) (e : E) (new : Lists B) (answer : QueueAnswer O) → IsSome (opening_of start (Buffer b))
       → IsDone rules (OnBuffer b e) lists new answer
       → (block : B) × (slice_get lists.buffers.items b.0 ≡ Some block) × SetsBlock b (rules.edited e block) lists new × (answer ≡ Answer (rules.answer e block))
-  done_block b e new answer there done = go (slice_get lists.buffers.items b.0) refl (subst (λ x. IsSome x) (sym (sound.blocks b)) (block_some b there)) done
-    where
-      go : (o : Option B) → slice_get lists.buffers.items b.0 ≡ o → IsSome o
-          → IfSome o (λ block. SetsBlock b (rules.edited e block) lists new × (answer ≡ Answer (rules.answer e block)))
-          → (block : B) × (slice_get lists.buffers.items b.0 ≡ Some block) × SetsBlock b (rules.edited e block) lists new
-          × (answer ≡ Answer (rules.answer e block))
-      go None is some sets = absurd cc
-      go (Some block) is some sets = (block, is, sets.0, sets.1)
+  done_block b e new answer there done = grind (arith, block_some, sound.blocks)
 
   -- a call that was done keeps the lists in agreement
   pub kernel_after : (c : CpuId) (call : QueueCall E) (new : Lists B) (answer : QueueAnswer O) → c.0 < CPUS → IsSome (opening_of start (lock_of call))
@@ -208,8 +153,7 @@ pub record OpensWith {B : Type 0} (start : Opening B) (lists : Lists B) (cpus : 
 
 module _ {B : Type 0} (start : Opening B) (lists : Lists B) (cpus : ℕ) (homes : List CpuId) (opens : OpensWith start lists cpus homes) where
   queue_opens : (c : CpuId) → c.0 < cpus → opening_of start (Pending c) ≡ Some (Queue [] start.homes)
-  queue_opens c within = ap (λ l. option_map (λ queue. Queue queue start.homes) (slice_get l c.0)) (ap (λ x. x.pending.items) opens.opened ∙ opens.empty)
-      ∙ ap (option_map (λ queue. Queue queue start.homes)) (repeated cpus c.0 [] within)
+  queue_opens c within = grind (arith, repeated)
 
   pub queue_is_there : (c : CpuId) → c.0 < cpus → IsSome (opening_of start (Pending c))
   queue_is_there c within = subst (λ x. IsSome x) (sym (queue_opens c within)) refl
@@ -221,57 +165,31 @@ module _ {B : Type 0} (start : Opening B) (lists : Lists B) (cpus : ℕ) (homes 
   nobody = []
 
   each_empty : (i : ℕ) (queue : List Tid) → slice_get start.lists.value.pending.items i ≡ Some queue → queue ≡ []
-  each_empty i queue is =
-      let all : start.lists.value.pending.items ≡ replicate cpus [] = ap (λ x. x.pending.items) opens.opened ∙ opens.empty in
-      let there : slice_get (replicate cpus []) i ≡ Some queue = ap (λ l. slice_get l i) (sym all) ∙ is in
-      let long = length-replicate cpus nobody in
-      let within = slice_get_within (replicate cpus []) i queue there in
-      let none : Some [] ≡ Some queue = sym (repeated cpus i [] (omega (arith, long, within))) ∙ there in
-      sym (ap (λ o. unwrap_or o []) none)
+  each_empty i queue is = grind (arith, length-replicate, slice_get_within, repeated)
 
   abbrev queue_of : List Tid → QueueBlock B
   queue_of queue = Queue queue start.homes
 
   kinds : (lock : LockId) → StartsAs lock (opening_of start lock)
-  kinds (Pending c) = go (slice_get start.lists.value.pending.items c.0) (each_empty c.0)
-    where
-      go : (o : Option (List Tid)) → ((queue : List Tid) → o ≡ Some queue → queue ≡ []) → StartsAs (Pending c) (option_map queue_of o)
-      go None all = tt
-      go (Some queue) all = all queue refl
-  kinds (Buffer b) = go (slice_get start.lists.value.buffers.items b.0)
-    where
-      go : (o : Option B) → StartsAs (Buffer b) (option_map Above o)
-      go None = tt
-      go (Some block) = tt
+  kinds lock = grind (arith, each_empty)
 
   report_above : (o : Option B) → o ≡ above_of (option_map Above o)
-  report_above None = refl
-  report_above (Some block) = refl
+  report_above o = grind arith
 
   -- each buffer opens with the block in its place
   pub buffer_opens : (b : BufId) → inner (opening_of start) (Buffer b) ≡ slice_get lists.buffers.items b.0
-  buffer_opens b = sym (report_above (slice_get start.lists.value.buffers.items b.0)) ∙ ap (λ (x : Lists B). slice_get x.buffers.items b.0) opens.opened
+  buffer_opens b = grind (arith, opens.opened)
 
   -- a machine opens sound
   pub kernel_fresh : {E O : Type 0} (rules : Rules E B O) (mv : MoveRules E O) → IsKernel rules mv start [] lists
   kernel_fresh rules mv = record {
     starts = record {
       kinds = kinds;
-      queues = λ t home is.
-          let at : home_of homes t ≡ Some home = ap (λ l. home_of l t) (sym homes_read) ∙ is in
-          let within = opens.are.within t.0 home (slice_get_within homes t.0 home at) in
-          let known : home.0 < cpus = subst (λ (c : CpuId). c.0 < cpus) (get_or_from_slice_get homes t.0 home home at) within in
-          queue_is_there home known;
-      room = subst (λ l. length l ≤ THREADS) (sym homes_read) opens.are.threads;
+      queues = λ t home is. queue_is_there home (grind (arith, homes_read, slice_get_within, get_or_from_slice_get, opens.are.within));
+      room = rw homes_read opens.are.threads;
     };
     lawful = tt;
     known = tt;
-    queues = λ d.
-        ap (λ (x : Lists B). slice_get x.pending.items d.0) (sym opens.opened)
-        ∙ go (slice_get start.lists.value.pending.items d.0) (each_empty d.0);
+    queues = λ d. grind (arith, each_empty, opens.opened);
     blocks = λ b. sym (buffer_opens b);
   }
-    where
-      go : (o : Option (List Tid)) → ((queue : List Tid) → o ≡ Some queue → queue ≡ []) → o ≡ option_map (λ (queue : List Tid). nobody) o
-      go None all = refl
-      go (Some queue) all = ap Some (all queue refl)

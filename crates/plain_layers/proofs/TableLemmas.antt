@@ -1,18 +1,9 @@
 -- The list of blocks: the slot of a lock in it, what an edit at that slot leaves, and that a section keeps the list in agreement.
-use Rattle.std.proofs.Common.{◌≡◌, ℕ, zero, suc, ◌+◌, ◌<◌, Bool, true, false, List, [], ◌∷◌, length, get_or, drop, slice_set, if◌then◌else◌, Option, Some}
-use Rattle.std.proofs.Common.{IsSome, option_map, refl, ap, sym, ◌∙◌, subst, arith}
+use Rattle.std.proofs.Common.{◌≡◌, ℕ, zero, suc, ◌+◌, ◌<◌, true, false, List, [], ◌∷◌, length, get_or, drop, slice_set, if◌then◌else◌, Option, Some}
+use Rattle.std.proofs.Common.{IsSome, option_map, sym, subst, arith}
 use Rattle.event_log.{specs.{declared.ids.LockId.LockId, History.same_lock, Sections.Section}, proofs.Same.{same_lock_self, same_lock_true}}
 use Rattle.{event_log.proofs.ListLemmas.from_index, layer_traits.{proofs.Alone.block_there, specs.Protocols.{OneLock.opened, Protocol.Rules}}}
 use Rattle.plain_layers.specs.Tables.{IsSlot, IsTable}
-
--- whether an entry that names the lock names another one too
-names : (lock m l : LockId) → same_lock m lock ≡ true → (b : Bool) → same_lock l lock ≡ b → same_lock m l ≡ b
-names lock m l named true is = subst (λ x. same_lock m x ≡ true) (same_lock_true m lock named ∙ sym (same_lock_true l lock is)) (same_lock_self m)
-names lock m l named false is = go (same_lock m l) refl
-  where
-    go : (b : Bool) → same_lock m l ≡ b → b ≡ false
-    go false other = refl
-    go true same = let one : same_lock l lock ≡ true = subst (λ x. same_lock x lock ≡ true) (same_lock_true m l same) named in absurd (cc (one, is))
 
 module _ {B : Type 0} (lock : LockId) where
   -- the first entry names the lock
@@ -33,10 +24,7 @@ module _ {B : Type 0} (lock : LockId) where
 
   pub there_later : (blocks : List (LockId × B)) (i : ℕ) (o : LockId × B) → i < length blocks → o ≡ get_or blocks i o → same_lock o.0 lock ≡ false
       → IsSome (opened (drop i blocks) lock) → IsSome (opened (drop (i + 1) blocks) lock)
-  there_later blocks i o within is other there =
-      let skips : opened (drop i blocks) lock ≡ opened (drop (i + 1) blocks) lock =
-      ap (λ l. opened l lock) (from_index blocks i o within is) ∙ ap (λ b. if b then Some o.1 else opened (drop (i + 1) blocks) lock) other in
-      subst (λ x. IsSome x) skips there
+  there_later blocks i o within is other there = grind (arith, from_index)
 
   pub slot_within : (n : ℕ) (blocks : List (LockId × B)) → IsSlot lock n blocks → n < length blocks
   slot_within n [] at = absurd at
@@ -47,48 +35,23 @@ module _ {B : Type 0} (lock : LockId) where
   pub slot_reads : (n : ℕ) (blocks : List (LockId × B)) (o : LockId × B) → IsSlot lock n blocks → o ≡ get_or blocks n o
       → (same_lock o.0 lock ≡ true) × (opened blocks lock ≡ Some o.1)
   slot_reads n [] o at is = absurd at
-  slot_reads zero (x ∷ rest) o at is = (
-    ap (λ (p : LockId × B). same_lock p.0 lock) is ∙ at,
-    ap (λ b. if b then Some x.1 else opened rest lock) at ∙ ap (λ (p : LockId × B). Some p.1) (sym is),
-  )
-  slot_reads (suc n) (x ∷ rest) o at is =
-      let tells = slot_reads n rest o at.1 is in
-      (tells.0, ap (λ b. if b then Some x.1 else opened rest lock) at.0 ∙ tells.1)
+  slot_reads zero (x ∷ rest) o at is = (grind arith, grind arith)
+  slot_reads (suc n) (x ∷ rest) o at is = let tells = slot_reads n rest o at.1 is in (tells.0, grind arith)
 
   -- with another block at the slot the lock has that one, and each other lock the one that it had
   slot_set : (n : ℕ) (blocks : List (LockId × B)) (o : LockId × B) → IsSlot lock n blocks → same_lock o.0 lock ≡ true → (l : LockId)
       → opened (slice_set blocks n o) l ≡ (if same_lock l lock then Some o.1 else opened blocks l)
   slot_set n [] o at same l = absurd at
-  slot_set zero (x ∷ rest) o at same l = go (same_lock l lock) refl
-    where
-      go : (b : Bool) → same_lock l lock ≡ b
-          → (if same_lock o.0 l then Some o.1 else opened rest l) ≡ (if b then Some o.1 else (if same_lock x.0 l then Some x.1 else opened rest l))
-      go true is = ap (λ b. if b then Some o.1 else opened rest l) (names lock o.0 l same true is)
-      go false is = ap (λ b. if b then Some o.1 else opened rest l) (names lock o.0 l same false is)
-          ∙ sym (ap (λ b. if b then Some x.1 else opened rest l) (names lock x.0 l at false is))
-  slot_set (suc n) (x ∷ rest) o at same l = go (slot_set n rest o at.1 same l) (same_lock x.0 l) refl
-    where
-      go : opened (slice_set rest n o) l ≡ (if same_lock l lock then Some o.1 else opened rest l) → (b : Bool) → same_lock x.0 l ≡ b
-          → (if b then Some x.1 else opened (slice_set rest n o) l) ≡ (if same_lock l lock then Some o.1 else (if b then Some x.1 else opened rest l))
-      go later true is = sym (ap (λ b. if b then Some o.1 else Some x.1) (subst (λ m. same_lock m lock ≡ false) (same_lock_true x.0 l is) at.0))
-      go later false is = later
+  slot_set zero (x ∷ rest) o at same l = grind (arith, same_lock_true, same_lock_self)
+  slot_set (suc n) (x ∷ rest) o at same l = grind (arith, same_lock_true, slot_set n rest o at.1 same l)
 
   -- so with the edited block there
   pub slot_edited : (f : B → B) (n : ℕ) (blocks : List (LockId × B)) (o : LockId × B) (block : B) → IsSlot lock n blocks → o ≡ get_or blocks n o → block ≡ f o.1
       → (l : LockId) → opened (slice_set blocks n (o.0, block)) l ≡ (if same_lock l lock then option_map f (opened blocks l) else opened blocks l)
-  slot_edited f n blocks o block at is edits l =
-      let tells = slot_reads n blocks o at is in
-      slot_set n blocks (o.0, block) at tells.0 l ∙ go tells.1 (same_lock l lock) refl
-    where
-      go : opened blocks lock ≡ Some o.1 → (b : Bool) → same_lock l lock ≡ b
-          → (if b then Some block else opened blocks l) ≡ (if b then option_map f (opened blocks l) else opened blocks l)
-      go has true same =
-          let had : opened blocks l ≡ Some o.1 = subst (λ x. opened blocks x ≡ Some o.1) (sym (same_lock_true l lock same)) has in
-          ap Some edits ∙ sym (ap (option_map f) had)
-      go has false other = refl
+  slot_edited f n blocks o block at is edits l = grind (arith, slot_reads, slot_set, same_lock_true)
 
 module _ {E B O : Type 0} (rules : Rules E B O) (opening : LockId → Option B) (past : List (Section E)) (list : List (LockId × B))
     (table : IsTable rules opening past list) (lock : LockId) where
   -- a lock that opened with a block has one in the list
   pub block_is_there : IsSome (opening lock) → IsSome (opened list lock)
-  block_is_there there = subst (λ x. IsSome x) (sym (table.blocks lock)) (block_there rules.edited opening lock past there)
+  block_is_there there = rw table.blocks (block_there rules.edited opening lock past there)

@@ -1,6 +1,6 @@
-use Rattle.{std.proofs.Common.{Option, inl, inr, refl, ap, subst}, layer_traits.specs.{declared.sleeps.Outcome.Outcome, Blocks.Payloads.outcome_told}}
-use Rattle.{layer_traits.specs.{Blocks.Payloads.told_by, Layers.SleepLaw.{SleepPolled, Sleeping, sleep_kernel}}, plain_layers.specs.Wholes.asked_edit}
-use Rattle.plain_layers.proofs.WholeLemmas.{first_answers, first_sends, second_sends, both_polls}
+use Rattle.{std.proofs.{Math.Path.transport, Common.{Option, inl, inr, refl, ap}}, layer_traits.specs.declared.sleeps.Outcome.Outcome}
+use Rattle.layer_traits.specs.{Blocks.Payloads.{outcome_told, told_by}, Layers.SleepLaw.{SleepPolled, Sleeping, sleep_kernel}}
+use Rattle.plain_layers.{specs.Wholes.asked_edit, proofs.WholeLemmas.{first_answers, first_sends, second_sends, both_polls}}
 use Rattle.plain_layers.proofs.wholes.whole.Goals as goal
 
 -- one poll did it all
@@ -39,12 +39,8 @@ returns-in-None-clause-done g c =
     let p' = c.poll-in-None.new.self in
     let now_known = g.met.S.ThreadLayer.known n' (S.cpu_of part) (more.framed.stays.acts (S.cpu_of part) acts) in
     let tells = λ (r : Option (Outcome g.row.E-Brought.Denot)). told_by (λ o p. outcome_told g.E.Sleeps.told o p.parcel) r c.poll-in-None.new.payload in
-    let kernels = subst (λ o. SleepPolled (sleep_kernel g.E.Sleeps.rules o) (λ d. S.ActsFor n d) (S.cpu_of p) c.args.buffer edit (S.seen n) (S.seen n')
-    (S.own p) (record { own = S.own p'; answer = tells c.poll-in-None.result })) said.framed.stays.opening more.seen in
-    let cpus = subst (λ d. SleepPolled k (λ d. S.ActsFor n d) d c.args.buffer edit (S.seen n) (S.seen n') (S.own p)
-    (record { own = S.own p'; answer = tells c.poll-in-None.result })) said.framed.cpu kernels in
-    let polled = subst (λ o. SleepPolled k (λ d. S.ActsFor n d) (S.cpu_of part) c.args.buffer edit (S.seen n) (S.seen n') (S.own p)
-    (record { own = S.own p'; answer = tells o })) c.unwrap.ensures cpus in
+    let polled = transport (λ i. SleepPolled (sleep_kernel g.E.Sleeps.rules (said.framed.stays.opening i)) (λ d. S.ActsFor n d) (said.framed.cpu i)
+    c.args.buffer edit (S.seen n) (S.seen n') (S.own p) (record { own = S.own p'; answer = tells (c.unwrap.ensures i) })) more.seen in
     let outcome = outcome_told g.E.Sleeps.told c.unwrap.result c.poll-in-None.new.payload.parcel in
     let sent = second_sends section (λ d. S.ActsFor n d) (λ d small. said.framed.stays.acts d (c.requires.all d small))
     (S.seen n) (S.seen n') (S.own p) (S.own p') begun.0 outcome (ap (λ (s : Sleeping g.row.E-Out.Denot). s.deferred) begun.1.leaves) now_known polled in

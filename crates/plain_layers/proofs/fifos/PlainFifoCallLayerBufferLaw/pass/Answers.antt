@@ -1,12 +1,8 @@
-use Rattle.std.proofs.Common.{ℕ, ◌+◌, ◌/◌, ◌≤◌, ap, arith, subst, sym, ◌∙◌}
-use Rattle.layer_traits.{proofs.KernelRenaming.at_viewed, specs.Layers.{BufferLaw.OthersSeen, Queues.{buffer_sections, moves_in}, SleepLaw.sleep_kernel}}
-use Rattle.layer_traits.specs.{Threads.Passes.PassPolled, Blocks.QueueBlocks.{homes_in, inner}, Views.Renaming.viewed}
-use Rattle.{event_log.specs.declared.ids.CpuId.CpuId, plain_layers.specs.{Attempts.attempts, Fifos.{IsOwned, plain_entries_in, plain_shown}}}
-use Rattle.plain_layers.proofs.FifoLemmas.{nothing_under, owned_after, passed_seen, passed_moves}
+use Rattle.std.proofs.Common.{ap, arith, ◌∙◌}
+use Rattle.layer_traits.{proofs.KernelRenaming.at_viewed, specs.{Layers.{Queues.moves_in, SleepLaw.sleep_kernel}, Threads.Passes.PassPolled}}
+use Rattle.{layer_traits.specs.Views.Renaming.viewed, event_log.specs.declared.ids.CpuId.CpuId, plain_layers.specs.{Attempts.attempts, Fifos.IsOwned}}
+use Rattle.plain_layers.{specs.Fifos.plain_shown, proofs.FifoLemmas.{nothing_under, owned_after, passed_seen, passed_moves}}
 use Rattle.plain_layers.proofs.fifos.PlainFifoCallLayerBufferLaw.pass.Goals as goal
-
-half_of_one : (n k : ℕ) → n ≤ k + 1 → n / 2 ≤ k / 2 + 1
-half_of_one n k less = omega (arith, less)
 
 pub returns-clause-framed : goal.returns-clause-framed
 returns-clause-framed g c =
@@ -31,7 +27,7 @@ returns-clause-framed g c =
       stays = record {
         opening = ap (viewed plain_shown) said.framed.stays.opening;
         site = said.framed.stays.site;
-        room = half_of_one _ _ said.framed.stays.room;
+        room = (let less = said.framed.stays.room in omega arith);
         acts = λ d acts. (
           said.framed.stays.acts d acts.0,
           acts.1,
@@ -57,8 +53,7 @@ returns-clause-seen g c =
     let said = c.pass.ensures in
     let Acts = λ (d : CpuId). S.ActsFor m d × S.IsWhole × IsOwned (λ e. S.ActsFor m e) (S.opening m) in
     let known = g.met.S.ThreadLayer.known n (S.cpu_of lower) (said.framed.stays.acts (S.cpu_of lower) (g.met.S.ThreadLayer.own_cpu lower m fits.0)) in
-    subst (λ o. OthersSeen Acts (plain_entries_in (inner (S.opening m)) (buffer_sections (S.seen m))) (plain_entries_in (inner o) (buffer_sections (S.seen n))))
-    (sym said.framed.stays.opening) (passed_seen (S.opening m) (λ d. S.ActsFor m d) (S.cpu_of lower) c.args.call c.pass.result (S.seen m) (S.seen n)
+    rw said.framed.stays.opening (passed_seen (S.opening m) (λ d. S.ActsFor m d) (S.cpu_of lower) c.args.call c.pass.result (S.seen m) (S.seen n)
     (S.own lower).threads (S.own c.pass.new.self).threads (record { all = fits.2.all; known = known; polled = said.seen }) Acts)
 
 pub returns-clause-passed : goal.returns-clause-passed
@@ -71,10 +66,8 @@ returns-clause-passed g c =
     let said = c.pass.ensures in
     let Acts = λ (d : CpuId). S.ActsFor m d × S.IsWhole × IsOwned (λ e. S.ActsFor m e) (S.opening m) in
     let known = g.met.S.ThreadLayer.known n (S.cpu_of lower) (said.framed.stays.acts (S.cpu_of lower) (g.met.S.ThreadLayer.own_cpu lower m fits.0)) in
-    at_viewed plain_shown (S.opening m)
+    rw said.framed.stays.opening (at_viewed plain_shown (S.opening m)
     (λ homes. PassPolled homes Acts (S.cpu_of lower) c.args.call c.pass.result (moves_in (sleep_kernel attempts (S.opening m)) (S.seen m))
-    (moves_in (sleep_kernel attempts (S.opening n)) (S.seen n)) (S.own lower).threads (S.own c.pass.new.self).threads)
-    (subst (λ o. PassPolled (homes_in (S.opening m)) Acts (S.cpu_of lower) c.args.call c.pass.result (moves_in (sleep_kernel attempts (S.opening m)) (S.seen m))
-    (moves_in (sleep_kernel attempts o) (S.seen n)) (S.own lower).threads (S.own c.pass.new.self).threads) (sym said.framed.stays.opening)
+    (moves_in (sleep_kernel attempts (S.opening m)) (S.seen n)) (S.own lower).threads (S.own c.pass.new.self).threads)
     (passed_moves (S.opening m) (λ d. S.ActsFor m d) (S.cpu_of lower) c.args.call c.pass.result (S.seen m) (S.seen n)
     (S.own lower).threads (S.own c.pass.new.self).threads (record { all = fits.2.all; known = known; polled = said.seen }) Acts (λ d acts. acts.0)))

@@ -1,37 +1,20 @@
-use Rattle.std.proofs.Common.{◌≡◌, ◌≢◌, ◌<◌, ◌≤◌, ◌+◌, ◌/◌, ℕ, ap, arith, rules, List, Option, None, length, option_map, slice_set, subst, sym, ◌∙◌}
-use Rattle.std.proofs.Math.ListN.{length-set}
-use Rattle.{event_log.specs.declared.ids.{CpuId.CpuId, Tid.Tid, TheConstants.THREADS}, layer_traits.specs.Layers.BufferLaw.{Called, IsRefused, MovesGrow}}
-use Rattle.layer_traits.specs.Layers.{BufferLaw.{answer_in, call_state_of, reply_with}, Queues.{buffer_sections, moves_in}, SleepLaw.sleep_kernel}
-use Rattle.layer_traits.specs.{Blocks.{Capacities.caps_in, QueueBlocks.{homes_in, inner}}, Views.Renaming.viewed, declared.calls.Effect.Effect}
-use Rattle.{layer_traits.specs.declared.call_states.{Stage.TheVariants.Idle, CallState.CallState}, plain_layers.specs.Attempts.{attempts, effect_in}}
-use Rattle.plain_layers.{specs.Fifos.{IsOwned, plain_entries_in, reply_to, call_state_after, plain_shown}, proofs.FifoLemmas.{buffer_there, done_called}}
-use Rattle.plain_layers.proofs.FifoLemmas.{done_deferred, done_moves, done_refused, done_sleeps, owned_after, reply_left, reply_none, runs_small, set_waits}
+use Rattle.std.proofs.{Common.{◌≡◌, ◌≢◌, ◌<◌, ap, arith, rules, List, Option, None, length, option_map, slice_set, subst, sym, ◌∙◌}, Math.ListN.length-set}
+use Rattle.{event_log.specs.declared.ids.{CpuId.CpuId, Tid.Tid, TheConstants.THREADS}, layer_traits.specs.Layers.BufferLaw.{answer_in, call_state_of}}
+use Rattle.layer_traits.specs.{Layers.BufferLaw.reply_with, Views.Renaming.viewed, declared.{calls.Effect.Effect, call_states.Stage.TheVariants.Idle}}
+use Rattle.{layer_traits.specs.declared.call_states.CallState.CallState, plain_layers.specs.{Attempts.effect_in, Fifos.{IsOwned, reply_to, call_state_after}}}
+use Rattle.plain_layers.{specs.{Fifos.plain_shown, Laws.FifoOwned.buffer_there}, proofs.FifoLemmas.{done_called, done_deferred, done_moves, done_refused}}
+use Rattle.plain_layers.proofs.FifoLemmas.{done_sleeps, owned_after, reply_left, reply_none, runs_small, set_waits}
 use Rattle.plain_layers.proofs.fifos.PlainFifoCallLayerBufferLaw.poll_kind.{Given.Over, Goals.After-from}
 use Rattle.plain_layers.proofs.fifos.PlainFifoCallLayerBufferLaw.poll_kind.Goals as goal
 
-half_of_two : (n k : ℕ) → n ≤ k + 2 → n / 2 ≤ k / 2 + 1
-half_of_two n k less = omega (arith, less)
-
 pub whole-outcome-requires-clause-buffer : goal.whole-outcome-requires-clause-buffer
 whole-outcome-requires-clause-buffer g c =
-    let S = g.S.ThreadLayer in
-    let m = c.args.m.now in
-    let fits = c.requires.fits in
-    buffer_there (S.opening m) c.buffer.result fits.2.fresh
-    (subst (λ b. b.0 < length (caps_in (viewed plain_shown (S.opening m)))) (sym c.buffer.ensures) c.requires.there)
+    buffer_there (g.S.ThreadLayer.opening c.args.m.now) c.requires.fits.2.fresh c.buffer.result (rw c.buffer.ensures c.requires.there)
 
 -- the thread that runs is one of the table
 module _ (g : Over) (c : After-from g) where
   small : c.from.result < THREADS
-  small =
-      let S = g.S.ThreadLayer in
-      let m = c.args.m.now in
-      let lower = c.args.self.now.lower in
-      let fits = c.requires.fits in
-      let runs = runs_small (homes_in (S.opening m)) (S.cpu_of lower) (moves_in (sleep_kernel attempts (S.opening m)) (S.seen m)) (S.own lower).threads
-      (g.met.S.ThreadLayer.moves_legal m (S.cpu_of lower) (g.met.S.ThreadLayer.own_cpu lower m fits.0)) (g.met.S.ThreadLayer.stands lower m fits.0).stands
-      (g.met.S.ThreadLayer.opens m (S.cpu_of lower) (g.met.S.ThreadLayer.own_cpu lower m fits.0)).room c.args.t c.requires.runs in
-      subst (λ k. k < THREADS) (sym c.from.ensures) runs
+  small = grind (arith, runs_small)
 
 pub offset_bounds-self-from : goal.offset_bounds-self-from
 offset_bounds-self-from g c = let few = small g (goal.at.offset_bounds-self-from g c).After-from in omega (arith, few)
@@ -66,23 +49,17 @@ returns g c =
     let owned = owned_after (λ e. S.ActsFor m e) (λ e. S.ActsFor n e) (S.opening m) (S.opening n) said.opening said.acts in
     record {
       nothing = λ none. let there = c.requires.there in absurd (omega (arith, none, there));
-      called = λ there. subst (λ o. Called Acts (S.cpu_of lower) c.args.t call before states
-          (plain_entries_in (inner (S.opening m)) (buffer_sections (S.seen m))) (plain_entries_in (inner o) (buffer_sections (S.seen n))) answer) (sym
-          said.opening) (done_called (S.opening m) (S.cpu_of lower) c.buffer.result c.attempt_in.result (S.seen m) (S.seen n) (S.own lower).threads
-          (S.own c.whole-outcome.new.part) c.whole-outcome.result said.done Acts c.args.t call before states
+      called = λ there. rw said.opening (done_called (S.opening m) (S.cpu_of lower) c.buffer.result c.attempt_in.result (S.seen m) (S.seen n)
+          (S.own lower).threads (S.own c.whole-outcome.new.part) c.whole-outcome.result said.done Acts c.args.t call before states
           c.attempt_in.ensures c.buffer.ensures within c.requires.same fits.3.waits set answer answered);
       runs = search rules;
       under_way = search rules;
-      moves = subst (λ o. MovesGrow Acts (S.cpu_of lower) (moves_in (sleep_kernel attempts (S.opening m)) (S.seen m))
-          (moves_in (sleep_kernel attempts o) (S.seen n)))
-          (sym said.opening) (done_moves (S.opening m) (S.cpu_of lower) c.buffer.result c.attempt_in.result (S.seen m) (S.seen n) (S.own lower).threads
-          (S.own c.whole-outcome.new.part) c.whole-outcome.result said.done Acts);
+      moves = rw said.opening (done_moves (S.opening m) (S.cpu_of lower) c.buffer.result c.attempt_in.result (S.seen m) (S.seen n)
+          (S.own lower).threads (S.own c.whole-outcome.new.part) c.whole-outcome.result said.done Acts);
       prompt = λ whole none.
           let nothing = reply_none call effect (sym answered ∙ none) in (
-            subst (λ o. IsRefused call (caps_in (viewed plain_shown (S.opening m))) (plain_entries_in (inner o) (buffer_sections (S.seen n))))
-                (sym said.opening) (done_refused (S.opening m) (S.cpu_of lower) c.buffer.result c.attempt_in.result (S.seen m) (S.seen n) (S.own lower).threads
-                (S.own c.whole-outcome.new.part) c.whole-outcome.result said.done c.args.t call
-                c.attempt_in.ensures c.buffer.ensures fits.2.fresh nothing),
+            rw said.opening (done_refused (S.opening m) (S.cpu_of lower) c.buffer.result c.attempt_in.result (S.seen m) (S.seen n) (S.own lower).threads
+                (S.own c.whole-outcome.new.part) c.whole-outcome.result said.done c.args.t call c.attempt_in.ensures c.buffer.ensures fits.2.fresh nothing),
             done_sleeps (S.opening m) (S.cpu_of lower) c.buffer.result c.attempt_in.result (S.seen m) (S.seen n) (S.own lower).threads
                 (S.own c.whole-outcome.new.part) c.whole-outcome.result said.done nothing,
           );
@@ -104,7 +81,7 @@ returns g c =
         stays = record {
           opening = ap (viewed plain_shown) said.opening;
           site = said.site;
-          room = half_of_two _ _ said.room;
+          room = (let less = said.room in omega arith);
           acts = λ d acts. (said.acts d acts.0, acts.1, owned acts.2);
         };
         others = λ p other theirs. (said.others p.lower other theirs.0, theirs.1, owned theirs.2, theirs.3);

@@ -1,7 +1,6 @@
-use Rattle.std.proofs.{Common.{◌≡◌, ◌∙◌, [], ◌<◌, ◌≤◌, ◌*◌, IsSome, length, refl, rules, arith}, lemmas.Result.IfOk-weaker}
-use Rattle.{event_log.specs.declared.ids.{CpuId.CpuId, LockId.TheVariants.Pending, TheConstants.CPUS}, layer_traits.specs.Blocks.QueueBlocks.{homes_in, inner}}
-use Rattle.{layer_traits.proofs.KernelRenaming.homes_viewed, plain_layers.{specs.Fifos.{fresh_buffers, plain_shown}, proofs.OpeningLemmas.both_ok}}
-use Rattle.plain_layers.proofs.PlainOpenings.{boots_shown, caps_observed, fresh_read, half_room}
+use Rattle.std.proofs.{lemmas.Result.{IfOk-at_ok, IfOk-weaker}, Common.{◌≡◌, ◌∙◌, ◌≤◌, length, refl, rules, arith}}
+use Rattle.plain_layers.{proofs.{OpeningLemmas.where_ok, PlainOpenings.{boots_shown, caps_observed, fresh_read, half_room}}, specs.Fifos.fresh_buffers}
+use Rattle.{plain_layers.specs.Fifos.plain_shown, layer_traits.{specs.Blocks.QueueBlocks.inner, proofs.KernelRenaming.homes_viewed}}
 use Rattle.plain_layers.proofs.ipcs.PlainFifoOpensBuffers.open.Goals as goal
 
 -- the machine has the capacities and homes of the plan, nothing was done in it, its locks are those of the capacities that it tells,
@@ -12,43 +11,34 @@ returns g c =
     let r = c.open.result in
     let opens = c.open.ensures in
     let caps = c.args.caps.now in
-    let homes = c.args.homes.now in
     let most = c.requires.buffers in
     let few : length caps ≤ 256 = omega (arith, most) in
     let cpus = c.requires.most_cpus in
-    let it = both_ok r (λ m. inner (S.opening m) ≡ fresh_buffers caps) (λ m. homes_in (S.opening m) ≡ homes)
-    (λ m. (inner (S.opening m) ≡ fresh_buffers caps) × (homes_in (S.opening m) ≡ homes)) opens.buffers opens.homes (λ m one other. (one, other)) in
     record {
-      opened = both_ok r (λ m. (inner (S.opening m) ≡ fresh_buffers caps) × (homes_in (S.opening m) ≡ homes))
-          (λ m. (S.seen m ≡ []) × (c.args.room * 2 ≤ S.room m)) _ it
-          (both_ok r (λ m. S.seen m ≡ []) (λ m. c.args.room * 2 ≤ S.room m) _ opens.seen opens.room (λ m one other. (one, other)))
-          (λ m it been. record {
-            caps_are = caps_observed (S.opening m) caps it.0 few;
-            homes_are = homes_viewed plain_shown (S.opening m) ∙ it.1;
-            none_seen = rw been.0 refl;
-            none_moved = rw been.0 refl;
-            room_is = half_room c.args.room (S.room m) been.1;
-          });
+      opened = where_ok r _ (λ m is. record {
+        caps_are = caps_observed (S.opening m) caps (IfOk-at_ok _ is opens.buffers) few;
+        homes_are = homes_viewed plain_shown (S.opening m) ∙ IfOk-at_ok _ is opens.homes;
+        none_seen = rw (IfOk-at_ok _ is opens.seen) refl;
+        none_moved = rw (IfOk-at_ok _ is opens.seen) refl;
+        room_is = half_room c.args.room (S.room m) (IfOk-at_ok _ is opens.room);
+      });
       boot = IfOk-weaker r (λ m. inner (S.opening m) ≡ fresh_buffers caps) _ (λ m fresh. boots_shown (S.opening m) caps fresh few) opens.buffers;
       queues = search rules;
-      fresh = both_ok r (λ m. ((inner (S.opening m) ≡ fresh_buffers caps) × (homes_in (S.opening m) ≡ homes))
-          × ((S.seen m ≡ []) × ((d : CpuId) → d.0 < c.args.cpus → IsSome (S.opening m (Pending d)))))
-          (λ m. ((d : CpuId) → d.0 < CPUS → S.ActsFor m d) × ((d : CpuId) → S.IsOutside m d)) _
-          (both_ok r (λ m. (inner (S.opening m) ≡ fresh_buffers caps) × (homes_in (S.opening m) ≡ homes))
-          (λ m. (S.seen m ≡ []) × ((d : CpuId) → d.0 < c.args.cpus → IsSome (S.opening m (Pending d)))) _ it
-          (both_ok r (λ m. S.seen m ≡ []) (λ m. (d : CpuId) → d.0 < c.args.cpus → IsSome (S.opening m (Pending d))) _ opens.seen opens.queues
-          (λ m one other. (one, other))) (λ m one other. (one, other)))
-          (both_ok r (λ m. (d : CpuId) → d.0 < CPUS → S.ActsFor m d) (λ m. (d : CpuId) → S.IsOutside m d) _ opens.acts opens.outside
-          (λ m one other. (one, other))) (λ m it may d within. (
-            (may.0 d (omega (arith, within, cpus)), g.met.S.OpensAttempts.whole.0, record { all = may.0; fresh = fresh_read (S.opening m) caps it.0.0 few }),
-            may.1 d,
-            rw it.1.0 refl,
-            rw it.1.0 refl,
-            homes_viewed plain_shown (S.opening m) ∙ it.0.1,
-            it.1.1 d within,
+      fresh = where_ok r _ (λ m is d within.
+          let acts = IfOk-at_ok _ is opens.acts in
+          let none = IfOk-at_ok _ is opens.seen in
+          let fresh = fresh_read (S.opening m) caps (IfOk-at_ok _ is opens.buffers) few in (
+            (acts d (omega (arith, within, cpus)), g.met.S.OpensAttempts.whole.0, record { all = acts; fresh = fresh }),
+            IfOk-at_ok _ is opens.outside d,
+            rw none refl,
+            rw none refl,
+            homes_viewed plain_shown (S.opening m) ∙ IfOk-at_ok _ is opens.homes,
+            IfOk-at_ok _ is opens.queues d within,
           ));
-      acts = both_ok r (λ m. (d : CpuId) → d.0 < CPUS → S.ActsFor m d) (λ m. inner (S.opening m) ≡ fresh_buffers caps) _ opens.acts opens.buffers
-          (λ m acts fresh d within. (acts d within, g.met.S.OpensAttempts.whole.0, record { all = acts; fresh = fresh_read (S.opening m) caps fresh few }));
+      acts = where_ok r _ (λ m is d within.
+          let acts = IfOk-at_ok _ is opens.acts in
+          let fresh = fresh_read (S.opening m) caps (IfOk-at_ok _ is opens.buffers) few in
+          (acts d within, g.met.S.OpensAttempts.whole.0, record { all = acts; fresh = fresh }));
       none = search rules;
       holders = search rules;
     }

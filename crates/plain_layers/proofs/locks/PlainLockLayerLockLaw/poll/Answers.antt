@@ -1,4 +1,4 @@
-use Rattle.std.proofs.Common.{◌≡◌, ◌+◌, ◌≤◌, ℕ, [], arith, refl}
+use Rattle.std.proofs.Common.{[], arith, refl}
 use Rattle.plain_layers.proofs.locks.PlainLockLayerLockLaw.poll.Goals as goal
 
 -- a section that stays allowed is allowed now
@@ -9,9 +9,6 @@ done-requires-clause-allowed g c = c.requires.call [] tt c.requires.fits.1.lawfu
 pub returns-clause-seen : goal.returns-clause-seen
 returns-clause-seen g c = record { others = []; foreign = λ d acts. tt; is = c.done.ensures.seen; answers = c.done.ensures.answer }
 
-less : (n k : ℕ) → n ≡ k + 1 → n ≤ k + 1
-less n k is = omega (arith, is)
-
 -- and the machine is the same but for it
 pub returns-clause-framed : goal.returns-clause-framed
 returns-clause-framed g c =
@@ -19,7 +16,7 @@ returns-clause-framed g c =
     record {
       fits = (c.requires.fits.0, said.sound);
       cpu = refl;
-      stays = record { opening = said.opening; site = refl; room = less _ _ said.room; acts = λ d acts. (acts.0, said.sound) };
+      stays = record { opening = said.opening; site = refl; room = (let less = said.room in omega arith); acts = λ d acts. (acts.0, said.sound) };
       others = λ p other fits. (fits.0, said.sound);
       holders = λ d other acts held. held;
     }

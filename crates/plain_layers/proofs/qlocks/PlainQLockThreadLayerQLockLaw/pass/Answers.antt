@@ -1,11 +1,9 @@
-use Rattle.{std.proofs.{Common.{Option, Some, refl, sym, subst, ap}, Math.Path.transport}, event_log.specs.{declared.ids.LockId.LockId, History.IsLawful}}
-use Rattle.layer_traits.specs.{declared.queue_edits.QueueBlock.QueueBlock, Blocks.{Payloads.{sched_told, told_by}, QueueBlocks.inner}, Threads.Passes.MayPass}
-use Rattle.layer_traits.specs.Layers.{QLockLaw.lock_kernel, Queues.QueueAllowed, Scheds.SchedPolled, SleepLaw.done_if, Sleeping.NobodySleeps}
-use Rattle.layer_traits.{specs.Views.Renaming.{renamed_events, viewed}, proofs.{FrameLemmas.viewed_stays, KernelRenaming.polled_renamed}}
-use Rattle.queuing_lock.specs.{declared.edits.QBlock.QBlock, Laws.NestedLaws.{locks_lawful, locks_wrap}, Nested.busy_rules, Parts.SleptFits}
-use Rattle.{queuing_lock.proofs.PollLemmas.slept_passed, sleep_wakeup.specs.{declared.edits.SleepBlock.SleepBlock, Laws.NestedLaws.{beneath, nested_lawful}}}
-use Rattle.{sleep_wakeup.{specs.Nested.{slept_edit, state_of, states}, proofs.PollLemmas.nested_passed}, plain_layers.specs.Kernels.{calls_in, opening_of}}
-use Rattle.plain_layers.{specs.QLocks.{HasLocks, calls_of, kept_told, locks_of, plain_told}, proofs.QLockLemmas.kept_passed}
+use Rattle.{std.proofs.{Common.{Some, refl, sym, subst}, Math.Path.transport}, event_log.specs.History.IsLawful, layer_traits.specs.Threads.Passes.MayPass}
+use Rattle.layer_traits.specs.{Layers.{QLockLaw.lock_kernel, Queues.QueueAllowed, Scheds.SchedPolled, SleepLaw.done_if}, Views.Renaming.renamed_events}
+use Rattle.layer_traits.{specs.Views.Renaming.viewed, proofs.{FrameLemmas.viewed_stays, KernelRenaming.polled_renamed}}
+use Rattle.queuing_lock.{specs.{Laws.NestedLaws.{locks_lawful, locks_wrap}, Nested.busy_rules, Parts.SleptFits}, proofs.PollLemmas.slept_passed}
+use Rattle.sleep_wakeup.{specs.{Laws.NestedLaws.{beneath, nested_lawful}, Nested.{slept_edit, state_of}}, proofs.PollLemmas.nested_passed}
+use Rattle.plain_layers.{specs.{Kernels.{calls_in, opening_of}, QLocks.{HasLocks, calls_of, kept_told, locks_of}}, proofs.QLockLemmas.kept_passed}
 use Rattle.plain_layers.proofs.qlocks.PlainQLockThreadLayerQLockLaw.pass.{Given.Over, Goals.After-unwrap}
 use Rattle.plain_layers.proofs.qlocks.PlainQLockThreadLayerQLockLaw.pass.Goals as goal
 use Rattle.layer_traits.specs.declared.scheds.SchedCall.TheVariants as call
@@ -18,10 +16,7 @@ passed g c =
     let opening = opening_of c.args.m.now.opening in
     polled_renamed _ _ _ _ (locks_wrap g.F.Locked.rules (viewed state_of opening)) _ _ (call.Pass c.args.call) _ _ _ _ _
     (nested_passed rules opening (λ d. HasLocks g.F.Locked.rules c.args.m.now d) c.args.self.now.sched.cpu _ (calls_in c.args.m.now)
-    (calls_in c.poll.new.m) _ c.poll.new.self.own c.args.call (Some tt) refl
-    (subst (λ r. SchedPolled (beneath rules opening) (λ d. HasLocks g.F.Locked.rules c.args.m.now d) c.args.self.now.sched.cpu (call.Pass c.args.call) r
-    (calls_in c.args.m.now) (calls_in c.poll.new.m) c.args.self.now.sched.own c.poll.new.self.own)
-    (ap (λ r. told_by (sched_told (plain_told g.F.Locked.told)) r c.poll.new.payload) c.unwrap.ensures) c.poll.ensures.seen))
+    (calls_in c.poll.new.m) _ c.poll.new.self.own c.args.call (Some tt) refl (rw c.unwrap.ensures at c.poll.ensures.seen))
 
 pub returns-clause-seen : goal.returns-clause-seen
 returns-clause-seen g c = passed g (goal.at.returns-clause-seen g c).After-unwrap
@@ -37,8 +32,7 @@ returns-clause-framed g c =
     let passed = passed g (goal.at.returns-clause-framed g c).After-unwrap in
     let lawful = locks_lawful rules (viewed state_of opening) (renamed_events slept_edit n) (nested_lawful (busy_rules rules) opening n
     (subst (λ o. IsLawful (QueueAllowed (beneath (busy_rules rules) o)) n) said.stays.opening said.fits.1.lawful)) in
-    let nobody = subst (λ (o : LockId → Option (QueueBlock (SleepBlock (QBlock g.row.F-Block.Denot)))). NobodySleeps (states (inner o)))
-    (sym said.stays.opening) fits.1 in
+    let nobody = rw (← said.stays.opening) at fits.1 in
     record {
       fits = (
         said.fits,

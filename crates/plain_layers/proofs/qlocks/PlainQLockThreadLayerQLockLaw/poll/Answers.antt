@@ -1,19 +1,18 @@
-use Rattle.std.proofs.Common.{◌≡◌, ◌<◌, ◌++◌, false, refl, Option, Some, None, is_some, if◌then◌else◌, option_map, slice_set, ap, sym, ◌∙◌, subst, subst₂}
+use Rattle.std.proofs.Common.{arith, ◌≡◌, false, refl, Option, Some, None, is_some, if◌then◌else◌, option_map, slice_set, ap, sym, ◌∙◌, subst, subst₂}
 use Rattle.std.proofs.Math.Path.{transport}
-use Rattle.{event_log.specs.{declared.ids.{LockId.LockId, TheConstants.THREADS}, History.IsLawful}, layer_traits.specs.declared.locked.QOut.QOut}
-use Rattle.layer_traits.specs.declared.{queue_edits.QueueBlock.QueueBlock, scheds.SchedCall.TheVariants.OnBuffer, sleeps.Outcome.Outcome}
-use Rattle.layer_traits.specs.{Blocks.{Payloads.{lock_meant, sched_meant, sched_told, told_by}, QueueBlocks.inner}, Layers.QLocking.lock_caller}
-use Rattle.layer_traits.specs.Layers.{QLockLaw.{LockPolled, locking, slept_for}, Queues.QueueAllowed, Scheds.{MaySched, SchedPolled, answer_to}}
-use Rattle.layer_traits.specs.{Layers.{SleepLaw.{MaySleep, SleepPolled, Sleeping, due}, Sleeping.NobodySleeps}, Polling.Plans.Left}
+use Rattle.{event_log.specs.{declared.ids.LockId.LockId, History.IsLawful}, layer_traits.specs.declared.{locked.QOut.QOut, queue_edits.QueueBlock.QueueBlock}}
+use Rattle.layer_traits.specs.{declared.{scheds.SchedCall.TheVariants.OnBuffer, sleeps.Outcome.Outcome}, Blocks.Payloads.{lock_meant, sched_meant, sched_told}}
+use Rattle.layer_traits.specs.{Blocks.Payloads.told_by, Layers.{QLocking.lock_caller, QLockLaw.{LockPolled, locking, slept_for}, Queues.QueueAllowed}}
+use Rattle.layer_traits.specs.{Layers.{Scheds.{MaySched, SchedPolled}, SleepLaw.{MaySleep, SleepPolled, Sleeping, due}}, Polling.Plans.Left}
 use Rattle.layer_traits.{specs.Views.Renaming.{renamed_events, viewed}, proofs.{FrameLemmas.{untouched_stays, viewed_stays}, KernelRenaming.starts_viewed}}
 use Rattle.{layer_traits.proofs.SleepLemmas.HandDefers, queuing_lock.specs.{declared.edits.QBlock.QBlock, Laws.NestedLaws.{at_the_lock, beneath_the_lock}}}
 use Rattle.queuing_lock.{specs.{Parts.{DeferredFits, SleptFits}, Nested.{as_section, busy_rules}}, proofs.PartLemmas.{Before, beneath_owed, caller_small}}
 use Rattle.queuing_lock.proofs.{PartLemmas.{deferred_after, locks, others_after, sleeper_handed, slept_after, slept_reported}, PollLemmas.slept_told}
 use Rattle.{queuing_lock.proofs.SleptLemmas.slept_less, sleep_wakeup.specs.{declared.edits.SleepBlock.SleepBlock, Laws.NestedLaws.{beneath, nested_lawful}}}
-use Rattle.sleep_wakeup.specs.{Laws.NestedLaws.{nested_lists, nested_moves_legal, nested_stands}, Nested.{slept_edit, state_of, states}, Parts.as_edit}
-use Rattle.sleep_wakeup.{specs.Parts.{outcome_in, own_of, under_of}, proofs.PollLemmas.{hand_defers, nested_may, nested_sleeps}}
-use Rattle.plain_layers.specs.{Kernels.{call_room, calls_in, no_site, opening_of}, QLocks.{HasLocks, KeptFits, answered_after, calls_of, handed_on, kept_after}}
-use Rattle.plain_layers.specs.QLocks.{kept_told, locks_of, noted_after, parcel_after, plain_meant, plain_told, tell, told_answer, told_kept, under_kept}
+use Rattle.sleep_wakeup.specs.{Laws.NestedLaws.{nested_lists, nested_moves_legal, nested_stands}, Nested.{slept_edit, state_of}, Parts.{as_edit, outcome_in}}
+use Rattle.{sleep_wakeup.{specs.Parts.{own_of, under_of}, proofs.PollLemmas.{hand_defers, nested_may, nested_sleeps}}, plain_layers.specs.Kernels.call_room}
+use Rattle.plain_layers.specs.{Kernels.{calls_in, no_site, opening_of}, QLocks.{HasLocks, KeptFits, answered_after, calls_of, handed_on, kept_after, kept_told}}
+use Rattle.plain_layers.specs.QLocks.{locks_of, noted_after, parcel_after, plain_meant, plain_told, tell, told_answer, told_kept, under_kept}
 use Rattle.plain_layers.proofs.QLockLemmas.{done_keeps, due_meant, left_is, noted_is, sends_home, under_is}
 use Rattle.plain_layers.proofs.qlocks.PlainQLockThreadLayerQLockLaw.poll.{Given.Over, Goals.{Start, After-due-step, After-hand_on}}
 use Rattle.plain_layers.proofs.qlocks.PlainQLockThreadLayerQLockLaw.poll.Goals as goal
@@ -49,8 +48,7 @@ returns-then-has_slept-clause-seen g c =
     let was = before g (goal.at.returns-then-has_slept-clause-seen g c).Start in
     let t = c.caller-t.ensures c.args.payload.now.parcel in
     let some = ap (λ u. is_some (slept_for was.slept u)) (sym t) ∙ (sym c.has_slept.ensures ∙ c.if-has_slept.true) in
-    rw (c.wake_up.ensures ∙ ap (λ u. slice_set was.slept u.0 None) t)
-    (sleeper_handed was (λ d. HasLocks g.F.Locked.rules c.args.m.now d) _ refl some was.may)
+    rw (c.wake_up.ensures ∙ ap (λ u. slice_set was.slept u.0 None) t) (sleeper_handed was (λ d. HasLocks g.F.Locked.rules c.args.m.now d) _ refl some was.may)
 
 pub returns-then-has_slept-clause-framed : goal.returns-then-has_slept-clause-framed
 returns-then-has_slept-clause-framed g c =
@@ -71,16 +69,11 @@ returns-then-has_slept-clause-framed g c =
 
 awake : (g : Over) (c : After-due-step g) → is_some (slept_for c.args.self.now.slept
     (lock_caller g.F.Locked.rules (lock_meant g.F.Locked.meant c.args.call.edit c.args.payload.now.parcel))) ≡ false
-awake g c = ap (λ u. is_some (slept_for c.args.self.now.slept u)) (sym (c.caller-t.ensures c.args.payload.now.parcel))
-    ∙ (sym c.has_slept.ensures ∙ c.if-has_slept.false)
+awake g c = grind arith
 
 step_is : (g : Over) (c : After-due-step g) → sched_meant (plain_meant g.F.Locked.meant) c.due-step.result c.args.payload.now
-    ≡ due c.args.self.now.sched.own.hand c.args.call.buffer
-    (as_edit (as_section (lock_meant g.F.Locked.meant c.args.call.edit c.args.payload.now.parcel)))
-step_is g c =
-    ap (λ s. sched_meant (plain_meant g.F.Locked.meant) s c.args.payload.now)
-    (c.due-step.ensures ∙ ap (λ h. due h c.args.call.buffer c.args.call.edit) c.hand_of-waiting.ensures)
-    ∙ due_meant g.F.Locked.meant c.args.self.now.sched.own.hand c.args.call.buffer c.args.call.edit c.args.payload.now
+    ≡ due c.args.self.now.sched.own.hand c.args.call.buffer (as_edit (as_section (lock_meant g.F.Locked.meant c.args.call.edit c.args.payload.now.parcel)))
+step_is g c = grind (arith, due_meant)
 
 pub poll-requires-clause-call : goal.poll-requires-clause-call
 poll-requires-clause-call g c =
@@ -95,8 +88,7 @@ poll-requires-clause-call g c =
     fits.0.2.stands (kept_told g.F.Locked.told self.kept) None self.sched.own.hand refl fits.3.0 (beneath_owed was (awake g at.After-due-step)))
 
 pub hand_on-requires : goal.hand_on-requires
-hand_on-requires g c =
-    subst (λ t. t.0 < THREADS) (sym (c.caller-t.ensures c.args.payload.now.parcel)) (caller_small (before g (goal.at.hand_on-requires g c).Start))
+hand_on-requires g c = grind (arith, caller_small)
 
 module _ (g : Over) (c : After-hand_on g) where
   open g.F.Locked use {rules, told}
@@ -141,17 +133,11 @@ module _ (g : Over) (c : After-hand_on g) where
 
   ends : under_kept (told_kept told c.poll.new.self.own was.b was.e c.unwrap-answer.result c.poll.new.payload.parcel)
       ≡ (if is_some got.answer then None else Some (OnBuffer was.b was.e))
-  ends = under_is told c.poll.new.self.own was.b was.e c.args.self.now.kept c.unwrap-answer.result c.poll.new.payload.parcel
-      (λ done. done_keeps told (beneath (busy_rules rules) opening) (polled.others ++ calls_in c.args.m.now) was.b (as_edit (as_section was.e))
-      c.args.self.now.kept c.args.self.now.sched.own.hand defers (subst
-      (λ a. answer_to (beneath (busy_rules rules) opening) (polled.others ++ calls_in c.args.m.now)
-      (due c.args.self.now.sched.own.hand was.b (as_edit (as_section was.e)))
-      ≡ Some (sched_told (plain_told told) a c.poll.new.payload)) done polled.answers))
+  ends = grind (arith, under_is, done_keeps, defers)
 
   -- what is kept, noted and answered is what the law says
   kept_is : c.take_up-outcome.new.kept ≡ kept_after c.poll.new.self.own.hand was.b (as_edit (as_section was.e)) c.unwrap-answer.result c.poll.new.payload.parcel
-  kept_is = c.take_up-outcome.ensures.kept ∙ λ i. kept_after (c.hand_of-hand.ensures i) was.b ((c.of-meant.ensures ∙ c.whole-whole.ensures) i)
-      c.unwrap-answer.result c.poll.new.payload.parcel
+  kept_is = grind arith
 
   outcome_is : c.take_up-outcome.result ≡ answered_after c.args.self.now.kept c.poll.new.self.own.hand c.unwrap-answer.result
   outcome_is = c.take_up-outcome.ensures.answer ∙ ap (λ h. answered_after c.args.self.now.kept h c.unwrap-answer.result) c.hand_of-hand.ensures
@@ -193,8 +179,7 @@ returns-clause-framed g c =
     let rules = g.F.Locked.rules in
     let was = was g p in
     let said = c.poll.ensures.framed in
-    let nobody = subst (λ (o : LockId → Option (QueueBlock (SleepBlock (QBlock g.row.F-Block.Denot)))). NobodySleeps (states (inner o)))
-    (sym said.stays.opening) c.requires.fits.1 in
+    let nobody = rw (← said.stays.opening) at c.requires.fits.1 in
     record {
       fits = (
         said.fits,

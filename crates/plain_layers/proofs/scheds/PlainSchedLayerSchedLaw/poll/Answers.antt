@@ -1,17 +1,14 @@
-use Rattle.std.proofs.{Common.{◌≡◌, ◌+◌, ◌≤◌, ℕ, arith, false, [], Some, None, IsSome, ap, sym, ◌∙◌, subst, subst₂, refl, ◌<◌}, lemmas.Bool.ne_eqb}
+use Rattle.std.proofs.{Common.{◌≡◌, arith, false, [], Some, None, ap, sym, ◌∙◌, refl, ◌<◌}, lemmas.Bool.ne_eqb}
 use Rattle.event_log.{specs.{History.{IsLawful, same_cpu}, declared.ids.{CpuId.CpuId, TheConstants.CPUS}}, proofs.Same.cpu_numbered}
-use Rattle.layer_traits.specs.declared.{queue_edits.QueueAnswer.QueueAnswer, queues.QueueCall.QueueCall, scheds.SchedAnswer.TheVariants.Done}
+use Rattle.layer_traits.specs.declared.{queue_edits.QueueAnswer.QueueAnswer, queues.QueueCall.QueueCall}
 use Rattle.layer_traits.specs.{declared.scheds.SchedCall.SchedCall, Blocks.{Payloads.{call_meant, queue_told, sched_meant}, QueueBlocks.homes_in}}
-use Rattle.layer_traits.specs.Layers.{Queues.{Kernel, QueueAllowed, QueuePolled, event, kernel}, Scheds.{SchedPolled, own_by, queue_call}}
-use Rattle.{layer_traits.proofs.FrameLemmas.untouched_stays, scheduler.{specs.{Owns.local_after, Parts.SchedPartFits}, proofs.StepLemmas.{call_may, done_fits}}}
+use Rattle.layer_traits.specs.Layers.{Queues.{Kernel, QueueAllowed, QueuePolled, event, kernel}, Scheds.{own_by, queue_call}}
+use Rattle.{layer_traits.proofs.FrameLemmas.untouched_stays, scheduler.{specs.Owns.local_after, proofs.StepLemmas.{call_may, done_fits}}}
 use Rattle.scheduler.proofs.StepLemmas.{done_polled, finish_ok, local_fits, local_polled, lock_is_there, may_take, other_fits}
 use Rattle.plain_layers.proofs.{KernelLemmas.{lock_handed, there_meant}, scheds.PlainSchedLayerSchedLaw.poll.{Given.Over, Goals.{Start, In-Err, In-Ok}}}
 use Rattle.plain_layers.{proofs.scheds.PlainSchedLayerSchedLaw.poll.Goals.{After-pass_locally, After-done-answer, After-take_answer}, specs.Kernels.HasKernel}
 use Rattle.plain_layers.specs.Kernels.{IsKernel, call_room, calls_in, no_site, opening_of}
 use Rattle.plain_layers.proofs.scheds.PlainSchedLayerSchedLaw.poll.Goals as goal
-
-less : (n k : ℕ) → n ≡ k + 1 → n ≤ k + 1
-less n k is = omega (arith, is)
 
 -- the call, and the one at the shared queues that it is
 abbrev call_of : (g : Over) (c : Start g) → SchedCall g.row.E.Denot
@@ -26,8 +23,7 @@ step_of g c = call_meant g.E.SplitEdit.meant c.in-Ok.step c.args.payload.now
 
 is_shared : (g : Over) (c : In-Ok g) → queue_call (homes_in (opening_of c.args.m.now.opening)) c.args.self.now.cpu
     (sched_meant g.E.SplitEdit.meant c.args.call c.args.payload.now) ≡ Some (step_of g c)
-is_shared g c = ap (λ h. queue_call h c.args.self.now.cpu (sched_meant g.E.SplitEdit.meant c.args.call c.args.payload.now))
-    (c.requires.fits.2.homes ∙ sym c.as_slice-homes.ensures.value) ∙ c.in-Ok.ensures.shared c.args.payload.now
+is_shared g c = grind arith
 
 pub pass_locally-requires : goal.pass_locally-requires
 pass_locally-requires g c =
@@ -36,14 +32,7 @@ pass_locally-requires g c =
     (calls_in c.args.m.now) c.args.self.now.own fits.1.lawful fits.2.stands
 
 pub done-answer-requires-clause-lock : goal.done-answer-requires-clause-lock
-done-answer-requires-clause-lock g c =
-    let at = goal.at.done-answer-requires-clause-lock g c in
-    let fits = c.requires.fits in
-    let payload = c.args.payload.now in
-    let opening = opening_of c.args.m.now.opening in
-    subst (λ l. IsSome (opening l)) (lock_handed g.E.SplitEdit.meant c.in-Ok.step payload)
-    (lock_is_there _ _ _ g.met.E.Moves.wakes_sleepers fits.1.starts fits.1.lawful fits.2 (call_of g at.Start) c.requires.call (step_of g at.In-Ok)
-    (is_shared g at.In-Ok) (there_meant g.E.SplitEdit.meant opening c.args.call payload c.requires.there))
+done-answer-requires-clause-lock g c = grind (arith, lock_handed, lock_is_there, is_shared, there_meant)
 
 pub done-answer-requires-clause-call : goal.done-answer-requires-clause-call
 done-answer-requires-clause-call g c =
@@ -61,8 +50,7 @@ module _ (g : Over) (c : After-done-answer g) where
   answer = queue_told g.E.SplitEdit.told c.done-answer.result c.done-answer.new.payload
 
   legal : IsLawful (QueueAllowed K) (calls_in c.done-answer.new.self)
-  legal = subst (λ o. IsLawful (QueueAllowed (kernel g.E.SplitEdit.rules g.E.Moves.moves (opening_of o))) (calls_in c.done-answer.new.self))
-      c.done-answer.ensures.opening c.done-answer.ensures.sound.lawful
+  legal = grind arith
 
   polled : {ActsFor : CpuId → Type 0} → QueuePolled K ActsFor (event c.args.self.now.cpu (call_meant g.E.SplitEdit.meant c.in-Ok.step c.args.payload.now))
       (Some answer) (calls_in c.args.m.now) (calls_in c.done-answer.new.self)
@@ -80,8 +68,7 @@ take_answer-requires g c =
 
 is_local : (g : Over) (c : In-Err g) → queue_call (homes_in (opening_of c.args.m.now.opening)) c.args.self.now.cpu
     (sched_meant g.E.SplitEdit.meant c.args.call c.args.payload.now) ≡ None
-is_local g c = ap (λ h. queue_call h c.args.self.now.cpu (sched_meant g.E.SplitEdit.meant c.args.call c.args.payload.now))
-    (c.requires.fits.2.homes ∙ sym c.as_slice-homes.ensures.value) ∙ (c.in-Err.ensures.local c.args.payload.now).1
+is_local g c = grind arith
 
 passed : (g : Over) (c : After-pass_locally g) → c.pass_locally.new.own
     ≡ local_after (sched_meant g.E.SplitEdit.meant c.args.call c.args.payload.now) c.args.self.now.own
@@ -92,17 +79,11 @@ returns-in-Err-clause-framed g c =
     let at = goal.at.returns-in-Err-clause-framed g c in
     let rules = g.E.SplitEdit.rules in
     let mv = g.E.Moves.moves in
-    let self = c.args.self.now in
     let m = c.args.m.now in
     let fits = c.requires.fits in
     let kept = local_fits _ _ _ g.met.E.Moves.wakes_sleepers fits.1.starts fits.1.lawful fits.2 (call_of g at.Start) c.requires.call (is_local g at.In-Err) in
     record {
-      fits = (
-        fits.0,
-        fits.1,
-        subst (λ o. SchedPartFits rules mv (opening_of m.opening) self.cpu self.cpu self.homes.items None (calls_in m) o)
-            (sym (passed g at.After-pass_locally)) kept,
-      );
+      fits = (fits.0, fits.1, rw (passed g at.After-pass_locally) kept);
       cpu = refl;
       stays = untouched_stays (λ k. opening_of k.opening) (λ k. no_site) (λ k. call_room k) (λ k c. HasKernel rules mv k c) m;
       others = λ p other fits. fits;
@@ -112,55 +93,43 @@ returns-in-Err-clause-framed g c =
 pub returns-in-Err-clause-seen : goal.returns-in-Err-clause-seen
 returns-in-Err-clause-seen g c =
     let at = goal.at.returns-in-Err-clause-seen g c in
-    let self = c.args.self.now in
-    let m = c.args.m.now in
     let fits = c.requires.fits in
-    let K = kernel g.E.SplitEdit.rules g.E.Moves.moves (opening_of m.opening) in
-    subst (λ o. SchedPolled K (Acts g at.Start) self.cpu (call_of g at.Start) (Some Done) (calls_in m) (calls_in m) self.own o)
-    (sym (passed g at.After-pass_locally)) (local_polled _ _ _ g.met.E.Moves.wakes_sleepers fits.1.starts fits.1.lawful fits.2 (call_of g at.Start)
+    rw (passed g at.After-pass_locally) (local_polled _ _ _ g.met.E.Moves.wakes_sleepers fits.1.starts fits.1.lawful fits.2 (call_of g at.Start)
     c.requires.call (is_local g at.In-Err) (Acts g at.Start))
 
 -- a call that is one at the shared queues
 
 taken : (g : Over) (c : After-take_answer g) → c.take_answer.new.own ≡ own_by g.E.Moves.moves (homes_in (opening_of c.args.m.now.opening))
     c.args.self.now.cpu (queue_told g.E.SplitEdit.told c.done-answer.result c.done-answer.new.payload) c.args.self.now.own
-taken g c = c.take_answer.ensures.own
-    ∙ ap (λ h. own_by g.E.Moves.moves h c.args.self.now.cpu (queue_told g.E.SplitEdit.told c.done-answer.result c.done-answer.new.payload) c.args.self.now.own)
-    (sym (c.requires.fits.2.homes ∙ sym c.as_slice-homes.ensures.value))
+taken g c = grind arith
 
 pub returns-in-Ok-clause-framed : goal.returns-in-Ok-clause-framed
 returns-in-Ok-clause-framed g c =
     let at = goal.at.returns-in-Ok-clause-framed g c in
-    let rules = g.E.SplitEdit.rules in
-    let mv = g.E.Moves.moves in
     let wakes = g.met.E.Moves.wakes_sleepers in
     let self = c.args.self.now in
     let fits = c.requires.fits in
     let done = at.After-done-answer in
-    let n = c.done-answer.new.self in
     let said = c.done-answer.ensures in
     record {
       fits = (
         fits.0,
         said.sound,
-        subst₂ (λ o x. SchedPartFits rules mv (opening_of o) self.cpu self.cpu self.homes.items None (calls_in n) x) (sym said.opening)
-            (sym (taken g at.After-take_answer))
-            (done_fits _ _ _ wakes fits.1.starts fits.1.lawful fits.2 (call_of g at.Start) c.requires.call (step_of g at.In-Ok) (is_shared g at.In-Ok)
-            {ActsFor = Acts g at.Start} (fits.0, fits.1) (polled g done) (legal g done) self.cpu None refl refl),
+        rw (said.opening, taken g at.After-take_answer) (done_fits _ _ _ wakes fits.1.starts fits.1.lawful fits.2 (call_of g at.Start) c.requires.call
+            (step_of g at.In-Ok) (is_shared g at.In-Ok) {ActsFor = Acts g at.Start} (fits.0, fits.1) (polled g done) (legal g done) self.cpu None refl refl),
       );
       cpu = refl;
       stays = record {
         opening = ap opening_of said.opening;
         site = refl;
-        room = less _ _ said.room;
+        room = (let less = said.room in omega arith);
         acts = λ d acts. (acts.0, said.sound);
       };
       others = λ p other theirs.
           let apart : same_cpu self.cpu p.cpu ≡ false = ne_eqb self.cpu.0 p.cpu.0 (λ e. other (sym (ap cpu_numbered e))) in (
             theirs.0,
             said.sound,
-            subst (λ o. SchedPartFits rules mv (opening_of o) p.cpu p.cpu p.homes.items None (calls_in n) p.own) (sym said.opening)
-                (other_fits _ _ _ wakes fits.1.starts (Acts g at.Start) self.cpu p.cpu _ _ _ (step_of g at.In-Ok) (Some (answer g done))
+            rw said.opening (other_fits _ _ _ wakes fits.1.starts (Acts g at.Start) self.cpu p.cpu _ _ _ (step_of g at.In-Ok) (Some (answer g done))
                 _ _ p.own (theirs.0, fits.1) apart (polled g done) (legal g done) theirs.2),
           );
       holders = λ d other acts held. held;
@@ -169,9 +138,7 @@ returns-in-Ok-clause-framed g c =
 pub returns-in-Ok-clause-seen : goal.returns-in-Ok-clause-seen
 returns-in-Ok-clause-seen g c =
     let at = goal.at.returns-in-Ok-clause-seen g c in
-    let self = c.args.self.now in
     let fits = c.requires.fits in
     let done = at.After-done-answer in
-    subst₂ (λ a x. SchedPolled (K g done) (Acts g at.Start) self.cpu (call_of g at.Start) (Some a) (calls_in c.args.m.now) (calls_in c.done-answer.new.self)
-    self.own x) (sym c.take_answer.ensures.answer) (sym (taken g at.After-take_answer)) (done_polled _ _ _ g.met.E.Moves.wakes_sleepers fits.1.starts
-    fits.1.lawful fits.2 (call_of g at.Start) c.requires.call (step_of g at.In-Ok) (is_shared g at.In-Ok) (fits.0, fits.1) (polled g done) (legal g done))
+    rw (c.take_answer.ensures.answer, taken g at.After-take_answer) (done_polled _ _ _ g.met.E.Moves.wakes_sleepers fits.1.starts fits.1.lawful fits.2
+    (call_of g at.Start) c.requires.call (step_of g at.In-Ok) (is_shared g at.In-Ok) (fits.0, fits.1) (polled g done) (legal g done))
