@@ -574,7 +574,7 @@ source_row 'who asks by a constant in lines that are right and lines that are wr
 # CPUs counted.
 source_row 'who stands on crossbeam_utils' cpu_workers "$(sed -nE 's/^([a-z_]+):.*\<crossbeam_utils\>.*/\1/p' crates.txt)"
 source_row 'who names it' cpu_workers "$(grep -rlw --include='*.rt' crossbeam_utils crates/*/src | cut -d/ -f2 | sort -u)"
-source_row 'who says of what kind a counted lock is' 'mctower/src/locks/kinds.rt: impl<L: OnLock> LockOfKind<L> for KindOf {' \
+source_row 'who says of what kind a counted lock is' 'mctower/src/locks/kinds.rt: impl<L: OwnedLocks<AddOne>> LockOfKind<L> for KindOf' \
   "$(cd crates && find . -path '*/src/*' -name '*.rt' -exec grep -HE '\<LockOfKind<.*> *for\>|^ *LockOfKind<.*>$' {} + | sed -e 's|^\./||' -e 's/:/: /')"
 source_row 'lines of more than 160 columns' '' "$(too_long .ci bench crates metal plans tests tools web)"
 

@@ -9,31 +9,30 @@ use Rattle.{event_log.proofs.DigitsLemmas.is_number-spelled, guest.specs.declare
 use Rattle.guest.specs.declared.instructions.{Register.TheVariants.{Reg1, Reg2, Reg3, Reg4, Reg5, Reg6, Reg7}, Source.TheVariants.{One as FromOne, First}}
 use Rattle.guest.specs.declared.instructions.{Into.TheVariants.{One as IntoOne, All as IntoAll}, Instruction.{Instruction, TheVariants.{Set, Add, Sub, Jnz}}}
 use Rattle.guest.specs.declared.{instructions.Instruction.TheVariants.{Send, Recv, Close, Yield, Exit}, refusals.GuestFault.{GuestFault, TheVariants.BadNumber}}
-use Rattle.guest.specs.{declared.refusals.GuestFault.TheVariants.BadTarget, Instructions.{IsSource, IsTarget, IsWithin}, Language.{or_fault, register_in}}
+use Rattle.guest.specs.{declared.refusals.GuestFault.TheVariants.{BadTarget, UnknownWord}, Instructions.{IsSource, IsTarget, IsWithin}}
+use Rattle.guest.specs.Language.{or_fault, register_in}
 use Rattle.guest.specs.Language.{word_in, buffer_in, words_in, target_in, pieces_in, line_in, one_piece, two_pieces, three_pieces, four_pieces}
 use Rattle.guest.specs.Spelling.{register_name, target_of, pieces_of, instruction_line}
 
--- which side of a choice was taken
-chosen : {A : Type 0} (b : Bool) (x y r : A) → (if b then x else y) ≡ r → ((b ≡ true) × (x ≡ r)) ⊎ ((b ≡ false) × (y ≡ r))
-chosen true x y r h = inl (refl, h)
-chosen false x y r h = inr (refl, h)
-
-same_text : (a b : List ℕ) → bytes_eq a b ≡ true → a ≡ b
-same_text a b h = (bytes_eq-Decides a b).0 h
+-- one word of a chain of words: what is read is that of this word, or it comes from the words behind
+word_or : {A P : Type 0} {y : A} {x rest : Result A GuestFault} (word name : List ℕ) → (if bytes_eq word name then x else rest) ≡ Ok y
+    → (word ≡ name → x ≡ Ok y → P) → (rest ≡ Ok y → P) → P
+word_or {P = P} {y = y} {x = x} {rest = rest} word name h here behind = go (bytes_eq word name) refl h
+  where
+    go : (b : Bool) → bytes_eq word name ≡ b → (if b then x else rest) ≡ Ok y → P
+    go true same is = here ((bytes_eq-Decides word name).0 same) is
+    go false other is = behind is
 
 -- what was read where something came of it
-bound : {A B : Type 0} (read : Result A GuestFault) (f : A → Result B GuestFault) (y : B) → (read >>= f) ≡ Ok y → (x : A) × (read ≡ Ok x) × (f x ≡ Ok y)
-bound (Ok x) f y h = (x, refl, h)
-bound (Err e) f y h = absurd (cc)
+part : {A B P : Type 0} {y : B} {S : A → Type 0} {read : Result A GuestFault} {f : A → Result B GuestFault} → ((x : A) → read ≡ Ok x → S x)
+    → ((x : A) → S x → f x ≡ Ok y → P) → (read >>= f) ≡ Ok y → P
+part {read = Ok x} spelled behind h = behind x (spelled x refl) h
+part {read = Err e} spelled behind h = absurd (cc)
 
 -- one name of the chain of the registers' names
 name_or : (piece : List ℕ) (q r : Register) (rest : Result Register GuestFault) → (rest ≡ Ok r → (piece ≡ register_name r) × Unit {0})
     → (if bytes_eq piece (register_name q) then Ok q else rest) ≡ Ok r → (piece ≡ register_name r) × Unit {0}
-name_or piece q r rest behind h =
-    elim (chosen (bytes_eq piece (register_name q)) (Ok q) rest (Ok r) h) [
-      | inl p ↦ let e : q ≡ r = (let is = p.1 in cc) in (subst (λ x. piece ≡ register_name x) e (same_text piece (register_name q) p.0), tt)
-      | inr n ↦ behind n.1
-    ]
+name_or piece q r rest behind h = word_or piece (register_name q) h (λ same is. let e : q ≡ r = cc in (rw e at same, tt)) behind
 
 register_spelled : (piece : List ℕ) (r : Register) → register_in piece ≡ Ok r → (piece ≡ register_name r) × Unit {0}
 unfolding register_in
@@ -53,18 +52,14 @@ word_spelled piece n h = let spelled = number_spelled BadNumber 1844674407370955
 
 buffer_spelled : (piece : List ℕ) (b : BufId) → buffer_in piece ≡ Ok b → (piece ≡ decimal b.0) × (b.0 < BUFFERS)
 unfolding buffer_in
-buffer_spelled piece b h =
-    let p = bound (or_fault BadNumber (number_to (BUFFERS - 1) piece)) (λ n. Ok (record { 0 = n })) b h in
-    let spelled = number_spelled BadNumber (BUFFERS - 1) piece p.0 (lit< tt) p.1 in
-    let same : record { 0 = p.0 } ≡ b = cc in
-    subst (λ (x : BufId). (piece ≡ decimal x.0) × (x.0 < BUFFERS)) same (spelled.0, omega arith)
+buffer_spelled piece b =
+    part (λ n. number_spelled BadNumber (BUFFERS - 1) piece n (lit< tt)) (λ n spelled h.
+    let same : record { 0 = n } ≡ b = cc in subst (λ (x : BufId). (piece ≡ decimal x.0) × (x.0 < BUFFERS)) same (spelled.0, omega arith))
 
 words_spelled : (piece : List ℕ) (n : ℕ) → words_in piece ≡ Ok n → (piece ≡ decimal n) × IsSource (First n)
 unfolding words_in
-words_spelled piece n h =
-    let p = bound (or_fault BadNumber (number_to REGISTERS piece)) (λ m. if m == 0 then Err BadNumber else Ok m) n h in
-    let spelled = number_spelled BadNumber REGISTERS piece p.0 (lit< tt) p.1 in
-    grind (arith, nat_tests)
+words_spelled piece n =
+    part (λ m. number_spelled BadNumber REGISTERS piece m (lit< tt)) (λ m spelled h. grind (arith, nat_tests))
 
 -- what it is that pieces are those of an instruction of a program of so many lines
 abbrev IsSpelledBy : ℕ → List (List ℕ) → Instruction → Type 0
@@ -78,94 +73,48 @@ module _ (count : ℕ) (some : 0 < count) (most : count ≤ 2 ^ 64) where
       grind arith
 
   module _ (word : List ℕ) (i : Instruction) where
-    -- one word of a chain of words: the instruction is that of this word, or it comes from the words behind
-    word_or : {P : Type 0} (name : List ℕ) (x rest : Result Instruction GuestFault)
-        → (word ≡ name → x ≡ Ok i → P) → (rest ≡ Ok i → P) → (if bytes_eq word name then x else rest) ≡ Ok i → P
-    word_or name x rest here behind h =
-        elim (chosen (bytes_eq word name) x rest (Ok i) h) [
-          | inl p ↦ here (same_text word name p.0) p.1
-          | inr n ↦ behind n.1
-        ]
+    done : {pieces : List (List ℕ)} (make : Instruction) → IsSpelledBy count pieces make → ◌≡◌ {A = Result Instruction GuestFault} (Ok make) (Ok i)
+        → IsSpelledBy count pieces i
+    done {pieces = pieces} make spelled h = let e : make ≡ i = cc in subst (IsSpelledBy count pieces) e spelled
 
-    -- an instruction that is read from its word and further pieces is spelled by them, where each piece is spelled by what is read from it
-    no_part : {name : List ℕ} {make : Instruction} → IsSpelledBy count (name ∷ []) make → word ≡ name → ◌≡◌ {A = Result Instruction GuestFault} (Ok make) (Ok i)
-        → IsSpelledBy count (word ∷ []) i
-    no_part {make = make} whole w h = let e : make ≡ i = cc in subst (IsSpelledBy count (word ∷ [])) e (cc, whole.1)
-
-    one_part : {A : Type 0} {a name : List ℕ} {read : Result A GuestFault} {spelling : A → List ℕ} {Fits : A → Type 0} (make : A → Instruction)
-        → ((x : A) → read ≡ Ok x → (a ≡ spelling x) × Fits x) → ((x : A) → Fits x → IsSpelledBy count (name ∷ spelling x ∷ []) (make x))
-        → word ≡ name → (read >>= λ x. Ok (make x)) ≡ Ok i → IsSpelledBy count (word ∷ a ∷ []) i
-    one_part {a = a} {read = read} make spelled whole w h =
-        let p = bound read (λ x. Ok (make x)) i h in
-        let e : make p.0 ≡ i = cc in
-        let first = spelled p.0 p.1 in
-        let all = whole p.0 first.1 in
-        subst (IsSpelledBy count (word ∷ a ∷ [])) e (cc, all.1)
-
-    two_parts : {A B : Type 0} {a b name : List ℕ} {read : Result A GuestFault} {read' : Result B GuestFault} {spelling : A → List ℕ}
-        {spelling' : B → List ℕ} {Fits : A → Type 0} {Fits' : B → Type 0} (make : A → B → Instruction)
-        → ((x : A) → read ≡ Ok x → (a ≡ spelling x) × Fits x) → ((y : B) → read' ≡ Ok y → (b ≡ spelling' y) × Fits' y)
-        → ((x : A) (y : B) → Fits x → Fits' y → IsSpelledBy count (name ∷ spelling x ∷ spelling' y ∷ []) (make x y))
-        → word ≡ name → (read >>= λ x. read' >>= λ y. Ok (make x y)) ≡ Ok i → IsSpelledBy count (word ∷ a ∷ b ∷ []) i
-    two_parts {a = a} {b = b} {read = read} {read' = read'} make spelled spelled' whole w h =
-        let p = bound read (λ x. read' >>= λ y. Ok (make x y)) i h in
-        let q = bound read' (λ y. Ok (make p.0 y)) i p.2 in
-        let e : make p.0 q.0 ≡ i = cc in
-        let first = spelled p.0 p.1 in
-        let second = spelled' q.0 q.1 in
-        let all = whole p.0 q.0 first.1 second.1 in
-        subst (IsSpelledBy count (word ∷ a ∷ b ∷ [])) e (cc, all.1)
-
-    -- and so with a line behind
-    three_parts : {A B : Type 0} {a b c name : List ℕ} {read : Result A GuestFault} {read' : Result B GuestFault} {spelling : A → List ℕ}
-        {spelling' : B → List ℕ} {Fits : A → Type 0} {Fits' : B → Type 0} (make : A → B → ℕ → Instruction)
-        → ((x : A) → read ≡ Ok x → (a ≡ spelling x) × Fits x) → ((y : B) → read' ≡ Ok y → (b ≡ spelling' y) × Fits' y)
-        → ((x : A) (y : B) (k : ℕ) → Fits x → Fits' y → k < count → IsSpelledBy count (name ∷ spelling x ∷ spelling' y ∷ decimal k ∷ []) (make x y k))
-        → word ≡ name → (read >>= λ x. read' >>= λ y. target_in count c >>= λ k. Ok (make x y k)) ≡ Ok i → IsSpelledBy count (word ∷ a ∷ b ∷ c ∷ []) i
-    three_parts {a = a} {b = b} {c = c} {read = read} {read' = read'} make spelled spelled' whole w h =
-        let p = bound read (λ x. read' >>= λ y. target_in count c >>= λ k. Ok (make x y k)) i h in
-        let q = bound read' (λ y. target_in count c >>= λ k. Ok (make p.0 y k)) i p.2 in
-        let r = bound (target_in count c) (λ k. Ok (make p.0 q.0 k)) i q.2 in
-        let e : make p.0 q.0 r.0 ≡ i = cc in
-        let first = spelled p.0 p.1 in
-        let second = spelled' q.0 q.1 in
-        let third = target_spelled c r.0 r.1 in
-        let all = whole p.0 q.0 r.0 first.1 second.1 third.1 in
-        subst (IsSpelledBy count (word ∷ a ∷ b ∷ c ∷ [])) e (cc, all.1)
+    unknown : {P : Type 0} → ◌≡◌ {A = Result Instruction GuestFault} (Err UnknownWord) (Ok i) → P
+    unknown bad = absurd (cc)
 
     one_spelled : one_piece word ≡ Ok i → IsSpelledBy count (word ∷ []) i
     unfolding one_piece
-    one_spelled = word_or (codes "yield") _ _ (no_part (refl, tt)) (word_or (codes "exit") _ _ (no_part (refl, tt)) (λ bad. absurd (cc)))
+    one_spelled h = word_or word (codes "yield") h (λ w. done Yield (cc, tt)) (λ h. word_or word (codes "exit") h (λ w. done Exit (cc, tt)) unknown)
 
     two_spelled : (a : List ℕ) → two_pieces word a ≡ Ok i → IsSpelledBy count (word ∷ a ∷ []) i
     unfolding two_pieces
-    two_spelled a =
-        word_or (codes "close") _ _ (one_part Close (buffer_spelled a) (λ b p. (refl, p))) (
-        word_or (codes "recvm") _ _ (one_part (λ b. Recv b IntoAll None) (buffer_spelled a) (λ b p. (refl, (p, tt)))) (λ bad. absurd (cc)))
+    two_spelled a h =
+        word_or word (codes "close") h (λ w. part (buffer_spelled a) (λ b p. done (Close b) (cc, p.1))) (λ h.
+        word_or word (codes "recvm") h (λ w. part (buffer_spelled a) (λ b p. done (Recv b IntoAll None) (cc, (p.1, tt)))) unknown)
 
     three_spelled : (a b : List ℕ) → three_pieces count word a b ≡ Ok i → IsSpelledBy count (word ∷ a ∷ b ∷ []) i
     unfolding three_pieces
-    three_spelled a b =
-        word_or (codes "set") _ _ (two_parts Set (register_spelled a) (word_spelled b) (λ r n p q. (refl, q))) (
-        word_or (codes "add") _ _ (two_parts Add (register_spelled a) (register_spelled b) (λ r s p q. (refl, tt))) (
-        word_or (codes "sub") _ _ (two_parts Sub (register_spelled a) (register_spelled b) (λ r s p q. (refl, tt))) (
-        word_or (codes "jnz") _ _ (two_parts Jnz (register_spelled a) (target_spelled b) (λ r k p q. (refl, q))) (
-        word_or (codes "send") _ _ (two_parts (λ n r. Send n (FromOne r) None) (buffer_spelled a) (register_spelled b) (λ n r p q. (refl, (p, tt, tt)))) (
-        word_or (codes "recv") _ _ (two_parts (λ n r. Recv n (IntoOne r) None) (buffer_spelled a) (register_spelled b) (λ n r p q. (refl, (p, tt)))) (
-        word_or (codes "sendm") _ _ (two_parts (λ n m. Send n (First m) None) (buffer_spelled a) (words_spelled b) (λ n m p q. (refl, (p, q, tt)))) (
-        word_or (codes "recvm") _ _ (two_parts (λ n k. Recv n IntoAll (Some k)) (buffer_spelled a) (target_spelled b) (λ n k p q. (refl, (p, q)))) (
-        λ bad. absurd (cc)))))))))
+    three_spelled a b h =
+        word_or word (codes "set") h (λ w. part (register_spelled a) (λ r p. part (word_spelled b) (λ n q. done (Set r n) (cc, q.1)))) (λ h.
+        word_or word (codes "add") h (λ w. part (register_spelled a) (λ r p. part (register_spelled b) (λ s q. done (Add r s) (cc, tt)))) (λ h.
+        word_or word (codes "sub") h (λ w. part (register_spelled a) (λ r p. part (register_spelled b) (λ s q. done (Sub r s) (cc, tt)))) (λ h.
+        word_or word (codes "jnz") h (λ w. part (register_spelled a) (λ r p. part (target_spelled b) (λ k q. done (Jnz r k) (cc, q.1)))) (λ h.
+        word_or word (codes "send") h (λ w. part (buffer_spelled a) (λ n p. part (register_spelled b)
+        (λ r q. done (Send n (FromOne r) None) (cc, (p.1, tt, tt))))) (λ h.
+        word_or word (codes "recv") h (λ w. part (buffer_spelled a) (λ n p. part (register_spelled b)
+        (λ r q. done (Recv n (IntoOne r) None) (cc, (p.1, tt))))) (λ h.
+        word_or word (codes "sendm") h (λ w. part (buffer_spelled a) (λ n p. part (words_spelled b)
+        (λ m q. done (Send n (First m) None) (cc, (p.1, q.1, tt))))) (λ h.
+        word_or word (codes "recvm") h (λ w. part (buffer_spelled a) (λ n p. part (target_spelled b)
+        (λ k q. done (Recv n IntoAll (Some k)) (cc, (p.1, q.1))))) unknown)))))))
 
     four_spelled : (a b c : List ℕ) → four_pieces count word a b c ≡ Ok i → IsSpelledBy count (word ∷ a ∷ b ∷ c ∷ []) i
     unfolding four_pieces
-    four_spelled a b c =
-        word_or (codes "send") _ _ (three_parts (λ n r k. Send n (FromOne r) (Some k)) (buffer_spelled a) (register_spelled b)
-        (λ n r k p q s. (refl, (p, tt, s)))) (
-        word_or (codes "recv") _ _ (three_parts (λ n r k. Recv n (IntoOne r) (Some k)) (buffer_spelled a) (register_spelled b)
-        (λ n r k p q s. (refl, (p, s)))) (
-        word_or (codes "sendm") _ _ (three_parts (λ n m k. Send n (First m) (Some k)) (buffer_spelled a) (words_spelled b)
-        (λ n m k p q s. (refl, (p, q, s)))) (
-        λ bad. absurd (cc))))
+    four_spelled a b c h =
+        word_or word (codes "send") h (λ w. part (buffer_spelled a) (λ n p. part (register_spelled b) (λ r q. part (target_spelled c)
+        (λ k s. done (Send n (FromOne r) (Some k)) (cc, (p.1, tt, s.1)))))) (λ h.
+        word_or word (codes "recv") h (λ w. part (buffer_spelled a) (λ n p. part (register_spelled b) (λ r q. part (target_spelled c)
+        (λ k s. done (Recv n (IntoOne r) (Some k)) (cc, (p.1, s.1)))))) (λ h.
+        word_or word (codes "sendm") h (λ w. part (buffer_spelled a) (λ n p. part (words_spelled b) (λ m q. part (target_spelled c)
+        (λ k s. done (Send n (First m) (Some k)) (cc, (p.1, q.1, s.1)))))) unknown))
 
   pieces_spelled : (pieces : List (List ℕ)) (i : Instruction) → pieces_in count pieces ≡ Ok i → IsSpelledBy count pieces i
   pieces_spelled [] i h = absurd (cc)
@@ -227,10 +176,7 @@ line_split count (Send b (FromOne r) k) most within =
 line_split count (Send b (First m) k) most within =
     split_again _ _ (
       no_space (codes "sendm") refl,
-      (
-        decimal_no_space b.0 (omega arith),
-        (decimal_no_space m (omega arith), target_no_space count k most within.2),
-      ),
+      (decimal_no_space b.0 (omega arith), (decimal_no_space m (omega arith), target_no_space count k most within.2)),
     )
 line_split count (Recv b (IntoOne r) k) most within =
     split_again _ _ (no_space (codes "recv") refl, (decimal_no_space b.0 (omega arith), (name_no_space r, target_no_space count k most within.1)))

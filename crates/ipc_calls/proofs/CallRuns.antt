@@ -1,5 +1,5 @@
 -- Runs of polls of a call on a buffer that is there are runs of polls of the buffers beneath.
-use Rattle.std.proofs.{Common.{◌≡◌, ℕ, ◌<◌, ◌≤◌, Bool, true, List, [], Option, Some, None, length, refl, ap, arith}, lemmas.Bool.{le-ltb, lt-ltb}}
+use Rattle.std.proofs.{Common.{◌≡◌, ℕ, ◌+◌, ◌<◌, ◌≤◌, Bool, true, List, [], Option, Some, None, length, refl, ap, arith}, lemmas.Bool.{le-ltb, lt-ltb}}
 use Rattle.layer_traits.specs.{Blocks.{Capacities.caps_in, QueueBlocks.homes_in}, declared.{call_layers.CallLayer.Ghosts, calls.{Call.Call, Reply.Reply}}}
 use Rattle.layer_traits.specs.{declared.calls.ReplyKind.{ReplyKind, TheVariants.NoBuffer as Refuses}, Layers.BufferLaw.{BufferPlan, Buffering, buffer_of}}
 use Rattle.layer_traits.specs.{Layers.{BufferLaw.fifo_plan, IpcLaw.ipc_plan}, Polling.{Framed.Framed, LayerPolls.{IsBegunAt, LookedAt, PolledAt, PolledOnAt}}}
@@ -77,13 +77,7 @@ module _ {P L M : Type 0} (B : Ghosts P L M) (start : Ipc P) where
       under_way = λ some. absurd (omega arith);
       moves = record { others = []; mine = []; foreign = λ d acts. tt; own = tt; is = refl };
       prompt = λ whole none. absurd cc;
-      framed = record {
-        fits = fits;
-        cpu = refl;
-        stays = record { opening = refl; site = refl; room = omega arith; acts = λ d acts. acts };
-        others = λ p other fits. fits;
-        holders = λ d other acts held. held;
-      };
+      framed = (let room : B.room m ≤ B.room m + 1 = omega arith in assumption);
       follows = λ stepwise. rw (le-ltb (buffer_of call).0 (length (caps_in (B.opening m))) none) (refl, refl);
     }
 
@@ -100,17 +94,14 @@ module _ {P L M : Type 0} (B : Ghosts P L M) (start : Ipc P) where
       follows = λ stepwise. rw (lt-ltb (buffer_of call).0 (length (caps_in (B.opening m))) there) (polled.follows stepwise);
     }
 
-    quiet_over : (p q : P) → IsBegunAt B plan_below t call p q → IsBegunAt (tells B) ipc_plan t call (over p) (over q)
-    quiet_over p q quiet = record { runs = quiet.runs; effect = quiet.effect }
-
     pub ran_over : (p : P) (m : M) (actions : ℕ) (q : P) (n : M) (told : Option ReplyKind) → (buffer_of call).0 < length (caps_in (B.opening m)) → Keeps p m
         → PolledOnAt B plan_below t call p m actions q n told → PolledOnAt (tells B) ipc_plan t call (over p) m actions (over q) n told
     ran_over p m _ q n told there keeps (once polled) = once (polled_over p q m n told there keeps polled)
     ran_over p m _ r o told there keeps (again {k = k} {q = q} {n = n} run quiet polled) =
         let so_far : Kept B plan_below t call p m k q n = run_kept B plan_below t call p m k q n None run in
-        again (ran_over p m k q n None there keeps run) (quiet_over p q quiet)
+        again (ran_over p m k q n None there keeps run) (record { runs = quiet.runs; effect = quiet.effect })
         (polled_over q r n o told (rw so_far.opening there) (keeps_on p q m n so_far.cpu so_far.opening keeps) polled)
     ran_over p m _ r o _ there keeps (looks {k = k} {q = q} {n = n} run quiet looked) =
         let so_far : Kept B plan_below t call p m k q n = run_kept B plan_below t call p m k q n None run in
-        looks (ran_over p m k q n None there keeps run) (quiet_over p q quiet)
+        looks (ran_over p m k q n None there keeps run) (record { runs = quiet.runs; effect = quiet.effect })
         (looked_over q r n o true (keeps_on p q m n so_far.cpu so_far.opening keeps) looked)

@@ -1,30 +1,21 @@
 -- Facts on what is wrong with the words of a command line.
-use Rattle.std.proofs.Common.{◌≡◌, ◌≢◌, ◌∙◌, ◌<◌, [], ℕ, zero, suc, Bool, true, false, List, Option, Some, None, refl, sym, subst, ap, option_map, arith}
-use Rattle.std.{proofs.{Common.{get_or, length, lit≤}, lemmas.{Bool.leb-true, List.{get_or-take, length-take, Sums.fails_before_first}}}, specs.Prelude.All}
+use Rattle.std.proofs.Common.{◌≡◌, ◌≢◌, ◌∙◌, ◌<◌, ℕ, Bool, true, false, List, Option, Some, None, refl, sym, subst, ap, option_map, arith}
+use Rattle.std.proofs.{Common.{get_or, length, lit≤}, lemmas.{Bool.leb-true, List.{Elements.All-from_recursion, get_or-take, length-take}}}
+use Rattle.std.{proofs.lemmas.List.Sums.fails_before_first, specs.Prelude.All}
 use Rattle.std.specs.{Prelude.{codes, if◌then◌else◌, nat_le, unwrap_or}, Borrow.Bor, List.{before_first, position_or_len}}
-use Rattle.clap.{specs.{Matches.first_value, Walk.{first_of, rows_of}, declared.parser.matches.Found.Found}, proofs.WalkLemmas.first_value-rows}
-use Rattle.mctower.specs.{Faults.{IsShown, value_at, option_name}, Print.{is_line_feed, shown_line}, declared.refusals.line_faults.ValueOption.ValueOption}
-
-abbrev pub Text : Type 0
-Text = List ℕ
+use Rattle.mctower.specs.{Faults.IsShown, Print.{is_line_feed, shown_line}}
 
 -- what is read of a reference or of another in its place
-behind : (value : Option (Bor Text)) (other : Bor Text) → (unwrap_or value other).now ≡ unwrap_or (option_map (λ (s : Bor Text). s.now) value) other.now
+pub behind : (value : Option (Bor (List ℕ))) (other : Bor (List ℕ))
+    → (unwrap_or value other).now ≡ unwrap_or (option_map (λ (s : Bor (List ℕ)). s.now) value) other.now
 behind None other = refl
 behind (Some text) other = refl
-
--- the value of an option is its first, or the empty text
-pub value_found : (option : ValueOption) (found : Found) (name : Text) (value : Option (Bor Text)) (other : Bor Text) → name ≡ option_name option
-    → option_map (λ (s : Bor Text). s.now) value ≡ first_value found name → other.now ≡ [] → (unwrap_or value other).now ≡ value_at option (rows_of found)
-value_found option found name value other named is empty =
-    behind value other ∙ ap (λ e. unwrap_or (option_map (λ (s : Bor Text). s.now) value) e) empty
-    ∙ ap (λ (v : Option Text). unwrap_or v []) (is ∙ first_value-rows found name ∙ ap (λ n. first_of n (rows_of found)) named)
 
 -- ---- what is shown in a line
 
 -- a byte that ends no line is no line feed
 other : (byte : ℕ) → is_line_feed byte ≡ false → byte ≢ 10
-other byte ends_none same = let ten : is_line_feed 10 ≡ false = subst (λ (b : ℕ). is_line_feed b ≡ false) same ends_none in absurd (cc ten)
+other byte ends_none same = absurd (cc (rw same at ends_none))
 
 -- no byte before the first line feed is one
 before : (text : List ℕ) → All (λ byte. byte ≢ 10) (before_first is_line_feed text)
@@ -35,12 +26,7 @@ before text k d below =
 
 -- two dots may be shown
 dots : IsShown (codes "..")
-dots = (lit≤ tt, two)
-  where
-    two : All (λ byte. byte ≢ 10) (codes "..")
-    two zero d below = λ same. absurd (cc same)
-    two (suc zero) d below = λ same. absurd (cc same)
-    two (suc (suc k)) d below = absurd (omega (arith, below))
+dots = (lit≤ tt, All-from_recursion (λ byte. byte ≢ 10) (codes "..") ((λ same. omega (arith, same)), ((λ same. omega (arith, same)), tt)))
 
 -- and so may what is shown of any text
 pub may_be_shown : (text : List ℕ) → IsShown (shown_line text)

@@ -1,9 +1,7 @@
 mod LineLemmas
 mod FaultLemmas
-mod HelpLemmas
 mod ScheduleLemmas
 mod CountLemmas
-mod ListLemmas
 mod ReadingLemmas
 mod OrderNumbers
 mod SpellingLemmas

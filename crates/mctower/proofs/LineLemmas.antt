@@ -1,16 +1,13 @@
 -- Facts on the reading of the command line.
-use Rattle.std.proofs.Common.{◌≡◌, ◌≤◌, ◌<◌, ◌^◌, ◌∙◌, ◌∷◌, [], inl, inr, ℕ, Bool, true, false, List, codes, Option, Some, None, refl, sym, subst, ap, ap₂}
-use Rattle.std.specs.{Prelude.{if◌then◌else◌, option_and_then, IfOk, Result, Ok, Err}, Str.Parse.{IsNumeral, digits_value, without_leading_plus}}
-use Rattle.clap.specs.{Built.AddsSubcommand, Matches.first_value, Faults.{fault_of, is_simple_and_free}, Kinds.{FailsBy, HasKind, Kinds}, Simple.App}
-use Rattle.clap.specs.{Simple.{HasMatchesOf, app_of, is_simple, subcommand_of, subcommand_rows_of, with_subcommand}, Values.kind_of, ValueTests.is_unsigned_in}
-use Rattle.clap.specs.{Walk.{first_of, rows_of}, declared.{builder.command.Command.{Command, TheViews.out-Command}, error.Error.Error}}
-use Rattle.clap.specs.declared.{error.kind.ErrorKind.TheVariants.OutOfMemory, parser.matches.{ArgMatches.ArgMatches, Found.Found}}
-use Rattle.clap.proofs.{OnLiterals.clap_on_literals, ValueTestLemmas.{accepts-Accepts, Accepts-accepts}, WalkLemmas.first_value-rows}
-use Rattle.mctower.specs.Line.{Parses, faults_of, found_in, is_faultless, is_taken, lock_asked, run_in, Ghost, run, option_number, number_in, program}
+use Rattle.std.proofs.Common.{◌≡◌, ◌≤◌, ◌<◌, ◌^◌, ◌∙◌, ◌∷◌, [], inl, inr, ℕ, true, false, List, Some, None, refl, sym, subst, ap, ap₂}
+use Rattle.std.{proofs.lemmas.Bool.false_from_ne_true, specs.{Prelude.{if◌then◌else◌, IfOk, Result, Ok, Err}, Str.Parse.{IsNumeral, digits_value}}}
+use Rattle.std.specs.Str.Parse.{without_leading_plus}
+use Rattle.clap.specs.{Built.AddsSubcommand, Faults.{fault_of, is_simple_and_free}, Kinds.{FailsBy, HasKind, Kinds}, Simple.{App, HasMatchesOf, app_of}}
+use Rattle.clap.specs.{Simple.{is_simple, subcommand_of, subcommand_rows_of, with_subcommand}, Values.kind_of, ValueTests.is_unsigned_in, Walk.Text}
+use Rattle.clap.specs.declared.{builder.command.Command.{Command, TheViews.out-Command}, error.{Error.Error, kind.ErrorKind.TheVariants.OutOfMemory}}
+use Rattle.clap.{specs.declared.parser.matches.ArgMatches.ArgMatches, proofs.{OnLiterals.clap_on_literals, ValueTestLemmas.{accepts-Accepts, Accepts-accepts}}}
+use Rattle.mctower.specs.Line.{Parses, faults_of, found_in, is_faultless, is_taken, number_in, program}
 use Rattle.clap.specs.declared.builder.value_parser.ValueParser.TheVariants as vp
-
-abbrev pub Text : Type 0
-Text = List ℕ
 
 -- ---- numbers
 
@@ -24,24 +21,9 @@ number_taken least most n text numeral below same low high =
 -- a text that is no number of 64 bits has no number in any range
 pub number_refused : (least most : ℕ) (text : Text) → ((IsNumeral 10 (without_leading_plus text) × (digits_value 10 (without_leading_plus text) < 2 ^ 64)) → ⊥)
     → None ≡ number_in least most text
-number_refused least most text none = go (is_unsigned_in least most text) refl where
-  go : (b : Bool) → is_unsigned_in least most text ≡ b → None ≡ (if b then Some (digits_value 10 (without_leading_plus text)) else None)
-  go true e = let all = accepts-Accepts false (vp.Unsigned least most) text e in absurd (none (all.0, all.1))
-  go false e = refl
-
--- the number of an option is the one of its first value
-pub number_found : (least most : ℕ) (name : Text) (found : Found) (text : Option Text) → text ≡ first_value found name
-    → option_and_then (number_in least most) text ≡ option_number least most name (rows_of found)
-number_found least most name found text e = ap (option_and_then (number_in least most)) (e ∙ first_value-rows found name)
-
--- the schedule of `run` is its option's first value
-pub schedule_found : (found : Found) (text : Option Text) → text ≡ first_value found (codes "schedule") → run_in (rows_of found) ≡ Some (run text)
-schedule_found found text e = let as_order : Option Text → Option Ghost = λ t. Some (run t) in sym (ap as_order (e ∙ first_value-rows found (codes "schedule")))
-
--- the lock that is asked for is that of its option's first value
-pub lock_found : (found : Found) (text : Option Text) → text ≡ first_value found (codes "lock")
-    → lock_asked text ≡ lock_asked (first_of (codes "lock") (rows_of found))
-lock_found found text e = ap lock_asked (e ∙ first_value-rows found (codes "lock"))
+number_refused least most text none =
+    rw (false_from_ne_true (is_unsigned_in least most text) (λ e.
+    let all = accepts-Accepts false (vp.Unsigned least most) text e in none (all.0, all.1))) refl
 
 -- ---- the program's commands
 

@@ -1,9 +1,12 @@
 -- The order of a system's traces has a spelling: there are few entries, and their numbers are in range.
-use Rattle.std.proofs.Common.{◌≡◌, ℕ, zero, suc, ◌+◌, ◌<◌, ◌≤◌, Bool, List, [], ◌∷◌, ◌++◌, length, set, Some, refl, sym, ap, ◌∙◌, subst, arith, inl, inr}
-use Rattle.std.{proofs.lemmas.List.{length-set, length_push, Sums.count_by-le-length}, specs.{Prelude.{slice_get, ◌==◌, ◌&&◌}, List.AllByRecursion}}
-use Rattle.event_log.specs.{declared.entries.{Entry.Entry, Kind.{Kind, TheVariants.{Send, Recv, Close, SendClosed, RecvClosed}}}, Runs.{kind_eq, IsNext}}
+use Rattle.std.proofs.Common.{◌≡◌, ℕ, zero, suc, ◌+◌, ◌<◌, ◌≤◌, Bool, List, [], ◌∷◌, ◌++◌, length, set, Some, sym, ap, ◌∙◌, arith, inl, inr}
+use Rattle.std.proofs.lemmas.{Bool.cases_eq, List.{length-map, length-set, length_push, Sums.count_by-le-length}, Option.slice_get_within}
+use Rattle.std.specs.{Prelude.{slice_get, ◌==◌, ◌&&◌}, List.AllByRecursion}
+use Rattle.event_log.specs.declared.{ids.TheConstants.{CPUS, ENTRIES, THREADS}, entries.{Entry.Entry, Kind.{Kind, TheVariants.{Send, Recv, Close, RecvClosed}}}}
+use Rattle.event_log.specs.Runs.{kind_eq, IsNext}
 use Rattle.event_log.specs.{Runs.{IsRunFrom, after_entry}, Traces.IsInterleaving, Buffers.{IsAllowedEffect, items_of, empty_buffers, after_effect}}
-use Rattle.{event_log.specs.Messages.{IsMessage, Message}, tracer.specs.TraceText.IsValueOf, mctower.proofs.ListLemmas.get_set}
+use Rattle.{event_log.specs.Messages.{IsMessage, Message}, tracer.specs.TraceText.{IsEntryOf, IsValueOf}, event_log.proofs.ListLemmas.{set_else, set_there}}
+use Rattle.cpu.{specs.Claims.{HasOneOrder, Shown}, proofs.ListFacts.ListReads.all_both}
 
 -- what holds of the entries of all traces holds of the entries of an order
 pub order_all : (P : Entry → Type 0) (traces : List (List Entry)) (order : List Entry)
@@ -13,9 +16,11 @@ order_all P traces (e ∷ order) each keeps =
     let here : AllByRecursion P (e ∷ keeps.1) = each keeps.0 (e ∷ keeps.1) keeps.2 in (
       here.0,
       order_all P (set traces keeps.0 keeps.1) order
-          (λ k trace at. elim (get_set traces keeps.0 k keeps.1 trace at) [
-            | inl same ↦ subst (λ (l : List Entry). AllByRecursion P l) same.1 here.1
-            | inr other ↦ each k trace other.1
+          (λ k trace at. elim (cases_eq k keeps.0) [
+            | inl same ↦
+                let is : keeps.1 ≡ trace = cc (set_there traces keeps.0 keeps.1 (slice_get_within traces keeps.0 (e ∷ keeps.1) keeps.2)) in
+                rw is at here.1
+            | inr other ↦ each k trace (sym (set_else traces keeps.0 k keeps.1 other) ∙ at)
           ])
           keeps.3,
     )
@@ -23,40 +28,32 @@ order_all P traces (e ∷ order) each keeps =
 -- the message of an allowed effect is one of its kind
 value_allowed : (kind : Kind) (closed : Bool) (capacity : ℕ) (items : List Message) (value : Message) → IsAllowedEffect kind closed capacity items value
     → IsMessage value → IsValueOf kind value
-value_allowed Send closed capacity items value allowed small = small
-value_allowed Recv closed capacity items value allowed small = small
 value_allowed Close closed capacity items value allowed small = allowed
-value_allowed SendClosed closed capacity items value allowed small = small
 value_allowed RecvClosed closed capacity items value allowed small = allowed.2
+value_allowed other closed capacity items value allowed small = small
 
--- the numbers of a run's entries are below any number that is not below its length, and their messages are of their kinds
-pub run_numbers : (n : ℕ) (caps : List ℕ) (earlier : List Entry) (contents : List (List Message)) (es : List Entry) (left : List (List Message))
-    → length earlier + length es ≤ n → IsRunFrom caps earlier contents es left
-    → AllByRecursion (λ e. (e.buffer.0 < length caps) × (e.op < n) × (e.pos < n) × (IsMessage e.value → IsValueOf e.kind e.value)) es
-run_numbers n caps earlier contents [] left few run = tt
-run_numbers n caps earlier contents (e ∷ es) left few run =
+-- the numbers of a run's entries are in range where there are few entries, and their messages are of their kinds
+pub run_entries : (caps : List ℕ) (earlier : List Entry) (contents : List (List Message)) (es : List Entry) (left : List (List Message))
+    → length earlier + length es ≤ ENTRIES → IsRunFrom caps earlier contents es left → AllByRecursion (λ e. (e.cpu.0 < CPUS) × (e.thread.0 < THREADS)) es
+    → AllByRecursion (λ e. IsMessage e.value) es → AllByRecursion (IsEntryOf (length caps)) es
+run_entries caps earlier contents [] left few run own values = tt
+run_entries caps earlier contents (e ∷ es) left few run own values =
     let is : IsNext caps earlier contents e = run.0 in
-    let op : e.op ≤ length earlier = omega (arith, is.op, count_by-le-length (λ (x : Entry). x.buffer.0 == e.buffer.0) earlier) in
-    let pos : e.pos ≤ length earlier = omega (arith, is.pos, count_by-le-length (λ (x : Entry). (x.buffer.0 == e.buffer.0) && kind_eq x.kind e.kind) earlier) in
-    let fits : length (earlier ++ e ∷ []) + length es ≤ n = rw length_push (omega arith) in (
-      (is.known, omega arith, omega arith, value_allowed e.kind _ _ _ e.value is.allowed),
-      run_numbers n caps (earlier ++ e ∷ [])
-          (after_entry contents e) es left fits run.1,
+    let op : e.op < ENTRIES = omega (arith, is.op, count_by-le-length (λ (x : Entry). x.buffer.0 == e.buffer.0) earlier) in
+    let pos : e.pos < ENTRIES =
+    omega (arith, is.pos, count_by-le-length (λ (x : Entry). (x.buffer.0 == e.buffer.0) && kind_eq x.kind e.kind) earlier) in
+    let fits : length (earlier ++ e ∷ []) + length es ≤ ENTRIES = rw length_push (omega arith) in (
+      assumption (own.0, is, op, pos, value_allowed e.kind _ _ _ e.value is.allowed values.0),
+      run_entries caps (earlier ++ e ∷ []) (after_entry contents e) es left fits run.1 own.1 values.1,
     )
 
 -- what holds of the values of a run's entries holds of what the buffers hold
-push_all : (P : Message → Type 0) (xs : List Message) (x : Message) → AllByRecursion P xs → P x → AllByRecursion P (xs ++ x ∷ [])
-push_all P [] x all here = (here, tt)
-push_all P (y ∷ xs) x all here = (all.0, push_all P xs x all.1 here)
-
 effect_all : (P : Message → Type 0) (kind : Kind) (items : List Message) (value : Message) → AllByRecursion P items → P value
     → AllByRecursion P (after_effect kind items value)
-effect_all P Send items value all here = push_all P items value all here
+effect_all P Send items value all here = all_both P items (value ∷ []) all (here, tt)
 effect_all P Recv [] value all here = tt
 effect_all P Recv (x ∷ items) value all here = all.1
-effect_all P Close items value all here = all
-effect_all P SendClosed items value all here = all
-effect_all P RecvClosed items value all here = all
+effect_all P other items value all here = all
 
 items_all : (P : Message → Type 0) (contents : List (List Message)) (b : ℕ) → AllByRecursion (λ items. AllByRecursion P items) contents
     → AllByRecursion P (items_of contents b)
@@ -77,7 +74,7 @@ empty_values P (capacity ∷ caps) = (tt, empty_values P caps)
 pub run_values : (P : Message → Type 0) (caps : List ℕ) (earlier : List Entry) (contents : List (List Message)) (es : List Entry) (left : List (List Message))
     → AllByRecursion (λ items. AllByRecursion P items) contents → AllByRecursion (λ e. P e.value) es → IsRunFrom caps earlier contents es left
     → AllByRecursion (λ items. AllByRecursion P items) left
-run_values P caps earlier contents [] left now all run = subst (λ l. AllByRecursion (λ items. AllByRecursion P items) l) run now
+run_values P caps earlier contents [] left now all run = rw run at now
 run_values P caps earlier contents (e ∷ es) left now all run =
     run_values P caps (earlier ++ e ∷ []) (after_entry contents e) es left
     (set_all P contents e.buffer.0 (after_effect e.kind (items_of contents e.buffer.0) e.value) now
@@ -90,6 +87,6 @@ run_length caps earlier contents [] left run = sym (ap length run)
 run_length caps earlier contents (e ∷ es) left run =
     run_length caps (earlier ++ e ∷ []) (after_entry contents e) es left run.1 ∙ length-set contents e.buffer.0 _
 
-pub empty_length : (caps : List ℕ) → length (empty_buffers caps) ≡ length caps
-empty_length [] = refl
-empty_length (capacity ∷ caps) = ap suc (empty_length caps)
+-- there are as many contents as buffers
+pub contents_length : (s : Shown) → HasOneOrder s → length s.contents ≡ length s.caps
+contents_length s one = run_length s.caps [] (empty_buffers s.caps) s.order s.contents one.run ∙ length-map s.caps _

@@ -51,7 +51,7 @@ no_star text digits =
     let not : nat_lt (length text) (length text) ≡ false = grind (arith, nat_tests) in
     ap (λ at. nat_lt at (length text)) end ∙ not
 
-pub digit_small : (c digit : ℕ) → is_ascii_digit c ≡ true → digit ≡ c - 48 → digit ≤ 9
+digit_small : (c digit : ℕ) → is_ascii_digit c ≡ true → digit ≡ c - 48 → digit ≤ 9
 digit_small c digit is value = grind (arith, nat_tests)
 
 -- the first digit
@@ -67,6 +67,14 @@ first_digit text digit inside is value =
 pub digit_more : (text : List ℕ) (count number digit : ℕ) → ReadsUpTo 255 text count number → count < length text → is_ascii_digit (get_or text count 0) ≡ true
     → digit ≡ get_or text count 0 - 48 → number * 10 + digit ≤ 255 → ReadsUpTo 255 text (count + 1) (number * 10 + digit)
 digit_more text count number digit read inside is value small = rw value (reads_one_more 255 text count number read inside is (rw value at small))
+
+-- two digits
+pub two_digits : (text : List ℕ) (first second : ℕ) → (0 < length text) × (is_ascii_digit (get_or text 0 0) ≡ true) → first ≡ get_or text 0 0 - 48
+    → (1 < length text) × (is_ascii_digit (get_or text 1 0) ≡ true) → second ≡ get_or text 1 0 - 48 → ReadsUpTo 255 text 2 (first * 10 + second)
+two_digits text first second one first_is two second_is =
+    let small = digit_small (get_or text 0 0) first one.1 first_is in
+    let next = digit_small (get_or text 1 0) second two.1 second_is in
+    digit_more text 1 first second (first_digit text first one.0 one.1 first_is) two.0 two.1 second_is (omega (arith, small, next))
 
 -- digits at the front of a text, with no leading zero, are one step of the CPU whose number they are
 pub front_item : (text : List ℕ) (count number : ℕ) → ReadsUpTo 255 text count number → 0 < count → count ≤ length text

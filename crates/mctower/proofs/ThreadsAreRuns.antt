@@ -1,17 +1,15 @@
 -- What workers print is what the step table's system prints under some schedule, and a run has one text.
-use Rattle.std.proofs.Common.{◌≡◌, ℕ, ◌+◌, List, length, Option, Some, None, refl, ap, sym, ◌∙◌, subst}
-use Rattle.event_log.specs.{declared.{entries.Entry.Entry, ids.{CpuId.CpuId, LockId.TheVariants.Buffer as AtBuffer}}, Messages.Message}
-use Rattle.{boot.specs.Plan.BootPlan, cpu.specs.{Claims.buffer_at, Sound.setup_for, Table.{Blocks.{Block, OfBuffer, OfPending}, Steps.{Whole, block_at}}}}
-use Rattle.cpu_workers.{specs.{Lawful.{IsLawfulReport, ShownReport, held_at, left_in, messages_in}, ReportRuns.IsReportOfRun}, proofs.Scheduled.is_run}
-use Rattle.{tracer.{specs.TraceText.IsTraceText, proofs.TakenLemmas.one_order}, mctower.specs.{Plans.table_run, Texts.IsTextOf}}
-use Rattle.mctower.specs.Tabled.{IsTextOfRun, RunsHaveOneText, contents_at, items_held, traces_at}
-use Rattle.mctower.{specs.Threads.{AlwaysOpen, IsPrintedByRun, ThreadsPrintARun}, proofs.TabledLemmas.listed_alike}
+use Rattle.std.proofs.Common.{◌≡◌, ℕ, List, length, Option, Some, refl, ap, sym, ◌∙◌}
+use Rattle.{event_log.specs.declared.ids.LockId.TheVariants.Buffer as AtBuffer, boot.specs.Plan.BootPlan, cpu.specs.{Claims.buffer_at, Sound.setup_for}}
+use Rattle.{cpu.specs.Table.{Blocks.{Block, OfPending}, Steps.{Whole, block_at}}, cpu_workers.specs.Lawful.{IsLawfulReport, ShownReport, held_at, left_in}}
+use Rattle.{cpu_workers.{specs.{Lawful.messages_in, ReportRuns.IsReportOfRun}, proofs.Scheduled.is_run}, tracer.proofs.TakenLemmas.one_order}
+use Rattle.mctower.specs.{Plans.table_run, Texts.IsTextOf, Tabled.{RunsHaveOneText, contents_at, items_held, traces_at}, Threads.{AlwaysOpen, IsPrintedByRun}}
+use Rattle.mctower.{specs.Threads.ThreadsPrintARun, proofs.TabledLemmas.listed_alike}
 
 -- a block's messages, by either name
 held_alike : (o : Option Block) → items_held o ≡ messages_in o
-held_alike None = refl
 held_alike (Some (OfPending threads)) = refl
-held_alike (Some (OfBuffer k)) = refl
+held_alike other = refl
 
 module _ (plan : BootPlan) (turns : ℕ) (r : ShownReport) (lawful : IsLawfulReport (setup_for plan) AlwaysOpen turns r) where
   abbrev run : IsReportOfRun (setup_for plan) AlwaysOpen turns r
@@ -22,16 +20,14 @@ module _ (plan : BootPlan) (turns : ℕ) (r : ShownReport) (lawful : IsLawfulRep
 
   contents_are : left_in (length plan.caps) r ≡ contents_at (setup_for plan) whole
   contents_are =
-      listed_alike (λ b. held_at r.blocks (buffer_at b)) (λ b. items_held (block_at (setup_for plan) (AtBuffer (buffer_at b)) whole.log)) (length plan.caps) 0
-      (λ b within. ap messages_in (run.left.buffers (buffer_at (0 + b)))
-      ∙ sym (held_alike (block_at (setup_for plan) (AtBuffer (buffer_at (0 + b))) whole.log)))
+      listed_alike (λ b. held_at r.blocks (buffer_at b)) (λ b. items_held (block_at (setup_for plan) (AtBuffer (buffer_at b)) whole.log)) (length plan.caps)
+      (λ b within. ap messages_in (run.left.buffers (buffer_at b)) ∙ sym (held_alike (block_at (setup_for plan) (AtBuffer (buffer_at b)) whole.log)))
 
   pub printed_by_run : (text : List ℕ) → IsTextOf plan.caps r.traces (left_in (length plan.caps) r) text → IsPrintedByRun plan text
   printed_by_run text is = record {
     schedule = run.schedule;
     known = run.known;
-    is = subst (λ (l : List (List Message)). IsTextOf plan.caps (traces_at whole) l text) contents_are
-        (subst (λ (l : List (List Entry)). IsTextOf plan.caps l (left_in (length plan.caps) r) text) run.traces is);
+    is = rw (← contents_are, ← run.traces) is;
   }
 
 pub threads_print_a_run : ThreadsPrintARun
@@ -41,5 +37,5 @@ threads_print_a_run plan turns report text lawful is = printed_by_run plan turns
 pub runs_have_one_text : RunsHaveOneText
 runs_have_one_text plan steps one other told also =
     let same = one_order (traces_at (table_run plan steps)) told.order also.order told.keeps.0 also.keeps.0 told.first also.first in
-    let again = subst (λ (l : List Entry). IsTraceText one plan.caps l (contents_at (setup_for plan) (table_run plan steps))) same told.spelled in
+    let again = rw same at told.spelled in
     again.spelled ∙ sym also.spelled.spelled

@@ -1,15 +1,13 @@
 -- What a run in threads answers, by what its parts answer.
-use Rattle.std.proofs.{Common.{◌≡◌, ◌⊎◌, inl, inr, ℕ, ◌<◌, ◌≤◌, Bool, false, true, List, [], length, Some, refl, sym, ap, ◌∙◌, subst}, lemmas.List.append-nil}
-use Rattle.std.{proofs.lemmas.Option.slice_get_within, specs.{Prelude.{Result, Ok, Err, Vec, slice_get, if◌then◌else◌}, Global.Global, List.AllByRecursion}}
-use Rattle.std.specs.Io.KnownBytes.{Appends}
+use Rattle.std.proofs.{Common.{◌≡◌, ◌⊎◌, inl, inr, ℕ, ◌<◌, false, true, List, [], length, Some, refl, ap, ◌∙◌}, lemmas.Option.slice_get_within}
+use Rattle.std.specs.{Prelude.{Result, Ok, Err, Vec, slice_get, if◌then◌else◌}, Global.Global}
 use Rattle.event_log.{specs.{declared.entries.Entry.Entry, Buffers.empty_buffers}, proofs.{Streams.taken_put, RunLemmas.op_order_from, BoolLemmas.refuted}}
 use Rattle.{layer_traits.specs.Threads.OnePlace.cpu_at, boot.specs.{declared.refusals.BootError.BootError, Plan.{BootPlan, IsPlan}}, tracer.specs.Sinks.Outs}
-use Rattle.{tracer.proofs.{SinkLemmas.{all_out, outs_then}, OrderLemmas.orders_agree}, cpu.specs.{Boots.homes_for, Cpus.IsOfHome, Sound.setup_for}}
-use Rattle.cpu_workers.specs.{declared.workers.stops.Stop.Stop, Lawful.{IsLawfulReport, CpuReport, ShownReport, ReportsTrue, left_in}}
-use Rattle.mctower.specs.declared.{refusals.Refusal.{Refusal, TheVariants.WriteFault}, run.run_faults.Fault.Fault, serve.outcomes.Done.Done}
-use Rattle.mctower.specs.{declared.serve.outcomes.Done.TheVariants.Worked, Output.Output, Refusals.{from_fault, lacks_memory}, Serve.{OfPlan, RefusedBy}}
-use Rattle.mctower.specs.{Serve.WorksPlan, Texts.{HaveText, IsOut, IsTextOf, Writes}, Threads.{IsWorkedPlan, AlwaysOpen}}
-use Rattle.mctower.proofs.ThreadsAreRuns.{printed_by_run}
+use Rattle.{tracer.proofs.OrderLemmas.orders_agree, cpu.specs.Sound.setup_for, cpu_workers.specs.{declared.workers.stops.Stop.Stop, Lawful.IsLawfulReport}}
+use Rattle.{cpu_workers.specs.Lawful.{CpuReport, ShownReport, ReportsTrue, left_in}, mctower.specs.declared.refusals.Refusal.{Refusal, TheVariants.WriteFault}}
+use Rattle.mctower.specs.{declared.{run.run_faults.Fault.Fault, serve.outcomes.Done.{Done, TheVariants.Worked}}, Output.Output, Refusals.from_fault}
+use Rattle.mctower.specs.{Refusals.lacks_memory, Serve.{OfPlan, RefusedBy, WorksPlan}, Texts.{HaveText, IsOut, IsTextOf, Writes}, Threads.IsWorkedPlan}
+use Rattle.mctower.{specs.Threads.AlwaysOpen, proofs.{RunningLemmas.all_put, ThreadsAreRuns.printed_by_run}}
 use Rattle.mctower.specs.declared.run.run_faults.Fault.TheVariants as run
 
 -- what is so for a plan that was read
@@ -17,7 +15,7 @@ pub of_read : (Means : BootPlan → Result Done Refusal → Output → Type 0) (
     (out : Output) → read ≡ Ok plan → RefusedBy lacks_memory answer out ⊎ Means plan answer out → RefusedBy lacks_memory answer out
     ⊎ OfPlan Means read answer out
 of_read Means plan read answer out is (inl refused) = inl refused
-of_read Means plan read answer out is (inr means) = inr (subst (λ r. OfPlan Means r answer out) (sym is) means)
+of_read Means plan read answer out is (inr means) = inr (rw is means)
 
 -- the traces of a lawful report have a text with what is left
 pub report_has : (plan : BootPlan) (turns : ℕ) (r : ShownReport) → IsPlan plan → IsLawfulReport (setup_for plan) AlwaysOpen turns r
@@ -27,9 +25,8 @@ report_has plan turns r within lawful = record {
   within = within;
   caps_are = refl;
   count = lawful.report.traces_count;
-  fit = λ c trace at. let line = report_at c trace at in subst (λ (l : List Entry). length l ≤ plan.trace) line.1 line.2.room;
-  stay = λ c trace at. let line = report_at c trace at in
-      subst (λ (l : List Entry). AllByRecursion (IsOfHome (homes_for plan) (record { 0 = c })) l) line.1 line.2.stays;
+  fit = λ c trace at. let line = report_at c trace at in rw line.1 at line.2.room;
+  stay = λ c trace at. let line = report_at c trace at in rw line.1 at line.2.stays;
   order = lawful.report.order;
   keeps = lawful.report.keeps;
   runs = lawful.report.run;
@@ -39,7 +36,7 @@ report_has plan turns r within lawful = record {
     report_at : (c : ℕ) (trace : List Entry) → slice_get r.traces c ≡ Some trace
         → (line : CpuReport) × (line.trace ≡ trace) × ReportsTrue (setup_for plan) (AlwaysOpen (cpu_at c)) turns (cpu_at c) line
     report_at c trace at =
-        let below : c < plan.cpus = subst (λ n. c < n) lawful.report.traces_count (slice_get_within r.traces c trace at) in
+        let below : c < plan.cpus = rw lawful.report.traces_count at (slice_get_within r.traces c trace at) in
         let one = lawful.report.each (cpu_at c) below in
         let known = one.1.trace in
         (one.0, cc (known, at), one.2)
@@ -66,16 +63,11 @@ pub plan_worked : (turns : ℕ) (plan : BootPlan) (r : ShownReport) (stops : Vec
     → (whole.failed ≡ false → whole.flushed ≡ true) → WorksPlan turns plan answer whole
 plan_worked turns plan r stops answer first whole lawful same writes given more old passed_on =
     let trace = writes.1.text in
-    let out : Appends first.old first.new trace = all_out first.failed first.old first.new trace writes.0 writes.1.out in
-    let outs = outs_then whole.failed first.old first.new whole.new trace [] out more in
     inr (record {
       stops = stops;
       trace = trace;
       worked = has_worked turns plan r stops trace lawful same writes.1.is;
-      put = (
-        given,
-        (subst (λ o. Outs whole.failed o whole.new trace) old (subst (λ t. Outs whole.failed first.old whole.new t) (append-nil trace) outs), passed_on),
-      );
+      put = (given, (all_put first whole trace writes.0 writes.1.out more old, passed_on));
     })
 
 -- their text could not be written
@@ -84,15 +76,10 @@ pub not_written : (A : Type 0) (turns : ℕ) (plan : BootPlan) (r : ShownReport)
     → Writes {A = A} plan.caps r.traces (left_in (length plan.caps) r) (Err fault) out → refusal ≡ from_fault fault
     → RefusedBy lacks_memory (Err refusal) out ⊎ WorksPlan turns plan (Err refusal) out
 not_written A turns plan r stops (run.NoMemory refused) refusal out lawful same writes is = inl (ap Err is, writes)
-not_written A turns plan r stops (run.Boot e) refusal out lawful same writes is = absurd writes
-not_written A turns plan r stops run.BadCpu refusal out lawful same writes is = absurd writes
-not_written A turns plan r stops run.NoOrder refusal out lawful same writes is = absurd writes
 not_written A turns plan r stops run.WriteFault refusal out lawful same writes is = inr (inr (record {
   stops = stops;
   trace = writes.1.text;
   worked = has_worked turns plan r stops writes.1.text lawful same writes.1.is;
-  put = (
-    ap Err is ∙ ap (λ (b : Bool). if b then Err WriteFault else Ok (Worked stops)) (sym writes.0),
-    (writes.1.out, λ live. refuted live writes.0),
-  );
+  put = (ap Err is ∙ (rw writes.0), (writes.1.out, λ live. refuted live writes.0));
 }))
+not_written A turns plan r stops other refusal out lawful same writes is = absurd writes

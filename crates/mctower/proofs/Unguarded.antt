@@ -3,7 +3,7 @@
 use Rattle.std.{proofs.Common.{◌≡◌, List, refl}, specs.Prelude.{Result, Ok, Err, IsErrAnd}}
 use Rattle.{event_log.specs.declared.{ids.CpuId.CpuId, refusals.NoMemory.NoMemory as NoMemoryTold}, boot.specs.declared.refusals.BootError.BootError}
 use Rattle.{boot.specs.{declared.locks.LockKind.LockKind, Plan.{BootPlan, Fails}}, cpu.specs.{Claims.Shown, Systems.{Ran, WentOn, goes, took_none, stayed}}}
-use Rattle.{cpu.specs.Systems.took, mctower.specs.declared.run.run_faults.Fault.{Fault, TheVariants.{NoMemory, Boot, BadCpu, NoOrder, WriteFault}}}
+use Rattle.{cpu.specs.Systems.took, mctower.specs.declared.run.run_faults.Fault.{Fault, TheVariants.{NoMemory, WriteFault}}}
 use Rattle.mctower.specs.{declared.tell.state_lines.State.State, Output.{IsUntouched, Output}, Plans.from_boot, Running.{IsPrinted, IsRunOf, NoCondition}}
 use Rattle.mctower.specs.{Running.{RunsOverTower, RunsPlan, RunsTextOn, on_lock}, State.IsStateOf}
 use Rattle.boot.specs.declared.locks.LockKind.TheVariants as kind
@@ -43,22 +43,11 @@ module _ (If Where : Type 0) (follows : Where → If) where
   runs_plan : (plan : BootPlan) (steps : List CpuId) (result : Result Shown Fault) (out : Output) → RunsPlan If plan steps result out
       → RunsPlan Where plan steps result out
   runs_plan plan steps (Ok s) out runs = (runs.0, printed plan steps s out runs.1)
-  runs_plan plan steps (Err (NoMemory evidence)) out runs = runs
-  runs_plan plan steps (Err (Boot e)) out runs = runs
-  runs_plan plan steps (Err BadCpu) out runs = runs
-  runs_plan plan steps (Err NoOrder) out runs = runs
   runs_plan plan steps (Err WriteFault) out runs = (runs.0, (runs.1.0, printed plan steps runs.1.0 out runs.1.1))
+  runs_plan plan steps (Err other) out runs = runs
 
   pub state_of : (s : Shown) (state : State) → IsStateOf If s state → IsStateOf Where s state
-  state_of s state is = record {
-    halted = is.halted;
-    count = is.count;
-    many = is.many;
-    places = is.places;
-    quiet = is.quiet;
-    table = λ here. is.table (follows here);
-    still = λ here. is.still (follows here);
-  }
+  state_of s state is = assumption (λ (here : Where). is.table (follows here), λ (here : Where). is.still (follows here))
 
 -- what is said of layers is said of those over either lock, where these are the same
 either_lock : (Said : Type 0) (lock : LockKind) → Said → on_lock Said Said lock
@@ -80,10 +69,7 @@ wants_memory (Err e) steps evidence out untouched = untouched
 pub unread_text : (read : Result BootPlan BootError) (steps : List CpuId) (e : BootError) (out : Output) → Fails e read → IsUntouched out
     → RunsTextOn NoCondition read steps (Err (from_boot e)) out
 unread_text read steps (refused.NoMemory evidence) out fails untouched = wants_memory read steps evidence out untouched
-unread_text read steps refused.BadToml out fails untouched = rw fails (refl, untouched)
-unread_text read steps (refused.MissingKey key) out fails untouched = rw fails (refl, untouched)
-unread_text read steps (refused.OutOfRange key) out fails untouched = rw fails (refl, untouched)
-unread_text read steps (refused.Guest t line fault) out fails untouched = rw fails (refl, untouched)
+unread_text read steps other out fails untouched = rw fails (refl, untouched)
 
 -- a fault that is passed on is what is told
 pub fault_told : (read : Result BootPlan BootError) (steps : List CpuId) (fault : Fault) (told : Result State Fault) (out : Output)

@@ -28,29 +28,12 @@ or_some (Some a) b x is = inl is
 
 -- the line that a test of the lists gives is one in which the thread stands
 among_in : (t : Tid) (wait_lists : WaitList → List Tid) (line : WaitList) → wait_list_among t wait_lists ≡ Some line → is_in t (wait_lists line) ≡ true
-among_in t wait_lists line is = go (is_in t (wait_lists Sleepers)) (is_in t (wait_lists Receivers)) (is_in t (wait_lists Senders)) refl refl refl is
-  where
-    go : (a b c : Bool) → is_in t (wait_lists Sleepers) ≡ a → is_in t (wait_lists Receivers) ≡ b → is_in t (wait_lists Senders) ≡ c
-        → (if a then Some Sleepers else (if b then Some Receivers else (if c then Some Senders else None))) ≡ Some line → is_in t (wait_lists line) ≡ true
-    go true b c first second third is = subst (λ l. is_in t (wait_lists l) ≡ true) (same_Some Sleepers line is) first
-    go false true c first second third is = subst (λ l. is_in t (wait_lists l) ≡ true) (same_Some Receivers line is) second
-    go false false true first second third is = subst (λ l. is_in t (wait_lists l) ≡ true) (same_Some Senders line is) third
-    go false false false first second third is = absurd (cc is)
+among_in t wait_lists line is = grind arith
 
 -- and where there is none it stands in no line
 among_none : (t : Tid) (wait_lists : WaitList → List Tid) → wait_list_among t wait_lists ≡ None → (line : WaitList) → is_in t (wait_lists line) ≡ true → ⊥
-among_none t wait_lists none line stands = go (is_in t (wait_lists Sleepers)) (is_in t (wait_lists Receivers)) (is_in t
-    (wait_lists Senders)) refl refl refl none line stands
-  where
-    go : (a b c : Bool) → is_in t (wait_lists Sleepers) ≡ a → is_in t (wait_lists Receivers) ≡ b → is_in t (wait_lists Senders) ≡ c
-        → (if a then Some Sleepers else (if b then Some Receivers else (if c then Some Senders else None))) ≡ None
-        → (line : WaitList) → is_in t (wait_lists line) ≡ true → ⊥
-    go true b c first second third none line stands = absurd (cc none)
-    go false true c first second third none line stands = absurd (cc none)
-    go false false true first second third none line stands = absurd (cc none)
-    go false false false first second third none Sleepers stands = absurd (cc (first, stands))
-    go false false false first second third none Receivers stands = absurd (cc (second, stands))
-    go false false false first second third none Senders stands = absurd (cc (third, stands))
+among_none t wait_lists none Sleepers stands = grind arith
+among_none t wait_lists none other stands = grind arith
 
 asleep_is : (w : Where) (wait_channel : WaitChannel) → wait_channel_of w ≡ Some wait_channel → w ≡ Asleep wait_channel
 asleep_is (Asleep at) wait_channel is = ap Asleep (same_Some at wait_channel is)

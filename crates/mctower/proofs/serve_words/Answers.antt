@@ -1,6 +1,5 @@
 use Rattle.{std.proofs.Common.{Option, Some, None, List, ℕ, Err, inl, refl, map, string_bytes}, clap.specs.Walk.Text, event_log.specs.declared.ids.CpuId.CpuId}
-use Rattle.mctower.specs.{Line.{Ghost, order_of, count, run, threads, check}, Output.{IsUntouched, Output, between}, Serve.{RunsAsked, Serves, steps_asked}}
-use Rattle.mctower.specs.Refusals.{lacks_memory}
+use Rattle.mctower.specs.{Line.{Ghost, order_of, run}, Output.{IsUntouched, Output, between}, Serve.{RunsAsked, Serves, steps_asked}, Refusals.lacks_memory}
 use Rattle.mctower.proofs.serve_words.Goals as goal
 
 -- a run may be refused for want of memory
@@ -11,11 +10,8 @@ run_refused None input out untouched = inl (refl, untouched)
 -- and so may any order
 order_refused : (words : List Text) (meant : Option Ghost) (input : Option (List ℕ)) (out : Output) → IsUntouched out
     → Serves words meant input (Err lacks_memory) out
-order_refused words None input out untouched = inl (refl, untouched)
-order_refused words (Some (count cpus times lock)) input out untouched = inl (refl, untouched)
-order_refused words (Some check) input out untouched = inl (refl, untouched)
 order_refused words (Some (run schedule)) input out untouched = run_refused (steps_asked schedule) input out untouched
-order_refused words (Some (threads turns)) input out untouched = inl (refl, untouched)
+order_refused words other input out untouched = inl (refl, untouched)
 
 pub returns : goal.returns
 returns g c =

@@ -1,22 +1,14 @@
-//! Of what kind the lock is on which something stands, by its type: the words of a lock, an owned machine
-//! of such words, and each layer of a tower over it. A further lock is one more impl here, of its words.
+//! Of what kind the lock is on which a layer stands, by the type of the layer's machine: an owned machine of
+//! the words of a lock. A further lock is one more impl here, of its words.
 
 ghost use Rattle.boot.specs.declared.locks.LockKind.TheVariants as kind;
 
-use condvar::Cond;
-use cpu_workers::counting::LockOfKind;
-use fifo_buffer::Fifo;
-use ipc_calls::Ipc;
-use layer_traits::{Sleeps, SplitEdit};
+use cpu_workers::counting::{AddOne, LockOfKind};
+use layer_traits::{OwnedLocks, SplitEdit};
 use plain_machine::{Granting, LineWords, LockWords, Plain};
-use queuing_lock::QLock;
-use scheduler::Sched;
-use shared_queue::SharedQueues;
-use sleep_wakeup::Sleeper;
-use spinlock::{FairLock, SpinLock};
 
-/// What stands on locks of one kind: their words, an owned machine of such words, and each layer of
-/// a tower over it.
+/// Locks of one kind: their words, and an owned machine of such words, which each layer of a tower over it
+/// has as its own.
 pub trait OnLock {
     ghost use Rattle.boot.specs.declared.locks.LockKind.{LockKind};
 
@@ -36,41 +28,12 @@ impl<E: SplitEdit, K: LineWords + OnLock> OnLock for Plain<E, K> {
     ghost lock_kind = { K.lock_kind };
 }
 
-impl<M: FairLock<LockProtocol> + OnLock, LockProtocol> OnLock for SpinLock<M, LockProtocol> {
-    ghost lock_kind = { M.lock_kind };
-}
-
-impl<L: OnLock> OnLock for SharedQueues<L> {
-    ghost lock_kind = { L.lock_kind };
-}
-
-impl<Q: OnLock> OnLock for Sched<Q> {
-    ghost lock_kind = { Q.lock_kind };
-}
-
-impl<E: Sleeps, S: OnLock> OnLock for Sleeper<E, S> {
-    ghost lock_kind = { S.lock_kind };
-}
-
-impl<S: OnLock> OnLock for QLock<S> {
-    ghost lock_kind = { S.lock_kind };
-}
-
-impl<Q: OnLock> OnLock for Cond<Q> {
-    ghost lock_kind = { Q.lock_kind };
-}
-
-impl<C: OnLock> OnLock for Fifo<C> {
-    ghost lock_kind = { C.lock_kind };
-}
-
-impl<B: OnLock> OnLock for Ipc<B> {
-    ghost lock_kind = { B.lock_kind };
-}
-
-/// The one name by which a count tells the kind of its lock: that of what stands on it.
+/// The one name by which a count tells the kind of its lock: that of the lock's machine.
 pub struct KindOf;
 
-impl<L: OnLock> LockOfKind<L> for KindOf {
-    ghost lock_kind = { L.lock_kind };
+impl<L: OwnedLocks<AddOne>> LockOfKind<L> for KindOf
+where
+    L::Machine: OnLock,
+{
+    ghost lock_kind = { L.Machine.lock_kind };
 }

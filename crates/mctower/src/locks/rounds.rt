@@ -128,19 +128,19 @@ where
 /// the lock is one action. `lock` is the kind of its words.
 ///
 /// Errors: `NoMemory` if an allocation was refused.
-pub(crate) fn count_behind<L: OwnedLocks<AddOne> + OnLock + Drop>(
+pub(crate) fn count_behind<L: OwnedLocks<AddOne> + Drop>(
     alloc: Global,
     cpus: u8,
     times: u64,
     lock: LockKind,
 ) -> Result<Counted, NoMemory>
 where
-    L::Machine: Drop,
+    L::Machine: OnLock + Drop,
     requires stepwise { L.IsStepwise }
     requires some { 1 ≤ cpus }
     requires cpus { cpus ≤ CPUS }
     requires times { times ≤ MOST_TIMES }
-    requires kind { lock ≡ L.lock_kind }
+    requires kind { lock ≡ L.Machine.lock_kind }
     ensures number { IfOk result (λ counted. counted.number ≡ times * cpus) }
     ensures lock { IfOk result (λ counted. counted.lock ≡ lock) }
     ensures all { IfOk result (λ counted. counted.cpus ≡ cpus) }

@@ -33,18 +33,18 @@ pub trait OverTower {
     /// Does it over the top of the tower.
     ///
     /// Requires: it may be done over the tower of the kind of lock on which this one stands.
-    fn over<I: Stepwise + OnLock + Drop>(&mut self) -> Self::Done
+    fn over<I: Stepwise + Drop>(&mut self) -> Self::Done
     where
-        I::Machine: Drop,
-        requires { IsReady self.old I.lock_kind }
+        I::Machine: OnLock + Drop,
+        requires { IsReady self.old I.Machine.lock_kind }
         ensures { Does self.old result self.new };
 }
 
 /// Does it over queuing locks, conditions, buffers and message calls.
-fn over_locks<V: OverTower, S: StepwiseLocks + OnLock + Drop>(work: &mut V) -> V::Done
+fn over_locks<V: OverTower, S: StepwiseLocks + Drop>(work: &mut V) -> V::Done
 where
-    S::Machine: Drop,
-    requires { V.IsReady work.old S.lock_kind }
+    S::Machine: OnLock + Drop,
+    requires { V.IsReady work.old S.Machine.lock_kind }
     ensures { V.Does work.old result work.new }
 {
     let _laws: TowerLaws = PhantomData;
@@ -52,10 +52,10 @@ where
 }
 
 /// [`over_locks`] over sleep and wakeup.
-fn over_scheds<V: OverTower, S: StepwiseScheds + OnLock + Drop>(work: &mut V) -> V::Done
+fn over_scheds<V: OverTower, S: StepwiseScheds + Drop>(work: &mut V) -> V::Done
 where
-    S::Machine: Drop,
-    requires { V.IsReady work.old S.lock_kind }
+    S::Machine: OnLock + Drop,
+    requires { V.IsReady work.old S.Machine.lock_kind }
     ensures { V.Does work.old result work.new }
 {
     over_locks::<V, Sleeper<LockEdit, S>>(work)
@@ -64,10 +64,10 @@ where
 /// Does what is to be done over the tower that stands on these sections.
 ///
 /// Requires: it may be done over the tower of their kind of lock.
-pub fn over_sections<V: OverTower, L: StepwiseSections + OnLock + Drop>(work: &mut V) -> V::Done
+pub fn over_sections<V: OverTower, L: StepwiseSections + Drop>(work: &mut V) -> V::Done
 where
-    L::Machine: Drop,
-    requires { V.IsReady work.old L.lock_kind }
+    L::Machine: OnLock + Drop,
+    requires { V.IsReady work.old L.Machine.lock_kind }
     ensures { V.Does work.old result work.new }
 {
     let _laws: TowerLaws = PhantomData;

@@ -39,9 +39,9 @@ impl<O: Write> OverTower for PlanRun<'_, '_, '_, O> {
     ghost Does = { λ old told new. (new.out.ghost_name ≡ old.out.ghost_name)
         × RunsOverTower (Ok old.plan.now) old.steps.now told (between O.contents old.out.now new.out.now) };
 
-    fn over<I: Stepwise + OnLock + Drop>(&mut self) -> Result<State, Fault>
+    fn over<I: Stepwise + Drop>(&mut self) -> Result<State, Fault>
     where
-        I::Machine: Drop,
+        I::Machine: OnLock + Drop,
     {
         let ran = run_read::<I, I, O>(self.alloc, self.plan, self.steps, self.out)?;
         match ran {

@@ -47,17 +47,6 @@ fn put_stops<W: Write>(sink: &mut Sink<W>, stops: &[Stop]) -> Result<(), WriteFa
     Ok(())
 }
 
-/// The lines of the CPUs, which are seen to be out.
-fn print_stops<W: Write>(sink: &mut Sink<W>, stops: &[Stop]) -> Result<(), WriteFault>
-    requires { has_failed sink.old ≡ false }
-    ensures failed { is_err result ≡ has_failed sink.new }
-    ensures flushed { IfOk result (λ _. is_flushed sink.new ≡ true) }
-    ensures out { WentOut W.contents sink.old sink.new (stop_text stops.now) }
-{
-    put_stops(sink, stops)?;
-    sink.flush()
-}
-
 /// Tells why each worker stopped, by the number of its CPU, and sees that it is out, if the sink takes
 /// it. Takes no memory.
 ///
@@ -66,7 +55,9 @@ pub(crate) fn write_stops<W: Write>(sink: &mut Sink<W>, stops: &[Stop])
     requires { has_failed sink.old ≡ false }
     ensures { IsTold (between W.contents sink.old sink.new) (stop_text stops.now) }
 {
-    let _ = print_stops(sink, stops);
+    if let Ok(()) = put_stops(sink, stops) {
+        let _ = sink.flush();
+    }
 }
 
 /// What so many buffers of a report hold.

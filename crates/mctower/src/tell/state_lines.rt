@@ -187,19 +187,6 @@ impl State {
         put_quiet(sink, self.is_quiet)
     }
 
-    /// Writes the state lines and sees that they are out.
-    ///
-    /// Errors: `WriteFault` exactly where the sink failed; then a beginning of the lines is out.
-    fn print<W: Write>(&self, sink: &mut Sink<W>) -> Result<(), WriteFault>
-        requires { has_failed sink.old ≡ false }
-        ensures failed { is_err result ≡ has_failed sink.new }
-        ensures flushed { IfOk result (λ _. is_flushed sink.new ≡ true) }
-        ensures out { WentOut W.contents sink.old sink.new (state_text self.now.halted.items (places_in self.now) self.now.is_quiet) }
-    {
-        self.put(sink)?;
-        sink.flush()
-    }
-
     /// Tells the state of a system by its state lines and sees that they are out, if the sink takes
     /// them. Takes no memory.
     ///
@@ -208,6 +195,8 @@ impl State {
         requires { has_failed sink.old ≡ false }
         ensures { IsTold (between W.contents sink.old sink.new) (state_text self.now.halted.items (places_in self.now) self.now.is_quiet) }
     {
-        let _ = self.print(sink);
+        if let Ok(()) = self.put(sink) {
+            let _ = sink.flush();
+        }
     }
 }

@@ -1,13 +1,9 @@
-use Rattle.std.{proofs.Common.{◌∙◌, ap, sym, option_map}, specs.Borrow.Bor}
-use Rattle.{clap.specs.Matches.found_of, mctower.proofs.LineLemmas.{lock_found, Text}}
+use Rattle.{std.proofs.Common.{refl, codes}, clap.{specs.Matches.found_of, proofs.WalkLemmas.first_value-rows}}
 use Rattle.mctower.proofs.line.lock_given.Goals as goal
 
 pub returns-in-Some : goal.returns-in-Some
 returns-in-Some c =
-    c.named.ensures ∙ lock_found (found_of c.args.matches.now) _
-    (ap (option_map (λ (s : Bor Text). s.now)) (sym c.in-Some.is) ∙ c.get_str.ensures)
+    rw (← first_value-rows (found_of c.args.matches.now) (codes "lock"), ← c.get_str.ensures, c.in-Some.is) c.named.ensures
 
 pub returns-in-None : goal.returns-in-None
-returns-in-None c =
-    lock_found (found_of c.args.matches.now) _
-    (ap (option_map (λ (s : Bor Text). s.now)) (sym c.in-None.is) ∙ c.get_str.ensures)
+returns-in-None c = rw (← first_value-rows (found_of c.args.matches.now) (codes "lock"), ← c.get_str.ensures, c.in-None.is) refl

@@ -1,4 +1,3 @@
--- proofs/line/parse/Answers.antt
 use Rattle.mctower.proofs.LineLemmas.{words_parsed}
 use Rattle.mctower.proofs.line.parse.Goals as goal
 

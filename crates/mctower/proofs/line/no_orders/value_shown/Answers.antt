@@ -1,10 +1,7 @@
--- proofs/faults/value_shown/Answers.antt
-use Rattle.std.{proofs.Common.{◌∙◌, ap, refl}, specs.Borrow.Bor}
-use Rattle.{clap.specs.Matches.found_of, mctower.{specs.Print.shown_line, proofs.FaultLemmas.{value_found, Text}}}
+use Rattle.{clap.{specs.Matches.found_of, proofs.WalkLemmas.first_value-rows}, mctower.{specs.Faults.option_name, proofs.FaultLemmas.behind}}
 use Rattle.mctower.proofs.line.no_orders.value_shown.Goals as goal
 
 pub returns : goal.returns
 returns c =
-    c.shown.ensures
-    ∙ ap shown_line (ap (λ (s : Bor Text). s.now) c.unwrap_or.ensures
-    ∙ value_found c.args.option (found_of c.args.matches.now) c.option_name.result.now c.get_str.result _ c.option_name.ensures c.get_str.ensures refl)
+    rw (c.shown.ensures, c.unwrap_or.ensures, behind c.get_str.result _, c.get_str.ensures, c.option_name.ensures)
+    (rw (first_value-rows (found_of c.args.matches.now) (option_name c.args.option)))

@@ -1,5 +1,5 @@
-use Rattle.std.proofs.{Common.{◌+◌, ◌∷◌, [], ◌∙◌, ap, length, subst, sym}, lemmas.List.length-append}
-use Rattle.{event_log.specs.declared.ids.CpuId.CpuId, mctower.{specs.Count.AreReady, proofs.CountLemmas.one_part_more}}
+use Rattle.std.proofs.{Common.{◌+◌, ◌∷◌, [], ◌∙◌, ap, length, sym}, lemmas.List.length-append}
+use Rattle.{event_log.specs.declared.ids.CpuId.CpuId, mctower.{proofs.CountLemmas.one_part_more}}
 use Rattle.mctower.proofs.locks.rounds.parts_of.Goals as goal
 
 pub loop-number-preserved : goal.loop-number-preserved
@@ -11,7 +11,7 @@ loop-number-preserved g c =
     record {
       long = ap length items ∙ length-append parts (c.part.result ∷ []) ∙ ap (λ n. n + 1) inv.long;
       ready = λ m acts outside.
-          subst (λ xs. AreReady g.L.Layer.cpu_of g.L.Layer.under_way g.L.Layer.Fits xs m) (sym items)
+          rw items
           (one_part_more _ _ _ parts c.part.result m (inv.ready m acts outside) (record {
             cpu = ap (λ (own : CpuId). own.0) c.part.ensures.cpu ∙ sym inv.long;
             rests = c.part.ensures.call;

@@ -1,4 +1,3 @@
--- proofs/faults/wanted/Answers.antt
 use Rattle.std.{proofs.Common.refl, specs.Fmt.digits}
 use Rattle.mctower.proofs.tell.refusal_lines.wanted.Goals as goal
 
