@@ -15,7 +15,7 @@ cd "$(dirname "$0")"
 turns=${1:-21}
 # the functions that gather and write the text: of the plain program, and of ours by their names in the proved binary
 text_of_plain='step_table::write_trace'
-text_of_ours='mctower::texts::write_text'
+text_of_ours='trace_texts::write_text'
 rustc -O -o "$work/plain_tower" ../tests/plain_tower.rs
 rustc -O --check-cfg 'cfg(stretch)' --cfg stretch -o "$work/plain_stretch" ../tests/plain_tower.rs
 
