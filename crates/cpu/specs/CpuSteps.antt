@@ -64,8 +64,8 @@ pub record SteppedAt {P L M : Type 0} (I : Ghosts P L M) (m : M) (p : Cpu P M) (
 
 -- they took so many steps, one behind the other
 pub data RunsAt {P L M : Type 0} (I : Ghosts P L M) (m : M) (p : Cpu P M) : (steps : ℕ) → M → Cpu P M → Type 0 where
-  none : RunsAt I m p 0 m p
-  more : {k : ℕ} {n o : M} {q r : Cpu P M} → RunsAt I m p k n q → SteppedAt I n q o r → RunsAt I m p (k + 1) o r
+  no_steps : RunsAt I m p 0 m p
+  then_step : {k : ℕ} {n o : M} {q r : Cpu P M} → RunsAt I m p k n q → SteppedAt I n q o r → RunsAt I m p (k + 1) o r
 
 -- and that is one step at least, and at most so many
 pub record RanWithin {P L M : Type 0} (I : Ghosts P L M) (m : M) (p : Cpu P M) (most steps : ℕ) (n : M) (q : Cpu P M) : Type 0 where

@@ -9,9 +9,6 @@ use crate::guests::{Guest, Todo};
 use event_log::{BufId, CpuId, Entry, Tid};
 use layer_traits::{Call, CallLayer, Effect, Ghost, IpcLaw, Pass, Reason, Step};
 
-/// So many looks in a row tell that the first of them has missed.
-const MISSED: usize = 2;
-
 /// What a CPU does next that is not halted.
 #[derive(Drop)]
 pub enum Choice {
@@ -199,9 +196,7 @@ impl<I: CallLayer<IpcLaw>> Cpu<I> {
             if taken == most || !self.goes_on_draining() {
                 return taken;
             }
-            let looks = self.looks(m, most - taken);
-            taken += looks;
-            if looks == MISSED || taken == most {
+            if self.part.looks(m, &mut taken, most) {
                 return taken;
             }
         }
@@ -254,9 +249,7 @@ impl<I: CallLayer<IpcLaw>> Cpu<I> {
     {
         let mut taken = 0;
         loop {
-            let looks = self.looks(m, most - taken);
-            taken += looks;
-            if looks == MISSED || taken == most {
+            if self.part.looks(m, &mut taken, most) {
                 return taken;
             }
             taken += self.go(m, most - taken);
@@ -289,43 +282,6 @@ impl<I: CallLayer<IpcLaw>> Cpu<I> {
         }
         self.go(m, 1);
         Step::Stepped
-    }
-
-    /// Looks again for a section that waits at its lock, and tells whether it did. Where it tells
-    /// `true` this was the CPU's step; where it tells `false` nothing has changed.
-    ///
-    /// Requires: CPU and machine agree. The machine has room for one more event.
-    #[inline(always)]
-    fn look(&mut self, m: &mut I::Machine) -> bool
-        requires agrees { AgreesAt ⟦<I as CallLayer<IpcLaw>>⟧ m.old self.old }
-        requires room { 0 < I.room m.old }
-        ensures still { result ≡ false → (self.new ≡ self.old) × (m.new ≡ m.old) }
-        ensures stepped { result ≡ true → SteppedAt ⟦<I as CallLayer<IpcLaw>>⟧ m.old self.old m.new self.new }
-        ensures goes_on { result ≡ true → stops_at ⟦<I as CallLayer<IpcLaw>>⟧ self.new ≡ None }
-        ensures chosen { chosen (threads_in (I.own self.new.part)) self.new.guests.items ≡ chosen (threads_in (I.own self.old.part)) self.old.guests.items }
-    {
-        self.part.look(m)
-    }
-
-    /// Looks again for a section that waits at its lock, up to `most` times, and twice at most: of two
-    /// looks in a row the first has missed. Returns how often it looked.
-    ///
-    /// Requires: as `run`.
-    #[inline(always)]
-    fn looks(&mut self, m: &mut I::Machine, most: usize) -> usize
-        requires { GoesAt ⟦<I as CallLayer<IpcLaw>>⟧ m.old self.old most }
-        ensures few { result ≤ most }
-        ensures ran { RunsAt ⟦<I as CallLayer<IpcLaw>>⟧ m.old self.old result m.new self.new }
-        ensures live { stops_at ⟦<I as CallLayer<IpcLaw>>⟧ self.new ≡ None }
-        ensures chosen { chosen (threads_in (I.own self.new.part)) self.new.guests.items ≡ chosen (threads_in (I.own self.old.part)) self.old.guests.items }
-    {
-        if !self.look(m) {
-            return 0;
-        }
-        if most == 1 {
-            return 1;
-        }
-        if self.look(m) { MISSED } else { 1 }
     }
 
     /// Takes at once looks of a section that waits at its lock and whose look would miss: one for each of
@@ -366,7 +322,7 @@ impl<I: CallLayer<IpcLaw>> Cpu<I> {
         ensures table { I.IsStepwise → IsTabledAt ⟦<I as CallLayer<IpcLaw>>⟧ m.new self.new }
         ensures steps { I.IsStepwise → WentAt ⟦<I as CallLayer<IpcLaw>>⟧ m.old self.old m.new self.new result }
     {
-        if self.look(m) {
+        if self.part.look(m) {
             return Step::Stepped;
         }
         self.act(m)

@@ -36,13 +36,13 @@ module _ {P L M : Type 0} (I : Ghosts P L M) where
 
   module _ {m : M} {p : Cpu P M} where
     pub opens_same : {k : ℕ} {n : M} {q : Cpu P M} → RunsAt I m p k n q → I.opening n ≡ I.opening m
-    opens_same RunsAt.none = refl
-    opens_same (RunsAt.more runs s) = s.leaves.opening ∙ opens_same runs
+    opens_same RunsAt.no_steps = refl
+    opens_same (RunsAt.then_step runs s) = s.leaves.opening ∙ opens_same runs
 
     module _ (own_cpu : (q : P) (n : M) → I.Fits q n → I.ActsFor n (I.cpu_of q)) (stepwise : I.IsStepwise) (agrees : AgreesAt I m p) where
       pub turns_of : {k : ℕ} {n : M} {q : Cpu P M} → RunsAt I m p k n q → TookTurns (worker_at m p) k (worker_at n q)
-      turns_of RunsAt.none = TookTurns.no_turns
-      turns_of {n = o} {q = r} (RunsAt.more {n = n} {q = q} runs s) =
+      turns_of RunsAt.no_steps = TookTurns.no_turns
+      turns_of {n = o} {q = r} (RunsAt.then_step {n = n} {q = q} runs s) =
           let at = runs_agree agrees runs in
           let acts = subst (λ (d : CpuId). I.ActsFor n d) at.number (own_cpu q.part n at.fits) in
           TookTurns.one_more (turns_of runs) (record {

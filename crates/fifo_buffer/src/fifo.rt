@@ -200,6 +200,21 @@ impl<C: ThreadLayer<CvLaw<BufferEdit>>> CallLayer<BufferLaw> for Fifo<C> {
     }
 
     #[inline(always)]
+    fn looks(&mut self, m: &mut C::Machine, taken: &mut usize, most: usize) -> bool {
+        if self.look(m) {
+            *taken += 1;
+            if *taken == most {
+                return true;
+            }
+            if self.look(m) {
+                *taken += 1;
+                return true;
+            }
+        }
+        false
+    }
+
+    #[inline(always)]
     fn spin(&self, m: &mut C::Machine, steps: &[CpuId]) -> usize {
         self.lower.spin(m, steps)
     }
@@ -240,20 +255,11 @@ impl<C: ThreadLayer<CvLaw<BufferEdit>>> CallLayer<BufferLaw> for Fifo<C> {
             if self.call_states.effect_here(t).is_some() != had {
                 return PollRun { actions, reply };
             }
-            if self.look(m) {
-                actions += 1;
-                if actions == most {
-                    return PollRun {
-                        actions,
-                        reply: None,
-                    };
-                }
-                if self.look(m) {
-                    return PollRun {
-                        actions: actions + 1,
-                        reply: None,
-                    };
-                }
+            if self.looks(m, &mut actions, most) {
+                return PollRun {
+                    actions,
+                    reply: None,
+                };
             }
         }
     }

@@ -2,9 +2,9 @@
 use Rattle.std.proofs.{Common.{◌≡◌, ℕ, ◌+◌, ◌<◌, ◌≤◌, Bool, true, List, [], Option, Some, None, length, refl, ap, arith}, lemmas.Bool.{le-ltb, lt-ltb}}
 use Rattle.layer_traits.specs.{Blocks.{Capacities.caps_in, QueueBlocks.homes_in}, declared.{call_layers.CallLayer.Ghosts, calls.{Call.Call, Reply.Reply}}}
 use Rattle.layer_traits.specs.{declared.calls.ReplyKind.{ReplyKind, TheVariants.NoBuffer as Refuses}, Layers.BufferLaw.{BufferPlan, Buffering, buffer_of}}
-use Rattle.layer_traits.specs.{Layers.{BufferLaw.fifo_plan, IpcLaw.ipc_plan}, Polling.{Framed.Framed, LayerPolls.{IsBegunAt, LookedAt, PolledAt, PolledOnAt}}}
-use Rattle.{layer_traits.{specs.Polling.PollRuns.{once, again, looks}, proofs.PollRunLemmas.{Kept, run_kept}}, event_log.specs.declared.ids.CpuId.CpuId}
-use Rattle.{event_log.specs.declared.ids.Tid.Tid, ipc_calls.specs.{declared.ipc.Ipc.Ipc, Parts.KeepsPlan}}
+use Rattle.layer_traits.specs.{Layers.{BufferLaw.fifo_plan, IpcLaw.ipc_plan}, Polling.{Framed.Framed, LayerPolls.{IsBegunAt, LookedAt, LookedOnAt, PolledAt}}}
+use Rattle.layer_traits.{specs.Polling.{LayerPolls.PolledOnAt, PollRuns.{LookedOn, once, again, looks}}, proofs.PollRunLemmas.{Kept, run_kept}}
+use Rattle.{event_log.specs.declared.ids.{CpuId.CpuId, Tid.Tid}, ipc_calls.specs.{declared.ipc.Ipc.Ipc, Parts.KeepsPlan}}
 
 -- what a part of message calls tells as a layer of calls, over a part of buffers
 abbrev pub tells : {P L M : Type 0} → Ghosts P L M → Ghosts (Ipc P) (Unit {0}) M
@@ -65,6 +65,13 @@ module _ {P L M : Type 0} (B : Ghosts P L M) (start : Ipc P) where
     moves = looked.moves;
     tries = looked.tries;
   }
+
+  pub looks_over : {p : P} {m : M} {before taken : ℕ} {q : P} {n : M} → Keeps p m → LookedOnAt B plan_below p m before taken q n
+      → Keeps q n × LookedOnAt (tells B) ipc_plan (over p) m before taken (over q) n
+  looks_over keeps LookedOn.none = (keeps, LookedOn.none)
+  looks_over keeps (LookedOn.more {q = q} {r = r} {n = n} {o = o} looked last) =
+      let so_far = looks_over keeps looked in
+      (keeps_on q r n o last.framed.cpu last.framed.stays.opening so_far.0, LookedOn.more so_far.1 (looked_over q r n o true so_far.0 last))
 
   module _ (t : Tid) (call : Call) where
     -- a number that is no buffer's is refused, and nothing is done

@@ -131,6 +131,11 @@ impl<B: CallLayer<BufferLaw>> CallLayer<IpcLaw> for Ipc<B> {
     }
 
     #[inline(always)]
+    fn looks(&mut self, m: &mut B::Machine, taken: &mut usize, most: usize) -> bool {
+        self.lower.looks(m, taken, most)
+    }
+
+    #[inline(always)]
     fn spin(&self, m: &mut B::Machine, steps: &[CpuId]) -> usize {
         self.lower.spin(m, steps)
     }

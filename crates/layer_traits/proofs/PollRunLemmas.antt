@@ -1,11 +1,11 @@
 -- Runs of polls: what a run keeps, and that a call that was quiet so far may be polled again.
-use Rattle.std.proofs.Common.{true, ◌≡◌, ◌≢◌, ◌⊎◌, ℕ, ◌+◌, ◌<◌, ◌≤◌, List, Option, Some, None, is_some, length, refl, ap, sym, ◌∙◌, subst, arith}
+use Rattle.std.proofs.Common.{◌≡◌, ◌≢◌, ◌⊎◌, ℕ, ◌+◌, ◌<◌, ◌≤◌, List, Option, Some, None, is_some, length, refl, ap, sym, ◌∙◌, subst, arith}
 use Rattle.std.proofs.Math.Nat.{lt_of_not-le}
 use Rattle.{event_log.specs.declared.ids.{CpuId.CpuId, Tid.Tid}, layer_traits.specs.declared.calls.{Call.Call, Effect.Effect, Reply.Reply, ReplyKind.ReplyKind}}
 use Rattle.layer_traits.specs.{declared.{call_layers.CallLayer.Ghosts, call_states.{Stage.Stage, CallState.CallState}}, Blocks.Capacities.caps_in}
 use Rattle.layer_traits.specs.Layers.BufferLaw.{BufferPlan, Buffering, Calling, IsEffectOf, MayGoOn, MayPollCall, UnderWay, begun_at, begun_of, buffer_of}
 use Rattle.layer_traits.specs.{Layers.BufferLaw.{call_state_of, going, going_at, still_calling}, Views.OwnParts.threads_in, Polling.Framed.Framed}
-use Rattle.layer_traits.specs.Polling.{LayerPolls.{IsBegunAt, LookedAt, PolledAt, PolledOnAt}, PollRuns.{once, again, looks}}
+use Rattle.layer_traits.specs.Polling.{LayerPolls.{IsBegunAt, LookedOnAt, PolledAt, PolledOnAt}, PollRuns.{LookedOn, once, again, looks}}
 
 -- a call that has begun goes on as it is
 going_begun_at : (stage : Stage) (call_state : CallState) (call : Call) → begun_at stage call_state.call ≡ Some call
@@ -38,6 +38,12 @@ effect_kept call old new (Some f) fresh stays same = absurd (let both = fresh f 
 
 room_on : (k a b c : ℕ) → a ≤ b + k → b ≤ c + 1 → a ≤ c + (k + 1)
 room_on k a b c first second = omega arith
+
+-- looks leave what the part tells of its CPU
+pub looks_keep : {P L M : Type 0} (I : Ghosts P L M) (plan : ℕ → List CpuId → CpuId → Tid → Call → Buffering → BufferPlan Reply) {p : P} {m : M} {j k : ℕ}
+    {q : P} {n : M} → LookedOnAt I plan p m j k q n → (I.own q ≡ I.own p) × (I.is_inside q ≡ I.is_inside p)
+looks_keep I plan LookedOn.none = (refl, refl)
+looks_keep I plan (LookedOn.more looked last) = let so_far = looks_keep I plan looked in (last.own ∙ so_far.0, last.inside ∙ so_far.1)
 
 module _ {P L M : Type 0} (I : Ghosts P L M) (plan : ℕ → List CpuId → CpuId → Tid → Call → Buffering → BufferPlan Reply) (t : Tid) (call : Call) where
   -- what a run of so many actions keeps
@@ -141,25 +147,27 @@ module _ {P L M : Type 0} (I : Ghosts P L M) (plan : ℕ → List CpuId → CpuI
   run_left p m _ _ _ nothing_yet = (omega arith, refl)
   run_left p m _ q n (quiet_yet {k = k} some run quiet) = let k = run_kept p m k q n None run in (k.room, k.opening)
 
-  -- one more poll, and one more look
+  -- one more poll
   pub one_more : (p : P) (m : M) (actions : ℕ) (q : P) (n : M) (r : P) (o : M) (told : Option ReplyKind) → SoFar p m actions q n
       → PolledAt I plan t call q n r o told
       → PolledOnAt I plan t call p m (actions + 1) r o told
   one_more p m _ _ _ r o told nothing_yet polled = once polled
   one_more p m _ q n r o told (quiet_yet some run quiet) polled = again run quiet polled
 
-  pub one_look : (p : P) (m : M) (actions : ℕ) (q : P) (n : M) (r : P) (o : M) → SoFar p m actions q n → 0 < actions → LookedAt I plan true q n r o
-      → PolledOnAt I plan t call p m (actions + 1) r o None
-  one_look p m _ _ _ r o nothing_yet some looked = absurd (omega arith)
-  one_look p m _ q n r o (quiet_yet some run quiet) more looked = looks run quiet looked
-
-  pub quiet_after_look : (p : P) (m : M) (actions : ℕ) (q : P) (n : M) (r : P) (o : M) → SoFar p m actions q n → 0 < actions → LookedAt I plan true q n r o
+  -- looks behind a run leave the call quiet, and are part of it
+  pub quiet_after_looks : {p q : P} {n : M} {j k : ℕ} {r : P} {o : M} → IsBegunAt I plan t call p q → LookedOnAt I plan q n j k r o
       → IsBegunAt I plan t call p r
-  quiet_after_look p m _ _ _ r o nothing_yet some looked = absurd (omega arith)
-  quiet_after_look p m _ q n r o (quiet_yet some run quiet) more looked = record {
-    runs = ap (λ (o : Buffering). (threads_in o).current) looked.own ∙ quiet.runs;
-    effect = ap (λ (o : Buffering). (call_state_of o.call_states t).effect) looked.own ∙ quiet.effect;
-  }
+  quiet_after_looks quiet looked =
+      let same = (looks_keep I plan looked).0 in
+      record {
+        runs = ap (λ (o : Buffering). (threads_in o).current) same ∙ quiet.runs;
+        effect = ap (λ (o : Buffering). (call_state_of o.call_states t).effect) same ∙ quiet.effect;
+      }
+
+  pub more_looks : {p : P} {m : M} {j : ℕ} {q : P} {n : M} {k : ℕ} {r : P} {o : M} → PolledOnAt I plan t call p m j q n None → IsBegunAt I plan t call p q
+      → LookedOnAt I plan q n j k r o → PolledOnAt I plan t call p m k r o None
+  more_looks run quiet LookedOn.none = run
+  more_looks run quiet (LookedOn.more looked last) = looks (more_looks run quiet looked) (quiet_after_looks quiet looked) last
 
   -- the effect with which the next poll goes on is that of the call when the run began
   pub same_effect : (p : P) (m : M) (actions : ℕ) (q : P) (n : M) → SoFar p m actions q n

@@ -3,7 +3,7 @@
 //!
 //! No call takes memory, and none waits.
 
-ghost use Rattle.std.specs.Prelude.{◌≡◌, ◌≢◌, ℕ, ◌<◌, ◌≤◌, Bool, true, false, List, [], Option, Some, None, IsSome, length, map};
+ghost use Rattle.std.specs.Prelude.{◌≡◌, ◌≢◌, ℕ, ◌+◌, ◌<◌, ◌≤◌, ◌⊎◌, Bool, true, false, List, [], Option, Some, None, IsSome, length, map};
 ghost use Rattle.event_log.specs.declared.{ids.{CpuId.CpuId, Tid.Tid, BufId.BufId, LockId.LockId, TheConstants.THREADS}, entries.Entry.Entry};
 ghost use Rattle.{event_log.specs.{History.IsLawful, Actions.{Action, AreLegal, phase}, Sections.sections_in}, layer_traits.specs.declared.calls.Call.Call};
 ghost use Rattle.layer_traits.specs.declared.{calls.Reply.Reply, buffer_edits.BufferEdit.BufferEdit, moves.WaitList.WaitList, queue_edits.QueueEdit.QueueEdit};
@@ -14,7 +14,7 @@ ghost use Rattle.layer_traits.specs.Layers.{QLocking.{lock_moves, lock_rules}, I
 ghost use Rattle.layer_traits.specs.Layers.BufferLaw.{reply_with, Calling, UnderWay, MayGoOn, MayPollCall, OthersSeen, Passing, buffering_at_start};
 ghost use Rattle.layer_traits.specs.{Layers.BufferLaw.{fifo_pass_plan, still_passing, call_state_of, message_of}, Threads.Places.{Step, Stands, AreMoves}};
 ghost use Rattle.layer_traits.specs.{Threads.Passes.{MayPass, IsLocalPass, PassPolled}, Polling.{Plans.{Follows, table_of, is_in_section}, Framed.Framed}};
-ghost use Rattle.layer_traits.specs.Polling.{Spins.{BeginWith, Spun, Misses}, PollRuns.{Looked, Polled, PolledOn}};
+ghost use Rattle.layer_traits.specs.Polling.{Spins.{BeginWith, Spun, Misses}, PollRuns.{Looked, LookedOn, Polled, PolledOn}};
 
 use crate::calls::{Call, Effect, PollRun, Reply, ReplyKind};
 use crate::own_threads::OwnThreads;
@@ -165,6 +165,23 @@ pub trait CallLayer<L: CallLaw>: Sized {
         requires room { 0 < room m.old }
         ensures { Looked Fits cpu_of opening site room ActsFor MayHold own is_inside under_way seen moves acts
             IsWhole IsStepwise L.plan result self.old m.old self.new m.new };
+
+    /// Looks again for a section that waits at its lock, twice at most: of two looks in a row the first
+    /// has missed. Each look is one more action taken. Returns whether the run of actions is to end: it
+    /// has looked twice, or `most` actions are taken. A layer that never looks does nothing here.
+    ///
+    /// Requires: part and machine agree. Fewer than `most` actions are taken, and there is room for as
+    /// many events as are left.
+    fn looks(&mut self, m: &mut Self::Machine, taken: &mut usize, most: usize) -> bool
+        requires fits { Fits self.old m.old }
+        requires some { taken.old < most }
+        requires room { most ≤ taken.old + room m.old }
+        ensures more { taken.old ≤ taken.new }
+        ensures few { taken.new ≤ most }
+        ensures ends { result ≡ true → (taken.new ≡ most) ⊎ (taken.new ≡ taken.old + 2) }
+        ensures goes_on { result ≡ false → (taken.new < most) × (taken.new < taken.old + 2) }
+        ensures looked_on { LookedOn Fits cpu_of opening site room ActsFor MayHold own is_inside under_way seen moves acts
+            IsWhole IsStepwise L.plan self.old m.old taken.old taken.new self.new m.new };
 
     /// Notes looks of a section that waits at its lock and whose look would miss: one for each of the
     /// steps at the front of `steps` that are this CPU's, at most. Returns how many it noted: each

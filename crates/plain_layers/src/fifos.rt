@@ -167,6 +167,10 @@ impl<S: ThreadLayer<SleepLaw<Attempt>>> CallLayer<BufferLaw> for PlainFifo<S> {
         false
     }
 
+    fn looks(&mut self, _m: &mut S::Machine, _taken: &mut usize, _most: usize) -> bool {
+        false
+    }
+
     fn poll_kind(&mut self, m: &mut S::Machine, t: Tid, call: &Call) -> Option<ReplyKind> {
         let mut payload = Payload::new();
         let outcome = whole::<Attempt, S>(

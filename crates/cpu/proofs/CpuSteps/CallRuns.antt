@@ -4,30 +4,30 @@ use Rattle.std.proofs.{Common.{arith, vec_capacity}, lemmas.List.{append-nil, le
 use Rattle.layer_traits.specs.Layers.{BufferLaw.{Buffering, Answered, answer_in, begun_of, buffer_of, call_state_of}, IpcLaw.ipc_plan}
 use Rattle.layer_traits.specs.{Blocks.{Capacities.caps_in, QueueBlocks.homes_in}, declared.{call_layers.CallLayer.Ghosts, calls.{Call.Call, Effect.Effect}}}
 use Rattle.layer_traits.specs.{declared.{calls.{ReplyKind.ReplyKind, Reply.Reply}, call_states.CallState.CallState}, Threads.Places.one_if}
-use Rattle.layer_traits.specs.{Views.OwnParts.threads_in, Polling.{LayerPolls.{IsBegunAt, LookedAt, PolledAt, PolledOnAt}, Looks.Tries, PollRuns.PolledOn}}
-use Rattle.{event_log.specs.declared.{entries.Entry.Entry, ids.{CpuId.CpuId, Tid.Tid}}, guest.specs.declared.instructions.Instruction.Instruction}
-use Rattle.{guest.specs.State.State, cpu.specs.declared.{cpus.{Choice.TheVariants.Polls, Cpu.Cpu}, guests.{Guest.Guest, GuestStage.GuestStage}}}
-use Rattle.cpu.specs.{declared.guests.{GuestStage.TheVariants.Begun, Todo.Todo}, Cpus.{IsCpu, begins_at, begun_count, chosen, chosen_at, chosen_by, chosen_for}}
-use Rattle.cpu.specs.Cpus.{GuestsWent, Replies, guest_calls, guests_rest, chosen_todo, fresh_at, guest_at, is_begun_guest, of_cpu, of_thread, programs_of}
-use Rattle.cpu.specs.{Cpus.with_guest, CpuSteps.{RunsAt, SteppedAt, stops_at}, Guests.{HasComeIn, entries_of, fresh_effect, had, is_begun, is_calling, polled}}
-use Rattle.cpu.{specs.Guests.{stage_after, todo_of}, proofs.CpuSteps.CallSteps.{PolledCpu, PollsAt, noted_call, poll_buffer, poll_call_states, poll_within}}
-use Rattle.cpu.proofs.CpuSteps.{CallSteps.polls_at, GuestsFollow.had_going, CpuRuns.one_run, CpuStates.valid_cpu, PassSteps.seen_stays}
-use Rattle.cpu.proofs.{CpuSteps.StepsBesideGuests.{called_grows, follows_grow, look_grows, others_grow, others_same}, OverLayer.CpuOverLayer.IsLayered}
-use Rattle.cpu.proofs.{OverLayer.CpuOverLayer.{PartLaws, layered, acts_for, left_framed, tabled_cpu, outset, runs_home}, ListFacts.GuestLists.at_same}
-use Rattle.cpu.proofs.{ListFacts.{GuestLists.{count_with, guest_within, programs_with}, ListReads.set_twice}, StepTable.TablePolls.{TabledPoll, poll_tabled}}
-use Rattle.cpu.proofs.StepTable.{TablePolls.poll_steps as poll_by_table, TableCalls.{fifo_follows, hand_preserved, looked_steps}}
+use Rattle.layer_traits.specs.{Views.OwnParts.threads_in, Polling.{LayerPolls.{IsBegunAt, LookedAt, LookedOnAt, PolledAt, PolledOnAt}}}
+use Rattle.{layer_traits.specs.Polling.PollRuns.{LookedOn, PolledOn}, event_log.specs.declared.{entries.Entry.Entry, ids.{Tid.Tid}}}
+use Rattle.{guest.specs.{declared.instructions.Instruction.Instruction, State.State}, cpu.specs.declared.cpus.{Choice.TheVariants.Polls, Cpu.Cpu}}
+use Rattle.cpu.specs.{declared.guests.{Guest.Guest, GuestStage.{GuestStage, TheVariants.Begun}, Todo.Todo}, Cpus.{IsCpu, begins_at, begun_count, chosen}}
+use Rattle.cpu.specs.Cpus.{chosen_at, chosen_by, chosen_for, GuestsWent, Replies, guest_calls, guests_rest, chosen_todo, fresh_at, guest_at, is_begun_guest}
+use Rattle.cpu.specs.{Cpus.{of_cpu, of_thread, programs_of, with_guest}, CpuSteps.{RunsAt, SteppedAt, stops_at}, Guests.{HasComeIn, entries_of, fresh_effect}}
+use Rattle.cpu.{specs.Guests.{had, is_begun, is_calling, polled, stage_after, todo_of}, proofs.CpuSteps.CallSteps.{PolledCpu, PollsAt, noted_call, poll_buffer}}
+use Rattle.cpu.proofs.CpuSteps.{CallSteps.{poll_call_states, poll_within, polls_at}, GuestsFollow.had_going, CpuRuns.one_run, CpuStates.valid_cpu}
+use Rattle.cpu.proofs.CpuSteps.{PassSteps.seen_stays, StepsBesideGuests.{called_grows, follows_grow, others_grow, others_same, tries_grow}}
+use Rattle.cpu.proofs.OverLayer.CpuOverLayer.{IsLayered, PartLaws, layered, acts_for, left_framed, tabled_cpu, outset, runs_home}
+use Rattle.cpu.proofs.{ListFacts.{GuestLists.{at_same, count_with, guest_within, programs_with}, ListReads.set_twice}, StepTable.TablePolls.TabledPoll}
+use Rattle.cpu.proofs.StepTable.{TablePolls.{poll_tabled, poll_steps as poll_by_table}, TableCalls.{fifo_follows, hand_preserved, looked_steps}}
 
 -- a call that is answered has had an effect
 replies_so : (call : Call) (state : CallState) (answer : Option Reply) → Answered call state answer → Replies call state.effect answer
 replies_so call state None answered = tt
 replies_so call state (Some reply) answered = answered.1
 
-module _ {P L M : Type 0} {I : Ghosts P L M} (laws : PartLaws I) (m : M) (p : Cpu P M) (cpu : IsLayered I m p) (live : stops_at I p ≡ None) where
+module _ {P L M : Type 0} {I : Ghosts P L M} (laws : PartLaws I) (m : M) (p : Cpu P M) (cpu : IsLayered I m p) where
   -- a look that took the CPU to r, with all else of the CPU as it was
   pub look_steps : (n : M) (r : Cpu P M) → LookedAt I ipc_plan true p.part m r.part n → r.number ≡ p.number → r.limit ≡ p.limit
       → r.guests.items ≡ p.guests.items → r.trace.items ≡ p.trace.items → vec_capacity p.trace ≤ vec_capacity r.trace → SteppedAt I m p n r
   look_steps n r looked number limit guests trace capacity = record {
-    live = live;
+    live = rw (looked.waits refl) refl;
     agrees = record {
       fits = looked.framed.fits;
       number = looked.framed.cpu ∙ cpu.number ∙ sym number;
@@ -43,14 +43,13 @@ module _ {P L M : Type 0} {I : Ghosts P L M} (laws : PartLaws I) (m : M) (p : Cp
     };
     leaves = left_framed I m n p r cpu.number number limit looked.framed (ap programs_of guests)
         (guests_rest guests trace) (others_grow _ _ _ _ looked.seen) (rw cpu.number at looked.moves)
-        (λ step. look_grows (λ d. I.ActsFor m d) p.number (I.acts m) (I.acts n) true
-        (λ yes. subst (λ (d : CpuId). Tries (λ e. I.ActsFor m e) d (I.acts m) (I.acts n)) cpu.number (looked.tries step refl)) (λ no. absurd (cc no)));
+        (λ step. rw (← cpu.number) (tries_grow _ _ _ _ (looked.tries step refl)));
     steps = λ step. rw (guests, trace) (looked_steps (λ d. I.ActsFor m d) (homes_in (I.opening m)) (caps_in (I.opening m)) (I.cpu_of p.part) p.number p.limit
         (I.own p.part) (I.own r.part) p.guests.items p.trace.items (I.acts m) (I.acts n) cpu.number looked.own (looked.tries step refl));
   }
 
   -- a poll of the call of t that took the CPU to r, which noted what it told
-  module _ (t : Tid) (call : Call) (chose : chosen (threads_in (I.own p.part)) p.guests.items ≡ Polls t call)
+  module _ (live : stops_at I p ≡ None) (t : Tid) (call : Call) (chose : chosen (threads_in (I.own p.part)) p.guests.items ≡ Polls t call)
       (free : begins_at (guest_at p.guests.items t.0) ≡ true → length p.trace.items + begun_count p.guests.items < p.limit)
       (n : M) (r : Cpu P M) (told : Option ReplyKind) (polled_so : PolledAt I ipc_plan t call p.part m r.part n told) (number : r.number ≡ p.number)
       (limit : r.limit ≡ p.limit)
@@ -146,8 +145,17 @@ with_twice guests t f h g at same = grind (arith, set_twice, at_same)
 
 -- after a run the CPU stands over its layer again
 runs_layered : {P L M : Type 0} {I : Ghosts P L M} {m n : M} {p q : Cpu P M} {k : ℕ} → PartLaws I → IsLayered I m p → RunsAt I m p k n q → IsLayered I n q
-runs_layered laws cpu RunsAt.none = cpu
-runs_layered {n = n} {q = q} laws cpu (RunsAt.more runs s) = layered laws n q s.agrees
+runs_layered laws cpu RunsAt.no_steps = cpu
+runs_layered {n = n} {q = q} laws cpu (RunsAt.then_step runs s) = layered laws n q s.agrees
+
+-- looks of its part behind so many steps are steps too
+pub looks_run : {P L M : Type 0} {I : Ghosts P L M} {m n : M} {p q : Cpu P M} {j k : ℕ} {r : P} {o : M} → PartLaws I → IsLayered I m p
+    → RunsAt I m p j n q → LookedOnAt I ipc_plan q.part n j k r o → RunsAt I m p k o (record q { part = r })
+looks_run laws cpu ran LookedOn.none = ran
+looks_run {q = q} {r = r} {o = o} laws cpu ran (LookedOn.more {q = s} {n = n} looked last) =
+    let amid = looks_run laws cpu ran looked in
+    RunsAt.then_step amid
+    (look_steps laws n (record q { part = s }) (runs_layered laws cpu amid) o (record q { part = r }) last refl refl refl refl (omega arith))
 
 -- the CPU stands at the call of t
 module _ {P L M : Type 0} {I : Ghosts P L M} (laws : PartLaws I) (m : M) (p : Cpu P M) (cpu : IsLayered I m p) (live : stops_at I p ≡ None)
@@ -220,7 +228,7 @@ module _ {P L M : Type 0} {I : Ghosts P L M} (laws : PartLaws I) (m : M) (p : Cp
       number limit guests trace capacity)
   call_runs (PolledOn.again {q = q} {n = n} {o = o} {told = told} on quiet last) r part number limit guests trace capacity =
       let amid : RunsAt I m p _ n (between q) = call_runs on (between q) refl refl refl refl (trace_between q quiet) (omega arith) in
-      RunsAt.more amid (poll_steps laws n (between q) (runs_layered laws cpu amid) (live_between q quiet) t call (chose_between q quiet)
+      RunsAt.then_step amid (poll_steps laws n (between q) (runs_layered laws cpu amid) (live_between q quiet) t call (chose_between q quiet)
       (free_between q quiet) o r
       told (subst (λ (x : P). PolledAt I ipc_plan t call q n x o told) (sym part) last) number limit
       (guests ∙ guests_between q quiet (had_in r.part) (answer_in (I.own r.part).call_states t told))
@@ -229,7 +237,7 @@ module _ {P L M : Type 0} {I : Ghosts P L M} (laws : PartLaws I) (m : M) (p : Cp
       let amid : RunsAt I m p _ n (between q) = call_runs on (between q) refl refl refl refl (trace_between q quiet) (omega arith) in
       let looked : LookedAt I ipc_plan true q n r.part o = subst (λ (x : P). LookedAt I ipc_plan true q n x o) (sym part) last in
       let same : had_in r.part ≡ had_in q = ap (λ (own : Buffering). (call_state_of own.call_states t).effect) looked.own in
-      RunsAt.more amid (look_steps laws n (between q) (runs_layered laws cpu amid) (live_between q quiet) o r looked number limit
+      RunsAt.then_step amid (look_steps laws n (between q) (runs_layered laws cpu amid) o r looked number limit
       (guests ∙ ap (λ (e : Option Effect). with_guest p.guests.items t.0 (λ g. polled g e None)) same)
       (trace ∙ (ap (λ (e : Option Effect). p.trace.items ++ entries_of p.number t (buffer_of call) (fresh_at (guest_at p.guests.items t.0) e)) same
       ∙ sym (trace_between q quiet))) capacity)

@@ -1,5 +1,5 @@
 -- What a step leaves beside the guests: how effects and actions grow, and the steps in which no guest's call goes on.
-use Rattle.std.proofs.Common.{◌≡◌, ◌==◌, Bool, true, false, List, [], ◌∷◌, ◌++◌, Option, Some, None, refl, ap, ◌∙◌, arith}
+use Rattle.std.proofs.Common.{◌≡◌, ◌==◌, List, [], ◌∷◌, ◌++◌, Option, Some, None, refl, ap, ◌∙◌, arith}
 use Rattle.event_log.specs.{declared.{entries.Entry.Entry, ids.{CpuId.CpuId, LockId.LockId, Tid.Tid}}, Actions.{Action, Try, Phase, action_in, cpu_of_action}}
 use Rattle.{event_log.specs.Actions.{gives, phase, spot_of}, layer_traits.specs.declared.calls.{Call.Call, Effect.Effect, Reply.Reply}}
 use Rattle.layer_traits.specs.{declared.{call_states.CallState.CallState, passes.Pass.Pass}, Polling.{Looks.Tries, Plans.{Plan, Table, Left, Now, Act}}}
@@ -76,9 +76,3 @@ called_grows ActsFor cpu t call call_states left old new answer called = go call
 pub others_same : (ActsFor : CpuId → Type 0) (number : CpuId) (old new : List Entry) → OthersSeen ActsFor old new → ActsFor number
     → of_cpu number new ≡ of_cpu number old
 others_same ActsFor number old new seen acts = ap (λ (l : List Entry). of_cpu number l) seen.is ∙ cpu_same ActsFor number seen.others old seen.foreign acts
-
--- a look did one action or none
-pub look_grows : {N : Type 0} (ActsFor : CpuId → Type 0) (cpu : CpuId) (old new : List (Action N)) (looked : Bool) → (looked ≡ true → Tries ActsFor cpu old new)
-    → (looked ≡ false → new ≡ old) → ActsGrow ActsFor cpu old new
-look_grows ActsFor cpu old new true tries still = tries_grow ActsFor cpu old new (tries refl)
-look_grows ActsFor cpu old new false tries still = none_grow ActsFor cpu old new (still refl)

@@ -67,7 +67,7 @@ module _ {P L M : Type 0} (I : Ghosts P L M) (laws : MachineLaws I) (owner : M �
 
   pub went_so : {m : M} {x : Cpu P M} {steps : ℕ} {n : M} {y : Cpu P M} (cpus : List (Cpu P M)) (taken : ℕ) → Holds (works_by I owner threads) m cpus room taken
       → slice_get cpus k ≡ Some x → RunsAt I m x steps n y → taken + steps ≤ room → WentSo m cpus taken steps n y
-  went_so {m} {x} cpus taken is at RunsAt.none space =
+  went_so {m} {x} cpus taken is at RunsAt.no_steps space =
       let same : slice_set cpus k x ≡ cpus = set_again cpus k x at in
       let sum : taken ≡ taken + 0 = omega arith in
       record {
@@ -76,7 +76,7 @@ module _ {P L M : Type 0} (I : Ghosts P L M) (laws : MachineLaws I) (owner : M �
         leads = subst (λ (l : List (Cpu P M)). Leads I.IsStepwise (shows m cpus taken) [] (shows m l (taken + 0))) (sym same)
             (subst (λ (done : ℕ). Leads I.IsStepwise (shows m cpus taken) [] (shows m cpus done)) sum (leads_nowhere I.IsStepwise (shows m cpus taken)));
       }
-  went_so {m} {x} cpus taken is at (RunsAt.more {k = steps} {n = n} {o = o} {q = q} {r = r} runs step) space =
+  went_so {m} {x} cpus taken is at (RunsAt.then_step {k = steps} {n = n} {o = o} {q = q} {r = r} runs step) space =
       let before = went_so cpus taken is at runs (omega (arith, space)) in
       let live : taken + steps < room = omega (arith, space) in
       let amid = slice_set cpus k q in

@@ -25,6 +25,11 @@ module _ {P M : Type 0} (Fits : P → M → Type 0) (cpu_of : P → CpuId) (open
     pub moves : MovesGrow (ActsFor m) (cpu_of p) (moves_of m) (moves_of n)
     pub tries : IsStepwise → told ≡ true → Tries (ActsFor m) (cpu_of p) (acts_of m) (acts_of n)
 
+  -- looks, one after the other, took the part p and the machine m to this part and machine, and the number of actions taken from `before` to this one
+  pub data LookedOn (p : P) (m : M) (before : ℕ) : (taken : ℕ) → P → M → Type 0 where
+    none : LookedOn p m before before p m
+    more : {taken : ℕ} {q r : P} {n o : M} → LookedOn p m before taken q n → Looked true q n r o → LookedOn p m before (taken + 1) r o
+
   module _ (t : Tid) (call : Call) where
     -- a poll of the call took the part p and the machine m to q and n, with this answer: all that a poll promises
     pub record Polled (p : P) (m : M) (q : P) (n : M) (answer : Option Reply) : Type 0 where

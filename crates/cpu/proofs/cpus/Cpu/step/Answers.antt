@@ -1,20 +1,23 @@
-use Rattle.std.proofs.Common.{refl}
+use Rattle.std.proofs.Common.{refl, ap, sym, arith}
+use Rattle.cpu.{specs.Cpus.step_answer, proofs.{CpuSteps.CallRuns.look_steps, OverLayer.CpuOverLayer.{laws_of, layered}}}
 use Rattle.cpu.proofs.cpus.Cpu.step.Goals as goal
 
-pub returns-then-look-clause-fits : goal.returns-then-look-clause-fits
-returns-then-look-clause-fits g c = (c.if-look.ensures.stepped refl).agrees.fits
-
-pub returns-then-look-clause-is : goal.returns-then-look-clause-is
-returns-then-look-clause-is g c = (c.if-look.ensures.stepped refl).agrees.is
-
-pub returns-then-look-clause-leaves : goal.returns-then-look-clause-leaves
-returns-then-look-clause-leaves g c = (c.if-look.ensures.stepped refl).leaves
-
-pub returns-then-look-clause-table : goal.returns-then-look-clause-table
-returns-then-look-clause-table g c = (c.if-look.ensures.stepped refl).agrees.table
-
-pub returns-then-look-clause-steps : goal.returns-then-look-clause-steps
-returns-then-look-clause-steps g c = (c.if-look.ensures.stepped refl).steps
+-- the look that it did was a step
+pub returns-then-look : goal.returns-then-look
+returns-then-look g c =
+    let laws = laws_of g.met.I.CallLayer in
+    let p = c.args.self.now in
+    let cpu = layered laws c.args.m.now p c.requires.agrees in
+    let looked = look_steps laws c.args.m.now p cpu c.look.new.m (record p { part = c.look.new.self }) c.if-look.ensures refl refl refl refl (omega arith) in
+    record {
+      fits = looked.agrees.fits;
+      is = looked.agrees.is;
+      leaves = looked.leaves;
+      answer = ap step_answer (sym looked.live);
+      still = λ r halted. absurd (cc halted);
+      table = looked.agrees.table;
+      steps = looked.steps;
+    }
 
 pub act-requires-clause-agrees : goal.act-requires-clause-agrees
 act-requires-clause-agrees g c = let still = c.if-look.ensures.still refl in rw (still.0, still.1) c.requires.agrees
