@@ -3,7 +3,7 @@ use denote.RattleType.{RattleType}
 use denote.Enum.Declared.{shape}
 use denote.Ref.{NamedLft}
 use denote.Hole.{as_row}
-use denote.Param.SendFields.{declared_send, declared_sync}
+use denote.Param.SendFields.{declared_send}
 use denote.Param.Send.{IsSend, IsSync, sendable, array_send, enum_send, enum_sync, recorded_send, recorded_sync, view_send}
 use Rattle.{std.{proofs.Crossing.crosses, specs.contracts.option.Option.the_row as option_row}, layer_traits.specs.Blocks.Payloads.{buffer_meant, buffer_told}}
 use Rattle.layer_traits.specs.Blocks.Payloads.{cv_meant, cv_told, lock_told, queue_meant, queue_told}
@@ -28,14 +28,13 @@ use Rattle.sleep_wakeup.specs.{Nested.nested_told, contracts.edits.{SleepEdit.th
 use Rattle.sleep_wakeup.specs.contracts.{deferred.DeferredOutcome.{the_row as deferred_row, the_type as deferred_type}, sleeper.Sleeper.the_row as sleeper_row}
 use Rattle.sleep_wakeup.{specs.contracts.sleeper.Sleeper.the_type as sleeper_type, proofs.edits.SleepBlock.TheSendSync.the_send as sleep_block_send}
 use Rattle.{sleep_wakeup.proofs.edits.SleepBlock.TheSendSync.the_sync as sleep_block_sync, event_log.specs.declared.ids.TheConstants.THREADS}
-use Rattle.table_machine.{proofs.Crossing.{ghost_send, seat_send, shared_sync}, specs.contracts.seats.Seat.the_field as table_seat_field}
+use Rattle.table_machine.{proofs.Crossing.{ghost_send, seat_send}, specs.contracts.seats.Seat.the_field as table_seat_field}
 use Rattle.thread_blocks.{specs.contracts.queues.ThreadQueue.the_row as queue_row, proofs.queues.ThreadQueue.TheSendSync.the_send as queue_send}
 use Rattle.thread_blocks.proofs.queues.ThreadQueue.TheSendSync.{the_sync as queue_sync}
 use Rattle.fifo_buffer.specs.contracts.{call_state_table.CallStates.{the_row as call_states_row, the_type as call_states_type}, fifo.Fifo.the_row as fifo_row}
 use Rattle.{fifo_buffer.specs.contracts.fifo.Fifo.the_type as fifo_type, spinlock.specs.contracts.spin_lock.SpinLock.the_row as spin_lock_row}
 use Rattle.spinlock.{specs.contracts.spin_lock.SpinLock.the_type as spin_lock_type, proofs.stages.TicketPhase.TheSendSync.the_send as ticket_phase_send}
 use Rattle.cpu_workers.specs.contracts.workers.seats.TowerSeat.{the_row as seat_row, TheInside.the_type as inside_type}
-use Rattle.cpu_workers.specs.contracts.workers.gates.Seated.{the_row as seated_row, the_type as seated_type}
 
 deferred_send : (E A : RattleType) → IsSend A → IsSend (deferred_row E A)
 deferred_send E A s = declared_send (deferred_type E A)
@@ -136,8 +135,3 @@ turn_send a K k LockProtocol = declared_send (spin_lock_type (seat_row a K k) Lo
     (search (sendable, crosses, tower_seat_send) depth 9, (search (sendable, crosses), tt)),
   ),
 )
-
--- and threads may share a gate beside the table, if they may share the gate
-pub seated_sync : (a : NamedLft) (G K : RattleType) (k : _) → IsSync G → IsSync (seated_row a G K k)
-seated_sync a G K k s = declared_sync (seated_type a G K k)
-    (search sendable, (search (sendable, shared_sync, tower_block_send, tower_block_sync) depth 9, tt))

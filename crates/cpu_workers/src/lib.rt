@@ -31,6 +31,6 @@ pub use natives::{Native, NativeReport, run_native};
 pub use own_threads::{Joined, NoThread};
 pub use refusals::WorkerError;
 pub use workers::{
-    Caller, Came, Closed, Did, Gate, Go, MOST_CALLS, OpenGate, Report, Stop, Worker, call,
-    run_workers, work, work_all,
+    Caller, Came, Closed, Did, Gate, Go, Hints, MOST_CALLS, Manners, OpenGate, Report, Stop,
+    Worker, call, run_workers, work, work_all,
 };

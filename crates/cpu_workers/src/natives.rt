@@ -7,7 +7,7 @@ mod run;
 mod seating;
 mod tasks;
 
-use crate::workers::Caller;
+use crate::workers::{Caller, Hints};
 use layer_traits::{CallLayer, IpcLaw};
 pub use run::{NativeReport, run_native};
 use std::sync::Wait;
@@ -30,7 +30,7 @@ pub trait Native {
     /// Requires: the caller has made no call, and its buffers are as this native needs them.
     fn run<I: CallLayer<IpcLaw> + Drop, R: Wait>(&mut self, rt: &R, caller: &mut Caller<I>)
     where
-        I::Machine: Drop,
+        I::Machine: Drop + Hints,
         requires fresh { caller.old.calls ≡ [] }
         requires needs { Needs self.old caller.old.caps }
         ensures kept { Kept self.old self.new caller.new }

@@ -5,6 +5,7 @@
 mod callers;
 mod calling;
 mod gates;
+mod hints;
 mod manners;
 pub(crate) mod report;
 pub(crate) mod run;
@@ -18,6 +19,8 @@ mod worker;
 pub use callers::{Caller, Closed, MOST_CALLS};
 pub use calling::call;
 pub use gates::{Gate, Go, OpenGate};
+pub use hints::Hints;
+pub use manners::Manners;
 pub use report::Report;
 pub use run::run_workers;
 pub use starting::{Came, work_all};

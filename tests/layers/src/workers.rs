@@ -2,7 +2,7 @@
 
 use boot::Boot;
 use cpu_workers::{
-    Gate, Go, OpenGate, Report, Stop, reports_are_lawful, reports_are_runs, run_workers,
+    Gate, Go, Hints, OpenGate, Report, Stop, reports_are_lawful, reports_are_runs, run_workers,
     stops_are_true, workers_lose_no_wake_up,
 };
 use event_log::{BufId, CpuId, Entry, Msg};
@@ -304,9 +304,18 @@ fn an_open_gate_lets_every_turn_pass(rt: HostRuntime) {
     assert_eq!(rt; OpenGate.pass(CpuId(0), 0), Go::Pass);
     assert_eq!(rt; OpenGate.pass(CpuId(7), u64::MAX), Go::Pass);
     assert_eq!(rt; OpenGate.open_for(CpuId(7), 3), u64::MAX);
-    assert_eq!(rt; OpenGate.next_hint(BufId(0)), 0);
     // One that says nothing is to be asked.
     assert_eq!(rt; Counting::new(0).open_for(CpuId(7), 3), 0);
+}
+
+/// A machine that tells nothing beside its events.
+struct Mute;
+
+impl Hints for Mute {}
+
+#[test]
+fn a_machine_that_says_nothing_hints_at_no_draw(rt: HostRuntime) {
+    assert_eq!(rt; Mute.next_hint(BufId(0)), 0);
 }
 
 #[test]

@@ -9,7 +9,7 @@ use crate::natives::Native;
 use crate::natives::tasks::NativeTask;
 use crate::pool::run_all;
 use crate::refusals::WorkerError;
-use crate::workers::Caller;
+use crate::workers::{Caller, Hints};
 use event_log::{CpuId, NoMemory, Tid};
 use ipc_calls::{Ipc, TowerEdit, TowerLaws, TowerOver};
 use layer_traits::{CallLayer, IpcLaw, Layer, LockLaw};
@@ -34,7 +34,7 @@ fn tasks_over<I: CallLayer<IpcLaw> + Drop, N: Native + Drop>(
     natives: Vec<N>,
 ) -> Result<Vec<NativeTask<I, N>>, NoMemory>
 where
-    I::Machine: Drop,
+    I::Machine: Drop + Hints,
     requires room { (m : I.Machine) → 0 < I.room m }
     requires few { length machines.items ≤ CPUS }
     requires count { length natives.items ≡ length machines.items }
@@ -72,7 +72,7 @@ fn left_by<I: CallLayer<IpcLaw> + Drop, N: Native + Drop>(
     task: NativeTask<I, N>,
 ) -> LeftNative<I::Machine, N>
 where
-    I::Machine: Drop,
+    I::Machine: Drop + Hints,
     requires stepwise { I.IsStepwise }
     ensures machine { HasLeftMachine task.caller (I.acts result.machine) (I.site result.machine) }
     ensures owns { I.ActsFor result.machine task.caller.cpu }
@@ -91,7 +91,7 @@ fn all_left<I: CallLayer<IpcLaw> + Drop, N: Native + Drop>(
     mut left: Vec<LeftNative<I::Machine, N>>,
 ) -> Vec<LeftNative<I::Machine, N>>
 where
-    I::Machine: Drop,
+    I::Machine: Drop + Hints,
     requires stepwise { I.IsStepwise }
     requires empty { left.items ≡ [] }
     requires room { length done.items ≤ vec_capacity left }
@@ -119,7 +119,7 @@ pub(crate) fn call_each<
     natives: Vec<N>,
 ) -> Result<Vec<LeftNative<I::Machine, N>>, WorkerError>
 where
-    I::Machine: Drop + Send,
+    I::Machine: Drop + Send + Hints,
     requires stepwise { I.IsStepwise }
     requires room { (m : I.Machine) → 0 < I.room m }
     requires few { length machines.items ≤ CPUS }
@@ -162,7 +162,7 @@ pub(crate) fn call_over<
     natives: Vec<N>,
 ) -> Result<Vec<LeftNative<L::Machine, N>>, WorkerError>
 where
-    L::Machine: Drop + Send,
+    L::Machine: Drop + Send + Hints,
     requires stepwise { L.IsStepwise }
     requires room { (m : L.Machine) → 0 < L.room m }
     requires few { length machines.items ≤ CPUS }

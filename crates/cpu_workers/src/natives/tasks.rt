@@ -4,7 +4,7 @@ ghost use Rattle.std.specs.Prelude.{◌≡◌, []};
 
 use crate::natives::Native;
 use crate::own_threads::Task;
-use crate::workers::Caller;
+use crate::workers::{Caller, Hints};
 use layer_traits::{CallLayer, IpcLaw};
 use std::sync::Wait;
 
@@ -12,7 +12,7 @@ use std::sync::Wait;
 #[derive(Drop)]
 pub(crate) struct NativeTask<I: CallLayer<IpcLaw> + Drop, N: Native + Drop>
 where
-    I::Machine: Drop,
+    I::Machine: Drop + Hints,
 {
     pub(crate) caller: Caller<I>,
     pub(crate) native: N,
@@ -20,7 +20,7 @@ where
 
 impl<I: CallLayer<IpcLaw> + Drop, N: Native + Drop> Task for NativeTask<I, N>
 where
-    I::Machine: Drop,
+    I::Machine: Drop + Hints,
 {
     ghost use Rattle.std.specs.Prelude.{◌≡◌, []};
     ghost use Rattle.cpu_workers.specs.Natives.{HasKept};

@@ -7,6 +7,8 @@ ghost use Rattle.cpu_workers.specs.Callers.{HasCalled, HasMadeCall};
 ghost use Rattle.event_log.specs.declared.entries.Kind.TheVariants as kind;
 
 use crate::workers::calling;
+use crate::workers::hints::Hints;
+use crate::workers::manners::Manners;
 use event_log::{BufId, CpuId, Msg, Tid};
 use layer_traits::{Call, CallLayer, IpcLaw, Reply};
 use std::marker::Model;
@@ -29,18 +31,19 @@ pub struct Closed;
 #[derive(Drop)]
 pub struct Caller<I: CallLayer<IpcLaw> + Drop>
 where
-    I::Machine: Drop,
+    I::Machine: Drop + Hints,
 {
     part: I,
     machine: I::Machine,
     cpu: CpuId,
     thread: Tid,
     made: u64,
+    manners: Manners,
 }
 
 impl<I: CallLayer<IpcLaw> + Drop> Model for Caller<I>
 where
-    I::Machine: Drop,
+    I::Machine: Drop + Hints,
 {
     ghost use Rattle.std.specs.Prelude.{◌≡◌, ◌<◌, None, reverse};
     ghost use Rattle.layer_traits.specs.{declared.call_states.Stage.TheVariants.Idle, Blocks.{BufferEffects.opening_locks, Capacities.caps_in}};
@@ -64,7 +67,7 @@ where
 
 impl<I: CallLayer<IpcLaw> + Drop> Caller<I>
 where
-    I::Machine: Drop,
+    I::Machine: Drop + Hints,
 {
     ghost use Rattle.{event_log.specs.{declared.ids.TheConstants.THREADS, Actions.phase}, layer_traits.specs.Blocks.BufferEffects.opening_locks};
     ghost use Rattle.layer_traits.specs.{Blocks.QueueBlocks.inner, Polling.Plans.is_in_section};
@@ -99,6 +102,7 @@ where
             cpu,
             thread,
             made: 0,
+            manners: Manners::new(),
         }
     }
 
@@ -108,7 +112,14 @@ where
         ensures { HasCalled self.old self.new call.now result }
     {
         if self.made < MOST_CALLS {
-            let reply = calling::call(rt, &mut self.part, &mut self.machine, self.thread, call);
+            let reply = calling::call(
+                rt,
+                &mut self.part,
+                &mut self.machine,
+                self.thread,
+                call,
+                &mut self.manners,
+            );
             self.made += 1;
             return reply;
         }

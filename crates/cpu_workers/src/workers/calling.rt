@@ -5,9 +5,11 @@ ghost use Rattle.std.specs.Prelude.{◌≡◌, ◌≢◌, ◌<◌, None, Some, I
 ghost use Rattle.layer_traits.specs.{Blocks.Capacities.caps_in, Views.OwnParts.threads_in, declared.call_states.Stage.TheVariants.Idle};
 ghost use Rattle.layer_traits.specs.{declared.passes.Pass.TheVariants.End, Layers.BufferLaw.{Calling, MayGoOn, MayPollCall, Passing, buffer_of, call_state_of}};
 ghost use Rattle.{layer_traits.specs.Threads.Passes.MayPass, cpu_workers.specs.{declared.workers.calling.Begun.TheVariants.Calls, Calls.{EndsCall, KeepsOn}}};
-ghost use Rattle.cpu_workers.specs.{Calls.{MayBegin, MayPollBegun, Returned, begun_under_way}, Idling.is_idle};
+ghost use Rattle.cpu_workers.specs.Calls.{MayBegin, MayPollBegun, Returned, begun_under_way};
 
-use crate::pauses::{SPINS, pause};
+use crate::pauses::SPINS;
+use crate::workers::hints::Hints;
+use crate::workers::manners::Manners;
 use event_log::Tid;
 use layer_traits::{Call, CallLayer, IpcLaw, Pass, Reply};
 use std::sync::Wait;
@@ -140,19 +142,10 @@ fn poll_once<I: CallLayer<IpcLaw>>(
     }
 }
 
-// Whether nobody runs on the CPU, is in its hand or is ready there.
-pub(crate) fn is_idle<I: CallLayer<IpcLaw>>(part: &I) -> bool
-    ensures { result ≡ is_idle (threads_in (I.own part.now)).current (threads_in (I.own part.now)).hand (threads_in (I.own part.now)).ready }
-{
-    match (part.current(), part.hand()) {
-        (None, None) => !part.has_ready(),
-        _ => false,
-    }
-}
-
 /// Does one message call of the thread `t`, whose CPU has nothing under way, and gives its reply: the
 /// CPU is polled until the call has answered. The call had exactly one effect, which is the CPU's one
-/// new entry, and the reply is that effect's.
+/// new entry, and the reply is that effect's. By the CPU's manners, kept from call to call, it may wait a
+/// little before it asks for a buffer's lock.
 ///
 /// It waits for other CPUs, so it need not return. No call takes memory.
 ///
@@ -164,7 +157,10 @@ pub fn call<I: CallLayer<IpcLaw>, R: Wait>(
     m: &mut I::Machine,
     t: Tid,
     call: &Call,
+    manners: &mut Manners,
 ) -> Reply
+where
+    I::Machine: Hints,
     requires fits { I.Fits part.old m.old }
     requires room { (w : I.Machine) → 0 < I.room w }
     requires buffer { (buffer_of call.now).0 < length (caps_in (I.opening m.old)) }
@@ -180,6 +176,7 @@ pub fn call<I: CallLayer<IpcLaw>, R: Wait>(
     ensures runs { (threads_in (I.own part.new)).current ≡ Some t }
     ensures returned { Returned (I.cpu_of part.old) t call.now result (I.seen m.old) (I.seen m.new) }
 {
+    manners.begin(m, call.buffer());
     let mut begun: Option<Begun> = None;
     let mut spins = SPINS;
     for _ in rt.forever() {
@@ -187,7 +184,7 @@ pub fn call<I: CallLayer<IpcLaw>, R: Wait>(
             Ok(reply) => return reply,
             Err(goes_on) => begun = goes_on,
         }
-        spins = pause(part.is_busy(), is_idle(part), spins);
+        spins = manners.after(part, m, spins);
     }
     unreachable!()
 }

@@ -3,9 +3,7 @@
 
 ghost use Rattle.std.specs.Prelude.{◌≡◌, ℕ, ◌+◌, ◌<◌, ◌≤◌};
 
-use event_log::{BufId, CpuId, LockId};
-use ipc_calls::TowerEdit;
-use table_machine::{Shared, TableWords};
+use event_log::CpuId;
 
 /// What a gate answers.
 #[derive(Clone, Copy, Debug, PartialEq, Eq)]
@@ -37,12 +35,6 @@ pub trait Gate {
     {
         0
     }
-
-    /// How many tickets were drawn at the lock of a buffer, modulo 2^64, as a hint by which a worker
-    /// chooses when it takes its next turn: any number may come.
-    fn next_hint(&self, _buffer: BufId) -> u64 {
-        0
-    }
 }
 
 /// The gate that is always open.
@@ -60,30 +52,5 @@ impl Gate for OpenGate {
 
     fn open_for(&self, _cpu: CpuId, _turn: u64) -> u64 {
         u64::MAX
-    }
-}
-
-// A gate beside the table at which the workers stand.
-#[derive(Drop)]
-pub(crate) struct Seated<'a, G: Gate, K: TableWords> {
-    pub(crate) gate: &'a G,
-    pub(crate) shared: &'a Shared<TowerEdit, K>,
-}
-
-impl<'a, G: Gate, K: TableWords> Gate for Seated<'a, G, K> {
-    ghost MayAnswer = { λ s. G.MayAnswer s.gate.now };
-
-    #[inline(always)]
-    fn pass(&self, cpu: CpuId, turn: u64) -> Go {
-        self.gate.pass(cpu, turn)
-    }
-
-    #[inline(always)]
-    fn open_for(&self, cpu: CpuId, turn: u64) -> u64 {
-        self.gate.open_for(cpu, turn)
-    }
-
-    fn next_hint(&self, buffer: BufId) -> u64 {
-        self.shared.next_hint(LockId::Buffer(buffer))
     }
 }

@@ -8,7 +8,7 @@ ghost use Rattle.cpu_workers.specs.{Closing.tower_rules, Lawful.IsLawfulReport, 
 
 use crate::counting::plan_words::PlanWords;
 use crate::refusals::WorkerError;
-use crate::workers::gates::{Gate, Seated};
+use crate::workers::gates::Gate;
 use crate::workers::report::Report;
 use crate::workers::seating::{Left, run_over};
 use crate::workers::seats::TowerSeat;
@@ -128,10 +128,7 @@ fn run_tickets<K: PlanWords + Sync, G: Gate + Sync, R: Threads + Wait + Sync>(
     let back = Back::with_capacity(alloc, boot.cpus() as usize)?;
     let seats = seats_at(alloc, shared, keys)?;
     let _laws: TowerLockLaws = PhantomData;
-    let gate = Seated { gate, shared };
-    let left = run_over::<Ticket<TowerSeat<'_, K>>, Seated<'_, G, K>, R>(
-        rt, alloc, boot, turns, &gate, seats,
-    )?;
+    let left = run_over::<Ticket<TowerSeat<'_, K>>, G, R>(rt, alloc, boot, turns, gate, seats)?;
     Ok(parted(left, back))
 }
 

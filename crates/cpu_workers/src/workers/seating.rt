@@ -9,6 +9,7 @@ ghost use Rattle.cpu_workers.specs.Seating.{HasLeft, IsApart, IsAtBoot, IsReadyS
 
 use crate::refusals::WorkerError;
 use crate::workers::gates::Gate;
+use crate::workers::hints::Hints;
 use crate::workers::seats::STRETCH;
 use crate::workers::starting::{Came, work_all};
 use crate::workers::turns::Did;
@@ -149,7 +150,7 @@ pub(crate) fn run_each<
     machines: Vec<I::Machine>,
 ) -> Result<Vec<Left<I::Machine>>, WorkerError>
 where
-    I::Machine: Drop + Send,
+    I::Machine: Drop + Send + Hints,
     requires stepwise { I.IsStepwise }
     requires room { (m : I.Machine) → STRETCH ≤ I.room m }
     requires few { length machines.items ≤ CPUS }
@@ -188,7 +189,7 @@ pub(crate) fn run_over<
     machines: Vec<L::Machine>,
 ) -> Result<Vec<Left<L::Machine>>, WorkerError>
 where
-    L::Machine: Drop + Send,
+    L::Machine: Drop + Send + Hints,
     requires stepwise { L.IsStepwise }
     requires room { (m : L.Machine) → STRETCH ≤ L.room m }
     requires plan { IsPlan boot.now }

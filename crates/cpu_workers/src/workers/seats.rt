@@ -3,11 +3,12 @@
 ghost use Rattle.std.specs.Prelude.{◌≡◌};
 ghost use Rattle.table_machine.specs.SeatViews.{IsOf};
 
-use event_log::{CpuId, LockId};
+use crate::workers::hints::Hints;
+use event_log::{BufId, CpuId, LockId};
 use ipc_calls::{TowerBlock, TowerEdit, TowerHanded};
-use layer_traits::{Mark, UsesGrantWords, Words};
+use layer_traits::{Mark, Words};
 use std::marker::Model;
-use table_machine::{Key, Seat, Shared, TableWords, WaiterWords};
+use table_machine::{Key, Seat, Shared, TableWords};
 
 /// How many turns a worker at a seat takes at once, at most: so long an idle CPU may keep its processor.
 pub(crate) const STRETCH: usize = 16;
@@ -93,4 +94,8 @@ impl<'a, K: TableWords> Words for TowerSeat<'a, K> {
     ghost legal = { λ s c acts. acts.1 };
 }
 
-impl<'a> UsesGrantWords for TowerSeat<'a, WaiterWords> {}
+impl<'a, K: TableWords> Hints for TowerSeat<'a, K> {
+    fn next_hint(&self, buffer: BufId) -> u64 {
+        self.seat.table().next_hint(LockId::Buffer(buffer))
+    }
+}

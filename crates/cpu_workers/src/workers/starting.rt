@@ -7,6 +7,7 @@ use crate::own_threads::{Joined, Task};
 use crate::pool::run_all;
 use crate::refusals::WorkerError;
 use crate::workers::gates::Gate;
+use crate::workers::hints::Hints;
 use crate::workers::turns::{Did, work};
 use crate::workers::worker::Worker;
 use layer_traits::{CallLayer, IpcLaw};
@@ -39,7 +40,7 @@ where
 
 impl<'a, I: CallLayer<IpcLaw> + Drop, G: Gate> Task for Turning<'a, I, G>
 where
-    I::Machine: Drop,
+    I::Machine: Drop + Hints,
 {
     ghost use Rattle.std.specs.Prelude.{◌≡◌, []};
     ghost use Rattle.cpu_workers.specs.Reports.{HasRun};
@@ -101,7 +102,7 @@ pub fn work_all<I: CallLayer<IpcLaw> + Drop + Send, G: Gate + Sync, R: Threads +
     turns: u64,
 ) -> Result<Joined<Came<I>>, WorkerError>
 where
-    I::Machine: Drop + Send,
+    I::Machine: Drop + Send + Hints,
     requires { All (λ w. w.acts ≡ []) workers.items }
     ensures { IfOk result (λ came. Both (λ w c. HasRun (G.MayAnswer gate.now) turns w c.worker c.did.taken c.did.stop) workers.items came.done.items) }
 {

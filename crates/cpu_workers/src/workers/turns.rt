@@ -7,6 +7,7 @@ ghost use Rattle.cpu_workers.specs.declared.workers.{gates.Go.TheVariants.{Limit
 
 use crate::pauses::SPINS;
 use crate::workers::gates::{Gate, Go};
+use crate::workers::hints::Hints;
 use crate::workers::manners::Manners;
 use crate::workers::stops::Stop;
 use crate::workers::worker::Worker;
@@ -143,7 +144,7 @@ pub fn work<I: CallLayer<IpcLaw> + Drop, G: Gate, R: Wait>(
     turns: u64,
 ) -> Did
 where
-    I::Machine: Drop,
+    I::Machine: Drop + Hints,
     requires { worker.old.acts ≡ [] }
     ensures { HasRun (G.MayAnswer gate.now) turns worker.old worker.new result.taken result.stop }
 {
@@ -159,7 +160,7 @@ where
         let most = manners.at_most(open);
         let gone = worker.turns(most);
         taken = taken.saturating_add(gone as u64);
-        spins = manners.after(gate, worker, taken, spins);
+        spins = manners.after_turn(worker, spins);
     }
     unreachable!()
 }

@@ -3,7 +3,6 @@
 ghost use Rattle.std.specs.Prelude.{◌≡◌, ◌≢◌, ◌<◌, ◌≤◌, Some, None, IfOk, [], length, vec_capacity};
 ghost use Rattle.layer_traits.specs.{Blocks.{Capacities.caps_in, QueueBlocks.homes_in}, Views.OwnParts.threads_in};
 
-use crate::workers::calling::is_idle;
 use cpu::{Cpu, Guest};
 use event_log::{BufId, CpuId, Entry, NoMemory};
 use layer_traits::{CallLayer, IpcLaw, Reason, Step};
@@ -61,7 +60,7 @@ where
 {
     ghost use Rattle.layer_traits.specs.{declared.steps.Reason.TheVariants.StepsUsed, Blocks.{BufferEffects.opening_locks, QueueBlocks.inner}};
     ghost use Rattle.{event_log.specs.{Actions.AreLegal, declared.ids.TheConstants.THREADS}, cpu.specs.{Cpus.{IsCpu, programs_of}, Tables.{IsTabled, private}}};
-    ghost use Rattle.{cpu.specs.{Boots.AreGuests, Table.{Setups.{Setup, boot_of}, Steps.halted_at}}, cpu_workers.specs.Idling.is_idle};
+    ghost use Rattle.cpu.specs.{Boots.AreGuests, Table.{Setups.{Setup, boot_of}, Steps.halted_at}};
     ghost use Rattle.cpu_workers.specs.{Working.{IsPlanned, IsSame, MayStep, TookTurns, Turned, is_inside}, Orders.{HasFollowed, IsTraceOf}};
 
     /// The worker of a CPU and its machine, which agree. The machine does one action a step and has
@@ -176,30 +175,21 @@ where
     pub fn is_busy(&self) -> bool
         ensures { result ≡ is_inside self.now }
     {
-        self.cpu.part.is_busy()
+        self.part().is_busy()
     }
 
-    /// Whether nobody runs on the CPU, is in its hand or is ready there.
-    pub(crate) fn is_idle(&self) -> bool
-        ensures { result ≡ is_idle self.now.private.current self.now.private.hand self.now.private.ready }
-    {
-        is_idle(&self.cpu.part)
-    }
-
-    // Whether a thread runs, and nobody is in the CPU's hand.
+    // The CPU's part.
     #[inline(always)]
-    pub(crate) fn runs_freely(&self) -> bool {
-        self.cpu.part.current().is_some() && self.cpu.part.hand().is_none()
+    pub(crate) fn part(&self) -> &I
+        ensures { I.is_inside result.now ≡ is_inside self.now }
+    {
+        &self.cpu.part
     }
 
-    // Whether the CPU has woken a thread that it has yet to send home.
-    pub(crate) fn has_hand(&self) -> bool {
-        self.cpu.part.hand().is_some()
-    }
-
-    // Whether a thread runs.
-    pub(crate) fn runs(&self) -> bool {
-        self.cpu.part.current().is_some()
+    // The machine in which it acts.
+    #[inline(always)]
+    pub(crate) fn machine(&self) -> &I::Machine {
+        &self.machine
     }
 
     // How many of the CPU's calls took effect.

@@ -4,7 +4,7 @@ ghost use Rattle.std.specs.Prelude.{◌≡◌, ◌+◌, ◌<◌, ◌≤◌, [], 
 ghost use Rattle.{event_log.specs.Streams.{sent_to, taken_from}, cpu_workers.specs.Callers.IsSameCaller};
 
 use arrayvec::ArrayVec;
-use cpu_workers::{Caller, Native, NativeReport, run_native};
+use cpu_workers::{Caller, Hints, Native, NativeReport, run_native};
 use event_log::{BufId, Msg};
 use layer_traits::{CallLayer, IpcLaw};
 use std::sync::Wait;
@@ -54,7 +54,7 @@ fn send_all<I: CallLayer<IpcLaw> + Drop, R: Wait>(
     sent: &mut ArrayVec<Msg, MOST>,
 )
 where
-    I::Machine: Drop,
+    I::Machine: Drop + Hints,
     requires buffer { 0 < length caller.old.caps }
     requires room { count ≤ 64 }
     requires none { sent.old.items ≡ [] }
@@ -80,7 +80,7 @@ fn receive_all<I: CallLayer<IpcLaw> + Drop, R: Wait>(
     taken: &mut ArrayVec<Msg, MOST>,
 )
 where
-    I::Machine: Drop,
+    I::Machine: Drop + Hints,
     requires buffer { 0 < length caller.old.caps }
     requires room { count ≤ 64 }
     requires none { taken.old.items ≡ [] }
@@ -100,7 +100,7 @@ where
 /// Closes the buffer, if it is to be closed.
 fn close_if<I: CallLayer<IpcLaw> + Drop, R: Wait>(rt: &R, caller: &mut Caller<I>, closes: bool)
 where
-    I::Machine: Drop,
+    I::Machine: Drop + Hints,
     requires buffer { 0 < length caller.old.caps }
     ensures taken { taken_from 0 caller.new.calls ≡ taken_from 0 caller.old.calls }
     ensures sent { sent_to 0 caller.new.calls ≡ sent_to 0 caller.old.calls }
@@ -121,7 +121,7 @@ impl Native for Peer {
 
     fn run<I: CallLayer<IpcLaw> + Drop, R: Wait>(&mut self, rt: &R, caller: &mut Caller<I>)
     where
-        I::Machine: Drop,
+        I::Machine: Drop + Hints,
     {
         send_all(rt, caller, self.first, self.sends, &mut self.sent);
         receive_all(rt, caller, self.receives, &mut self.taken);
@@ -208,7 +208,7 @@ impl Native for Tally<'_> {
 
     fn run<I: CallLayer<IpcLaw> + Drop, R: Wait>(&mut self, _rt: &R, _caller: &mut Caller<I>)
     where
-        I::Machine: Drop,
+        I::Machine: Drop + Hints,
     {
         self.ran.fetch_add(1, Ordering::SeqCst);
     }

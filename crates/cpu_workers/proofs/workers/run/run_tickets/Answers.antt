@@ -1,9 +1,8 @@
 use Rattle.std.proofs.Common.{◌≡◌, refl, sym, ◌∙◌, subst, arith}
 use Rattle.{event_log.specs.{Actions.acts_of, WordsLog.{Idle, lock_phase}}, layer_traits.specs.{Threads.OnePlace.cpu_at, Protocols.WordsProtocol.edit_of}}
-use Rattle.cpu_workers.{specs.Seating.{HaveLeft, OpensPlan}, proofs.{Crossing.{seated_sync, tower_seat_send, turn_send}, SeatViews.{have_left, ready_at}}}
+use Rattle.cpu_workers.{specs.Seating.{HaveLeft, OpensPlan}, proofs.{Crossing.{tower_seat_send, turn_send}, SeatViews.{have_left, ready_at}}}
 use Rattle.cpu_workers.proofs.TableKeys.{left_fit, seat_views_are_of}
-use denote.Exit.{yes}
-use denote.Param.Send.{param_send, param_sync, given_sync, arg_send, arg_sync}
+use denote.Param.Send.{param_send, arg_send}
 use Rattle.cpu_workers.proofs.workers.run.run_tickets.Lts as lts
 use Rattle.cpu_workers.proofs.workers.run.run_tickets.Goals as goal
 
@@ -55,9 +54,3 @@ pub run_over-requires-send-L-Machine : goal.run_over-requires-send-L-Machine
 run_over-requires-send-L-Machine g c = λ κs within.
     param_send _ (lts.arg-10-3 g.row.K g.row.G g.row.R g.K.laws g.G.laws g.R.laws g.K.PlanWords g.K.PlanWords-dict g.K.TableWords g.K.TableWords-dict g.G.Gate
     g.G.Gate-dict g.R.Threads g.R.Threads-dict g.R.Wait g.R.Wait-dict g.K.Destruct-dict κs) (search (arg_send, tower_seat_send))
-
-pub run_over-requires-sync-G : goal.run_over-requires-sync-G
-run_over-requires-sync-G g c = λ κs within.
-    param_sync _ (lts.arg-10-1 g.row.K g.row.G g.row.R g.K.laws g.G.laws g.R.laws g.K.PlanWords g.K.PlanWords-dict g.K.TableWords g.K.TableWords-dict g.G.Gate
-    g.G.Gate-dict g.R.Threads g.R.Threads-dict g.R.Wait g.R.Wait-dict g.K.Destruct-dict κs)
-    (arg_sync _ yes _ (seated_sync _ _ _ _ (given_sync _ _ c.type_bounds.sync-G)))
