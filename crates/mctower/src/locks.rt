@@ -1,6 +1,5 @@
 //! The locks that a plan or a count may name, each over an owned machine. Each is the same lock over words of
-//! its own, which say its kind ([`OnLock`](crate::locks::kinds::OnLock)). A further lock is one more impl there,
-//! of its words, and an arm where words are chosen by the kind: `over_lock` and `count_plain`.
+//! its own, which say its kind ([`OnLock`]). The words of a kind are chosen by [`by_kind`] of `cpu_workers`.
 //!
 //! A climb takes the memory that its work takes. No call waits.
 
@@ -11,11 +10,11 @@ pub mod kinds;
 pub(crate) mod rounds;
 pub mod towers;
 
-use crate::locks::kinds::OnLock;
 use crate::locks::towers::{OverTower, over_sections};
 use boot::LockKind;
+use cpu_workers::{OnLock, by_kind};
 use ipc_calls::{TowerEdit, TowerLockLaws};
-use plain_machine::{Granting, LineWords, LockWords, Plain};
+use plain_machine::{LineWords, Plain};
 use spinlock::Ticket;
 use std::marker::PhantomData;
 
@@ -37,8 +36,5 @@ pub fn over_lock<V: OverTower>(lock: LockKind, work: &mut V) -> V::Done
     requires { V.IsReady work.old lock }
     ensures { V.Does work.old result work.new }
 {
-    match lock {
-        LockKind::Ticket => climb::<LockWords, V>(work),
-        LockKind::Grant => climb::<Granting, V>(work),
-    }
+    by_kind!(lock, climb::<Line, V>(work))
 }

@@ -5,12 +5,12 @@ ghost use Rattle.std.specs.Prelude.{◌≡◌, ◌*◌, ◌≤◌, IfOk};
 ghost use Rattle.event_log.specs.declared.ids.TheConstants.{CPUS};
 
 use crate::line::MOST_TIMES;
-use crate::locks::kinds::OnLock;
 use crate::locks::rounds::count_behind;
 use boot::LockKind;
 use cpu_workers::counting::{self, AddOne, CountFault, CountLaws, Counted};
+use cpu_workers::{OnLock, by_kind};
 use event_log::NoMemory;
-use plain_machine::{Granting, LineWords, LockWords, Plain};
+use plain_machine::{LineWords, Plain};
 use spinlock::Ticket;
 use std::alloc::Global;
 use std::marker::PhantomData;
@@ -52,10 +52,7 @@ pub fn count_plain(alloc: Global, cpus: u8, times: u64, lock: LockKind) -> Resul
     ensures all { IfOk result (λ counted. counted.cpus ≡ cpus) }
     ensures times { IfOk result (λ counted. counted.times ≡ times) }
 {
-    match lock {
-        LockKind::Ticket => count_over::<LockWords>(alloc, cpus, times, lock),
-        LockKind::Grant => count_over::<Granting>(alloc, cpus, times, lock),
-    }
+    by_kind!(lock, count_over::<Line>(alloc, cpus, times, lock))
 }
 
 /// Counts over shared words of locks of this kind: each of `cpus` CPUs does `times` sections that add
