@@ -1,7 +1,7 @@
 use Rattle.std.proofs.Common.{◌+◌, ℕ, ap, subst, sym, ◌∙◌}
 use Rattle.{layer_traits.{proofs.PlanLemmas.sections_acts, specs.Protocols.WordsProtocol.sections}, table_machine.specs.SeatViews.SeatView}
 use Rattle.cpu_workers.{specs.{declared.counting.{AddOne.AddOne, TheConstants.NUMBER}, Counts.{HasMade, made}}, proofs.Counts.has_made}
-use Rattle.cpu_workers.proofs.counting.plan_words.TicketWordsPlanWords.work.Goals as goal
+use Rattle.cpu_workers.proofs.counting.sections.work.Goals as goal
 
 pub returns : goal.returns
 returns g c =
