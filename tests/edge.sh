@@ -469,7 +469,7 @@ source_row() {
 waiting() {
   local crate
   for crate in $(sed -n 's/^\([a-z_]*\):.*/\1/p' crates.txt); do
-    find "crates/$crate/src" -name '*.rt' ! -name 'tests.rt' ! -path '*/src/tests/*' -exec cat {} + | sed -e 's|//.*||' -e 's/\<Wait(//g' \
+    find "crates/$crate/src" -name '*.rt' -exec cat {} + | sed -e 's|//.*||' -e 's/\<Wait(//g' \
       | grep -wE 'Wait|Mutex|Condvar' > /dev/null && echo "$crate"
   done
 }
@@ -491,7 +491,7 @@ asked_by_constant() {
   local inner='[^()\[\]]|[(\[][^()\[\]]*[)\]]' # what stands in brackets, with brackets in it
   local asks="\\b(with_capacity|reserve|reserve_exact|resize|vec!)(::<[^(]*>)?[(\\[](?:$inner|[(\\[](?:$inner)*[)\\]])*[)\\]]"
   limits=$(sed -n 's/^pub const \([A-Z_]*\): usize.*/\1/p' crates/event_log/src/*.rt | tr '\n' ' ')
-  find "$1" -path '*/src/*' -name '*.rt' ! -path '*/out/*' ! -name 'tests.rt' ! -path '*/src/tests/*' | sort | while read -r file; do
+  find "$1" -path '*/src/*' -name '*.rt' ! -path '*/out/*' | sort | while read -r file; do
     sed 's|//.*||' "$file" | tr '\n' ' ' | grep -oP "$asks" | while read -r call; do
       for word in $(grep -oE '\b([A-Z][A-Z0-9_]+|[0-9][0-9_]*)\b|<<|[*]|pow' <<< "$call" | sed 's/[*]/product/'); do
         case " $limits " in *" $word "*) continue ;; esac
@@ -518,14 +518,6 @@ for program; do
   fi
 done
 [ $passed = 0 ] || texts
-# after a refused start of a thread no section was done: a test tells it, where room for one stack makes the second start fail
-tests=crates/plain_layers/out/plain_layers_tests
-if [ -x "$tests" ]; then
-  program=$(realpath "$tests")
-  row 0 $'\ntest result: ok\n' '' "$one_stack; mctower tests::counts::after_a_refused_allocation_or_start_the_number_is_0"
-  # and so does a native: on one processor forty messages take a twentieth of a second of its time, and else more than one
-  row 0 $'\ntest result: ok\n' '' "$one_processor; ulimit -t 1; mctower tests::natives::two_producers_and_a_consumer"
-fi
 
 [ $((passed + failed)) -gt 0 ] || { echo "edge: build the program first: (cd crates/mctower && rt run -- count --cpus 1 --times 1)"; exit 1; }
 # The prover lets a function wait that is given the trait for it. Workers and the program are, and none of the crates beneath: no layer waits.
