@@ -138,6 +138,11 @@ rows() {
   row 0 $'15 cpu 0 AllEnded\n' '' "tests/writes.py '$program' threads --turns 1000 < plans/one-send.toml"
   row 0 $'11 cpu 0 live\n18 thread 0 Ready(0)\n9 quiet no\n' '' "tests/writes.py '$program' run < plans/one-send.toml"
   row 1 $'19 error: BadToml(20)\n' '' "echo [ | tests/writes.py '$program' run"
+  # a short text is one write, too, and what is judged, counted or asked for
+  row 0 "66 $sent" '' "tests/writes.py --out '$program' run --schedule '0*21' < plans/one-send.toml"
+  row 0 "66 $sent" '' "tests/writes.py --out '$program' threads --turns 1000 < plans/one-send.toml"
+  row 0 $'4 yes\n' '' "printf '%s' '$sent' | tests/writes.py --out '$program' check"
+  row 0 $'16 plain 6\ntable 6\n' '' "tests/writes.py --out '$program' count --cpus 2 --times 3"
   # so is the longest, with the two lines of usage behind it
   told="error: --turns $word: wanted 1 to 1000000000"$'\n'"$(usage threads)"$'\n'
   row 2 "${#told} $told" '' "tests/writes.py '$program' threads --turns $word"
@@ -159,6 +164,8 @@ rows() {
   # the longest schedule is one
   row 0 "$sent" "$state" "mctower run --schedule '0*1048576' < plans/one-send.toml"
   row 0 "$sent" "$state" "mctower run --schedule '0*1048575,0' < plans/one-send.toml"
+  # and takes no more memory than its steps and a note of four bytes for each
+  row 0 "$sent" "$state" "ulimit -v 20000; mctower run --schedule '0*1048576' < plans/one-send.toml"
   no_cpu '7*1048576'
   no_cpu '7*1048575,3'
   # help and the version that are asked for
