@@ -157,7 +157,8 @@ def some_look_at_nothing(rows, room, beside, alone):
     told = ["gate: left out: web/in_browser.py (web/in_browser.py ends)", "gate: left out: metal/test.py (metal: no QEMU)", "37 passed, 0 failed"]
     rows.is_so("scripts that look at nothing are told in the last lines, and have not failed", status == 0 and lines[-3:] == told, shown)
     status, lines, _ = outcome(room, {beside[0]: "exit 77"})
-    rows.is_so("one that has to look at something has failed", status == 1 and lines[-2:] == [f"gate: failed: {beside[0]}", "37 passed, 1 failed"], "\n".join(lines))
+    is_failure = lines[-2:] == [f"gate: failed: {beside[0]}", "37 passed, 1 failed"]
+    rows.is_so("one that has to look at something has failed", status == 1 and is_failure, "\n".join(lines))
 
 
 def a_program_is_missing(rows, room, beside, alone):

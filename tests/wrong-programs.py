@@ -6,7 +6,8 @@
 
 A wrong program is tests/wrong_program.rs under another name: it runs PROGRAM (crates/mctower/out/mctower, if none is named) and changes what it prints, or
 its status. A script sees it if it ends with status 1 and its last line counts what failed. With the same program under the name `right`, which changes
-nothing, each script has to pass. It wants rustc. .ci/run calls it; it takes a minute or two of processor time. The last line is 'wrong programs: N seen, M not'.
+nothing, each script has to pass. It wants rustc. .ci/run calls it; it takes a minute or two of processor time. The last line is
+'wrong programs: N seen, M not'.
 """
 import argparse
 import os
