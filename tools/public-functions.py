@@ -119,9 +119,11 @@ def look(root):
 
 
 # A crate in which each thing that can be wrong is wrong once, and what has to be said of it.
+CODE = "()\n{\n    code()\n}\n"
+METHOD = "()\n    {\n        code()\n    }\n"
 TRIAL = {
-    "crates/one/src/lib.rt": "pub struct Two {}\npub fn no_body() -> u8\n{\n    1\n}\npub fn has_a_body()\n{\n    one()\n}\npub(crate) fn own()\n{\n    one()\n}\n",
-    "crates/one/src/deep.rt": "impl Two {\n    pub fn has_both()\n    {\n        one()\n    }\n}\npub fn law()\n{}\npub fn has_a_reason()\n{\n    one()\n}\n",
+    "crates/one/src/lib.rt": f"pub struct Two {{}}\npub fn no_body{CODE}pub fn has_a_body{CODE}pub(crate) fn own{CODE}",
+    "crates/one/src/deep.rt": f"impl Two {{\n    pub fn has_both{METHOD}}}\npub fn law()\n{{}}\npub fn has_a_reason{CODE}",
     "crates/one/wrong/turns.edit": "fn: has_a_body\nfile: src/lib.rt\n",
     "crates/one/wrong/turns_both.edit": "fn: Two::has_both\nfile: src/deep.rt\n",
     LIST: "# a comment\none gone: it is there no more\none Two::has_both: it cannot be turned\none deep::has_a_reason: a constant\none twice\n",
