@@ -14,9 +14,10 @@ from concurrent.futures import ThreadPoolExecutor
 RECENT = 30
 DRAWN = 12
 LINE = re.compile(r"\w+/\w+\.edit [0-9a-f]{16}( weak)?")
-# The minutes of processor time that one check of drawn bodies of a dear crate may take where nothing of it is kept; of another crate, OTHERS.
-RECKONED = {"mctower": 8, "cpu_workers": 8}
-OTHERS = 0
+# The minutes of processor time that are reckoned for one check of drawn bodies where nothing of their crate is kept. Six bodies of cpu_workers took 3.4 over
+# holes; six of mctower had no verdict after 9.6, so that only a whole draw of the gate holds one such check.
+RECKONED = {"mctower": 16, "cpu_workers": 5}
+OTHERS = 3
 
 
 class Unreadable(Exception):
@@ -94,9 +95,15 @@ def draw(rng, told, new, functions):
     return [*found.values()]
 
 
+def reckoned(name):
+    """Returns the minutes of processor time that are reckoned for a check of this body."""
+    return RECKONED.get(name.partition("/")[0], OTHERS)
+
+
 def affordable(told, minutes):
-    """Returns those of these bodies whose crate can be checked in so many minutes of processor time."""
-    return [it for it in told if minutes > 0 and RECKONED.get(it.partition("/")[0], OTHERS) <= minutes]
+    """Returns those of these bodies whose crate can be checked in so many minutes of processor time. A draw of fewer minutes than any check takes still tries
+    the cheap ones."""
+    return [it for it in told if minutes > 0 and (reckoned(it) <= minutes or reckoned(it) == OTHERS)]
 
 
 def processor_minutes():
@@ -107,18 +114,21 @@ def processor_minutes():
 
 def try_drawn(lanes, minutes, draws, work):
     """Tries bodies that `draws` returns, none once it returns none, so many checks side by side, until that has taken so many minutes of processor time;
-    returns their names."""
-    turn, first, tried = threading.Lock(), processor_minutes(), []
+    returns their names. A check that is under way counts by what is reckoned for it."""
+    turn, first, tried, under_way = threading.Lock(), processor_minutes(), [], []
 
     def lane(_):
         while True:
             with turn:
-                left = minutes - (processor_minutes() - first)
+                left = minutes - (processor_minutes() - first) - sum(under_way)
                 names = draws(left) if left > 0 else []
                 tried.extend(names)
+                under_way.extend(reckoned(it) for it in names[:1])
             if not names:
                 return
             work(names)
+            with turn:
+                under_way.remove(reckoned(names[0]))
 
     with ThreadPoolExecutor(lanes) as pool:
         list(pool.map(lane, range(lanes)))

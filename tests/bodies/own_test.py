@@ -118,7 +118,7 @@ def draws_are_right():
     if sorted([*names, *left]) != told or len({functions[it] for it in names}) != len(names) or len({it[0] for it in names}) != 1:
         yield "what is drawn of a ledger"
     dear = [f"{it}/1.edit" for it in ledger.RECKONED]
-    if ledger.affordable(dear, 0) or ledger.affordable(dear, max(ledger.RECKONED.values())) != dear:
+    if ledger.affordable([*dear, "a/1.edit"], 1) != ["a/1.edit"] or ledger.affordable(dear, max(ledger.RECKONED.values())) != dear:
         yield "what can be drawn in the minutes that are left"
 
 
