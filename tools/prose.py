@@ -7,9 +7,9 @@
     tools/prose.py --table          prints tools/prose.txt anew; no count in it rises
 
 A page has at most 3 turns in a thousand words, and no line of more than 100 columns (a table's: 160). The target of a link
-is not measured, since it cannot be broken; code is neither measured nor counted. tools/prose.txt lists the exceptions: a
-page that is `open` is not yet rewritten, may not get more turns than its count, and has lines of any length; a page that is
-`kept` has that many turns for a reason. A turn is a place to look at, not always a fault: rewrite the sentence.
+is not measured, nor is a line of one piece of code, since neither can be broken; no turn is counted in code.
+tools/prose.txt lists the exceptions. An `open` page is not yet rewritten: its lines have any length, and its turns stay at
+most at its count. A `kept` page has that many turns for a reason. A turn is a place to look at: rewrite the sentence.
 .ci/run calls it; it takes a second. The last line is 'prose: N passed, M failed', in pages.
 """
 import argparse
@@ -86,10 +86,11 @@ def sentences_of(text):
 
 
 def long_lines(text):
-    """Yields the number and the columns of each line that is too long."""
+    """Yields the number and the columns of each line that is too long and has a space to break at."""
     text = FENCED.sub(lambda found: "\n" * found[0].count("\n"), text)
     for number, line in enumerate(re.sub(r"\]\([^)\n]*\)", "]", text).splitlines(), 1):
-        if len(line) > (TABLE_COLUMNS if line.startswith("|") else COLUMNS):
+        is_row = line.startswith("|")
+        if len(line) > (TABLE_COLUMNS if is_row else COLUMNS) and " " in re.sub(r"`[^`]*`", "x", line).strip():
             yield number, len(line)
 
 
