@@ -38,7 +38,7 @@ TURNS = [
         ("who", BEGINS + r"[Ww]ho\b(?![^.]*\?)", "a thread that, a reader who"),
         ("look", r"\blooks?\b(?! (?:at|like|for)\b)", "poll, spin, check"),
         ("miss", r"\b(?:in vain|look(?:s)? that miss(?:es)?|looks? in a row)\b", "failed poll, consecutive polls"),
-        ("come", r"\b(?:comes?|came)\b(?! first)", "occurs, is returned, arrives, follows"),
+        ("come", r"\b(?:comes?|came)\b(?!,? first)", "occurs, is returned, arrives, follows"),
         ("go", r"\b(?:goes on|went on|go on|gets? on)\b", "continues, makes progress"),
         ("refuse", r"\brefus(?:es?|ed|al|als|ing)\b", "reject (input, proofs), fail (allocation)"),
         ("of its own", r"\bof (?:its|their|his|your) own\b", "its own, private, per-CPU"),
