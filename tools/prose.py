@@ -89,7 +89,7 @@ def long_lines(text):
     """Yields the number and the columns of each line that is too long and has a space to break at."""
     text = FENCED.sub(lambda found: "\n" * found[0].count("\n"), text)
     for number, line in enumerate(re.sub(r"\]\([^)\n]*\)", "]", text).splitlines(), 1):
-        is_row = line.startswith("|")
+        is_row = line.lstrip().startswith("|")
         if len(line) > (TABLE_COLUMNS if is_row else COLUMNS) and " " in re.sub(r"`[^`]*`", "x", line).strip():
             yield number, len(line)
 
