@@ -10,7 +10,7 @@
 Status, standard output and standard error are the native program's, byte by byte: of every stored plan with both locks, of random plans, damaged plans,
 schedules and texts, of command lines. A run in threads has not one text: the native program's `check` judges it, and each CPU has a stop. Small machines
 refuse by name. `host` tries the host alone, with trial.c in the place of the program, `disk` boots by GRUB where there is grub-mkrescue, and `lesson` runs
-what docs/book/14-bare-processors.md shows. Where there is no QEMU it says so, and its status is 0.
+what docs/book/14-bare-processors.md shows. Where there is no QEMU it says so, and its status is 77.
 The last line counts; the status is 1 on any difference. It needs the built program, crates/mctower/out/mctower.
 """
 import argparse
@@ -349,7 +349,7 @@ def main():
     asked = read.parse_args()
     if not machine.is_there():
         print("metal: no QEMU here: nothing was booted")
-        return 0
+        return 77
     if not NATIVE.exists():
         sys.exit(f"metal: there is no {NATIVE.relative_to(ROOT)}: tools/prove-all.py builds it")
     if not asked.image:

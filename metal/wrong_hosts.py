@@ -7,7 +7,7 @@
 
 An edit of metal/wrong says in its line `seen:` which kinds of cases see it; behind a line `file:`, which names a file of metal/host, each line `old:` is
 replaced by the line `new:` beneath it. The first case that differs is told. A run that hangs differs too, after the seconds that METAL_SECONDS names, or
-20. Where there is no QEMU it says so, and its status is 0. The last line counts; the status is 1 if a fault was not seen.
+20. Where there is no QEMU it says so, and its status is 77. The last line counts; the status is 1 if a fault was not seen.
 """
 import argparse
 import os
@@ -79,7 +79,7 @@ def main():
     asked = read.parse_args()
     if not machine.is_there():
         print("metal: no QEMU here: no fault was planted")
-        return 0
+        return 77
     names = sorted(path.stem for path in WRONG.glob("*.edit")) if asked.all else asked.names or OF_GATE
     build.kit_module()  # before any thread starts
     missed = 0

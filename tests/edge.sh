@@ -138,6 +138,11 @@ rows() {
   row 0 $'15 cpu 0 AllEnded\n' '' "tests/writes.py '$program' threads --turns 1000 < plans/one-send.toml"
   row 0 $'11 cpu 0 live\n18 thread 0 Ready(0)\n9 quiet no\n' '' "tests/writes.py '$program' run < plans/one-send.toml"
   row 1 $'19 error: BadToml(20)\n' '' "echo [ | tests/writes.py '$program' run"
+  # a short text is one write, too, and what is judged, counted or asked for
+  row 0 "66 $sent" '' "tests/writes.py --out '$program' run --schedule '0*21' < plans/one-send.toml"
+  row 0 "66 $sent" '' "tests/writes.py --out '$program' threads --turns 1000 < plans/one-send.toml"
+  row 0 $'4 yes\n' '' "printf '%s' '$sent' | tests/writes.py --out '$program' check"
+  row 0 $'16 plain 6\ntable 6\n' '' "tests/writes.py --out '$program' count --cpus 2 --times 3"
   # so is the longest, with the two lines of usage behind it
   told="error: --turns $word: wanted 1 to 1000000000"$'\n'"$(usage threads)"$'\n'
   row 2 "${#told} $told" '' "tests/writes.py '$program' threads --turns $word"
@@ -159,6 +164,8 @@ rows() {
   # the longest schedule is one
   row 0 "$sent" "$state" "mctower run --schedule '0*1048576' < plans/one-send.toml"
   row 0 "$sent" "$state" "mctower run --schedule '0*1048575,0' < plans/one-send.toml"
+  # and takes no more memory than its steps and a note of four bytes for each
+  row 0 "$sent" "$state" "ulimit -v 20000; mctower run --schedule '0*1048576' < plans/one-send.toml"
   no_cpu '7*1048576'
   no_cpu '7*1048575,3'
   # help and the version that are asked for
@@ -469,7 +476,7 @@ source_row() {
 waiting() {
   local crate
   for crate in $(sed -n 's/^\([a-z_]*\):.*/\1/p' crates.txt); do
-    find "crates/$crate/src" -name '*.rt' ! -name 'tests.rt' ! -path '*/src/tests/*' -exec cat {} + | sed -e 's|//.*||' -e 's/\<Wait(//g' \
+    find "crates/$crate/src" -name '*.rt' -exec cat {} + | sed -e 's|//.*||' -e 's/\<Wait(//g' \
       | grep -wE 'Wait|Mutex|Condvar' > /dev/null && echo "$crate"
   done
 }
@@ -491,7 +498,7 @@ asked_by_constant() {
   local inner='[^()\[\]]|[(\[][^()\[\]]*[)\]]' # what stands in brackets, with brackets in it
   local asks="\\b(with_capacity|reserve|reserve_exact|resize|vec!)(::<[^(]*>)?[(\\[](?:$inner|[(\\[](?:$inner)*[)\\]])*[)\\]]"
   limits=$(sed -n 's/^pub const \([A-Z_]*\): usize.*/\1/p' crates/event_log/src/*.rt | tr '\n' ' ')
-  find "$1" -path '*/src/*' -name '*.rt' ! -path '*/out/*' ! -name 'tests.rt' ! -path '*/src/tests/*' | sort | while read -r file; do
+  find "$1" -path '*/src/*' -name '*.rt' ! -path '*/out/*' | sort | while read -r file; do
     sed 's|//.*||' "$file" | tr '\n' ' ' | grep -oP "$asks" | while read -r call; do
       for word in $(grep -oE '\b([A-Z][A-Z0-9_]+|[0-9][0-9_]*)\b|<<|[*]|pow' <<< "$call" | sed 's/[*]/product/'); do
         case " $limits " in *" $word "*) continue ;; esac
@@ -518,14 +525,6 @@ for program; do
   fi
 done
 [ $passed = 0 ] || texts
-# after a refused start of a thread no section was done: a test tells it, where room for one stack makes the second start fail
-tests=crates/plain_layers/out/plain_layers_tests
-if [ -x "$tests" ]; then
-  program=$(realpath "$tests")
-  row 0 $'\ntest result: ok\n' '' "$one_stack; mctower tests::counts::after_a_refused_allocation_or_start_the_number_is_0"
-  # and so does a native: on one processor forty messages take a twentieth of a second of its time, and else more than one
-  row 0 $'\ntest result: ok\n' '' "$one_processor; ulimit -t 1; mctower tests::natives::two_producers_and_a_consumer"
-fi
 
 [ $((passed + failed)) -gt 0 ] || { echo "edge: build the program first: (cd crates/mctower && rt run -- count --cpus 1 --times 1)"; exit 1; }
 # The prover lets a function wait that is given the trait for it. Workers and the program are, and none of the crates beneath: no layer waits.

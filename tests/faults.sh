@@ -100,16 +100,18 @@ inputs() {
   done
 }
 
-# The words of a command behind its input. Before that, whether the input is to fail too, and whether two runs of it may differ:
-# of such a one standard output is not cut.
+# The words of a command behind its input. Before that, the status of the unhindered run, whether the input is to fail too, and whether two runs of it may
+# differ: of such a one standard output is not cut.
 command() {
-  local reads=$1
-  races=$2
-  input=$3
-  shift 3
+  local reads=$2
+  true_status=$1
+  races=$3
+  input=$4
+  shift 4
   words=("$@")
   run NOTHING=refused
-  true_status=$status
+  [ "$status" = "$true_status" ]
+  count $? "nothing refused, where status $true_status is wanted"
   cp "$room/out" "$room/true_out"
   cp "$room/err" "$room/true_err"
   run SLOWLY=10
@@ -167,30 +169,27 @@ sed '4s/7/x/' "$room/long.txt" > "$room/long-no.txt"
   for cpu in 2 3; do printf '[[thread]]\ncpu = %d\nprogram = ["recv 0 r0", "recv 0 r1"]\n' "$cpu"; done
 } > "$room/race.toml"
 
-command no no /dev/null count --cpus 1 --times 5 --lock ticket
-command no no /dev/null count --cpus 2 --times 3
-command no no /dev/null count --cpus 17 --times 3
-command no no /dev/null run --scedule '0*21'
-command no no /dev/null check --help
-command yes no plans/one-send.toml run --schedule '0*21'
-command no no plans/one-send.toml run --schedule '0*'
-command yes no "$room/yes.txt" check
-command yes no "$room/no.txt" check
-command yes no "$room/closed.txt" check
-command no no "$room/empty.txt" check
-command yes no "$room/long.txt" check
-command yes no "$room/long-no.txt" check
-command yes no "$room/long-line.txt" check
-command no no "$room/five.toml" run
-command no no "$room/three.toml" run
-command no no "$room/no-buffer.toml" run
-command no no "$room/no-line.toml" run
-command no no tests/rows/closed-with-an-item.toml run --schedule '0*90'
-command no no tests/rows/there-and-back.toml run --schedule '0*32,1*60,0*60'
-# a build that does not serve `threads` takes it for a bad command line
-if "$program" threads --turns 1 < plans/one-send.toml > /dev/null 2>&1; then
-  command yes no plans/one-send.toml threads --turns 1000
-  command no yes "$room/race.toml" threads --turns 1000000000
-fi
+command 0 no no /dev/null count --cpus 1 --times 5 --lock ticket
+command 0 no no /dev/null count --cpus 2 --times 3
+command 2 no no /dev/null count --cpus 17 --times 3
+command 2 no no /dev/null run --scedule '0*21'
+command 0 no no /dev/null check --help
+command 0 yes no plans/one-send.toml run --schedule '0*21'
+command 2 no no plans/one-send.toml run --schedule '0*'
+command 0 yes no "$room/yes.txt" check
+command 3 yes no "$room/no.txt" check
+command 0 yes no "$room/closed.txt" check
+command 3 no no "$room/empty.txt" check
+command 0 yes no "$room/long.txt" check
+command 3 yes no "$room/long-no.txt" check
+command 3 yes no "$room/long-line.txt" check
+command 0 no no "$room/five.toml" run
+command 0 no no "$room/three.toml" run
+command 1 no no "$room/no-buffer.toml" run
+command 1 no no "$room/no-line.toml" run
+command 0 no no tests/rows/closed-with-an-item.toml run --schedule '0*90'
+command 0 no no tests/rows/there-and-back.toml run --schedule '0*32,1*60,0*60'
+command 0 yes no plans/one-send.toml threads --turns 1000
+command 0 no yes "$room/race.toml" threads --turns 1000000000
 echo "faults: $outcomes outcomes, $wrong wrong"
 [ "$wrong" = 0 ]

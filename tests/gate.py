@@ -1,18 +1,23 @@
 #!/usr/bin/env python3
 """Tries .ci/run in a folder where each of its steps is a stub that takes a second or less: which end well, which fail, are killed, run beside others or
-alone, and what it then says. .ci/run calls it; it takes seconds. The last line is 'gate: N passed, M failed'.
+alone or look at nothing, which tools and programs are missing, and what it then says. docs/GATE.md has to name each script that it runs, and no other. .ci/run
+calls it; it takes seconds. The last line is 'gate: N passed, M failed'.
 
     tests/gate.py
 """
 import argparse
 import os
+import re
+import shutil
 import subprocess
 import sys
 import tempfile
 from pathlib import Path
 
 ROOT = Path(__file__).resolve().parent.parent
-CORES = 2
+CORES = min(2, len(os.sched_getaffinity(0)))
+BUILDS = ("crates/mctower/out/mctower", "crates/mctower/out/mctower.by-rattle")
+TOOLS = ("rt", "node", "rustc")
 # A stub tells when it begins and ends, and ends as a file of its name says, if there is one: by a status, or by a signal that it sends itself.
 STUB = """#!/usr/bin/env bash
 name=${0#"$ROOM"/}
@@ -30,6 +35,7 @@ echo '5 passed, 0 failed'
 """
 BODIES = """#!/usr/bin/env bash
 if [ "$1" = --self-test ]; then echo '2 passed, 0 failed'; exit; fi
+case "$*" in '--after-ci --minutes '[1-9]*) ;; *) echo "wrong bodies of $*"; exit 1 ;; esac
 [ ! -f "$0.how" ] || . "$0.how"
 echo "$* of wrong bodies"; echo '30 passed, 0 failed'
 """
@@ -65,20 +71,25 @@ def made(room):
     for name in [*beside, *alone]:
         written(room / name, STUB)
     written(room / "bin/rt", RT)
+    for name in ("node", "rustc"):
+        written(room / "bin" / name, "#!/bin/sh\n")
+    for name in BUILDS:
+        written(room / name, "#!/bin/sh\n")
     written(room / "tests/wrong-bodies.py", BODIES)
     return beside, alone
 
 
-def outcome(room, how):
-    """Runs the gate on few cores with no input, where the steps named end as `how` says; returns its status and lines, and what its scripts told of when."""
+def outcome(room, how, path=None):
+    """Runs the gate on few cores with no input, where the steps named end as `how` says; returns its status and lines, and what its scripts told of when. It
+    finds its tools along `path`, if one is given, and has no home."""
     for old in [*room.glob("*/*.how"), room / "events"]:
         old.unlink(missing_ok=True)
     for name, text in how.items():
         (room / f"{name}.how").write_text(text)
     few = sorted(os.sched_getaffinity(0))[:CORES]
-    path = f"{room}/bin:{os.environ['PATH']}"
-    ran = subprocess.run(["bash", room / ".ci/run"], cwd="/", env={**os.environ, "CI": "true", "ROOM": str(room), "PATH": path}, stdin=subprocess.DEVNULL,
-                         stdout=subprocess.PIPE, stderr=subprocess.DEVNULL, text=True, preexec_fn=lambda: os.sched_setaffinity(0, few))
+    seen = {**os.environ, "CI": "true", "ROOM": str(room), "HOME": str(room), "PATH": path or f"{room}/bin:{os.environ['PATH']}"}
+    ran = subprocess.run([shutil.which("bash"), room / ".ci/run"], cwd="/", env=seen, stdin=subprocess.DEVNULL, stdout=subprocess.PIPE,
+                         stderr=subprocess.DEVNULL, text=True, preexec_fn=lambda: os.sched_setaffinity(0, few))
     events = (room / "events").read_text().splitlines() if (room / "events").exists() else []
     return ran.returncode, ran.stdout.splitlines(), events
 
@@ -139,15 +150,57 @@ def a_count_fails(rows, room, beside, alone):
         rows.is_so(name, status == 1 and lines[-1] == last and lines[-2] == f"gate: failed: {bodies}", "\n".join(lines))
 
 
+def some_look_at_nothing(rows, room, beside, alone):
+    """Of those that may: one says why, one says nothing. Another one that ends so has failed."""
+    status, lines, _ = outcome(room, {"metal/test.py": "echo 'metal: no QEMU'; exit 77", "web/in_browser.py": "exit 77"})
+    shown = "\n".join(lines)
+    told = ["gate: left out: web/in_browser.py (web/in_browser.py ends)", "gate: left out: metal/test.py (metal: no QEMU)", "37 passed, 0 failed"]
+    rows.is_so("scripts that look at nothing are told in the last lines, and have not failed", status == 0 and lines[-3:] == told, shown)
+    status, lines, _ = outcome(room, {beside[0]: "exit 77"})
+    is_failure = lines[-2:] == [f"gate: failed: {beside[0]}", "37 passed, 1 failed"]
+    rows.is_so("one that has to look at something has failed", status == 1 and is_failure, "\n".join(lines))
+
+
+def a_program_is_missing(rows, room, beside, alone):
+    for build in BUILDS:
+        (room / build).rename(room / "elsewhere")
+        status, lines, _ = outcome(room, {})
+        (room / "elsewhere").rename(room / build)
+        rows.is_so(f"without {build} the gate fails", status == 1 and lines[-2:] == [f"gate: failed: {build}", "37 passed, 1 failed"], "\n".join(lines))
+
+
+def a_tool_is_missing(rows, room, beside, alone):
+    """A folder of tools has what .ci/run and tools/gate.py are run by, and all that scripts ask for but one."""
+    for missing in (*TOOLS, "python3"):
+        tools = room / f"without-{missing}"
+        tools.mkdir()
+        for name in ("bash", "env", "dirname", "python3"):
+            (tools / name).symlink_to(sys.executable if name == "python3" else shutil.which(name))
+        for name in TOOLS:
+            (tools / name).symlink_to(room / "bin" / name)
+        (tools / missing).unlink()
+        status, lines, events = outcome(room, {}, str(tools))
+        told = [f"gate: nothing was run, since there is no {missing} here", f"gate: failed: {missing}", "0 passed, 1 failed"]
+        rows.is_so(f"without {missing} nothing is run, and that is told", status == 1 and lines == told and not events, "\n".join(lines))
+
+
+def none_is_lost(rows, beside, alone):
+    """Nothing else misses a script that falls out of the lists of tools/gate.py."""
+    page = (ROOT / "docs/GATE.md").read_text()
+    told = page[page.index("- **Scripts over the program") : page.index("- **`tests/wrong-bodies.py`**")]
+    named = set(re.findall(r"`((?:tests|tools|web|metal)/[\w.-]+\.(?:py|sh|mjs))`", told))
+    rows.is_so("docs/GATE.md names the scripts that the gate runs", named == {*beside, *alone}, f"{sorted(named ^ {*beside, *alone})}")
+
+
 def main():
     argparse.ArgumentParser(description=__doc__, formatter_class=argparse.RawDescriptionHelpFormatter).parse_args()
     rows = Rows()
     with tempfile.TemporaryDirectory() as name:
         room = Path(name).resolve()
         beside, alone = made(room)
-        all_pass(rows, room, beside, alone)
-        some_fail(rows, room, beside, alone)
-        a_count_fails(rows, room, beside, alone)
+        none_is_lost(rows, beside, alone)
+        for look in (all_pass, some_fail, a_count_fails, some_look_at_nothing, a_program_is_missing, a_tool_is_missing):
+            look(rows, room, beside, alone)
     print(f"gate: {rows.passed} passed, {rows.failed} failed")
     return 1 if rows.failed else 0
 

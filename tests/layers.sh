@@ -5,6 +5,7 @@
 #
 #   tests/layers.sh            prints each test, and of a failed one the file and line, and what was seen (left) and wanted (right)
 #   tests/layers.sh --format   lays out the files of tests/layers as `rt fmt` lays out a crate's, and runs nothing
+#   tests/layers.sh --lay FOLDER MODULE..   copies the tree into FOLDER, with a crate of these modules alone, and runs nothing
 #
 # Their names end in .rs, since `rt ci` takes a .rt file for a crate's. A test that cannot be built, one that does not end, a file that is not laid
 # out, and a run of no test count as failed. The last line is 'N passed, M failed'.
@@ -12,7 +13,11 @@ if [ "${1:-}" = --help ]; then sed -n '2,/^[^#]/ s/^# \{0,1\}//p' "$0"; exit; fi
 set -uo pipefail
 cd "$(dirname "$0")/.."
 tests=$PWD/tests/layers
-copy=$(mktemp -d); trap 'rm -rf "$copy"' EXIT
+if [ "${1:-}" = --lay ]; then
+  copy=$(realpath "$2"); modules=("${@:3}")
+else
+  copy=$(mktemp -d); trap 'rm -rf "$copy"' EXIT; modules=()
+fi
 crate=$copy/crates/layer_tests
 
 # Names the files of the copy in what was said as those of tests/layers.
@@ -27,6 +32,11 @@ fails() {
 
 tar --exclude=out --exclude=wrong --exclude=must-fail -cf - crates crates.txt HANDLES | tar -xf - -C "$copy" || fails 'the tree could not be copied'
 mkdir -p "$crate/src" && cat "$tests/stands-on.txt" >> "$copy/crates.txt" || fails 'the tests could not be laid onto the copy'
+if [ "${1:-}" = --lay ]; then
+  { echo '#![tactic(auto)]'; printf 'mod %s;\n' "${modules[@]}"; } > "$crate/src/lib.rt"
+  for module in "${modules[@]}"; do cp "$tests/src/$module.rs" "$crate/src/$module.rt" || fails "$module could not be laid onto the copy"; done
+  exit
+fi
 for file in "$tests"/src/*.rs; do cp "$file" "$crate/src/$(basename "$file" .rs).rt" || fails "$file could not be laid onto the copy"; done
 cd "$crate" || fails 'the tests could not be laid onto the copy'
 

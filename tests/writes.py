@@ -2,8 +2,9 @@
 """Runs a command and prints for each write on its standard error how many bytes it gave to it, and these.
 
     tests/writes.py WORD..
+    tests/writes.py --out WORD..    the same of its standard output
 
-The command's standard error is a socket that keeps writes apart. Its output is thrown away, and its status is passed on.
+That stream of the command is a socket that keeps writes apart. The other is thrown away, and the status is passed on.
 """
 import argparse
 import socket
@@ -13,9 +14,12 @@ import sys
 
 def main():
     read = argparse.ArgumentParser(description=__doc__, formatter_class=argparse.RawDescriptionHelpFormatter)
+    read.add_argument("--out", action="store_true")
     read.add_argument("words", nargs=argparse.REMAINDER)
+    given = read.parse_args()
     ours, theirs = socket.socketpair(socket.AF_UNIX, socket.SOCK_SEQPACKET)
-    status = subprocess.run(read.parse_args().words, stdout=subprocess.DEVNULL, stderr=theirs, check=False).returncode
+    streams = {"stdout": theirs, "stderr": subprocess.DEVNULL} if given.out else {"stdout": subprocess.DEVNULL, "stderr": theirs}
+    status = subprocess.run(given.words, check=False, **streams).returncode
     theirs.close()
     while written := ours.recv(1 << 16):
         print(len(written), written.decode(), end="")

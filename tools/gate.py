@@ -6,12 +6,14 @@ that it leaves.
     .ci/run           runs all, and reads no input
     .ci/run --list    names the scripts, one a line, 'alone' before each that has the machine for itself
 
-What a script prints comes in one piece, once it has ended. What each step took, and which failed, is said once more at the end. The last line adds
-up what `rt ci` and tests/wrong-bodies.py passed and failed. Each other script that fails, or that a signal ends, is one failure more.
+What a script prints comes in one piece, once it has ended. What each step took, which failed, and which looked at nothing, is said once more at the end.
+The last line adds up what `rt ci` and tests/wrong-bodies.py passed and failed. Each other script that fails, or that a signal ends, is one failure more,
+and so is a program that `rt ci` has to leave and did not. Where a tool is missing that some script fails without, that is said at once, and nothing is run.
 """
 import argparse
 import os
 import re
+import shutil
 import signal
 import subprocess
 import sys
@@ -25,6 +27,7 @@ ROOT = os.path.dirname(os.path.dirname(os.path.realpath(__file__)))
 BESIDE = """
 tests/every-step.sh
 tests/layers.sh
+tests/refuse.sh
 tests/third-lock.sh
 tests/look.py
 tests/book.py
@@ -35,6 +38,7 @@ tests/judge.py
 tests/tables.py
 tests/plans.sh
 tests/replay.py
+tests/wrong-programs.py
 tests/gate.py
 tests/manual.sh
 tests/help.sh
@@ -42,16 +46,27 @@ tools/trusted.py
 tools/words.py
 tools/cycles.py
 tools/prose.py
+tools/public-functions.py
 """
 # These start as many threads as a plan may have CPUs and give up after a while, or measure time: each has the machine for itself.
 ALONE = """
 tests/edge.sh
 tests/threads.sh
-tests/refuse.sh
 web/in_browser.py
 metal/test.py
 metal/wrong_hosts.py
 """
+# These look at nothing where there is no browser or no QEMU. They end with this status then, and print why: such a one is left out, and has not failed.
+MAY_LOOK_AT_NOTHING = {"web/in_browser.py", "metal/test.py", "metal/wrong_hosts.py"}
+LOOKED_AT_NOTHING = 77
+# Without these some script fails. The scripts look for rustc in that folder too.
+TOOLS = ("rt", "python3", "node", "rustc")
+TOOLS_ELSEWHERE = "~/.cargo/bin"
+LEAST_PYTHON = (3, 9)
+# What `rt ci` leaves, by either compiler. Scripts run over those of them that are there.
+BUILDS = ("crates/mctower/out/mctower", "crates/mctower/out/mctower.by-rattle")
+# Minutes of processor time for wrong bodies that are drawn from those that were refused before.
+DRAWN_MINUTES = "16"
 SUM = re.compile(r"(\d+) passed, (\d+) failed")
 
 
@@ -59,11 +74,11 @@ class Gate:
     """What the steps so far passed and failed, and a line on each."""
 
     def __init__(self):
-        self.passed, self.failed, self.steps, self.lost, self.turn = 0, 0, [], [], threading.Lock()
+        self.passed, self.failed, self.steps, self.lost, self.left_out, self.turn = 0, 0, [], [], [], threading.Lock()
 
     def take(self, name, began, status, usage, said=""):
         """Prints what a step said, and keeps what it took and whether it failed."""
-        why = "" if status == 0 else f" FAILED with status {status}," if status > 0 else f" FAILED, killed by {signal.Signals(-status).name},"
+        why = how_it_ended(status)
         minutes = (time.monotonic() - began) / 60, (usage.ru_utime + usage.ru_stime) / 60
         line = f"gate: {name}{why} took {minutes[0]:.1f} minutes, {minutes[1]:.1f} of processor time"
         with self.turn:
@@ -78,9 +93,21 @@ class Gate:
             status, usage = ended(subprocess.Popen([name], cwd=ROOT, stdin=subprocess.DEVNULL, stdout=said, stderr=subprocess.STDOUT))
             said.seek(0)
             text = said.read().decode(errors="replace")
+        if status == LOOKED_AT_NOTHING and name in MAY_LOOK_AT_NOTHING:
+            status = 0
+            why = f" ({text.strip().splitlines()[-1]})" if text.strip() else ""
+            self.left_out.append(f"gate: left out: {name}{why}")
         self.take(name, began, status, usage, text if text.endswith("\n") or not text else f"{text}\n")
         with self.turn:
             self.failed += status != 0
+
+    def look_for_builds(self):
+        """Counts each program that `rt ci` did not leave as a failure."""
+        for it in BUILDS:
+            if not os.access(f"{ROOT}/{it}", os.X_OK):
+                self.lost.append(it)
+                self.failed += 1
+                self.steps.append(f"gate: {it} FAILED: rt ci left no such program")
 
     def counted(self, name, *words):
         """Runs a step whose last line is 'N passed, M failed', prints all before that line as it comes, and adds it up. Returns whether the step
@@ -102,20 +129,37 @@ class Gate:
         if not self.counted("rt ci", "tools/gate-minutes.py", "rt", "ci"):
             self.steps.append("gate: nothing more was run")
             return
+        self.look_for_builds()
         with ThreadPoolExecutor(len(os.sched_getaffinity(0))) as lanes:
             list(lanes.map(self.script, BESIDE.split()))
         for it in ALONE.split():
             self.script(it)
         self.counted("tests/wrong-bodies.py --self-test", "tests/wrong-bodies.py", "--self-test")
-        self.counted("tests/wrong-bodies.py", "tools/gate-minutes.py", "tests/wrong-bodies.py", "--after-ci")
+        self.counted("tests/wrong-bodies.py", "tools/gate-minutes.py", "tests/wrong-bodies.py", "--after-ci", "--minutes", DRAWN_MINUTES)
 
     def sum_up(self):
-        """Prints what each step took, which failed, and the sum; returns whether the gate is passed."""
-        print(*self.steps, sep="\n")
+        """Prints what each step took, which looked at nothing, which failed, and the sum; returns whether the gate is passed."""
+        print(*self.steps, *self.left_out, sep="\n")
         if self.lost:
             print(f"gate: failed: {', '.join(self.lost)}")
         print(f"{self.passed} passed, {self.failed} failed", flush=True)
         return self.failed == 0 and self.passed > 0
+
+
+def missing_tools():
+    """Names the tools that are not here."""
+    path = f"{os.environ['PATH']}:{os.path.expanduser(TOOLS_ELSEWHERE)}"
+    missing = [it for it in TOOLS if not shutil.which(it, path=path)]
+    if sys.version_info < LEAST_PYTHON:
+        missing.append(f"Python {'.'.join(map(str, LEAST_PYTHON))}")
+    return missing
+
+
+def how_it_ended(status):
+    """Says how a step failed, by the signal that ended it where its status is below 0."""
+    if status == 0:
+        return ""
+    return f" FAILED with status {status}," if status > 0 else f" FAILED, killed by {signal.Signals(-status).name},"
 
 
 def ended(step):
@@ -131,6 +175,10 @@ def main():
     if read.parse_args().list:
         print(*BESIDE.split(), *(f"alone {it}" for it in ALONE.split()), sep="\n")
         return 0
+    if missing := missing_tools():
+        print(f"gate: nothing was run, since there is no {' and no '.join(missing)} here", f"gate: failed: {', '.join(missing)}", sep="\n")
+        print(f"0 passed, {len(missing)} failed")
+        return 1
     gate = Gate()
     with tempfile.NamedTemporaryFile() as minutes:
         os.environ["MINUTES"] = minutes.name

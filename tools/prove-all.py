@@ -4,21 +4,58 @@
     tools/prove-all.py [JOBS]
 
 `rt lib` in one crate keeps every other `rt` out of the crates beneath it, so that several of them wait for one another. Here one process holds
-all crates, as `rt all` does, but without its first pass over all sources, and gives idle processors to the crate on which the most others wait. It takes
-JOBS processors, all where none is named. What it proves is kept, so it can be stopped and started again: what it started ends with it.
+all crates, as `rt all` does, but without its first pass over all sources. First is the crate beneath the longest chain, by the minutes of proof of
+each crate (docs/GATE.md); it gets the processors that no other can use. It takes JOBS processors, all where none is named. What it proves is
+kept, so it can be stopped and started again: what it started ends with it.
 """
 import argparse
+import glob
 import os
+import re
 import subprocess
 import sys
 import time
 from concurrent.futures import FIRST_COMPLETED, ThreadPoolExecutor, wait
+from pathlib import Path
 
 sys.dont_write_bytecode = True
 import kit  # noqa: E402, of this folder
 
 ROOT = os.path.dirname(os.path.dirname(os.path.realpath(__file__)))
 PROGRAM = "mctower"
+BUSY = 1.8  # processors that the proof of one crate keeps busy, where it has more
+
+
+def minutes_of(crates):
+    """Returns the minutes of proof of each crate, by name: of the table of docs/GATE.md, or else by its lines beside those of the crates there."""
+    rows = re.findall(r"^\| `(\w+)` \|(?:[^|]*\|){3} ([\d.]+) \|", Path(ROOT, "docs/GATE.md").read_text(), re.MULTILINE)
+    told = {name: float(minutes) for name, minutes in rows}
+    lines = {it.name: lines_of(it.folder) for it in crates}
+    known = [name for name in lines if name in told]
+    for_a_line = sum(told[name] for name in known) / sum(lines[name] for name in known) if known else 0.001
+    return {name: told.get(name, count * for_a_line) for name, count in lines.items()}
+
+
+def lines_of(folder):
+    """Returns how many lines the sources and the proofs of a crate have, at least 1."""
+    parts = [f"{folder}/{part}/**/*.{kind}" for part in ("src", "specs", "proofs") for kind in ("rt", "antt")]
+    return max(1, sum(Path(it).read_bytes().count(b"\n") for part in parts for it in glob.glob(part, recursive=True)))
+
+
+def chains_of(crates, minutes):
+    """Returns, by name, the minutes of the longest chain of crates that begins at each and goes up."""
+    chains = {}
+    for crate in reversed(crates):  # each is behind those beneath it
+        above = [chains[it.name] for it in crates if it.name in chains and crate in it.below()]
+        chains[crate.name] = minutes[crate.name] + max(above, default=0)
+    return chains
+
+
+def told_of(minutes, chains, lanes):
+    """Returns a line of what is to be done, and about how long it takes."""
+    clock = max(sum(minutes.values()) / lanes, max(chains.values()) / min(lanes, BUSY))
+    about = 5 * max(1, round(clock / 5))
+    return f"proves {len(minutes)} crates; about {about} minutes on {lanes} idle {'core' if lanes == 1 else 'cores'}, less over kept work"
 
 
 def build(crate, jobs):
@@ -31,10 +68,9 @@ def build(crate, jobs):
     return not failed
 
 
-def build_all(crates, lanes):
-    """Builds these crates, as many side by side as there are lanes, and returns whether all stand."""
-    # first those on which the most others stand
-    left = sorted(crates, key=lambda it: -sum(it in other.below() for other in crates))
+def build_all(crates, chains, lanes):
+    """Builds these crates, as many side by side as there are lanes, those beneath the longest chains first, and returns whether all stand."""
+    left = sorted(crates, key=lambda it: -chains[it.name])
     standing, running, sound = set(), {}, True
     with ThreadPoolExecutor(lanes) as pool:
         while running or (left and sound):
@@ -58,8 +94,12 @@ def main():
     lanes = read.parse_args().jobs
     lib = kit.load()
     program = next(it for it in lib.crates_below(ROOT) if it.name == PROGRAM)
+    crates = [*program.below(), program]
+    minutes = minutes_of(crates)
+    chains = chains_of(crates, minutes)
+    print(told_of(minutes, chains, lanes), flush=True)
     held = lib.lock(program.below())
-    sound = build_all(program.below(), lanes)
+    sound = build_all(program.below(), chains, lanes)
     for it in held:
         os.close(it)
     if not sound:

@@ -4,7 +4,7 @@ lessons, searches, the page's policy; on a phone, in a lecture hall, in the dark
 
     web/in_browser.py [PAGE [PICTURES]]
 
-Where neither is here (tests/browser.py says how they are found) it says so, and its status is 0: web/test.mjs has judged the program in the page. With a
+Where neither is here (tests/browser.py says how they are found) it says so, and its status is 77: web/test.mjs has judged the program in the page. With a
 folder PICTURES it leaves a Chromium's pictures there. The last line counts; the status is 1 if anything is not as it should be.
 """
 import sys
@@ -460,8 +460,10 @@ def main():
         well, ill = looked_at(lambda is_dark: kind(program, WIDE, HIGH, is_dark), page, folder if kind is Browser else None)
         passed, failed = passed + well, failed + ill
         print(f"in a {kind.name}: {well} passed, {ill} failed")
-    if passed + failed:
-        print(f"in a browser: {passed} passed, {failed} failed")
+    if not passed + failed:
+        print("in a browser: no Chromium and no Firefox here: nothing was looked at")
+        sys.exit(77)
+    print(f"in a browser: {passed} passed, {failed} failed")
     sys.exit(failed > 0)
 
 

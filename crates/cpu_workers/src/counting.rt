@@ -6,8 +6,7 @@ ghost use Rattle.std.specs.Prelude.{◌≡◌};
 ghost use Rattle.cpu_workers.specs.Counts.{counting};
 
 mod counted;
-pub(crate) mod plan_words;
-pub(crate) mod sections;
+mod sections;
 mod tables;
 mod tasks;
 

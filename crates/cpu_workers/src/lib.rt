@@ -15,6 +15,7 @@
 
 pub mod counting;
 mod laws;
+pub mod locks;
 mod natives;
 mod own_threads;
 mod pauses;
@@ -22,11 +23,11 @@ mod pool;
 mod refusals;
 mod workers;
 
-pub use counting::plan_words::PlanWords;
 pub use laws::{
     actions_let_order_go_on, fronts_keep_order, reports_are_lawful, reports_are_runs,
     stops_are_true, workers_lose_no_wake_up,
 };
+pub use locks::{OnLock, PlanWords};
 pub use natives::{Native, NativeReport, run_native};
 pub use own_threads::{Joined, NoThread};
 pub use refusals::WorkerError;

@@ -36,9 +36,13 @@ where
     Grant(System<J>),
 }
 
-// Lets the system of a plan take the steps of a schedule, and writes the trace text. Whatever lock the plan
-// names, the system stands on the layers that `I` is the top of.
-fn run_boot<I: Owned + Drop, W: Write>(
+/// Lets the system of a plan take the steps of a schedule, and writes the trace text. Whatever lock
+/// the plan names, the system stands on the layers that `I` is the top of.
+///
+/// Requires: the sink has not failed. There are at most `MOST_STEPS` steps.
+///
+/// Errors: those of [`run_text`] but `Boot`.
+pub(crate) fn run_boot<I: Owned + Drop, W: Write>(
     alloc: Global,
     boot: &Boot,
     steps: &[CpuId],
@@ -85,12 +89,8 @@ where
     run_read(alloc, &boot, steps, sink)
 }
 
-/// What [`run_text`] does once the plan is read. The program runs each plan by it.
-///
-/// Requires: the sink has not failed. There are at most `MOST_STEPS` steps.
-///
-/// Errors: those of [`run_text`] but `Boot`.
-pub(crate) fn run_read<I: Owned + Drop, J: Owned + Drop, W: Write>(
+// What `run_text` does once the plan is read.
+fn run_read<I: Owned + Drop, J: Owned + Drop, W: Write>(
     alloc: Global,
     boot: &Boot,
     steps: &[CpuId],

@@ -3,7 +3,5 @@ pub mod KernelLemmas
 pub mod QLockLemmas
 pub mod WholeLemmas
 pub mod FifoLemmas
-pub mod LockOwnerLemmas
 pub mod OpeningLemmas
 pub mod PlainOpenings
-pub mod StreamLemmas

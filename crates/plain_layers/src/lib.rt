@@ -40,6 +40,3 @@ pub use queues::PlainQueues;
 pub use scheds::PlainSched;
 pub use sleepers::{PlainCond, PlainSleep, cond_is_whole, sleep_is_whole};
 pub use wholes::whole;
-
-#[cfg(test)]
-mod tests;

@@ -5,8 +5,8 @@ ghost use Rattle.std.specs.Prelude.{◌≡◌, ◌*◌, ◌%◌, ◌^◌, ◌<�
 ghost use Rattle.{event_log.specs.{declared.ids.{CpuId.CpuId, TheConstants.CPUS}, Actions.{gives, phase, Rests}}, table_machine.specs.SeatViews.new_seat_views};
 ghost use Rattle.cpu_workers.specs.Counts.{AllHaveMade, IsNumberOfFrees, after_rounds, counting};
 
-use crate::counting::plan_words::PlanWords;
 use crate::counting::{AddOne, NUMBER};
+use crate::locks::PlanWords;
 use crate::own_threads::Joined;
 use boot::LockKind;
 use layer_traits::OwnedLocks;

@@ -1,13 +1,17 @@
 //! The sections of one worker that counts.
 
 ghost use Rattle.std.specs.Prelude.{◌≡◌, ◌+◌, ◌<◌, None, IsSome};
-ghost use Rattle.{event_log.specs.declared.ids.CpuId.CpuId, cpu_workers.specs.Counts.made};
+ghost use Rattle.{event_log.specs.{declared.ids.CpuId.CpuId, WordsLog.{lock_phase, Idle}}, cpu_workers.specs.Counts.{HasMade, made}};
+ghost use Rattle.{layer_traits.specs.Protocols.OneLock.opened, table_machine.specs.SeatViews.IsOf};
 
-use crate::counting::{AddOne, NUMBER};
+use crate::counting::{AddOne, CountLaws, NUMBER};
 use crate::pauses::{SPINS, pause};
 use event_log::{CpuId, LockId};
 use layer_traits::{LockCall, LockLayer, Payload};
+use spinlock::Ticket;
+use std::marker::PhantomData;
 use std::sync::Wait;
+use table_machine::{Key, Seat, Shared, TableWords};
 
 // One section that adds 1: polls until it answers. Nothing lies in the payload that counts.
 fn add_one<L: LockLayer<AddOne>, R: Wait>(
@@ -46,7 +50,7 @@ fn add_one<L: LockLayer<AddOne>, R: Wait>(
 }
 
 // So many sections of this CPU at its seat, which add 1 each.
-pub(crate) fn work_at<L: LockLayer<AddOne> + Drop, R: Wait>(
+fn work_at<L: LockLayer<AddOne> + Drop, R: Wait>(
     rt: &R,
     cpu: CpuId,
     seat: &mut L::Machine,
@@ -66,4 +70,26 @@ pub(crate) fn work_at<L: LockLayer<AddOne> + Drop, R: Wait>(
     for _ in 0..times {
         add_one(rt, &mut part, seat, NUMBER, &mut payload);
     }
+}
+
+/// So many sections of the key's CPU, which add 1 each, whatever the words of the table's locks are.
+///
+/// Requires: the key is one of this table, its CPU neither waits at a lock nor holds one, and the
+/// lock of the number is there.
+pub(crate) fn work<K: TableWords, R: Wait>(
+    rt: &R,
+    shared: &Shared<AddOne, K>,
+    key: Key<AddOne>,
+    times: u64,
+) -> Key<AddOne>
+    requires of { IsOf shared.now key }
+    requires lock { IsSome (opened key.start NUMBER) }
+    requires outside { lock_phase key.cpu key.seen ≡ Idle }
+    ensures { HasMade NUMBER key result times }
+{
+    let cpu = key.cpu();
+    let _laws: CountLaws = PhantomData;
+    let mut seat = shared.seat(key);
+    work_at::<Ticket<Seat<'_, AddOne, K>>, R>(rt, cpu, &mut seat, times);
+    seat.back()
 }

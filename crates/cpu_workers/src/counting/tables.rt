@@ -5,17 +5,18 @@ ghost use Rattle.std.specs.Prelude.{◌≡◌, ◌*◌, ◌<◌, ◌≤◌, ◌^
 ghost use Rattle.{event_log.specs.Refusals.no_memory, table_machine.specs.SeatViews.new_seat_views, cpu_workers.specs.Counts.IsUncounted};
 ghost use Rattle.cpu_workers.specs.declared.refusals.WorkerError.TheVariants.{NoMemory as LacksMemory};
 
+use crate::by_kind;
 use crate::counting::counted::{Counted, number_left, number_untouched};
-use crate::counting::plan_words::PlanWords;
 use crate::counting::tasks::count_all;
 use crate::counting::{AddOne, CountFault, NUMBER};
+use crate::locks::PlanWords;
 use crate::pool::Refused;
 use boot::LockKind;
 use event_log::{CPUS, NoMemory};
 use std::alloc::Global;
 use std::sync::Wait;
 use std::thread::Threads;
-use table_machine::{Key, Shared, TableWords, TicketWords, WaiterWords};
+use table_machine::{Key, Shared, TableWords};
 
 // The table of the number, which is 0, with a key for each CPU.
 fn open_number<K: TableWords>(
@@ -101,14 +102,10 @@ pub fn count_or_leave<R: Threads + Wait + Sync>(
     ensures none { IfErr result (λ not. IfSome not.left (λ left. IsUncounted left cpus lock)) }
     ensures table { IfErr result (λ not. (not.fault ≡ LacksMemory no_memory) ⊎ IsSome not.left) }
 {
-    match lock {
-        LockKind::Ticket => {
-            count_if_open::<TicketWords, R>(rt, alloc, open_number(alloc, cpus), cpus, times)
-        }
-        LockKind::Grant => {
-            count_if_open::<WaiterWords, R>(rt, alloc, open_number(alloc, cpus), cpus, times)
-        }
-    }
+    by_kind!(
+        lock,
+        count_if_open::<Table, R>(rt, alloc, open_number(alloc, cpus), cpus, times)
+    )
 }
 
 /// Counts over shared words of locks of this kind: each of `cpus` CPUs does `times` sections that add

@@ -6,7 +6,8 @@ ghost use Rattle.{layer_traits.specs.Protocols.OneLock.opened, cpu_workers.specs
 ghost use Rattle.cpu_workers.specs.Reports.{Both};
 
 use crate::counting::AddOne;
-use crate::counting::plan_words::PlanWords;
+use crate::counting::sections::work;
+use crate::locks::PlanWords;
 use crate::own_threads::{Joined, Task};
 use crate::pool::{Refused, run_all};
 use crate::refusals::WorkerError;
@@ -35,7 +36,7 @@ impl<'a, K: PlanWords> Task for Counting<'a, K> {
 
     fn run<R: Wait>(self, rt: &R) -> Key<AddOne> {
         let Counting { shared, key, times } = self;
-        K::work(rt, shared, key, times)
+        work(rt, shared, key, times)
     }
 }
 

@@ -4,7 +4,7 @@ ghost use Rattle.std.specs.Prelude.{◌≡◌, Some, All};
 ghost use Rattle.{layer_traits.specs.Protocols.OneLock.opened, table_machine.specs.SeatViews.{ClosesTable, Covers, IsOver}};
 ghost use Rattle.cpu_workers.specs.{Closing.{block_shown, tower_rules}, Lawful.messages_in};
 
-use crate::counting::plan_words::PlanWords;
+use crate::locks::PlanWords;
 use crate::workers::stops::Stop;
 use arrayvec::ArrayVec;
 use boot::LockKind;

@@ -6,14 +6,15 @@ ghost use Rattle.{layer_traits.specs.Protocols.OneLock.{AreDistinct, opened}, ta
 ghost use Rattle.{table_machine.specs.SeatViews.new_seat_views, boot.specs.Plan.IsPlan, cpu.specs.Sound.setup_for, cpu_workers.specs.Closing.shown};
 ghost use Rattle.cpu_workers.specs.{Closing.tower_rules, Lawful.IsLawfulReport, Logs.HasWords, ReportRuns.IsReportOfRun, Seating.{HaveLeft, OpensPlan}};
 
-use crate::counting::plan_words::PlanWords;
+use crate::by_kind;
+use crate::locks::PlanWords;
 use crate::refusals::WorkerError;
 use crate::workers::gates::Gate;
 use crate::workers::report::Report;
 use crate::workers::seating::{Left, run_over};
 use crate::workers::seats::TowerSeat;
 use crate::workers::stops::Stop;
-use boot::{Boot, LockKind};
+use boot::Boot;
 use cpu::homes_of;
 use event_log::{Entry, NoMemory};
 use ipc_calls::{TowerEdit, TowerLockLaws, tower_blocks};
@@ -23,7 +24,7 @@ use std::alloc::{AllocError, Global};
 use std::marker::PhantomData;
 use std::sync::Wait;
 use std::thread::Threads;
-use table_machine::{Key, Shared, TableWords, TicketWords, WaiterWords};
+use table_machine::{Key, Shared, TableWords};
 
 // What workers leave behind at a table, by CPU: their keys, traces, stops and turns.
 #[derive(Drop)]
@@ -229,8 +230,8 @@ pub fn run_workers<G: Gate + Sync, R: Threads + Wait + Sync>(
     ensures lock { IfOk result (λ r. r.closed.lock ≡ boot.now.lock) }
     ensures closed { IfOk result (λ r. r.closed.blocks.value ≡ r.blocks) }
 {
-    match boot.lock() {
-        LockKind::Ticket => run_words::<TicketWords, G, R>(rt, alloc, boot, turns, gate),
-        LockKind::Grant => run_words::<WaiterWords, G, R>(rt, alloc, boot, turns, gate),
-    }
+    by_kind!(
+        boot.lock(),
+        run_words::<Table, G, R>(rt, alloc, boot, turns, gate)
+    )
 }

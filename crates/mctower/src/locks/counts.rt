@@ -5,13 +5,37 @@ ghost use Rattle.std.specs.Prelude.{◌≡◌, ◌*◌, ◌≤◌, IfOk};
 ghost use Rattle.event_log.specs.declared.ids.TheConstants.{CPUS};
 
 use crate::line::MOST_TIMES;
-use crate::locks::{GrantLock, OwnedLock, TicketLock};
+use crate::locks::rounds::count_behind;
 use boot::LockKind;
-use cpu_workers::counting::{self, CountFault, Counted};
+use cpu_workers::counting::{self, AddOne, CountFault, CountLaws, Counted};
+use cpu_workers::{OnLock, by_kind};
 use event_log::NoMemory;
+use plain_machine::{LineWords, Plain};
+use spinlock::Ticket;
 use std::alloc::Global;
+use std::marker::PhantomData;
 use std::sync::Wait;
 use std::thread::Threads;
+
+/// Counts over the owned machine with locks of these words, which are of this kind.
+fn count_over<K: LineWords + OnLock>(
+    alloc: Global,
+    cpus: u8,
+    times: u64,
+    lock: LockKind,
+) -> Result<Counted, NoMemory>
+    requires some { 1 ≤ cpus }
+    requires cpus { cpus ≤ CPUS }
+    requires times { times ≤ MOST_TIMES }
+    requires kind { lock ≡ K.lock_kind }
+    ensures number { IfOk result (λ counted. counted.number ≡ times * cpus) }
+    ensures lock { IfOk result (λ counted. counted.lock ≡ lock) }
+    ensures all { IfOk result (λ counted. counted.cpus ≡ cpus) }
+    ensures times { IfOk result (λ counted. counted.times ≡ times) }
+{
+    let _laws: CountLaws = PhantomData;
+    count_behind::<Ticket<Plain<AddOne, K>>>(alloc, cpus, times, lock)
+}
 
 /// Counts over the owned machine with locks of this kind: each of `cpus` CPUs does `times` sections
 /// that add 1.
@@ -28,10 +52,7 @@ pub fn count_plain(alloc: Global, cpus: u8, times: u64, lock: LockKind) -> Resul
     ensures all { IfOk result (λ counted. counted.cpus ≡ cpus) }
     ensures times { IfOk result (λ counted. counted.times ≡ times) }
 {
-    match lock {
-        LockKind::Ticket => TicketLock::count(alloc, cpus, times),
-        LockKind::Grant => GrantLock::count(alloc, cpus, times),
-    }
+    by_kind!(lock, count_over::<Line>(alloc, cpus, times, lock))
 }
 
 /// Counts over shared words of locks of this kind: each of `cpus` CPUs does `times` sections that add

@@ -1,32 +1,8 @@
-//! Of what kind the lock is on which a layer stands, by the type of the layer's machine: an owned machine of
-//! the words of a lock. A further lock is one more impl here, of its words.
+//! How a count tells the kind of its lock.
 
-ghost use Rattle.boot.specs.declared.locks.LockKind.TheVariants as kind;
-
+use cpu_workers::OnLock;
 use cpu_workers::counting::{AddOne, LockOfKind};
-use layer_traits::{OwnedLocks, SplitEdit};
-use plain_machine::{Granting, LineWords, LockWords, Plain};
-
-/// Locks of one kind: their words, and an owned machine of such words, which each layer of a tower over it
-/// has as its own.
-pub trait OnLock {
-    ghost use Rattle.boot.specs.declared.locks.LockKind.{LockKind};
-
-    /// The kind of these locks, as a plan names it.
-    ghost lock_kind: { LockKind };
-}
-
-impl OnLock for LockWords {
-    ghost lock_kind = { kind.Ticket };
-}
-
-impl OnLock for Granting {
-    ghost lock_kind = { kind.Grant };
-}
-
-impl<E: SplitEdit, K: LineWords + OnLock> OnLock for Plain<E, K> {
-    ghost lock_kind = { K.lock_kind };
-}
+use layer_traits::OwnedLocks;
 
 /// The one name by which a count tells the kind of its lock: that of the lock's machine.
 pub struct KindOf;

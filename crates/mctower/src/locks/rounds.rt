@@ -6,8 +6,9 @@ ghost use Rattle.{event_log.specs.{declared.ids.{CpuId.CpuId, TheConstants.CPUS}
 ghost use Rattle.mctower.specs.Count.{AreReady, after_round, after_rounds};
 
 use crate::line::MOST_TIMES;
-use crate::locks::kinds::{KindOf, OnLock};
+use crate::locks::kinds::KindOf;
 use boot::LockKind;
+use cpu_workers::OnLock;
 use cpu_workers::counting::{AddOne, Counted, NUMBER, number_in};
 use event_log::{CpuId, LockId, NoMemory};
 use layer_traits::{LockLayer, OwnedLocks, Payload};

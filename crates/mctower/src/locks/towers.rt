@@ -4,8 +4,8 @@
 //! over any that meet the trait beneath, and hands the top on. The lock at the foot is named in
 //! `locks.rt`. No call waits, unless what is done does.
 
-use crate::locks::kinds::OnLock;
 use condvar::Cond;
+use cpu_workers::OnLock;
 use fifo_buffer::Fifo;
 use ipc_calls::{Ipc, LockEdit, StepwiseLocks, StepwiseScheds, StepwiseSections, TowerLaws};
 use layer_traits::Stepwise;

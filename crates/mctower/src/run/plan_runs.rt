@@ -5,14 +5,14 @@ ghost use Rattle.std.specs.Prelude.{◌≡◌, ◌≤◌, false, length};
 ghost use Rattle.{boot.specs.Plan.plan_of, tracer.specs.Sinks.has_failed, mctower.specs.{Output.between, Running.RunsOverTower}};
 
 use crate::line::schedules::MOST_STEPS;
-use crate::locks::kinds::OnLock;
 use crate::locks::over_lock;
 use crate::locks::towers::OverTower;
+use crate::run::run_boot;
 use crate::run::run_faults::Fault;
 use crate::run::system_states::state_of;
-use crate::run::{Ran, run_read};
 use crate::tell::state_lines::State;
 use boot::Boot;
+use cpu_workers::OnLock;
 use event_log::CpuId;
 use layer_traits::Stepwise;
 use std::alloc::Global;
@@ -43,10 +43,8 @@ impl<O: Write> OverTower for PlanRun<'_, '_, '_, O> {
     where
         I::Machine: OnLock + Drop,
     {
-        let ran = run_read::<I, I, O>(self.alloc, self.plan, self.steps, self.out)?;
-        match ran {
-            Ran::Ticket(system) | Ran::Grant(system) => Ok(state_of(&system)),
-        }
+        let system = run_boot::<I, O>(self.alloc, self.plan, self.steps, self.out)?;
+        Ok(state_of(&system))
     }
 }
 
