@@ -266,7 +266,7 @@ class Checks:
     def first_look(self):
         """What one sees before the first step."""
         self.open()
-        first = "Threads on CPUs pass numbers through buffers → takes the next step"
+        first = "Threads on CPUs pass numbers through buffers Press → or next"
         self.holds("a sentence says what this is and what to press", self.text("#said").startswith(first), True)
         self.holds("the names of the sections are explained", [name for name in SECTIONS if name not in self.text("#foot")], [])
         self.holds("lessons have a list of their own", self.browser.read("document.querySelectorAll('#lessonList option').length"), 9)

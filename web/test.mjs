@@ -178,9 +178,11 @@ class Held {
   // In each lesson the kernel with the mistake breaks the law that the lesson names at the step it names, and not before; the whole kernel keeps every law.
   lessonRuns() {
     for (const { lesson, plan, wrong, breaks, step, schedule } of this.lessons) {
-      const text = read(`plans/${plan}.toml`), steps = schedule ?? this.scheduleIn(text), first = this.session(text, steps, wrong).firstBroken(breaks);
-      is(`lesson ${lesson}: "${breaks}" is first broken after step ${first}`, first === step);
+      const text = read(`plans/${plan}.toml`), steps = schedule ?? this.scheduleIn(text);
       is(`lesson ${lesson} stands without the mistake`, this.session(text, steps).firstBroken() === -1);
+      if (!wrong) continue;
+      const first = this.session(text, steps, wrong).firstBroken(breaks);
+      is(`lesson ${lesson}: "${breaks}" is first broken after step ${first}`, first === step);
     }
   }
 }
