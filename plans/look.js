@@ -229,14 +229,14 @@ function effectMarks(run, threads, {from, to, x}) {
 }
 
 // Who wakes whom: an arrow from the lane of the thread that acts, or of its CPU, to that of the thread that is woken, at each step that wakes one.
-function wakeArrows(run, threads, cpus, {from, to, each, x}) {
+function wakeArrows(run, threads, cpus, {from: first, to, x}) {
   const top = LANE * threads.length + 4;
-  return counted(to - from).map(i => from + i + 1).flatMap(at => threads.filter(t => run.changed(`t${t}.place`, at)).map(t => {
+  return counted(to - first).map(i => first + i + 1).flatMap(at => threads.filter(t => run.changed(`t${t}.place`, at)).map(t => {
     const {cpu} = run.step(at), by = run.cell(`c${cpu}.current`, at - 1), lane = threads.indexOf(by), isWoken = sleeps(run.place(t, at - 1)) && !sleeps(run.place(t, at));
     if (!isWoken || by === t || (lane < 0 && !cpus.includes(cpu))) return "";
-    const start = lane < 0 ? top + (LANE + 8) * cpus.indexOf(cpu) : LANE * lane + LANE / 2, end = LANE * threads.indexOf(t) + LANE / 2, way = Math.sign(end - start);
-    const head = `M${x(at) - each / 2} ${end - 2 * way} l-4 ${-7 * way} h8 z`, words = `step ${at}: ${by === null ? `CPU ${cpu}` : `thread ${by}`} wakes thread ${t}`;
-    return `<g role="img" aria-label="${words}"><title>${words}</title><path d="M${x(at) - each / 2} ${start} V${end - 4 * way}" class="wakes"/><path d="${head}" class="head"/></g>`;
+    const other = threads.indexOf(t), isUp = lane < 0 || other < lane, from = lane < 0 ? top + (LANE + 8) * cpus.indexOf(cpu) : LANE * lane + (isUp ? 5 : LANE - 6);
+    const end = LANE * other + (isUp ? LANE - 8 : 6), head = `M${x(at - 1)} ${end} l-4 ${isUp ? 7 : -7} h8 z`, words = `step ${at}: ${by === null ? `CPU ${cpu}` : `thread ${by}`} wakes thread ${t}`;
+    return `<g role="img" aria-label="${words}"><title>${words}</title><path d="M${x(at - 1)} ${from} V${end}" class="wakes"/><path d="${head}" class="head"/></g>`;
   })).join("");
 }
 
@@ -265,7 +265,10 @@ function ticksOf(run) {
 const isNew = (run, at, ...names) => names.some(name => run.changed(name, at)) ? " new" : "";
 const none = '<span class="none">–</span>';
 // A thread where it stands: filled. Each thread is filled once among CPUs and buffers.
-const chip = (run, t, place) => `<span class="t ${place}" role="img" aria-label="thread ${t}: ${run.record.places[place][3].replace(/ N/, "")}">t${t}</span>`;
+function chip(run, t, place) {
+  const words = `thread ${t}: ${run.record.places[place][3].replace(/ N/, "")}`;
+  return `<span class="t ${place}" role="img" aria-label="${words}" title="${words}">t${t}</span>`;
+}
 const chips = (run, threads, place) => threads.map(t => chip(run, t, place)).join("");
 // A thread that is only named: it stands elsewhere.
 function mention(t, position) {
@@ -390,20 +393,26 @@ function orderTable(run, at) {
 function quietLine(run, at) {
   return `<p>${proved(run)} ${run.cell("quiet", at) ? "<b>quiet</b>: nobody goes on" : "not quiet"}</p>`;
 }
+// What each law says, for who points at it.
 const LAW_MEANINGS = {
-  "one place for each thread": "each thread is in exactly one queue, or running, or ended", "each thread runs at home": "run queues hold threads of their own CPU only",
+  "one place for each thread": "each thread is in exactly one queue, or runs, or has ended",
+  "each thread runs at home": "the threads that run or are ready at a CPU have their home there",
   "one CPU inside a lock": "mutual exclusion: no two CPUs are inside one spin lock",
   "only the owner works on a buffer": "a thread whose call is between AcqQ and RelQ, and that does not sleep for the buffer, owns the buffer",
-  "nobody sleeps at a free lock": "if a buffer's mutex is free, no thread waits for it",
-  "no lost wake-up": "if a buffer's mutex is free, the first thread in a line does not sleep while its call could go on",
+  "no lost wake-up": "if a buffer is free, the first thread of a line does not sleep while its call could continue",
+  "nobody sleeps at a free lock": "if a buffer is free, no thread sleeps until it is handed over",
   "sent = received ++ left": "the values sent are those received and then those still in the buffer, in order",
-  "callers in their order": "calls of one side take effect in the order in which they drew positions", "each answer fits its buffer": "no send to a full buffer, no receive from an empty one",
-  "the order only grows": "a step appends at most one call to the order of effects", "quiet only if nobody can go on": "a quiet system is deadlocked or finished",
+  "callers in their order": "calls of one side take effect in the order in which they drew positions",
+  "each answer fits its buffer": "no send to a full buffer, no receive from an empty one",
+  "the order only grows": "a step appends at most one call to the order of effects",
+  "quiet only if nobody can go on": "where no CPU has anything to do, each thread has ended or waits at a call that its buffer does not allow",
 };
 function lawList(run, at) {
-  const why = new Map(run.cell("broken", at));
-  return '<h2>Invariants</h2><ul class="laws">' + run.record.laws.map(law => why.has(law)
-    ? `<li class="broken">✘ BROKEN: ${escaped(law)}: <small>${escaped(why.get(law))}</small></li>` : `<li title="${LAW_MEANINGS[law] || ""}">✔ ${escaped(law)}</li>`).join("") + "</ul>";
+  const why = new Map(run.cell("broken", at)), lines = run.record.laws.map(law => {
+    const title = `title="${LAW_MEANINGS[law]}"`;
+    return why.has(law) ? `<li class="broken" ${title}>✘ BROKEN: ${escaped(law)}: <small>${escaped(why.get(law))}</small></li>` : `<li ${title}>✔ ${escaped(law)}</li>`;
+  });
+  return `<h2>Invariants</h2><ul class="laws">${lines.join("")}</ul>`;
 }
 
 // The places with their colours, for the foot of a page.

@@ -8,7 +8,7 @@ const MOST_LINK = 8000; // letters of a plan in a link
 // What is said before the first step: what one sees, and what to press.
 const START = {
   who: "", first: "Threads on CPUs pass numbers through buffers",
-  small: "Press → or next for the next step of the schedule, a digit or step to step that CPU. Lessons are in the menu at the top.",
+  small: "Press → or next for the next step of the schedule, a digit to step that CPU. Lessons are in the menu at the top.",
 };
 
 const readData = id => JSON.parse(byId(id).textContent);
@@ -221,10 +221,11 @@ class Page {
 
   // The law of the reader's own in the state that is shown, and where it is broken first.
   ownLawLine() {
-    if (!this.law) return "";
-    const broken = this.watch.follow(this.session.steps), first = broken.indexOf(true), words = first < 0 ? "kept in each state of this run" : "";
+    if (!this.law) return html`<p><button data-panel="lawPanel">your own law</button></p>`;
+    const broken = this.watch.follow(this.session.steps), first = broken.indexOf(true), change = html`<button data-panel="lawPanel">change</button>`;
     const line = broken[this.at] ? html`<li class="broken">✘ BROKEN: your law: <small>${this.law.text}</small></li>` : html`<li>✔ your law: <small>${this.law.text}</small></li>`;
-    return html`<ul class="laws own">${line}</ul><p>${words}${first < 0 ? "" : html`<button data-go-to="${first}">broken first in step ${first}</button>`}</p>`;
+    const where = first < 0 ? "kept in each state of this run" : html`<button data-go-to="${first}">broken first in step ${first}</button>`;
+    return html`<ul class="laws own">${line}</ul><p>${where} ${change}</p>`;
   }
 
   buttonsOf(c) {
