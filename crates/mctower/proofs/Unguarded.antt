@@ -2,11 +2,10 @@
 -- without a condition where they are such.
 use Rattle.std.{proofs.Common.{◌≡◌, List, refl}, specs.Prelude.{Result, Ok, Err, IsErrAnd}}
 use Rattle.{event_log.specs.declared.{ids.CpuId.CpuId, refusals.NoMemory.NoMemory as NoMemoryTold}, boot.specs.declared.refusals.BootError.BootError}
-use Rattle.{boot.specs.{declared.locks.LockKind.LockKind, Plan.{BootPlan, Fails}}, cpu.specs.{Claims.Shown, Systems.{Ran, WentOn, goes, took_none, stayed}}}
+use Rattle.{boot.specs.Plan.{BootPlan, Fails}, cpu.specs.{Claims.Shown, Systems.{Ran, WentOn, goes, took_none, stayed}}}
 use Rattle.{cpu.specs.Systems.took, mctower.specs.declared.run.run_faults.Fault.{Fault, TheVariants.{NoMemory, WriteFault}}}
 use Rattle.mctower.specs.{declared.tell.state_lines.State.State, Output.{IsUntouched, Output}, Plans.from_boot, Running.{IsPrinted, IsRunOf, NoCondition}}
-use Rattle.mctower.specs.{Running.{RunsOverTower, RunsPlan, RunsTextOn, on_lock}, State.IsStateOf}
-use Rattle.boot.specs.declared.locks.LockKind.TheVariants as kind
+use Rattle.mctower.specs.{Running.{RunsOverTower, RunsPlan, RunsTextOn}, State.IsStateOf}
 use Rattle.boot.specs.declared.refusals.BootError.TheVariants as refused
 
 module _ (If Where : Type 0) (follows : Where → If) where
@@ -49,15 +48,9 @@ module _ (If Where : Type 0) (follows : Where → If) where
   pub state_of : (s : Shown) (state : State) → IsStateOf If s state → IsStateOf Where s state
   state_of s state is = assumption (λ (here : Where). is.table (follows here), λ (here : Where). is.still (follows here))
 
--- what is said of layers is said of those over either lock, where these are the same
-either_lock : (Said : Type 0) (lock : LockKind) → Said → on_lock Said Said lock
-either_lock Said kind.Ticket said = said
-either_lock Said kind.Grant said = said
-
 pub runs_alike : (If : Type 0) → If → (plan : BootPlan) (steps : List CpuId) (result : Result Shown Fault) (out : Output)
-    → RunsPlan (on_lock If If plan.lock) plan steps result out → RunsTextOn NoCondition (Ok plan) steps result out
-runs_alike If here plan steps result out runs =
-    runs_plan (on_lock If If plan.lock) NoCondition (λ always. either_lock If plan.lock here) plan steps result out runs
+    → RunsPlan If plan steps result out → RunsTextOn NoCondition (Ok plan) steps result out
+runs_alike If here plan steps result out runs = runs_plan If NoCondition (λ always. here) plan steps result out runs
 
 -- want of memory is no more than that, whatever the text
 wants_memory : (read : Result BootPlan BootError) (steps : List CpuId) (evidence : NoMemoryTold) (out : Output) → IsUntouched out
