@@ -94,7 +94,7 @@ class Moves {
 }
 
 const UNSET = ""; // the place of a thread that has none yet
-const MOVE_BYTES = 600; // about what a move takes beside its numbers, with its share of the pieces
+const MOVE_BYTES = 200; // about what a move takes beside its numbers
 
 // The laws on effects that the edit of a buffer's block breaks, where they held before it, and whether what the buffer holds is changed.
 function judgedEdit(before, after, entry, guest) {
