@@ -407,12 +407,13 @@ const LAW_MEANINGS = {
   "the order only grows": "a step appends at most one call to the order of effects",
   "quiet only if nobody can go on": "where no CPU has anything to do, each thread has ended or waits at a call that its buffer does not allow",
 };
-function lawList(run, at) {
+// `more` stands behind the heading.
+function lawList(run, at, more = "") {
   const why = new Map(run.cell("broken", at)), lines = run.record.laws.map(law => {
     const title = `title="${LAW_MEANINGS[law]}"`;
     return why.has(law) ? `<li class="broken" ${title}>✘ BROKEN: ${escaped(law)}: <small>${escaped(why.get(law))}</small></li>` : `<li ${title}>✔ ${escaped(law)}</li>`;
   });
-  return `<h2>Invariants</h2><ul class="laws">${lines.join("")}</ul>`;
+  return `<h2>Invariants${more}</h2><ul class="laws">${lines.join("")}</ul>`;
 }
 
 // The places with their colours, for the foot of a page.

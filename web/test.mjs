@@ -234,7 +234,7 @@ function lawsIn({ plan, text, wrong, most }, ways, { States, LAWS, LAW_BITS, pla
 // Each way to search finds the same of a plan: whether a law can be broken, and whether a deadlock is reached. Where a way met its limit it says nothing.
 function waysAgree({ plan, text, wrong, ways }, scripts) {
   const first = what => Object.keys(ways).map(way => {
-    const search = new scripts.Search({ text, wrong, what, ...WAYS[way], most: 64e6 }), { steps, isAll } = search.next(() => {});
+    const search = new scripts.Search({ text, wrong, what, ...WAYS[way], most: 6e6 }), { steps, isAll } = search.next(() => {});
     return steps ? 'found' : isAll ? 'none' : 'limited';
   });
   for (const what of ['broken', 'deadlock']) {
@@ -279,6 +279,32 @@ function searchesEnd() {
   }
   is(`there are more than one: ${seen.size}`, seen.size >= 2);
   for (const [name, holds] of [['ping-pong', true], ['two-receivers', false], ['ledger', true]]) is(`loops in ${name}`, hasLoops(planOf(read(`plans/${name}.toml`))) === holds);
+}
+
+// Laws of a reader's own: what each says of the boot state and of the state behind a schedule, or where it is at fault and why. A damaged one is at most refused.
+function ownLaws() {
+  const { ownLaw, LawFault, Kernel, planOf, stepsOf, readSchedule } = sources(ROOT)('({ ownLaw, LawFault, Kernel, planOf, stepsOf, readSchedule })');
+  const plan = planOf(read('plans/two-receivers.toml')), lost = new Kernel(plan, 'other-side-only'), boot = new Kernel(plan), choose = chooser(11);
+  for (const c of stepsOf(readSchedule('0*13,1*13,2*36,0*16').items)) lost.step(c);
+  const kept = [['b0.holds <= b0.capacity', true, true], ['not (t1.place = WaitRecv and b0.holds > 0 and b0.owner = none)', true, false],
+    ['b0.owner = none implies b0.asleep = 0', true, true], ['effects + 1 = 1 or quiet', true, false], ['t0.r0 = 0 and not t0.place = Ended', true, false],
+    ['c2.ready = 1', true, false], ['t0.place = Ready implies quiet implies b0.closed', true, true], ['b0.holds - 1 < 0', true, false],
+    ['c0.doing = rests and c1.state = live', true, true], ['b0.receive = 0 or b0.receivers = b0.receive', true, true]];
+  for (const [text, before, behind] of kept) {
+    const { holds } = ownLaw(text, plan);
+    is(`the law ${text}: ${holds(boot)} at boot, ${holds(lost)} behind`, holds(boot) === before && holds(lost) === behind);
+  }
+  const faultIn = text => { try { return ownLaw(text, plan) && null; } catch (fault) { return fault; } };
+  for (const [text, at, words] of [['b3.holds = 0', 0, 'this plan has b0 to b0'], ['t0.plce = Ended', 0, 'stands one of place'], ['t0.place = inside', 0, 'not compared'],
+    ['b0.owner < t1', 9, 'for numbers'], ['b0.holds', 0, 'a condition is expected'], ['quiet implies', 13, 'at the end'], ['quiet $', 6, 'no sign of a law'],
+    ['(quiet', 6, '“)” is expected'], ['', 0, 'a condition is expected'], ['quiet quiet', 6, 'is not expected here'], ['('.repeat(2000), 1000, 'at most 1000 letters']]) {
+    const fault = faultIn(text);
+    is(`the law ${text.slice(0, 40)}: ${fault?.message} at ${fault?.at}`, fault instanceof LawFault && fault.at === at && fault.message.includes(words));
+  }
+  for (let number = 0; number < DAMAGED; number++) {
+    const text = damaged(choose, kept[choose(kept.length)][0]), fault = faultIn(text);
+    is(`the damaged law ${text}: ${fault}`, fault === null || (fault instanceof LawFault && fault.at >= 0 && fault.at <= text.length));
+  }
 }
 
 // The order after a step is the order before it, and at most one call more at its end, of the CPU that stepped.
@@ -345,6 +371,7 @@ async function main() {
     modelCells();
     searches();
     searchesEnd();
+    ownLaws();
     growths();
     ticksFall(held);
     rounds(held);

@@ -52,6 +52,7 @@ class Finder {
     this.stop("");
     this.empty();
     const { text, wrong } = this.page.session, what = byId("wanted").value, law = what === "own" ? this.page.law.text : null;
+    if (law !== null && this.page.law.usesHistory && byId("isEndless").checked) return this.stop("your law names effects, which a search without history does not keep");
     try {
       this.worker = Finder.newWorker();
     } catch (fault) {

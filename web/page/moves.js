@@ -49,14 +49,16 @@ class Moves {
     return cpu.section === null ? -1 : pieces.locksAt + pieces.locks.indexOf(cpu.section.lock);
   }
 
-  // Takes a move by the twin, and tells what it did.
+  // Takes a move by the twin, and tells what it did. Other threads have no place before it, so that each place which it gives them is seen; that a CPU whose own
+  // threads have all ended takes no step is known by then.
   taken(numbers, from, c, lockPlace, number) {
     const { pieces } = this, kernel = pieces.load(numbers, from), cpu = kernel.cpus[c], { thread } = pieces.says[numbers[from + c]];
-    const places = kernel.guests.map(guest => guest.place), lock = pieces.locks[lockPlace - pieces.locksAt], before = kernel.blocks.get(lock);
+    const lock = pieces.locks[lockPlace - pieces.locksAt], before = kernel.blocks.get(lock);
+    kernel.guests.forEach((guest, t) => { if (t !== thread) guest.place = UNSET; });
     let [, part] = kernel.step(c), steps = 1;
     if (part === "misses" || part === "") return null;
     for (; this.bySections && cpu.section !== null; steps++) kernel.step(c);
-    const others = kernel.guests.flatMap(({ place }, t) => (t !== thread && place !== places[t] ? [pieces.guestsAt + t, this.placeNumber(place)] : [])), { entry } = kernel;
+    const others = kernel.guests.flatMap(({ place }, t) => (t !== thread && place !== UNSET ? [pieces.guestsAt + t, this.placeNumber(place)] : [])), { entry } = kernel;
     const guestPlace = thread < 0 ? -1 : pieces.guestsAt + thread, left = place => (place < 0 ? -1 : pieces.numberOf(place));
     const judged = before instanceof BufferBlock ? judgedEdit(before, kernel.blocks.get(lock), entry, kernel.guests[thread]) : { faults: 0, isChanged: false };
     return { number, cpu: left(c), guestPlace, guest: left(guestPlace), lockPlace, lock: left(lockPlace), others, entry, steps, ...judged };
@@ -91,7 +93,8 @@ class Moves {
   }
 }
 
-const MOVE_BYTES = 800; // about what a move, or a piece of a state, takes beside its numbers
+const UNSET = ""; // the place of a thread that has none yet
+const MOVE_BYTES = 200; // about what a move takes beside its numbers
 
 // The laws on effects that the edit of a buffer's block breaks, where they held before it, and whether what the buffer holds is changed.
 function judgedEdit(before, after, entry, guest) {

@@ -178,7 +178,8 @@ class Page {
     fill("cpus", drawn(cpuCards(run, at, c => marked(this.buttonsOf(c)))));
     fill("buffers", drawn(bufferCards(run, at)));
     fill("threads", drawn(threadCards(run, at)));
-    fill("order", html`${drawn(orderTable(run, at) + quietLine(run, at) + lawList(run, at))}${this.ownLawLine()}`);
+    const lawButton = html` <button data-panel="lawPanel">${this.law ? "change yours" : "add your own"}</button>`;
+    fill("order", html`${drawn(orderTable(run, at) + quietLine(run, at) + lawList(run, at, marked(lawButton)))}${this.ownLawLine()}`);
     this.showControls();
     this.showLesson();
     this.showEvidence();
@@ -221,11 +222,11 @@ class Page {
 
   // The law of the reader's own in the state that is shown, and where it is broken first.
   ownLawLine() {
-    if (!this.law) return html`<p><button data-panel="lawPanel">your own law</button></p>`;
-    const broken = this.watch.follow(this.session.steps), first = broken.indexOf(true), change = html`<button data-panel="lawPanel">change</button>`;
+    if (!this.law) return "";
+    const broken = this.watch.follow(this.session.steps), first = broken.indexOf(true);
     const line = broken[this.at] ? html`<li class="broken">✘ BROKEN: your law: <small>${this.law.text}</small></li>` : html`<li>✔ your law: <small>${this.law.text}</small></li>`;
-    const where = first < 0 ? "kept in each state of this run" : html`<button data-go-to="${first}">broken first in step ${first}</button>`;
-    return html`<ul class="laws own">${line}</ul><p>${where} ${change}</p>`;
+    const where = first < 0 ? "your law is kept in each state of this run" : html`<button data-go-to="${first}">broken first in step ${first}</button>`;
+    return html`<ul class="laws own">${line}</ul><p>${where}</p>`;
   }
 
   buttonsOf(c) {

@@ -2,6 +2,7 @@
 // A kernel's state in pieces: each CPU, each thread, each lock with its block, each trace. Equal pieces of a place are kept once and have one number, with what
 // the piece says of the laws. A lock is kept as its block and who stands in its line, so that two states which differ only in how often a lock was taken are one.
 
+const PIECE_BYTES = 1000; // about what a piece takes
 const AFTER_EFFECT = ["Other", "Own", "RelQ", "Returns"]; // the stages of a call that has taken effect and not returned
 const LAW_BITS = new Map([...LAWS.keys()].map((law, i) => [law, 1 << i]));
 const bitOf = law => LAW_BITS.get(law);
@@ -49,12 +50,12 @@ function bufferSays(buffer) {
 
 class Pieces {
   // `isEndless`: a state is kept without what no step reads, that is its traces, the counts of effects and positions. Traces have room without end then.
-  constructor(plan, wrong = null, isEndless = false) {
+  constructor(plan, wrong = null, isEndless = false, memory = new Memory()) {
     const kernel = new Kernel(isEndless ? { ...plan, trace: Infinity } : plan, wrong), [cpus, guests] = [kernel.cpus.length, kernel.guests.length];
     const locks = [...kernel.blocks.keys()], locksAt = cpus + guests, tracesAt = locksAt + locks.length;
     Object.assign(this, { kernel, isEndless, locks, guestsAt: cpus, locksAt, tracesAt, count: tracesAt + (isEndless ? 0 : cpus) });
     this.hasCopies = wrong === "look-always-hits"; // then a CPU inside has a copy of its own; else the block is nobody else's
-    Object.assign(this, { numbers: new Map(), kept: [], says: [] });
+    Object.assign(this, { memory, numbers: new Map(), kept: [], says: [] });
   }
 
   // ---- from the kernel to numbers
@@ -65,6 +66,7 @@ class Pieces {
       : place < this.tracesAt ? this.lockPiece(this.locks[place - this.locksAt]) : this.tracePiece(place - this.tracesAt);
     const key = JSON.stringify([place, text]), known = this.numbers.get(key);
     if (known !== undefined) return known;
+    this.memory.take(PIECE_BYTES);
     this.numbers.set(key, this.kept.length);
     this.kept.push(kept);
     this.says.push(this.saysOf(place));

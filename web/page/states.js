@@ -32,7 +32,7 @@ class States {
   // `ways` has `bySections`: a move is a whole section; `isEndless`: states are kept without history; `most`: bytes.
   constructor(plan, wrong = null, { bySections = false, isEndless = false, most = MOST_BYTES } = {}) {
     if ((bySections || isEndless) && !mayGoBySections(wrong)) throw new RangeError(`the mistake ${wrong} is searched by steps and with history`);
-    const memory = new Memory(most), pieces = new Pieces(plan, wrong, isEndless), moves = new Moves(pieces, bySections, memory);
+    const memory = new Memory(most), pieces = new Pieces(plan, wrong, isEndless, memory), moves = new Moves(pieces, bySections, memory);
     Object.assign(this, { plan, wrong, isEndless, bySections, memory, pieces, moves, leaves: pieces.count, ...treeOf(pieces) });
     // a state is a pair of pairs of .. of pieces; of each state what is kept: the one before it, the CPU and the kind of the move that led here, and marks
     Object.assign(this, { inner: new Pairs(memory, 1024), roots: new Pairs(memory, 1024), from: new Int32Array(1024), by: new Uint8Array(1024), marks: new Uint16Array(1024) });
