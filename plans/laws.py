@@ -11,6 +11,7 @@ from kernel import RECEIVERS, SENDERS, spelled
 ONE_PLACE = "one place for each thread"
 AT_HOME = "each thread runs at home"
 ONE_INSIDE = "one CPU inside a lock"
+ONE_OWNER = "only the owner works on a buffer"
 NO_LOST_WAKE_UP = "no lost wake-up"
 NO_FREE_SLEEPER = "nobody sleeps at a free lock"
 NOTHING_LOST = "sent = received ++ left"
@@ -18,10 +19,13 @@ IN_THEIR_ORDER = "callers in their order"
 TRUE_ANSWERS = "each answer fits its buffer"
 ORDER_GROWS = "the order only grows"
 QUIET_IS_STILL = "quiet only if nobody can go on"
-LAWS = (ONE_PLACE, AT_HOME, ONE_INSIDE, NO_LOST_WAKE_UP, NO_FREE_SLEEPER, NOTHING_LOST, IN_THEIR_ORDER, TRUE_ANSWERS, ORDER_GROWS, QUIET_IS_STILL)
+LAWS = (ONE_PLACE, AT_HOME, ONE_INSIDE, ONE_OWNER, NO_LOST_WAKE_UP, NO_FREE_SLEEPER, NOTHING_LOST, IN_THEIR_ORDER, TRUE_ANSWERS, ORDER_GROWS, QUIET_IS_STILL)
 
-# The threads that stand at a CPU, in a block, or have ended; the laws broken there; and the lock that a CPU is inside of.
-Part = namedtuple("Part", "threads broken inside")
+# The threads that stand at a CPU, in a block, or have ended; the laws broken there; the lock that a CPU is inside of; the buffer that a thread works on, with
+# the thread; and a buffer, with its owner.
+Part = namedtuple("Part", "threads broken inside works owned", defaults=(None, None, None))
+# The stages of a call between its AcqQ and its RelQ, in which its thread is the buffer's owner, but where it sleeps until the buffer is handed over.
+OWNER_STAGES = ("Enter", "Shut", "Try", "Wait", "Other", "Own", "RelQ")
 # An entry of a trace: a call that took effect.
 CPU, THREAD, KIND, BUFFER, VALUE, OP, POSITION = range(7)
 CALLS = {"send": "send", "sendc": "send", "recv": "receive", "recvc": "receive", "close": "close"}
@@ -39,9 +43,17 @@ def part_of_cpu(system, c):
     return Part((*own, *hand), (AT_HOME,) if strays else (), None if cpu.block is None else cpu.section[1])
 
 
+def works_on(guest):
+    """The buffer of which a thread has to be the owner, since its call is between AcqQ and RelQ and it does not sleep for the buffer; or None."""
+    is_inside = guest.stage in OWNER_STAGES and not guest.place.startswith("LockSleeper")
+    return guest.call()[0] if is_inside else None
+
+
 def part_of_thread(system, t):
-    """What a thread says: that it has ended."""
-    return Part((t,) if system.guests[t].place == "Ended" else (), (), None)
+    """What a thread says: that it has ended, or the buffer that it works on."""
+    guest = system.guests[t]
+    b = works_on(guest)
+    return Part((t,) if guest.place == "Ended" else (), (), None, None if b is None else (b, t))
 
 
 def part_of_block(system, lock):
@@ -49,11 +61,11 @@ def part_of_block(system, lock):
     block = system.blocks[lock]
     if lock[0] == "pending":
         strays = any(system.guests[t].home != lock[1] for t in block)
-        return Part(tuple(block), (AT_HOME,) if strays else (), None)
+        return Part(tuple(block), (AT_HOME,) if strays else ())
     threads = (*block.sleepers, *block.waiting[RECEIVERS], *block.waiting[SENDERS])
     broken = [NO_LOST_WAKE_UP] if block.owner is None and any(sleeps_in_vain(block, side) for side in (RECEIVERS, SENDERS)) else []
     broken += [NO_FREE_SLEEPER] if block.owner is None and block.sleepers else []
-    return Part(threads, tuple(broken), None)
+    return Part(threads, tuple(broken), owned=(lock[1], block.owner))
 
 
 def sleeps_in_vain(buffer, side):
@@ -71,6 +83,9 @@ def broken_by(parts, count):
     inside = [part.inside for part in parts if part.inside is not None]
     if len(inside) != len(set(inside)):
         broken.add(ONE_INSIDE)
+    owners = {part.owned for part in parts if part.owned is not None}
+    if any(part.works is not None and part.works not in owners for part in parts):
+        broken.add(ONE_OWNER)
     return broken
 
 
@@ -234,6 +249,12 @@ def why_two_inside(system):
     return f"{' and '.join(f'CPU {c}' for one, c in inside if one == lock)} are inside the spin lock of {name}"
 
 
+def why_not_owner(system):
+    works = ((t, works_on(guest)) for t, guest in enumerate(system.guests))
+    t, b, owner = next((t, b, system.blocks["buffer", b].owner) for t, b in works if b is not None and system.blocks["buffer", b].owner != t)
+    return f"t{t} is between AcqQ and RelQ at buffer {b}, {'which is free' if owner is None else f'whose owner is t{owner}'}"
+
+
 def buffers_of(system):
     return [(lock[1], block) for lock, block in system.blocks.items() if lock[0] == "buffer"]
 
@@ -308,8 +329,9 @@ def why_not_still(system):
     return f"no CPU has anything to do, but t{t} stands at “{words}”{because}"
 
 
-WHY = {ONE_PLACE: why_two_places, AT_HOME: why_astray, ONE_INSIDE: why_two_inside, NO_LOST_WAKE_UP: why_lost, NO_FREE_SLEEPER: why_free,
-       NOTHING_LOST: why_not_the_same, IN_THEIR_ORDER: why_out_of_turn, TRUE_ANSWERS: why_false, ORDER_GROWS: why_not_grown, QUIET_IS_STILL: why_not_still}
+WHY = {ONE_PLACE: why_two_places, AT_HOME: why_astray, ONE_INSIDE: why_two_inside, ONE_OWNER: why_not_owner, NO_LOST_WAKE_UP: why_lost,
+       NO_FREE_SLEEPER: why_free, NOTHING_LOST: why_not_the_same, IN_THEIR_ORDER: why_out_of_turn, TRUE_ANSWERS: why_false, ORDER_GROWS: why_not_grown,
+       QUIET_IS_STILL: why_not_still}
 
 
 def faults_in(system, earlier=None, c=None):

@@ -228,13 +228,26 @@ function effectMarks(run, threads, {from, to, x}) {
   }).join("");
 }
 
-// All lanes as one drawing, with the window that it shows.
-function lanesOf(run, at, width, first) {
+// Who wakes whom: an arrow from the lane of the thread that acts, or of its CPU, to that of the thread that is woken, at each step that wakes one.
+function wakeArrows(run, threads, cpus, {from: first, to, x}) {
+  const top = LANE * threads.length + 4;
+  return counted(to - first).map(i => first + i + 1).flatMap(at => threads.filter(t => run.changed(`t${t}.place`, at)).map(t => {
+    const {cpu} = run.step(at), by = run.cell(`c${cpu}.current`, at - 1), lane = threads.indexOf(by), isWoken = sleeps(run.place(t, at - 1)) && !sleeps(run.place(t, at));
+    if (!isWoken || by === t || (lane < 0 && !cpus.includes(cpu))) return "";
+    const other = threads.indexOf(t), isUp = lane < 0 || other < lane, from = lane < 0 ? top + (LANE + 8) * cpus.indexOf(cpu) : LANE * lane + (isUp ? 5 : LANE - 6);
+    const end = LANE * other + (isUp ? LANE - 8 : 6), head = `M${x(at - 1)} ${end} l-4 ${isUp ? 7 : -7} h8 z`, words = `step ${at}: ${by === null ? `CPU ${cpu}` : `thread ${by}`} wakes thread ${t}`;
+    return `<g role="img" aria-label="${words}"><title>${words}</title><path d="M${x(at - 1)} ${from} V${end}" class="wakes"/><path d="${head}" class="head"/></g>`;
+  })).join("");
+}
+
+// All lanes as one drawing, with the window that it shows. `differs` is a step to be marked, or null.
+function lanesOf(run, at, width, first, differs = null) {
   const view = laneWindow(run, at, width, first), threads = near(run, at, "t", run.record.threads.length), cpus = near(run, at, "c", run.record.cpus);
   const top = LANE * threads.length + 4, high = top + (LANE + 8) * cpus.length + 18, parts = [];
   threads.forEach((t, lane) => parts.push(threadLane(run, t, LANE * lane, view)));
   cpus.forEach((c, lane) => parts.push(cpuLane(run, c, top + (LANE + 8) * lane, view)));
-  parts.push(effectMarks(run, threads, view));
+  parts.push(effectMarks(run, threads, view), wakeArrows(run, threads, cpus, view));
+  if (differs > view.from && differs <= view.to) parts.push(`<path d="M${view.x(differs - 1)} 0 V${high - 14}" class="differs"/>`);
   for (let k = Math.ceil(view.from / 10) * 10; k <= view.to; k += 10) parts.push(svgText(view.x(k), high - 4, k, 11, 'text-anchor="middle" class="faint"'));
   if (at > 0) parts.push(`<rect x="${view.x(at - 1)}" y="0" width="${view.each}" height="${high - 14}" class="cursor"/>`);
   const label = `lanes: where each thread stands and what each CPU does, steps ${view.from + 1} to ${view.to}`;
@@ -252,7 +265,10 @@ function ticksOf(run) {
 const isNew = (run, at, ...names) => names.some(name => run.changed(name, at)) ? " new" : "";
 const none = '<span class="none">–</span>';
 // A thread where it stands: filled. Each thread is filled once among CPUs and buffers.
-const chip = (run, t, place) => `<span class="t ${place}" role="img" aria-label="thread ${t}: ${run.record.places[place][3].replace(/ N/, "")}">t${t}</span>`;
+function chip(run, t, place) {
+  const words = `thread ${t}: ${run.record.places[place][3].replace(/ N/, "")}`;
+  return `<span class="t ${place}" role="img" aria-label="${words}" title="${words}">t${t}</span>`;
+}
 const chips = (run, threads, place) => threads.map(t => chip(run, t, place)).join("");
 // A thread that is only named: it stands elsewhere.
 function mention(t, position) {
@@ -260,7 +276,7 @@ function mention(t, position) {
   return `<span class="t only" role="img" aria-label="thread ${t}, named${words}">t${t}${small}</span>`;
 }
 const row = (name, inner, fresh) => `<dt>${name}</dt><dd class="${fresh}">${inner || none}</dd>`;
-const SAID_TOO = "said by the proved program too";
+const SAID_TOO = "confirmed by the proved program";
 const proved = run => run.record.checked && !run.record.wrong ? `<span class="ok" role="img" aria-label="${SAID_TOO}" title="${SAID_TOO}">✓</span>` : "";
 
 // The word of a grant lock's ring of 16 behind so many grants.
@@ -292,7 +308,7 @@ function cpuCard(run, at, c, buttons) {
   const slots = slot(run, at, "runs", `c${c}.current`, "Running") + slot(run, at, "ready", `c${c}.ready`, "Ready") + slot(run, at, "hand", `c${c}.hand`, "Hand")
     + slot(run, at, "pending", `c${c}.pending`, "Pending"), ended = cell("ended").length ? slot(run, at, "ended", `c${c}.ended`, "Ended") : "";
   const busy = run.lock("pending" + c, at).line.length || isNew(run, at, "pending" + c);
-  return `<div class="card${acts ? " acts" : ""}"><h3>CPU ${c} <small>${proved(run)}</small>${buttons(c)}</h3>`
+  return `<div class="card${acts ? " acts" : ""}"><div class="head"><h3>CPU ${c} <small>${proved(run)}</small></h3>${buttons(c)}</div>`
     + `<div class="slots"><span class="${isNew(run, at, `c${c}.section`, `c${c}.doing`, `c${c}.state`)}">${does}</span>${ended}</div><div class="slots">${slots}</div>`
     + (busy ? `<dl>${lockRow(run, at, "pending" + c)}</dl>` : "") + "</div>";
 }
@@ -336,7 +352,7 @@ function callPath(run, at, t) {
   const parts = line.startsWith("close") ? ["AcqQ", "Shut", other, own, "RelQ"] : stage === "Again" ? ["Wait", "AcqQ", attempt, other, own, "RelQ"]
     : ["Wait", "Join"].includes(stage) ? ["AcqQ", "Enter", attempt, stage] : ["AcqQ", "Enter", attempt, other, own, "RelQ"];
   const due = {AcqQ: 0, Enter: 1, Shut: 1, Try: 2, Wait: 3, Join: 3, Again: 1, Other: parts.indexOf(other), Own: parts.indexOf(own), RelQ: parts.length - 1, Returns: parts.length}[stage];
-  const boxes = parts.map((name, i) => `<span class="${i < due ? "done" : i === due ? "due" : ""}">${name}</span>`);
+  const boxes = parts.map((name, i) => `<span class="${i < due ? "done" : i === due ? "due" : ""}" title="${PURPOSES[name]}">${name}</span>`);
   return `<div class="path${isNew(run, at, `t${t}.stage`)}">${boxes.join("")}</div>`;
 }
 function programLines(run, at, t, most) {
@@ -377,10 +393,27 @@ function orderTable(run, at) {
 function quietLine(run, at) {
   return `<p>${proved(run)} ${run.cell("quiet", at) ? "<b>quiet</b>: nobody goes on" : "not quiet"}</p>`;
 }
-function lawList(run, at) {
-  const why = new Map(run.cell("broken", at));
-  return '<h2>Promised of each state</h2><ul class="laws">' + run.record.laws.map(law => why.has(law)
-    ? `<li class="broken">✘ BROKEN: ${escaped(law)}: <small>${escaped(why.get(law))}</small></li>` : `<li>✔ ${escaped(law)}</li>`).join("") + "</ul>";
+// What each law says, for who points at it.
+const LAW_MEANINGS = {
+  "one place for each thread": "each thread is in exactly one queue, or runs, or has ended",
+  "each thread runs at home": "the threads that run or are ready at a CPU have their home there",
+  "one CPU inside a lock": "mutual exclusion: no two CPUs are inside one spin lock",
+  "only the owner works on a buffer": "a thread whose call is between AcqQ and RelQ, and that does not sleep for the buffer, owns the buffer",
+  "no lost wake-up": "if a buffer is free, the first thread of a line does not sleep while its call could continue",
+  "nobody sleeps at a free lock": "if a buffer is free, no thread sleeps until it is handed over",
+  "sent = received ++ left": "the values sent are those received and then those still in the buffer, in order",
+  "callers in their order": "calls of one side take effect in the order in which they drew positions",
+  "each answer fits its buffer": "no send to a full buffer, no receive from an empty one",
+  "the order only grows": "a step appends at most one call to the order of effects",
+  "quiet only if nobody can go on": "where no CPU has anything to do, each thread has ended or waits at a call that its buffer does not allow",
+};
+// `more` stands behind the heading.
+function lawList(run, at, more = "") {
+  const why = new Map(run.cell("broken", at)), lines = run.record.laws.map(law => {
+    const title = `title="${LAW_MEANINGS[law]}"`;
+    return why.has(law) ? `<li class="broken" ${title}>✘ BROKEN: ${escaped(law)}: <small>${escaped(why.get(law))}</small></li>` : `<li ${title}>✔ ${escaped(law)}</li>`;
+  });
+  return `<h2>Invariants${more}</h2><ul class="laws">${lines.join("")}</ul>`;
 }
 
 // The places with their colours, for the foot of a page.

@@ -9,6 +9,7 @@ States are those of plans/kernel.py, a program without a proof; equal ones are o
 schedule and has to print what kernel.py prints; MCTOWER names it. Where a law is broken, nothing is found, or something else is printed, the status is 1.
 """
 import argparse
+import math
 import sys
 import time
 from collections import deque
@@ -25,17 +26,21 @@ from record import difference, program_is_there, proved_prints_each, read_plan
 from schedules import schedule_of
 
 MOST_STATES = 300_000
+HISTORY = ("effects", "broken", "TraceFull")  # what may be asked of a state that has its history alone
+AFTER_EFFECT = ("Other", "Own", "RelQ", "Returns")  # the stages of a call that has taken effect and not returned
 
 
 class Pieces:
     """The states of one kernel as tuples of small numbers.
 
     A state falls into pieces: each CPU, its trace, each thread, each lock with its block. Each different piece is kept once and has a number. A lock is kept as
-    who stands in its line, so that two states which differ only in how often a lock was taken are one.
+    who stands in its line, so that two states which differ only in how often a lock was taken are one. An endless search keeps a state without its history, that is
+    what no step reads: traces, which then have room without end, and the counts of effects and positions.
     """
 
-    def __init__(self, plan, wrong=None):
-        self.system = system = Kernel(plan, wrong)
+    def __init__(self, plan, wrong=None, is_endless=False):
+        self.is_endless = is_endless
+        self.system = system = Kernel({**plan, "trace": math.inf} if is_endless else plan, wrong)
         self.has_copies = wrong == "look-always-hits"  # then a CPU inside has a copy of its own; else the block is nobody else's
         self.locks = list(system.blocks)
         self.cpus, self.guests = range(len(system.cpus)), range(len(system.guests))
@@ -65,20 +70,22 @@ class Pieces:
             inside = None if cpu.block is None else self.block_piece(cpu.block) if self.has_copies else True
             return "c", cpu.current, cpu.hand, tuple(cpu.ready), cpu.begun, cpu.section, inside, place
         if place < self.guests_at:
-            return "e", *self.system.cpus[place - self.traces_at].trace
+            return ("e",) if self.is_endless else ("e", *self.system.cpus[place - self.traces_at].trace)
         if place < self.locks_at:
             guest = self.system.guests[place - self.guests_at]
-            return "t", guest.line, tuple(guest.registers), guest.stage, guest.position, guest.effect, guest.place, place
+            position = 0 if self.is_endless else guest.position
+            effect = None if self.is_endless and guest.stage not in AFTER_EFFECT else guest.effect
+            return "t", guest.line, tuple(guest.registers), guest.stage, position, effect, guest.place, place
         lock = self.locks[place - self.locks_at]
         line = sorted((cpu.ticket, c) for c, cpu in enumerate(self.system.cpus) if cpu.section is not None and cpu.section[1] == lock)
         return "b", self.block_piece(self.system.blocks[lock]), tuple([c for _, c in line]), place
 
-    @staticmethod
-    def block_piece(block):
+    def block_piece(self, block):
         if isinstance(block, deque):
             return tuple(block)
-        return (block.owner, tuple(block.items), block.effects, tuple(block.sleepers), tuple(block.waiting[0]), tuple(block.waiting[1]),
-                tuple(block.line[0]), tuple(block.line[1]), tuple(block.positions), block.closed, block.closes)
+        effects, positions, closes = (0, (0, 0), 0) if self.is_endless else (block.effects, tuple(block.positions), block.closes)
+        return (block.owner, tuple(block.items), effects, tuple(block.sleepers), tuple(block.waiting[0]), tuple(block.waiting[1]),
+                tuple(block.line[0]), tuple(block.line[1]), positions, block.closed, closes)
 
     def part(self, place):
         """What a piece says of the laws."""
@@ -198,8 +205,8 @@ class Pieces:
 class States:
     """The states that schedules reach, in the order of their distance, each with the last steps of a shortest schedule to it."""
 
-    def __init__(self, plan, wrong=None, by_sections=False):
-        self.pieces, self.by_sections = Pieces(plan, wrong), by_sections
+    def __init__(self, plan, wrong=None, by_sections=False, is_endless=False):
+        self.pieces, self.by_sections = Pieces(plan, wrong, is_endless), by_sections
         boot = tuple(self.pieces.now)
         self.number, self.came = {boot: 0}, [None]  # of each state: the one before it, the CPU that led here, and in how many steps
         self.layer, self.depth, self.moves = [boot], 0, 0
@@ -381,7 +388,7 @@ def whole_report(asked, text, plan):
 
 def find(asked, plan):
     """Prints a shortest schedule to a state that is asked for; returns whether there is one."""
-    states = States(plan, asked.wrong, asked.sections)
+    states = States(plan, asked.wrong, asked.sections, asked.endless)
     number = states.look(asked.steps, asked.most, asked_for(asked.find, plan), has_laws=False)
     if number is None:
         print(f"{asked.find}: {none_of(states)}")
@@ -434,6 +441,7 @@ def main():
     parser.add_argument("--wrong", choices=WRONG, metavar="MISTAKE", help="of the kernel that makes this mistake; plans/kernel.py --help names them")
     parser.add_argument("--sections", action="store_true", help="a step is a whole section: fewer states, those between sections")
     parser.add_argument("--find", metavar="WHAT", help="a shortest schedule to such a state")
+    parser.add_argument("--endless", action="store_true", help="with --find: states without their history, so that a plan with loops has an end of states")
     parser.add_argument("--like", metavar="TRACE", help="a schedule that gives the trace text in this file, or in standard input if it is -")
     parser.add_argument("--most", type=int, default=MOST_STATES, metavar="K", help="stop at so many states")
     parser.add_argument("--compare", type=int, nargs="?", const=0, metavar="K", help="compare K states with the proved program, or all")
@@ -441,6 +449,10 @@ def main():
     asked = parser.parse_args()
     if not asked.plan.exists():
         parser.exit(2, f"states: there is no plan at {asked.plan}: name one that is there, as plans/one-send.toml\n")
+    if asked.endless and (asked.find is None or asked.wrong == "look-always-hits"):
+        parser.exit(2, "states: --endless goes with --find, and not with the mistake look-always-hits\n")
+    if asked.endless and any(word in HISTORY for word in asked.find.split()):
+        parser.exit(2, f"states: a state without its history does not tell {', '.join(HISTORY)}: leave --endless out, or ask for something else\n")
     if asked.compare is not None and (asked.wrong or not program_is_there()):
         parser.exit(2, "states: --compare needs the built program, and the whole kernel\n")
     try:

@@ -43,6 +43,7 @@ NAME = re.compile(r"(?:clause `(\w+)` of )?`(\w+)((?:::\w+)+)`")
 # A run of a kernel with a mistake: by a command, which may leave its schedule to the plan, and by a link to the page; and what a page says of its laws.
 WRONG_RUN = re.compile(r"`?plans/(?:kernel|explore)\.py (?:--wrong ([\w-]+) )?plans/([\w-]+)\.toml(?: '([\d*,]+)')?(?: --wrong ([\w-]+))?")
 PAGE_LINK = re.compile(r"web/tower\.html#plan=([\w-]+)&wrong=([\w-]+)&schedule=([\d*,]+)&step=(\d+)$")
+LESSON_LINK = re.compile(r"web/tower\.html#lesson=(\d+)$")
 LOOK = re.compile(r"^\*\*Look\*\* \[in the page\]\((\S+)\)(.*?)\n\n", re.M | re.S)
 BREAKS = re.compile(r"[Ii]n\sstep\s(\d+)\sthe\slaw\s\*([^*]+)\*\sbreaks")
 # Names that docs cite: the text between backticks, a fence left out, and what of it looks like a name of this tree.
@@ -154,8 +155,10 @@ def linked(link, page):
 
 
 def has_run(link):
-    """Whether a link to the page names a plan and a mistake that there are."""
-    run = PAGE_LINK.search(link)
+    """Whether a link to the page names a plan and a mistake that there are, or one of the page's lessons."""
+    run, lesson = PAGE_LINK.search(link), LESSON_LINK.search(link)
+    if lesson is not None:
+        return f'"lesson": "{lesson[1]}. ' in (ROOT / "web/page/lessons.json").read_text(encoding="utf-8")
     return run is not None and run[2] in WRONG and (ROOT / f"plans/{run[1]}.toml").exists()
 
 

@@ -168,7 +168,8 @@ LESSON = re.compile(r"`plans/explore.py (\S+)(?: '([^']*)')? --wrong (\S+) > \S+
 def lessons(tally):
     """The step that a lesson names behind a page of a broken kernel: it is the first after which a law does not hold."""
     for page in sorted((ROOT / "docs/book").glob("*.md")):
-        for plan, schedule, mistake, step in LESSON.findall(page.read_text(encoding="utf-8")):
+        paragraphs = (" ".join(it.split()) for it in page.read_text(encoding="utf-8").split("\n\n"))
+        for plan, schedule, mistake, step in (found for it in paragraphs for found in LESSON.findall(it)):
             text, table = record.read_plan(ROOT / plan)
             steps = steps_of(schedule or schedule_in(text))[:int(step)]
             is_so = broken_after(table, steps[:-1], mistake) == [] and broken_after(table, steps, mistake) != []

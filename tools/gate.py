@@ -45,6 +45,7 @@ tests/help.sh
 tools/trusted.py
 tools/words.py
 tools/cycles.py
+tools/prose.py
 tools/public-functions.py
 """
 # These start as many threads as a plan may have CPUs and give up after a while, or measure time: each has the machine for itself.

@@ -5,10 +5,10 @@
     tools/trusted.py --write    puts the counted numbers into the table
     tools/trusted.py NAME..     tells of each definition, as cpu::HasOneOrder, its lines, and those of all that it rests on, file by file
 
-A row of the table names in its column 'Definitions' those that its clauses cite, as `cpu::HasOneOrder`, or a file of src, as
-`layer_traits/src/layers.rt`, for all that it cites. The number is of these and of all definitions that they rest on, by name, in crates/*/specs:
-lines with text, with no comments and no imports. Not counted are the clauses themselves, the types
-of src that definitions speak of, the members of traits, and the kit's own definitions. The row with the name 'all' is of all rows together.
+The section of a theorem names, in its paragraph 'Definitions', those that its clauses cite, as `cpu::HasOneOrder`, or a file of src, as
+`layer_traits/src/layers.rt`, for all that it cites. The row of the theorem in the table has the number of lines of these and of all
+definitions that they rest on, by name, in crates/*/specs: lines with text, with no comments and no imports. Not counted are the clauses
+themselves, the types of src that definitions mention, the members of traits, and the kit's own definitions. The row 'all' is of all together.
 """
 import argparse
 import collections
@@ -27,7 +27,9 @@ HEAD = re.compile(r"(?:unfoldable |abbrev )?(?:pub )?(?:record |data |mod )?([^\
 KEYWORD = re.compile(r"^(?:unfoldable|abbrev|pub|record|data)\b")
 # A name, unless it stands behind a point, where it is a field's.
 WORD = re.compile(r"(?<![.\w'?◌])[A-Za-z_][\w'?]*")
-ROW = re.compile(r"^\| (?P<number>\d+|all) \|.*\|(?P<roots>[^|]*)\| (?P<lines>[\d,]+) \|$")
+ROW = re.compile(r"^\| (?P<number>\d+|all) \|.*\| (?P<lines>[\d,]+) \|$")
+# The section of a theorem, up to the end of its paragraph of definitions.
+THEOREM = re.compile(r"^### (\d+)\. (?:(?!^###).)*?^\*Definitions\*: (.*?)\n\n", re.M | re.S)
 
 Definition = collections.namedtuple("Definition", "module name lines words")
 
@@ -127,7 +129,7 @@ def counted(names):
 
 
 def rows_of(page):
-    """Returns the lines of a page, and by line the number of a theorem, its definitions and the lines that the page tells."""
+    """Returns the lines of a page, and by line the row of a theorem: its number and the lines that the page tells."""
     lines = page.split("\n")
     return lines, {at: ROW.match(line) for at, line in enumerate(lines) if ROW.match(line)}
 
@@ -135,11 +137,10 @@ def rows_of(page):
 def with_counts(page):
     """Returns a page with the counted numbers in the rows of its table, and how many rows it has."""
     lines, rows = rows_of(page)
-    all_roots = set()
+    roots = {number: re.findall(r"`([\w:/.]+)`", names) for number, names in THEOREM.findall(page)}
+    roots["all"] = {name for names in roots.values() for name in names}
     for at, row in rows.items():
-        roots = re.findall(r"`([\w:/.]+)`", row["roots"])
-        all_roots.update(roots)
-        count = counted(all_roots if row["number"] == "all" else roots)
+        count = counted(roots.get(row["number"], ()))
         lines[at] = f"{lines[at][: row.start('lines')]}{count:,} |"
     return "\n".join(lines), len(rows)
 

@@ -7,6 +7,7 @@ lessons, searches, the page's policy; on a phone, in a lecture hall, in the dark
 Where neither is here (tests/browser.py says how they are found) it says so, and its status is 77: web/test.mjs has judged the program in the page. With a
 folder PICTURES it leaves a Chromium's pictures there. The last line counts; the status is 1 if anything is not as it should be.
 """
+import re
 import sys
 import tempfile
 import time
@@ -20,9 +21,12 @@ WIDE, HIGH = 1280, 720
 PHONE, HALL = (390, 844, 2), (853, 480, 1.5)  # a lecture hall: 1280 by 720, at 150 %
 LEAST_CONTRAST = 4.5
 LOST = "#plan=two-receivers&wrong=other-side-only&schedule=0*13,1*13,2*43,1*6,0*23&step=91"
-PANELS = ("planPanel", "searchPanel", "printedPanel", "judgePanel", "aboutPanel")
+PANELS = ("planPanel", "searchPanel", "lawPanel", "printedPanel", "judgePanel", "aboutPanel")
 MOST_RUN_MS, MOST_STEP_MS = 5, 50
 OWN_PLAN = 'cpus = 1\\ntrace = 4\\nbuffers = [2]\\n[[thread]]\\ncpu = 0\\nprogram = ["set r0 7", "send 0 r0"]\\n'
+
+LOOPS = ('cpus = 2\\ntrace = 4\\nbuffers = [1]\\n[[thread]]\\ncpu = 0\\nprogram = ["set r0 7", "send 0 r0", "jnz r0 1"]\\n'
+         '[[thread]]\\ncpu = 1\\nprogram = ["set r1 1", "recv 0 r0", "jnz r1 1"]\\n')
 
 SECTIONS = ("AcqQ", "Enter", "Shut", "TryPut", "TryTake", "Wait", "SigRecv", "SigSend", "RelQ", "Pend", "Drain")
 
@@ -165,6 +169,10 @@ class Checks:
         self.holds("space plays", 4 <= step <= 6, True)
         time.sleep(1.1)
         self.holds("and stops", self.at()[0], step)
+        self.set_value("#speed", "'10'")
+        self.keys(" ")
+        self.browser.wait(f"page.at >= {step + 5}", 10)
+        self.keys(" ")
 
     def links(self):
         self.open("#step=24")
@@ -266,21 +274,26 @@ class Checks:
     def first_look(self):
         """What one sees before the first step."""
         self.open()
-        first = "Threads on CPUs pass numbers through buffers → takes the next step"
+        first = "Threads on CPUs pass numbers through buffers Press → or next"
         self.holds("a sentence says what this is and what to press", self.text("#said").startswith(first), True)
         self.holds("the names of the sections are explained", [name for name in SECTIONS if name not in self.text("#foot")], [])
-        self.holds("lessons have a list of their own", self.browser.read("document.querySelectorAll('#lessonList option').length"), 9)
+        self.holds("lessons have a list of their own", self.browser.read("document.querySelectorAll('#lessonList option').length"), 15)
+        titles = "[...document.querySelectorAll('.laws:not(.own) li, .slots .t, .path span')].filter(one => !one.title).map(one => one.textContent)"
+        self.browser.read("page.go(20)")
+        self.holds("laws, sections and places say what they are where one points at them", self.browser.read(titles), [])
+        self.browser.read("page.go(0)")
         self.browser.read("navigator.clipboard.writeText = text => { window.copied = text; return Promise.resolve(); }")
         self.browser.click("#copyLink")
         self.browser.wait("window.copied")
         self.holds("copy link copies the link", self.browser.read("window.copied"), self.browser.read("location.href.split('#')[0] + page.link()"))
 
     def lesson(self, number):
-        """Chooses a lesson and goes to where it breaks, once all beginnings are compared: what is said of them moves the page."""
+        """Chooses a lesson and goes to where it breaks, if it does, once all beginnings are compared: what is said of them moves the page."""
         self.set_value("#lessonList", f"'{number}'")
         self.browser.wait("(() => { const all = page.session.record.printed.length; "
                           "return document.querySelector('#evidence').textContent.includes(`${all} of ${all}`); })()")
-        self.browser.click("#broken")
+        if self.browser.read(f"Boolean(page.lessons[{number}].breaks)"):
+            self.browser.click("#broken")
 
     def lessons(self):
         self.open()
@@ -292,7 +305,7 @@ class Checks:
         self.browser.click("#empty")
         self.keys("0", "0", "0", "0", "1", "1", "1", "1")
         self.holds("eight steps by hand bring two CPUs into the lock", "BROKEN: one CPU inside a lock" in self.text("#order"), True)
-        for number in range(8):
+        for number in self.browser.read("page.lessons.flatMap(({breaks}, i) => breaks ? [i] : [])"):
             self.lesson(number)
             law, step = self.browser.read(f"[page.lessons[{number}].breaks, page.lessons[{number}].step]")
             self.holds(f"lesson {number}: where it breaks", [self.at()[0], f"BROKEN: {law}" in self.text("#order")], [step, True])
@@ -303,7 +316,77 @@ class Checks:
         self.browser.wait("document.querySelector('#warn').textContent.includes('prints something else from step')")
         self.set_value("#wrong", "''")
         self.holds("without the mistake it stands", ["BROKEN" in self.text("#order"), self.text("#warn")], [False, ""])
+        self.open("#lesson=12")
+        self.holds("a link names a lesson of the proved kernel", [self.text("#lesson").startswith("Lesson 12. Native callers"), self.text("#warn")], [True, ""])
+        self.holds("and what is shown has that link", "lesson=12" in self.link(), True)
+        self.open("#lesson=99")
+        self.holds("a lesson that is none", self.text("#refused"), "The link names the lesson 99, which this page has not.")
 
+    def grades(self):
+        """The step that a reader guesses is graded."""
+        self.open("#plan=newcomer&wrong=release-frees-the-lock")
+        for guess, words in [("5", "later"), ("59", "earlier"), ("x", "a step is a number"), ("25", "✔ right")]:
+            self.set_value("#guess", f"'{guess}'")
+            self.browser.click("#grade")
+            self.holds(f"the guess {guess}", self.text("#graded"), words)
+        self.set_value("#schedule", "'0*3'")
+        self.browser.click("#grade")
+        self.holds("a schedule that breaks nothing", self.text("#graded"), "this schedule does not break it")
+
+    def beside(self):
+        """The proved kernel's run above that of a kernel with a mistake; the step that differs first is marked; and both are saved as one picture."""
+        self.open("#plan=newcomer&wrong=release-frees-the-lock")
+        self.browser.click("#besideButton")
+        shown = self.browser.read("[document.querySelectorAll('#lanes svg').length, document.querySelectorAll('#lanes .differs').length]")
+        self.holds("two runs, each with the mark", shown, [2, 2])
+        words = "The proved kernel differs first in step 25 CPU 0 RelQ: thread 0 hands buffer 0 over to thread 1, now in CPU 0's hand, and below: "
+        self.holds("it says what differs", self.text("#lanes").startswith(words), True)
+        self.browser.click("#lanes [data-go-to]")
+        self.holds("its button goes there", self.at()[0], 25)
+        self.holds("the link keeps both", "beside=1" in self.link(), True)
+        self.browser.read("(() => { const make = URL.createObjectURL; URL.createObjectURL = blob => { window.saved = blob.text(); return make.call(URL, blob); }; })()")
+        self.browser.click("[data-panel=printedPanel]")
+        self.browser.click("#savePicture")
+        self.browser.wait("window.saved && window.saved.then(text => { window.picture = text; }) && window.picture")
+        picture = self.browser.read("(() => { const drawn = new DOMParser().parseFromString(window.picture, 'image/svg+xml').documentElement; return [drawn.tagName, "
+                                    "drawn.querySelectorAll('svg').length, [...drawn.querySelectorAll('.Running')].every(one => /^rgb/.test(one.getAttribute('fill')))]; })()")
+        self.holds("the picture has both runs with their colours", picture, ["svg", 2, True])
+        self.open("#plan=newcomer&wrong=release-frees-the-lock&beside=1&schedule=0*5")
+        self.holds("two runs that are the same so far", "so far both runs are the same" in self.text("#lanes"), True)
+        self.open("#step=27")
+        self.holds("an arrow goes from the thread that wakes to the one that is woken",
+                   self.browser.read("[...document.querySelectorAll('#lanes g title')].map(one => one.textContent)"), ["step 27: thread 1 wakes thread 0"])
+
+    def laws(self):
+        """A law of the reader's own: refused, looked up in each state, searched for, and kept in the link."""
+        self.open("#plan=two-receivers&wrong=other-side-only&schedule=0*13,1*13,2*43,1*6,0*23")
+        self.browser.click("#order [data-panel=lawPanel]")
+        for law, words in [("b0.holdz = 1", "“b0.holdz”: behind b0. stands one of holds"), ("b7.holds = 1", "“b7”: this plan has b0 to b0"), ("b0.holds", "a condition is expected"),
+                           ("t0.place = inside", "these are not compared"), ("(quiet", "“)” is expected"), ("quiet; alert(1)", "“;” is no sign of a law"),
+                           ("<img src=x> = 1", "a name or a number is expected")]:
+            self.set_value("#lawText", repr(law))
+            self.browser.click("#takeLaw")
+            self.holds(f"the law {law} is refused", [self.text("#lawRefused").startswith("this is no law"), words in self.text("#lawRefused")], [True, True])
+        self.set_value("#lawText", "'not (b0.receive = 1 and t1.place = WaitRecv and b0.holds > 0 and b0.owner = none)'")
+        self.browser.click("#takeLaw")
+        self.browser.click("#order [data-go-to]")
+        self.holds("it breaks where the lost wake-up is", [self.at()[0], "BROKEN: your law: not (b0.receive" in self.text("#order")], [91, True])
+        link = self.link()
+        self.open(link)
+        self.holds("its link keeps it", self.browser.read("page.law.text").startswith("not (b0.receive"), True)
+        self.browser.click("[data-panel=searchPanel]")
+        self.set_value("#wanted", "'own'")
+        self.browser.click("#search")
+        self.browser.wait("document.querySelector('#found').textContent !== ''", 120)
+        self.holds("a search breaks it", self.text("#found").startswith("A shortest schedule that breaks your law: 0*13,1*13,2*36,0*16 78 steps"), True)
+        self.open("#law=b5.holds%20%3D%200")
+        self.holds("a law in a link that is none of this plan", "this plan has b0 to b0" in self.text("#refused"), True)
+
+    def targets(self):
+        """What is pressed is at least 24 pixels high."""
+        self.open(LOST)
+        low = "[...document.querySelectorAll('button, select, #schedule')].filter(one => one.checkVisibility() && !one.closest('td') && one.getBoundingClientRect().height < 24)"
+        self.holds("targets of 24 pixels", self.browser.read(f"{low}.map(one => one.id || one.textContent)"), [])
     def printed_beside(self):
         """In a lesson what is printed and judged is of the kernel that is shown, beside the proved one."""
         self.open("#plan=first-come&wrong=take-skips-the-turn&step=133")
@@ -315,6 +398,12 @@ class Checks:
         self.browser.click("#judge")
         self.holds("the judge reads the text of the kernel that is shown", self.text("#verdict").startswith("no 5 Pos(33)"), True)
 
+    def set_plan(self, text):
+        """Types a plan in, in JavaScript's own quotes, and runs it."""
+        self.browser.click("[data-panel=planPanel]")
+        self.set_value("#planText", f"'{text}'")
+        self.browser.click("#runPlan")
+
     def searches(self):
         """A search: found and shown, none, stopped; and the page stays alive."""
         self.open("#plan=two-receivers&wrong=other-side-only")
@@ -324,14 +413,29 @@ class Checks:
         self.holds("while it searches the page answers", self.browser.read("page.run.length"), 118)
         self.browser.wait("document.querySelector('#found').textContent !== ''", 120)
         self.holds("the shortest schedule", self.text("#found"), "A shortest schedule that breaks a law: 0*13,1*13,2*36,0*16 ✘ no lost wake-up: "
-                   "buffer 0 holds 8, is free, and t1, first in its receive line, sleeps 78 steps; 18,688 states were looked at.")
+                   "buffer 0 holds 8, is free, and t1, first in its receive line, sleeps 78 steps, shortest by sections; 1,554 states were looked at.")
+        self.browser.click("#more")
+        self.browser.wait("document.querySelector('#found').textContent.startsWith('Number 2')", 120)
+        other = self.browser.read("page.finder.schedule")
+        self.holds("the next is another", other != "0*13,1*13,2*36,0*16" and "no lost wake-up" in self.text("#found"), True)
         self.browser.click("#showFound")
-        self.holds("is shown", [self.at(), "BROKEN: no lost wake-up" in self.text("#order")], [[78, 78], True])
+        self.holds("is shown", [self.at()[0] == self.at()[1], "BROKEN: no lost wake-up" in self.text("#order")], [True, True])
         self.open()
+        for ways, count in [([], 85), (["bySections"], 419)]:
+            self.browser.click("[data-panel=searchPanel]")
+            for way in ways:
+                self.browser.click(f"#{way}")
+            self.browser.click("#search")
+            self.browser.wait("document.querySelector('#found').textContent !== ''", 120)
+            self.holds("there is none", self.text("#found"), f"All states seen: no schedule, however long, breaks a law. These are all {count} states that are reached.")
+            self.browser.click("#searchPanel [data-close]")
+        self.set_plan(LOOPS)
         self.browser.click("[data-panel=searchPanel]")
+        self.set_value("#wanted", "'deadlock'")
         self.browser.click("#search")
         self.browser.wait("document.querySelector('#found').textContent !== ''", 120)
-        self.holds("there is none", self.text("#found"), "No schedule, however long, breaks a law: these are all 419 states.")
+        self.holds("two loops have no deadlock, however long they run", self.text("#found"), "All states seen: no schedule, however long, ends in a deadlock. "
+                   "These are all 316 states that are reached (each CPU's trace has room without end).")
         self.open("#plan=ledger")
         self.browser.click("[data-panel=searchPanel]")
         self.set_value("#wanted", "'deadlock'")
@@ -339,6 +443,9 @@ class Checks:
         self.browser.wait("document.querySelector('#searched').textContent.includes('states that are known')")
         self.browser.click("#stop")
         self.holds("it may be stopped", [self.text("#searched"), self.browser.read("page.finder.worker")], ["stopped", None])
+        self.browser.read("delete window.Worker")
+        self.browser.click("#search")
+        self.holds("a browser without workers", self.text("#searched").startswith("this browser starts no worker, which a search needs"), True)
 
     def sizes(self):
         """A phone, and a lecture hall: nothing is wider than the page, and the sentence and the lanes are seen."""
@@ -351,7 +458,7 @@ class Checks:
             self.holds(f"{panel} on a phone", self.browser.read(f"document.querySelector('#{panel}').scrollWidth <= innerWidth"), True)
             self.browser.read(f"document.querySelector('#{panel}').close()")
         self.browser.resize(*HALL)
-        for number in range(8):
+        for number in self.browser.read("page.lessons.flatMap((_, i) => [i])"):
             self.open()
             self.lesson(number)
             top, bottom, wide = self.browser.read("(() => { const box = id => document.querySelector(id).getBoundingClientRect(); "
@@ -362,7 +469,7 @@ class Checks:
 
     def contrast(self):
         """Each text can be read: in runs, in a broken kernel, at a refusal, in each panel."""
-        for link in ("", "#step=24", "#plan=two-receivers&step=85", LOST, "#plan=ledger&step=400", "#plan=handed-over&step=40", "#schedule=0*13,7*2"):
+        for link in ("", "#step=24", "#plan=two-receivers&step=85", LOST, f"{LOST}&beside=1&law=b0.holds%20%3D%200", "#plan=ledger&step=400", "#plan=handed-over&step=40", "#schedule=0*13,7*2"):
             self.open(link)
             self.holds(f"contrast at {link}", self.browser.read(CONTRAST), [])
         for panel in PANELS:
@@ -413,6 +520,12 @@ class Checks:
         self.browser.wait("document.querySelector('#warn').textContent !== ''")
         is_said = self.text("#warn").startswith("The program in this page is broken or this browser cannot run it")
         self.holds("a broken module is said on the page", is_said, True)
+        for name in ("WebAssembly", "DecompressionStream"):
+            lacks = Path(room, f"no-{name}.html")
+            lacks.write_text(re.sub(r'<meta http-equiv="Content-Security-Policy"[^>]*>', f"<script>delete window.{name}</script>", page), encoding="utf-8")
+            self.browser.open(lacks.as_uri())
+            self.browser.wait("document.querySelector('#warn').textContent !== ''")
+            self.holds(f"a browser without {name}", self.text("#warn").startswith(f"This browser has no {name}, so the proved program cannot run here."), True)
 
     def pictures(self, folder):
         for link, name in [("#plan=two-receivers&step=59", "page"), (LOST, "lost-wake-up")]:
@@ -428,7 +541,7 @@ def looked_at(make, page, folder):
     try:
         with tempfile.TemporaryDirectory() as room:
             for look in (checks.first_look, checks.steps, checks.to_the_end, checks.play, checks.links, checks.choose, checks.schedules, checks.plans,
-                         checks.judge, checks.lessons, checks.printed_beside, checks.searches, checks.looks, checks.sizes, checks.contrast, checks.labels,
+                         checks.judge, checks.lessons, checks.grades, checks.beside, checks.laws, checks.printed_beside, checks.searches, checks.targets, checks.looks, checks.sizes, checks.contrast, checks.labels,
                          checks.times, checks.is_clean):
                 look()
             if folder:

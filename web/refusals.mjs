@@ -82,6 +82,8 @@ export const refusals = {
   texts: [
     trace('recv 0 7 1 0', 'recv 0 8 1 0', 'no 5 WrongValue(36)', 'e 1 1 recv 0 8 1 0', 'the first message of buffer 0 is 7'),
     trace('send 0 7 0 0', 'send 0 7 00 0', 'no 4 Spelling(30)', 'e 0 0 send 0 7 00 0', 'wanted the op, in digits without a leading zero'),
+    trace('e 1 1 recv 0 7 1 0\nleft 0\n', 'e 0 0 send 0 8 1 1\ne 0 0 send 0 9 2 2\nleft 0 7 8 9\n', 'no 6 Full(34)', 'e 0 0 send 0 9 2 2',
+      'buffer 0 is full: its capacity is 2'),
     trace('send 0 7 0 0', 'send 0 7 1 0', 'no 4 Op(32)', 'e 0 0 send 0 7 1 0', 'the op is 1: wanted 0'),
     trace('recv 0 7 1 0', 'recv 0 7 1 3', 'no 5 Pos(33)', 'e 1 1 recv 0 7 1 3', 'the pos is 3: wanted 0'),
     trace('recv 0 7 1 0', 'recv 1 7 1 0', 'no 5 Range(31)', 'e 1 1 recv 1 7 1 0', 'the buffer is 1: wanted 0 to 0'),

@@ -2,7 +2,7 @@
 import { readFileSync } from 'node:fs';
 import vm from 'node:vm';
 
-const SCRIPTS = ['look', 'markup', 'schedule', 'program', 'toml', 'plan', 'twin', 'laws', 'record', 'judge', 'where', 'session', 'search'];
+const SCRIPTS = ['look', 'markup', 'schedule', 'program', 'toml', 'plan', 'twin', 'laws', 'record', 'judge', 'where', 'session', 'ownlaw', 'tables', 'pieces', 'moves', 'states', 'search', 'beside'];
 const GLOBALS = { TextEncoder, TextDecoder, WebAssembly, Response, DecompressionStream, atob, performance };
 
 // The text of the page's script or data of some id.

@@ -6,7 +6,7 @@ import { dirname, join } from 'node:path';
 import { fileURLToPath } from 'node:url';
 import { chooser, damaged } from './damage.mjs';
 import { refusals } from './refusals.mjs';
-import { sources, taken } from './taken.mjs';
+import { elementOf, sources, taken } from './taken.mjs';
 
 const HELP = `Holds the page web/tower.html against this tree: the program in it against the native program, the model in it against both and plans/kernel.py.
 
@@ -17,7 +17,9 @@ is merely of an older commit. It needs node 20 or later, python3, and the built 
 
 const ROOT = dirname(dirname(fileURLToPath(import.meta.url))), NATIVE = process.env.MCTOWER ?? join(ROOT, 'crates/mctower/out/mctower');
 const RANDOM_SMALL = 240, RANDOM_LARGE = 60, SMALL_STEPS = 1000, LARGE_STEPS = 3000, DAMAGED = 400, MODEL_BEGINNINGS = 60;
-const MOST_TOLD = 20; // differences
+const MOST_TOLD = 20, MARKED_STATES = 3000; // differences; states of a search in which the marks are looked up
+// The ways to search: by steps, by whole sections, and by whole sections without history.
+const WAYS = { steps: { bySections: false, isEndless: false }, sections: { bySections: true, isEndless: false }, endless: { bySections: true, isEndless: true } };
 const FOLDERS = ['plans', 'tests/rows', 'tests/long'];
 
 let passed = 0, failed = 0;
@@ -176,9 +178,11 @@ class Held {
   // In each lesson the kernel with the mistake breaks the law that the lesson names at the step it names, and not before; the whole kernel keeps every law.
   lessonRuns() {
     for (const { lesson, plan, wrong, breaks, step, schedule } of this.lessons) {
-      const text = read(`plans/${plan}.toml`), steps = schedule ?? this.scheduleIn(text), first = this.session(text, steps, wrong).firstBroken(breaks);
-      is(`lesson ${lesson}: "${breaks}" is first broken after step ${first}`, first === step);
+      const text = read(`plans/${plan}.toml`), steps = schedule ?? this.scheduleIn(text);
       is(`lesson ${lesson} stands without the mistake`, this.session(text, steps).firstBroken() === -1);
+      if (!wrong) continue;
+      const first = this.session(text, steps, wrong).firstBroken(breaks);
+      is(`lesson ${lesson}: "${breaks}" is first broken after step ${first}`, first === step);
     }
   }
 }
@@ -206,30 +210,101 @@ function modelCells() {
   }
 }
 
-// What a search finds in the page, in the form of web/searches.py.
-function foundIn({ text, wrong, most }, scripts) {
-  const { States, LAWS, planOf, askedFor, spelledSchedule } = scripts, states = new States(planOf(text), wrong), stuck = new States(planOf(text), wrong);
-  const told = (law, { number, why }) => [law, spelledSchedule(states.calmStepsTo(number)), why];
+// A deadlock that a search finds in the page, in the form of web/searches.py.
+function deadlockIn({ text, wrong, most }, ways, { States, planOf, askedFor, spelledSchedule }) {
+  const states = new States(planOf(text), wrong, ways), found = states.look({ most, wanted: askedFor('deadlock'), hasLaws: false });
+  return [found && spelledSchedule(states.calmed(states.stepsFound(found))), states.count, found === null && states.isAll];
+}
+
+// What a search finds of the laws, in the form of web/searches.py. In each state that it kept, up to so many, the laws that it marked are those of laws.js.
+function lawsIn({ plan, text, wrong, most }, ways, { States, LAWS, LAW_BITS, planOf, spelledSchedule, faultsIn }) {
+  const states = new States(planOf(text), wrong, ways), told = law => {
+    const steps = states.calmed(states.stepsTo(states.broken.get(LAW_BITS.get(law))));
+    return [law, spelledSchedule(steps), new Map(states.endOf(steps).faults).get(law)];
+  };
   states.look({ most });
-  const broken = [...LAWS.keys()].filter(law => states.broken.has(law)).map(law => told(law, states.broken.get(law)));
-  const number = stuck.look({ most, wanted: askedFor('deadlock') });
-  const deadlock = [number === null ? null : spelledSchedule(stuck.calmStepsTo(number)), stuck.count];
-  return { count: states.count, moves: states.moves, depth: states.depth, isAll: states.isAll, broken, deadlock };
+  for (let number = 0; number < Math.min(states.count, MARKED_STATES); number++) {
+    const marked = [...LAWS.keys()].filter(law => states.marks[number] & LAW_BITS.get(law)), faults = faultsIn(states.kernelOf(number)).map(([law]) => law);
+    if (String(marked) !== String(faults)) is(`state ${number} of ${plan}, mistake ${wrong}: marked are ${marked}, broken ${faults}`, false);
+  }
+  const broken = [...LAWS.keys()].filter(law => states.broken.has(LAW_BITS.get(law))).map(told);
+  return { count: states.count, moves: states.moved, depth: states.depth, isAll: states.isAll, broken };
+}
+
+// Each way to search finds the same of a plan: whether a law can be broken, and whether a deadlock is reached. Where a way met its limit it says nothing.
+function waysAgree({ plan, text, wrong, ways }, scripts) {
+  const first = what => Object.keys(ways).map(way => {
+    const search = new scripts.Search({ text, wrong, what, ...WAYS[way], most: 6e6 }), { steps, isAll } = search.next(() => {});
+    return steps ? 'found' : isAll ? 'none' : 'limited';
+  });
+  for (const what of ['broken', 'deadlock']) {
+    const told = first(what), different = new Set(told.filter(one => one !== 'limited'));
+    is(`what ways of searching find of ${what} in ${plan}, mistake ${wrong}: ${told}`, different.size <= 1);
+  }
 }
 
 // A search in the page finds what plans/states.py finds: as many states, and the same schedules.
 function searches() {
-  const scripts = sources(ROOT)('({ States, LAWS, planOf, askedFor, spelledSchedule })');
+  const names = '({ States, Search, LAWS, LAW_BITS, planOf, askedFor, spelledSchedule, faultsIn })', scripts = sources(ROOT)(names);
   const told = spawnSync('python3', [join(ROOT, 'web/searches.py')], { encoding: 'utf8', maxBuffer: 1 << 28 });
   if (told.status !== 0) throw new Error(`web/searches.py: ${told.stderr}`);
   const broken = new Set();
   for (const line of told.stdout.trimEnd().split('\n')) {
-    const wanted = JSON.parse(line), found = foundIn(wanted, scripts), [mine, theirs] = [found, wanted].map(one => key => JSON.stringify(one[key]));
-    const other = Object.keys(found).find(key => mine(key) !== theirs(key)), words = `${other} is ${mine(other)}, and in plans/states.py ${theirs(other)}`;
-    is(`the search of ${wanted.plan}, mistake ${wanted.wrong}: ${words}`, other === undefined);
-    for (const [law] of found.broken) broken.add(law);
+    const one = JSON.parse(line);
+    for (const [way, wanted] of Object.entries(one.ways)) {
+      const found = { ...(wanted.broken ? lawsIn(one, WAYS[way], scripts) : {}), deadlock: deadlockIn(one, WAYS[way], scripts) };
+      const [mine, theirs] = [found, wanted].map(it => key => JSON.stringify(it[key])), other = Object.keys(wanted).find(key => mine(key) !== theirs(key));
+      is(`the search of ${one.plan} by ${way}, mistake ${one.wrong}: ${other} is ${mine(other)}, and in plans/states.py ${theirs(other)}`, other === undefined);
+      for (const [law] of found.broken ?? []) broken.add(law);
+    }
+    waysAgree(one, scripts);
   }
   for (const law of scripts.LAWS.keys()) is(`no mistake breaks the law "${law}"`, broken.has(law));
+}
+
+// A search that meets a limit never says that it has seen all; and one goes on from what it found to the next, each another schedule that breaks the law.
+function searchesEnd() {
+  const { Search, Kernel, planOf, stepsOf, readSchedule, faultsIn, hasLoops } = sources(ROOT)('({ Search, Kernel, planOf, stepsOf, readSchedule, faultsIn, hasLoops })');
+  const small = read('plans/two-receivers.toml'), ways = { bySections: true, isEndless: false };
+  for (const most of [60e3, 200e3, 400e3]) {
+    const { isAll, isLimited, count } = new Search({ text: small, wrong: null, what: 'broken', ...ways, most }).next(() => {});
+    is(`a search in ${most} bytes says that it is all: ${count} states`, !isAll && isLimited);
+  }
+  const search = new Search({ text: small, wrong: 'other-side-only', what: 'no lost wake-up', ...ways }), seen = new Set();
+  for (let { steps } = search.next(() => {}); steps !== null && seen.size < 5; { steps } = search.next(() => {})) {
+    const kernel = new Kernel(planOf(small), 'other-side-only');
+    for (const c of steps) kernel.step(c);
+    is(`schedule ${seen.size} of those that lose a wake-up does`, faultsIn(kernel).some(([law]) => law === 'no lost wake-up') && !seen.has(String(steps)));
+    seen.add(String(steps));
+  }
+  is(`there are more than one: ${seen.size}`, seen.size >= 2);
+  for (const [name, holds] of [['ping-pong', true], ['two-receivers', false], ['ledger', true]]) is(`loops in ${name}`, hasLoops(planOf(read(`plans/${name}.toml`))) === holds);
+}
+
+// Laws of a reader's own: what each says of the boot state and of the state behind a schedule, or where it is at fault and why. A damaged one is at most refused.
+function ownLaws() {
+  const { ownLaw, LawFault, Kernel, planOf, stepsOf, readSchedule } = sources(ROOT)('({ ownLaw, LawFault, Kernel, planOf, stepsOf, readSchedule })');
+  const plan = planOf(read('plans/two-receivers.toml')), lost = new Kernel(plan, 'other-side-only'), boot = new Kernel(plan), choose = chooser(11);
+  for (const c of stepsOf(readSchedule('0*13,1*13,2*36,0*16').items)) lost.step(c);
+  const kept = [['b0.holds <= b0.capacity', true, true], ['not (t1.place = WaitRecv and b0.holds > 0 and b0.owner = none)', true, false],
+    ['b0.owner = none implies b0.asleep = 0', true, true], ['effects + 1 = 1 or quiet', true, false], ['t0.r0 = 0 and not t0.place = Ended', true, false],
+    ['c2.ready = 1', true, false], ['t0.place = Ready implies quiet implies b0.closed', true, true], ['b0.holds - 1 < 0', true, false],
+    ['c0.doing = rests and c1.state = live', true, true], ['b0.receive = 0 or b0.receivers = b0.receive', true, true]];
+  for (const [text, before, behind] of kept) {
+    const { holds } = ownLaw(text, plan);
+    is(`the law ${text}: ${holds(boot)} at boot, ${holds(lost)} behind`, holds(boot) === before && holds(lost) === behind);
+  }
+  const faultIn = text => { try { return ownLaw(text, plan) && null; } catch (fault) { return fault; } };
+  for (const [text, at, words] of [['b3.holds = 0', 0, 'this plan has b0 to b0'], ['t0.plce = Ended', 0, 'stands one of place'], ['t0.place = inside', 0, 'not compared'],
+    ['b0.owner < t1', 9, 'for numbers'], ['b0.holds', 0, 'a condition is expected'], ['quiet implies', 13, 'at the end'], ['quiet $', 6, 'no sign of a law'],
+    ['(quiet', 6, '“)” is expected'], ['', 0, 'a condition is expected'], ['quiet quiet', 6, 'is not expected here'], ['('.repeat(2000), 1000, 'at most 1000 letters']]) {
+    const fault = faultIn(text);
+    is(`the law ${text.slice(0, 40)}: ${fault?.message} at ${fault?.at}`, fault instanceof LawFault && fault.at === at && fault.message.includes(words));
+  }
+  for (let number = 0; number < DAMAGED; number++) {
+    const text = damaged(choose, kept[choose(kept.length)][0]), fault = faultIn(text);
+    is(`the damaged law ${text}: ${fault}`, fault === null || (fault instanceof LawFault && fault.at >= 0 && fault.at <= text.length));
+  }
 }
 
 // The order after a step is the order before it, and at most one call more at its end, of the CPU that stepped.
@@ -238,6 +313,32 @@ function growths() {
   const cases = [[[], [], true], [[first], [first], true], [[first], [first, second], true], [[], [first], false], [[second], [first, second], false],
     [[first], [first, second, third], false], [[first, second], [first], false], [[first], [second], false]];
   for (const [earlier, later, holds] of cases) is(`CPU 1 from ${earlier.length} calls to ${later.length}`, hasGrown([earlier], [later], 1) === holds);
+}
+
+// The page is built of the files that stand in the tree: no other test sees a change of one of them that is not built yet.
+function isOfTree() {
+  const page = read('web/tower.html'), scripts = readdirSync(join(ROOT, 'web/page')).filter(name => name.endsWith('.js')).map(name => `web/page/${name}`);
+  for (const path of ['plans/look.js', ...scripts]) {
+    is(`${path} is not that of the page: web/build.py --page`, hasElement(page, path) && elementOf(page, idOf(path)) === `\n${read(path)}`);
+  }
+  for (const [name, text] of Object.entries(JSON.parse(elementOf(page, 'plans')))) is(`the plan ${name} is not that of the page`, text === read(`plans/${name}.toml`));
+  is('a plan is not in the page', Object.keys(JSON.parse(elementOf(page, 'plans'))).length === readdirSync(join(ROOT, 'plans')).filter(name => name.endsWith('.toml')).length);
+  is('the lessons are not those of the page', elementOf(page, 'lessons') === JSON.stringify(JSON.parse(read('web/page/lessons.json'))).replaceAll('<', '\\u003c'));
+  for (const path of ['plans/look.css', 'web/page/page.css']) is(`${path} is not that of the page`, page.includes(read(path)));
+  const parts = read('web/page/tower.html').split(/\{\{[A-Z]+\}\}/);
+  is('web/page/tower.html is not that of the page', parts.every(part => page.includes(part)));
+}
+const idOf = path => `script-${path.replace(/^.*\/|\.js$/g, '')}`;
+const hasElement = (page, path) => page.includes(`id="${idOf(path)}"`);
+
+// The tick, which says that the proved program prints the same, falls where one stream of it differs, and at that step alone.
+function ticksFall(held) {
+  const plan = read('plans/woken-from-afar.toml');
+  for (const stream of ['output', 'errors']) {
+    const { evidence, record } = held.session(plan, held.scheduleIn(plan));
+    record.printed[3] = { ...record.printed[3], [stream]: `${record.printed[3][stream]}more` };
+    is(`the tick where ${stream} differs`, evidence.at(2) && !evidence.at(3) && evidence.at(4) && evidence.firstDifference() === 3);
+  }
 }
 
 // The page's schedule in rounds is that of plans/kernel.py.
@@ -259,6 +360,7 @@ async function main() {
   if (!existsSync(NATIVE)) throw new Error(`build the program first: there is none at ${NATIVE}`);
   const folder = mkdtempSync(join(tmpdir(), 'web-test-')), page = await taken(join(ROOT, 'web/tower.html')), held = new Held(page);
   try {
+    isOfTree();
     held.storedRuns();
     held.randomRuns(folder, many);
     held.damagedRuns(many);
@@ -268,7 +370,10 @@ async function main() {
     held.lessonRuns();
     modelCells();
     searches();
+    searchesEnd();
+    ownLaws();
     growths();
+    ticksFall(held);
     rounds(held);
   } finally {
     rmSync(folder, { recursive: true });

@@ -1,18 +1,18 @@
 "use strict";
 // What the page says of itself: signs and keys, what is proved, what is only compared, and of which sources the program is.
 
-const COMPARED = html`<p>✓ <b>Said by the proved program too</b>, here in this page, after this step: each thread's place, which CPUs are halted, quiet, each call
+const COMPARED = html`<p>✓ <b>Confirmed by the proved program</b>, here in this page, after this step: each thread's place, which CPUs are halted, quiet, each call
   that took effect with its op and pos, what is left in each buffer. <b>Told by the page's own model alone</b>, which is not proved: sections, lines of programs,
   registers, owners, orders in queues and lines, words of locks, and whether a law holds.</p>`;
 
-const LANES = html`<p>A CPU's lane: <b>+</b> takes a ticket, <b>…</b> looks in vain, light grey enters, dark grey edits and leaves. ● a call takes effect.</p>
+const LANES = html`<p>A CPU's lane: <b>+</b> takes a ticket, <b>…</b> spins, light grey enters, dark grey updates and releases. ● a call takes effect.</p>
   <p>A call is six sections of three steps: <b>AcqQ</b> asks for the buffer, <b>Enter</b> draws a position and joins its line, <b>TryPut</b> or
   <b>TryTake</b> puts or takes, <b>SigRecv</b> and <b>SigSend</b> wake the first who waits, <b>RelQ</b> gives the buffer on. After a try in vain <b>Wait</b>
   sleeps. A close has <b>Shut</b> in place of Enter and the try. <b>Pend</b> sends a woken thread to its home CPU, which fetches it by <b>Drain</b>.
   <b>op</b> counts the buffer's effects, <b>pos</b> those of its kind.</p>`;
 
-const KEYS = html`<p>Keys: ← → on and back, with shift by sections; Page Up and Page Down by effects; Home, End; space plays; a digit steps that CPU, with shift
-  until it blocks; Backspace takes a change back; r goes on at random; c copies the schedule, l the link.</p>`;
+const KEYS = html`<p>Keys: ← → step, with shift by critical sections; Page Up and Page Down by effects; Home, End; space plays; a digit steps that CPU,
+  with shift until it blocks; Backspace undoes; r appends random steps; c copies the schedule, l the link.</p>`;
 
 const NOT_PROVED = [
   "the way from the proved program to WebAssembly: clang, its linker, a small C library (web/libc.c), and a script that makes addresses 32 bits wide (web/lower.py)",
@@ -46,4 +46,4 @@ function planHelp(program) {
   return /^The keys of a plan[^]*?(?=\n\nA refusal)/m.exec(help)?.[0] ?? help;
 }
 
-const footOf = (facts, run) => html`<p>${drawn(legendOf(run))}</p>${LANES}${KEYS}${COMPARED}<p>${commitOf(facts.program)} This page asks nothing of any network.</p>`;
+const footOf = (facts, run) => html`<p>${drawn(legendOf(run))}</p>${LANES}${KEYS}${COMPARED}<p>${commitOf(facts.program)} This page makes no network requests.</p>`;

@@ -50,6 +50,20 @@ function twoInside(kernel) {
   return `${inside.flatMap((one, c) => (one === lock ? [`CPU ${c}`] : [])).join(" and ")} are inside the spin lock of ${name}`;
 }
 
+// The stages of a call between its AcqQ and its RelQ, in which its thread is the buffer's owner, but where it sleeps until the buffer is handed over.
+const OWNER_STAGES = ["Enter", "Shut", "Try", "Wait", "Other", "Own", "RelQ"];
+
+// The number of the buffer of which a thread has to be the owner, or null.
+const worksOn = guest => (OWNER_STAGES.includes(guest.stage) && !guest.place.startsWith("LockSleeper") ? guest.call().buffer : null);
+
+function notOwner(kernel) {
+  const owner = guest => kernel.blocks.get(`buffer${worksOn(guest)}`).owner;
+  const t = kernel.guests.findIndex((guest, own) => worksOn(guest) !== null && owner(guest) !== own);
+  if (t < 0) return null;
+  const other = owner(kernel.guests[t]);
+  return `t${t} is between AcqQ and RelQ at buffer ${worksOn(kernel.guests[t])}, ${other === null ? "which is free" : `whose owner is t${other}`}`;
+}
+
 // ---- who sleeps
 
 // What of a buffer lets a call of a side go on, in words.
@@ -180,8 +194,8 @@ function notGrown(kernel, order, last) {
 
 // The laws in the order in which pages tell them: each says why it is broken, or null.
 const LAWS = new Map([["one place for each thread", twoPlaces], ["each thread runs at home", astray], ["one CPU inside a lock", twoInside],
-  ["no lost wake-up", lostWakeUp], ["nobody sleeps at a free lock", freeSleeper], ["sent = received ++ left", ofEach(notTheSame)],
-  ["callers in their order", ofEach(outOfTurn)], ["each answer fits its buffer", ofEach(falseAnswer)],
+  ["only the owner works on a buffer", notOwner], ["no lost wake-up", lostWakeUp], ["nobody sleeps at a free lock", freeSleeper],
+  ["sent = received ++ left", ofEach(notTheSame)], ["callers in their order", ofEach(outOfTurn)], ["each answer fits its buffer", ofEach(falseAnswer)],
   ["the order only grows", notGrown], ["quiet only if nobody can go on", notStill]]);
 
 // The laws that do not hold in a state, each with why.

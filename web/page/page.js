@@ -8,21 +8,47 @@ const MOST_LINK = 8000; // letters of a plan in a link
 // What is said before the first step: what one sees, and what to press.
 const START = {
   who: "", first: "Threads on CPUs pass numbers through buffers",
-  small: "→ takes the next step of the schedule; a digit lets that CPU take a step of its own; lessons are in the list above.",
+  small: "Press → or next for the next step of the schedule, a digit to step that CPU. Lessons are in the menu at the top.",
 };
 
 const readData = id => JSON.parse(byId(id).textContent);
 const option = (value, words) => html`<option value="${value}">${words}</option>`;
 const isOf = (table, name) => Object.hasOwn(table, name ?? "");
 
+const SVG = "http://www.w3.org/2000/svg";
+const numberOf = ({ lesson }) => lesson.split(".")[0];
+const isOfLesson = ({ plan, wrong }, session) => plan === session.name && (wrong ?? null) === session.wrong;
+
+// A copy of a drawing in which each shape has its colours as attributes.
+function colouredCopy(shown) {
+  const copy = shown.cloneNode(true), shapes = [...shown.querySelectorAll("*")];
+  [...copy.querySelectorAll("*")].forEach((shape, i) => {
+    const { fill: colour, stroke, strokeWidth, strokeDasharray, fontWeight } = getComputedStyle(shapes[i]);
+    const seen = { fill: colour, stroke, "stroke-width": strokeWidth, "stroke-dasharray": strokeDasharray, "font-weight": fontWeight };
+    Object.entries(seen).forEach(([name, value]) => shape.setAttribute(name, value));
+  });
+  return copy;
+}
+
+// Gives the reader a text as a file.
+function save(text, name) {
+  const link = document.createElement("a");
+  link.href = URL.createObjectURL(new Blob([text], { type: "image/svg+xml" }));
+  link.download = name;
+  link.click();
+  URL.revokeObjectURL(link.href);
+}
+
 class Page {
   constructor(program) {
     Object.assign(this, { program, facts: readData("facts"), plans: readData("plans"), lessons: readData("lessons"), session: null, lanes: { from: 0, each: 1 } });
+    Object.assign(this, { chosen: null, law: null, watch: null, beside: new Beside() });
     fill("plan", html`${Object.keys(this.plans).map(name => option(name, name))}${option(OWN_PLAN, OWN_PLAN)}`);
     fill("lessonList", html`${option("", "lessons")}${this.lessons.map(({ lesson }, i) => option(i, lesson))}`);
-    fill("wrong", html`${option("", "the proved one")}${Object.keys(this.facts.mistakes).map(name => option(name, `wrong: ${name}`))}`);
+    fill("wrong", html`${option("", "proved")}${Object.keys(this.facts.mistakes).map(name => option(name, `wrong: ${name}`))}`);
     fill("about", aboutPage(this.facts));
     fill("planHelp", planHelp(this.program));
+    fill("lawHelp", LAW_HELP);
     this.player = new Player(this);
     this.finder = new Finder(this);
     this.handsOn();
@@ -49,8 +75,10 @@ class Page {
       return this.refuse({ line: "the proved program takes this, and this page cannot draw it", where: { says: fault.message } }, refusedAt);
     }
     this.player.stop();
+    this.chosen = null;
     fill("refused", "");
     fill("planRefused", "");
+    if (this.law) this.useLaw(this.law.text, "refused");
     fill("ignored", html`${ignoredKeys(text).map(({ line, says }) => html`<div>line ${line} of the plan: ${says}</div>`)}`);
     fill("foot", footOf(this.facts, this.run));
     this.go(step);
@@ -83,16 +111,22 @@ class Page {
   }
 
   chooseLesson(number) {
-    const lesson = this.lessons[number];
-    if (lesson) this.loadStored(lesson.plan, lesson.wrong, lesson.schedule);
+    this.showLessonOf(this.lessons[number]);
     this.leave("lessonList");
+  }
+
+  showLessonOf(lesson) {
+    if (!lesson || !this.loadStored(lesson.plan, lesson.wrong ?? null, lesson.schedule)) return;
+    this.chosen = lesson;
+    this.show();
   }
 
   // The link of what is shown; fromLink is its way back.
   link() {
     const { name, text, wrong, steps, at } = this.session, isStored = this.plans[name] === text;
     const ownText = isStored || text.length > MOST_LINK ? "" : text;
-    const parts = { plan: isStored ? name : "", wrong: wrong ?? "", schedule: spelledSchedule(steps), step: at, text: ownText };
+    const parts = { plan: isStored ? name : "", wrong: wrong ?? "", schedule: spelledSchedule(steps), step: at, text: ownText, law: this.law?.text ?? "",
+      beside: this.isBeside() ? 1 : "", lesson: this.chosen ? numberOf(this.chosen) : "" };
     const kept = Object.entries(parts).filter(([key, value]) => value !== "" || key === "schedule");
     return `#${kept.map(([key, value]) => `${key}=${encodeURIComponent(value).replaceAll("%2C", ",")}`).join("&")}`;
   }
@@ -107,12 +141,19 @@ class Page {
     const asked = new URLSearchParams((location.hash || location.search).slice(1).replaceAll("+", "%2B")), own = asked.get("text");
     const named = { plan: own === null ? asked.get("plan") : null, mistake: asked.get("wrong") ?? asked.get("rule") };
     const stored = isOf(this.plans, named.plan) ? named.plan : FIRST_PLAN, wrong = isOf(this.facts.mistakes, named.mistake) ? named.mistake : null;
+    const lesson = this.lessons.find(one => numberOf(one) === asked.get("lesson")), isBare = lesson && named.plan === null && own === null;
     const text = own ?? this.plans[stored], schedule = asked.get("schedule") ?? scheduleIn(text), step = Number(asked.get("step")) || 0;
+    this.beside.isOn = asked.get("beside") === "1";
+    if (isBare) return this.showLessonOf(lesson);
     const isTaken = this.load({ name: own === null ? stored : OWN_PLAN, text, wrong, schedule }, step);
     if (!isTaken && !this.session) this.showBeneath(() => this.loadStored(FIRST_PLAN));
-    const strange = [["plan", named.plan, this.plans], ["mistake", named.mistake, this.facts.mistakes]].filter(([, name, known]) => name && !isOf(known, name));
+    if (isTaken && lesson) this.chosen = isOfLesson(lesson, this.session) ? lesson : null;
+    if (asked.get("law") !== null) this.useLaw(asked.get("law"), "refused");
+    const strange = [["plan", named.plan, this.plans], ["mistake", named.mistake, this.facts.mistakes],
+      ["lesson", lesson ? null : asked.get("lesson"), {}]].filter(([, name, known]) => name && !isOf(known, name));
     const lines = strange.map(([what, name]) => html`<div>The link names the ${what} <b>${name}</b>, which this page has not.</div>`);
     if (strange.length && isTaken) fill("refused", html`${lines}`);
+    this.show();
   }
 
   // Shows something else, and leaves standing above it what was refused.
@@ -137,7 +178,8 @@ class Page {
     fill("cpus", drawn(cpuCards(run, at, c => marked(this.buttonsOf(c)))));
     fill("buffers", drawn(bufferCards(run, at)));
     fill("threads", drawn(threadCards(run, at)));
-    fill("order", drawn(orderTable(run, at) + quietLine(run, at) + lawList(run, at)));
+    const lawButton = html` <button data-panel="lawPanel">${this.law ? "change yours" : "add your own"}</button>`;
+    fill("order", html`${drawn(orderTable(run, at) + quietLine(run, at) + lawList(run, at, marked(lawButton)))}${this.ownLawLine()}`);
     this.showControls();
     this.showLesson();
     this.showEvidence();
@@ -151,10 +193,40 @@ class Page {
     byId("slide").setAttribute("aria-valuetext", `step ${this.at}: ${who} ${first}`);
   }
 
+  // The lanes; with a kernel that makes a mistake perhaps those of the proved kernel above them, by the same schedule.
   showLanes() {
-    this.lanes = lanesOf(this.run, this.at, Math.max(300, byId("lanes").clientWidth - 40), this.lanes.from);
-    fill("lanes", drawn(this.lanes.svg));
-    fill("ticks", drawn(ticksOf(this.run)));
+    const { run, at, session } = this, width = Math.max(300, byId("lanes").clientWidth - 40);
+    fill("ticks", drawn(ticksOf(run)));
+    if (!this.isBeside()) {
+      this.lanes = lanesOf(run, at, width, this.lanes.from);
+      fill("lanes", drawn(this.lanes.svg));
+      return;
+    }
+    const right = this.beside.follow(session), differs = firstOtherStep(right, run), above = lanesOf(right, Math.min(at, right.length), width, this.lanes.from, differs);
+    this.lanes = lanesOf(run, at, width, this.lanes.from, differs);
+    fill("lanes", html`<p class="caption"><b>The proved kernel</b> ${this.besideWords(right, differs)}</p>${drawn(above.svg)}
+      <p class="caption"><b>The kernel with the mistake ${session.wrong}</b>, by the same schedule</p>${drawn(this.lanes.svg)}`);
+  }
+
+  isBeside() {
+    return this.beside.isOn && this.session.wrong !== null;
+  }
+
+  // What the two runs do in the first step that differs.
+  besideWords(right, differs) {
+    if (differs === null) return html`: so far both runs are the same.`;
+    const [mine, theirs] = [right, this.run].map(run => wordsOf(run, differs));
+    const words = mine.first === theirs.first ? `${mine.who}: ${mine.first}; the state behind it differs` : `${mine.who}: ${mine.first}, and below: ${theirs.first}`;
+    return html`<button data-go-to="${differs}">differs first in step ${differs}</button> ${words}`;
+  }
+
+  // The law of the reader's own in the state that is shown, and where it is broken first.
+  ownLawLine() {
+    if (!this.law) return "";
+    const broken = this.watch.follow(this.session.steps), first = broken.indexOf(true);
+    const line = broken[this.at] ? html`<li class="broken">✘ BROKEN: your law: <small>${this.law.text}</small></li>` : html`<li>✔ your law: <small>${this.law.text}</small></li>`;
+    const where = first < 0 ? "your law is kept in each state of this run" : html`<button data-go-to="${first}">broken first in step ${first}</button>`;
+    return html`<ul class="laws own">${line}</ul><p>${where}</p>`;
   }
 
   buttonsOf(c) {
@@ -177,21 +249,24 @@ class Page {
     this.keepLink();
   }
 
-  // The lesson whose plan and kernel are shown, or undefined.
+  // The lesson whose plan and kernel are shown, or undefined. One of the proved kernel is shown where it was chosen.
   lesson() {
-    const { name, wrong } = this.session;
-    return this.lessons.find(one => one.plan === name && one.wrong === wrong);
+    return this.chosen ?? this.lessons.find(one => one.wrong && isOfLesson(one, this.session));
   }
 
+  // What a lesson asks. Of a kernel with a mistake it asks for the step at which a law is broken first, and grades the answer.
   showLesson() {
-    const lesson = this.lesson(), buttons = html`<button id="broken">where it breaks</button> <button id="empty">begin with no steps</button>`;
-    fill("lesson", lesson ? html`<b>Lesson ${lesson.lesson}</b> ${lesson.look} What breaks is “${lesson.breaks}”. ${buttons}` : "");
+    const lesson = this.lesson(), besideWords = this.beside.isOn ? "one run" : "side by side", buttons = html`<label>step <input id="guess" inputmode="numeric" size="3"
+      autocomplete="off" aria-label="your guess: the step"></label> <button id="grade">grade</button> <span id="graded" role="status"></span>
+      <button id="broken">show</button> <button id="empty">start empty</button> <button id="besideButton" title="the proved kernel's run above this one">${besideWords}</button>`;
+    const question = lesson?.breaks ? html`Which step breaks “${lesson.breaks}” first? ${buttons}` : "";
+    fill("lesson", lesson ? html`<b>Lesson ${lesson.lesson}</b> ${lesson.look} ${question}` : "");
   }
 
   showEvidence() {
     const { evidence, record, wrong, breakdown } = this.session, differs = evidence.firstDifference(), all = record.printed.length;
     const same = wrong ? "not the proved kernel" : differs === null ? "✓ the proved program prints the same" : "the proved program differs";
-    fill("evidence", html`<p>${same}</p><p>compared: ${evidence.counted} of ${all} beginnings</p>`);
+    fill("evidence", html`<p>${same}</p><p>compared after ${evidence.counted} of ${all} steps</p>`);
     const other = differs === null ? "" : ` The proved program prints something else${evidence.counted < all ? "" : ` from step ${differs} on`}.`;
     const said = differs === null && evidence.counted === all ? " In this run the proved program prints the same." : other;
     fill("warn", wrong ? `NOT the proved kernel: here ${this.facts.mistakes[wrong]} (${wrong}).${said} ${breakdown ?? ""}`
@@ -218,6 +293,7 @@ class Page {
     if (id === "printedPanel") this.showPrinted();
     if (id === "judgePanel") this.takeTrace();
     if (id === "searchPanel") this.finder.open();
+    if (id === "lawPanel") byId("lawText").value = this.law?.text ?? "";
     byId(id).showModal();
   }
 
@@ -252,6 +328,28 @@ class Page {
     if (isTaken) byId("planPanel").close();
   }
 
+  // Takes a law of the reader's own, or says what is wrong with it; an empty one is none. Returns whether it is taken.
+  useLaw(text, refusedAt = "lawRefused") {
+    Object.assign(this, { law: null, watch: null });
+    fill("lawRefused", "");
+    if (text.trim() === "") return true;
+    try {
+      this.law = ownLaw(text, this.session.plan);
+      this.watch = new LawWatch(this.law, this.session.plan, this.session.wrong);
+      return true;
+    } catch (fault) {
+      if (!(fault instanceof LawFault)) throw fault;
+      const piece = /^\S*/.exec(text.slice(fault.at))[0];
+      return this.refuse({ line: "this is no law", where: { text, from: fault.at, piece, says: fault.message } }, refusedAt);
+    }
+  }
+
+  takeLaw() {
+    if (!this.useLaw(byId("lawText").value)) return;
+    byId("lawPanel").close();
+    this.show();
+  }
+
   // ---- what the reader does
 
   change(act) {
@@ -259,6 +357,14 @@ class Page {
     fill("refused", "");
     act(this.session);
     this.show();
+  }
+
+  chooseKernel(wrong) {
+    this.change(session => session.changeKernel(wrong));
+    if (this.chosen && !isOfLesson(this.chosen, this.session)) this.chosen = null;
+    if (this.law) this.useLaw(this.law.text, "refused");
+    this.show();
+    this.leave("wrong");
   }
 
   typeSchedule() {
@@ -284,6 +390,37 @@ class Page {
     return this.copy(new URL(this.link(), location.href).href, "link");
   }
 
+  // Says whether the step that was guessed is the one after which the lesson's law is first broken, and if not, on which side of the guess that is.
+  grade() {
+    const right = this.session.firstBroken(this.lesson().breaks), words = byId("guess").value.trim(), guess = Number(words), isStep = /^\d+$/.test(words);
+    byId("graded").textContent = right < 0 ? "this schedule does not break it" : !isStep ? "a step is a number" : guess === right ? "✔ right" : guess < right ? "later" : "earlier";
+  }
+
+  // Saves the lanes as a picture. Each shape takes the colours that it has here with it, since a file has no style of this page.
+  savePicture() {
+    const shown = [...byId("lanes").querySelectorAll("svg")], high = shown.map(one => Number(one.getAttribute("height")));
+    const whole = document.createElementNS(SVG, "svg"), wide = Math.max(...shown.map(one => Number(one.getAttribute("width"))));
+    Object.entries({ width: wide, height: high.reduce((sum, one) => sum + one, 0) }).forEach(([name, value]) => whole.setAttribute(name, value));
+    whole.insertAdjacentHTML("afterbegin", `<rect width="100%" height="100%" fill="${getComputedStyle(document.body).backgroundColor}"/>`);
+    shown.forEach((one, i) => {
+      const copy = colouredCopy(one);
+      copy.setAttribute("y", high.slice(0, i).reduce((sum, part) => sum + part, 0));
+      whole.append(copy);
+    });
+    save(new XMLSerializer().serializeToString(whole), `${this.session.name.replaceAll(" ", "-")}-${this.at}.svg`);
+  }
+
+  goTo(step) {
+    this.player.stop();
+    this.go(step);
+  }
+
+  // Shows two runs, one above the other, or one.
+  setBeside(isOn) {
+    this.beside.isOn = isOn;
+    this.show();
+  }
+
   // To where the lesson's law is first broken; without a lesson, where any is.
   toBroken() {
     const step = this.session.firstBroken(this.lesson()?.breaks);
@@ -294,12 +431,14 @@ class Page {
     const on = (id, name, act) => byId(id).addEventListener(name, act);
     on("plan", "change", event => this.choosePlan(event.target.value));
     on("lessonList", "change", event => this.chooseLesson(event.target.value));
-    on("wrong", "change", event => { this.change(session => session.changeKernel(event.target.value || null)); this.leave("wrong"); });
+    on("wrong", "change", event => this.chooseKernel(event.target.value || null));
+    on("takeLaw", "click", () => this.takeLaw());
     on("schedule", "change", () => this.typeSchedule());
     on("undo", "click", () => this.change(session => session.undo()));
     on("fair", "click", () => this.change(session => session.random()));
     on("runPlan", "click", () => this.runPlan());
     on("copyLink", "click", () => this.copyLink());
+    on("savePicture", "click", () => this.savePicture());
     on("judge", "click", () => this.judge());
     on("takeTrace", "click", () => this.takeTrace());
     document.addEventListener("pointerdown", () => { this.isByMouse = true; }, true);
@@ -319,12 +458,15 @@ class Page {
     const button = target.closest("button");
     if (this.isByMouse && target.closest("button, input[type=radio], input[type=range]")) document.activeElement?.blur();
     if (!button) return;
-    const { choose, runOn, panel, close } = button.dataset;
+    const { choose, runOn, panel, close, goTo } = button.dataset;
     if (choose !== undefined) this.change(session => session.choose(Number(choose)));
     else if (runOn !== undefined) this.change(session => session.runOn(Number(runOn)));
     else if (panel !== undefined) this.openPanel(panel);
     else if (close !== undefined) button.closest("dialog").close();
+    else if (goTo !== undefined) this.goTo(Number(goTo));
     else if (button.id === "broken") this.toBroken();
+    else if (button.id === "grade") this.grade();
+    else if (button.id === "besideButton") this.setBeside(!this.beside.isOn);
     else if (button.id === "empty") this.change(session => session.change([]));
   }
 
@@ -341,7 +483,15 @@ class Page {
   }
 }
 
-Program.unpacked(byId("packed").textContent).then(program => { window.page = new Page(program); }).catch(fault => {
-  const needs = "It needs a browser of 2023 or later, with WebAssembly and DecompressionStream, and the whole file.";
-  fill("warn", `The program in this page is broken or this browser cannot run it: ${fault}. ${needs}`);
-});
+// What a browser lacks that this page needs, or nothing.
+const lacking = ["WebAssembly", "DecompressionStream"].find(name => typeof globalThis[name] === "undefined");
+const NEEDS = "It needs a browser of 2023 or later, with WebAssembly and DecompressionStream, and the whole file.";
+if (lacking) {
+  fill("warn", `This browser has no ${lacking}, so the proved program cannot run here. ${NEEDS}`);
+  fill("said", "");
+} else {
+  Program.unpacked(byId("packed").textContent).then(program => { window.page = new Page(program); }).catch(fault => {
+    fill("warn", `The program in this page is broken or this browser cannot run it: ${fault}. ${NEEDS}`);
+    fill("said", "");
+  });
+}

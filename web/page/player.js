@@ -1,7 +1,7 @@
 "use strict";
 // Forth and back through a run: buttons, keys, slider, clicks into lanes and effects, play.
 
-const PLAY_PAUSE = 900; // milliseconds
+const PLAY_PAUSE = 900; // milliseconds, at speed 1
 
 // Whether a press that goes by steps, sections or effects stops after a step.
 function isStop(run, step, stride) {
@@ -23,6 +23,7 @@ class Player {
     const acts = { first: () => page.go(0), back: () => this.move(-1), on: () => this.move(1), last: () => page.go(page.run.length) };
     for (const [id, act] of Object.entries(acts)) byId(id).addEventListener("click", () => { this.stop(); act(); });
     byId("play").addEventListener("click", () => this.play(this.timer === null));
+    byId("speed").addEventListener("change", () => { if (this.timer !== null) this.play(true); });
     byId("slide").addEventListener("input", event => { this.stop(); page.go(Number(event.target.value)); });
     byId("lanes").addEventListener("click", event => this.clicked(event));
     byId("order").addEventListener("click", event => {
@@ -37,7 +38,7 @@ class Player {
 
   play(isOn) {
     clearInterval(this.timer);
-    this.timer = isOn ? setInterval(() => (this.page.at < this.page.run.length ? this.move(1) : this.stop()), PLAY_PAUSE) : null;
+    this.timer = isOn ? setInterval(() => (this.page.at < this.page.run.length ? this.move(1) : this.stop()), PLAY_PAUSE / Number(byId("speed").value)) : null;
     byId("play").textContent = isOn ? "stop" : "play";
   }
 
@@ -46,9 +47,9 @@ class Player {
   }
 
   clicked(event) {
-    const { from, each } = this.page.lanes, x = event.clientX - byId("lanes").firstElementChild.getBoundingClientRect().left - LEFT;
+    const { from, each } = this.page.lanes, x = event.clientX - byId("lanes").querySelector("svg").getBoundingClientRect().left - LEFT;
     const step = Math.floor(x / each) + from + 1;
-    if (x > 0 && step <= this.page.run.length) { this.stop(); this.page.go(step); }
+    if (event.target.closest("svg") && x > 0 && step <= this.page.run.length) { this.stop(); this.page.go(step); }
   }
 
   // Acts on a key that is the player's, and says whether it was one.

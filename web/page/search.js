@@ -1,174 +1,15 @@
 "use strict";
-// Every state of a plan that some schedule reaches, nearest first: what plans/states.py goes through, with the same numbers. A page has this in a worker.
+// A search as a reader asks for it, with what it found; and what a worker does.
 
-const MOST_STATES = 300000, TELL_EVERY = 100; // milliseconds
+const TELL_EVERY = 100; // milliseconds
 
-// A kernel that goes on alone. Lists and the blocks of locks are never changed in place, so they are shared; but for the copy in the hands of the CPU that
-// acts.
-function forked(kernel, c) {
-  const twin = Object.assign(Object.create(Kernel.prototype), kernel);
-  twin.cpus = kernel.cpus.map((cpu, k) => ({ ...cpu, block: k === c && cpu.block !== null ? cpu.block.copied() : cpu.block }));
-  twin.guests = kernel.guests.map(guest => Object.assign(Object.create(Guest.prototype), guest, { registers: [...guest.registers] }));
-  twin.blocks = new Map(kernel.blocks);
-  twin.words = new Map([...kernel.words].map(([lock, words]) => [lock, { ...words }]));
-  return twin;
-}
-
-function blockPiece(block) {
-  if (block instanceof PendingBlock) return block.threads;
-  const { owner, items, effects, sleepers, waiting, line, positions, closed, closes } = block;
-  return [owner, items.map(spelledMessage), effects, sleepers, waiting, line, positions, closed, closes];
-}
-
-// A kernel's state falls into pieces: each CPU, its trace, each thread, each lock. A lock is kept as its block and who stands in its line, so that two
-// states which differ only in how often a lock was taken are one.
-class Pieces {
-  constructor(kernel) {
-    this.hasCopies = kernel.wrong === "look-always-hits"; // then a CPU inside has a copy of its own; else the block is nobody else's
-    this.locks = [...kernel.blocks.keys()];
-    const cpus = kernel.cpus.length, guests = kernel.guests.length;
-    Object.assign(this, { tracesAt: cpus, guestsAt: 2 * cpus, locksAt: 2 * cpus + guests, count: 2 * cpus + guests + this.locks.length, numbers: new Map() });
-  }
-
-  piece(kernel, place) {
-    if (place < this.tracesAt) return this.cpuPiece(kernel.cpus[place]);
-    if (place < this.guestsAt) return kernel.cpus[place - this.tracesAt].trace;
-    if (place < this.locksAt) return Pieces.guestPiece(kernel.guests[place - this.guestsAt]);
-    const lock = this.locks[place - this.locksAt], line = kernel.cpus.flatMap(({ section, ticket }, c) => (section?.lock === lock ? [[ticket, c]] : []));
-    return [blockPiece(kernel.blocks.get(lock)), line.sort((x, y) => x[0] - y[0]).map(([, c]) => c)];
-  }
-
-  cpuPiece({ current, hand, ready, begun, section, block }) {
-    return [current, hand, ready, begun, section, block !== null && this.hasCopies ? blockPiece(block) : block !== null];
-  }
-
-  static guestPiece({ line, registers, stage, position, effect, place }) {
-    return [line, registers.map(String), stage, position, effect && [effect.kind, spelledMessage(effect.message)], place];
-  }
-
-  // The number of the piece at a place: each different piece has one.
-  numberOf(kernel, place) {
-    const text = JSON.stringify(this.piece(kernel, place));
-    if (!this.numbers.has(text)) this.numbers.set(text, this.numbers.size);
-    return this.numbers.get(text);
-  }
-
-  all(kernel) {
-    return counted(this.count).map(place => this.numberOf(kernel, place));
-  }
-
-  // The numbers after a step of a CPU at a lock, or at none: what such a step cannot change keeps its number.
-  after(numbers, kernel, c, lock) {
-    const now = [...numbers], changed = [c, ...counted(this.locksAt - this.guestsAt).map(t => this.guestsAt + t)];
-    if (kernel.entry) changed.push(this.tracesAt + c);
-    if (lock !== undefined) changed.push(this.locksAt + this.locks.indexOf(lock));
-    for (const place of changed) now[place] = this.numberOf(kernel, place);
-    return now;
-  }
-}
-
-// What a reader may look for: a law's name, "broken" for any law, "deadlock". It is asked of a kernel and of its faults.
+const ALL_LAWS = [...LAW_BITS.values()].reduce((all, bit) => all | bit, 0);
 const isDeadlock = kernel => kernel.isQuiet() && !kernel.guests.every(isEnded);
-const askedFor = what => (what === "deadlock" ? isDeadlock : (_, faults) => faults.some(([law]) => what === "broken" || law === what));
 
-class States {
-  constructor(plan, wrong = null) {
-    const kernel = new Kernel(plan, wrong);
-    this.pieces = new Pieces(kernel);
-    this.boot = { kernel, numbers: this.pieces.all(kernel), number: 0 };
-    this.numbers = new Map([[this.boot.numbers.join(" "), 0]]);
-    // of each state: the one before it, and the CPU that led here; where each law is first broken, and by which last step
-    Object.assign(this, { came: [null], broken: new Map(), layer: [this.boot], depth: 0, moves: 0, looked: 0, isLimited: false });
-  }
-
-  get count() {
-    return this.came.length;
-  }
-
-  get isAll() {
-    return this.layer.length === 0;
-  }
-
-  // Goes through the states until one is found that is wanted, or all have been seen, or so many. Returns the number of the one that is wanted, or null.
-  look({ wanted = () => false, most = MOST_STATES, tell = () => {} } = {}) {
-    if (this.seen(this.boot, null, wanted)) return 0;
-    while (this.layer.length) {
-      const nearer = this.layer;
-      this.layer = [];
-      for (const state of nearer) {
-        const found = this.spread(state, wanted);
-        this.looked++;
-        if (found !== null) return found;
-        this.isLimited = this.count >= most;
-        if (this.isLimited) return null;
-        tell(this);
-      }
-      this.depth += this.layer.length ? 1 : 0;
-    }
-    return null;
-  }
-
-  // Takes a step of each CPU from a state; returns the number of the first new state that is wanted, or null.
-  spread(state, wanted) {
-    for (const c of state.kernel.cpus.keys()) {
-      const next = this.after(state, c);
-      if (next === null) continue;
-      this.moves++;
-      const key = next.numbers.join(" ");
-      if (this.numbers.has(key)) continue;
-      next.number = this.count;
-      this.numbers.set(key, next.number);
-      this.came.push([state.number, c]);
-      this.layer.push(next);
-      if (this.seen(next, { earlier: orderOf(tracesOf(state.kernel), state.kernel.buffers().length), cpu: c }, wanted)) return next.number;
-    }
-    return null;
-  }
-
-  // The state after a step of a CPU, or null if the step would change nothing: the CPU is halted, or looks in vain.
-  after({ kernel, numbers }, c) {
-    const cpu = kernel.cpus[c], { section } = cpu;
-    const isTurn = section === null || cpu.block !== null || kernel.wrong === "look-always-hits" || kernel.words.get(section.lock).serving === cpu.ticket;
-    if (!isTurn || (section === null && kernel.halted(c))) return null;
-    const next = forked(kernel, c);
-    next.step(c);
-    const lock = section?.lock ?? next.cpus[c].section?.lock;
-    return { kernel: next, numbers: this.pieces.after(numbers, next, c, lock), number: null };
-  }
-
-  // Keeps which laws are first broken in a state; tells whether it is wanted.
-  seen({ kernel, number }, last, wanted) {
-    const faults = faultsIn(kernel, last);
-    for (const [law, why] of faults) if (!this.broken.has(law)) this.broken.set(law, { number, why });
-    return wanted(kernel, faults);
-  }
-
-  // The steps of a shortest schedule to a state.
-  stepsTo(number) {
-    const back = [];
-    for (let at = this.came[number]; at !== null; at = this.came[at[0]]) back.push(at[1]);
-    return back.reverse();
-  }
-
-  // As many steps to the same state, with fewer changes of the CPU where moving a CPU's steps together leads there too.
-  calmStepsTo(number) {
-    let runs = runsOf(this.stepsTo(number)), better = runs;
-    while (better) {
-      runs = better;
-      better = movesTogether(runs).find(moved => this.reached(moved) === number);
-    }
-    return stepsOf(runs);
-  }
-
-  // The number of the state after runs of steps that each change something, or null.
-  reached(runs) {
-    let state = this.boot;
-    for (const c of stepsOf(runs)) {
-      state = this.after(state, c);
-      if (state === null) return null;
-    }
-    return this.numbers.get(state.numbers.join(" ")) ?? null;
-  }
+// What a reader may look for: a law's name, "broken" for any law, "deadlock", or "own" with a test of a kernel.
+function askedFor(what, test = null) {
+  if (what === "own") return { ...NOTHING, test };
+  return what === "deadlock" ? { ...NOTHING, isDeadlock: true } : { ...NOTHING, bits: what === "broken" ? ALL_LAWS : bitOf(what) };
 }
 
 // Neighbours of one CPU as one run, as the items of a schedule are.
@@ -193,24 +34,48 @@ function movesTogether(runs) {
   return found;
 }
 
-// What a search found, in a form that a worker can post.
-function searched(text, wrong, what, tell) {
-  const states = new States(planOf(text), wrong), number = states.look({ wanted: askedFor(what), tell });
-  const told = { count: states.count, depth: states.depth, isAll: states.isAll, steps: null, why: [] };
-  if (number === null) return told;
-  const faults = [...states.broken].filter(([, broken]) => broken.number === number).map(([law, { why }]) => [law, why]);
-  return { ...told, steps: states.calmStepsTo(number), why: what === "deadlock" ? [] : faults };
+// Whether the programs of a plan may go back to an earlier line: then runs have no end, and only a search without history has one.
+function hasLoops({ threads }) {
+  const targetOf = ([word, ...pieces]) => ({ jnz: pieces[1], send: pieces[2], sendm: pieces[2], recv: pieces[2], recvm: pieces[1] })[word];
+  return threads.some(({ program }) => program.some((line, at) => Number(targetOf(line.split(" ")) ?? Infinity) <= at));
 }
 
-// What a worker does: one search, with its progress from time to time.
+// A search that goes on from what it found to the next. `asked` has the plan's text, the mistake, what is looked for, and the ways of States.
+class Search {
+  constructor({ text, wrong, what, bySections, isEndless, law = null, most = MOST_BYTES }) {
+    const plan = planOf(text), test = law === null ? null : brokenBy(law, plan);
+    Object.assign(this, { what, test, asked: { wanted: askedFor(what, test), hasLaws: what !== "deadlock" && what !== "own" } });
+    this.states = new States(plan, wrong, { bySections, isEndless, most });
+  }
+
+  // Goes on; tells what was found, or that all were seen, or which limit was met, in a form that a worker can post.
+  next(tell) {
+    const { states } = this, found = states.look({ ...this.asked, tell }), { count, moved, depth, isAll, isLimited, bySections, isEndless } = states;
+    const told = { count, moved, depth, isAll: found === null && isAll && !isLimited, isLimited, bySections, isEndless, steps: null, why: [] };
+    if (found === null) return told;
+    const steps = states.calmed(states.stepsFound(found)), { kernel, faults } = states.endOf(steps);
+    if (!this.isSo(kernel, faults)) throw new Error(`what was found after ${spelledSchedule(steps)} is not there when it is run again`);
+    return { ...told, steps, why: this.asked.hasLaws ? faults : [] };
+  }
+
+  // Whether a kernel that took the steps of what was found is what was looked for.
+  isSo(kernel, faults) {
+    if (this.what === "deadlock") return isDeadlock(kernel);
+    return this.what === "own" ? this.test(kernel) : faults.some(([law]) => this.what === "broken" || law === this.what);
+  }
+}
+
+// What a worker does: a search, with its progress from time to time, that goes on when it is asked for more.
 function serveSearch() {
-  self.onmessage = ({ data: { text, wrong, what } }) => {
+  let search = null;
+  self.onmessage = ({ data: { asked } }) => {
     let told = performance.now();
-    const tell = ({ count, looked, depth }) => {
+    const tell = ({ count, looked, depth, memory }) => {
       if (performance.now() - told < TELL_EVERY) return;
       told = performance.now();
-      self.postMessage({ progress: { count, looked, depth } });
+      self.postMessage({ progress: { count, looked, depth, bytes: memory.used } });
     };
-    self.postMessage({ found: searched(text, wrong, what, tell) });
+    if (asked) search = new Search(asked);
+    self.postMessage({ found: search.next(tell) });
   };
 }

@@ -161,7 +161,8 @@ function whereInSchedule(text, refusal, cpus) {
   const read = readSchedule(text), index = read.fault ? read.index - 1 : refusal.includes("BadCpu") ? read.items.findIndex(item => item.cpu >= cpus) : -1;
   if (index < 0) return {};
   const items = text.split(","), from = items.slice(0, index).map(item => `${item},`).join("").length;
-  return { text, from, piece: items[index], says: `item ${index + 1}: ${read.fault ?? `the plan has the CPUs 0 to ${cpus - 1}`}` };
+  const hint = /\s/.test(items[index]) ? ". Here is white space: a comma, and nothing else, separates two items" : /;/.test(items[index]) ? ". A comma separates two items" : "";
+  return { text, from, piece: items[index], says: `item ${index + 1}: ${read.fault ?? `the plan has the CPUs 0 to ${cpus - 1}`}${hint}` };
 }
 
 // Beside the judge's no, such as `no 6 EmptyTake(35)`: what is wanted there, where the page's own judge finds the same fault; else what the reason means.
