@@ -27,7 +27,7 @@ impl Index {
     }
 
     fn is_full(&self) -> bool {
-        (self.count + 1) * 4 > self.slots.len() * 3
+        (self.count + 1) * 2 > self.slots.len()
     }
 
     fn put(&mut self, slot: usize, number: u32) {
@@ -88,10 +88,6 @@ impl Texts {
         &self.bytes[begin..self.ends[number]]
     }
 
-    pub fn len(&self) -> usize {
-        self.ends.len()
-    }
-
     /// The number of a text, which is kept from then on.
     pub fn number(&mut self, text: &[u8]) -> u32 {
         if self.index.is_full() {
@@ -133,10 +129,6 @@ impl Pairs {
         ((pair >> 32) as u32, pair as u32)
     }
 
-    pub fn len(&self) -> usize {
-        self.pairs.len()
-    }
-
     /// The number of a pair, if it is kept.
     pub fn known(&self, left: u32, right: u32) -> Option<u32> {
         if self.pairs.is_empty() {
@@ -172,7 +164,7 @@ impl Pairs {
     /// grows the old one is kept.
     pub fn growth(&self) -> usize {
         let pairs = if self.pairs.len() + SOME > self.pairs.capacity() { self.pairs.capacity() * 8 } else { 0 };
-        let is_full = (self.index.count + SOME) * 4 > self.index.slots.len() * 3;
+        let is_full = (self.index.count + SOME) * 2 > self.index.slots.len();
         pairs + if is_full { 2 * self.index.bytes() } else { 0 }
     }
 }

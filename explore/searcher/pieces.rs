@@ -17,44 +17,55 @@ pub enum At {
     Lock(usize),
 }
 
-/// The places of a row: CPUs, traces, threads, locks. Without history there are no traces.
-#[derive(Clone, Copy)]
+/// The places of a row. What steps of one CPU change is close together: the CPU, its trace, its
+/// threads and its pending queue; then come the buffers. Without history there are no traces.
 pub struct Places {
-    cpus: usize,
-    traces: usize,
-    guests: usize,
-    locks: usize,
+    order: Vec<At>,
+    cpus: Vec<usize>,
+    traces: Vec<usize>,
+    guests: Vec<usize>,
+    locks: Vec<usize>,
 }
 
 impl Places {
     fn new(plan: &Plan, history: History) -> Places {
-        let traces = if history == History::Kept { plan.cpus } else { 0 };
-        Places { cpus: plan.cpus, traces, guests: plan.threads.len(), locks: plan.cpus + plan.capacities.len() }
+        let mut order = Vec::new();
+        for c in 0..plan.cpus {
+            order.push(At::Cpu(c));
+            if history == History::Kept {
+                order.push(At::Trace(c));
+            }
+            order.extend((0..plan.threads.len()).filter(|&t| plan.threads[t].home == c).map(At::Guest));
+            order.push(At::Lock(c));
+        }
+        order.extend((0..plan.capacities.len()).map(|b| At::Lock(plan.cpus + b)));
+        let (cpus, guests, locks) = (plan.cpus, plan.threads.len(), plan.cpus + plan.capacities.len());
+        let mut places = Places { order, cpus: vec![0; cpus], traces: vec![0; cpus], guests: vec![0; guests], locks: vec![0; locks] };
+        for (place, &at) in places.order.iter().enumerate() {
+            match at {
+                At::Cpu(c) => places.cpus[c] = place,
+                At::Trace(c) => places.traces[c] = place,
+                At::Guest(t) => places.guests[t] = place,
+                At::Lock(lock) => places.locks[lock] = place,
+            }
+        }
+        places
     }
 
     pub fn count(&self) -> usize {
-        self.cpus + self.traces + self.guests + self.locks
+        self.order.len()
     }
 
     pub fn at(&self, place: usize) -> At {
-        let (guests_at, locks_at) = (self.cpus + self.traces, self.cpus + self.traces + self.guests);
-        if place < self.cpus {
-            At::Cpu(place)
-        } else if place < guests_at {
-            At::Trace(place - self.cpus)
-        } else if place < locks_at {
-            At::Guest(place - guests_at)
-        } else {
-            At::Lock(place - locks_at)
-        }
+        self.order[place]
     }
 
     pub fn of(&self, at: At) -> usize {
         match at {
-            At::Cpu(c) => c,
-            At::Trace(c) => self.cpus + c,
-            At::Guest(t) => self.cpus + self.traces + t,
-            At::Lock(lock) => self.cpus + self.traces + self.guests + lock,
+            At::Cpu(c) => self.cpus[c],
+            At::Trace(c) => self.traces[c],
+            At::Guest(t) => self.guests[t],
+            At::Lock(lock) => self.locks[lock],
         }
     }
 }
@@ -76,7 +87,7 @@ impl<'p> Pieces<'p> {
         let system = System::new(plan, mistake, history == History::LeftOut);
         let places = Places::new(plan, history);
         let mut pieces = Pieces { system, history, places, texts: Texts::default(), parts: Vec::new(), row: Vec::new(), scratch: Vec::new() };
-        pieces.row = (0..places.count()).map(|place| pieces.number_of(place)).collect();
+        pieces.row = (0..pieces.places.count()).map(|place| pieces.number_of(place)).collect();
         pieces
     }
 
@@ -142,9 +153,8 @@ impl<'p> Pieces<'p> {
 
     /// The laws that the loaded state breaks, apart from those of the order and of stillness.
     pub fn broken(&self) -> Laws {
-        let (first, rest) = (self.places.cpus, self.places.cpus + self.places.traces);
-        let numbers = self.row[..first].iter().chain(&self.row[rest..]);
-        broken_by(numbers.map(|&number| &self.parts[number as usize]), self.places.guests)
+        let told = self.row.iter().zip(&self.places.order).filter(|(_, at)| !matches!(at, At::Trace(_)));
+        broken_by(told.map(|(&number, _)| &self.parts[number as usize]), self.places.guests.len())
     }
 
     /// A piece of a row as a text.
@@ -207,10 +217,6 @@ impl Rows {
     /// Rows of at least two numbers.
     pub fn new(width: usize) -> Rows {
         Rows { width, inner: Pairs::default(), roots: Pairs::default() }
-    }
-
-    pub fn len(&self) -> usize {
-        self.roots.len()
     }
 
     /// The nodes of a tree that holds a row: node `i` has the children `2 * i` and `2 * i + 1`.

@@ -146,11 +146,6 @@ impl<'p> Search<'p> {
         self.run(tick)
     }
 
-    /// Goes through all states without looking at them.
-    pub fn visit(&mut self, tick: &mut dyn FnMut(&Progress) -> bool) -> End {
-        self.run(tick)
-    }
-
     fn run(&mut self, tick: &mut dyn FnMut(&Progress) -> bool) -> End {
         self.start();
         let (mut d, mut count) = (0, 0_u64);
@@ -396,10 +391,6 @@ impl<'p> Search<'p> {
         self.quiet.clone()
     }
 
-    pub fn renames(&self) -> usize {
-        self.renamings.as_ref().map_or(1, |renamings| renamings.all.len())
-    }
-
     pub fn row(&self, number: u32) -> Vec<u32> {
         self.rows.row(number)
     }
@@ -484,11 +475,6 @@ impl<'p> Search<'p> {
         if is_taken { Some(row) } else { None }
     }
 
-    /// Loads the state of a target, by running a shortest schedule to it.
-    pub fn load_target(&mut self, target: Target) {
-        let runs = self.runs_to(target);
-        self.row_after(&runs);
-    }
 }
 
 /// Takes a step of a CPU, or its whole section; returns how many steps that is.
