@@ -37,8 +37,8 @@ schedule to a state that is asked for. Nothing here is proved.
   --compare[=K]     the proved program runs the shortest schedule to each state, or to K of them,
                     and must print that state. --program FILE names it (default: $MCTOWER, or
                     crates/mctower/out/mctower)
-  --progress S      how often progress is told, in seconds (default: 1 on a terminal, else 10;
-                    0: never)
+  --progress S      how often progress is told on standard error, in seconds (0: never; default: 1
+                    on a terminal, else 0)
   --time            what the search took
 
 Status: 0 all laws hold, or a state was found; 1 a law is broken, no state was found, or the proved
@@ -102,7 +102,7 @@ fn read_line(words: &[String]) -> Result<Asked, Failure> {
         audits: false,
         compare: None,
         program: std::env::var("MCTOWER").unwrap_or_else(|_| "crates/mctower/out/mctower".to_string()),
-        progress: if std::io::stderr().is_terminal() { 1.0 } else { 10.0 },
+        progress: if std::io::stderr().is_terminal() { 1.0 } else { 0.0 },
         times: false,
     };
     let mut plans = Vec::new();
