@@ -28,6 +28,7 @@ tests/layers.sh
 tests/third-lock.sh
 tests/look.py
 tests/book.py
+explore/test.py
 tests/faults.sh
 web/test.mjs
 tests/explain.py
