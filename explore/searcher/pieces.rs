@@ -1,5 +1,5 @@
 //! A state as a row of numbers: each CPU, each trace, each thread and each lock is a piece, which
-//! is kept once; and all states as a tree of pairs, so that a state more takes about 30 bytes.
+//! is kept once; and all states as a tree of pairs, so that a state more takes about 50 bytes with its way.
 
 use super::coding::{put_cpu, put_guest, put_lock, Bytes, History};
 use super::interning::{Pairs, Texts};
