@@ -12,16 +12,19 @@ pub struct Message {
 }
 
 impl Message {
+    /// A message of these words, at most eight.
     pub fn of(words: &[u64]) -> Message {
         let mut message = Message { count: words.len() as u8, words: [0; REGISTERS] };
         message.words[..words.len()].copy_from_slice(words);
         message
     }
 
+    /// The message of a call that has none.
     pub fn none() -> Message {
         Message::of(&[])
     }
 
+    /// Its words, in order.
     pub fn words(&self) -> &[u64] {
         &self.words[..self.count as usize]
     }
@@ -53,6 +56,7 @@ pub enum Kind {
     ReceiveClosed,
 }
 
+/// The kinds, by their number.
 pub const KINDS: [Kind; 5] = [Kind::Send, Kind::Receive, Kind::Close, Kind::SendClosed, Kind::ReceiveClosed];
 
 impl Kind {
@@ -93,6 +97,7 @@ pub struct Buffer {
 }
 
 impl Buffer {
+    /// An open, empty buffer.
     pub fn new(capacity: usize) -> Buffer {
         Buffer {
             capacity,

@@ -192,6 +192,7 @@ impl<'b> Bytes<'b> {
         cpu.section = Some(Section { work, lock, is_inside, copy });
     }
 
+    /// Reads a thread.
     pub fn guest(&mut self, guest: &mut Guest, history: History) {
         guest.line = self.number();
         guest.stage = STAGES[self.byte() as usize];

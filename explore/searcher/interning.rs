@@ -82,6 +82,7 @@ pub struct Texts {
 }
 
 impl Texts {
+    /// The text of a number.
     pub fn get(&self, number: u32) -> &[u8] {
         let number = number as usize;
         let begin = if number == 0 { 0 } else { self.ends[number - 1] };
@@ -107,6 +108,7 @@ impl Texts {
         }
     }
 
+    /// The bytes that the table takes.
     pub fn memory(&self) -> usize {
         self.bytes.capacity() + self.ends.capacity() * 8 + self.index.bytes()
     }
@@ -124,6 +126,7 @@ fn joined(left: u32, right: u32) -> u64 {
 }
 
 impl Pairs {
+    /// The pair of a number.
     pub fn get(&self, number: u32) -> (u32, u32) {
         let pair = self.pairs[number as usize];
         ((pair >> 32) as u32, pair as u32)
@@ -156,6 +159,7 @@ impl Pairs {
         }
     }
 
+    /// The bytes that the table takes.
     pub fn memory(&self) -> usize {
         self.pairs.capacity() * 8 + self.index.bytes()
     }

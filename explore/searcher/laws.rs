@@ -41,10 +41,12 @@ pub const LAWS: [(Law, &str); 11] = [
 pub const OF_THE_ORDER: [Law; 4] = [Law::NothingLost, Law::InTheirOrder, Law::TrueAnswers, Law::OrderGrows];
 
 impl Law {
+    /// Its name in reports.
     pub fn name(self) -> &'static str {
         LAWS[self as usize].1
     }
 
+    /// The law of a name.
     pub fn named(name: &str) -> Option<Law> {
         LAWS.iter().find(|&&(_, known)| known == name).map(|&(law, _)| law)
     }
@@ -55,22 +57,27 @@ impl Law {
 pub struct Laws(pub u16);
 
 impl Laws {
+    /// Adds a law.
     pub fn add(&mut self, law: Law) {
         self.0 |= 1 << law as u8;
     }
 
+    /// Whether a law is in the set.
     pub fn has(self, law: Law) -> bool {
         self.0 >> law as u8 & 1 == 1
     }
 
+    /// Whether there is no law.
     pub fn is_empty(self) -> bool {
         self.0 == 0
     }
 
+    /// The laws of both sets.
     pub fn and(self, others: Laws) -> Laws {
         Laws(self.0 | others.0)
     }
 
+    /// The laws, in the order of reports.
     pub fn iter(self) -> impl Iterator<Item = Law> {
         LAWS.iter().map(|&(law, _)| law).filter(move |&law| self.has(law))
     }

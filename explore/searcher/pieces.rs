@@ -52,14 +52,17 @@ impl Places {
         places
     }
 
+    /// How many places there are.
     pub fn count(&self) -> usize {
         self.order.len()
     }
 
+    /// What is at a place.
     pub fn at(&self, place: usize) -> At {
         self.order[place]
     }
 
+    /// The place of something.
     pub fn of(&self, at: At) -> usize {
         match at {
             At::Cpu(c) => self.cpus[c],
@@ -83,6 +86,7 @@ pub struct Pieces<'p> {
 }
 
 impl<'p> Pieces<'p> {
+    /// The system of a plan before its first step.
     pub fn new(plan: &'p Plan, mistake: Option<Mistake>, history: History) -> Pieces<'p> {
         let system = System::new(plan, mistake, history == History::LeftOut);
         let places = Places::new(plan, history);
@@ -162,6 +166,7 @@ impl<'p> Pieces<'p> {
         self.texts.get(number)
     }
 
+    /// The bytes that are kept.
     pub fn memory(&self) -> usize {
         self.texts.memory() + self.parts.capacity() * std::mem::size_of::<Part>() + self.system.traces.memory()
     }
@@ -272,12 +277,14 @@ impl Rows {
         }
     }
 
+    /// The row of a number.
     pub fn row(&self, number: u32) -> Vec<u32> {
         let mut nodes = Vec::new();
         self.nodes_of(number, &mut nodes);
         nodes.split_off(self.width)
     }
 
+    /// The bytes that are kept.
     pub fn memory(&self) -> usize {
         self.inner.memory() + self.roots.memory()
     }

@@ -3,6 +3,7 @@
 use super::toml::{read_document, Table, Value};
 use std::fmt;
 
+/// The most CPUs of a plan.
 pub const MOST_CPUS: i64 = 16;
 const MOST_THREADS: usize = 256;
 const MOST_BUFFERS: usize = 16;
@@ -41,6 +42,7 @@ pub enum Side {
 }
 
 impl Side {
+    /// The side across.
     pub fn other(self) -> Side {
         match self {
             Side::Receivers => Side::Senders,
@@ -59,6 +61,7 @@ impl Instruction {
         }
     }
 
+    /// Whether it closes a buffer.
     pub fn is_close(self) -> bool {
         matches!(self, Instruction::Close { .. })
     }

@@ -4,6 +4,7 @@ use super::laws::{Law, Laws, LAWS};
 use super::plan::{is_number, Plan};
 use super::table::{Halt, Place, System};
 
+/// What may be asked, for a help text.
 pub const GRAMMAR: &str = "\
   deadlock             quiet, and some thread has not ended
   law NAME             the law does not hold; `broken`: some law does not hold

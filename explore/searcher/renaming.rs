@@ -190,6 +190,7 @@ impl Renaming {
 }
 
 impl<'p> Renamings<'p> {
+    /// The renamings of a plan.
     pub fn new(plan: &'p Plan, history: History) -> Renamings<'p> {
         let all = all_renamings(plan);
         let scratch = System::new(plan, None, history == History::LeftOut);
@@ -240,6 +241,7 @@ impl<'p> Renamings<'p> {
         best
     }
 
+    /// The bytes that are kept.
     pub fn memory(&self) -> usize {
         self.pieces.iter().chain(&self.traces).map(|known| known.capacity() * 4).sum()
     }

@@ -21,6 +21,7 @@ pub fn schedule_text(runs: &[Run]) -> String {
     items.collect::<Vec<_>>().join(",")
 }
 
+/// How many steps a schedule has.
 pub fn length(runs: &[Run]) -> usize {
     runs.iter().map(|&(_, times)| times).sum()
 }

@@ -96,6 +96,7 @@ struct Scratch {
 }
 
 impl<'p> Search<'p> {
+    /// A search that has not begun.
     pub fn new(plan: &'p Plan, options: Options) -> Search<'p> {
         let pieces = Pieces::new(plan, options.mistake, options.history);
         let boot = pieces.row.clone();
@@ -129,6 +130,7 @@ impl<'p> Search<'p> {
         self.came.len()
     }
 
+    /// The steps of a shortest schedule to a state.
     pub fn distance(&self, number: u32) -> u32 {
         self.distance[number as usize]
     }
@@ -349,6 +351,7 @@ impl<'p> Search<'p> {
 
     // Memory.
 
+    /// The bytes that the search takes.
     pub fn memory(&self) -> usize {
         let lists = self.came.capacity() * 4 + self.via.capacity() + self.distance.capacity() * 4;
         let due: usize = self.due.iter().map(|list| list.capacity() * 4).sum();
@@ -391,6 +394,7 @@ impl<'p> Search<'p> {
         self.quiet.clone()
     }
 
+    /// The row of a state.
     pub fn row(&self, number: u32) -> Vec<u32> {
         self.rows.row(number)
     }
@@ -400,6 +404,7 @@ impl<'p> Search<'p> {
         self.rows.known(row)
     }
 
+    /// Makes a row the one that is kept of those that differ by renaming.
     pub fn make_least(&mut self, row: &mut Vec<u32>) {
         if let Some(renamings) = &mut self.renamings {
             renamings.make_least(row, &mut self.pieces);

@@ -32,6 +32,7 @@ pub enum Stage {
     Returns,
 }
 
+/// The stages, by their number.
 pub const STAGES: [Stage; 12] = [
     Stage::Between, Stage::AcqQ, Stage::Enter, Stage::Shut, Stage::Try, Stage::Wait, Stage::Join, Stage::Again, Stage::Other,
     Stage::Own, Stage::RelQ, Stage::Returns,
@@ -82,6 +83,7 @@ pub enum Work {
     Returns,
 }
 
+/// What sections do, by number.
 pub const WORKS: [Work; 14] = [
     Work::Pend, Work::Drain, Work::Yield, Work::AcqQ, Work::Enter, Work::Shut, Work::TryTake, Work::TryPut, Work::Wait, Work::Join,
     Work::SigRecv, Work::SigSend, Work::RelQ, Work::Returns,
@@ -131,6 +133,7 @@ pub struct Changed {
 }
 
 impl Changed {
+    /// Forgets what was changed.
     pub fn clear(&mut self) {
         self.guests.clear();
         self.lock = None;
@@ -200,10 +203,12 @@ impl<'p> System<'p> {
         }
     }
 
+    /// Whether the kernel makes a mistake.
     pub fn makes(&self, mistake: Mistake) -> bool {
         self.mistake == Some(mistake)
     }
 
+    /// The block of a buffer.
     pub fn buffer(&self, b: usize) -> &Buffer {
         match &self.blocks[self.plan.cpus + b] {
             Block::Buffer(buffer) => buffer,
@@ -211,6 +216,7 @@ impl<'p> System<'p> {
         }
     }
 
+    /// The pending queue of a CPU.
     pub fn pending(&self, c: usize) -> &Queue {
         match &self.blocks[c] {
             Block::Pending(queue) => queue,
@@ -223,10 +229,12 @@ impl<'p> System<'p> {
         instruction_of(self.plan, thread, &self.guests[thread as usize])
     }
 
+    /// The buffer and the side of the call at which a thread is.
     pub fn call(&self, thread: u8) -> Option<(usize, Side)> {
         self.instruction(thread).call()
     }
 
+    /// Whether a thread has ended.
     pub fn has_ended(&self, thread: usize) -> bool {
         self.guests[thread].place == Place::Ended
     }
@@ -360,6 +368,7 @@ impl<'p> System<'p> {
         self.pending(c).is_empty() && (is_idle || (is_between && self.have_all_ended(c)))
     }
 
+    /// Whether no CPU has anything to do.
     pub fn is_quiet(&self) -> bool {
         (0..self.cpus.len()).all(|c| self.is_at_rest(c))
     }

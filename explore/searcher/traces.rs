@@ -49,10 +49,12 @@ pub struct Traces {
 }
 
 impl Traces {
+    /// The table with the empty trace.
     pub fn new() -> Traces {
         Traces::default()
     }
 
+    /// How many entries a trace has.
     pub fn length(&self, trace: TraceId) -> u32 {
         if trace == NO_ENTRIES { 0 } else { self.nodes[trace as usize - 1].length }
     }
@@ -92,6 +94,7 @@ impl Traces {
         entries
     }
 
+    /// The bytes that are kept.
     pub fn memory(&self) -> usize {
         self.nodes.capacity() * std::mem::size_of::<Node>() + self.keys.memory()
     }
