@@ -105,14 +105,21 @@ fn read_line(words: &[String]) -> Result<Asked, Failure> {
         progress: if std::io::stderr().is_terminal() { 1.0 } else { 0.0 },
         times: false,
     };
-    let mut plans = Vec::new();
+    let (mut plans, mut given) = (Vec::new(), Vec::new());
     let mut words = words.iter();
     while let Some(word) = words.next() {
+        if given.contains(&word) {
+            return refused(format!("{word} is given twice"));
+        }
         if word.starts_with("--") {
+            given.push(word);
             read_option(&mut asked, word, &mut words)?;
         } else {
             plans.push(word.clone());
         }
+    }
+    if asked.audits && (asked.find.is_some() || asked.compare.is_some()) {
+        return refused("--audit compares two searches: leave out --find and --compare".to_string());
     }
     match plans.len() {
         1 => asked.plan = plans.remove(0),
@@ -213,6 +220,16 @@ impl Teller {
     }
 }
 
+/// Prints lines. A reader that has left, as `head` does, ends the program; another fault is told.
+fn say(text: &str) {
+    if let Err(fault) = writeln!(std::io::stdout(), "{text}") {
+        if fault.kind() != std::io::ErrorKind::BrokenPipe {
+            eprintln!("error: WriteFault(8)\nstandard output: {fault}");
+        }
+        std::process::exit(1);
+    }
+}
+
 /// What `mctower run` prints: the trace text, and the state lines.
 fn proved_prints(program: &str, plan: &[u8], schedule: &str) -> std::io::Result<(String, String)> {
     let mut command = Command::new(program);
@@ -281,7 +298,7 @@ fn audited(asked: &Asked, plan: &Plan, options: Options) -> Result<i32, Failure>
     let name = asked.plan.rsplit('/').next().unwrap_or(&asked.plan);
     match result {
         Ok(words) => {
-            println!("{name}: {words}");
+            say(&format!("{name}: {words}"));
             Ok(0)
         }
         Err(Fault::NotCompared(words)) => Err(Failure { words, status: 3 }),
@@ -304,13 +321,13 @@ fn searched(asked: &Asked, plan: &Plan, raw: &[u8], options: Options, question: 
         Some(text) => answer(text, &mut search, end),
         None => report(name, &mut search, end),
     };
-    println!("{}", lines.join("\n"));
+    say(&lines.join("\n"));
     if asked.times {
         let (states, memory) = (search.len(), search.memory() >> 20);
-        println!("took {seconds:.2} s: {:.0} states a second, {memory} MB", states as f64 / seconds);
+        say(&format!("took {seconds:.2} s: {:.0} states a second, {memory} MB", states as f64 / seconds));
     }
     if let Some(most) = asked.compare {
-        println!("{}", compare(&mut search, plan, raw, &asked.program, most)?);
+        say(&compare(&mut search, plan, raw, &asked.program, most)?);
     }
     let is_limited = end != End::All && end != End::Found;
     let is_told = if asked.find.is_some() { is_well } else { !is_well };
@@ -321,7 +338,7 @@ fn main() {
     let words: Vec<String> = std::env::args().skip(1).collect();
     if words.iter().any(|word| word == "--help" || word == "-h") {
         let mistakes: String = MISTAKES.iter().map(|(_, name, what)| format!("  {name:24}{what}\n")).collect();
-        print!("{USAGE}\nWHAT is one of\n{GRAMMAR}\nMISTAKE is one of\n{mistakes}");
+        say(&format!("{USAGE}\nWHAT is one of\n{GRAMMAR}\nMISTAKE is one of\n{}", mistakes.trim_end()));
         return;
     }
     let status = read_line(&words).and_then(|asked| serve(&asked)).unwrap_or_else(|failure| {

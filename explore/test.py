@@ -291,6 +291,8 @@ LINES = [((), "expected one PLAN"), (("plans/none.toml",), "ReadFault(7)"), (("-
          (("--endless", "--wrong", "look-always-hits", "plans/one-send.toml"), "leave out --endless"),
          (("--rename", "--find", "thread 0 ended", "plans/one-send.toml"), "leave out --rename"),
          (("--compare", "--wrong", "other-side-only", "plans/one-send.toml"), "leave out --wrong"),
+         (("--steps", "--steps", "plans/one-send.toml"), "--steps is given twice"),
+         (("--audit", "--find", "quiet", "plans/one-send.toml"), "leave out --find"),
          (("--compare", "--program", "/none", "plans/one-send.toml"), "/none: ")]
 
 
