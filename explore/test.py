@@ -131,6 +131,19 @@ def same_report(tally, path, *words):
         tally.holds(counts == states_in(model_report("--sections", path)[1]), f"{name}: by whole sections it tells {counts}")
 
 
+def endless(tally):
+    """Without history there is no deadlock in as many states as plans/states.py sees so, if it can leave history out."""
+    helped = subprocess.run([sys.executable, "plans/states.py", "--help"], cwd=ROOT, stdout=subprocess.PIPE, text=True).stdout
+    if "--endless" not in helped:
+        tally.left_out.append("searches without history, which plans/states.py does not have")
+        return
+    for path in (OWN["pair-endless"], ROOT / "plans/woken-from-afar.toml", ROOT / "plans/closed-for-two.toml"):
+        for model, ours in ((["--sections"], []), ([], ["--steps"])):
+            told = model_report(*model, "--endless", "--find", "deadlock", path)[1]
+            came = tally.ask(*ours, "--endless", "--find", "deadlock", path)[1]
+            tally.holds(came == told and "these are all" in told, f"{path.name} {ours}: it says {came}, and plans/states.py {told}")
+
+
 def small(tally, path, *words):
     """Whether plans/states.py is quick on a plan."""
     return (states_in(tally.ask("--steps", "--memory", 20, *words, path)[1])[0] or 0) <= MOST_FOR_PYTHON
@@ -332,7 +345,7 @@ def main():
         tally = Tally(room)
         built = subprocess.run(["rustc", "-O", "--out-dir", f"{room}/out", ROOT / "explore/explore.rs"], stderr=subprocess.PIPE, text=True)
         tally.holds(built.returncode == 0 and not built.stderr, f"rustc says: {built.stderr}")
-        for what in (lines, refusals, documents, answers, breaches, reports, random_reports, counts, audits, memory):
+        for what in (lines, refusals, documents, answers, breaches, reports, random_reports, endless, counts, audits, memory):
             what(tally)
         compared(tally, program)
     print(*tally.faults, sep="\n", end="\n" if tally.faults else "")
