@@ -31,6 +31,7 @@ tests/refuse.sh
 tests/third-lock.sh
 tests/look.py
 tests/book.py
+explore/test.py
 tests/faults.sh
 web/test.mjs
 tests/explain.py
