@@ -266,7 +266,7 @@ function searches() {
 function searchesEnd() {
   const { Search, Kernel, planOf, stepsOf, readSchedule, faultsIn, hasLoops } = sources(ROOT)('({ Search, Kernel, planOf, stepsOf, readSchedule, faultsIn, hasLoops })');
   const small = read('plans/two-receivers.toml'), ways = { bySections: true, isEndless: false };
-  for (const most of [60e3, 200e3, 400e3]) {
+  for (const most of [100e3, 200e3, 400e3]) {
     const { isAll, isLimited, count } = new Search({ text: small, wrong: null, what: 'broken', ...ways, most }).next(() => {});
     is(`a search in ${most} bytes says that it is all: ${count} states`, !isAll && isLimited);
   }
