@@ -34,8 +34,8 @@ class Pieces:
     """The states of one kernel as tuples of small numbers.
 
     A state falls into pieces: each CPU, its trace, each thread, each lock with its block. Each different piece is kept once and has a number. A lock is kept as
-    who stands in its line, so that two states which differ only in how often a lock was taken are one. An endless search keeps a state without its history, that is
-    what no step reads: traces, which then have room without end, and the counts of effects and positions.
+    who stands in its line, so that two states which differ only in how often a lock was taken are one. An endless search keeps a state without its history,
+    that is what no step reads: traces, which then have room without end, and the counts of effects and positions.
     """
 
     def __init__(self, plan, wrong=None, is_endless=False):

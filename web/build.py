@@ -24,7 +24,8 @@ import kernel  # noqa: E402
 import record  # noqa: E402
 
 # The page's scripts, one behind the other; those of plans/ are of the pages of runs as well.
-NAMES = ("markup", "schedule", "program", "toml", "plan", "twin", "laws", "record", "judge", "where", "session", "ownlaw", "tables", "pieces", "moves", "states", "search", "beside", "finder", "player", "about", "page")
+NAMES = ("markup", "schedule", "program", "toml", "plan", "twin", "laws", "record", "judge", "where", "session", "ownlaw", "tables", "pieces",
+         "moves", "states", "search", "beside", "finder", "player", "about", "page")
 SCRIPTS = [ROOT / "plans/look.js", *(PARTS / f"{name}.js" for name in NAMES)]
 POLICY = "default-src 'none'; script-src {scripts} 'wasm-unsafe-eval'; worker-src blob:; style-src {styles}; base-uri 'none'; form-action 'none'"
 PROGRAM = re.compile(r'<script type="text/plain" id="packed">(.*?)</script>', re.S)

@@ -344,12 +344,14 @@ class Checks:
         self.browser.click("#lanes [data-go-to]")
         self.holds("its button goes there", self.at()[0], 25)
         self.holds("the link keeps both", "beside=1" in self.link(), True)
-        self.browser.read("(() => { const make = URL.createObjectURL; URL.createObjectURL = blob => { window.saved = blob.text(); return make.call(URL, blob); }; })()")
+        self.browser.read("(() => { const make = URL.createObjectURL; "
+                          "URL.createObjectURL = blob => { window.saved = blob.text(); return make.call(URL, blob); }; })()")
         self.browser.click("[data-panel=printedPanel]")
         self.browser.click("#savePicture")
         self.browser.wait("window.saved && window.saved.then(text => { window.picture = text; }) && window.picture")
-        picture = self.browser.read("(() => { const drawn = new DOMParser().parseFromString(window.picture, 'image/svg+xml').documentElement; return [drawn.tagName, "
-                                    "drawn.querySelectorAll('svg').length, [...drawn.querySelectorAll('.Running')].every(one => /^rgb/.test(one.getAttribute('fill')))]; })()")
+        picture = self.browser.read("(() => { const drawn = new DOMParser().parseFromString(window.picture, 'image/svg+xml').documentElement; "
+                                    "return [drawn.tagName, drawn.querySelectorAll('svg').length, "
+                                    "[...drawn.querySelectorAll('.Running')].every(one => /^rgb/.test(one.getAttribute('fill')))]; })()")
         self.holds("the picture has both runs with their colours", picture, ["svg", 2, True])
         self.open("#plan=newcomer&wrong=release-frees-the-lock&beside=1&schedule=0*5")
         self.holds("two runs that are the same so far", "so far both runs are the same" in self.text("#lanes"), True)
@@ -361,8 +363,10 @@ class Checks:
         """A law of the reader's own: refused, looked up in each state, searched for, and kept in the link."""
         self.open("#plan=two-receivers&wrong=other-side-only&schedule=0*13,1*13,2*43,1*6,0*23")
         self.browser.click("#order [data-panel=lawPanel]")
-        for law, words in [("b0.holdz = 1", "“b0.holdz”: behind b0. stands one of holds"), ("b7.holds = 1", "“b7”: this plan has b0 to b0"), ("b0.holds", "a condition is expected"),
-                           ("t0.place = inside", "these are not compared"), ("(quiet", "“)” is expected"), ("quiet; alert(1)", "“;” is no sign of a law"),
+        for law, words in [("b0.holdz = 1", "“b0.holdz”: behind b0. stands one of holds"), ("b7.holds = 1", "“b7”: this plan has b0 to b0"),
+                           ("b0.holds", "a condition is expected"),
+                           ("t0.place = inside", "these are not compared"), ("(quiet", "“)” is expected"),
+                           ("quiet; alert(1)", "“;” is no sign of a law"),
                            ("<img src=x> = 1", "a name or a number is expected")]:
             self.set_value("#lawText", repr(law))
             self.browser.click("#takeLaw")
@@ -385,7 +389,8 @@ class Checks:
     def targets(self):
         """What is pressed is at least 24 pixels high."""
         self.open(LOST)
-        low = "[...document.querySelectorAll('button, select, #schedule')].filter(one => one.checkVisibility() && !one.closest('td') && one.getBoundingClientRect().height < 24)"
+        low = ("[...document.querySelectorAll('button, select, #schedule')]"
+               ".filter(one => one.checkVisibility() && !one.closest('td') && one.getBoundingClientRect().height < 24)")
         self.holds("targets of 24 pixels", self.browser.read(f"{low}.map(one => one.id || one.textContent)"), [])
     def printed_beside(self):
         """In a lesson what is printed and judged is of the kernel that is shown, beside the proved one."""
@@ -427,7 +432,8 @@ class Checks:
                 self.browser.click(f"#{way}")
             self.browser.click("#search")
             self.browser.wait("document.querySelector('#found').textContent !== ''", 120)
-            self.holds("there is none", self.text("#found"), f"All states seen: no schedule, however long, breaks a law. These are all {count} states that are reached.")
+            self.holds("there is none", self.text("#found"),
+                       f"All states seen: no schedule, however long, breaks a law. These are all {count} states that are reached.")
             self.browser.click("#searchPanel [data-close]")
         self.set_plan(LOOPS)
         self.browser.click("[data-panel=searchPanel]")
@@ -469,7 +475,8 @@ class Checks:
 
     def contrast(self):
         """Each text can be read: in runs, in a broken kernel, at a refusal, in each panel."""
-        for link in ("", "#step=24", "#plan=two-receivers&step=85", LOST, f"{LOST}&beside=1&law=b0.holds%20%3D%200", "#plan=ledger&step=400", "#plan=handed-over&step=40", "#schedule=0*13,7*2"):
+        for link in ("", "#step=24", "#plan=two-receivers&step=85", LOST, f"{LOST}&beside=1&law=b0.holds%20%3D%200", "#plan=ledger&step=400",
+                     "#plan=handed-over&step=40", "#schedule=0*13,7*2"):
             self.open(link)
             self.holds(f"contrast at {link}", self.browser.read(CONTRAST), [])
         for panel in PANELS:
@@ -541,7 +548,8 @@ def looked_at(make, page, folder):
     try:
         with tempfile.TemporaryDirectory() as room:
             for look in (checks.first_look, checks.steps, checks.to_the_end, checks.play, checks.links, checks.choose, checks.schedules, checks.plans,
-                         checks.judge, checks.lessons, checks.grades, checks.beside, checks.laws, checks.printed_beside, checks.searches, checks.targets, checks.looks, checks.sizes, checks.contrast, checks.labels,
+                         checks.judge, checks.lessons, checks.grades, checks.beside, checks.laws, checks.printed_beside, checks.searches,
+                         checks.targets, checks.looks, checks.sizes, checks.contrast, checks.labels,
                          checks.times, checks.is_clean):
                 look()
             if folder:

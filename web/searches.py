@@ -5,7 +5,8 @@
 
 A line has the plan, the mistake, and what is found in three ways: by steps, by whole sections, and by whole sections without history. Of the first two it tells
 how many states there are (or were looked at, up to a limit), the moves between them, the distance of the farthest, and each law that is broken with a shortest
-schedule and why; of each a shortest schedule to a deadlock with the states that were looked at, and whether these are all. A mistake of a lock has the first way alone.
+schedule and why; of each a shortest schedule to a deadlock with the states that were looked at, and whether these are all. A mistake of a lock has the first
+way alone.
 """
 import json
 import sys
