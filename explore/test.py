@@ -221,7 +221,8 @@ def answers(tally):
 
 
 def breaches(tally):
-    """Each mistake breaks a law by a schedule that is as short by whole sections, without history and by single steps, and that plans/kernel.py breaks it by."""
+    """Each mistake breaks a law by a schedule that is as short by whole sections, without history and by single steps, and by which plans/kernel.py breaks
+    it too."""
     for mistake, name in BREAKS.items():
         path, lengths = ROOT / f"{name}.toml", set()
         ways = (["--steps"], [], ["--endless"]) if mistake != "look-always-hits" else (["--steps"],)
@@ -272,7 +273,8 @@ def refusals(tally):
 def changed(text, choose):
     """A text in which a piece is left out, doubled, or replaced."""
     at, size = choose.randrange(len(text)), choose.choice((1, 1, 2, 5, 20))
-    piece = choose.choice(("", text[at:at + size] * 2, choose.choice("[]{}=\"'\\,.#\n 0_xeT:-+"), "\n[a.b]\n", "\nx.y = {z = 1979-05-27T07:32:00Z}\n", '"""', "1e5"))
+    signs = choose.choice("[]{}=\"'\\,.#\n 0_xeT:-+")
+    piece = choose.choice(("", text[at:at + size] * 2, signs, "\n[a.b]\n", "\nx.y = {z = 1979-05-27T07:32:00Z}\n", '"""', "1e5"))
     return text[:at] + piece + text[at + size:]
 
 

@@ -575,7 +575,7 @@ source_row 'who stands on crossbeam_utils' cpu_workers "$(sed -nE 's/^([a-z_]+):
 source_row 'who names it' cpu_workers "$(grep -rlw --include='*.rt' crossbeam_utils crates/*/src | cut -d/ -f2 | sort -u)"
 source_row 'who says of what kind a counted lock is' 'mctower/src/locks/kinds.rt: impl<L: OwnedLocks<AddOne>> LockOfKind<L> for KindOf' \
   "$(cd crates && find . -path '*/src/*' -name '*.rt' -exec grep -HE '\<LockOfKind<.*> *for\>|^ *LockOfKind<.*>$' {} + | sed -e 's|^\./||' -e 's/:/: /')"
-source_row 'lines of more than 160 columns' '' "$(too_long .ci bench crates metal plans tests tools web)"
+source_row 'lines of more than 160 columns' '' "$(too_long .ci bench crates explore metal plans tests tools web)"
 
 echo "edge: $passed passed, $failed failed"
 [ "$failed" = 0 ]
