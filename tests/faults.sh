@@ -173,7 +173,7 @@ command 0 no no /dev/null count --cpus 1 --times 5 --lock ticket
 command 0 no no /dev/null count --cpus 2 --times 3
 command 2 no no /dev/null count --cpus 17 --times 3
 command 2 no no /dev/null run --scedule '0*21'
-command 0 no no /dev/null check --help
+command 2 no no /dev/null check --help
 command 0 yes no plans/one-send.toml run --schedule '0*21'
 command 2 no no plans/one-send.toml run --schedule '0*'
 command 0 yes no "$room/yes.txt" check
