@@ -6,9 +6,10 @@ ghost use Rattle.cpu_workers.specs.Idling.{spins_left};
 use std::thread;
 
 // How often a worker looks at a lock before it lets other threads run: with more threads than
-// processors, the one whose turn it is may not be running. So many looks take about as long as a
-// change of threads.
-pub(crate) const SPINS: u16 = 1000;
+// processors, the one whose turn it is may not be running. So many looks take about fifty changes of
+// threads: whoever lets others run sooner lets a line grow of threads that do not run, and then each
+// section waits for a change of threads.
+pub(crate) const SPINS: u16 = 10_000;
 
 // Lets other threads run where a worker's section is under way and no spins are left, and after each
 // turn that left its CPU idle: an idle CPU is nearly always inside its own queue's section, and where

@@ -32,6 +32,7 @@ use std::thread::Threads;
 use tracer::{InputFault, Sink, Verdict, check_input};
 
 /// Counts over both machines with locks of this kind, and prints `plain T` and `table T`.
+#[inline(never)]
 fn serve_count<O: Write, T: Threads + Wait + Sync>(
     rt: &T,
     alloc: Global,
@@ -105,6 +106,7 @@ fn check_refused(fault: InputFault) -> Refusal
 }
 
 /// Judges the input as it is read, and prints the verdict.
+#[inline(never)]
 fn serve_check<R: Read, O: Write>(
     alloc: Global,
     input: &mut R,
@@ -152,6 +154,7 @@ fn run_bytes<O: Write>(
 }
 
 /// Runs the plan on the input under a schedule's steps.
+#[inline(never)]
 fn serve_run<R: Read, O: Write>(
     alloc: Global,
     steps: &[CpuId],

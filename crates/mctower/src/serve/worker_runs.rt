@@ -132,6 +132,7 @@ fn work_bytes<O: Write, T: Threads + Wait + Sync>(
 /// Errors: `NoMemory` and `ReadFault` where the input could not be read; what refuses the plan;
 /// `NoMemory` and `NoThread` where no worker took a step; `WriteFault` where the sink failed, and
 /// then a beginning of the text is out. Before any other error nothing was written.
+#[inline(never)]
 pub fn serve_threads<R: Read, O: Write, T: Threads + Wait + Sync>(
     rt: &T,
     alloc: Global,
