@@ -34,7 +34,7 @@ use Rattle.thread_blocks.proofs.queues.ThreadQueue.TheSendSync.{the_sync as queu
 use Rattle.fifo_buffer.specs.contracts.{call_state_table.CallStates.{the_row as call_states_row, the_type as call_states_type}, fifo.Fifo.the_row as fifo_row}
 use Rattle.{fifo_buffer.specs.contracts.fifo.Fifo.the_type as fifo_type, spinlock.specs.contracts.spin_lock.SpinLock.the_row as spin_lock_row}
 use Rattle.spinlock.{specs.contracts.spin_lock.SpinLock.the_type as spin_lock_type, proofs.stages.TicketPhase.TheSendSync.the_send as ticket_phase_send}
-use Rattle.cpu_workers.specs.contracts.workers.seats.TowerSeat.{the_row as seat_row, TheInside.the_type as inside_type}
+use Rattle.cpu_workers.{specs.contracts.workers.seats.TowerSeat.{the_row as seat_row, TheInside.the_type as inside_type}, proofs.bells.Bells.TheSendSync.the_sync as bells_sync}
 
 deferred_send : (E A : RattleType) → IsSend A → IsSend (deferred_row E A)
 deferred_send E A s = declared_send (deferred_type E A)
@@ -122,7 +122,7 @@ tower_seat_send a K k = view_send _ _ _ _ _ (declared_send (inside_type a K k) (
     told = queue_told (nested_told (lock_told (cv_told buffer_told)));
   }) _
       tower_block_send tower_block_sync,
-  tt,
+  (search (sendable, crosses, bells_sync) depth 9, tt),
 ))
 
 -- and so does a lock over it

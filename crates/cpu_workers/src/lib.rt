@@ -13,6 +13,7 @@
 //! ```
 #![tactic(auto)]
 
+mod bells;
 pub mod counting;
 mod laws;
 pub mod locks;

@@ -6,6 +6,7 @@ ghost use Rattle.{event_log.specs.{declared.ids.TheConstants.{BUFFERS, CPUS, THR
 ghost use Rattle.{layer_traits.specs.Views.Openings.AreOpenable, table_machine.specs.SeatViews.{ClosesTable, Covers, IsOver, new_seat_views}};
 ghost use Rattle.cpu_workers.specs.{Closing.tower_rules, Natives.{HaveLeftKeys, HaveRun, OpensWith, left_among, own_homes}};
 
+use crate::bells::Bells;
 use crate::natives::Native;
 use crate::natives::seating::{LeftNative, call_over};
 use crate::refusals::WorkerError;
@@ -105,7 +106,8 @@ fn call_tickets<N: Native + Drop + Send, R: Threads + Wait + Sync>(
     ensures { IfOk result (λ b. HaveLeftKeys N.Kept caps.now shared.now natives.items b.natives.items b.keys.items) }
 {
     let back = NativeBack::with_capacity(alloc, natives.len())?;
-    let seats = seats_at(alloc, shared, keys)?;
+    let bells = Bells::new(alloc, natives.len())?;
+    let seats = seats_at(alloc, shared, &bells, keys)?;
     let _laws: TowerLockLaws = PhantomData;
     let left = call_over::<Ticket<TowerSeat<'_, TicketWords>>, N, R>(
         rt, alloc, caps, homes, seats, natives,

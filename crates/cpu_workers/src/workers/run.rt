@@ -6,6 +6,7 @@ ghost use Rattle.{layer_traits.specs.Protocols.OneLock.{AreDistinct, opened}, ta
 ghost use Rattle.{table_machine.specs.SeatViews.new_seat_views, boot.specs.Plan.IsPlan, cpu.specs.Sound.setup_for, cpu_workers.specs.Closing.shown};
 ghost use Rattle.cpu_workers.specs.{Closing.tower_rules, Lawful.IsLawfulReport, Logs.HasWords, ReportRuns.IsReportOfRun, Seating.{HaveLeft, OpensPlan}};
 
+use crate::bells::Bells;
 use crate::by_kind;
 use crate::locks::PlanWords;
 use crate::refusals::WorkerError;
@@ -56,6 +57,7 @@ impl<E: SplitEdit> Back<E> {
 pub(crate) fn seats_at<'a, K: TableWords>(
     alloc: Global,
     shared: &'a Shared<TowerEdit, K>,
+    bells: &'a Bells,
     keys: Vec<Key<TowerEdit>>,
 ) -> Result<Vec<TowerSeat<'a, K>>, AllocError>
     requires { All (IsOf shared.now) keys.items }
@@ -63,7 +65,7 @@ pub(crate) fn seats_at<'a, K: TableWords>(
 {
     let mut seats = Vec::with_capacity(alloc, keys.len())?;
     for key in keys {
-        let seat = TowerSeat::new(shared, key);
+        let seat = TowerSeat::new(shared, bells, key);
         seats.push_reserved(seat);
     }
     Ok(seats)
@@ -127,7 +129,8 @@ fn run_tickets<K: PlanWords + Sync, G: Gate + Sync, R: Threads + Wait + Sync>(
         b.stops.items) }
 {
     let back = Back::with_capacity(alloc, boot.cpus() as usize)?;
-    let seats = seats_at(alloc, shared, keys)?;
+    let bells = Bells::new(alloc, 0)?;
+    let seats = seats_at(alloc, shared, &bells, keys)?;
     let _laws: TowerLockLaws = PhantomData;
     let left = run_over::<Ticket<TowerSeat<'_, K>>, G, R>(rt, alloc, boot, turns, gate, seats)?;
     Ok(parted(left, back))

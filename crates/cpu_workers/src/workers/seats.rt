@@ -3,11 +3,13 @@
 ghost use Rattle.std.specs.Prelude.{◌≡◌};
 ghost use Rattle.table_machine.specs.SeatViews.{IsOf};
 
+use crate::bells::Bells;
 use crate::workers::hints::Hints;
-use event_log::{BufId, CpuId, LockId};
+use event_log::{BufId, CpuId, LockId, Tid};
 use ipc_calls::{TowerBlock, TowerEdit, TowerHanded};
 use layer_traits::{Mark, Words};
 use std::marker::Model;
+use std::sync::Wait;
 use table_machine::{Key, Seat, Shared, TableWords};
 
 /// How many turns a worker at a seat takes at once, at most: so long an idle CPU may keep its processor.
@@ -18,6 +20,7 @@ pub(crate) const STRETCH: usize = 16;
 #[derive(Drop)]
 pub(crate) struct TowerSeat<'a, K: TableWords> {
     seat: Seat<'a, TowerEdit, K>,
+    bells: &'a Bells,
 }
 
 impl<'a, K: TableWords> Model for TowerSeat<'a, K> {
@@ -30,12 +33,17 @@ impl<'a, K: TableWords> Model for TowerSeat<'a, K> {
 
 impl<'a, K: TableWords> TowerSeat<'a, K> {
     // Takes the seat of the key's CPU. The key is one of this table.
-    pub(crate) fn new(shared: &'a Shared<TowerEdit, K>, key: Key<TowerEdit>) -> TowerSeat<'a, K>
+    pub(crate) fn new(
+        shared: &'a Shared<TowerEdit, K>,
+        bells: &'a Bells,
+        key: Key<TowerEdit>,
+    ) -> TowerSeat<'a, K>
         requires { IsOf shared.now key }
         ensures { result ≡ key }
     {
         TowerSeat {
             seat: shared.seat(key),
+            bells,
         }
     }
 
@@ -43,7 +51,7 @@ impl<'a, K: TableWords> TowerSeat<'a, K> {
     pub(crate) fn back(self) -> Key<TowerEdit>
         ensures { result ≡ self.entry }
     {
-        let TowerSeat { seat } = self;
+        let TowerSeat { seat, bells: _ } = self;
         seat.back()
     }
 }
@@ -97,5 +105,18 @@ impl<'a, K: TableWords> Words for TowerSeat<'a, K> {
 impl<'a, K: TableWords> Hints for TowerSeat<'a, K> {
     fn next_hint(&self, buffer: BufId) -> u64 {
         self.seat.table().next_hint(LockId::Buffer(buffer))
+    }
+
+    #[inline(always)]
+    fn rings(&self, t: Tid) -> u64 {
+        self.bells.rings(usize::from(t.0))
+    }
+
+    fn ring(&self, t: Tid) {
+        self.bells.ring(usize::from(t.0));
+    }
+
+    fn rest<R: Wait>(&self, rt: &R, t: Tid, rung: u64) {
+        self.bells.rest(rt, usize::from(t.0), rung);
     }
 }
