@@ -26,3 +26,4 @@ pub mod TableTraces
 pub mod ThreadsFollow
 pub mod NativeRuns
 pub mod TowerOpening
+pub mod Implied

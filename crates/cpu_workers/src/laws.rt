@@ -21,6 +21,11 @@ pub fn actions_let_order_go_on()
     ensures { ActionsLetOrderGoOn }
 {}
 
+/// What fronts keep follows from what actions do.
+pub fn fronts_by_actions()
+    ensures { ActionsLetOrderGoOn → FrontsKeepOrder }
+{}
+
 /// Of two fronts of one list of atomic steps: the order of the calls at the later one is that at the
 /// earlier one and then more, none of which is of a thread that took no step in between. So a call that
 /// took effect by the earlier one comes before each that did so later.
