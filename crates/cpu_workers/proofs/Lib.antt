@@ -27,3 +27,4 @@ pub mod ThreadsFollow
 pub mod NativeRuns
 pub mod TowerOpening
 pub mod Implied
+pub mod RealTime

@@ -15,3 +15,4 @@ pub mod Counts
 pub mod Calls
 pub mod Callers
 pub mod Natives
+pub mod RealTime

@@ -2,6 +2,7 @@
 //! nothing, so that the law is proved with the crate.
 
 ghost use Rattle.cpu_workers.specs.{Closing.ReportsAreLawful, Laws.ActionsLetOrderGoOn, Laws.FrontsKeepOrder};
+ghost use Rattle.cpu_workers.specs.RealTime.{ReturnedComeFirst};
 ghost use Rattle.cpu_workers.specs.{Laws.StopsAreTrue, Laws.WorkersLoseNoWakeUp, ReportRuns.ReportsAreRuns};
 
 use crate::workers::Gate;
@@ -31,6 +32,12 @@ pub fn fronts_by_actions()
 /// took effect by the earlier one comes before each that did so later.
 pub fn fronts_keep_order()
     ensures { FrontsKeepOrder }
+{}
+
+/// Real time: at each front of linearizable actions, a call that has returned stands in the order before each
+/// that has not begun.
+pub fn returned_come_first()
+    ensures { ReturnedComeFirst }
 {}
 
 /// A worker stops with `AllEnded` only where each thread at home on its CPU has ended, and with
