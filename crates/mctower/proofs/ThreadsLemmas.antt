@@ -8,6 +8,7 @@ use Rattle.{cpu_workers.specs.Lawful.{CpuReport, ShownReport, ReportsTrue, left_
 use Rattle.mctower.specs.{declared.{run.run_faults.Fault.Fault, serve.outcomes.Done.{Done, TheVariants.Worked}}, Output.Output, Refusals.from_fault}
 use Rattle.mctower.specs.{Refusals.lacks_memory, Serve.{OfPlan, RefusedBy, WorksPlan}, Texts.{HaveText, IsOut, IsTextOf, Writes}, Threads.IsWorkedPlan}
 use Rattle.mctower.{specs.Threads.AlwaysOpen, proofs.{RunningLemmas.all_put, ThreadsAreRuns.printed_by_run}}
+use Rattle.cpu_workers.specs.Logs.{HasWords}
 use Rattle.mctower.specs.declared.run.run_faults.Fault.TheVariants as run
 
 -- what is so for a plan that was read
@@ -42,44 +43,44 @@ report_has plan turns r within lawful = record {
         (one.0, cc (known, at), one.2)
 
 -- the plan's workers have run, and this is their text
-has_worked : (turns : ℕ) (plan : BootPlan) (r : ShownReport) (stops : Vec Stop Global) (text : List ℕ) → IsLawfulReport (setup_for plan) AlwaysOpen turns r
+has_worked : (turns : ℕ) (plan : BootPlan) (r : ShownReport) (stops : Vec Stop Global) (text : List ℕ) → HasWords plan AlwaysOpen turns r
     → stops.items ≡ r.stops → IsTextOf plan.caps r.traces (left_in (length plan.caps) r) text → IsWorkedPlan plan turns stops.items text
-has_worked turns plan r stops text lawful same is = record {
+has_worked turns plan r stops text words same is = record {
   report = r;
-  lawful = lawful;
+  words = words;
   stops_are = same;
   is = is;
   fifo = taken_put plan.caps is.order (left_in (length plan.caps) r) is.run;
-  in_time = orders_agree r.traces is.order lawful.report.order is.keeps
-      (lawful.report.keeps, op_order_from plan.caps [] (empty_buffers plan.caps) lawful.report.order (left_in (length plan.caps) r) lawful.report.run);
-  is_run = printed_by_run plan turns r lawful text is;
+  in_time = orders_agree r.traces is.order words.tells.report.report.order is.keeps
+      (words.tells.report.report.keeps, op_order_from plan.caps [] (empty_buffers plan.caps) words.tells.report.report.order (left_in (length plan.caps) r) words.tells.report.report.run);
+  is_run = printed_by_run plan turns r words.tells.report text is;
 }
 
 -- the plan's workers have run, their text is out, and nothing more was put out behind it
 pub plan_worked : (turns : ℕ) (plan : BootPlan) (r : ShownReport) (stops : Vec Stop Global) (answer : Result Done Refusal) (first whole : Output)
-    → IsLawfulReport (setup_for plan) AlwaysOpen turns r → stops.items ≡ r.stops
+    → HasWords plan AlwaysOpen turns r → stops.items ≡ r.stops
     → (first.failed ≡ false) × IsOut plan.caps r.traces (left_in (length plan.caps) r) first
     → answer ≡ (if whole.failed then Err WriteFault else Ok (Worked stops)) → Outs whole.failed first.new whole.new [] → first.old ≡ whole.old
     → (whole.failed ≡ false → whole.flushed ≡ true) → WorksPlan turns plan answer whole
-plan_worked turns plan r stops answer first whole lawful same writes given more old passed_on =
+plan_worked turns plan r stops answer first whole words same writes given more old passed_on =
     let trace = writes.1.text in
     inr (record {
       stops = stops;
       trace = trace;
-      worked = has_worked turns plan r stops trace lawful same writes.1.is;
+      worked = has_worked turns plan r stops trace words same writes.1.is;
       put = (given, (all_put first whole trace writes.0 writes.1.out more old, passed_on));
     })
 
 -- their text could not be written
 pub not_written : (A : Type 0) (turns : ℕ) (plan : BootPlan) (r : ShownReport) (stops : Vec Stop Global) (fault : Fault) (refusal : Refusal) (out : Output)
-    → IsLawfulReport (setup_for plan) AlwaysOpen turns r → stops.items ≡ r.stops
+    → HasWords plan AlwaysOpen turns r → stops.items ≡ r.stops
     → Writes {A = A} plan.caps r.traces (left_in (length plan.caps) r) (Err fault) out → refusal ≡ from_fault fault
     → RefusedBy lacks_memory (Err refusal) out ⊎ WorksPlan turns plan (Err refusal) out
-not_written A turns plan r stops (run.NoMemory refused) refusal out lawful same writes is = inl (ap Err is, writes)
-not_written A turns plan r stops run.WriteFault refusal out lawful same writes is = inr (inr (record {
+not_written A turns plan r stops (run.NoMemory refused) refusal out words same writes is = inl (ap Err is, writes)
+not_written A turns plan r stops run.WriteFault refusal out words same writes is = inr (inr (record {
   stops = stops;
   trace = writes.1.text;
-  worked = has_worked turns plan r stops writes.1.text lawful same writes.1.is;
+  worked = has_worked turns plan r stops writes.1.text words same writes.1.is;
   put = (ap Err is ∙ (rw writes.0), (writes.1.out, λ live. refuted live writes.0));
 }))
-not_written A turns plan r stops other refusal out lawful same writes is = absurd writes
+not_written A turns plan r stops other refusal out words same writes is = absurd writes

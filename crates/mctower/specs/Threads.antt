@@ -3,6 +3,7 @@ use Rattle.std.specs.{Prelude.{◌≡◌, ℕ, List, codes, length}, List.flat_m
 use Rattle.{event_log.specs.{declared.ids.CpuId.CpuId, Streams.IsFirstInFirstOut}, tracer.specs.{Gather.on_buffer, TraceText.{text_line, numbered}}}
 use Rattle.{boot.specs.Plan.BootPlan, cpu.specs.Sound.setup_for, cpu_workers.specs.declared.workers.{gates.Go.{Go, TheVariants.Pass}, stops.Stop.Stop}}
 use Rattle.cpu_workers.specs.{declared.workers.stops.Stop.TheVariants.{AllEnded, TurnsUsed, TraceFull, Held}, Lawful.{IsLawfulReport, ShownReport, left_in}}
+use Rattle.cpu_workers.specs.Logs.{HasWords}
 use Rattle.mctower.specs.{Running.AreCpus, StateLines.cpu_pieces, Tabled.IsTextOfRun, Texts.IsTextOf}
 
 -- the word for a stop
@@ -30,16 +31,17 @@ pub record IsPrintedByRun (plan : BootPlan) (text : List ℕ) : Type 0 where
   pub known : AreCpus plan.cpus schedule
   pub is : IsTextOfRun plan schedule text
 
--- The workers of a plan have run, each for so many turns: they left a lawful report, these are its stops, and this is the text of the plan's
--- capacities, of the report's traces and of what its buffers hold; in the order that it tells, for each buffer what was put is what was taken, in
--- that order, and then what is left; in it the calls of each buffer stand as they took effect; and a run of the plan prints the same.
+-- The workers of a plan have run, each for so many turns: they left a lawful report, that of one words log, by whose actions their calls are
+-- linearizable; these are its stops, and this is the text of the plan's capacities, of the report's traces and of what its buffers hold; in the order
+-- that it tells, for each buffer what was put is what was taken, in that order, and then what is left; in it the calls of each buffer stand as they
+-- took effect, by the frees of that log; and a run of the plan prints the same.
 pub record IsWorkedPlan (plan : BootPlan) (turns : ℕ) (stops : List Stop) (text : List ℕ) : Type 0 where
   pub report : ShownReport
-  pub lawful : IsLawfulReport (setup_for plan) AlwaysOpen turns report
+  pub words : HasWords plan AlwaysOpen turns report
   pub stops_are : stops ≡ report.stops
   pub is : IsTextOf plan.caps report.traces (left_in (length plan.caps) report) text
   pub fifo : IsFirstInFirstOut is.order (left_in (length plan.caps) report)
-  pub in_time : (b : ℕ) → on_buffer b is.order ≡ on_buffer b lawful.report.order
+  pub in_time : (b : ℕ) → on_buffer b is.order ≡ on_buffer b words.tells.report.report.order
   pub is_run : IsPrintedByRun plan text
 
 -- what the workers of a plan print, a run of the plan prints under some schedule, however their actions came between one another

@@ -11,7 +11,7 @@ write_lists-requires-clause-text g c =
     ∙ ap (λ (n : ℕ). listed (λ b. items_of_block c.in-Ok-run_workers.report.blocks.items (buffer_at b)) 0 n)
     (c.len.ensures.value ∙ ap length c.caps-caps.ensures.caps) in
     subst (λ x. x) (λ i. HaveText (sym caps i) (sym traces i) (sym left i))
-    (report_has c.in-Ok.boot c.args.turns _ c.in-Ok.ensures.within c.in-Ok-run_workers.ensures.lawful)
+    (report_has c.in-Ok.boot c.args.turns _ c.in-Ok.ensures.within c.in-Ok-run_workers.ensures.words.tells.report)
 
 pub returns-in-Err-write_lists-clause-works : goal.returns-in-Err-write_lists-clause-works
 returns-in-Err-write_lists-clause-works g c =
@@ -21,7 +21,7 @@ returns-in-Err-write_lists-clause-works g c =
     ∙ ap (λ (n : ℕ). listed (λ b. items_of_block c.in-Ok-run_workers.report.blocks.items (buffer_at b)) 0 n)
     (c.len.ensures.value ∙ ap length c.caps-caps.ensures.caps) in
     of_read (WorksPlan c.args.turns) c.in-Ok.boot (plan_of c.args.plan.now) _ _ c.in-Ok.ensures.plan
-    (not_written (Unit {0}) c.args.turns c.in-Ok.boot _ c.in-Ok-run_workers.report.stops c.in-Err-write_lists.fault _ _ c.in-Ok-run_workers.ensures.lawful refl
+    (not_written (Unit {0}) c.args.turns c.in-Ok.boot _ c.in-Ok-run_workers.report.stops c.in-Err-write_lists.fault _ _ c.in-Ok-run_workers.ensures.words refl
     (subst (λ x. x) (λ i. Writes {A = Unit {0}} (caps i) (traces i) (left i) (Err c.in-Err-write_lists.fault)
     (between g.O.Write.contents c.args.out.now c.write_lists.new.sink)) c.in-Err-write_lists.ensures) c.run_refused-in-Err-write_lists.ensures)
 
@@ -34,7 +34,7 @@ returns-clause-works g c =
     (c.len.ensures.value ∙ ap length c.caps-caps.ensures.caps) in
     of_read (WorksPlan c.args.turns) c.in-Ok.boot (plan_of c.args.plan.now) _ _ c.in-Ok.ensures.plan (inr
     (plan_worked c.args.turns c.in-Ok.boot _ c.into_parts-traces.result.1 c.put_out.result (between g.O.Write.contents c.args.out.now c.write_lists.new.sink)
-    (between g.O.Write.contents c.args.out.now c.put_out.new.out) c.in-Ok-run_workers.ensures.lawful (ap (λ v. v.items) c.into_parts-traces.ensures.stops)
+    (between g.O.Write.contents c.args.out.now c.put_out.new.out) c.in-Ok-run_workers.ensures.words (ap (λ v. v.items) c.into_parts-traces.ensures.stops)
     (subst (λ x. x) (λ i. Writes {A = Unit {0}} (caps i) (traces i) (left i) (Ok c.in_default.field-0)
     (between g.O.Write.contents c.args.out.now c.write_lists.new.sink)) c.in_default.ensures)
     c.put_out.ensures.put.0 c.put_out.ensures.put.1.0 refl c.put_out.ensures.put.1.1))
