@@ -10,3 +10,4 @@ mod RunningLemmas
 mod ThreadsAreRuns
 mod ThreadsLemmas
 mod Unguarded
+pub mod HistoryLemmas

@@ -15,3 +15,4 @@ pub mod Threads
 pub mod State
 pub mod Tabled
 pub mod Refusals
+pub mod Histories

@@ -4,7 +4,7 @@
 ghost use Rattle.std.specs.Prelude.{◌≡◌, ◌≤◌, ◌⊎◌, IfOk, None, false, true, length, map, option_map, string_bytes};
 ghost use Rattle.{event_log.specs.declared.ids.TheConstants.CPUS, tracer.specs.Sinks.{has_failed, is_flushed}, mctower.specs.{Output.between, Line.order_of}};
 ghost use Rattle.mctower.specs.{Schedule.ReadsSteps, Serve.{Checks, Counts, Ends, OfBytes, OfInput, PutsAnswer, ServesPlan, Serves}};
-ghost use Rattle.mctower.specs.Serve.{PrintsVerdict, fault_refused, reads_input, steps_asked};
+ghost use Rattle.mctower.specs.{Histories.TextsAreHistories, Serve.{PrintsVerdict, fault_refused, reads_input, steps_asked}};
 
 pub mod outcomes;
 pub mod worker_runs;
@@ -201,6 +201,12 @@ fn serve_no_order<O: Write>(
         Err(refused) => Err(Refusal::NoMemory(refused)),
     }
 }
+
+/// A law: each text that `run` or `threads` prints is a history of the plan, by first-in first-out buffers and
+/// programs alone: one order of calls, in which each thread does those of its program, on its home.
+pub fn texts_are_histories()
+    ensures { TextsAreHistories }
+{}
 
 /// Does what the words order, and gives what is done. Nothing is told on standard error.
 fn answer<R: Read, O: Write, T: Threads + Wait + Sync>(
