@@ -11,7 +11,7 @@ mod tables;
 mod tasks;
 
 pub use crate::refusals::WorkerError as CountFault;
-pub use counted::{Counted, LockOfKind, number_in, number_left};
+pub use counted::{Counted, CountedAt, LockOfKind, number_in, number_left};
 use event_log::{BufId, LockId};
 use layer_traits::{Edit, LockLaw, Payload, SectionOf, SplitEdit};
 use std::marker::PhantomData;

@@ -13,6 +13,7 @@ use Rattle.mctower.specs.{declared.{serve.outcomes.Done.{Done, TheVariants.{Exit
 use Rattle.mctower.specs.{Running.{IsRunOf, NoCondition}, Faults.{IsFault, IsWhy}, Help.{help_of, topic_of}, State.{IsStateOf, text_of_state}}
 use Rattle.{mctower.specs.{Schedule.steps_of, Tabled.{IsStateOfRun, IsTextOfRun}, Texts.IsTextOf, Threads.{IsWorkedPlan, stop_text}}, cpu.specs.Claims.Shown}
 use Rattle.{cpu.specs.Claims.traces_of, cpu_workers.specs.declared.{workers.stops.Stop.Stop, counting.counted.Counted.Counted}}
+use Rattle.cpu_workers.specs.declared.counting.counted.CountedAt.{CountedAt, TheVariants.{Machine, Table}}
 use Rattle.tracer.specs.declared.verdicts.Verdict.TheVariants as verdict
 use Rattle.tracer.specs.Reasons as reasons
 use Rattle.tracer.specs.declared.checking.InputFault.TheVariants as unjudged
@@ -65,15 +66,15 @@ ReadsAll input (Err refusal) = (kind : ErrorKind) × (refusal ≡ kind_refused k
 abbrev pub count_lines : ℕ → List ℕ
 count_lines number = codes "plain " ++ (decimal number ++ (codes "\ntable " ++ (decimal number ++ 10 ∷ [])))
 
--- so many CPUs counted, so many sections each, behind locks of this kind
-abbrev pub IsCount : ℕ → ℕ → LockKind → Counted → Type 0
-IsCount cpus times lock counted = (counted.cpus ≡ cpus) × (counted.times ≡ times) × (counted.lock ≡ lock)
+-- so many CPUs counted, so many sections each, behind locks of this kind, on such a machine
+abbrev pub IsCount : ℕ → ℕ → LockKind → CountedAt → Counted → Type 0
+IsCount cpus times lock at counted = (counted.cpus ≡ cpus) × (counted.times ≡ times) × (counted.lock ≡ lock) × (counted.at ≡ at)
 
 -- Both machines counted so, and their number is printed; what counted is what is done. Or the order is refused for want of memory or of a thread.
 abbrev pub Counts : ℕ → ℕ → LockKind → Result Done Refusal → Output → Type 0
 Counts cpus times lock answer out = RefusedBy lacks_memory answer out
     ⊎ (RefusedBy lacks_thread answer out
-    ⊎ ((plain : Counted) × (table : Counted) × IsCount cpus times lock plain × IsCount cpus times lock table
+    ⊎ ((plain : Counted) × (table : Counted) × IsCount cpus times lock Machine plain × IsCount cpus times lock Table table
     × Puts (BothCounted plain table) (count_lines (times * cpus)) answer out))
 
 -- ---- check

@@ -3,6 +3,7 @@
 
 ghost use Rattle.std.specs.Prelude.{◌≡◌, ◌*◌, ◌%◌, ◌^◌, ◌<◌, ◌≤◌, Some, [], ◌∷◌};
 ghost use Rattle.{event_log.specs.{declared.ids.{CpuId.CpuId, TheConstants.CPUS}, Actions.{gives, phase, Rests}}, table_machine.specs.SeatViews.new_seat_views};
+ghost use Rattle.cpu_workers.specs.declared.counting.counted.CountedAt.TheVariants.{Machine as AtMachine, Table as AtTable};
 ghost use Rattle.cpu_workers.specs.Counts.{AllHaveMade, IsNumberOfFrees, after_rounds, counting};
 
 use crate::counting::{AddOne, NUMBER};
@@ -20,6 +21,15 @@ pub trait LockOfKind<L> {
     ghost lock_kind: { LockKind };
 }
 
+/// Where a number was counted.
+#[derive(Clone, Copy, Debug, PartialEq, Eq)]
+pub enum CountedAt {
+    /// In an owned machine.
+    Machine,
+    /// At a table of shared words.
+    Table,
+}
+
 /// A number that was counted behind locks of this kind: how often a lock was given on, where each of
 /// so many CPUs did so many sections. [`number_in`] makes it of an owned machine, and [`number_left`]
 /// of a closed table whose CPUs counted each in a thread of its own. Of a table at which nothing was
@@ -30,6 +40,7 @@ pub struct Counted {
     lock: LockKind,
     cpus: u8,
     times: u64,
+    at: CountedAt,
 }
 
 impl Counted {
@@ -83,12 +94,14 @@ pub fn number_in<L: OwnedLocks<AddOne>, V: LockOfKind<L>>(
     ensures lock { result.lock ≡ lock }
     ensures cpus { result.cpus ≡ cpus }
     ensures times { result.times ≡ times }
+    ensures at { result.at ≡ AtMachine }
 {
     Counted {
         number: *L::block_in(machine, NUMBER).unwrap(),
         lock,
         cpus,
         times,
+        at: CountedAt::Machine,
     }
 }
 
@@ -109,6 +122,7 @@ fn closed<K: PlanWords>(
     ensures lock { result.lock ≡ K.lock_kind }
     ensures all { result.cpus ≡ cpus }
     ensures times { result.times ≡ times }
+    ensures at { result.at ≡ AtTable }
 {
     let blocks = shared.close(keys);
     Counted {
@@ -116,6 +130,7 @@ fn closed<K: PlanWords>(
         lock: K::kind(),
         cpus,
         times,
+        at: CountedAt::Table,
     }
 }
 
@@ -141,6 +156,7 @@ pub fn number_left<K: PlanWords>(
     ensures lock { result.lock ≡ K.lock_kind }
     ensures all { result.cpus ≡ cpus }
     ensures times { result.times ≡ times }
+    ensures at { result.at ≡ AtTable }
 {
     closed(shared, came.into_done(), cpus, times)
 }

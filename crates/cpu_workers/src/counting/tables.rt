@@ -3,6 +3,7 @@
 
 ghost use Rattle.std.specs.Prelude.{◌≡◌, ◌*◌, ◌<◌, ◌≤◌, ◌^◌, ◌⊎◌, [], ◌∷◌, IsErr, IsSome, IfOk, IfErr, IfSome, OnErr};
 ghost use Rattle.{event_log.specs.Refusals.no_memory, table_machine.specs.SeatViews.new_seat_views, cpu_workers.specs.Counts.IsUncounted};
+ghost use Rattle.cpu_workers.specs.declared.counting.counted.CountedAt.TheVariants.{Table as AtTable};
 ghost use Rattle.cpu_workers.specs.declared.refusals.WorkerError.TheVariants.{NoMemory as LacksMemory};
 
 use crate::by_kind;
@@ -60,6 +61,7 @@ fn count_if_open<K: PlanWords + Sync, R: Threads + Wait + Sync>(
     ensures lock { IfOk result (λ counted. counted.lock ≡ K.lock_kind) }
     ensures all { IfOk result (λ counted. counted.cpus ≡ cpus) }
     ensures times { IfOk result (λ counted. counted.times ≡ times) }
+    ensures at { IfOk result (λ counted. counted.at ≡ AtTable) }
     ensures none { IfErr result (λ not. IfSome not.left (λ left. IsUncounted left cpus K.lock_kind)) }
     ensures closed { IfOk opened (λ _. IfErr result (λ not. IsSome not.left)) }
     ensures memory { OnErr opened (IsErr result × IfErr result (λ not. not.fault ≡ LacksMemory no_memory)) }
@@ -99,6 +101,7 @@ pub fn count_or_leave<R: Threads + Wait + Sync>(
     ensures lock { IfOk result (λ counted. counted.lock ≡ lock) }
     ensures all { IfOk result (λ counted. counted.cpus ≡ cpus) }
     ensures times { IfOk result (λ counted. counted.times ≡ times) }
+    ensures at { IfOk result (λ counted. counted.at ≡ AtTable) }
     ensures none { IfErr result (λ not. IfSome not.left (λ left. IsUncounted left cpus lock)) }
     ensures table { IfErr result (λ not. (not.fault ≡ LacksMemory no_memory) ⊎ IsSome not.left) }
 {
@@ -131,6 +134,7 @@ pub fn count_table<R: Threads + Wait + Sync>(
     ensures lock { IfOk result (λ counted. counted.lock ≡ lock) }
     ensures all { IfOk result (λ counted. counted.cpus ≡ cpus) }
     ensures times { IfOk result (λ counted. counted.times ≡ times) }
+    ensures at { IfOk result (λ counted. counted.at ≡ AtTable) }
 {
     match count_or_leave(rt, alloc, cpus, times, lock) {
         Ok(counted) => Ok(counted),

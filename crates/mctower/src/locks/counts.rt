@@ -3,6 +3,7 @@
 
 ghost use Rattle.std.specs.Prelude.{◌≡◌, ◌*◌, ◌≤◌, IfOk};
 ghost use Rattle.event_log.specs.declared.ids.TheConstants.{CPUS};
+ghost use Rattle.cpu_workers.specs.declared.counting.counted.CountedAt.TheVariants.{Machine as AtMachine, Table as AtTable};
 
 use crate::line::MOST_TIMES;
 use crate::locks::rounds::count_behind;
@@ -32,6 +33,7 @@ fn count_over<K: LineWords + OnLock>(
     ensures lock { IfOk result (λ counted. counted.lock ≡ lock) }
     ensures all { IfOk result (λ counted. counted.cpus ≡ cpus) }
     ensures times { IfOk result (λ counted. counted.times ≡ times) }
+    ensures at { IfOk result (λ counted. counted.at ≡ AtMachine) }
 {
     let _laws: CountLaws = PhantomData;
     count_behind::<Ticket<Plain<AddOne, K>>>(alloc, cpus, times, lock)
@@ -51,6 +53,7 @@ pub fn count_plain(alloc: Global, cpus: u8, times: u64, lock: LockKind) -> Resul
     ensures lock { IfOk result (λ counted. counted.lock ≡ lock) }
     ensures all { IfOk result (λ counted. counted.cpus ≡ cpus) }
     ensures times { IfOk result (λ counted. counted.times ≡ times) }
+    ensures at { IfOk result (λ counted. counted.at ≡ AtMachine) }
 {
     by_kind!(lock, count_over::<Line>(alloc, cpus, times, lock))
 }
@@ -75,6 +78,7 @@ pub fn count_table<R: Threads + Wait + Sync>(
     ensures lock { IfOk result (λ counted. counted.lock ≡ lock) }
     ensures all { IfOk result (λ counted. counted.cpus ≡ cpus) }
     ensures times { IfOk result (λ counted. counted.times ≡ times) }
+    ensures at { IfOk result (λ counted. counted.at ≡ AtTable) }
 {
     counting::count_table(rt, alloc, cpus, times, lock)
 }

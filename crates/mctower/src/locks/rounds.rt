@@ -3,6 +3,7 @@
 
 ghost use Rattle.std.specs.Prelude.{◌≡◌, ℕ, ◌+◌, ◌*◌, ◌<◌, ◌≤◌, ◌%◌, ◌^◌, Some, None, IsSome, IfOk, [], length};
 ghost use Rattle.{event_log.specs.{declared.ids.{CpuId.CpuId, TheConstants.CPUS}, Actions.{gives, phase, Rests}}, cpu_workers.specs.Counts.sections_at};
+ghost use Rattle.cpu_workers.specs.declared.counting.counted.CountedAt.TheVariants.{Machine as AtMachine};
 ghost use Rattle.mctower.specs.Count.{AreReady, after_round, after_rounds};
 
 use crate::line::MOST_TIMES;
@@ -146,6 +147,7 @@ where
     ensures lock { IfOk result (λ counted. counted.lock ≡ lock) }
     ensures all { IfOk result (λ counted. counted.cpus ≡ cpus) }
     ensures times { IfOk result (λ counted. counted.times ≡ times) }
+    ensures at { IfOk result (λ counted. counted.at ≡ AtMachine) }
 {
     let machine = count_rounds::<L>(alloc, cpus, times)?;
     Ok(number_in::<L, KindOf>(&machine, cpus, times, lock))

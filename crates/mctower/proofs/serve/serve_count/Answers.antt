@@ -8,7 +8,7 @@ returns-clause-counts g c =
     inr (inr (
       c.in-Ok.counted,
       c.in-Ok-count_table.counted,
-      (plain.all, plain.times, plain.lock),
-      (table.all, table.times, table.lock),
+      (plain.all, plain.times, plain.lock, plain.at),
+      (table.all, table.times, table.lock, table.at),
       search rules,
     ))
