@@ -28,7 +28,7 @@ BUSY = 1.8  # processors that the proof of one crate keeps busy, where it has mo
 
 def minutes_of(crates):
     """Returns the minutes of proof of each crate, by name: of the table of docs/GATE.md, or else by its lines beside those of the crates there."""
-    rows = re.findall(r"^\| `(\w+)` \|(?:[^|]*\|){3} ([\d.]+) \|", Path(ROOT, "docs/GATE.md").read_text(), re.MULTILINE)
+    rows = re.findall(r"^\| `(\w+)` \|(?:[^|]*\|){2} ([\d.]+) \|", Path(ROOT, "docs/GATE.md").read_text(), re.MULTILINE)
     told = {name: float(minutes) for name, minutes in rows}
     lines = {it.name: lines_of(it.folder) for it in crates}
     known = [name for name in lines if name in told]

@@ -25,8 +25,8 @@ mod refusals;
 mod workers;
 
 pub use laws::{
-    actions_let_order_go_on, fronts_keep_order, reports_are_lawful, reports_are_runs,
-    stops_are_true, workers_lose_no_wake_up,
+    actions_let_order_go_on, fronts_by_actions, fronts_keep_order, reports_are_lawful,
+    reports_are_runs, returned_come_first, stops_are_true, workers_lose_no_wake_up,
 };
 pub use locks::{OnLock, PlanWords};
 pub use natives::{Native, NativeReport, run_native};

@@ -6,6 +6,7 @@ mod callers;
 mod calling;
 mod gates;
 mod hints;
+mod idlers;
 mod manners;
 pub(crate) mod report;
 pub(crate) mod run;

@@ -9,8 +9,9 @@ ghost use Rattle.cpu_workers.specs.Calls.{MayBegin, MayPollBegun, Returned, begu
 
 use crate::pauses::SPINS;
 use crate::workers::hints::Hints;
+use crate::workers::idlers::Idler;
 use crate::workers::manners::Manners;
-use event_log::Tid;
+use event_log::{CpuId, Tid};
 use layer_traits::{Call, CallLayer, IpcLaw, Pass, Reply};
 use std::sync::Wait;
 
@@ -142,36 +143,6 @@ fn poll_once<I: CallLayer<IpcLaw>>(
     }
 }
 
-// How often a CPU at which no thread runs looks whether one was sent home, before it rests.
-const LOOKS: u16 = 1000;
-
-// Whether no thread runs here, is in hand or is ready.
-fn rests<I: CallLayer<IpcLaw>>(part: &I) -> bool {
-    part.current().is_none() && part.hand().is_none() && !part.has_ready()
-}
-
-// Rings for the thread that was in hand, if it has been sent home.
-#[inline(always)]
-fn ring_for<I: CallLayer<IpcLaw>>(part: &I, m: &I::Machine, woken: Option<Tid>)
-where
-    I::Machine: Hints,
-{
-    if let Some(t) = woken {
-        if part.hand().is_none() {
-            m.ring(t);
-        }
-    }
-}
-
-// An idle CPU has looked once more, and rests after so many looks. Tells how many.
-fn idler<H: Hints, R: Wait>(rt: &R, m: &H, t: Tid, rung: u64, looks: u16) -> u16 {
-    if looks < LOOKS {
-        return looks + 1;
-    }
-    m.rest(rt, t, rung);
-    looks
-}
-
 /// Does one message call of the thread `t`, whose CPU has nothing under way, and gives its reply: the
 /// CPU is polled until the call has answered. The call had exactly one effect, which is the CPU's one
 /// new entry, and the reply is that effect's. By the CPU's manners, kept from call to call, it may wait a
@@ -209,25 +180,17 @@ where
     manners.begin(m, call.buffer());
     let mut begun: Option<Begun> = None;
     let mut spins = SPINS;
-    let mut rung = 0;
-    let mut idle = 0;
+    let mut idler = Idler::new(CpuId(t.0));
     for _ in rt.forever() {
-        if begun.is_none() {
-            rung = m.rings(t);
-        }
-        let woken = part.hand();
+        idler.before(part, m);
         match poll_once(part, m, t, call, begun) {
-            Ok(reply) => {
-                ring_for(part, m, woken);
-                return reply;
-            }
+            Ok(reply) => return reply,
             Err(goes_on) => begun = goes_on,
         }
-        ring_for(part, m, woken);
-        if begun.is_none() && rests(part) {
-            idle = idler(rt, m, t, rung, idle);
-        }
         spins = manners.after(part, m, spins);
+        if idler.after(part) {
+            m.park_native(rt, idler.cpu, idler.rung);
+        }
     }
     unreachable!()
 }

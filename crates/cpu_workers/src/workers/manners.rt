@@ -270,7 +270,7 @@ impl Manners {
 }
 
 // Whether nobody runs on the CPU, is in its hand or is ready there.
-fn is_idle<I: CallLayer<IpcLaw>>(part: &I) -> bool
+pub(crate) fn is_idle<I: CallLayer<IpcLaw>>(part: &I) -> bool
     ensures { result ≡ is_idle (threads_in (I.own part.now)).current (threads_in (I.own part.now)).hand (threads_in (I.own part.now)).ready }
 {
     match (part.current(), part.hand()) {

@@ -129,7 +129,7 @@ fn run_tickets<K: PlanWords + Sync, G: Gate + Sync, R: Threads + Wait + Sync>(
         b.stops.items) }
 {
     let back = Back::with_capacity(alloc, boot.cpus() as usize)?;
-    let bells = Bells::new(alloc, 0)?;
+    let bells = Bells::new(alloc, boot.cpus() as usize)?;
     let seats = seats_at(alloc, shared, &bells, keys)?;
     let _laws: TowerLockLaws = PhantomData;
     let left = run_over::<Ticket<TowerSeat<'_, K>>, G, R>(rt, alloc, boot, turns, gate, seats)?;

@@ -5,7 +5,7 @@ ghost use Rattle.table_machine.specs.SeatViews.{IsOf};
 
 use crate::bells::Bells;
 use crate::workers::hints::Hints;
-use event_log::{BufId, CpuId, LockId, Tid};
+use event_log::{BufId, CpuId, LockId};
 use ipc_calls::{TowerBlock, TowerEdit, TowerHanded};
 use layer_traits::{Mark, Words};
 use std::marker::Model;
@@ -44,6 +44,18 @@ impl<'a, K: TableWords> TowerSeat<'a, K> {
         TowerSeat {
             seat: shared.seat(key),
             bells,
+        }
+    }
+
+    // Rings the bell of the CPU whose pending queue this CPU has just put a thread into: a CPU's section at the
+    // queue of another puts one there. The ring comes behind the free, so a CPU that read its bell before it
+    // polled its queue finds the thread there or a bell that was rung since.
+    #[inline(always)]
+    fn ring_for(&self, cpu: CpuId, lock: LockId) {
+        if let LockId::Pending(home) = lock {
+            if home != cpu {
+                self.bells.ring(home);
+            }
         }
     }
 
@@ -96,7 +108,8 @@ impl<'a, K: TableWords> Words for TowerSeat<'a, K> {
     }
 
     fn free(&mut self, cpu: CpuId, lock: LockId, block: TowerBlock, mark: Mark<TowerEdit>) {
-        self.seat.free(cpu, lock, block, mark)
+        self.seat.free(cpu, lock, block, mark);
+        self.ring_for(cpu, lock);
     }
 
     ghost legal = { λ s c acts. acts.1 };
@@ -108,15 +121,19 @@ impl<'a, K: TableWords> Hints for TowerSeat<'a, K> {
     }
 
     #[inline(always)]
-    fn rings(&self, t: Tid) -> u64 {
-        self.bells.rings(usize::from(t.0))
+    fn rings(&self, cpu: CpuId) -> u64 {
+        self.bells.rings(cpu)
     }
 
-    fn ring(&self, t: Tid) {
-        self.bells.ring(usize::from(t.0));
+    fn park_native<R: Wait>(&self, rt: &R, cpu: CpuId, rung: u64) {
+        self.bells.park_native(rt, cpu, rung);
     }
 
-    fn rest<R: Wait>(&self, rt: &R, t: Tid, rung: u64) {
-        self.bells.rest(rt, usize::from(t.0), rung);
+    fn park_worker<R: Wait>(&self, rt: &R, cpu: CpuId, rung: u64) {
+        self.bells.park_worker(rt, cpu, rung);
+    }
+
+    fn leave(&self) {
+        self.bells.leave();
     }
 }
