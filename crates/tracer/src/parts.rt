@@ -48,6 +48,7 @@ pub struct Part {
     bytes: Vec<u8>,
     filled: usize,
     ghost within: { filled ≤ length bytes.items },
+    ghost some: { 0 < length bytes.items },
 }
 
 impl Part {
@@ -107,6 +108,7 @@ impl Part {
         ensures held { held self.new ≡ held self.old }
         ensures kept { length (held self.old) < bytes_room self.old → bytes_room self.new ≡ bytes_room self.old }
         ensures twice { OnOk result (bytes_room self.new ≤ 2 * bytes_room self.old) }
+        ensures more { OnOk result (length (held self.new) < bytes_room self.new) }
     {
         let room = self.bytes.len();
         if self.filled >= room {
