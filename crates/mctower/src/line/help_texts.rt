@@ -39,30 +39,29 @@ A verified thread tower, from spin locks to kernel threads.
 usage: mctower COMMAND [OPTIONS]
 
   count --cpus N --times K [--lock L]
-                             nothing in; out comes the number that N CPUs (1 to 16) count to in
-                             critical sections, K each (1 to 1000): 'plain T' and 'table T'
-  run [--schedule S]         in goes a plan, out comes the trace text of its run by the schedule
-  threads --turns N          in goes a plan, out comes the trace text of its run in threads, one for
-                             each CPU, with N turns each (1 to 1000000000)
-  check                      in goes a trace text, out comes 'yes', or 'no L Name(N)'
+                             N CPUs (1 to 16) add 1 to a counter under a lock, K times each
+                             (1 to 1000); prints the totals 'plain T' and 'table T'
+  run [--schedule S]         runs a plan under a schedule and prints its trace
+  threads --turns N          runs a plan with one OS thread per CPU, at most N steps each
+                             (1 to 1000000000), and prints its trace
+  check                      checks a trace; prints 'yes', or 'no L Name(N)' for the first bad line L
 
-mctower COMMAND --help says more of a command. mctower --version prints the version.
+mctower COMMAND --help describes a command. mctower --version prints the version.
 
 example: mctower run --schedule '0*21' < plan.toml | mctower check
 prints:  yes
 
-exit status: 0 a good run or a yes, 1 a refusal (one line 'error: Name(N)'),
-2 a bad command line, or help, 3 a no of check. plans/explain.py says where a refused plan,
-schedule or trace text is at fault, and what may stand there.
+exit status: 0 success or yes, 1 an error (one line 'error: Name(N)'), 2 a bad command line,
+or help, 3 a no of check. plans/explain.py locates the fault in a rejected plan, schedule or
+trace, and says what is allowed there.
 ";
 
 const COUNT: &str = "\
 usage: mctower count --cpus N --times K [--lock L]
 
-Each of N CPUs (1 to 16) does K critical sections (1 to 1000); each section adds 1 to one number. L
-is the lock: 'ticket', or 'grant' (a grant word for each waiter), which is meant without it.
-Input: none. Output: the number, twice: 'plain T' from the machine that one thread steps, and
-'table T' from the one that N worker threads share.
+Each of N CPUs (1 to 16) does K critical sections (1 to 1000), each of which adds 1 to a counter. L
+is the lock: 'ticket', or 'grant' (one word per waiter), the default. Input: none. Output: the final
+count, twice: 'plain T' on the simulated machine, and 'table T' with N OS threads.
 
 example: mctower count --cpus 2 --times 3
 prints:  plain 6
@@ -72,24 +71,24 @@ prints:  plain 6
 const RUN: &str = "\
 usage: mctower run [--schedule S] < PLAN
 
-Input: a plan, in TOML. Output: the trace text of the run. On standard error: why each CPU is
-halted, where each thread is, and whether the system is quiet.
+Input: a plan, in TOML. Output: the trace of the run. On standard error: whether and why each CPU
+has halted, where each thread is, and whether the system is quiet: no thread can make progress.
 
-S says which CPU takes each step: items 'c' or 'c*n' (n steps of CPU c), joined by commas, with no
-space. c is 0 to 255, and a CPU of the plan. There are 1048576 steps at most. Without a schedule no
-step is taken. Put S in quotes, since a shell reads * and ; for itself.
+S says which CPU takes each step: items 'c' or 'c*n' (n steps of CPU c), separated by commas, without
+spaces; c is a CPU of the plan, and there are at most 1048576 steps. Without --schedule no step is
+taken: a schedule in the comments of a plan is not read. Quote S, because the shell expands *.
 
 The keys of a plan; others are ignored:
   cpus      1 to 16
-  trace     the calls that each CPU may trace, 1 to 65536
+  trace     how many calls each CPU can record, 1 to 65536
   buffers   the capacities of 1 to 16 buffers, each 1 to 32
-  lock      \"ticket\" or \"grant\" (a grant word for each waiter); left out it is \"grant\"
+  lock      \"ticket\" or \"grant\" (one word per waiter); default \"grant\"
   [[thread]]  1 to 256 threads, each with these keys:
-    cpu      the CPU that it runs on, 0 to cpus - 1
+    cpu      its home CPU, on which it always runs, 0 to cpus - 1
     program  1 to 256 instructions, each a string
 
-The instructions, with one space between two pieces. D and S are registers, r0 to r7; b is a buffer
-from 0; k is an instruction of the program, counted from 0; numbers are digits alone:
+The instructions; operands are separated by one space. D and S are registers, r0 to r7; b is a
+buffer, from 0; k is the number of an instruction of the program, from 0; numbers are decimal:
   set D n       D becomes n, 0 to 18446744073709551615
   add D S       D becomes D + S, modulo 2^64
   sub D S       D becomes D - S, modulo 2^64
@@ -97,14 +96,14 @@ from 0; k is an instruction of the program, counted from 0; numbers are digits a
   send b S      sends S, a message of one word, to buffer b
   sendm b n     sends r0 to r(n-1), a message of n words, 1 to 8
   recv b D      receives from buffer b; D becomes the first word
-  recvm b       receives from buffer b into r0 and the registers behind it
+  recvm b       receives from buffer b into r0 and the following registers
   close b       closes buffer b
-  yield         lets another thread of the CPU run
+  yield         lets the other threads of the CPU run
   exit          ends the thread, as does the end of the program
-With a piece k more, send, sendm, recv and recvm go to k if they find the buffer closed.
+send, sendm, recv and recvm take an optional last operand k: jump to k if the buffer is closed.
 
-A refusal is one line 'error: Name(N)'. plans/explain.py says where in a plan or a schedule it is
-at fault, and what may stand there.
+A refusal is one line 'error: Name(N)'. plans/explain.py locates the fault in the plan or schedule,
+and says what is allowed there.
 
 example: mctower run --schedule '0*21' < plan.toml
 where plan.toml is:
