@@ -144,7 +144,7 @@ rows() {
   row 0 $'4 yes\n' '' "printf '%s' '$sent' | tests/writes.py --out '$program' check"
   row 0 $'16 plain 6\ntable 6\n' '' "tests/writes.py --out '$program' count --cpus 2 --times 3"
   # so is the longest, with the two lines of usage behind it
-  told="error: --turns $word: wanted 1 to 1000000000"$'\n'"$(usage threads)"$'\n'
+  told="error: --turns $word: expected 1 to 1000000000"$'\n'"$(usage threads)"$'\n'
   row 2 "${#told} $told" '' "tests/writes.py '$program' threads --turns $word"
   # without a schedule no step is taken
   row 0 "$before" "$waits" 'mctower run < plans/one-send.toml'
@@ -190,7 +190,7 @@ rows() {
   bad_line 'mctower run --lock ticket' "unexpected argument: '--lock'; a plan names its lock by its key lock" run
   bad_line 'mctower help rum' "unknown command: 'rum'"
   bad_line "mctower ''" "unknown command: ''"
-  bad_line "mctower \$'\\xff'" 'a word is no UTF-8 text'
+  bad_line "mctower \$'\\xff'" 'a word is not UTF-8 text'
   # a word or an option that the command has not
   bad_line 'mctower run plans/one-send.toml' "unexpected argument: 'plans/one-send.toml'" run
   bad_line 'mctower run plans/one-send.toml < /dev/null' "unexpected argument: 'plans/one-send.toml'" run
@@ -207,33 +207,33 @@ rows() {
   bad_line "mctower run $(printf 'a%.0s' {1..197})" 'unexpected argument..' run
   bad_line "mctower run $(printf 'a%.0s' {1..196})" "unexpected argument: '$(printf 'a%.0s' {1..196})'" run
   # an option twice, without its value, or with one that it does not take
-  bad_line 'mctower run --schedule 0 --schedule 0' "an option stands twice: '--schedule <schedule>'" run
+  bad_line 'mctower run --schedule 0 --schedule 0' "an option is given twice: '--schedule <schedule>'" run
   bad_line 'mctower run --schedule' "an option has no value: '--schedule <schedule>'" run
   bad_line 'mctower count --cpus --help' "an option has no value: '--cpus <cpus>'" count
   bad_line 'mctower run --help=3' "an option takes no value: '3' for '--help'" run
-  # a needed option is missing
-  bad_line 'mctower threads' 'a needed option is missing: --turns <turns>' threads
-  bad_line 'mctower threads < plans/one-send.toml' 'a needed option is missing: --turns <turns>' threads
-  bad_line 'mctower count' 'a needed option is missing: --cpus <cpus> --times <times>' count
-  bad_line 'mctower count --cpus 2' 'a needed option is missing: --times <times>' count
+  # required option missing
+  bad_line 'mctower threads' 'required option missing: --turns <turns>' threads
+  bad_line 'mctower threads < plans/one-send.toml' 'required option missing: --turns <turns>' threads
+  bad_line 'mctower count' 'required option missing: --cpus <cpus> --times <times>' count
+  bad_line 'mctower count --cpus 2' 'required option missing: --times <times>' count
   # no word is left out behind the longest command line
   bad_line 'mctower count --cpus 2 --times 3 --lock ticket more' "unexpected argument: 'more'" count
   # a value that its option does not take; the first that is wrong is told
-  bad_line 'mctower threads --turns 0 < plans/one-send.toml' '--turns 0: wanted 1 to 1000000000' threads
-  bad_line 'mctower threads --turns 1000000001 < plans/one-send.toml' '--turns 1000000001: wanted 1 to 1000000000' threads
-  bad_line 'mctower threads --turns 2000000000 < plans/one-send.toml' '--turns 2000000000: wanted 1 to 1000000000' threads
-  bad_line 'mctower threads --turns 99999999999999999999 < plans/one-send.toml' '--turns 99999999999999999999: wanted 1 to 1000000000' threads
-  bad_line 'mctower threads --turns 1e6 < plans/one-send.toml' '--turns 1e6: wanted 1 to 1000000000' threads
-  bad_line 'mctower threads --turns 1,000 < plans/one-send.toml' '--turns 1,000: wanted 1 to 1000000000' threads
-  bad_line "mctower threads --turns ''" '--turns : wanted 1 to 1000000000' threads
-  bad_line "mctower threads --turns \$'7\\n8'" '--turns 7: wanted 1 to 1000000000' threads
-  bad_line 'mctower count --cpus 0 --times 1' '--cpus 0: wanted 1 to 16' count
-  bad_line 'mctower count --cpus 17 --times 1' '--cpus 17: wanted 1 to 16' count
-  bad_line 'mctower count --cpus 17 --times 0' '--cpus 17: wanted 1 to 16' count
-  bad_line 'mctower count --cpus 2 --times 1001' '--times 1001: wanted 1 to 1000' count
-  bad_line 'mctower count --cpus 2 --times 0 --lock mcs' '--times 0: wanted 1 to 1000' count
-  bad_line 'mctower count --cpus 2 --times 3 --lock mcs' '--lock mcs: wanted ticket or grant' count
-  bad_line 'mctower count --cpus 2 --times 3 --lock Ticket' '--lock Ticket: wanted ticket or grant' count
+  bad_line 'mctower threads --turns 0 < plans/one-send.toml' '--turns 0: expected 1 to 1000000000' threads
+  bad_line 'mctower threads --turns 1000000001 < plans/one-send.toml' '--turns 1000000001: expected 1 to 1000000000' threads
+  bad_line 'mctower threads --turns 2000000000 < plans/one-send.toml' '--turns 2000000000: expected 1 to 1000000000' threads
+  bad_line 'mctower threads --turns 99999999999999999999 < plans/one-send.toml' '--turns 99999999999999999999: expected 1 to 1000000000' threads
+  bad_line 'mctower threads --turns 1e6 < plans/one-send.toml' '--turns 1e6: expected 1 to 1000000000' threads
+  bad_line 'mctower threads --turns 1,000 < plans/one-send.toml' '--turns 1,000: expected 1 to 1000000000' threads
+  bad_line "mctower threads --turns ''" '--turns : expected 1 to 1000000000' threads
+  bad_line "mctower threads --turns \$'7\\n8'" '--turns 7: expected 1 to 1000000000' threads
+  bad_line 'mctower count --cpus 0 --times 1' '--cpus 0: expected 1 to 16' count
+  bad_line 'mctower count --cpus 17 --times 1' '--cpus 17: expected 1 to 16' count
+  bad_line 'mctower count --cpus 17 --times 0' '--cpus 17: expected 1 to 16' count
+  bad_line 'mctower count --cpus 2 --times 1001' '--times 1001: expected 1 to 1000' count
+  bad_line 'mctower count --cpus 2 --times 0 --lock mcs' '--times 0: expected 1 to 1000' count
+  bad_line 'mctower count --cpus 2 --times 3 --lock mcs' '--lock mcs: expected ticket or grant' count
+  bad_line 'mctower count --cpus 2 --times 3 --lock Ticket' '--lock Ticket: expected ticket or grant' count
   row 2 '' $'error: BadSchedule(9)\n' 'mctower run --schedule 0, < plans/one-send.toml'
   row 2 '' $'error: BadSchedule(9)\n' "mctower run --schedule '' < plans/one-send.toml"
   for schedule in '' , 0, ,0 0,,1 ' 0' '0 ' 00 01 256 a +1 -1 '0*' '*3' '0*0' '0*01' '0*1048577' '0*1048576,0' '7*1048576,3' '0*2*3' '0;1' \
@@ -347,7 +347,7 @@ rows() {
   # it is not read where the words do not ask for it
   row 0 $'plain 1\ntable 1\n' '' 'mctower count --cpus 1 --times 1 < .'
   row 2 '' $'error: BadSchedule(9)\n' 'mctower run --schedule x < .'
-  bad_line 'mctower threads --turns 0 < .' '--turns 0: wanted 1 to 1000000000' threads
+  bad_line 'mctower threads --turns 0 < .' '--turns 0: expected 1 to 1000000000' threads
   # nor is it waited for
   row 0 $'plain 1\ntable 1\n' '' "$silent; mctower count --cpus 1 --times 1 < '$room/silent'"
   row 2 "$version" '' "$silent; mctower --version < '$room/silent'"

@@ -20,11 +20,11 @@ option_name Lock = codes "lock"
 option_name Turns = codes "turns"
 
 -- which values an option takes: its limits, or its names
-abbrev pub wanted_of : ValueOption → Text
-wanted_of Cpus = codes "1 to " ++ decimal CPUS
-wanted_of Times = codes "1 to " ++ decimal MOST_TIMES
-wanted_of Lock = codes "ticket or grant"
-wanted_of Turns = codes "1 to " ++ decimal MOST_TURNS
+abbrev pub expected_of : ValueOption → Text
+expected_of Cpus = codes "1 to " ++ decimal CPUS
+expected_of Times = codes "1 to " ++ decimal MOST_TIMES
+expected_of Lock = codes "ticket or grant"
+expected_of Turns = codes "1 to " ++ decimal MOST_TURNS
 
 -- the value that an option has is none that it takes
 abbrev pub is_bad : List Row → ValueOption → Bool
@@ -96,8 +96,8 @@ TellsKind kind (Err refused) = Unit {0}
 abbrev pub kind_words : ErrorKind → Text
 kind_words UnknownArgument = codes "unexpected argument"
 kind_words InvalidSubcommand = codes "unknown command"
-kind_words MissingRequiredArgument = codes "a needed option is missing"
-kind_words ArgumentConflict = codes "an option stands twice"
+kind_words MissingRequiredArgument = codes "required option missing"
+kind_words ArgumentConflict = codes "an option is given twice"
 kind_words InvalidValue = codes "an option has no value"
 kind_words TooManyValues = codes "an option takes no value"
 kind_words kind = codes "the words are no command line"
@@ -106,14 +106,14 @@ kind_words kind = codes "the words are no command line"
 abbrev pub fault_lines : List Text → Text → Text → Text
 fault_lines words what named = codes "error: " ++ (what ++ (named ++ (10 ∷ usage_of (topic_of words))))
 
--- a line with an option, its value and what is wanted there, and two lines of usage of the words' command
+-- a line with an option, its value and what is expected there, and two lines of usage of the words' command
 abbrev pub value_lines : List Text → ValueOption → Text → Text
 value_lines words option value =
-    codes "error: --" ++ (option_name option ++ (32 ∷ (value ++ (codes ": wanted " ++ (wanted_of option ++ (10 ∷ usage_of (topic_of words)))))))
+    codes "error: --" ++ (option_name option ++ (32 ∷ (value ++ (codes ": expected " ++ (expected_of option ++ (10 ∷ usage_of (topic_of words)))))))
 
 -- the whole text that tells what is wrong with the words; what clap names is shown as it names it
 abbrev pub fault_text : List Text → LineFault → Text
-fault_text words NotText = fault_lines words (codes "a word is no UTF-8 text") []
+fault_text words NotText = fault_lines words (codes "a word is not UTF-8 text") []
 fault_text words NoCommand = fault_lines words (codes "no command is given") []
 fault_text words (Words kind named) = fault_lines words (kind_words kind) named.bytes
 fault_text words (Value option value) = value_lines words option value.bytes

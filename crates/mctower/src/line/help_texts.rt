@@ -154,7 +154,7 @@ const CHECK: &str = "\
 usage: mctower check < TEXT
 
 Input: a trace text, as run prints it. Output: 'yes', or 'no L Name(N)' with the first line L at
-fault and its reason; then the exit status is 3. plans/explain.py says what is wanted in that line.
+fault and its reason; then the exit status is 3. plans/explain.py says what is expected in that line.
 
 example: mctower run --schedule '0*21' < plan.toml | mctower check
 prints:  yes

@@ -3,7 +3,7 @@
 
 ghost use Rattle.std.specs.Prelude.{◌≡◌, false, map};
 ghost use Rattle.{tracer.specs.Sinks.has_failed, mctower.specs.{Output.{IsTold, between}, Refusals.PutsRefusal}};
-ghost use Rattle.mctower.specs.Faults.{fault_lines, fault_text, kind_words, value_lines, wanted_of};
+ghost use Rattle.mctower.specs.Faults.{expected_of, fault_lines, fault_text, kind_words, value_lines};
 
 use crate::line::help_texts::usage_on;
 use crate::refusals::Refusal;
@@ -16,8 +16,8 @@ use std::io::Write;
 use tracer::Sink;
 
 /// Which values an option takes.
-fn wanted(option: ValueOption) -> &'static str
-    ensures { result.now ≡ wanted_of option }
+fn expected(option: ValueOption) -> &'static str
+    ensures { result.now ≡ expected_of option }
 {
     match option {
         ValueOption::Cpus => "1 to 16",
@@ -34,8 +34,8 @@ fn kind_words(kind: ErrorKind) -> &'static str
     match kind {
         ErrorKind::UnknownArgument => "unexpected argument",
         ErrorKind::InvalidSubcommand => "unknown command",
-        ErrorKind::MissingRequiredArgument => "a needed option is missing",
-        ErrorKind::ArgumentConflict => "an option stands twice",
+        ErrorKind::MissingRequiredArgument => "required option missing",
+        ErrorKind::ArgumentConflict => "an option is given twice",
         ErrorKind::InvalidValue => "an option has no value",
         ErrorKind::TooManyValues => "an option takes no value",
         _ => "the words are no command line",
@@ -56,7 +56,7 @@ fn put_fault<W: Write>(sink: &mut Sink<W>, words: &[&str], what: &'static str, n
     );
 }
 
-/// Puts out a line with an option, its value and what is wanted there, and the usage of the words'
+/// Puts out a line with an option, its value and what is expected there, and the usage of the words'
 /// command.
 fn put_value_fault<W: Write>(sink: &mut Sink<W>, words: &[&str], option: ValueOption, value: Shown)
     requires { has_failed sink.old ≡ false }
@@ -64,15 +64,15 @@ fn put_value_fault<W: Write>(sink: &mut Sink<W>, words: &[&str], option: ValueOp
 {
     let name = option_name(option).as_bytes();
     let value = value.as_str().as_bytes();
-    let wanted = wanted(option).as_bytes();
+    let expected = expected(option).as_bytes();
     let usage = usage_on(words).as_bytes();
     let pieces = [
         b"error: --".as_slice(),
         name,
         b" ".as_slice(),
         value,
-        b": wanted ".as_slice(),
-        wanted,
+        b": expected ".as_slice(),
+        expected,
         b"\n".as_slice(),
         usage,
     ];
@@ -88,7 +88,7 @@ fn write_fault<W: Write>(sink: &mut Sink<W>, words: &[&str], fault: LineFault)
     ensures { IsTold (between W.contents sink.old sink.new) (fault_text (map (λ w. w.now) words.now) fault) }
 {
     match fault {
-        LineFault::NotText => put_fault(sink, words, "a word is no UTF-8 text", Shown::new()),
+        LineFault::NotText => put_fault(sink, words, "a word is not UTF-8 text", Shown::new()),
         LineFault::NoCommand => put_fault(sink, words, "no command is given", Shown::new()),
         LineFault::Words(kind, named) => put_fault(sink, words, kind_words(kind), named),
         LineFault::Value(option, value) => put_value_fault(sink, words, option, value),
