@@ -9,7 +9,7 @@ use std::cell::UnsafeCell;
 use std::sync::Barrier;
 use std::sync::atomic::{AtomicU64, Ordering::SeqCst};
 
-const LOOKS: u32 = 1000;
+const LOOKS: u32 = 10_000;
 const CPUS: usize = 16;
 
 #[repr(align(64))]

@@ -22,7 +22,7 @@ use step_table::{Buffer, Done, Entry, Guest, Instruction, Plan, Side, Stage, rea
 const CPUS: usize = 16;
 
 /// How often a worker looks before it lets others run.
-const SPINS: u32 = 1000;
+const SPINS: u32 = 10_000;
 
 #[derive(Clone, Copy)]
 enum Section {

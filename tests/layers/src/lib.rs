@@ -11,6 +11,7 @@ mod beneath;
 mod buffers;
 mod calls;
 mod counts;
+mod handovers;
 mod locks;
 mod natives;
 mod openings;
