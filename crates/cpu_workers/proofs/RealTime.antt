@@ -5,44 +5,44 @@ use Rattle.std.proofs.Common.{inl, inr}
 use Rattle.std.specs.Prelude.{filter, slice_get}
 use Rattle.event_log.specs.{declared.{entries.Entry.Entry, ids.{CpuId.CpuId, Tid.Tid}}, Actions.Action}
 use Rattle.cpu.{specs.{Cpus.{of_cpu, of_thread}, Table.Setups.{Call, Private, Setup, has_none, thread_at}, Tower.Views.TowerName}, proofs.WholeSystems.OneOrder.filter_reversed}
-use Rattle.cpu_workers.specs.{Fronts.{AreLinearizable, IsFront}, Orders.effects_of, RealTime.{ReturnedComeFirst, StandsAt, begun_at, begun_by, calls_of}}
-use Rattle.cpu_workers.specs.RealTime.{returned_at, returned_by}
+use Rattle.cpu_workers.specs.{Fronts.{AreLinearizable, IsFront}, Orders.effects_of, RealTime.{ReturnedComeFirst, StandsAt, begun_count, begun_with, thread_entries}}
+use Rattle.cpu_workers.specs.RealTime.{returned_count, returned_with}
 
 -- one entry more in front
 calls_first : (c : CpuId) (t : Tid) (e : Entry) (es : List Entry)
-    → calls_of c t (e ∷ es) ≡ (if e.cpu.0 == c.0 then (if e.thread.0 == t.0 then e ∷ calls_of c t es else calls_of c t es) else calls_of c t es)
+    → thread_entries c t (e ∷ es) ≡ (if e.cpu.0 == c.0 then (if e.thread.0 == t.0 then e ∷ thread_entries c t es else thread_entries c t es) else thread_entries c t es)
 calls_first c t e es = go (e.cpu.0 == c.0) refl
   where
-    thread_first : (b : Bool) → (e.thread.0 == t.0) ≡ b → of_thread t.0 (e ∷ of_cpu c es) ≡ (if b then e ∷ calls_of c t es else calls_of c t es)
+    thread_first : (b : Bool) → (e.thread.0 == t.0) ≡ b → of_thread t.0 (e ∷ of_cpu c es) ≡ (if b then e ∷ thread_entries c t es else thread_entries c t es)
     thread_first true is = rw is refl
     thread_first false is = rw is refl
 
     go : (b : Bool) → (e.cpu.0 == c.0) ≡ b
-        → calls_of c t (e ∷ es) ≡ (if b then (if e.thread.0 == t.0 then e ∷ calls_of c t es else calls_of c t es) else calls_of c t es)
+        → thread_entries c t (e ∷ es) ≡ (if b then (if e.thread.0 == t.0 then e ∷ thread_entries c t es else thread_entries c t es) else thread_entries c t es)
     go true is = rw is (thread_first (e.thread.0 == t.0) refl)
     go false is = rw is refl
 
 -- so many calls more: one where the entry is the thread's, else none
 calls_more : (c : CpuId) (t : Tid) (e : Entry) (es : List Entry)
-    → length (calls_of c t (e ∷ es)) ≡ (if e.cpu.0 == c.0 then (if e.thread.0 == t.0 then 1 else 0) else 0) + length (calls_of c t es)
+    → length (thread_entries c t (e ∷ es)) ≡ (if e.cpu.0 == c.0 then (if e.thread.0 == t.0 then 1 else 0) else 0) + length (thread_entries c t es)
 calls_more c t e es = ap length (calls_first c t e es) ∙ go (e.cpu.0 == c.0) (e.thread.0 == t.0)
   where
-    go : (b d : Bool) → length (if b then (if d then e ∷ calls_of c t es else calls_of c t es) else calls_of c t es)
-        ≡ (if b then (if d then 1 else 0) else 0) + length (calls_of c t es)
+    go : (b d : Bool) → length (if b then (if d then e ∷ thread_entries c t es else thread_entries c t es) else thread_entries c t es)
+        ≡ (if b then (if d then 1 else 0) else 0) + length (thread_entries c t es)
     go true true = omega arith
     go true false = omega arith
     go false d = omega arith
 
 -- one more where it is the thread's
 calls_hit : (c : CpuId) (t : Tid) (e : Entry) (es : List Entry) → (e.cpu.0 == c.0) ≡ true → (e.thread.0 == t.0) ≡ true
-    → length (calls_of c t (e ∷ es)) ≡ 1 + length (calls_of c t es)
+    → length (thread_entries c t (e ∷ es)) ≡ 1 + length (thread_entries c t es)
 calls_hit c t e es here its =
     calls_more c t e es
-    ∙ ap (λ (b : Bool). (if b then (if e.thread.0 == t.0 then 1 else 0) else 0) + length (calls_of c t es)) here
-    ∙ ap (λ (b : Bool). (if b then 1 else 0) + length (calls_of c t es)) its
+    ∙ ap (λ (b : Bool). (if b then (if e.thread.0 == t.0 then 1 else 0) else 0) + length (thread_entries c t es)) here
+    ∙ ap (λ (b : Bool). (if b then 1 else 0) + length (thread_entries c t es)) its
 
 -- a beginning that holds a list has at least its calls
-calls_kept : (c : CpuId) (t : Tid) (pre more : List Entry) (p : ℕ) → length pre ≤ p → length (calls_of c t pre) ≤ length (calls_of c t (take p (pre ++ more)))
+calls_kept : (c : CpuId) (t : Tid) (pre more : List Entry) (p : ℕ) → length pre ≤ p → length (thread_entries c t pre) ≤ length (thread_entries c t (take p (pre ++ more)))
 calls_kept c t [] more p long = omega arith
 calls_kept c t (e ∷ pre) more zero long = absurd (omega arith)
 calls_kept c t (e ∷ pre) more (suc p) long =
@@ -50,7 +50,7 @@ calls_kept c t (e ∷ pre) more (suc p) long =
 
 -- a call that stands in a list is one more than those before it
 calls_within : (c : CpuId) (t : Tid) (pre more : List Entry) (q : ℕ) (e : Entry) → q < length pre → slice_get (pre ++ more) q ≡ Some e → e.cpu.0 ≡ c.0
-    → e.thread.0 ≡ t.0 → length (calls_of c t (take q (pre ++ more))) < length (calls_of c t pre)
+    → e.thread.0 ≡ t.0 → length (thread_entries c t (take q (pre ++ more))) < length (thread_entries c t pre)
 calls_within c t [] more q e within at cpu thread = absurd (omega arith)
 calls_within c t (x ∷ pre) more zero e within at cpu thread =
     let same : x ≡ e = cc at in
@@ -62,7 +62,7 @@ calls_within c t (x ∷ pre) more (suc q) e within at cpu thread =
     omega (arith, calls_more c t x pre, calls_more c t x (take q (pre ++ more)), calls_within c t pre more q e (omega arith) at cpu thread)
 
 -- what stands in the beginning comes before what does not
-first_before : (c d : CpuId) (t u : Tid) (pre more : List Entry) (i j p q : ℕ) → i < length (calls_of c t pre) → length (calls_of d u pre) ≤ j
+first_before : (c d : CpuId) (t u : Tid) (pre more : List Entry) (i j p q : ℕ) → i < length (thread_entries c t pre) → length (thread_entries d u pre) ≤ j
     → StandsAt c t i (pre ++ more) p → StandsAt d u j (pre ++ more) q → p < q
 first_before c d t u pre more i j p q returned begun one other = omega (arith, early, late)
   where
@@ -78,7 +78,7 @@ first_before c d t u pre more i j p q returned begun one other = omega (arith, e
       | inr beyond ↦ beyond
     ]
 
-returned_few : (o : Option Call) (n : ℕ) → returned_by o n ≤ n
+returned_few : (o : Option Call) (n : ℕ) → returned_with o n ≤ n
 returned_few None n = omega arith
 returned_few (Some call) n = by_effect (has_none call.effect)
   where
@@ -86,7 +86,7 @@ returned_few (Some call) n = by_effect (has_none call.effect)
     by_effect true = omega arith
     by_effect false = omega arith
 
-begun_many : (o : Option Call) (n : ℕ) → n ≤ begun_by o n
+begun_many : (o : Option Call) (n : ℕ) → n ≤ begun_with o n
 begun_many None n = omega arith
 begun_many (Some call) n = by_effect (has_none call.effect)
   where
@@ -105,13 +105,13 @@ module _ (setup : Setup) (acts later earlier : List (Action TowerName)) (linear 
   whole : reverse (effects_of setup.caps acts) ≡ pre ++ front.goes_on.more
   whole = ap (λ (l : List (Action TowerName)). reverse (effects_of setup.caps l)) is ∙ front.goes_on.is
 
-  entries : (e : CpuId) (below : e.0 < setup.cpus) (v : Tid) → of_thread v.0 (front.worked.ran e below).last.trace ≡ calls_of e v pre
+  entries : (e : CpuId) (below : e.0 < setup.cpus) (v : Tid) → of_thread v.0 (front.worked.ran e below).last.trace ≡ thread_entries e v pre
   entries e below v =
       ap (of_thread v.0) (front.keeps e below)
       ∙ ap (of_thread v.0) (sym (filter_reversed (λ (x : Entry). x.cpu.0 == e.0) (effects_of setup.caps earlier)))
 
   first_at : (c d : CpuId) (here : c.0 < setup.cpus) (there : d.0 < setup.cpus) (t u : Tid) (i j p q : ℕ)
-      → i < returned_at (front.worked.ran c here).last t → begun_at (front.worked.ran d there).last u ≤ j
+      → i < returned_count (front.worked.ran c here).last t → begun_count (front.worked.ran d there).last u ≤ j
       → StandsAt c t i (reverse (effects_of setup.caps acts)) p → StandsAt d u j (reverse (effects_of setup.caps acts)) q → p < q
   first_at c d here there t u i j p q returned begun one other =
       let some = returned_few (thread_at (front.worked.ran c here).last t).call (length (of_thread t.0 (front.worked.ran c here).last.trace)) in

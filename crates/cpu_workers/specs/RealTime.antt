@@ -5,24 +5,24 @@ use Rattle.{cpu.specs.{Cpus.{of_cpu, of_thread}, Table.Setups.{Call, Private, Se
 use Rattle.cpu_workers.specs.{Fronts.AreLinearizable, Orders.effects_of}
 
 -- how many calls of a thread have returned, and how many have begun, where so many took effect and this one is under way
-abbrev pub returned_by : Option Call → ℕ → ℕ
-returned_by None effects = effects
-returned_by (Some call) effects = if has_none call.effect then effects else effects - 1
+abbrev pub returned_with : Option Call → ℕ → ℕ
+returned_with None effects = effects
+returned_with (Some call) effects = if has_none call.effect then effects else effects - 1
 
-abbrev pub begun_by : Option Call → ℕ → ℕ
-begun_by None effects = effects
-begun_by (Some call) effects = if has_none call.effect then effects + 1 else effects
+abbrev pub begun_with : Option Call → ℕ → ℕ
+begun_with None effects = effects
+begun_with (Some call) effects = if has_none call.effect then effects + 1 else effects
 
 -- the entries of a CPU's thread
-abbrev pub calls_of : CpuId → Tid → List Entry → List Entry
-calls_of c t es = of_thread t.0 (of_cpu c es)
+abbrev pub thread_entries : CpuId → Tid → List Entry → List Entry
+thread_entries c t es = of_thread t.0 (of_cpu c es)
 
 -- where a CPU's thread has come, so many of its calls have returned, and so many have begun
-abbrev pub returned_at : Private → Tid → ℕ
-returned_at p t = returned_by (thread_at p t).call (length (of_thread t.0 p.trace))
+abbrev pub returned_count : Private → Tid → ℕ
+returned_count p t = returned_with (thread_at p t).call (length (of_thread t.0 p.trace))
 
-abbrev pub begun_at : Private → Tid → ℕ
-begun_at p t = begun_by (thread_at p t).call (length (of_thread t.0 p.trace))
+abbrev pub begun_count : Private → Tid → ℕ
+begun_count p t = begun_with (thread_at p t).call (length (of_thread t.0 p.trace))
 
 -- call i of the CPU's thread, counted from 0, stands at this place of the order
 pub record StandsAt (c : CpuId) (t : Tid) (i : ℕ) (order : List Entry) (place : ℕ) : Type 0 where
@@ -30,13 +30,13 @@ pub record StandsAt (c : CpuId) (t : Tid) (i : ℕ) (order : List Entry) (place 
   pub there : slice_get order place ≡ Some entry
   pub cpu : entry.cpu.0 ≡ c.0
   pub thread : entry.thread.0 ≡ t.0
-  pub before : length (calls_of c t (take place order)) ≡ i
+  pub before : length (thread_entries c t (take place order)) ≡ i
 
 -- at each front of linearizable actions: call i of one thread has returned, call j of another has not begun; so in the order of all calls i's
 -- stands before j's
 abbrev pub ReturnedComeFirst : Type 0
 ReturnedComeFirst = (setup : Setup) (acts later earlier : List (Action TowerName)) → (linear : AreLinearizable setup acts) → (is : acts ≡ later ++ earlier)
     → (c d : CpuId) (here : c.0 < setup.cpus) (there : d.0 < setup.cpus) (t u : Tid) (i j p q : ℕ)
-    → i < returned_at ((linear later earlier is).worked.ran c here).last t
-    → begun_at ((linear later earlier is).worked.ran d there).last u ≤ j
+    → i < returned_count ((linear later earlier is).worked.ran c here).last t
+    → begun_count ((linear later earlier is).worked.ran d there).last u ≤ j
     → StandsAt c t i (reverse (effects_of setup.caps acts)) p → StandsAt d u j (reverse (effects_of setup.caps acts)) q → p < q
