@@ -5,8 +5,8 @@ use Rattle.std.proofs.Common.{inl, inr}
 use Rattle.std.specs.Prelude.{filter, slice_get}
 use Rattle.event_log.specs.{declared.{entries.Entry.Entry, ids.{CpuId.CpuId, Tid.Tid}}, Actions.Action}
 use Rattle.cpu.{specs.{Cpus.{of_cpu, of_thread}, Table.Setups.{Call, Private, Setup, has_none, thread_at}, Tower.Views.TowerName}, proofs.WholeSystems.OneOrder.filter_reversed}
-use Rattle.cpu_workers.specs.{Fronts.{AreLinearizable, IsFront}, Orders.effects_of, RealTime.{ReturnedComeFirst, StandsAt, begun_count, begun_with, thread_entries}}
-use Rattle.cpu_workers.specs.RealTime.{returned_count, returned_with}
+use Rattle.cpu_workers.specs.{Fronts.{AreLinearizable, IsFront}, Orders.effects_of, RealTime.{ReturnedComeFirst, StandsAt, calls_begun, begun_with, thread_entries}}
+use Rattle.cpu_workers.specs.RealTime.{calls_returned, returned_with}
 
 -- one entry more in front
 calls_first : (c : CpuId) (t : Tid) (e : Entry) (es : List Entry)
@@ -111,7 +111,7 @@ module _ (setup : Setup) (acts later earlier : List (Action TowerName)) (linear 
       ∙ ap (of_thread v.0) (sym (filter_reversed (λ (x : Entry). x.cpu.0 == e.0) (effects_of setup.caps earlier)))
 
   first_at : (c d : CpuId) (here : c.0 < setup.cpus) (there : d.0 < setup.cpus) (t u : Tid) (i j p q : ℕ)
-      → i < returned_count (front.worked.ran c here).last t → begun_count (front.worked.ran d there).last u ≤ j
+      → i < calls_returned (front.worked.ran c here).last t → calls_begun (front.worked.ran d there).last u ≤ j
       → StandsAt c t i (reverse (effects_of setup.caps acts)) p → StandsAt d u j (reverse (effects_of setup.caps acts)) q → p < q
   first_at c d here there t u i j p q returned begun one other =
       let some = returned_few (thread_at (front.worked.ran c here).last t).call (length (of_thread t.0 (front.worked.ran c here).last.trace)) in

@@ -18,11 +18,11 @@ abbrev pub thread_entries : CpuId → Tid → List Entry → List Entry
 thread_entries c t es = of_thread t.0 (of_cpu c es)
 
 -- where a CPU's thread has come, so many of its calls have returned, and so many have begun
-abbrev pub returned_count : Private → Tid → ℕ
-returned_count p t = returned_with (thread_at p t).call (length (of_thread t.0 p.trace))
+abbrev pub calls_returned : Private → Tid → ℕ
+calls_returned p t = returned_with (thread_at p t).call (length (of_thread t.0 p.trace))
 
-abbrev pub begun_count : Private → Tid → ℕ
-begun_count p t = begun_with (thread_at p t).call (length (of_thread t.0 p.trace))
+abbrev pub calls_begun : Private → Tid → ℕ
+calls_begun p t = begun_with (thread_at p t).call (length (of_thread t.0 p.trace))
 
 -- call i of the CPU's thread, counted from 0, stands at this place of the order
 pub record StandsAt (c : CpuId) (t : Tid) (i : ℕ) (order : List Entry) (place : ℕ) : Type 0 where
@@ -37,6 +37,6 @@ pub record StandsAt (c : CpuId) (t : Tid) (i : ℕ) (order : List Entry) (place 
 abbrev pub ReturnedComeFirst : Type 0
 ReturnedComeFirst = (setup : Setup) (acts later earlier : List (Action TowerName)) → (linear : AreLinearizable setup acts) → (is : acts ≡ later ++ earlier)
     → (c d : CpuId) (here : c.0 < setup.cpus) (there : d.0 < setup.cpus) (t u : Tid) (i j p q : ℕ)
-    → i < returned_count ((linear later earlier is).worked.ran c here).last t
-    → begun_count ((linear later earlier is).worked.ran d there).last u ≤ j
+    → i < calls_returned ((linear later earlier is).worked.ran c here).last t
+    → calls_begun ((linear later earlier is).worked.ran d there).last u ≤ j
     → StandsAt c t i (reverse (effects_of setup.caps acts)) p → StandsAt d u j (reverse (effects_of setup.caps acts)) q → p < q
