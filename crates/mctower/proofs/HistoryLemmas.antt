@@ -231,9 +231,9 @@ module _ (plan : BootPlan) (steps : List CpuId) (answer : Result Done Refusal) (
       shown_at (λ (p : CpuShown). p.trace) (λ k l. (t : Tid) → home_of (homes_for plan) t ≡ Some (cpu_at k)
       → AreProgramsCalls (plan_program_of plan t.0) (of_thread t.0 l)) s.cpus
       (λ k p there t home.
-        let below : k < plan.cpus = rw runs.ran.system.cpus at (slice_get_within s.cpus k p there) in
-        let one = guest_is plan s runs.ran.system.programs k p there below t home in
-        subst (λ (l : List Instruction). AreProgramsCalls l (of_thread t.0 p.trace)) one.2 (runs.ran.follow k p t one.0 there one.1).calls) c trace at
+      let below : k < plan.cpus = rw runs.ran.system.cpus at (slice_get_within s.cpus k p there) in
+      let one = guest_is plan s runs.ran.system.programs k p there below t home in
+      subst (λ (l : List Instruction). AreProgramsCalls l (of_thread t.0 p.trace)) one.2 (runs.ran.follow k p t one.0 there one.1).calls) c trace at
 
   run_history : IsHistoryText plan runs.trace
   run_history = history_of plan (traces_of s) s.contents runs.trace runs.traced shown_stays shown_calls
