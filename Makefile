@@ -1,22 +1,25 @@
 # The usual names: each target is one call of a script, which says with --help what it does.
 
-# The plan that `make run` and `make boot` take, under the schedule in its first lines.
+# The plan that `make try`, `make run` and `make boot` take, under the schedule in its first lines.
 PLAN ?= plans/one-send.toml
 export MCTOWER ?= crates/mctower/out/mctower
 
-.PHONY: help run test prove gate boot page
+.PHONY: help try test prove run gate boot page
 
 help:  ## lists these targets
 	@sed -n 's/^\([a-z]*\): *## /make \1	/p' Makefile
 
-run:  ## runs PLAN=plans/one-send.toml by the proved program, which `make prove` leaves
-	@plans/run.sh "$(PLAN)"
+try:  ## builds without proofs, and runs PLAN=plans/one-send.toml; two minutes of processor time
+	@MCTOWER=tools/try.sh plans/run.sh "$(PLAN)"
 
-test:  ## builds without proofs, and tries all plans and rows; some minutes
+test:  ## builds without proofs, and runs all plans and rows; about five minutes
 	@tests/rows.sh
 
 prove:  ## proves and builds the program; half an hour on 4 cores
 	@tools/prove-all.py
+
+run:  ## runs PLAN=plans/one-send.toml by the proved program, which `make prove` leaves
+	@plans/run.sh "$(PLAN)"
 
 gate:  ## the merge gate: all proofs from nothing, all mutants, all tests; hours
 	@.ci/run

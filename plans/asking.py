@@ -1,4 +1,4 @@
-"""What a reader may ask of a state, as `thread 0 WaitRecv and buffer 0 full`, made into a test of a kernel."""
+"""What a search can look for in a state, for example `thread 0 WaitRecv and buffer 0 full`, as a test of a kernel."""
 from kernel import Kernel
 from laws import broken_in, is_quiet
 
@@ -12,15 +12,15 @@ BUFFER_TESTS = {
     "owned": lambda buffer: buffer.owner is not None,
     "free": lambda buffer: buffer.owner is None,
 }
-GRAMMAR = """terms joined by `and`, each perhaps behind `not`:
-  thread T PLACE       PLACE as in the state lines, with its number or without: WaitRecv(0), WaitRecv, in hand, not ended
+GRAMMAR = """terms joined by `and`, each optionally after `not`:
+  thread T PLACE       PLACE as in the state lines, with or without its number: WaitRecv(0), WaitRecv, in hand, not ended
   some thread PLACE, every thread PLACE
   cpu C waits|inside|rests|AllEnded|TraceFull
   buffer B full|empty|closed|owned|free
-  effects N            so many calls took effect
-  quiet                no CPU has anything to do
+  effects N            N calls have taken effect
+  quiet                no CPU has work
   deadlock             quiet, and some thread has not ended
-  broken               a law does not hold"""
+  broken               a law is broken"""
 
 
 def place_test(words):
@@ -80,5 +80,5 @@ def asked_for(text, plan):
             terms.append(term(piece.split()))
             terms[-1](Kernel(plan))  # a thread, CPU or buffer that the plan has not is found here
         except (KeyError, IndexError):
-            raise ValueError(f"`{piece.strip()}` cannot be asked of this plan. Ask with {GRAMMAR}") from None
+            raise ValueError(f"`{piece.strip()}` does not fit this plan. Expected {GRAMMAR}") from None
     return lambda system: all(one(system) for one in terms)

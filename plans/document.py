@@ -27,11 +27,12 @@ TIME = r"(?P<hour>[0-9]{2}):(?P<minute>[0-9]{2})(?::(?P<second>[0-9]{2})(?:\.[0-
 MOMENTS = (re.compile(TIME),
            re.compile(r"(?P<year>[0-9]{4})-(?P<month>[0-9]{2})-(?P<day>[0-9]{2})"
                       rf"(?:[Tt ]{TIME}(?:[Zz]|[+-](?P<east>[0-9]{{2}}):(?P<beyond>[0-9]{{2}}))?)?"))
+CONTROLS = {"\t": "tab", "\n": "line feed", "\r": "carriage return"}
 BOUNDS = {"hour": 24, "minute": 60, "second": 61, "east": 24, "beyond": 60, "month": 13}  # what each part of a moment is below
 
 
 class NoDocument(Exception):
-    """The text is no TOML document: what is wrong, and at which line and column, both counted from 1."""
+    """The text is not a TOML document: what is wrong, and at which line and column, both counted from 1."""
 
     def __init__(self, line, column, why):
         super().__init__(why)
@@ -60,28 +61,28 @@ class Moment(str):
 
 
 def shown(text, most=40):
-    """A piece of a text as messages show it: cut, and without a character that cannot be seen."""
+    """Part of a text as messages show it: cut, and without a character that cannot be seen."""
     cut = text if len(text) <= most else text[:most] + ".."
     return "".join(c if c.isprintable() else c.encode("unicode_escape").decode() for c in cut)
 
 
 def strange_in(text, unit="character"):
-    """What is told of the first character of a text that is no printable one of ASCII, as a tab or a typographic quote; nothing where there is none."""
+    """What is said about the first character of a text that is not printable ASCII, as a tab or a typographic quote; nothing where there is none."""
     place = next((i for i, c in enumerate(text) if not " " <= c <= "~"), None)
     if place is None:
         return ""
-    name = "tab" if text[place] == "\t" else unicodedata.name(text[place], "no character of a text").lower()
-    return f". {unit.capitalize()} {place + 1} is U+{ord(text[place]):04X}, {name}{wanted_for(text[place], name)}"
+    name = CONTROLS.get(text[place]) or unicodedata.name(text[place], "a control character").lower()
+    return f". {unit.capitalize()} {place + 1} is U+{ord(text[place]):04X}, {name}{expected_for(text[place], name)}"
 
 
-def wanted_for(character, name):
-    """What is wanted in the place of a character that looks like another."""
+def expected_for(character, name):
+    """What is expected in the place of a character that looks like another."""
     if character == "\ufeff":
         return ", a byte order mark: save the text without it"
     if character == "\t" or unicodedata.category(character) == "Zs":
-        return ": wanted a plain space"
+        return ": expected a plain space"
     plain = {"quotation mark": "\" or '", "multiplication sign": "*", "dash": "-", "minus sign": "-", "digit": "a plain digit"}
-    return next((f": wanted {it}" for word, it in plain.items() if word in name), "")
+    return next((f": expected {it}" for word, it in plain.items() if word in name), "")
 
 
 def read_document(text):
@@ -143,15 +144,15 @@ def scalar_of(word):
 
 
 def no_scalar(word):
-    """Why a word is no value."""
+    """Why a word is not a value."""
     unsigned = word.lstrip("+-")
     if re.fullmatch(r"0[0-9_]+", unsigned):
-        return f"{shown(word)} begins with a 0: write a number without it"
+        return f"{shown(word)} has a leading zero: write it without"
     if DECIMAL.fullmatch(unsigned):
-        return f"{shown(word)} is beyond 64 bits"
+        return f"{shown(word)} does not fit in 64 bits"
     if unsigned.isalpha():
-        return f'{shown(word)} is no value: a string stands in quotes, as "{shown(word)}"'
-    return f"{shown(word)} is no value: a string stands in quotes, and between two values a comma"
+        return f'{shown(word)} is not a value: a string needs quotes, for example "{shown(word)}"'
+    return f"{shown(word)} is not a value: a string needs quotes, and two values a comma between them"
 
 
 class Reader:
@@ -186,7 +187,7 @@ class Reader:
             table = self.header() if self.next() == "[" else self.pair(table, DEPTH)
             self.take(SPACE)
             if self.next() not in ("", "#", "\n", "\r"):
-                raise self.fault(f"{self.rest()} stands behind what is whole: each key has a line of its own")
+                raise self.fault(f"unexpected {self.rest()} after a complete key: each key needs its own line")
             self.take(BLANK)
         return self.root
 
@@ -214,7 +215,7 @@ class Reader:
             return self.string_of_one_line()
         found = self.take(BARE)
         if not found:
-            raise self.fault(f"a key is wanted, and here {f'stands {self.rest()}' if self.rest() else 'the line ends'}")
+            raise self.fault(f"expected a key, but {f'found {self.rest()}' if self.rest() else 'the line ends'}")
         return found
 
     def header(self):
@@ -225,7 +226,7 @@ class Reader:
         self.take(SPACE)
         path = self.key()
         if not self.text.startswith(brackets, self.at):
-            raise self.fault(f"{brackets} is wanted at the end of the header")
+            raise self.fault(f"expected {brackets} at the end of the header")
         self.at += len(brackets)
         table = self.root
         for part in path[:-1]:
@@ -266,14 +267,14 @@ class Reader:
         return value
 
     def twice(self, table, part, begin):
-        return self.fault(f"{shown(part)} is there already, on line {table.lines[part]}", begin)
+        return self.fault(f"{shown(part)} is given twice, first on line {table.lines[part]}", begin)
 
     def pair(self, table, depth):
         """Reads a key and its value into a table, and returns the table."""
         begin = self.at
         path = self.key()
         if self.next() != "=":
-            raise self.fault(f"= is wanted behind the key {shown('.'.join(path))}")
+            raise self.fault(f"expected = after the key {shown('.'.join(path))}")
         self.at += 1
         self.take(SPACE)
         value = self.value(depth)
@@ -298,7 +299,7 @@ class Reader:
     def value(self, depth):
         first = self.next()
         if first in ("[", "{") and depth == 0:
-            raise self.fault(f"more than {DEPTH} arrays and tables stand in one another")
+            raise self.fault(f"arrays and tables are nested more than {DEPTH} deep")
         if first == "[":
             return self.array(depth - 1)
         if first == "{":
@@ -334,8 +335,8 @@ class Reader:
             self.at += 1
             self.take(BLANK)
         elif self.next() != closing:
-            found = f"here stands {self.rest()}" if self.at < len(self.text) else "here the text ends"
-            raise self.fault(f"a comma or {closing} is wanted in the {what} that begins on line {self.line(begin)}, and {found}")
+            found = f"found {self.rest()}" if self.at < len(self.text) else "the text ends"
+            raise self.fault(f"expected a comma or {closing} in the {what} that begins on line {self.line(begin)}, but {found}")
 
     def scalar(self):
         begin = self.at
@@ -345,7 +346,7 @@ class Reader:
             word += " " + self.take(WORD)
         value = scalar_of(word)
         if value is None:
-            why = no_scalar(word) if word else f"a value is wanted, and here {f'stands {self.rest()}' if self.rest() else 'the line ends'}"
+            why = no_scalar(word) if word else f"expected a value, but {f'found {self.rest()}' if self.rest() else 'the line ends'}"
             raise self.fault(why, begin)
         return value
 
@@ -392,7 +393,7 @@ class Reader:
             return "\r\n"
         if self.next() in ("", "\n", "\r"):
             raise self.fault("the string is not closed", begin)
-        raise self.fault(f"{shown(self.next())} may not stand in a string here")
+        raise self.fault(f"{shown(self.next())} is not allowed in a string here")
 
     def escape(self, is_long):
         """What an escape stands for. At the end of a line of a long string it is the line end with all white space behind it."""
@@ -408,7 +409,7 @@ class Reader:
         digits = self.take(re.compile(f"[0-9A-Fa-f]{{{HEX_DIGITS.get(letter, 0)}}}"))
         code = int(digits, 16) if digits else 0x110000
         if code > 0x10FFFF or 0xD800 <= code < 0xE000:
-            raise self.fault(f"\\{shown(letter)} begins no escape here: a backslash is written \\\\", begin)
+            raise self.fault(f"\\{shown(letter)} is not an escape: write a backslash as \\\\", begin)
         return chr(code)
 
 

@@ -1,12 +1,12 @@
 #!/usr/bin/env python3
-"""Says what `mctower` refuses in a plan, a schedule or a trace text: where, and what may stand there; and which keys of a plan it ignores.
+"""Explains why `mctower` rejects a plan, a schedule or a trace: where, and what is expected there. It also lists the keys of a plan that are ignored.
 
-    plans/explain.py PLAN [SCHEDULE]    as `mctower run` refuses them
-    plans/explain.py --check TEXT       as `mctower check` judges it
+    plans/explain.py PLAN [SCHEDULE]    explains what `mctower run` rejects
+    plans/explain.py --check TEXT       explains what `mctower check` answers no to
 
-The first line is `mctower`'s own, and the exit status too: 0, 1 after a refusal, 2 where the schedule is none, 3 after a no. PLAN or TEXT
-is a file, or - for standard input. With --beside it tells a refusal without its first line, for use behind a run that printed that.
-Nothing here is proved: tests/explain.py holds it against the program. It needs Python alone, 3.9 or later, and no built program.
+PLAN or TEXT is a file, or - for standard input. The first line and the exit status are those of `mctower`: 0; 1 for a rejected plan; 2 for a bad
+schedule; 3 for a no. With --beside the first line is omitted, for use after a run that printed it.
+Nothing here is proved: tests/explain.py compares it with the program. It needs only Python 3.9 or later, no built program.
 """
 import argparse
 import sys
@@ -26,8 +26,8 @@ def plan_told(raw, name, schedule):
         return refused(refusal, name)
     beside = [f"{name}:{line}: {note}" for line, note in reading.ignored(plan)]
     if schedule is None:
-        beside.append(f"{name}: without a schedule `mctower run` takes no step: plans/kernel.py --rounds writes one")
-    return 0, f"{name}: nothing is refused", beside
+        beside.append(f"{name}: without a schedule `mctower run` takes no step: plans/kernel.py --rounds prints one")
+    return 0, f"{name}: accepted", beside
 
 
 def text_told(raw, name):
@@ -53,13 +53,13 @@ def told(asked):
 
 def main(words):
     parser = argparse.ArgumentParser(description=__doc__, formatter_class=argparse.RawDescriptionHelpFormatter, usage=argparse.SUPPRESS, allow_abbrev=False)
-    parser.add_argument("--check", action="store_true", help="the file is a trace text")
-    parser.add_argument("--beside", action="store_true", help="tell a refusal alone, without its first line")
+    parser.add_argument("--check", action="store_true", help="the file is a trace")
+    parser.add_argument("--beside", action="store_true", help="print only the explanation, without the first line")
     parser.add_argument("file")
     parser.add_argument("schedule", nargs="?")
     asked = parser.parse_args(words)
     if asked.file != "-" and not Path(asked.file).exists():
-        parser.exit(2, f"explain: there is nothing at {asked.file}\n")
+        parser.exit(2, f"explain: no such file: {asked.file}; expected a plan or a trace\n")
     status, first, beside = told(asked)
     sys.stdout.reconfigure(encoding="utf-8", errors="backslashreplace")
     if not asked.beside:

@@ -1,13 +1,13 @@
 #!/usr/bin/env python3
-"""Makes a page of a run of a plan, to step through it forth and back; or a page of all its states, in which the reader chooses who steps.
+"""Makes a page of a run of a plan, to step through forwards and backwards; or a page of all its states, in which the reader chooses the CPU of each step.
 
-    plans/explore.py PLAN [SCHEDULE] > run.html     a run; without a schedule it takes the one in the first lines of the plan
-    plans/explore.py PLAN --find WHAT > run.html    a shortest run to a state that is asked for
+    plans/explore.py PLAN [SCHEDULE] > run.html     a run; the default schedule is the one in the first lines of the plan
+    plans/explore.py PLAN --find WHAT > run.html    a shortest run to a state
     plans/explore.py PLAN --all > all.html          every state that some schedule reaches
 
-A page is one file: it needs no network, no server, and no Python where it is read. States come from plans/kernel.py, which is not proved. Where the proved
-program is built it has to print the same after each beginning of the run, or in each state by a shortest schedule: else there is no page, and the status is 1.
-MCTOWER names the program. With --wrong the kernel makes a mistake, and the page tells from which step on the proved program prints something else.
+A page is one file: a reader of it needs no network, no server and no Python. The states are those of plans/kernel.py, which is not proved. If the proved
+program is built, it must print the same after each prefix of the run, or in each state under a shortest schedule; otherwise there is no page, and the status is
+1. MCTOWER names that program. With --wrong the kernel makes a mistake, and the page shows the first step after which the proved program prints another text.
 """
 import argparse
 import base64
@@ -124,7 +124,7 @@ def shown(asked):
     if asked.find is not None:
         return found_run(name, text, plan, asked.find, asked.most, asked.wrong)
     if len(steps) > MOST_STEPS:
-        raise ValueError(f"a page has room for {MOST_STEPS} steps, and these are {len(steps)}")
+        raise ValueError(f"a page has room for {MOST_STEPS} steps: the schedule has {len(steps)}")
     if asked.all:
         return all_of(name, text, plan, steps, asked.most, asked.wrong)
     return run_of(name, text, plan, steps, asked.wrong)
@@ -134,14 +134,14 @@ def main():
     parser = argparse.ArgumentParser(description=__doc__, epilog=f"WHAT is {GRAMMAR}", formatter_class=argparse.RawDescriptionHelpFormatter)
     parser.add_argument("plan", type=Path)
     parser.add_argument("schedule", nargs="?")
-    parser.add_argument("--wrong", choices=WRONG, metavar="MISTAKE", help="of the kernel that makes this mistake; plans/kernel.py --help names them")
+    parser.add_argument("--wrong", choices=WRONG, metavar="MISTAKE", help="run the kernel that makes this mistake; plans/kernel.py --help lists them")
     parser.add_argument("--find", metavar="WHAT", help="show a shortest run to such a state")
     parser.add_argument("--all", action="store_true", help="show every state")
-    parser.add_argument("--most", type=int, default=MOST_STATES, metavar="K", help="stop at so many states")
-    parser.add_argument("--record", action="store_true", help="print what the page reads, as JSON, in place of the page")
+    parser.add_argument("--most", type=int, default=MOST_STATES, metavar="K", help=f"stop after K states (default: {MOST_STATES})")
+    parser.add_argument("--record", action="store_true", help="print the data of the page, as JSON, instead of the page")
     asked = parser.parse_args()
     if not asked.plan.exists():
-        parser.exit(2, f"explore: there is no plan at {asked.plan}: name one that is there, as plans/one-send.toml\n")
+        parser.exit(2, f"explore: no such file: {asked.plan}; expected a plan, for example plans/one-send.toml\n")
     try:
         run = shown(asked)
     except Refusal as refusal:

@@ -46,7 +46,7 @@ def numbers(pieces, names, bounds):
     """The numbers that pieces spell, each below its bound."""
     for piece, name in zip(pieces, names):
         if not is_number(piece):
-            raise spelling(f'"{shown(piece)}" is no number: wanted the {name}, in digits without a leading zero')
+            raise spelling(f'"{shown(piece)}" is not a number: expected the {name}, in digits without a leading zero')
     for piece, name, (least, bound) in zip(pieces, names, bounds):
         if not is_number(piece, bound - 1) or int(piece) < least:
             raise No("Range(31)", f"the {name} is {shown(piece)}: wanted {least} to {bound - 1}")
@@ -57,7 +57,7 @@ def pieces_of(line, names):
     """The pieces of a line, as many as there are names."""
     pieces = line.split(" ")
     if len(pieces) != len(names):
-        raise spelling(f'the line has {len(pieces)} pieces: wanted {" ".join(names)}, with one space between two')
+        raise spelling(f'the line has {len(pieces)} words: expected {" ".join(names)}, with one space between two')
     return pieces
 
 
@@ -70,7 +70,7 @@ class Judge:
 
     def hint_at_end(self):
         """A hint where a text has no line at all."""
-        return "" if self.version else ". It is empty: was the plan of the run before it refused?"
+        return "" if self.version else ". The text is empty: was the plan of its run rejected?"
 
     def head(self, line):
         if line not in VERSIONS:
@@ -80,11 +80,11 @@ class Judge:
     @staticmethod
     def no_head(line):
         if line.startswith("mctower-trace "):
-            return f'the head is "{shown(line)}": the versions 1 to 3 are known'
+            return f'the head is "{shown(line)}": expected a version from 1 to 3'
         hint = ", and this looks like a plan: `mctower run` reads it" if "=" in line or line.startswith("[") else ""
         if line.startswith("#"):
-            hint = ". A trace text has no comments, and a plan is read by `mctower run`"
-        return f'the head is "{shown(line)}": wanted mctower-trace and a version{hint}'
+            hint = ". A trace has no comments; `mctower run` reads plans"
+        return f'the head is "{shown(line)}": expected mctower-trace and a version{hint}'
 
     def buffer_count(self, line):
         pieces = pieces_of(line, ("buffers", "n"))
@@ -97,7 +97,7 @@ class Judge:
         """Refuses a line that does not begin with these words."""
         for piece, word in zip(pieces, words):
             if piece != word:
-                raise spelling(f'"{shown(piece)}" stands where {word} is wanted')
+                raise spelling(f'expected {word}, but found "{shown(piece)}"')
 
     def capacity(self, line):
         pieces = pieces_of(line, ("cap", str(len(self.buffers)), "k"))
@@ -134,14 +134,14 @@ class Judge:
         if kind not in known:
             moved = next((piece for piece in others if piece in GROUPS), None)
             hint = ": it needs the head mctower-trace 2" if kind in GROUPS else near(kind, known)
-            hint = f". Here {moved} stands elsewhere: an entry is e cpu thread kind buffer value op pos" if moved else hint
-            raise spelling(f'"{shown(kind)}" is no kind of a text of version {self.version}{hint}')
+            hint = f". The kind, {moved}, is in another column: an entry is e cpu thread kind buffer value op pos" if moved else hint
+            raise spelling(f'"{shown(kind)}" is not a kind of version {self.version}{hint}')
 
     def hold_to_value(self, kind, value):
         if kind in WITH_MESSAGE:
             self.hold_to_message(value)
         elif value != "-":
-            raise spelling(f'the value of {kind} is "{shown(value)}": wanted -')
+            raise spelling(f'the value of {kind} is "{shown(value)}": expected -')
 
     def hold_to_message(self, value):
         """Refuses a value that is not spelled as a message."""
@@ -149,14 +149,14 @@ class Judge:
             raise spelling(f"{shown(value)} is a message of several words: it needs the head mctower-trace 3")
         strange = next((word for word in words_of(value) if not is_number(word)), None)
         if strange is not None:
-            raise spelling(f'"{shown(strange)}" is no word of a message: wanted a number, in digits without a leading zero')
+            raise spelling(f'"{shown(strange)}" is not a word of a message: expected a number, in digits without a leading zero')
 
     def contents(self, line):
         self.want = self.contents
         pieces = line.split(" ")
-        hint = " (an entry stands in front of all left lines)" if pieces[0] == "e" else ""
+        hint = " (all entries are before the left lines)" if pieces[0] == "e" else ""
         if pieces[:2] != ["left", str(self.left)]:
-            raise spelling(f'"{shown(line)}" stands where left {self.left} is wanted{hint}')
+            raise spelling(f'expected left {self.left}, but found "{shown(line)}"{hint}')
         for value in pieces[2:]:
             self.hold_to_message(value)
         for value in pieces[2:]:
@@ -171,7 +171,7 @@ class Judge:
 
     def end(self, line):
         if line != "end":
-            raise spelling(f'"{shown(line)}" stands where end is wanted')
+            raise spelling(f'expected end, but found "{shown(line)}"')
         if self.lowest < self.version:
             raise No("Version(38)", f"the head is {VERSIONS[self.version - 1]}, and {VERSIONS[self.lowest - 1]} can spell this text: that has to be the head")
         self.want = None
@@ -239,15 +239,15 @@ def take_line(judge, line, is_last):
     """Gives a line to the judge. What stands behind the last line feed is no line."""
     if judge.want is None:
         if not is_last or line:
-            raise spelling("nothing may follow the line end")
+            raise spelling("expected nothing after the line end")
     elif is_last:
-        ends_early = f"the text ends where {judge.wanted} is wanted{judge.hint_at_end()}"
+        ends_early = f"expected {judge.wanted}, but the text ends{judge.hint_at_end()}"
         raise spelling(f"the line does not end with a line feed: {shown(line)}" if line else ends_early)
     elif line.endswith("\r"):
-        raise spelling("the line ends with a carriage return: wanted a line feed alone, as files of Unix have it")
+        raise spelling("the line ends with a carriage return: expected only a line feed, as in files of Unix")
     elif strange_in(line):
-        raise spelling(f'"{shown(line)}" is no line of a trace text{strange_in(line, "column")}')
+        raise spelling(f'"{shown(line)}" is not a line of a trace{strange_in(line, "column")}')
     elif line.startswith("#") and judge.version:
-        raise spelling(f'"{shown(line)}" is a comment: a trace text has none')
+        raise spelling(f'"{shown(line)}" is a comment: a trace has none')
     else:
         judge.want(line)

@@ -1,15 +1,15 @@
 #!/usr/bin/env python3
-"""The step table as a small plain program, for lessons: it runs a plan under a schedule and prints what `mctower run` prints.
+"""Runs a plan under a schedule on the step table, a short Python program that is not proved, and prints what `mctower run` prints.
 
     plans/kernel.py [--wrong MISTAKE] PLAN [SCHEDULE]
     plans/kernel.py [--wrong MISTAKE] --rounds [--each STEPS] PLAN
     plans/kernel.py [--wrong MISTAKE] --search PLAN
 
-Without a schedule it takes the one in the first lines of the plan. With --wrong the kernel makes a mistake, to see what breaks; --help names them. With
---rounds it prints a schedule: so many steps of each CPU in turn, until none has anything to do. With --search it prints the shortest schedule by which the plan
-goes wrong by the mistake, or by each of them (plans/states.py). It says on standard error where there is no schedule, and which keys of a plan are ignored.
-Nothing here is proved: it is the program to play with. It needs Python alone, 3.9 or later, no built program. Without --wrong it prints
-what `mctower run` prints, and refuses what that refuses; tests/book.py and tests/explain.py hold the two against one another.
+The default schedule is the one in the first lines of the plan. With --wrong the kernel makes a mistake, to show what breaks; --help lists them. With
+--rounds it prints a schedule: STEPS steps of each CPU in turn, until no CPU has work. With --search it prints the shortest schedule under which the mistake,
+or each mistake, breaks a law (plans/states.py). It reports on standard error a missing schedule and each key of the plan that is ignored.
+Without --wrong it prints what `mctower run` prints, and rejects what that rejects; tests/book.py and tests/explain.py compare the two. It needs only
+Python 3.9 or later, no built program.
 """
 import argparse
 import signal
@@ -18,7 +18,7 @@ from collections import deque
 from pathlib import Path
 
 from reading import Refusal, bytes_at, file_name, ignored
-from schedules import chosen, read_run, rounds, schedule_in, schedule_of, steps_of  # noqa: F401 (two of them for who draws and compares runs)
+from schedules import chosen, read_run, rounds, schedule_in, schedule_of, steps_of  # noqa: F401 (two of them for programs that draw and compare runs)
 
 RECEIVERS, SENDERS = 0, 1
 SIDES = {"send": SENDERS, "sendm": SENDERS, "recv": RECEIVERS, "recvm": RECEIVERS, "close": SENDERS}
@@ -358,30 +358,30 @@ def spelled(message):
 
 
 class Once(argparse.Action):
-    """An option that may stand once."""
+    """An option that may be given once."""
 
     def __call__(self, parser, asked, value, option=None):
         if getattr(asked, self.dest) is not self.default:
-            parser.error(f"{option} stands twice")
+            parser.error(f"{option} is given twice")
         setattr(asked, self.dest, value)
 
 
 def asked_of(words):
     """What a command line asks for."""
     mistakes = "\n".join(f"  {name:24}{what}" for name, what in WRONG.items())
-    parser = argparse.ArgumentParser(prog="kernel.py", description=f"{__doc__.splitlines()[0]} It needs Python alone, 3.9 or later.", allow_abbrev=False,
-                                     epilog=f"mistakes that a kernel may make:\n{mistakes}", formatter_class=argparse.RawDescriptionHelpFormatter)
-    parser.add_argument("--wrong", choices=WRONG, metavar="MISTAKE", action=Once, help="a kernel that makes this mistake")
-    parser.add_argument("--rounds", action="store_true", help="print a schedule in rounds that ends when no CPU has anything to do")
-    parser.add_argument("--search", action="store_true", help="print the shortest schedule that goes wrong by the mistake, or by each")
-    parser.add_argument("--each", type=int, default=60, metavar="STEPS", help="steps of a CPU in its turn of a round (60)")
+    parser = argparse.ArgumentParser(prog="kernel.py", description=f"{__doc__.splitlines()[0]} It needs only Python 3.9 or later.", allow_abbrev=False,
+                                     epilog=f"mistakes:\n{mistakes}", formatter_class=argparse.RawDescriptionHelpFormatter)
+    parser.add_argument("--wrong", choices=WRONG, metavar="MISTAKE", action=Once, help="run the kernel that makes this mistake")
+    parser.add_argument("--rounds", action="store_true", help="print a schedule in rounds, which ends when no CPU has work")
+    parser.add_argument("--search", action="store_true", help="print the shortest schedule under which the mistake, or each mistake, breaks a law")
+    parser.add_argument("--each", type=int, default=60, metavar="STEPS", help="steps of each CPU in a round (default: 60)")
     parser.add_argument("plan")
     parser.add_argument("schedule", nargs="?")
     asked = parser.parse_args(words)
     if asked.each < 1 or (asked.rounds or asked.search) and asked.schedule is not None:
-        parser.error("--each is at least 1, and with --rounds or --search no schedule is wanted")
+        parser.error("--each takes at least 1; --rounds and --search take no schedule")
     if asked.plan != "-" and not Path(asked.plan).exists():
-        parser.exit(2, f"kernel: there is no plan at {asked.plan}; this program needs a plan and no built mctower\n")
+        parser.exit(2, f"kernel: no such file: {asked.plan}; expected a plan, for example plans/one-send.toml\n")
     return asked
 
 
@@ -389,7 +389,7 @@ def notes_on(plan, name, schedule):
     """What is told of a run beside what `mctower run` prints: keys that nobody reads, and that no step was taken."""
     notes = [f"{name}:{line}: {note}" for line, note in ignored(plan)]
     if schedule is None:
-        notes.append(f"{name}: no step was taken, since no schedule is given and its first lines name none: plans/kernel.py --rounds writes one")
+        notes.append(f"{name}: no step was taken: there is no schedule as an argument or in its first lines; plans/kernel.py --rounds prints one")
     return "".join(f"kernel: {note}\n" for note in notes)
 
 

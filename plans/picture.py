@@ -3,9 +3,9 @@
 
     plans/picture.py PLAN [SCHEDULE] > picture.svg
 
-Without a schedule it takes the one in the first lines of the plan. It draws the record of a run (plans/record.py), in the colours of its pages. `mctower run`
-runs each beginning of the schedule, and has to print what plans/kernel.py prints, else nothing is drawn: so where each thread stands and which calls
-took effect is what the program says. Which section a CPU works in is told by plans/kernel.py alone. MCTOWER names the program to run.
+The default schedule is the one in the first lines of the plan. It draws the record of a run (plans/record.py), in the colours of its pages. `mctower run`
+runs each prefix of the schedule, and must print what plans/kernel.py prints; otherwise nothing is drawn. The places of threads and the calls that took
+effect are therefore the program's. Only plans/kernel.py says which section a CPU is in. MCTOWER names the program to run.
 """
 import sys
 from html import escape
@@ -137,7 +137,7 @@ def main(words):
         sys.exit("usage: plans/picture.py PLAN [SCHEDULE] > picture.svg")
     path, schedule = words[0], words[1] if len(words) == 2 else None
     if not Path(path).exists():
-        sys.exit(f"picture: there is no plan at {path}: name one that is there, as plans/one-send.toml")
+        sys.exit(f"picture: no such file: {path}; expected a plan, for example plans/one-send.toml")
     try:
         raw = bytes_at(path)
         schedule = chosen(raw, schedule)
@@ -146,7 +146,7 @@ def main(words):
         sys.stderr.write(refusal.told(path))
         return refusal.status
     if not program_is_there():
-        sys.exit(f"picture: there is no program at {PROGRAM}: build it with tools/prove-all.py, or name one by MCTOWER")
+        sys.exit(f"picture: no such program: {PROGRAM}; build it with tools/prove-all.py, or set MCTOWER to its path")
     steps = steps_of(schedule or "")
     told, printed = record(plan, steps)
     try:

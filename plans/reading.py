@@ -16,10 +16,10 @@ from document import Array, Moment, NoDocument, Table, read_document, shown, str
 CPUS, THREADS, BUFFERS, CAPACITY, TRACE = 16, 256, 16, 32, 65536
 LINES, WORDS, WORD = 256, 8, 2**64
 REGISTERS = [f"r{i}" for i in range(8)]
-# The pieces behind each word: a register, a number, a buffer, a count of words, a target. What stands behind `?` may be left out.
+# The operands of each instruction: a register, a number, a buffer, a count of words, a target. Those after `?` are optional.
 INSTRUCTIONS = {"set": "rn", "add": "rr", "sub": "rr", "jnz": "rt", "send": "br?t", "sendm": "bw?t", "recv": "br?t", "recvm": "b?t", "close": "b",
                 "yield": "", "exit": ""}
-PIECES = {"r": "a register, r0 to r7", "n": f"a number, 0 to {WORD - 1}, in digits", "b": f"a buffer, 0 to {BUFFERS - 1}",
+OPERANDS = {"r": "a register, r0 to r7", "n": f"a number, 0 to {WORD - 1}, in digits", "b": f"a buffer, 0 to {BUFFERS - 1}",
           "w": f"a count of words, 1 to {WORDS}", "t": "a line of the program, counted from 0"}
 
 
@@ -64,7 +64,7 @@ def is_number(piece, most=None):
 def near(word, known):
     """A question for what may have been meant, or nothing."""
     found = difflib.get_close_matches(word.lower(), known, 1, 0.6)
-    return f". Is {shown(found[0])} meant?" if found else ""
+    return f". Did you mean {shown(found[0])}?" if found else ""
 
 
 # Keys.
@@ -79,7 +79,7 @@ def is_string(value):
 
 def as_many(count, what):
     """So many things that are numbered from 0, for a message."""
-    return f"{what} 0 alone" if count == 1 else f"{what}s 0 to {count - 1}"
+    return f"only {what} 0" if count == 1 else f"{what}s 0 to {count - 1}"
 
 
 def kind_of(value):
@@ -94,7 +94,7 @@ def in_range(least, most):
 
 class Key(NamedTuple):
     """A key of a plan: what it has to be, the kind of its value, that of each item of an array, and its range."""
-    wanted: str
+    expected: str
     is_kind: Callable
     is_item: Callable
     is_within: Callable
@@ -126,7 +126,7 @@ def read_plan(raw):
     """The plan that some bytes are: a table with the keys of the format."""
     plan = document_of(raw)
     if not raw.strip():
-        raise Refusal("MissingKey(21) cpus", "the plan is empty. Is < PLAN missing, or behind a ; that stands unquoted in the schedule?")
+        raise Refusal("MissingKey(21) cpus", "the plan is empty. Is < PLAN missing, or after an unquoted ; of the schedule?")
     for name, key in KEYS.items():
         if name != "lock" or name in plan:
             hold_to_key(plan, name, key, name)
@@ -142,7 +142,7 @@ def document_of(raw):
     except UnicodeDecodeError as fault:
         hint = ", and the text begins as UTF-16 does: save it as UTF-8" if raw[:2] in (b"\xff\xfe", b"\xfe\xff") else ""
         line = raw.count(b"\n", 0, fault.start) + 1
-        raise Refusal("BadToml(20)", f"byte {fault.start + 1} of the text is no UTF-8{hint}", line) from None
+        raise Refusal("BadToml(20)", f"byte {fault.start + 1} of the text is not UTF-8{hint}", line) from None
     except NoDocument as fault:
         raise Refusal("BadToml(20)", f"column {fault.column}: {fault.why}{other_format(raw, fault)}", fault.line) from None
 
@@ -152,7 +152,7 @@ def other_format(raw, fault):
     if raw.startswith(b"mctower-trace"):
         return ". This is a trace text, which `mctower check` reads"
     if raw.lstrip().startswith(b"{"):
-        return ". A plan is TOML and no JSON: each key has a line of its own, as cpus = 1"
+        return ". A plan is TOML, not JSON: each key needs its own line, for example cpus = 1"
     line = raw.decode("utf-8").removeprefix("\ufeff").split("\n")[fault.line - 1]
     return strange_in(line, "column") if line[:fault.column - 1].isascii() and not line[fault.column - 1:fault.column].isascii() else ""
 
@@ -160,17 +160,17 @@ def other_format(raw, fault):
 def hold_to_key(table, name, key, where, missing_line=None):
     """Refuses a table if a key of it is absent, of another kind, or out of range."""
     if name not in table:
-        raise Refusal(f"MissingKey(21) {where}", f"the key {name} is missing: wanted {key.wanted}{meant(table, name)}", missing_line)
+        raise Refusal(f"MissingKey(21) {where}", f"the required key {name} is missing: expected {key.expected}{meant(table, name)}", missing_line)
     value, line = table[name], table.lines[name]
     if not key.is_kind(value):
-        raise Refusal(f"MissingKey(21) {where}", f"{name} is {kind_of(value)}: wanted {key.wanted}", line)
+        raise Refusal(f"MissingKey(21) {where}", f"{name} is {kind_of(value)}: expected {key.expected}", line)
     if key.is_item:
         strange = next((i for i, item in enumerate(value) if not key.is_item(item)), None)
         if strange is not None:
-            why = f"item {strange + 1} of {name} is {kind_of(value[strange])}: wanted {key.wanted}"
+            why = f"item {strange + 1} of {name} is {kind_of(value[strange])}: expected {key.expected}"
             raise Refusal(f"MissingKey(21) {where}", why, value.lines[strange])
     if not key.is_within(value):
-        raise Refusal(f"OutOfRange(22) {where}", f"{name} {out_of_range(value)}: wanted {key.wanted}", line)
+        raise Refusal(f"OutOfRange(22) {where}", f"{name} {out_of_range(value)}: expected {key.expected}", line)
 
 
 def out_of_range(value):
@@ -190,7 +190,7 @@ def meant(table, name):
     known = KEYS if name in KEYS else THREAD_KEYS
     found = difflib.get_close_matches(name, [key for key in table if key not in known], 1, 0.6)
     if found:
-        return f". Is {shown(found[0])}, on line {table.lines[found[0]]}, meant?"
+        return f". Did you mean {shown(found[0])}, on line {table.lines[found[0]]}?"
     inner = [value for tables in table.values() if is_array(tables) for value in tables if is_table(value) and name in value]
     return f". One stands on line {inner[0].lines[name]}, below a header: put it above all headers" if inner else ""
 
@@ -200,13 +200,13 @@ def meant(table, name):
 def read_thread(plan, number, thread):
     """Refuses a thread of a plan if its home or its program is none."""
     where, line = f"thread {number}", plan["thread"].lines[number]
-    cpu = THREAD_KEYS["cpu"]._replace(wanted=f"an integer, 0 to {plan['cpus'] - 1}, since cpus is {plan['cpus']}", is_within=in_range(0, plan["cpus"] - 1))
+    cpu = THREAD_KEYS["cpu"]._replace(expected=f"an integer, 0 to {plan['cpus'] - 1}, since cpus is {plan['cpus']}", is_within=in_range(0, plan["cpus"] - 1))
     hold_to_key(thread, "cpu", cpu, f"{where} cpu", line)
     hold_to_key(thread, "program", THREAD_KEYS["program"], f"{where} program", line)
     program = thread["program"]
     if not 1 <= len(program) <= LINES:
         fault = "line 256 TooLong(14)" if program else "line 0 Empty(15)"
-        raise Refusal(f"Guest(23) {where} {fault}", f"the program has {len(program)} lines: 1 to {LINES}", thread.lines["program"])
+        raise Refusal(f"Guest(23) {where} {fault}", f"the program has {len(program)} lines: expected 1 to {LINES}", thread.lines["program"])
     for i, instruction in enumerate(program):
         fault, why = instruction_fault(instruction, len(program))
         if fault:
@@ -217,46 +217,47 @@ def read_thread(plan, number, thread):
 def hold_to_buffers(program, buffers, where):
     """Refuses a program that names a buffer which the plan has not."""
     for i, instruction in enumerate(program):
-        word, *pieces = instruction.split(" ")
-        if INSTRUCTIONS[word][:1] == "b" and int(pieces[0]) >= buffers:
+        word, *operands = instruction.split(" ")
+        if INSTRUCTIONS[word][:1] == "b" and int(operands[0]) >= buffers:
             raise Refusal(f"OutOfRange(22) {where} program", f'"{instruction}": the plan has {as_many(buffers, "buffer")}', program.lines[i])
 
 
 def instruction_fault(instruction, lines):
     """The fault of an instruction of a program with so many lines, and what is told beside it; None and None if it is right."""
-    word, *pieces = instruction.split(" ")
+    word, *operands = instruction.split(" ")
     must, _, may = INSTRUCTIONS.get(word, "").partition("?")
-    if word not in INSTRUCTIONS or len(pieces) not in (len(must), len(must + may)):
-        return "UnknownWord(10)", unknown_word(instruction, word, pieces)
-    for number, (piece, kind) in enumerate(zip(pieces, must + may), 2):
-        fault = piece_fault(piece, kind, lines)
+    if word not in INSTRUCTIONS or len(operands) not in (len(must), len(must + may)):
+        return "UnknownWord(10)", unknown_word(instruction, word, operands)
+    for number, (operand, kind) in enumerate(zip(operands, must + may), 1):
+        fault = operand_fault(operand, kind, lines)
         if fault:
             within = f", here 0 to {lines - 1}" if kind == "t" else ""
-            return fault, f'piece {number}, "{shown(piece)}": wanted {PIECES[kind]}{within}'
+            return fault, f'operand {number}, "{shown(operand)}": expected {OPERANDS[kind]}{within}'
     return None, None
 
 
-def piece_fault(piece, kind, lines):
-    """The fault of a piece that has to be of this kind, or None."""
+def operand_fault(operand, kind, lines):
+    """The fault of an operand that has to be of this kind, or None."""
     if kind == "r":
-        return None if piece in REGISTERS else "BadRegister(11)"
+        return None if operand in REGISTERS else "BadRegister(11)"
     most = {"n": WORD - 1, "b": BUFFERS - 1, "w": WORDS, "t": None}[kind]
-    if not is_number(piece, most) or (kind == "w" and piece == "0"):
+    if not is_number(operand, most) or (kind == "w" and operand == "0"):
         return "BadNumber(12)"
-    return "BadTarget(13)" if kind == "t" and not is_number(piece, lines - 1) else None
+    return "BadTarget(13)" if kind == "t" and not is_number(operand, lines - 1) else None
 
 
-def unknown_word(instruction, word, pieces):
-    """Why a line is no instruction by its word and the number of its pieces."""
+def unknown_word(instruction, word, operands):
+    """Why a line is not an instruction, by its word and the number of its operands."""
     if "#" in instruction:
-        return "no comment may stand in an instruction: put it behind the string"
+        return "an instruction cannot contain a comment: put it after the string"
     if instruction and instruction.split() != instruction.split(" "):
-        return "one space stands between two pieces, and none in front or behind"
+        return "expected one space between two words, and none before or after them"
     if word not in INSTRUCTIONS:
-        return f'"{shown(word)}" is no instruction: these are {", ".join(INSTRUCTIONS)}{near(word, INSTRUCTIONS)}'
+        return f'"{shown(word)}" is not an instruction: expected one of {", ".join(INSTRUCTIONS)}{near(word, INSTRUCTIONS)}'
     must, _, may = INSTRUCTIONS[word].partition("?")
-    wanted = " and ".join(PIECES[kind].split(",")[0] for kind in must) or "nothing"
-    return f"{word} is followed by {wanted}{', and perhaps a target' if may else ''}; here by {len(pieces)} {'piece' if len(pieces) == 1 else 'pieces'}"
+    expected = " and ".join(OPERANDS[kind].split(",")[0] for kind in must) or "no operand"
+    many = "1 operand follows" if len(operands) == 1 else f"{len(operands)} operands follow"
+    return f"{word} takes {expected}{', and optionally a target' if may else ''}, but {many}"
 
 
 def ignored(plan):
@@ -265,6 +266,6 @@ def ignored(plan):
     for number, thread in enumerate(plan["thread"]):
         for key in thread:
             if key not in THREAD_KEYS:
-                hint = ": it belongs above the first [[thread]]" if key in KEYS else near(key, THREAD_KEYS)
+                hint = ": put it above the first [[thread]]" if key in KEYS else near(key, THREAD_KEYS)
                 notes.append((thread.lines[key], f"the key {shown(key)} of thread {number} is ignored{hint}"))
     return sorted(notes)

@@ -1,16 +1,16 @@
 #!/usr/bin/env python3
-"""Finds a schedule under which `mctower run` prints a text that `mctower threads` printed of the same plan.
+"""Finds a schedule under which `mctower run` prints the trace that `mctower threads` printed of the same plan.
 
     plans/replay.py PLAN TEXT [STOPS]
 
-TEXT is what `mctower threads` printed; STOPS, if it is given, what it told on standard error: then each CPU stops as it did there. `-` is standard input.
-It prints the schedule, so this prints the text once more:
+TEXT is what `mctower threads` printed. STOPS (optional) is what it printed on standard error: each CPU then stops for the same reason. `-` is standard
+input. It prints the schedule, so this command prints the trace again:
 
     mctower run --schedule "$(plans/replay.py PLAN TEXT)" < PLAN
 
-It is guided by the order of effects that the text tells (plans/guided.py), on plans/kernel.py, which is not proved; what is found is run once more by it
-before it is printed. A text that no run of the plan prints is refused, by the line that cannot come where that is found. The status is then 1. A search
-that ends with no schedule, or gives up after --most states, says so: that tells nothing of the text. It needs Python alone, 3.9 or later.
+The order of effects in the text guides the search (plans/guided.py), over plans/kernel.py, which is not proved. It runs the schedule once more before it
+prints it. It rejects a text that no run of the plan prints, with the line at fault if it finds one, and status 1. A search that finds no schedule, or that
+stops after --most states, says so: that shows nothing about the text. It needs only Python 3.9 or later.
 """
 import argparse
 import sys
@@ -57,7 +57,7 @@ def stops_in(raw, cpus):
     lines = raw.decode("utf-8", "replace").splitlines()
     stops = [STOPS.get(line.split(" ")[-1]) for line in lines]
     if len(lines) != cpus or any(line.split(" ")[:2] != ["cpu", str(c)] for c, line in enumerate(lines)) or None in stops:
-        raise NoReplay(f"wanted a line for each of {cpus} CPUs, as cpu 0 AllEnded")
+        raise NoReplay(f"expected a line for each of {cpus} CPUs, for example cpu 0 AllEnded")
     return stops
 
 
@@ -146,7 +146,7 @@ def hold_to_run(plan, items, raw, stops):
         for _ in range(times):
             kernel.step(c)
     if kernel.text() != raw.decode() or (stops and stops != [kernel.halted(c) or "live" for c in range(len(kernel.cpus))]):
-        raise NoReplay("the schedule that was found prints something else: this is a mistake of plans/guided.py")
+        raise NoReplay("the schedule that was found prints another text: this is a bug of plans/guided.py")
 
 
 def replay(plan, raw, stops, most=MOST_STATES):
@@ -157,7 +157,7 @@ def replay(plan, raw, stops, most=MOST_STATES):
     items = found(plan, entries, stops, most + 40 * len(entries))
     total = sum(times for _, times in items)
     if total > MOST_STEPS:
-        raise NoReplay(f"it takes {total} steps, and a schedule has at most {MOST_STEPS}")
+        raise NoReplay(f"it takes {total} steps: a schedule has at most {MOST_STEPS}")
     hold_to_run(plan, items, raw, stops)
     return schedule_of([c for c, times in items for _ in range(times)])
 
@@ -167,7 +167,7 @@ def main():
     parser.add_argument("plan", metavar="PLAN")
     parser.add_argument("text", metavar="TEXT")
     parser.add_argument("stops", metavar="STOPS", nargs="?")
-    parser.add_argument("--most", type=int, default=MOST_STATES, metavar="K", help=f"give up after so many states, and 40 more for each entry ({MOST_STATES})")
+    parser.add_argument("--most", type=int, default=MOST_STATES, metavar="K", help=f"stop after K states, and 40 more for each entry (default: {MOST_STATES})")
     asked, name = parser.parse_args(), None
     try:
         name = asked.plan
@@ -179,7 +179,7 @@ def main():
         schedule = replay(plan, bytes_at(name), stops if asked.stops else None, asked.most)
         print(schedule)
         if len(schedule) >= MOST_BYTES:
-            sys.stderr.write(f"replay: the schedule has {len(schedule)} bytes, and Linux hands an argument on that has fewer than {MOST_BYTES}\n")
+            sys.stderr.write(f"replay: the schedule has {len(schedule)} bytes: Linux passes only arguments of fewer than {MOST_BYTES}\n")
     except Refusal as refusal:
         sys.stderr.write(refusal.told(name))
         return refusal.status

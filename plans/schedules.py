@@ -10,7 +10,7 @@ from document import shown, strange_in
 from reading import Refusal, as_many, is_number, read_plan
 
 MOST_CPU, MOST_STEPS = 255, 1048576
-WANTED = f"wanted c or c*n, c a CPU of 0 to {MOST_CPU} and n from 1 to {MOST_STEPS}, in digits without a leading zero"
+EXPECTED = f"expected c or c*n, where c is a CPU, 0 to {MOST_CPU}, and n a number of steps, 1 to {MOST_STEPS}, without leading zeros"
 
 
 def schedule_in(plan):
@@ -27,12 +27,12 @@ def read_schedule(text):
         if not star:
             times = "1"
         if not (is_number(cpu, MOST_CPU) and is_number(times, MOST_STEPS) and times != "0"):
-            why = "a schedule has no white space" if re.search(r"\s", item) else WANTED
+            why = "a schedule cannot contain white space: separate its items by commas" if re.search(r"\s", item) else EXPECTED
             raise Refusal("BadSchedule(9)", f"{item_at(text, number)}: {why}{hint_at(text, item)}", in_schedule=True)
         items.append((int(cpu), int(times)))
         total += int(times)
         if total > MOST_STEPS:
-            why = f"with it there are more than {MOST_STEPS} steps in all"
+            why = f"with it the schedule has more than {MOST_STEPS} steps"
             raise Refusal("BadSchedule(9)", f"{item_at(text, number)}: {why}", in_schedule=True)
     return items
 
@@ -40,10 +40,19 @@ def read_schedule(text):
 def hint_at(text, item):
     """What may have gone wrong with a schedule at an item that is none, or nothing."""
     if not text:
-        return ". The schedule is empty: leave it out, and no step is taken"
+        return ". The schedule is empty: omit it to take no step"
     if os.path.exists(text):
-        return ". A file has this name: in a schedule without quotes a shell takes * for names of files"
-    return ". A comma stands between two items" if ";" in item else strange_in(item)
+        return ". A file has this name: a shell replaces an unquoted * by names of files"
+    if item.isascii() and item.isalpha():
+        return ". `plans/kernel.py --rounds PLAN` prints a schedule"
+    return ". Separate the items by commas" if ";" in item else swapped(item) or strange_in(item)
+
+
+def swapped(item):
+    """A question for the item with its CPU first, if it has its number of steps first; else nothing."""
+    times, star, cpu = item.partition("*")
+    is_item = star and is_number(cpu, MOST_CPU) and is_number(times, MOST_STEPS) and times != "0"
+    return f". The CPU comes first. Did you mean {cpu}*{times}?" if is_item else ""
 
 
 def item_at(text, number):

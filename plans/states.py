@@ -1,12 +1,12 @@
 #!/usr/bin/env python3
-"""All states of a plan, for schedules of any length: which laws hold in each, how runs end, and a shortest schedule to a state that is asked for.
+"""Visits all states of a plan, under schedules of any length: checks eleven laws in each, and finds a shortest schedule to a state.
 
-    plans/states.py PLAN [--steps N] [--wrong MISTAKE]   a report on all states, or on those that schedules of at most N steps reach
-    plans/states.py PLAN --find WHAT                     a shortest schedule to such a state, or the word that none leads there
-    plans/states.py PLAN --like TRACE                    a schedule by which `mctower run` prints the trace text that `mctower threads` printed
+    plans/states.py PLAN [--steps N] [--wrong MISTAKE]   reports on all states, or on those that schedules of at most N steps reach
+    plans/states.py PLAN --find WHAT                     prints a shortest schedule to such a state, or that there is none
+    plans/states.py PLAN --like TRACE                    prints a schedule under which `mctower run` prints the trace that `mctower threads` printed
 
-States are those of plans/kernel.py, a program without a proof; equal ones are one. With --compare the proved program runs to each state by a shortest
-schedule and has to print what kernel.py prints; MCTOWER names it. Where a law is broken, nothing is found, or something else is printed, the status is 1.
+The states are those of plans/kernel.py, which is not proved; equal states count once. With --compare the proved program runs to each state under a shortest
+schedule and must print what kernel.py prints; MCTOWER names that program. The status is 1 if a law breaks, nothing is found, or the output differs.
 """
 import argparse
 import math
@@ -437,24 +437,24 @@ def show_like(asked, plan):
 def main():
     parser = argparse.ArgumentParser(description=__doc__, epilog=f"WHAT is {GRAMMAR}", formatter_class=argparse.RawDescriptionHelpFormatter)
     parser.add_argument("plan", type=Path)
-    parser.add_argument("--steps", type=int, metavar="N", help="go no farther than so many steps")
-    parser.add_argument("--wrong", choices=WRONG, metavar="MISTAKE", help="of the kernel that makes this mistake; plans/kernel.py --help names them")
-    parser.add_argument("--sections", action="store_true", help="a step is a whole section: fewer states, those between sections")
-    parser.add_argument("--find", metavar="WHAT", help="a shortest schedule to such a state")
-    parser.add_argument("--endless", action="store_true", help="with --find: states without their history, so that a plan with loops has an end of states")
-    parser.add_argument("--like", metavar="TRACE", help="a schedule that gives the trace text in this file, or in standard input if it is -")
-    parser.add_argument("--most", type=int, default=MOST_STATES, metavar="K", help="stop at so many states")
-    parser.add_argument("--compare", type=int, nargs="?", const=0, metavar="K", help="compare K states with the proved program, or all")
-    parser.add_argument("--time", action="store_true", help="tell what it took")
+    parser.add_argument("--steps", type=int, metavar="N", help="visit only states that at most N steps reach")
+    parser.add_argument("--wrong", choices=WRONG, metavar="MISTAKE", help="run the kernel that makes this mistake; plans/kernel.py --help lists them")
+    parser.add_argument("--sections", action="store_true", help="take whole sections as steps: visits only the states between sections, which are fewer")
+    parser.add_argument("--find", metavar="WHAT", help="print a shortest schedule to such a state")
+    parser.add_argument("--endless", action="store_true", help="with --find: ignore the history, so that a plan with loops has a finite number of states")
+    parser.add_argument("--like", metavar="TRACE", help="print a schedule under which this trace is printed; - is standard input")
+    parser.add_argument("--most", type=int, default=MOST_STATES, metavar="K", help=f"stop after K states (default: {MOST_STATES})")
+    parser.add_argument("--compare", type=int, nargs="?", const=0, metavar="K", help="compare K states with the proved program (default: all)")
+    parser.add_argument("--time", action="store_true", help="print the processor time")
     asked = parser.parse_args()
     if not asked.plan.exists():
-        parser.exit(2, f"states: there is no plan at {asked.plan}: name one that is there, as plans/one-send.toml\n")
+        parser.exit(2, f"states: no such file: {asked.plan}; expected a plan, for example plans/one-send.toml\n")
     if asked.endless and (asked.find is None or asked.wrong == "look-always-hits"):
-        parser.exit(2, "states: --endless goes with --find, and not with the mistake look-always-hits\n")
+        parser.exit(2, "states: --endless needs --find, and excludes --wrong look-always-hits\n")
     if asked.endless and any(word in HISTORY for word in asked.find.split()):
-        parser.exit(2, f"states: a state without its history does not tell {', '.join(HISTORY)}: leave --endless out, or ask for something else\n")
+        parser.exit(2, f"states: --endless ignores the history, so --find cannot use {', '.join(HISTORY)}\n")
     if asked.compare is not None and (asked.wrong or not program_is_there()):
-        parser.exit(2, "states: --compare needs the built program, and the whole kernel\n")
+        parser.exit(2, "states: --compare needs the built program, and excludes --wrong\n")
     try:
         text, plan = read_plan(asked.plan)
         if asked.like:

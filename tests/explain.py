@@ -173,19 +173,19 @@ def command_lines(to):
     plan = to.folder / "refused.toml"
     plan.write_text("# mctower run --schedule '0*3' < refused.toml\n" + mistakes.PLAN.replace("r0 7", "r8 7"))
     line = "error: Guest(23) thread 0 line 0 BadRegister(11)\n"
-    beside = f'{plan}:7: "set r8 7": piece 2, "r8": wanted a register, r0 to r7\n'
+    beside = f'{plan}:7: "set r8 7": operand 1, "r8": expected a register, r0 to r7\n'
     to.hold("commands", "run.sh", command(["plans/run.sh", str(plan)], to), (1, "", line + beside))
     to.hold("commands", "kernel.py", command(["plans/kernel.py", str(plan)], to), (1, "", line + beside))
     to.hold("commands", "picture.py", command(["plans/picture.py", str(plan)], to), (1, "", line + beside))
     to.hold("commands", "explain.py", command(["plans/explain.py", str(plan)], to), (1, line + beside, ""))
     to.hold("commands", "explain.py -", command(["plans/explain.py", "-"], to, b"cpus = 17"),
-            (1, "error: OutOfRange(22) cpus\nstandard input:1: cpus is 17: wanted an integer, 1 to 16\n", ""))
+            (1, "error: OutOfRange(22) cpus\nstandard input:1: cpus is 17: expected an integer, 1 to 16\n", ""))
     to.hold("commands", "explain.py --check", command(["plans/explain.py", "--check", "-"], to),
             (3, "no 1 Spelling(30)\n"
-                "standard input:1: the text ends where mctower-trace 1 is wanted. It is empty: was the plan of the run before it refused?\n", ""))
+                "standard input:1: expected mctower-trace 1, but the text ends. The text is empty: was the plan of its run rejected?\n", ""))
     to.hold("commands", "a folder", command(["plans/explain.py", "plans"], to), (1, "error: ReadFault(7)\nplans: Is a directory\n", ""))
     status, out, err = command(["plans/kernel.py", "--wrong", "other-side-only", "--wrong", "take-skips-the-turn", "plans/one-send.toml"], to)
-    to.hold("commands", "a second mistake", (status, out, err.splitlines()[-1]), (2, "", "kernel.py: error: --wrong stands twice"))
+    to.hold("commands", "a second mistake", (status, out, err.splitlines()[-1]), (2, "", "kernel.py: error: --wrong is given twice"))
     early = ["--wrong", "look-always-hits", "plans/woken-from-afar.toml", "0*6,1*4,0*2,1,0*2"]  # a receive that is in no line tries
     status, _, err = command(["plans/kernel.py", *early], to)
     to.hold("commands", early, (status, err.splitlines()[-1]), (0, "quiet no"))
@@ -194,8 +194,8 @@ def command_lines(to):
     lone.write_text("locks = 2\n" + mistakes.PLAN)
     status, _, err = command(["plans/kernel.py", str(lone)], to)
     to.hold("commands", "no schedule", (status, err.splitlines()[-2:]), (0, [
-        f"kernel: {lone}:1: the key locks is ignored. Is lock meant?",
-        f"kernel: {lone}: no step was taken, since no schedule is given and its first lines name none: plans/kernel.py --rounds writes one"]))
+        f"kernel: {lone}:1: the key locks is ignored. Did you mean lock?",
+        f"kernel: {lone}: no step was taken: there is no schedule as an argument or in its first lines; plans/kernel.py --rounds prints one"]))
     to.hold("commands", "many steps", (schedule_of([0] * 70000 + [1]), steps_of("0*2,1")), ("0*70000,1", [0, 0, 1]))
 
 

@@ -337,7 +337,7 @@ def main():
         return 0
     tally = Tally("--write" in sys.argv)
     if not record.program_is_there():
-        sys.exit(f"look: there is no program at {PROGRAM}: build it with tools/prove-all.py, or name one")
+        sys.exit(f"look: no such program: {PROGRAM}; build it with tools/prove-all.py, or set MCTOWER to its path")
     told = pages(tally)
     words(tally, told)
     for part in (page_size, markup, reports, mistakes, growths, lessons, merged, false_program, threads, colours, browser):

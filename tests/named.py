@@ -8,5 +8,5 @@ def program_at(path):
     """The path of a program that is there, from the root on. Where there is none the script ends, and says so."""
     path = Path(path).resolve()
     if not (path.is_file() and os.access(path, os.X_OK)):
-        sys.exit(f"{Path(sys.argv[0]).name}: there is no program at {path}: build it with tools/prove-all.py, or name one")
+        sys.exit(f"{Path(sys.argv[0]).name}: no such program: {path}; build it with tools/prove-all.py, or pass another path")
     return path

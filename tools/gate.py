@@ -47,6 +47,7 @@ tools/trusted.py
 tools/words.py
 tools/cycles.py
 tools/prose.py
+tools/claims.py
 tools/public-functions.py
 """
 # These start as many threads as a plan may have CPUs and give up after a while, or measure time: each has the machine for itself.
