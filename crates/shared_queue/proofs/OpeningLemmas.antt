@@ -63,7 +63,7 @@ module _ {B : Type 0} (homes : List CpuId) where
   buffer_opens n (block ∷ blocks) b zero at = grind (arith, eq-eqb)
   buffer_opens n (block ∷ blocks) b (suc i) at = grind (arith, ne_eqb, buffer_opens (n + 1) blocks b i)
 
-  -- No lock stands twice.
+  -- No lock occurs twice.
 
   missing_both : (lock : LockId) (locks more : List (LockId × QueueBlock B)) → IsMissing lock locks → IsMissing lock more → IsMissing lock (locks ++ more)
   missing_both lock [] more first second = second

@@ -6,7 +6,7 @@ use Rattle.shared_queue.proofs.shared.SharedQueuesLayerQueueLaw.look.Goals as go
 pub returns-clause-seen : goal.returns-clause-seen
 returns-clause-seen g c = event_grows _ _ (λ d both. both.0) _ _ c.look.ensures.seen
 
--- and the queues keep nothing of their own
+-- and the queues have no state
 pub returns-clause-framed : goal.returns-clause-framed
 returns-clause-framed g c =
     frame_raised _ g.L.Layer.under_way c.requires.fits.1 c.look.ensures.framed (subst IsProperCall (sym c.look.ensures.call) c.requires.fits.2)
