@@ -4,7 +4,7 @@ ghost use Rattle.std.specs.Prelude.{ℕ, ◌<◌, ◌≤◌, ◌^◌};
 ghost use Rattle.guest.specs.{declared.instructions.Instruction.Instruction, Laws.StepsKeepCalls, Spelling.HasOneLine};
 
 /// The law of steps: whatever a thread of a program does, the entries of its calls, newest first,
-/// stay the program's calls at the thread's new state.
+/// are still the program's calls at the thread's new state.
 pub fn steps_keep_calls()
     ensures { StepsKeepCalls }
 {}
