@@ -59,7 +59,7 @@ pub enum BootError {
     /// The key is absent, is of another kind, or has an item of another kind.
     #[error("MissingKey(21) {0}")]
     MissingKey(PlanKey),
-    /// A length or a number of the key is out of range, its name is not a lock's, or a program
+    /// A length or a number of the key is out of range, or its name is not a lock's. Or a program
     /// names a buffer that the plan does not have.
     #[error("OutOfRange(22) {0}")]
     OutOfRange(PlanKey),

@@ -103,7 +103,7 @@ pub fn number_to(text: &[u8], most: u64) -> Option<u64>
 }
 
 /// The law of the spelling: each number up to `most` is spelled by one text, the one that `{}`
-/// prints for it, and that text is read as the number.
+/// prints for it. That text is read as the number.
 #[tactic(auto, using(crate::proofs::DigitsLemmas::one_spelling))]
 pub fn number_has_one_spelling()
     ensures read_back { (most n : ℕ) → n < 2 ^ 64 → n ≤ most → number_to most (decimal n) ≡ Some n }

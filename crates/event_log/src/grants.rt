@@ -2,9 +2,9 @@
 
 use crate::ids::{CpuId, LockId};
 
-/// One atomic action of a CPU on the words of a lock with grant words: a word `next`, and a grant
-/// word for each of the [`CPUS`](crate::CPUS) CPUs that may wait. Each waiter polls a separate word
-/// (Mellor-Crummey and Scott, 1991; Anderson's array lock, 1990).
+/// One atomic action of a CPU on the words of a lock with grant words. Such a lock has a word
+/// `next`, and a grant word for each of the [`CPUS`](crate::CPUS) CPUs that may wait. Each waiter
+/// polls a separate word (Mellor-Crummey and Scott, 1991; Anderson's array lock, 1990).
 ///
 /// The CPU with ticket index `n` waits at the grant word `n % CPUS`, and enters once that word
 /// holds `n + 1`. At the start word 0 holds 1 and the others hold 0.

@@ -49,8 +49,8 @@ pub enum LockId {
     Buffer(BufId),
 }
 
-/// How many locks there can be: one for each number of a CPU and one for each number of a buffer,
-/// of which each is a `u8`. A table indexed by lock has this size.
+/// How many locks there can be: one for each number of a CPU and one for each number of a buffer.
+/// Each number is a `u8`. A table indexed by lock has this size.
 pub const LOCKS: usize = 512;
 
 impl LockId {

@@ -23,8 +23,9 @@ pub fn one_holds<N>()
     ensures { OneHolds N }
 {}
 
-/// Mutual exclusion: in a legal words log two CPUs are never inside one lock, although its tickets
-/// are numbers modulo 2^64: at most [`CPUS`](crate::CPUS) of them wait at a time.
+/// Mutual exclusion: in a legal words log two CPUs are never inside one lock. This holds although
+/// its tickets are numbers modulo 2^64, because at most [`CPUS`](crate::CPUS) of them wait at a
+/// time.
 #[tactic(auto, using(crate::proofs::Tickets::one_inside))]
 pub fn one_inside<M>()
     ensures { OneInside M }
@@ -36,7 +37,7 @@ pub fn tickets_tell_spots<M>()
     ensures { TicketsTellSpots M }
 {}
 
-/// Three consecutive actions of a CPU at a free lock are exactly one section: it requests the lock,
+/// Three consecutive actions of a CPU at a free lock are exactly one section. It requests the lock,
 /// enters at its first poll and releases it.
 #[tactic(auto, using(crate::proofs::Alone::three_are_one))]
 pub fn three_are_one_section<N>()
@@ -57,7 +58,7 @@ pub fn given_once_meanwhile<N>()
 
 /// Bounded bypass: from a CPU's request of a lock on, while it only polls, the lock is released
 /// fewer than [`CPUS`](crate::CPUS) times. Fewer sections than that overtake it. This does not say
-/// that the CPU's turn ever comes.
+/// that the CPU is ever served.
 #[tactic(auto, using(crate::proofs::Bypass::few_pass))]
 pub fn waits_for_few<N>()
     ensures { WaitsForFew N }

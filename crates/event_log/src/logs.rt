@@ -65,7 +65,7 @@ impl<E> EventLog<E> {
         self.events.push_reserved(event);
     }
 
-    /// Appends so many copies of `event` to a log that is known to have room: there is no test for
+    /// Appends so many copies of `event` to a log that is known to have room. There is no test for
     /// each of them at run time. Allocates no memory.
     ///
     /// Requires: the log has room for as many more events.

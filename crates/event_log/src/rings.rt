@@ -10,9 +10,9 @@ use arrayvec::ArrayVec;
 use std::marker::{Brand, Model};
 use std::sync::ledger::{Blank, Ledger};
 
-/// A queue of at most [`CAPACITY`] items, front first. It is a circular buffer (the bounded buffer
-/// of Anderson and Dahlin, Operating Systems: Principles and Practice), in which a put or a take
-/// touches one cell.
+/// A queue of at most [`CAPACITY`] items, front first. It is a circular buffer, in which a put or a
+/// take touches one cell (the bounded buffer of Anderson and Dahlin, Operating Systems: Principles
+/// and Practice).
 #[derive(Drop)]
 pub struct Ring<T: Copy + Drop> {
     slots: Cells<T, CAPACITY>,

@@ -1,5 +1,5 @@
-//! What holds of every run, a legal sequential history of first-in first-out buffers in which a
-//! send, a receive or a close is a single step. These are laws: there is nothing to execute.
+//! What holds of every run: a legal sequential history of FIFO buffers, in which a send, a receive
+//! or a close is a single step. These are laws: there is nothing to execute.
 
 ghost use Rattle.std.specs.Prelude.{◌≡◌, ◌<◌, ◌++◌, ◌∷◌, ◌↔◌, ℕ, [], List, length, take, slice_get, Some};
 ghost use Rattle.event_log.specs.{Messages.Message, declared.entries.Entry.Entry as AnEntry, Runs.IsNext, Runs.IsRun, Runs.after_entry, Runs.contents_after};
@@ -13,9 +13,9 @@ pub fn run_grows()
         → IsRun caps (es ++ e ∷ []) (after_entry left e) }
 {}
 
-/// A law: entries are a run that ends in what is left exactly if what is left is the contents after
-/// them, and each entry may follow the entries before it. Its op and its pos are therefore the
-/// numbers of entries before it, of its buffer, and of its buffer and kind.
+/// A law: entries are a run that ends in what is left exactly under two conditions. What is left is
+/// the contents after them, and each entry may follow the entries before it. Its op and its pos are
+/// therefore the numbers of entries before it, of its buffer, and of its buffer and kind.
 #[tactic(auto, using(crate::proofs::RunLemmas::run_from_next))]
 pub fn run_by_index()
     ensures runs { (caps : List ℕ) (es : List AnEntry) (left : List (List Message)) → IsRun caps es left

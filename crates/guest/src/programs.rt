@@ -35,8 +35,8 @@ impl Program {
 
     /// Reads the lines of a program, one instruction each.
     ///
-    /// Errors: `At(0, Empty)` if there is no line; `At(256, TooLong)` if there are more than 256;
-    /// otherwise the first line with a fault, counted from 0, and the first fault in it, its pieces
+    /// Errors: `At(0, Empty)` if there is no line; `At(256, TooLong)` if there are more than 256.
+    /// Otherwise the first line with a fault, counted from 0, and the first fault in it, its pieces
     /// taken from left to right. `NoMemory` if an allocation failed.
     #[tactic(auto, unfolding(crate::specs::Language::program_in))]
     pub fn read(alloc: Global, lines: &[&str]) -> Result<Program, GuestError>

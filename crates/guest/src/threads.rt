@@ -143,7 +143,7 @@ impl Thread {
     }
 
     /// Moves the thread from the send or receive of its line to the call's target, or to the
-    /// following line if it has none, once the call has returned and found its buffer closed. The
+    /// following line if it has none. The call has returned and found its buffer closed. The
     /// registers are unchanged. At another instruction nothing changes. Allocates no memory.
     #[inline(always)]
     pub fn after_closed(&mut self, program: &Program)

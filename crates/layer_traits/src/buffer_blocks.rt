@@ -17,9 +17,9 @@ use event_log::{CAPACITY, Kind, Msg, Ring, THREADS, Tid};
 use std::marker::Model;
 use thread_blocks::ThreadQueue;
 
-/// What the lock of a buffer guards: the queues of receiving and of sending threads, the items,
-/// whether the buffer is closed, and how many effects, entries of each queue and closes there were,
-/// modulo 2^64. No edit of it allocates memory.
+/// What the lock of a buffer guards: the queues of receiving and of sending threads, the items, and
+/// whether the buffer is closed. It also counts the effects, the entries of each queue and the
+/// closes, modulo 2^64. No edit of it allocates memory.
 #[derive(Drop)]
 pub struct BufferBlock {
     receive_line: ThreadQueue,

@@ -49,7 +49,7 @@ pub enum BareBufferEdit {
     Shut(Tid),
 }
 
-/// The form in which layers pass a buffer's result back up: the message and the numbers that it
+/// The form in which layers pass a buffer's result back up. The message and the numbers that it
 /// brings are in the payload, so that what is passed by value is small.
 #[derive(Clone, Copy)]
 pub enum BareBufferOut {

@@ -5,7 +5,7 @@ ghost use Rattle.layer_traits.specs.Layers.BufferLaw.{buffer_of, fifo_plan};
 
 use crate::call_layers::{CallLaw, CallLayer};
 
-/// The law of FIFO blocking bounded buffers (Anderson and Dahlin): a caller enters the queue of its
+/// The law of FIFO blocking bounded buffers (Anderson and Dahlin). A caller enters the queue of its
 /// side, and the first of a queue proceeds once the buffer allows it. A call is on a buffer that
 /// exists.
 pub struct BufferLaw;

@@ -186,9 +186,10 @@ pub trait CallLayer<L: CallLaw>: Sized {
         ensures looked_on { LookedOn Fits cpu_of opening site room ActsFor MayHold own is_inside under_way seen moves acts
             IsWhole IsStepwise L.plan self.old m.old taken.old taken.new self.new m.new };
 
-    /// Records failed polls of a section that waits at its lock, as long as a poll would fail: at
-    /// most one for each of the steps at the front of `steps` that are this CPU's. Returns how many
-    /// it recorded: each failed, and nothing else is changed. A layer may always return 0.
+    /// Records failed polls of a section that waits at its lock, as long as a poll would fail. It
+    /// records at most one for each of the steps at the front of `steps` that are this CPU's.
+    /// Returns how many it recorded: each failed, and nothing else is changed. A layer may always
+    /// return 0.
     ///
     /// Requires: part and machine agree, and there is room for as many events as there are steps.
     #[inline(always)]
@@ -211,7 +212,7 @@ pub trait CallLayer<L: CallLaw>: Sized {
     /// if the number is not a buffer's, and then nothing was done.
     ///
     /// Requires: what the call is on exists, part and machine agree, there is room for an event,
-    /// `t` runs here, the call is the one that `t` has begun or `t` is between calls, and the CPU
+    /// and `t` runs here. The call is the one that `t` has begun, or `t` is between calls. The CPU
     /// has no other pending call. If it has none, its hand is empty.
     fn poll_kind(&mut self, m: &mut Self::Machine, t: Tid, call: &Call) -> Option<ReplyKind>
         requires fits { Fits self.old m.old }
@@ -224,7 +225,7 @@ pub trait CallLayer<L: CallLaw>: Sized {
         ensures { Polled Fits cpu_of opening site room ActsFor MayHold own is_inside under_way seen moves acts
             IsWhole IsStepwise L.plan t call.now self.old m.old self.new m.new (answer_in (own self.new).call_states t result) };
 
-    /// Performs up to `most` actions of the call of `t`, one after the other: the first is a poll
+    /// Performs up to `most` actions of the call of `t`, one after the other. The first is a poll
     /// of the call, and each later one a poll of the call or of its section's lock. It continues at
     /// most until the call ends, has its effect, or leaves `t` not running, and may stop before.
     /// Returns how many actions it did, and the kind of the reply if the last of them ended the
@@ -319,13 +320,13 @@ pub trait CallLayer<L: CallLaw>: Sized {
     /// Law: the actions are legal.
     ghost legal: { (m : Self.Machine) (c : CpuId) → ActsFor m c → AreLegal (acts m) };
 
-    /// Law: if a poll is one action, the effects are those of the sections of the actions, and each
-    /// has the position that its thread drew.
+    /// Law: if a poll is one action, the effects are those of the sections of the actions. Each has
+    /// the position that its thread drew.
     ghost seen_is: { IsStepwise → (m : Self.Machine)
         → seen m ≡ effects_in (inner (opening m)) (buffer_sections (map event_of (sections_in (acts m)))) };
 
-    /// Law: if a poll is one action, the threads, their moves and the waiting lists that the layer
-    /// reports are what the sections of the actions make of them, and so are the pending queues.
+    /// Law: if a poll is one action, the threads, moves and waiting lists that the layer reports
+    /// are what the sections of the actions make of them. The same holds of the pending queues.
     ghost moves_are: { IsStepwise → (m : Self.Machine) (c : CpuId) → ActsFor m c
         → MovesAre (opening m) (acts m) (moves m) (wait_lists m) };
 

@@ -71,8 +71,8 @@ pub struct PollRun {
     pub reply: Option<ReplyKind>,
 }
 
-/// The effect of a message call (its linearization point): the one step in which its message was
-/// put or taken, its buffer was closed, or it found that the buffer is closed.
+/// The effect of a message call (its linearization point). In this one step its message was put or
+/// taken, its buffer was closed, or it found that the buffer is closed.
 #[derive(Clone, Copy)]
 pub struct Effect {
     /// What was done to the buffer.

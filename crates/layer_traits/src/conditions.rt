@@ -1,5 +1,5 @@
-//! Conditions: the edits by which the owner of a lock signals to the head of a side's queue, and
-//! those by which it leaves the lock or waits.
+//! Conditions: the edits by which the owner of a lock signals to the head of a side's queue, leaves
+//! the lock or waits.
 //!
 //! No call is given an allocator, and none waits.
 
@@ -58,8 +58,8 @@ pub trait Guarded: Sized + Drop {
     /// The form in which layers pass a result back up.
     type Brought: Drop;
 
-    /// What an edit means: its caller, the block that it leaves and its result; which thread is at
-    /// the head of a side's queue and may proceed; and after which sections which CPU may do which.
+    /// What an edit means: its caller, the block that it leaves and its result. Which thread is at
+    /// the head of a side's queue and may proceed. After which sections which CPU may do which.
     ghost monitor_rules: { MonitorRules Self Self.Block Self.Out };
 
     /// Returns the thread that edits.

@@ -15,8 +15,8 @@ pub struct Mark<E> {
 }
 
 /// A pure edit of a lock's block, in two pieces: the form that layers pass down, and the payload
-/// beside it, which has a message or a list of threads. One section applies one edit. [`Edit`] is
-/// the same as one value.
+/// beside it. The payload has a message or a list of threads. One section applies one edit.
+/// [`Edit`] is the same as one value.
 pub trait SplitEdit: Sized + Drop {
     ghost use Rattle.layer_traits.specs.{declared.payloads.Payload.Payload, Protocols.Protocol.Rules};
 

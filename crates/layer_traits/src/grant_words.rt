@@ -7,7 +7,7 @@ ghost use Rattle.std.specs.Prelude.{◌≡◌, ℕ, ◌+◌, ◌<◌, ◌≤◌,
 use crate::edits::{Mark, SplitEdit};
 use event_log::{CpuId, GrantEvent, LockId};
 
-/// A holder of locks with grant words: each lock has the word `next` and a grant word for each CPU
+/// A holder of locks with grant words. Each lock has the word `next` and a grant word for each CPU
 /// that may wait, and guards a block. An owned machine acts for all CPUs. A seat (a per-CPU handle
 /// of shared words) acts for its own CPU, and events of other CPUs may be added at any call.
 ///
@@ -91,12 +91,12 @@ pub trait GrantWords {
         ensures acts { (c : CpuId) → ActsFor self.old c → ActsFor self.new c };
 
     /// Records failed polls of `cpu`, which waits at `lock` with `ticket`, as long as a poll would
-    /// fail: at most one for each of the steps at the front of `steps` that are this CPU's. Returns
-    /// how many it recorded: each failed, and nothing else is changed. A machine may always return
-    /// 0.
+    /// fail. It records at most one for each of the steps at the front of `steps` that are this
+    /// CPU's. Returns how many it recorded: each failed, and nothing else is changed. A machine may
+    /// always return 0.
     ///
-    /// Requires: the holder acts for `cpu`, the lock exists, there is room for as many events as
-    /// there are steps, and `cpu` waits there with `ticket`.
+    /// Requires: the holder acts for `cpu`, which waits at `lock` with `ticket`. The lock exists,
+    /// and there is room for as many events as there are steps.
     #[inline(always)]
     fn spin(&mut self, cpu: CpuId, lock: LockId, ticket: u64, steps: &[CpuId]) -> usize
         requires cpu { ActsFor self.old cpu }
@@ -118,8 +118,8 @@ pub trait GrantWords {
     /// Releases `lock` for `cpu`: a store of its ticket plus 2 in the next ticket's grant word.
     /// `block` is stored in the machine.
     ///
-    /// Requires: the holder acts for `cpu`, the lock exists, there is room for an event, `cpu` is
-    /// inside it, and `block` is the one that the CPU's poll returned, edited as `mark` says. The
+    /// Requires: the holder acts for `cpu`, the lock exists, there is room for an event, and `cpu`
+    /// is inside it. `block` is the one that the CPU's poll returned, edited as `mark` says. The
     /// protocol allows that edit, and still does after whatever other CPUs do first.
     fn give(
         &mut self,

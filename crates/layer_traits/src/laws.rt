@@ -3,7 +3,7 @@
 
 ghost use Rattle.layer_traits.specs.{Blocks.EffectRuns.EffectsAreRun, Threads.OnePlace.OnePlace};
 
-/// Each existing thread has exactly one place in the whole machine: it runs or is ready on its home
+/// Each existing thread has exactly one place in the whole machine. It runs or is ready on its home
 /// CPU, is in one CPU's hand, in one pending queue, asleep in one waiting list, or has ended. A
 /// thread that has no home has no place.
 pub fn one_place()

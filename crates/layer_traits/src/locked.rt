@@ -72,9 +72,9 @@ pub trait Locked: Sized + Drop {
     /// The last edit of an owner, with which it releases the lock.
     type Release: Copy + Drop;
 
-    /// What the edits mean: their callers, the blocks that they leave and their results; which
-    /// thread an edit signals and on which side the caller of a last edit waits, according to the
-    /// result; and after which sections which CPU may do a call.
+    /// What the edits mean: their callers, the blocks that they leave and their results. According
+    /// to the result, which thread an edit signals, and on which side the caller of a last edit
+    /// waits. After which sections which CPU may do a call.
     ghost rules: { LockRules Self Self.Release Self.Block Self.Out };
 
     /// Returns the calling thread.

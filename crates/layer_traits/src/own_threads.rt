@@ -9,9 +9,9 @@ use event_log::Tid;
 use std::marker::Model;
 use thread_blocks::ThreadQueue;
 
-/// The threads of a CPU: the one that runs, the woken one in its hand (in-transit slot) whose home
-/// is another CPU, those that are ready, and those that have ended. A scheduler moves them; the
-/// layers above read them without a copy.
+/// The threads of a CPU: the one that runs, the woken one in its hand, the ready and the ended
+/// ones. The hand is the in-transit slot for a woken thread whose home is another CPU. A scheduler
+/// moves the threads; the layers above read them without a copy.
 #[derive(Drop)]
 pub struct OwnThreads {
     /// The thread that runs, if one does.

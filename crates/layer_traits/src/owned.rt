@@ -12,8 +12,8 @@ use arrayvec::ArrayVec;
 use event_log::{BufId, CAPACITY, CpuId, Msg, NoMemory, Tid};
 use std::alloc::Global;
 
-/// The top of a tower whose machine is opened with its blocks and reports those that it has, and
-/// whose parts report the blocks that their CPU holds, and the places of threads.
+/// The top of a tower whose machine is opened with its blocks and reports those that it has. Its
+/// parts report the blocks that their CPU holds, and the places of threads.
 pub trait Owned: CallLayer<IpcLaw> {
     ghost use Rattle.{std.specs.List.AllByRecursion, event_log.specs.{declared.ids.{BufId.BufId, CpuId.CpuId, Tid.Tid, TheConstants.CPUS}, Actions.phase}};
     ghost use Rattle.{event_log.specs.{Buffers.items_of, Messages.Message, Runs.is_closed}, layer_traits.specs.declared.calls.Place.Place};
@@ -46,7 +46,7 @@ pub trait Owned: CallLayer<IpcLaw> {
     ghost IsSilent: { Self → Self.Machine → Tid → Type 0 };
 
     /// Opens a machine of so many CPUs, with a buffer of each of these capacities and a thread of
-    /// each of these homes, and with room for `room` polls. All memory is allocated here.
+    /// each of these homes. It has room for `room` polls. All memory is allocated here.
     ///
     /// Requires: there are at least one CPU and at most `CPUS`, at most `BUFFERS` buffers and at
     /// most `THREADS` threads. Each capacity is one that a buffer may have, and each home is one of
@@ -104,8 +104,8 @@ pub trait Owned: CallLayer<IpcLaw> {
     fn busy_here(&self, b: BufId) -> Option<Option<Tid>>
         ensures { result ≡ owner_here self.now b };
 
-    /// Returns the place of `t`, as far as this CPU can report it: among its own threads, or in a
-    /// queue that is in the machine or that this CPU holds. `None` if it can report nothing of it.
+    /// Returns the place of `t`, as far as this CPU can report it. It can if `t` is among its own
+    /// threads, or in a queue that is in the machine or that this CPU holds. `None` otherwise.
     ///
     /// Requires: part and machine agree, and `t` is a thread of the machine.
     fn place_at(&self, m: &Self::Machine, t: Tid) -> Option<Place>
@@ -144,14 +144,14 @@ pub trait Owned: CallLayer<IpcLaw> {
     ghost owner_is: { Self.IsStepwise → (m : Self.Machine) (c : CpuId) (b : BufId) → Self.ActsFor m c
         → owner m b ≡ owner_after (Self.opening m) (Self.acts m) b };
 
-    /// Law: if a poll is one action, a buffer's items, its capacity, and whether it is closed, are
-    /// what the sections of the actions leave under its lock.
+    /// Law: if a poll is one action, the sections of the actions determine a buffer's items, its
+    /// capacity, and whether it is closed.
     ghost items_are: { Self.IsStepwise → (m : Self.Machine) (c : CpuId) (b : BufId) → Self.ActsFor m c → b.0 < length (caps_in (Self.opening m))
         → ItemsAre (Self.opening m) (Self.acts m) b (items_of (contents_of (caps_in (Self.opening m)) (Self.seen m)) b.0)
         (slice_index (caps_in (Self.opening m)) b.0) (is_closed (Self.seen m) b.0) };
 
-    /// Law: some CPU can report the place of each thread: its home, the CPU that has it in its
-    /// hand, or one that may hold a lock.
+    /// Law: some CPU can report the place of each thread. That CPU is the thread's home, has the
+    /// thread in its hand, or may hold a lock.
     ghost place: { (p : Self) (m : Self.Machine) (t : Tid) → Self.Fits p m → t.0 < length (homes_in (Self.opening m))
         → ReadsPlace (λ (q : Self). Self.Fits q m) (λ q. Self.cpu_of q) (Self.MayHold m) (λ q. IsSilent q m t)
         (home_of (homes_in (Self.opening m)) t) (where_is (homes_in (Self.opening m)) (Self.moves m) t) };

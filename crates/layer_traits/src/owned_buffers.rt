@@ -142,8 +142,8 @@ pub trait OwnedBuffers: CallLayer<BufferLaw> {
     ghost owner_is: { Self.IsStepwise → (m : Self.Machine) (c : CpuId) (b : BufId) → Self.ActsFor m c
         → owner m b ≡ owner_after (Self.opening m) (Self.acts m) b };
 
-    /// Law: if a poll is one action, a buffer's items, its capacity, and whether it is closed, are
-    /// what the sections of the actions leave under its lock.
+    /// Law: if a poll is one action, the sections of the actions determine a buffer's items, its
+    /// capacity, and whether it is closed.
     ghost items_are: { Self.IsStepwise → (m : Self.Machine) (c : CpuId) (b : BufId) → Self.ActsFor m c → b.0 < length (caps_in (Self.opening m))
         → ItemsAre (Self.opening m) (Self.acts m) b (items_of (contents_of (caps_in (Self.opening m)) (Self.seen m)) b.0)
         (slice_index (caps_in (Self.opening m)) b.0) (is_closed (Self.seen m) b.0) };

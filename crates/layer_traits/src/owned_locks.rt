@@ -11,7 +11,7 @@ use event_log::{LockId, NoMemory};
 use std::alloc::Global;
 
 /// A layer of critical sections whose machine is opened with its blocks and reports those that it
-/// has, and whose parts report those that their CPU holds.
+/// has. Its parts report the blocks that their CPU holds.
 pub trait OwnedLocks<E: SplitEdit>: Layer<LockLaw<E>> {
     ghost use Rattle.event_log.specs.{declared.ids.{CpuId.CpuId, LockId.LockId, TheConstants.CPUS}, Actions.phase, Sections.block_after};
     ghost use Rattle.layer_traits.specs.{Protocols.OneLock.{AreDistinct, opened}, Views.Owned.IsObserved, Polling.Plans.is_in_section};

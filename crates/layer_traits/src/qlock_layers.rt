@@ -49,9 +49,9 @@ impl<O> Model for LockingOf<O> {
 /// a lock that has one puts its caller to sleep, and is polled again once the thread runs again.
 /// The thread then owns the lock, and the result says so without an action.
 ///
-/// A call is allowed if its caller runs here, the hand is empty, the call is the owner's or asks
-/// for the lock, and the edits' protocol allows it and continues to. A thread that slept for a lock
-/// asks for it again, and no other call is pending.
+/// A call is allowed if its caller runs here and the hand is empty, and if it is the owner's or
+/// asks for the lock. The edits' protocol must allow it and continue to. A thread that slept for a
+/// lock asks for it again, and no other call is pending.
 pub struct QLockLaw<F> {
     edits: PhantomData<F>,
 }

@@ -36,7 +36,7 @@ pub enum SchedAnswer<O> {
 }
 
 /// The law of schedulers: which thread runs on a CPU, which are ready there, which have ended, and
-/// the woken thread in its hand whose home is another CPU. An edit may put the thread that runs to
+/// which woken thread of another home is in its hand. An edit may put the thread that runs to
 /// sleep, and may wake a sleeper. A woken thread is ready at once if its home is this CPU.
 /// Otherwise it is in this CPU's hand until it is made ready at its home (Gu et al., PLDI 2018).
 pub struct SchedLaw<E> {

@@ -50,8 +50,8 @@ pub trait Sleeps: Sized + Drop {
     type Brought: Drop;
 
     /// What an edit means: its caller, the block that it leaves and its result, as functions of the
-    /// lock's first sleeper and of the block that it finds; which list the caller joins and which
-    /// thread leaves one, according to the result; and after which sections which CPU may do it.
+    /// lock's first sleeper and of the block that it finds. According to the result, which list the
+    /// caller joins and which thread leaves one. After which sections which CPU may do it.
     ghost rules: { SleepRules Self Self.Block Self.Out };
 
     /// Returns the calling thread.

@@ -164,9 +164,10 @@ pub trait ThreadLayer<L: ThreadLaw>: Sized {
         ensures tries { IsStepwise → result ≡ true
             → Tries (ActsFor m.old) (cpu_of self.old) (acts m.old) (acts m.new) };
 
-    /// Records failed polls of a section that waits at its lock, as long as a poll would fail: at
-    /// most one for each of the steps at the front of `steps` that are this CPU's. Returns how many
-    /// it recorded: each failed, and nothing else is changed. A layer may always return 0.
+    /// Records failed polls of a section that waits at its lock, as long as a poll would fail. It
+    /// records at most one for each of the steps at the front of `steps` that are this CPU's.
+    /// Returns how many it recorded: each failed, and nothing else is changed. A layer may always
+    /// return 0.
     ///
     /// Requires: part and machine agree, and there is room for as many events as there are steps.
     #[inline(always)]
@@ -189,8 +190,8 @@ pub trait ThreadLayer<L: ThreadLaw>: Sized {
     /// A message that the call puts is in the payload at each poll, and one that its result brings
     /// is there afterwards.
     ///
-    /// Requires: part and machine agree, the lock of the call exists, there is room for an event,
-    /// and the call may be polled now: while a call is pending, only that call.
+    /// Requires: part and machine agree, the lock of the call exists, and there is room for an
+    /// event. The call may be polled now: while a call is pending, only that call.
     fn poll(
         &mut self,
         m: &mut Self::Machine,
@@ -215,8 +216,8 @@ pub trait ThreadLayer<L: ThreadLaw>: Sized {
     /// Performs at most one action of a pass. Returns `Some` once the pass has ended, and `None`
     /// while the same pass must be polled again.
     ///
-    /// Requires: part and machine agree, there is room for an event, and the pass may be polled now
-    /// (while a call is pending, only that call).
+    /// Requires: part and machine agree, and there is room for an event. The pass may be polled
+    /// now: while a call is pending, only that call.
     fn pass(&mut self, m: &mut Self::Machine, call: Pass, payload: &mut Payload) -> Option<()>
         requires fits { Fits self.old m.old }
         requires room { 0 < room m.old }

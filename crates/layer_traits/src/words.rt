@@ -11,8 +11,8 @@ use event_log::{CpuId, Event, LockId};
 /// owned machine acts for all CPUs. A seat (a per-CPU handle of shared words) acts for its own CPU,
 /// and events of other CPUs may be added at any call.
 ///
-/// A machine with other words meets this trait too, if it stores its log as ticket locks would: a
-/// poll reads in that log how often the lock was freed, whatever word the machine loads.
+/// A machine with other words meets this trait too, if it stores its log as ticket locks would. A
+/// poll then reads in that log how often the lock was freed, whatever word the machine loads.
 ///
 /// No call allocates memory, and each succeeds.
 pub trait Words {
@@ -93,12 +93,12 @@ pub trait Words {
         ensures acts { (c : CpuId) → ActsFor self.old c → ActsFor self.new c };
 
     /// Records failed polls of `cpu`, which waits at `lock` with `ticket`, as long as a poll would
-    /// fail: at most one for each of the steps at the front of `steps` that are this CPU's. Returns
-    /// how many it recorded: each failed, and nothing else is changed. A machine may always return
-    /// 0.
+    /// fail. It records at most one for each of the steps at the front of `steps` that are this
+    /// CPU's. Returns how many it recorded: each failed, and nothing else is changed. A machine may
+    /// always return 0.
     ///
-    /// Requires: the holder acts for `cpu`, the lock exists, there is room for as many events as
-    /// there are steps, and `cpu` waits there with `ticket`.
+    /// Requires: the holder acts for `cpu`, which waits at `lock` with `ticket`. The lock exists,
+    /// and there is room for as many events as there are steps.
     #[inline(always)]
     fn spin(&mut self, cpu: CpuId, lock: LockId, ticket: u64, steps: &[CpuId]) -> usize
         requires cpu { ActsFor self.old cpu }
@@ -120,8 +120,8 @@ pub trait Words {
     /// Releases `lock` for `cpu`: a fetch-and-add of 1 on `serving`. `block` is stored in the
     /// machine.
     ///
-    /// Requires: the holder acts for `cpu`, the lock exists, there is room for an event, `cpu` is
-    /// inside it, and `block` is the one that the CPU's poll returned, edited as `mark` says. The
+    /// Requires: the holder acts for `cpu`, the lock exists, there is room for an event, and `cpu`
+    /// is inside it. `block` is the one that the CPU's poll returned, edited as `mark` says. The
     /// protocol allows that edit, and still does after whatever other CPUs do first.
     fn free(
         &mut self,

@@ -1,4 +1,4 @@
-//! The queuing lock, a sleeping mutex with direct hand-off: a thread that finds it taken sleeps,
+//! The queuing lock, a sleeping mutex with direct hand-off. A thread that finds it taken sleeps,
 //! and a release makes the first sleeper its owner, without freeing it in between.
 //!
 //! Thread 3 asks for the lock of buffer 0, and is polled until it owns it:

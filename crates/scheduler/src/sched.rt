@@ -13,8 +13,8 @@ use layer_traits::{
 
 /// One CPU's part of a scheduler over shared queues: it performs its CPU's calls one by one, and
 /// has the CPU's private scheduling state. A thread that it wakes is ready at once if this CPU is
-/// its home. Otherwise the thread is in the hand (in-transit slot) until it is pushed into the
-/// pending queue of its home, the remote wake-up queue (Gu et al., PLDI 2018).
+/// its home. Otherwise the thread is in the hand (in-transit slot) until it is pushed into its
+/// home's pending queue, the remote wake-up queue (Gu et al., PLDI 2018).
 #[derive(Drop)]
 pub struct Sched<Q> {
     lower: Q,

@@ -37,8 +37,8 @@ fn empty_queues<B: Drop>(
 }
 
 /// Returns the locks of shared queues at boot, each with its block: an empty pending queue for each
-/// of so many CPUs, and for each of `blocks` the buffer whose number is its index. `homes` holds
-/// the home of each thread. All memory that the blocks need is allocated here.
+/// of so many CPUs, and `blocks` for the buffers. The index of a block is its buffer's number.
+/// `homes` holds the home of each thread. All memory that the blocks need is allocated here.
 ///
 /// Requires: there are at least one CPU and at most `CPUS`, at most `BUFFERS` blocks and at most
 /// `THREADS` homes. Each home is one of the CPUs.

@@ -95,12 +95,12 @@ pub trait FairLock<LockProtocol> {
         ensures room { room self.old ≤ room self.new + 1 }
         ensures acts { (c : CpuId) → ActsFor self.old c → ActsFor self.new c };
 
-    /// Tries to enter `lock` for `cpu`, as long as the tries fail: at most once for each of the
-    /// steps at the front of `steps` that are this CPU's. Returns how often it tried: each try
-    /// failed, and nothing else is changed. A machine may always return 0.
+    /// Tries to enter `lock` for `cpu`, as long as the tries fail. It tries at most once for each
+    /// of the steps at the front of `steps` that are this CPU's. Returns how often it tried: each
+    /// try failed, and nothing else is changed. A machine may always return 0.
     ///
-    /// Requires: the holder acts for `cpu`, the lock exists, there is room for as many events as
-    /// there are steps, and `cpu` waits there with `ticket`.
+    /// Requires: the holder acts for `cpu`, which waits at `lock` with `ticket`. The lock exists,
+    /// and there is room for as many events as there are steps.
     #[inline(always)]
     fn spin(&mut self, cpu: CpuId, lock: LockId, ticket: u64, steps: &[CpuId]) -> usize
         requires cpu { ActsFor self.old cpu }
@@ -121,8 +121,8 @@ pub trait FairLock<LockProtocol> {
 
     /// Releases `lock` for `cpu`, and stores `block` in the machine.
     ///
-    /// Requires: the holder acts for `cpu`, the lock exists, there is room for an event, `cpu`
-    /// holds it, and `block` is the one with which it entered, edited as `mark` says. The protocol
+    /// Requires: the holder acts for `cpu`, the lock exists, there is room for an event, and `cpu`
+    /// holds it. `block` is the one with which it entered, edited as `mark` says. The protocol
     /// allows that edit, and still does after whatever other CPUs do first.
     fn leave(
         &mut self,

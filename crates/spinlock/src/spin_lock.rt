@@ -13,7 +13,7 @@ use std::alloc::Global;
 use std::marker::PhantomData;
 use std::mem;
 
-/// One CPU's part of a FIFO spin lock: a section takes a place in the queue, tries to enter until
+/// One CPU's part of a FIFO spin lock. A section takes a place in the queue, tries to enter until
 /// that place is served, and releases the lock with its edit done. Each poll does one of these.
 #[derive(Drop)]
 pub struct SpinLock<M: FairLock<LockProtocol>, LockProtocol> {
@@ -25,11 +25,11 @@ pub struct SpinLock<M: FairLock<LockProtocol>, LockProtocol> {
     lock_protocol: PhantomData<LockProtocol>,
 }
 
-/// One CPU's part of a ticket lock (Gu et al., OSDI 2016): a section draws a ticket, polls until
+/// One CPU's part of a ticket lock (Gu et al., OSDI 2016). A section draws a ticket, polls until
 /// `serving` is that ticket, and releases with its edit done.
 pub type Ticket<W> = SpinLock<W, UsesTickets>;
 
-/// One CPU's part of a lock with a grant word for each waiter: a section takes a ticket, polls that
+/// One CPU's part of a lock with a grant word for each waiter. A section takes a ticket, polls that
 /// ticket's word until it is granted, and with its edit done grants the next ticket's word.
 pub type Grant<W> = SpinLock<W, UsesGrants>;
 

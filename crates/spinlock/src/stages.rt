@@ -36,7 +36,7 @@ pub enum TicketPhase<E, B> {
 impl<E: Drop, B: Drop> TicketPhase<E, B> {
     ghost use Rattle.spinlock.specs.Stages.{hit_by};
 
-    /// Moves to the stage after a poll of a CPU that waits: a poll that found this block succeeds,
+    /// Moves to the stage after a poll of a CPU that waits. A poll that found this block succeeds,
     /// and the edit moves on with it. A failed poll writes nothing.
     #[inline(always)]
     pub fn hit(&mut self, found: Option<B>)

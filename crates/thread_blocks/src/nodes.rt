@@ -17,8 +17,8 @@ pub struct Node {
 }
 
 /// The end's node, how many threads are in the queue, and a node for each thread. What a call reads
-/// and writes of a node is stored side by side, and the nodes of the first threads beside the
-/// end's, so that few cache lines move between processors.
+/// and writes of a node is stored side by side, and so are the nodes of the end and of the first
+/// threads. Few cache lines therefore move between processors.
 #[derive(Drop)]
 pub struct Nodes {
     pub end: Node,

@@ -12,9 +12,9 @@ use std::sync::ledger::{Blank, Ledger};
 /// A FIFO queue of threads. No thread is in it twice, so that it has room for all [`THREADS`]
 /// threads, and no call allocates memory.
 ///
-/// It is a doubly linked list in one table, indexed by thread number: for each thread the next one,
-/// the previous one, and whether it is in the queue. Each call therefore touches few cells,
-/// wherever its thread is: at most 8, and 16 for each thread that
+/// It is a doubly linked list in one table, indexed by thread number. For each thread the table has
+/// the next one, the previous one, and whether it is in the queue. Each call therefore touches few
+/// cells, wherever its thread is: at most 8, and 16 for each thread that
 /// [`drain_into`](ThreadQueue::drain_into) moves. A [`take`](ThreadQueue::take) pops one thread
 /// after another.
 #[derive(Drop)]

@@ -178,8 +178,8 @@ copies own t = one_if (is_thread t own.current) + count_in t own.ready + count_i
 abbrev pub is_here : List CpuId → CpuId → List Step → Tid → Bool
 is_here homes c moves t = is_cpu c (home_of homes t) && is_home (where_is homes moves t)
 
--- a CPU's private state agrees with the places: it has each thread that is on this home CPU once, and
--- no other, and in its hand exactly the thread whose place is there
+-- a CPU's private state agrees with the places: it has each thread that is on this home CPU once,
+-- and no other, and in its hand exactly the thread whose place is there
 pub record Stands (homes : List CpuId) (c : CpuId) (moves : List Step) (own : Threads) : Type 0 where
   pub places : (t : Tid) → copies own t ≡ one_if (is_here homes c moves t)
   pub hand : (t : Tid) → is_thread t own.hand ≡ is_hand c (where_is homes moves t)
