@@ -45,9 +45,9 @@ count_of_kind entries b kind = count_by (λ e. (e.buffer.0 == b) && kind_eq e.ki
 abbrev pub is_closed : List Entry → ℕ → Bool
 is_closed entries b = nat_lt 0 (count_of_kind entries b Close)
 
--- after the earlier entries, with these contents, e may follow: its effect is allowed, its op is
--- the number of earlier entries of its buffer, its pos the number of those of its buffer that are
--- counted with it
+-- after the earlier entries, with these contents, e may follow. Its effect is allowed, its op is
+-- the number of earlier entries of its buffer. Its pos is the number of those of its buffer that
+-- are counted with it
 pub record IsNext (caps : List ℕ) (earlier : List Entry) (contents : List (List Message)) (e : Entry) : Type 0 where
   pub known : e.buffer.0 < length caps
   pub allowed : IsAllowedEffect e.kind (is_closed earlier e.buffer.0) (slice_index caps e.buffer.0) (items_of contents e.buffer.0) e.value

@@ -2,7 +2,7 @@
 use Rattle.std.specs.Prelude.{◌≡◌, ℕ, List, [], ◌∷◌, ◌++◌, Some, slice_get, slice_index_or, slice_set}
 use Rattle.event_log.specs.{declared.entries.Entry.Entry, Runs.count_of}
 
--- the order takes the first entry of some trace, again and again, until all traces are used up: it
+-- the order takes the first entry of some trace, again and again, until all traces are used up. It
 -- keeps the order of each trace, and has each entry exactly once and nothing else
 abbrev pub IsInterleaving : List (List Entry) → List Entry → Type 0
 IsInterleaving traces [] = (k : ℕ) → slice_index_or traces k [] ≡ []

@@ -107,7 +107,7 @@ pub named_raised : {M N R S T A C : Type 0} (name : M → N) (f : Left S A → L
     → plan_named name (raised f plan) ≡ raised f (plan_named name plan)
 named_raised name f plan = grind arith
 
--- The kernel j of a layer wraps the kernel k of the lower layer: j's edits are under a name of
+-- The kernel j of a layer wraps the kernel k of the lower layer. The edits of j are under a name of
 -- theirs, and its blocks are views of the lower ones. What is edited, returned, opened and moved
 -- there is so here, and what is allowed there is allowed here.
 pub record Wraps {D E A B O : Type 0} (k : Kernel D A O) (j : Kernel E B O) (name : D → E) (view : A → B) : Type 0 where

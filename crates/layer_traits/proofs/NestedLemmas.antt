@@ -1,4 +1,4 @@
--- Sections of the edits of shared queues as calls: a section is its call, what the blocks of the
+-- Sections of the edits of shared queues as calls: a section is its call. What the blocks of the
 -- locks hold after calls, and what one poll of a section means as a poll of its call.
 use Rattle.std.proofs.Common.{◌≡◌, ◌<◌, Bool, false, ◌&&◌, not, List, [], ◌∷◌, ◌++◌, Option, Some, None, MatchOption, is_some, option_map, if◌then◌else◌}
 use Rattle.std.proofs.{Common.{map, refl, ap, ◌∙◌, subst, arith}, lemmas.{Bool.lt-ltb, Option.slice_get_within}}

@@ -1,6 +1,6 @@
--- Places under moves: what a move may do to a place, that moves of others do not change a CPU's
--- private state, which threads are in a pending queue, and that each change of a CPU's private
--- state keeps its agreement with the places.
+-- Places under moves: what a move may do to a place, and which threads are in a pending queue.
+-- Moves of others do not change a CPU's private state, and each change of that state keeps its
+-- agreement with the places.
 use Rattle.std.proofs.Common.{◌≡◌, ◌≢◌, ℕ, zero, suc, ◌+◌, ◌<◌, Bool, true, false, ◌&&◌, List, [], ◌∷◌, ◌++◌, Option, Some, None, MatchOption, IsSome}
 use Rattle.std.proofs.{Common.{if◌then◌else◌, refl, ap, sym, ◌∙◌, arith, zero-add, slice_get}, lemmas.Bool.and_parts}
 use Rattle.event_log.{specs.{declared.ids.{CpuId.CpuId, LockId.LockId, Tid.Tid}, History.{same_cpu, AreOthers}}, proofs.Same.{same_cpu_self, same_cpu_true}}
@@ -112,8 +112,8 @@ module _ (homes : List CpuId) where
           let sleeps_there = asleep_at (where_is homes past t) (rw (same_tid_true u t same) at sleeper) in
           rw sleeps_there.1 (wakes caller may.0.home sleeps_there.0)
 
-  -- what a move may do to a place: leave it, push from the hand into the queue of the home, take
-  -- from the own queue to the home CPU, wake, put to sleep on the home CPU
+  -- what a move may do to a place: leave it, push from the hand into the home's queue, take from
+  -- the own queue to the home CPU, wake, put to sleep
   pub view_step : (past : List Step) (c : CpuId) (move : Move) (t : Tid) (P : Where → Where → Type 0)
       → MayMove homes past c move → ((w : Where) → P w w)
       → ((home : CpuId) → home_of homes t ≡ Some home → P (Hand c) (IsPending home))

@@ -178,8 +178,8 @@ module _ {P L M : Type 0} (I : Ghosts P L M) (plan : ℕ → List CpuId → CpuI
   same_effect p m _ q n (quiet_yet {k = k} some run quiet) =
       ap (λ (x : CallState). x.effect) (going_begun (call_state_of (I.own q).call_states t) call (is_on p m k q n run quiet.runs).begun) ∙ quiet.effect
 
-  -- a poll after which the thread runs, and the call has had its effect exactly if it had it at the
-  -- start, leaves it without an end and a further effect
+  -- a poll after which the thread runs leaves the call without an end and a further effect, if the
+  -- call has an effect exactly if it had it at the start
   pub quiet_after_poll : (p : P) (m : M) (actions : ℕ) (q : P) (n : M) (r : P) (o : M) → SoFar p m actions q n → PolledAt I plan t call q n r o None
       → (threads_in (I.own r)).current ≢ None
       → is_some (call_state_of (I.own r).call_states t).effect ≡ is_some (going (call_state_of (I.own p).call_states t) call).effect

@@ -1,4 +1,4 @@
--- A layer that wraps its edits in those of a lower sleeping layer: a poll and a plan there are a
+-- A layer that wraps its edits in those of a lower sleeping layer. A poll and a plan there are a
 -- poll and a plan here, under the layer's own names.
 use Rattle.std.proofs.Common.{◌≡◌, List, ◌++◌, Option, ap, ◌∙◌, subst, arith}
 use Rattle.{event_log.specs.declared.ids.{BufId.BufId, CpuId.CpuId, Tid.Tid}, layer_traits.specs.declared.{passes.Pass.Pass, queues.QueueEvent.QueueEvent}}

@@ -33,7 +33,7 @@ pub trait SplitEdit: Sized + Drop {
     type Brought: Drop;
 
     /// What an edit means: the block that it leaves and its result, as functions of the block that
-    /// it finds; and after which sections which CPU may do it.
+    /// it finds. After which sections which CPU may do it.
     ghost rules: { Rules Self Self.Block Self.Out };
 
     /// Abstraction function: the edit that a passed-down form means, with this payload beside it.

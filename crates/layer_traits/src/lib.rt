@@ -1,5 +1,5 @@
-//! The laws that the tower's machines and layers meet: what an edit is, what a machine of lock
-//! words provides, and what a layer of critical sections promises to the layer above it.
+//! The laws that the tower's machines and layers meet: what an edit is, and what a machine of lock
+//! words provides. They also say what a layer of critical sections promises to the layer above it.
 //!
 //! A layer over another layer implements its trait by polling the lower one. Here are shared queues
 //! over locks:

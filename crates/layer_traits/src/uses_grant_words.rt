@@ -12,9 +12,9 @@ use crate::words::Words;
 use event_log::{CpuId, LockId, NoMemory};
 use std::alloc::Global;
 
-/// A machine whose locks have grant words, and which stores its log in the events of a ticket lock,
-/// as it would with two words to a lock. That log, translated into events of grant words, is legal
-/// for them. The machine therefore meets [`GrantWords`] by what it does as [`Words`].
+/// A machine whose locks have grant words. It stores its log in the events of a ticket lock, as it
+/// would with two words to a lock. That log, translated into events of grant words, is legal for
+/// them. The machine therefore meets [`GrantWords`] by what it does as [`Words`].
 pub trait UsesGrantWords: Words {}
 
 impl<W: UsesGrantWords> GrantWords for W {

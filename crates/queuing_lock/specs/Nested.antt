@@ -1,5 +1,5 @@
--- The calls on a queuing lock as sections of the layer that lets threads sleep: what they do to the
--- busy word and to the block of the layer above.
+-- The calls on a queuing lock as sections of the layer that lets threads sleep. They edit the busy
+-- word and the block of the layer above.
 use Rattle.{std.specs.Prelude.{map, Option, Some, None, option_map}, event_log.specs.{declared.ids.{LockId.LockId, Tid.Tid}, Sections.renamed_section}}
 use Rattle.layer_traits.specs.declared.locked.{QEdit.{QEdit, TheVariants.{Acquire, Inside, Release}}, QOut.{QOut, TheVariants.{Acquired, Queued, Did}}}
 use Rattle.layer_traits.specs.declared.{locked.{QOut.TheVariants.Released, WakeWaiter.WakeWaiter}, payloads.Parcel.Parcel, sleeps.Wake.Wake}

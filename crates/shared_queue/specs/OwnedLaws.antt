@@ -15,8 +15,8 @@ abbrev pub queue_in : {B : Type 0} → QueueBlock B → Option (List Tid)
 queue_in (Queue queue homes) = Some queue
 queue_in (Above block) = None
 
--- lawful sections over the blocks of a boot, and the parts that observe blocks: the parts that fit,
--- the CPU of each, and when a CPU is in a section
+-- lawful sections over the blocks of a boot, and the parts that observe blocks. They say which
+-- parts fit, the CPU of each, and when a CPU is in a section
 pub record Observers (P : Type 0) {E B O : Type 0} (rules : Rules E B O) (mv : MoveRules E O) (opening : LockId → Option (QueueBlock B)) : Type 1 where
   pub past : List (Section (QueueEdit E))
   pub starts : StartsWell opening

@@ -33,9 +33,8 @@ abbrev pub under_of : {E O : Type 0} → Option (Deferred E O) → Option (Sched
 under_of None under = option_map (renamed_sched slept_edit) under
 under_of (Some k) under = Some (call.OnBuffer k.buffer k.edit)
 
--- an outcome is deferred only while a thread is in the hand, and then the scheduler's call, if
--- there is one, forwards that thread to its home CPU; while a section is under way the hand is
--- empty
+-- an outcome is deferred only while a thread is in the hand. The scheduler's call, if there is one,
+-- then forwards that thread to its home CPU. While a section is under way the hand is empty
 abbrev pub SectionDeferredFits : {E O : Type 0} → Option (Deferred E O) → Option (SchedCall (SleepEdit E)) → Option Tid → Type 0
 SectionDeferredFits None None hand = Unit {0}
 SectionDeferredFits None (Some (call.Pass p)) hand = Unit {0}

@@ -28,8 +28,8 @@ pub struct SleepBlock<B> {
     pub above: B,
 }
 
-/// Puts `t` at the end of a waiting list, if it is a thread that a machine may have and is not in
-/// the list yet.
+/// Puts `t` at the end of a waiting list, if it is a thread of the machine and is not in the list
+/// yet.
 fn join(queue: &mut ThreadQueue, t: Tid)
     ensures { queue.new ≡ joined t queue.old }
 {

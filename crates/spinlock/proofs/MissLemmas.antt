@@ -14,8 +14,8 @@ told_again : {X N : Type 0} (f : X → Action N) (e : X) (a : Action N) → f e 
 told_again f e a is zero old = refl
 told_again f e a is (suc looks) old = ap (λ b. b ∷ map f (replicate looks e ++ old)) is ∙ ap (λ l. a ∷ l) (told_again f e a is looks old)
 
--- events of one kind that leave the CPU waiting are failed tries: `f` maps each event to an action,
--- and `phase_at` is the phase in which a log leaves the CPU
+-- events of one kind that leave the CPU waiting are failed tries. The function `f` maps each event
+-- to an action, and `phase_at` is the phase in which a log leaves the CPU
 pub all_missed : {X E : Type 0} (f : X → Action E) (phase_at : List X → LockPhase) (e : X) (cpu : CpuId) (lock : LockId) (ticket : ℕ) (hit : Bool)
     → f e ≡ Try cpu lock hit → ((log : List X) → phase_at (e ∷ log) ≡ (if hit then Holding lock ticket else Waiting lock ticket))
     → (looks : ℕ) (old new : List X) → new ≡ replicate looks e ++ old → phase_at new ≡ Waiting lock ticket → phase cpu (map f old) ≡ Waits lock

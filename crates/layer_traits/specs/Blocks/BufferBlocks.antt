@@ -8,8 +8,8 @@ use Rattle.{layer_traits.specs.declared.buffer_edits.BufferOut.TheVariants.{Ente
 use Rattle.thread_blocks.specs.Queues.{first, rest}
 
 -- what a buffer's block holds: the queue of each side, first in front; the items, first in front;
--- the capacity; whether it is closed; and, modulo 2^64, how many effects it had, how many threads
--- entered the send queue and the receive queue, and how often it was closed
+-- the capacity; and whether it is closed. It also counts, modulo 2^64, its effects, the threads
+-- that entered the send queue and the receive queue, and how often it was closed
 pub record BufferState : Type 0 where
   pub receive_line : List Tid
   pub send_line : List Tid

@@ -41,8 +41,8 @@ drawn opening lock side t (s ∷ past) =
 abbrev pub entry : CpuId → Tid → Kind → BufId → Message → ℕ → ℕ → Entry
 entry cpu t kind b value op pos = record { cpu = cpu; thread = t; kind = kind; buffer = b; value = value; op = op; pos = pos }
 
--- the effect of a call on a lock's buffer: a try at its thread's turn has one, with the position
--- that its thread drew; a close has one, whose position is the number of those before it
+-- the effect of a call on a lock's buffer. A try at its thread's turn has one, with the position
+-- that its thread drew. A close has one, whose position is the number of those before it
 abbrev pub effect_on : CpuId → BufId → CvCall BufferEdit → (Side → Tid → ℕ) → Option BufferLock → Option Entry
 effect_on cpu b call position None = None
 effect_on cpu b (Acquire t) position (Some lock) = None
@@ -78,7 +78,7 @@ abbrev pub contents_of : List ℕ → List Entry → List (List Message)
 contents_of caps [] = empty_buffers caps
 contents_of caps (e ∷ past) = after_entry (contents_of caps past) e
 
--- an effect may follow these: its buffer exists and allows it, its op is the number of earlier
+-- an effect may follow these. Its buffer exists and allows it. Its op is the number of earlier
 -- effects on that buffer, and its pos the number of those that are counted with its kind
 pub record MayTakeEffect (caps : List ℕ) (past : List Entry) (e : Entry) : Type 0 where
   pub known : e.buffer.0 < length caps

@@ -1,5 +1,5 @@
--- The law of the layer of buffers: the stages of a message call, what one poll of a call does to
--- the effects, to the moves and to the part's private state, and the plan of a poll.
+-- The law of the layer of buffers: the stages of a message call, and the plan of a poll. What one
+-- poll of a call does to the effects, to the moves and to the part's private state.
 use Rattle.std.specs.Prelude.{◌≡◌, ◌≢◌, ◌⊎◌, ℕ, List, ◌++◌, Option, Some, None, option_map, option_to_list, replicate, slice_index, slice_index_or, slice_set}
 use Rattle.std.specs.List.{AllByRecursion}
 use Rattle.event_log.specs.{declared.{entries.{Entry.Entry, Kind.Kind}, ids.{BufId.BufId, CpuId.CpuId, Tid.Tid, TheConstants.THREADS}}, Buffers.IsAllowedEffect}

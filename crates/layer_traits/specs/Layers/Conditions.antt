@@ -10,9 +10,9 @@ use Rattle.layer_traits.specs.Layers.QLocking.{LockState, LockRules}
 abbrev pub CvCall : Type 0 → Type 0
 CvCall G = QEdit (CvEdit G) CvLeave
 
--- what an edit of the block means: its caller, the block that it leaves and its result; which
--- thread is at the head of a side's queue and may proceed; and after which sections which CPU may
--- do which section
+-- what an edit of the block means: its caller, the block that it leaves and its result. Which
+-- thread is at the head of a side's queue and may proceed. After which sections which CPU may do
+-- which section
 pub record MonitorRules (G B O : Type 0) : Type 1 where
   pub caller : G → Tid
   pub edited : G → B → B

@@ -141,9 +141,9 @@ LocksAgree rules opening seen = (lock : LockId) (line : WaitList) (t : Tid) →
     count_in t (wait_list_in line (lock_after rules (inner opening) lock (buffer_sections seen)))
     ≡ one_if (is_at lock line (wait_channel_of (where_is (homes_in opening) (moves_in (lock_kernel rules opening) seen) t)))
 
--- the places of a part's threads are at its CPU, each once and no other; the lists of each lock
--- agree with the places; and a thread that is recorded to have slept for a lock owns that lock or
--- still sleeps for it
+-- the places of a part's threads are at its CPU, each once and no other. The lists of each lock
+-- agree with the places. A thread that is recorded to have slept for a lock owns that lock or still
+-- sleeps for it
 pub record LockAgrees {F R B O : Type 0} (rules : LockRules F R B O) (opening : LockId → Option (QueueBlock (LockState B))) (c : CpuId)
     (seen : List (QueueEvent (QEdit F R))) (own : Locking O) : Type 0 where
   pub stands : Stands (homes_in opening) c (moves_in (lock_kernel rules opening) seen) own.sleep.threads

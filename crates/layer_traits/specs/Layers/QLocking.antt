@@ -22,8 +22,8 @@ owner_in None = None
 owner_in (Some state) = state.owner
 
 -- what the edits inside a lock mean: their callers, the blocks above that they leave and their
--- results; which thread an edit signals and on which side the caller of a last edit waits,
--- according to the result; and after which sections which CPU may do a call
+-- results. According to the result, which thread an edit signals and on which side the caller of a
+-- last edit waits. After which sections which CPU may do a call
 pub record LockRules (F R B O : Type 0) : Type 1 where
   pub caller : F → Tid
   pub edited : F → B → B

@@ -62,7 +62,7 @@ pub record BufferAllowed {E B O : Type 0} (k : Kernel E B O) (past : List (Queue
   pub caller : MayEditFor k.homes (moves_in k past) c (k.moves.caller e)
   pub upper : k.rules.allowed k.opening (buffer_sections past) (section c (Buffer b) e)
 
--- a call of a CPU is allowed after these events: it pushes the thread in its hand into the queue of
+-- a call of a CPU is allowed after these events. It pushes the thread in its hand into the queue of
 -- that thread's home, takes only its own queue, and edits as is allowed
 abbrev pub CallAllowed : {E B O : Type 0} → Kernel E B O → List (QueueEvent E) → CpuId → QueueCall E → Type 0
 CallAllowed k past c (Push d t) = MayPush k.homes (moves_in k past) c d t

@@ -52,7 +52,7 @@ left_done outcome threads =
 
 module _ {E B O : Type 0} (k : Kernel E B (Outcome O)) (c : CpuId) (b : BufId) (e : E) where
   -- a poll result may follow this past: a section if none has been done yet, with its outcome
-  -- there; a thread is forwarded from the hand once its section is done
+  -- there. A thread is forwarded from the hand once its section is done
   abbrev pub MayDo : PollResult O → List (QueueEvent E) → Sleeping O → Type 0
   MayDo WaitsStill past own = Unit {0}
   MayDo (Does outcome) past own = (own.deferred ≡ None) × (out_at k past b e ≡ Some outcome)
@@ -110,8 +110,8 @@ abbrev pub pass_plan : {E O : Type 0} → MoveRules E (Outcome O) → List CpuId
     → Plan (QueueEdit E) (QueueAnswer (Outcome O)) (Sleeping O) (Unit {0})
 pass_plan mv homes c p own = raised (left_passed own.deferred) (sched_plan mv homes c (call.Pass p) own.threads)
 
--- why the poll of a whole machine returns no result: the section was done in it, and the thread
--- that it woke must now be forwarded to its home CPU
+-- why the poll of a whole machine returns no result: the section was done in it, and its woken
+-- thread must now be forwarded to its home CPU
 pub record MustSend {O : Type 0} (old new : Sleeping O) : Type 0 where
   pub before : old.deferred ≡ None
   pub after : IsSome new.deferred

@@ -15,8 +15,8 @@ pub record SleepState (B : Type 0) : Type 0 where
   pub above : B
 
 -- what an edit means: its caller; the block above that it leaves and its result, which also depend
--- on the lock's first sleeper; which list its caller joins and which thread leaves one, according
--- to the result; and after which sections which CPU may do it
+-- on the lock's first sleeper. According to the result, which list its caller joins and which
+-- thread leaves one. After which sections which CPU may do it
 pub record SleepRules (E B O : Type 0) : Type 1 where
   pub caller : E → Tid
   pub edited : E → Option Tid → B → B

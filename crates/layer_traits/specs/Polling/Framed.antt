@@ -3,8 +3,8 @@
 use Rattle.std.specs.Prelude.{◌≡◌, ◌≢◌, ℕ, ◌+◌, ◌≤◌, List, Option}
 use Rattle.event_log.specs.declared.ids.{CpuId.CpuId, LockId.LockId}
 
--- the machine m became n: the same opening blocks, the same machine, room for at most one event
--- less, and its holder still acts for each CPU for which it acted
+-- the machine m became n. The opening blocks and the machine are the same, and there is room for at
+-- most one event less. Its holder still acts for each CPU for which it acted
 pub record Stays {M B : Type 0} (opening_of : M → LockId → Option B) (site_of : M → List ℕ) (room_of : M → ℕ) (ActsFor : M → CpuId → Type 0)
     (m n : M) : Type 0 where
   pub opening : opening_of n ≡ opening_of m

@@ -1,4 +1,4 @@
--- What one more poll of the lock by a waiting section adds to the actions: the same at every
+-- What one more poll of the lock by a waiting section adds to the actions. It is the same at every
 -- height, since it names no edit, no result and no table.
 use Rattle.std.specs.Prelude.{◌≡◌, List, ◌∷◌, ◌++◌, ◌==◌}
 use Rattle.event_log.specs.{declared.ids.{CpuId.CpuId, LockId.LockId}, History.AreForeign, Actions.{Action, Try, Waits, cpu_of_action, gives, phase, spot_of}}

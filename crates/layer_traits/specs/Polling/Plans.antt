@@ -26,7 +26,7 @@ pub record Left (S A : Type 0) : Type 0 where
   pub answer : Option A
 
 -- the plan of a poll: to do without an action and leave this, or one action of the section of this
--- name at this lock; the section's result, once there is one, determines what the poll leaves
+-- name at this lock. The section's result, once there is one, determines what the poll leaves
 pub data Plan (N R S A : Type 0) : Type 0 where
   Now : (left : Left S A) → Plan N R S A
   Act : (lock : LockId) (name : N) (react : Option R → Left S A) → Plan N R S A

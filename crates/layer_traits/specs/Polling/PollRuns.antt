@@ -55,9 +55,9 @@ module _ {P M : Type 0} (Fits : P → M → Type 0) (cpu_of : P → CpuId) (open
       pub runs : (threads_in (own_of q)).current ≡ Some t
       pub effect : (call_state_of (own_of q).call_states t).effect ≡ (going (call_state_of (own_of p).call_states t) call).effect
 
-    -- so many polls of the call and of its section's lock, a poll of the call first, took the part
-    -- p and the machine m to this part and machine, and the last returned this kind. After each
-    -- poll except the last, the call had not ended and had had no effect
+    -- so many polls of the call and of its section's lock, of which the first is one of the call.
+    -- They took the part p and the machine m to this part and machine, and the last returned this
+    -- kind. After each poll except the last, the call had not ended and had had no effect
     pub data PolledOn (p : P) (m : M) : (actions : ℕ) → P → M → (told : Option ReplyKind) → Type 0 where
       once : {q : P} {n : M} {told : Option ReplyKind} → Polled p m q n (answer_in (own_of q).call_states t told) → PolledOn p m 1 q n told
       again : {k : ℕ} {q r : P} {n o : M} {told : Option ReplyKind} → PolledOn p m k q n None → IsBegun p q

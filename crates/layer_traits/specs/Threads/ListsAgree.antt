@@ -1,4 +1,4 @@
--- The waiting lists of the locks agree with the places of the threads, by count: a thread is once
+-- The waiting lists of the locks agree with the places of the threads, by count. A thread is once
 -- in the waiting list in which it sleeps, and in no other.
 use Rattle.std.specs.Prelude.{◌≡◌, Bool, true, false, ◌&&◌, List, Option, Some, None}
 use Rattle.event_log.specs.{declared.ids.{CpuId.CpuId, LockId.LockId, Tid.Tid}, History.same_lock, Sections.block_after}

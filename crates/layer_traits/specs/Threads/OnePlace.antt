@@ -29,8 +29,8 @@ pending moves n t = total (λ k. count_in t (pending_by moves (cpu_at k))) n
 abbrev pub over : (ℕ → Threads) → ℕ → Tid → ℕ
 over own n t = total (λ k. count_in t (own k).ended) n
 
--- all of a machine agrees with the places: each home is one of its n CPUs, the moves are allowed,
--- each CPU's private state agrees with the places, and a thread is among the sleepers as often as
+-- all of a machine agrees with the places. Each home is one of its n CPUs, the moves are allowed,
+-- and each CPU's private state agrees with the places. A thread is among the sleepers as often as
 -- its place says
 pub record AllStand (homes : List CpuId) (n : ℕ) (moves : List Step) (own : ℕ → Threads) (sleeping : Tid → ℕ) : Type 0 where
   pub homes_within : (t : Tid) (home : CpuId) → home_of homes t ≡ Some home → home.0 < n

@@ -59,8 +59,8 @@ pass_after (MakeReady t) queue own = passed_on own
 pass_after End queue own = finished own
 
 -- a pass is allowed: a switch if no thread runs and some thread is ready, a drain if no thread runs
--- and none is ready, a yield and an end if a thread runs. None of them is allowed while a woken
--- thread is in the hand: that thread is made ready first
+-- and none is ready. A yield and an end are allowed if a thread runs. None of them is allowed while
+-- a woken thread is in the hand: that thread is made ready first
 abbrev pub MayPass : Pass → Threads → Type 0
 MayPass Switch own = (own.current ≡ None) × (own.hand ≡ None) × (own.ready ≢ [])
 MayPass YieldNow own = IsSome own.current × (own.hand ≡ None)
@@ -85,8 +85,8 @@ IsLocalPass (MakeReady t) = ⊥
 IsLocalPass End = Unit {0}
 
 -- a poll of a pass: environment steps are first, then the pass's own exactly if the poll returns a
--- result; the CPU's own threads change with it and only then; and a pass that touches nothing
--- shared returns at once
+-- result. The CPU's own threads change with it and only then. A pass that touches nothing shared
+-- returns at once
 pub record PassPolled (homes : List CpuId) (ActsFor : CpuId → Type 0) (c : CpuId) (call : Pass) {A : Type 0} (result : Option A) (old new : List Step)
     (own own' : Threads) : Type 0 where
   pub others : List Step

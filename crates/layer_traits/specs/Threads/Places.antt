@@ -33,8 +33,8 @@ pub data Where : Type 0 where
   Asleep : (wait_channel : WaitChannel) → Where
 
 -- what an event may do to places: push a thread into a pending queue, take all of one, edit what a
--- lock guards, by which the caller may go to sleep in a waiting list and a sleeper may be woken, or
--- nothing
+-- lock guards, or nothing. By an edit the caller may go to sleep in a waiting list and a sleeper
+-- may be woken
 pub data Move : Type 0 where
   Pushed : (queue : CpuId) (thread : Tid) → Move
   Took : (queue : CpuId) → Move
@@ -178,7 +178,7 @@ copies own t = one_if (is_thread t own.current) + count_in t own.ready + count_i
 abbrev pub is_here : List CpuId → CpuId → List Step → Tid → Bool
 is_here homes c moves t = is_cpu c (home_of homes t) && is_home (where_is homes moves t)
 
--- a CPU's private state agrees with the places: it has each thread that is on this home CPU once,
+-- a CPU's private state agrees with the places. It has each thread that is on this home CPU once,
 -- and no other, and in its hand exactly the thread whose place is there
 pub record Stands (homes : List CpuId) (c : CpuId) (moves : List Step) (own : Threads) : Type 0 where
   pub places : (t : Tid) → copies own t ≡ one_if (is_here homes c moves t)

@@ -3,7 +3,7 @@ use Rattle.std.specs.Prelude.{◌≡◌, ℕ, ◌<◌, ◌≤◌, All, List, [],
 use Rattle.event_log.specs.{declared.{entries.Entry.Entry, ids.{CpuId.CpuId, TheConstants.{BUFFERS, CPUS, THREADS}}}, Buffers.IsCapacity}
 use Rattle.layer_traits.specs.Threads.Places.{Step}
 
--- so many CPUs, buffers of these capacities and threads of these homes make a machine: it has a
+-- so many CPUs, buffers of these capacities and threads of these homes make a machine. It has a
 -- CPU, each home is one of its CPUs, and all are within the limits
 pub record AreOpenable (cpus : ℕ) (caps : List ℕ) (homes : List CpuId) : Type 0 where
   pub some_cpus : 1 ≤ cpus
