@@ -50,7 +50,7 @@ pub fn free_where_all_rest<N>()
 {}
 
 /// Bounded bypass, per CPU: from a CPU's request of a lock on, while it only polls, no other CPU
-/// releases that lock twice. It would have to overtake the first CPU in the queue.
+/// releases that lock twice. To enter again it would have to overtake the first CPU.
 #[tactic(auto, using(crate::proofs::OneFree::given_once))]
 pub fn given_once_meanwhile<N>()
     ensures { GivenOnceMeanwhile N }

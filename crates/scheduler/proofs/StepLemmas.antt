@@ -109,7 +109,7 @@ module _ {E B O : Type 0} (rules : Rules E B O) (mv : MoveRules E O) (opening : 
     pub state : StateFor mv s own
     state = state_of under fits.calls may
 
-    -- the lock of the call is there
+    -- the lock of the call exists
     pub lock_is_there : (q : QueueCall E) → queue_call H c s ≡ Some q → BufferIsThere opening s → IsSome (opening (lock_of q))
     lock_is_there q is there = grind arith
 
@@ -181,7 +181,7 @@ module _ {E B O : Type 0} (rules : Rules E B O) (mv : MoveRules E O) (opening : 
         legal_moves : AreMoves H (moves_in K before)
         legal_moves = moves_lawful K wakes before legal.1
 
-        -- the answer of an edit
+        -- the result of an edit
         edit_out : (b : BufId) (e : E) → q ≡ OnBuffer b e → (o : O) × (out_at K before b e ≡ Some o) × (answer ≡ told.Answer o)
         edit_out b e edits = grind arith
 

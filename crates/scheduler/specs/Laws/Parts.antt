@@ -7,7 +7,7 @@ use Rattle.{layer_traits.specs.Polling.Plans.is_in_section, scheduler.specs.Part
 pub under_is_some : {E : Type 0} (under : Option (QueueEvent E)) (current : Option Tid) → is_some (sched_under under current) ≡ is_some under
 under_is_some under current = grind arith
 
--- therefore none is pending if none is there
+-- therefore, if none is pending here, none is pending at the shared queues
 pub none_under : {E : Type 0} (under : Option (QueueEvent E)) (current : Option Tid) → sched_under under current ≡ None → under ≡ None
 none_under under current given = grind arith
 

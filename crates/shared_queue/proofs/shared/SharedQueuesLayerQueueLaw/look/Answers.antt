@@ -2,7 +2,7 @@ use Rattle.{std.proofs.Common.{subst, sym}, layer_traits.{proofs.NestedLemmas.ev
 use Rattle.shared_queue.proofs.FrameLemmas.{frame_raised}
 use Rattle.shared_queue.proofs.shared.SharedQueuesLayerQueueLaw.look.Goals as goal
 
--- foreign sections are foreign calls
+-- environment sections are environment calls
 pub returns-clause-seen : goal.returns-clause-seen
 returns-clause-seen g c = event_grows _ _ (λ d both. both.0) _ _ c.look.ensures.seen
 
