@@ -52,7 +52,7 @@ pub trait CallLayer<L: CallLaw>: Sized {
     /// The threads that sleep at a buffer, as its last section left them.
     ghost wait_lists: { Self.Machine → BufId → WaitList → List Tid };
 
-    /// The CPUs for which the holder of the machine acts. It implies that the machine is sound.
+    /// The CPUs for which the holder of the machine acts; this implies that the machine is sound.
     ghost ActsFor: { Self.Machine → CpuId → Type 0 };
 
     /// How many more events there is room for.
@@ -78,7 +78,7 @@ pub trait CallLayer<L: CallLaw>: Sized {
     /// The CPU's pending call or pass.
     ghost under_way: { Self → Option UnderWay };
 
-    /// The part and the machine agree.
+    /// Coupling invariant: the part and the machine agree.
     ghost Fits: { Self → Self.Machine → Type 0 };
 
     /// Whether one poll is one call: the call takes effect at the first poll at which its buffer

@@ -46,7 +46,7 @@ pub struct CallState {
 impl Default for CallState {
     ghost is_default = { λ call_state. call_state ≡ no_call };
 
-    /// A thread that never called.
+    /// Returns the call state of a thread that never called.
     fn default() -> CallState {
         CallState {
             stage: Stage::Idle,

@@ -34,7 +34,7 @@ pub trait GrantWords {
     /// The events that this holder has observed, newest first.
     ghost seen: { Self → List (GrantEvent (Mark Self.Edit)) };
 
-    /// The CPUs for which the holder acts. It implies that the machine is sound.
+    /// The CPUs for which the holder acts; this implies that the machine is sound.
     ghost ActsFor: { Self → CpuId → Type 0 };
 
     /// How many more events there is room for.

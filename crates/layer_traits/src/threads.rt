@@ -55,7 +55,7 @@ pub trait ThreadLayer<L: ThreadLaw>: Sized {
     /// The events that the holder of the machine has observed, newest first.
     ghost seen: { Self.Machine → List L.Event };
 
-    /// The CPUs for which the holder of the machine acts. It implies that the machine is sound.
+    /// The CPUs for which the holder of the machine acts; this implies that the machine is sound.
     ghost ActsFor: { Self.Machine → CpuId → Type 0 };
 
     /// How many more events there is room for.
@@ -83,7 +83,7 @@ pub trait ThreadLayer<L: ThreadLaw>: Sized {
     /// Whether the CPU waits at a lock or holds one.
     ghost is_inside: { Self → Bool };
 
-    /// The part and the machine agree.
+    /// Coupling invariant: the part and the machine agree.
     ghost Fits: { Self → Self.Machine → Type 0 };
 
     /// Whether one poll is one action, as in the tower.
@@ -107,7 +107,7 @@ pub trait ThreadLayer<L: ThreadLaw>: Sized {
         ensures call { under_way result ≡ None }
         ensures fits { (m : Self.Machine) → ActsFor m cpu → IsOutside m cpu → L.Boots (opening m) (seen m) homes.now cpu → Fits result m };
 
-    /// Whether the CPU waits at a lock or holds one.
+    /// Returns whether the CPU waits at a lock or holds one.
     fn is_busy(&self) -> bool
         ensures { result ≡ is_inside self.now };
 

@@ -36,7 +36,7 @@ pub trait Words {
     /// The events that this holder has observed, newest first.
     ghost seen: { Self → List (Event (Mark Self.Edit)) };
 
-    /// The CPUs for which the holder acts. It implies that the machine is sound.
+    /// The CPUs for which the holder acts; this implies that the machine is sound.
     ghost ActsFor: { Self → CpuId → Type 0 };
 
     /// How many more events there is room for.

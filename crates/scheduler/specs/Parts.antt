@@ -33,9 +33,9 @@ abbrev pub UnderFits : {E O : Type 0} → MoveRules E O → List CpuId → CpuId
 UnderFits mv homes c None own = Unit {0}
 UnderFits mv homes c (Some e) own = IsCalling mv homes c e own
 
--- a part of this CPU agrees with the machine. The lower part is of the same CPU, the homes are the
--- machine's, and the CPU has a pending queue. Its private state agrees with the places, and the
--- lower layer's pending call with that state
+-- coupling invariant of a part of this CPU and its machine. The lower part is of the same CPU, the
+-- homes are the machine's, and the CPU has a pending queue. Its private state agrees with the
+-- places, and the lower layer's pending call with that state
 pub record SchedPartFits {E B O : Type 0} (rules : Rules E B O) (mv : MoveRules E O) (opening : LockId → Option (QueueBlock B)) (c below : CpuId)
     (table : List CpuId)
     (under : Option (QueueEvent E)) (past : List (QueueEvent E)) (own : Threads) : Type 0 where

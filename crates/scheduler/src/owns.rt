@@ -34,7 +34,7 @@ pub fn threads_at_boot(homes: &[CpuId], cpu: CpuId) -> OwnThreads
     }
 }
 
-/// Context switch: the thread at the head of the run queue runs.
+/// Switches the context: the thread at the head of the run queue runs.
 #[inline(always)]
 fn switch(own: &mut OwnThreads)
     ensures { own.new ≡ switched own.old }
@@ -42,7 +42,7 @@ fn switch(own: &mut OwnThreads)
     own.current = own.ready.pop();
 }
 
-/// The thread that runs has ended.
+/// Moves the thread that runs to the ended ones.
 #[inline(always)]
 fn finish(own: &mut OwnThreads)
     requires { MayFinish own.old }
@@ -54,7 +54,7 @@ fn finish(own: &mut OwnThreads)
     own.current = None;
 }
 
-/// The threads of `queue` join the run queue, and after them the thread that runs.
+/// Moves the threads of `queue` to the run queue, and after them the thread that runs.
 #[inline(always)]
 fn join_ready(own: &mut OwnThreads, queue: &mut ThreadList)
     requires { MayJoin queue.old own.old }
@@ -75,8 +75,8 @@ fn pass_on(own: &mut OwnThreads)
     own.hand = None;
 }
 
-/// The thread that runs went to sleep, if `slept` names a wait list. `woke` was woken: it is ready
-/// if `cpu` is its home, and otherwise in the hand.
+/// Takes note that the thread that runs went to sleep, if `slept` names a wait list, and that
+/// `woke` was woken. A woken thread is ready if `cpu` is its home, and otherwise in the hand.
 #[inline(always)]
 fn settle(
     own: &mut OwnThreads,

@@ -24,9 +24,9 @@ held_block lock Out = None
 held_block lock (Waiting at edit ticket) = None
 held_block lock (Holding at edit block) = if same_lock lock at then Some block else None
 
--- the stage is where the actions leave the CPU: at rest, waiting with its ticket, or with the lock
--- that it holds and that lock's block. The ticket is that of its ticket index. The lock of a
--- waiting section exists, and the section under way stays allowed
+-- coupling invariant of a stage: it is where the actions leave the CPU. The CPU is at rest, waits
+-- with its ticket, or has the lock that it holds and that lock's block. The ticket is that of its
+-- ticket index. The lock of a waiting section exists, and the section under way stays allowed
 abbrev pub StageFits : {E B O : Type 0} → Rules E B O → (LockId → Option B) → List (Action E) → CpuId → TicketPhase E B → Type 0
 StageFits rules opening acts cpu Out = phase cpu acts ≡ Rests
 StageFits rules opening acts cpu (Waiting lock edit ticket) =

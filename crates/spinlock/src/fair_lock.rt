@@ -38,7 +38,7 @@ pub trait FairLock<LockProtocol> {
     /// The actions that this holder has seen, newest first, each Give with its section's edit.
     ghost acts: { Self → List (Action Self.Edit) };
 
-    /// The CPUs for which the holder acts. It implies that the machine is sound.
+    /// The CPUs for which the holder acts; this implies that the machine is sound.
     ghost ActsFor: { Self → CpuId → Type 0 };
 
     /// For how many more actions there is room.
