@@ -1,4 +1,4 @@
--- Capacities: what stands after some integers.
+-- Capacities: what has been read after some integers.
 use Rattle.std.proofs.Common.{◌≡◌, ℕ, ℤ, List, length, All}
 use Rattle.event_log.specs.{declared.ids.TheConstants.CAPACITY, Buffers.IsCapacity, Reading.all_as}
 use Rattle.{event_log.proofs.ReadingLemmas.{with_front, left_as}, boot.specs.Plan.number_within}

@@ -1,4 +1,4 @@
--- Threads: what stands after some tables.
+-- Threads: what has been read after some tables.
 use Rattle.std.proofs.Common.{◌≡◌, ℕ, List, map, All}
 use Rattle.{toml.specs.Data.Members, event_log.{specs.Reading.read_from, proofs.ReadingLemmas.{after, left_from}}, boot.specs.Plan.{Task, IsTask, task_at}}
 

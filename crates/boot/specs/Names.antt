@@ -2,7 +2,7 @@
 use Rattle.std.specs.Prelude.{ℕ, List, ◌++◌, codes, decimal}
 use Rattle.boot.specs.declared.refusals.PlanKey.{PlanKey, TheVariants.{Cpus, Trace, Buffers, Lock, Threads, Cpu, Program}}
 
--- a key's name; that of a key in a thread's table stands behind the thread
+-- a key's name; the name of a key in a thread's table is printed after the thread
 abbrev pub key_name : PlanKey → List ℕ
 key_name Cpus = codes "cpus"
 key_name Trace = codes "trace"

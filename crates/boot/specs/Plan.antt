@@ -1,4 +1,4 @@
--- What a plan says, and the first fault of one.
+-- What a plan says, and the first fault of a plan.
 use Rattle.std.specs.Prelude.{◌≡◌, ℕ, ◌-◌, ◌<◌, ◌≤◌, Bool, ◌&&◌, ℤ, pos, negsuc, List, [], ◌∷◌, length, codes, nat_le, map, slice_index, slice_index_or, All}
 use Rattle.std.specs.{Prelude.{IsTrue, Option, Some, None, Result, Ok, Err, if◌then◌else◌, option_and_then}, List.list_all}
 use Rattle.event_log.specs.{declared.ids.TheConstants.{CPUS, THREADS, BUFFERS, CAPACITY, TRACE}, Buffers.IsCapacity, Reading.{◌>>=◌, read_from, all_as}}
@@ -13,7 +13,8 @@ pub record Task : Type 0 where
   pub home : ℕ
   pub program : List Instruction
 
--- what a plan says: the number of CPUs, the entries that each may trace, the capacities by buffer, the lock, the threads
+-- what a plan says: the number of CPUs, the entries that each may trace, the capacities by buffer,
+-- the lock, the threads
 pub record BootPlan : Type 0 where
   pub cpus : ℕ
   pub trace : ℕ
@@ -69,7 +70,7 @@ lock_at (Some d) = wanted Lock (as_str d) >>= λ name. ranged Lock (lock_named n
 unfoldable pub tables_at : Option Data → Result (List Members) BootError
 tables_at d = wanted Threads (list_at as_table d) >>= λ tables. ranged Threads (some_to THREADS tables)
 
--- a program's fault in the words of the plan
+-- a program's fault, as a fault of the plan
 abbrev pub fault_of_thread : {A : Type 0} → ℕ → Result A GuestError → Result A BootError
 fault_of_thread t (Ok x) = Ok x
 fault_of_thread t (Err (At line fault)) = Err (Guest (record { 0 = t }) line fault)
@@ -109,7 +110,7 @@ document_of (Some document) = Ok document
 unfoldable pub plan_of : List ℕ → Result BootPlan BootError
 plan_of text = document_of (parse_document text) >>= plan_in
 
--- what an error says of what is meant: that error, but nothing where memory was refused
+-- what an error says of the intended result: it is that error. An error of memory says nothing
 abbrev pub Fails : {Y : Type 0} → BootError → Result Y BootError → Type 0
 Fails (NoMemory _) ghost_of = Unit {0}
 Fails BadToml ghost_of = ghost_of ≡ Err BadToml
@@ -117,7 +118,8 @@ Fails (MissingKey key) ghost_of = ghost_of ≡ Err (MissingKey key)
 Fails (OutOfRange key) ghost_of = ghost_of ≡ Err (OutOfRange key)
 Fails (Guest t line fault) ghost_of = ghost_of ≡ Err (Guest t line fault)
 
--- a call gives the value that is meant, as it is viewed, or the error; want of memory aside
+-- a call returns the intended value, as it is viewed, or the intended error; out of memory is the
+-- exception
 abbrev pub Gives : {X Y : Type 0} → (X → Y) → Result X BootError → Result Y BootError → Type 0
 Gives view (Ok x) ghost_of = ghost_of ≡ Ok (view x)
 Gives view (Err e) ghost_of = Fails e ghost_of
@@ -129,7 +131,8 @@ plan_home_of plan t = slice_index (map (λ task. task.home) plan.tasks) t
 abbrev pub plan_program_of : BootPlan → ℕ → List Instruction
 plan_program_of plan t = slice_index_or (map (λ task. task.program) plan.tasks) t []
 
--- a thread of so many CPUs and buffers: one of the CPUs is its home, and its program names only these buffers
+-- a thread of so many CPUs and buffers: one of the CPUs is its home, and its program names only
+-- these buffers
 pub record IsTask (cpus buffers : ℕ) (task : Task) : Type 0 where
   pub home : task.home < cpus
   pub program : IsProgram task.program

@@ -1,4 +1,4 @@
--- A boot's threads as its plan has them.
+-- A boot's threads, as its plan lists them.
 use Rattle.{std.specs.Prelude.{List, map}, boot.specs.{declared.tasks.Task.Task as TaskInside, Plan.Task}}
 
 -- a thread

@@ -1,7 +1,7 @@
 //! Reads a plan: how many CPUs a system has, how many entries each may trace, the capacities of
 //! its buffers, which lock they use, and each thread's CPU and program. A plan is a TOML document.
 //!
-//! A `Boot` is within all limits, so whatever is built from one needs no test of its own.
+//! A `Boot` is within all limits: code that builds from a `Boot` does not test them again.
 //!
 //! ```rust
 //! use boot::{Boot, LockKind};

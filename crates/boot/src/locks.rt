@@ -1,4 +1,4 @@
-//! Which lock a plan asks for. No call takes memory or waits.
+//! Which lock a plan asks for. No call allocates memory or waits.
 
 ghost use Rattle.std.specs.Prelude.{◌≡◌, codes};
 ghost use Rattle.{toml.specs.{Data.get_member, View.table_view}, boot.specs.{Locks.lock_named, Plan.lock_at}};
@@ -7,7 +7,7 @@ use crate::refusals::{BootError, PlanKey};
 use crate::tables::value_at;
 use toml::Table;
 
-/// The lock at which CPUs stand in line.
+/// The kind of FIFO spin lock in whose queue CPUs wait.
 #[derive(Clone, Copy, Debug, PartialEq, Eq)]
 pub enum LockKind {
     /// `ticket`: a ticket lock.
@@ -17,7 +17,7 @@ pub enum LockKind {
 }
 
 impl LockKind {
-    /// The lock of this name: `ticket` or `grant`. `None` where the name is no lock's.
+    /// Returns the lock of this name: `ticket` or `grant`. `None` if no lock has this name.
     pub fn named(name: &str) -> Option<LockKind>
         ensures { result ≡ lock_named name.now }
     {
@@ -29,10 +29,10 @@ impl LockKind {
     }
 }
 
-/// The lock of a plan: a lock with grant words, where the key is absent.
+/// Returns the lock of a plan. The default, where the key is absent, is a lock with grant words.
 ///
-/// Errors: `MissingKey` if the value of the key is no text. `OutOfRange` if the text is no name of
-/// a lock. The table stays as it was.
+/// Errors: `MissingKey` if the value of the key is not a text. `OutOfRange` if the text is not the
+/// name of a lock. The table is unchanged.
 #[tactic(auto, unfolding(crate::specs::Plan::lock_at))]
 pub fn lock_at(table: &Table) -> Result<LockKind, BootError>
     ensures { result ≡ lock_at (get_member (codes "lock") (table_view table.now)) }

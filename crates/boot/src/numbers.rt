@@ -1,4 +1,4 @@
-//! Reads the numbers of a plan. Only `caps_at` takes memory. No call waits.
+//! Reads the numbers of a plan. Only `caps_at` allocates memory. No call waits.
 
 ghost use Rattle.std.specs.Prelude.{◌≡◌, ◌<◌, ◌≤◌, length, codes, option_map, All, IfOk, IfSome};
 ghost use Rattle.{event_log.specs.{declared.ids.TheConstants.{BUFFERS, CAPACITY}, Buffers.IsCapacity, Reading.all_as}, toml.specs.Data.get_member};
@@ -11,7 +11,7 @@ use event_log::{BUFFERS, CAPACITY};
 use std::alloc::Global;
 use toml::Table;
 
-/// The integer, if it is from `least` to `most`.
+/// Returns the integer, if it is from `least` to `most`.
 fn number_within(integer: i64, least: u64, most: u64) -> Option<u64>
     ensures number { result ≡ number_within least most integer }
     ensures within { IfSome result (λ number. (least ≤ number) × (number ≤ most)) }
@@ -23,10 +23,10 @@ fn number_within(integer: i64, least: u64, most: u64) -> Option<u64>
     Some(number)
 }
 
-/// The integer of a key, from `least` to `most`.
+/// Returns the integer of a key, from `least` to `most`.
 ///
-/// Errors: `MissingKey` if the key is absent or its value is no integer. `OutOfRange` if the
-/// integer is less than `least` or more than `most`. The table stays as it was.
+/// Errors: `MissingKey` if the key is absent or its value is not an integer. `OutOfRange` if the
+/// integer is less than `least` or more than `most`. The table is unchanged.
 #[tactic(auto, unfolding(crate::specs::Plan::number_at))]
 pub fn number_at(
     table: &Table,
@@ -50,7 +50,7 @@ pub fn number_at(
     }
 }
 
-/// The capacities that some integers are, or `None` where one is out of range.
+/// Returns the capacities that some integers are, or `None` if an integer is out of range.
 fn caps_of(integers: &[i64]) -> Option<ArrayVec<u8, BUFFERS>>
     requires { length integers.now ≤ BUFFERS }
     ensures caps { option_map (λ caps. caps.items) result ≡ all_as (number_within 1 CAPACITY) integers.now }
@@ -65,11 +65,12 @@ fn caps_of(integers: &[i64]) -> Option<ArrayVec<u8, BUFFERS>>
     Some(caps)
 }
 
-/// The capacities of a plan's buffers.
+/// Returns the capacities of a plan's buffers.
 ///
-/// Errors: `MissingKey` if the key `buffers` is absent, its value is no array, or an item is no
-/// integer. `OutOfRange` if there is no buffer, there are more than [`BUFFERS`], or a capacity is
-/// not from 1 to [`CAPACITY`]. `NoMemory` if an allocation was refused. Then nothing was made.
+/// Errors: `MissingKey` if the key `buffers` is absent, its value is not an array, or an item is
+/// not an integer. `OutOfRange` if there is no buffer, there are more than [`BUFFERS`], or a
+/// capacity is not from 1 to [`CAPACITY`]. `NoMemory` if an allocation failed. Then nothing was
+/// made.
 #[tactic(auto, unfolding(crate::specs::Plan::caps_at))]
 pub fn caps_at(alloc: Global, table: &Table) -> Result<ArrayVec<u8, BUFFERS>, BootError>
     ensures caps { Gives (λ caps. caps.items) result (caps_at (get_member (codes "buffers") (table_view table.now))) }

@@ -1,4 +1,4 @@
-//! What a plan says, once it is read. Only `Boot::read` takes memory. No call waits.
+//! What a plan says, once it is read. Only `Boot::read` allocates memory. No call waits.
 
 ghost use Rattle.std.specs.Prelude.{◌≡◌};
 ghost use Rattle.{toml.specs.Errors.IsMemory, event_log.specs.Refusals.no_memory};
@@ -15,8 +15,8 @@ use std::alloc::{AllocError, Global};
 use std::marker::Model;
 use toml::{Table, de};
 
-/// What is refused of a text that gave no document: the parser tells a refused allocation by a
-/// flag, and this is the one place where such a flag is taken for the allocator's word.
+/// Returns the error for a text that is not a document. The parser reports a failed allocation by a
+/// flag, and only this function takes that flag for the allocator's word.
 fn refusal_of(error: &de::Error) -> BootError
     ensures memory { IsMemory error.now → result ≡ refused.NoMemory no_memory }
     ensures text { ¬ IsMemory error.now → result ≡ refused.BadToml }
@@ -54,13 +54,17 @@ impl Boot {
 
     /// Reads a plan from its text.
     ///
-    /// Errors: `BadToml` if the text is no TOML document. Then the keys are tested in the order
+    /// Errors: `BadToml` if the text is not a TOML document. Then the keys are tested in the order
     /// `cpus`, `trace`, `buffers`, `lock`, `thread`, and in each thread's table `cpu` before
-    /// `program`: `MissingKey` where a key is absent (but `lock`, which may be), is of another kind
-    /// or has an item of another kind; otherwise `OutOfRange` where a length or a number is out of
-    /// range or the name is no lock's. A program that is no program gives `Guest`, and one that
-    /// names a buffer that the plan has not `OutOfRange`. The first of these is the answer.
-    /// `NoMemory` where an allocation was refused.
+    /// `program`. The first fault is returned:
+    ///
+    /// - `MissingKey` if a key is absent (only `lock` is optional), is of another kind, or has an
+    ///   item of another kind;
+    /// - `OutOfRange` if a length or a number is out of range, or the name is not a lock's;
+    /// - `Guest` if a program is not valid, `OutOfRange` if it names a buffer that the plan does
+    ///   not have.
+    ///
+    /// `NoMemory` if an allocation failed.
     #[tactic(auto, unfolding(crate::specs::Plan::plan_of))]
     pub fn read(alloc: Global, text: &str) -> Result<Boot, BootError>
         ensures plan { Gives (λ boot. boot) result (plan_of text.now) }
@@ -72,7 +76,7 @@ impl Boot {
         }
     }
 
-    /// The plan of a document.
+    /// Returns the plan of a document.
     #[tactic(auto, unfolding(crate::specs::Plan::plan_in))]
     fn in_document(alloc: Global, document: &Table) -> Result<Boot, BootError>
         ensures plan { Gives (λ boot. boot) result (plan_in (table_view document.now)) }
@@ -93,7 +97,7 @@ impl Boot {
         })
     }
 
-    /// How many CPUs the system has, from 1 to `CPUS`. They are numbered from 0.
+    /// Returns how many CPUs the system has, from 1 to `CPUS`. They are numbered from 0.
     pub fn cpus(&self) -> u8
         ensures cpus { result ≡ self.now.cpus }
         ensures within { IsPlan self.now }
@@ -101,7 +105,7 @@ impl Boot {
         self.cpus
     }
 
-    /// How many entries each CPU may trace, from 1 to `TRACE`.
+    /// Returns how many entries each CPU may trace, from 1 to `TRACE`.
     pub fn trace(&self) -> u32
         ensures trace { result ≡ self.now.trace }
         ensures within { IsPlan self.now }
@@ -109,8 +113,8 @@ impl Boot {
         self.trace
     }
 
-    /// The capacity of each buffer by its number: 1 to `BUFFERS` buffers, each of 1 to `CAPACITY`
-    /// messages.
+    /// Returns the capacity of each buffer by its number: 1 to `BUFFERS` buffers, each of 1 to
+    /// `CAPACITY` messages.
     pub fn caps(&self) -> ArrayVec<u8, BUFFERS>
         ensures caps { result.items ≡ self.now.caps }
         ensures within { IsPlan self.now }
@@ -120,15 +124,15 @@ impl Boot {
         caps
     }
 
-    /// Which lock the system's buffers and pending queues use: a lock with grant words, if the plan
-    /// names none.
+    /// Returns which lock the system's buffers and pending queues use. The default, if the plan
+    /// names none, is a lock with grant words.
     pub fn lock(&self) -> LockKind
         ensures { result ≡ self.now.lock }
     {
         self.lock
     }
 
-    /// How many threads the system has, from 1 to `THREADS`. They are numbered from 0.
+    /// Returns how many threads the system has, from 1 to `THREADS`. They are numbered from 0.
     pub fn threads(&self) -> usize
         ensures threads { result ≡ length self.now.tasks }
         ensures within { IsPlan self.now }
@@ -136,7 +140,7 @@ impl Boot {
         self.tasks.len()
     }
 
-    /// The CPU that is the home of a thread.
+    /// Returns the home CPU of a thread.
     ///
     /// Requires: the plan has a thread of this number.
     pub fn home(&self, thread: Tid) -> CpuId
@@ -147,7 +151,7 @@ impl Boot {
         self.tasks[usize::from(thread.0)].home
     }
 
-    /// The program of a thread. The program names only buffers that the plan has.
+    /// Returns the program of a thread. The program names only buffers that the plan has.
     ///
     /// Requires: the plan has a thread of this number.
     pub fn program(&self, thread: Tid) -> &Program

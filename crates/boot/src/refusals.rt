@@ -1,4 +1,4 @@
-//! What is refused of a plan, and where.
+//! What can be wrong with a plan, and where.
 
 ghost use Rattle.std.specs.Prelude.{◌≡◌};
 ghost use Rattle.event_log.specs.Refusals.{no_memory};
@@ -19,7 +19,7 @@ pub enum PlanKey {
     Trace,
     /// `buffers`: the capacity of each buffer.
     Buffers,
-    /// `lock`: which lock stands beneath.
+    /// `lock`: which lock the system uses.
     Lock,
     /// `thread`: the table of each thread.
     Threads,
@@ -50,20 +50,20 @@ impl fmt::Display for PlanKey {
 /// Why a plan was not read. Each prints as its name, its number and where it is.
 #[derive(Clone, Copy, Debug, PartialEq, Eq, Error)]
 pub enum BootError {
-    /// An allocation was refused.
+    /// An allocation failed.
     #[error("NoMemory(1)")]
     NoMemory(NoMemory),
-    /// The text is no TOML document.
+    /// The text is not a TOML document.
     #[error("BadToml(20)")]
     BadToml,
     /// The key is absent, is of another kind, or has an item of another kind.
     #[error("MissingKey(21) {0}")]
     MissingKey(PlanKey),
-    /// A length or a number of the key is out of range, its name is no lock's, or a program names a
-    /// buffer that the plan has not.
+    /// A length or a number of the key is out of range, or its name is not a lock's. Or a program
+    /// names a buffer that the plan does not have.
     #[error("OutOfRange(22) {0}")]
     OutOfRange(PlanKey),
-    /// The program of a thread is refused: the thread, the line and the fault.
+    /// The program of a thread is rejected: the thread, the line and the fault.
     #[error("Guest(23) thread {} line {line} {fault}", .thread.0)]
     Guest {
         /// The thread.

@@ -1,5 +1,5 @@
-//! Reads the values of a table: what a key holds, and arrays whose items are all of one kind.
-//! `integers`, `texts` and `tables` take memory. No call waits.
+//! Reads the values of a table: the value of a key, and arrays whose items are all of one kind.
+//! `integers`, `texts` and `tables` allocate memory. No call waits.
 
 ghost use Rattle.std.specs.Prelude.{◌≡◌, map, option_map, option_and_then, IfOk};
 ghost use Rattle.{event_log.specs.Reading.all_as, toml.specs.{Data.{as_array, as_integer, as_str, as_table, get_member}, View.{view, array_view, table_view}}};
@@ -8,14 +8,14 @@ ghost use Rattle.boot.specs.Plan.{data_in};
 use std::alloc::{AllocError, Global};
 use toml::{Table, Value};
 
-/// What a key of a table holds.
+/// Returns the value of a key of a table.
 pub fn value_at<'a>(table: &'a Table, name: &str) -> Option<&'a Value>
     ensures { option_map (λ value. view value.now) result ≡ get_member name.now (table_view table.now) }
 {
     table.get(name)
 }
 
-/// The array at a key of a table.
+/// Returns the array at a key of a table.
 pub fn array_at<'a>(table: &'a Table, name: &str) -> Option<&'a Vec<Value>>
     ensures { option_map (λ array. array_view array.now) result ≡ option_and_then as_array (get_member name.now (table_view table.now)) }
 {
@@ -25,9 +25,9 @@ pub fn array_at<'a>(table: &'a Table, name: &str) -> Option<&'a Vec<Value>>
     }
 }
 
-/// The integers of an array, or `None` where one item is no integer.
+/// Returns the integers of an array, or `None` if an item is not an integer.
 ///
-/// Errors: `AllocError` if an allocation was refused. Then nothing was made.
+/// Errors: `AllocError` if an allocation failed. Then nothing was made.
 pub fn integers(alloc: Global, values: &Vec<Value>) -> Result<Option<Vec<i64>>, AllocError>
     ensures { IfOk result (λ seen. option_map (λ found. found.items) seen ≡ all_as as_integer (data_in (array_view values.now))) }
 {
@@ -41,9 +41,9 @@ pub fn integers(alloc: Global, values: &Vec<Value>) -> Result<Option<Vec<i64>>, 
     Ok(Some(found))
 }
 
-/// The texts of an array, or `None` where one item is no string.
+/// Returns the texts of an array, or `None` if an item is not a string.
 ///
-/// Errors: `AllocError` if an allocation was refused. Then nothing was made.
+/// Errors: `AllocError` if an allocation failed. Then nothing was made.
 pub fn texts<'a>(alloc: Global, values: &'a Vec<Value>) -> Result<Option<Vec<&'a str>>, AllocError>
     ensures { IfOk result (λ seen. option_map (λ found. map (λ text. text.now) found.items) seen ≡ all_as as_str (data_in (array_view values.now))) }
 {
@@ -57,9 +57,9 @@ pub fn texts<'a>(alloc: Global, values: &'a Vec<Value>) -> Result<Option<Vec<&'a
     Ok(Some(found))
 }
 
-/// The tables of an array, or `None` where one item is no table.
+/// Returns the tables of an array, or `None` if an item is not a table.
 ///
-/// Errors: `AllocError` if an allocation was refused. Then nothing was made.
+/// Errors: `AllocError` if an allocation failed. Then nothing was made.
 pub fn tables<'a>(
     alloc: Global,
     values: &'a Vec<Value>,

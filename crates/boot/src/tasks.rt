@@ -1,4 +1,4 @@
-//! Reads the threads of a plan. Each call takes memory. None waits.
+//! Reads the threads of a plan. Each call allocates memory. None waits.
 
 ghost use Rattle.std.specs.Prelude.{◌≡◌, ◌<◌, ◌≤◌, map, length, codes, All, IfOk, IsTrue};
 ghost use Rattle.{event_log.specs.{declared.ids.TheConstants.THREADS, Reading.read_from}, toml.specs.{Data.get_member, View.table_view}};
@@ -20,7 +20,7 @@ pub struct Task {
     pub program: Program,
 }
 
-/// The program of a thread, whose system has so many buffers.
+/// Returns the program of a thread, whose system has so many buffers.
 #[tactic(auto, unfolding(crate::specs::Plan::program_at))]
 fn program_at(
     alloc: Global,
@@ -53,7 +53,7 @@ fn program_at(
     Ok(program)
 }
 
-/// The thread of a table, in a system of so many CPUs and buffers.
+/// Returns the thread of a table, in a system of so many CPUs and buffers.
 #[tactic(auto, unfolding(crate::specs::Plan::task_at))]
 fn task_at(
     alloc: Global,
@@ -74,11 +74,11 @@ fn task_at(
     })
 }
 
-/// The tables of a plan's threads.
+/// Returns the tables of a plan's threads.
 ///
-/// Errors: `MissingKey` if the key `thread` is absent, its value is no array, or an item is no
-/// table. `OutOfRange` if there is no table, or there are more than [`THREADS`]. `NoMemory` if an
-/// allocation was refused. Then nothing was made.
+/// Errors: `MissingKey` if the key `thread` is absent, its value is not an array, or an item is not
+/// a table. `OutOfRange` if there is no table, or there are more than [`THREADS`]. `NoMemory` if an
+/// allocation failed. Then nothing was made.
 #[tactic(auto, unfolding(crate::specs::Plan::tables_at))]
 pub fn tables_at<'a>(alloc: Global, document: &'a Table) -> Result<Vec<&'a Table>, BootError>
     ensures tables { Gives (λ found. map (λ table. table_view table.now) found.items) result
@@ -101,14 +101,14 @@ pub fn tables_at<'a>(alloc: Global, document: &'a Table) -> Result<Vec<&'a Table
     Ok(found)
 }
 
-/// The threads of some tables, in a system of so many CPUs and buffers.
+/// Returns the threads of some tables, in a system of so many CPUs and buffers.
 ///
 /// Requires: there is at least one CPU. There are at most [`THREADS`] tables.
 ///
 /// Errors: the first fault of the first table that has one, its key `cpu` before `program`.
-/// `MissingKey` if the key is absent or is of another kind. `OutOfRange` if the home is no CPU, or
-/// the program names a buffer that does not exist. `Guest` if the program is no program. `NoMemory`
-/// if an allocation was refused. Then nothing was made.
+/// `MissingKey` if the key is absent or is of another kind. `OutOfRange` if the home is not a CPU,
+/// or the program names a buffer that does not exist. `Guest` if the program is not valid.
+/// `NoMemory` if an allocation failed. Then nothing was made.
 pub fn tasks_of(
     alloc: Global,
     tables: &[&Table],

@@ -1,4 +1,5 @@
--- A CPU that waits at a lock keeps its spot, and the lock is not given on past that spot: so few sections come before its own.
+-- Bounded bypass: a CPU that waits at a lock keeps its ticket index, and the lock is not released
+-- past that index, so that few sections precede its own.
 use Rattle.std.proofs.Common.{◌≡◌, suc, ◌+◌, ◌<◌, false, List, [], ◌∷◌, ◌++◌, refl, sym, ne_eqb, arith, zero-add}
 use Rattle.event_log.specs.{declared.ids.{CpuId.CpuId, LockId.LockId, TheConstants.CPUS}, History.{same_cpu, own_events}, Laws.OnlyTries, Actions.Action}
 use Rattle.event_log.{specs.Actions.{Take, cpu_of_action, gives, MayAct, AreLegal}, proofs.{Same.cpu_numbered, Exclusion.spot_is_near, Foreign.lawful_before}}

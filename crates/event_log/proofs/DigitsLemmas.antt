@@ -6,7 +6,7 @@ use Rattle.std.proofs.lemmas.{Int.Digits.{digits_value_more, digits_more}, Fmt.{
 use Rattle.std.{proofs.lemmas.{Fmt.{first_decimal, decimal_digit}, List.length-take}, specs.{Int.IsInRange, List.list_all, Str.all_ascii_digits}}
 use Rattle.{std.specs.{Str.Parse.{digits_value, AllDigits}, Char.{is_ascii_digit, digit_value}}, event_log.specs.Digits.{is_number, number_to}}
 
--- the digits of the library, in the words of `is_number`
+-- the digits of the library, in terms of `is_number`
 pub ascii_digits : IsNumeralModel (λ ds. all_ascii_digits ds ≡ true) (digits_value 10)
 ascii_digits = numerals_by_value _ tells_all_ascii_digits
 
@@ -158,7 +158,7 @@ pub digits_spelled : (text : List ℕ) (count : ℕ) → all_ascii_digits (take 
     → (get_or text 0 0 ≡ 48 → length text ≡ 1) → IsSpelled text
 digits_spelled text count digits end some lead = record { digits = rw take_all at digits; some = some; lead = lead }
 
--- the lemmas by which the answers of readers of numbers are found
+-- the lemmas that give the results of readers of numbers
 pub ruleset one_spelling = (number_to-decimal, number_to-spelling)
 
 pub ruleset early_answers = (nat_tests, number_to-empty, number_to-leading_zero)

@@ -1,10 +1,11 @@
--- A legal list of actions keeps the line at each lock, so two CPUs never hold one lock.
+-- Mutual exclusion: a legal list of actions keeps the queue at each lock, and two CPUs never hold
+-- one lock.
 use Rattle.std.proofs.{Common.{◌≡◌, ◌+◌, ◌<◌, ◌≤◌, Bool, true, false, List, [], ◌∷◌, if◌then◌else◌, refl, ap, ◌∙◌, arith}, lemmas.Bool.eqb-true}
 use Rattle.event_log.specs.{declared.ids.{CpuId.CpuId, LockId.LockId, TheConstants.CPUS}, History.{same_cpu, same_lock}, Actions.{Action, Take, Try, Give}}
 use Rattle.event_log.specs.Actions.{Phase, Rests, Waits, Holds, phase, phase_after, cpu_of_action, spot_of, takes, gives, MayAct, AreLegal}
 use Rattle.event_log.proofs.{Same.{same_cpu_self, same_lock_self, same_lock_true}, Line.{Line, crowd_none, crowd_within, line_stays, line_joined, line_left}}
 
--- whether a CPU in this phase stands at the lock
+-- whether a CPU in this phase is at the lock
 abbrev pub is_at : LockId → Phase → Bool
 is_at lock Rests = false
 is_at lock (Waits at) = same_lock lock at
@@ -16,12 +17,12 @@ is_holding lock Rests = false
 is_holding lock (Waits at) = false
 is_holding lock (Holds at) = same_lock lock at
 
--- the line at a lock after these actions
+-- the queue at a lock after these actions
 abbrev pub LineAt : {N : Type 0} → LockId → List (Action N) → Type 0
 LineAt lock actions =
     Line (takes lock actions) (gives lock actions) (λ c. is_at lock (phase c actions)) (λ c. is_holding lock (phase c actions)) (λ c. spot_of c actions)
 
--- an action changes no other CPU's phase and spot
+-- an action changes no other CPU's phase and ticket index
 pub phase_other : {N : Type 0} (a : Action N) (past : List (Action N)) (c : CpuId) → same_cpu (cpu_of_action a) c ≡ false → phase c (a ∷ past) ≡ phase c past
 phase_other a past c other = ap (λ b. if b then phase_after a else phase c past) other
 
@@ -72,7 +73,7 @@ line_step lock (Try d m hit) past may line =
     (λ h. grind (arith, same_cpu_self, holding_if, same_lock_true, eqb-true))
 line_step lock (Give d m name) past may line = line_give lock past line d m name may (same_lock lock m) refl
 
--- the line at each lock, after every legal list of actions
+-- the queue at each lock, after every legal list of actions
 pub line_at : {N : Type 0} (lock : LockId) (actions : List (Action N)) → AreLegal actions → LineAt lock actions
 line_at lock [] legal = record {
   balance = omega (arith, crowd_none CPUS);
@@ -92,7 +93,8 @@ one_holds actions legal a b lock first second =
     let line = line_at lock actions legal in
     grind (arith, line.apart a b, line.inside a, line.inside b, line.first a, line.first b, same_lock_self)
 
--- a CPU that waits at a lock or holds it has a spot among those not yet served, of which there are at most CPUS
+-- a CPU that waits at a lock or holds it has a ticket index among those not yet served, of which
+-- there are at most CPUS
 pub spot_is_near : {N : Type 0} (actions : List (Action N)) → AreLegal actions → (c : CpuId) (lock : LockId)
     → is_at lock (phase c actions) ≡ true → (gives lock actions ≤ spot_of c actions) × (spot_of c actions < gives lock actions + CPUS)
 spot_is_near actions legal c lock there =

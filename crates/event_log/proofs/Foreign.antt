@@ -1,4 +1,5 @@
--- Events of other CPUs: they change nothing of a CPU's own, and where a holder acts for every CPU there are none.
+-- Environment events: they do not change a CPU's private state, and if a holder acts for every CPU
+-- there are none.
 use Rattle.std.proofs.Common.{arith, ◌≡◌, ◌<◌, false, List, [], ◌∷◌, ◌++◌, if◌then◌else◌, refl, ap, sym, subst, ◌∙◌}
 use Rattle.event_log.specs.{declared.{ids.{CpuId.CpuId, TheConstants.CPUS}, events.Event.Event}, History.{same_cpu, own_events, IsLawful, AreOthers}}
 use Rattle.event_log.specs.{WordsLog.{cpu_of_event, lock_phase}, Actions.{Action, Take, Try, Give, phase, cpu_of_action, spot_of, MayAct}}
@@ -7,7 +8,7 @@ use Rattle.event_log.proofs.{Exclusion.{is_at, phase_other, spot_other, cpu_is_k
 
 -- Any relation and any event.
 
--- what stood before is lawful too
+-- what precedes a lawful history is lawful too
 pub lawful_before : {E : Type 0} (May : List E → E → Type 0) (more past : List E) → IsLawful May (more ++ past) → IsLawful May past
 lawful_before May [] past lawful = lawful
 lawful_before May (e ∷ more) past lawful = lawful_before May more past lawful.1
@@ -20,7 +21,7 @@ pub own_append : {E : Type 0} (by : E → CpuId) (c : CpuId) (more past : List E
 own_append by c [] past = refl
 own_append by c (e ∷ more) past = grind (arith, own_append by c more past)
 
--- a CPU has none of its own among the events of others
+-- a CPU has no events among those of others
 pub own_none : {E : Type 0} (by : E → CpuId) (c : CpuId) (others : List E) → AreOthers by c others → own_events by c others ≡ []
 own_none by c [] foreign = refl
 own_none by c (e ∷ others) foreign = ap (λ b. if b then e ∷ own_events by c others else own_events by c others) foreign.0 ∙ own_none by c others foreign.1
@@ -46,7 +47,7 @@ pub spot_others : {N : Type 0} (c : CpuId) (others past : List (Action N)) → A
 spot_others c [] past foreign = refl
 spot_others c (a ∷ others) past foreign = spot_other a (others ++ past) c foreign.0 ∙ spot_others c others past foreign.1
 
--- who acts is a CPU of the machine
+-- a CPU that acts is a CPU of the machine
 pub cpu_of_action_known : {N : Type 0} (a : Action N) (past : List (Action N)) → MayAct past a → AreLegal past → (cpu_of_action a).0 < CPUS
 cpu_of_action_known (Take cpu lock) past may legal = may.0
 cpu_of_action_known (Try cpu lock hit) past may legal = cpu_is_known past legal cpu lock (ap (is_at lock) may.0 ∙ same_lock_self lock)
@@ -91,7 +92,7 @@ pub others_sections_of : {M E : Type 0} (edit : M → E) (c : CpuId) (others : L
 others_sections_of edit c [] foreign = tt
 others_sections_of edit c (e ∷ others) foreign = grind (arith, others_sections_of edit c others foreign.1)
 
--- whose section it is is a CPU of the machine
+-- the CPU of a section is a CPU of the machine
 pub sections_in_known : {N : Type 0} (actions : List (Action N)) → IsLawful (λ before a. (cpu_of_action a).0 < CPUS) actions
     → IsLawful (λ before s. s.cpu.0 < CPUS) (sections_in actions)
 sections_in_known [] known = tt

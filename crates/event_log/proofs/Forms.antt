@@ -17,7 +17,7 @@ from_splits May [] splits = tt
 from_splits May (x ∷ history) splits =
     (splits [] x history refl, from_splits May history (λ later e past split. splits (x ∷ later) e past (ap (λ h. x ∷ h) split)))
 
--- a split of a log, turned round
+-- a split of a log, reversed
 turned : {E : Type 0} (before : List E) (e : E) (later : List E) → reverse (before ++ (e ∷ later)) ≡ reverse later ++ (e ∷ reverse before)
 turned before e later =
     reverse-append before (e ∷ later) ∙ (ap (λ r. r ++ reverse before) (reverse-append (e ∷ []) later) ∙ append_assoc (reverse later) (e ∷ []) (reverse before))

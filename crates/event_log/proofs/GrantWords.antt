@@ -1,4 +1,5 @@
--- A legal log of grant words is a legal list of actions: what a word holds says exactly whether its waiter is served.
+-- A legal log of grant words is a legal list of actions: what a word holds says exactly whether its
+-- waiter is served.
 use Rattle.std.proofs.Common.{◌≡◌, ℕ, ◌+◌, ◌%◌, ◌^◌, ◌<◌, ◌≤◌, ◌⊎◌, inl, inr, List, [], ◌∷◌, ◌==◌, if◌then◌else◌, refl, ap, sym, subst, ◌∙◌, arith}
 use Rattle.std.proofs.lemmas.Bool.{eqb-true, eqb-false, cond_both, cases_Bool, Decides.nat_tests}
 use Rattle.event_log.specs.declared.{ids.{CpuId.CpuId, LockId.LockId, TheConstants.CPUS}, grants.GrantEvent.{GrantEvent, TheVariants.{Take, Peek, Give}}}
@@ -7,17 +8,17 @@ use Rattle.event_log.specs.{Grants.{IsLegalGrants, act_of_grant, acts_of_grants,
 use Rattle.event_log.proofs.{Same.{same_cpu_true, same_lock_self, same_lock_true}, Exclusion.{is_at, line_at, one_holds, spot_is_near}, Observed.phase_of}
 use Rattle.event_log.proofs.Observed.{TicketOf, eqb_same}
 
--- the lock phase of a CPU tells its phase
+-- the lock phase of a CPU determines its phase
 pub phase_grants : {M N : Type 0} (name : M → N) (c : CpuId) (log : List (GrantEvent M)) → phase c (acts_of_grants name log) ≡ phase_of (grant_lock_phase c log)
 phase_grants name c [] = refl
 phase_grants name c (e ∷ past) = grind (arith, phase_grants name c past)
 
--- the spots taken are the tickets
+-- the requests are the tickets
 pub takes_grants : {M N : Type 0} (name : M → N) (lock : LockId) (log : List (GrantEvent M)) → takes lock (acts_of_grants name log) ≡ tickets lock log
 takes_grants name lock [] = refl
 takes_grants name lock (e ∷ past) = grind (arith, takes_grants name lock past)
 
--- in a legal log each ticket is the rest of the true spot
+-- in a legal log each ticket is the ticket index modulo 2^64
 pub grant_ticket_at : {M N : Type 0} (name : M → N) (log : List (GrantEvent M)) → IsLegalGrants log → (c : CpuId)
     → TicketOf (grant_lock_phase c log) (spot_of c (acts_of_grants name log))
 grant_ticket_at name [] legal c = tt
@@ -31,7 +32,7 @@ fits_at_start word within = record {
   unwritten = λ lt. grind (arith, nat_tests);
 }
 
--- a Give at the spot that is served writes the next spot's word
+-- a Give at the ticket index that is served writes the next index's word
 fits_here : (word given ticket : ℕ) → word < CPUS → ticket ≡ given % 2 ^ 64 → word ≡ (ticket + 1) % CPUS → WordFits word (given + 1) ((ticket + 2) % 2 ^ 64)
 fits_here word given ticket within is here = record {
   written = λ le. (given + 1, omega arith, omega arith, omega arith, omega arith);
@@ -60,7 +61,7 @@ served_is_latest : (given spot ticket word held k : ℕ) → given ≡ spot → 
     → k ≤ given → given < k + CPUS → k % CPUS ≡ word → held ≡ (k + 1) % 2 ^ 64 → held ≡ (ticket + 1) % 2 ^ 64
 served_is_latest given spot ticket word held k served is at le lt same holds = omega arith
 
--- a waiter near the front reads its spot plus 1 exactly where it is served
+-- a waiter near the head of the queue reads its ticket index plus 1 exactly if it is served
 pub served_exactly : (given spot ticket word held : ℕ) → given ≤ spot → spot < given + CPUS → ticket ≡ spot % 2 ^ 64 → word ≡ ticket % CPUS
     → WordFits word given held → (held == (ticket + 1) % 2 ^ 64) ≡ (given == spot)
 served_exactly given spot ticket word held ahead close is at fits = grind (arith, eqb_same, within_or_past, latest_is_served, served_is_latest)
@@ -74,11 +75,11 @@ fits_after word given ticket held within is fits = cond_both (word == (ticket + 
 one_place : (word given j k : ℕ) → j ≤ given → given < j + CPUS → j % CPUS ≡ word → k ≤ given → given < k + CPUS → k % CPUS ≡ word → j ≡ k
 one_place word given j k a b c d e f = omega arith
 
--- the count of gives tells what a word holds
+-- the count of releases determines what a word holds
 pub one_word : (word given a b : ℕ) → WordFits word given a → WordFits word given b → a ≡ b
 one_word word given a b first second = grind (arith, within_or_past, one_place)
 
--- who is inside a lock holds the ticket of the spot that is served
+-- a CPU inside a lock holds the ticket of the ticket index that is served
 inside_is_served : {M N : Type 0} (name : M → N) (cpu : CpuId) (lock : LockId) (ticket : ℕ) (past : List (GrantEvent M)) → IsLegalGrants past
     → AreLegal (acts_of_grants name past)
     → grant_lock_phase cpu past ≡ Holding lock ticket → ticket_in (grant_lock_phase cpu past) ≡ gives lock (acts_of_grants name past) % 2 ^ 64
@@ -86,7 +87,7 @@ inside_is_served name cpu lock ticket past legal acts inside =
     let served = (line_at lock (acts_of_grants name past) acts).first cpu in
     grind (arith, served, phase_grants name cpu past, grant_ticket_at name past legal cpu, same_lock_self)
 
--- in a legal log each grant word holds what the number of gives says
+-- in a legal log each grant word holds what the number of releases says
 pub words_fit : {M N : Type 0} (name : M → N) (lock : LockId) (word : ℕ) → word < CPUS → (log : List (GrantEvent M)) → IsLegalGrants log
     → AreLegal (acts_of_grants name log) → WordFits word (gives lock (acts_of_grants name log)) (grant_word lock word log)
 words_fit name lock word within [] legal acts = fits_at_start word within
@@ -116,7 +117,7 @@ pub legal_grants : {M N : Type 0} (name : M → N) (log : List (GrantEvent M)) �
 legal_grants name [] legal = tt
 legal_grants name (e ∷ past) legal = let acts = legal_grants name past legal.1 in (legal_grant name e past legal.0 legal.1 acts, acts)
 
--- two CPUs are never inside one lock
+-- mutual exclusion: two CPUs are never inside one lock
 pub one_inside_grants : {M : Type 0} (log : List (GrantEvent M)) → IsLegalGrants log → (a b : CpuId) (lock : LockId) (s t : ℕ)
     → grant_lock_phase a log ≡ Holding lock s → grant_lock_phase b log ≡ Holding lock t → a ≡ b
 one_inside_grants {M = M} log legal a b lock s t first second =

@@ -20,7 +20,7 @@ there_is [] i within = absurd (omega arith)
 there_is (z ∷ zs) zero within = (z, refl)
 there_is (z ∷ zs) (suc i) within = there_is zs i (omega arith)
 
--- an element of a list of equal ones, and what is read behind its end
+-- an element of a list of equal ones, and what is read past its end
 pub alike_at : {X : Type 0} (n i : ℕ) (x : X) → get_or (replicate n x) i x ≡ x
 alike_at zero i x = refl
 alike_at (suc n) zero x = refl

@@ -1,14 +1,15 @@
--- What a lock's log tells of its actions, whatever its events are: the phases, and that a ticket is the rest of a true spot.
+-- What a lock's log says of its actions, whatever its events are: the phases, and that a ticket is
+-- the ticket index modulo 2^64.
 use Rattle.std.proofs.{Common.{arith, ◌≡◌, ℕ, ◌%◌, ◌^◌, ◌==◌}, lemmas.Bool.{eqb-true, eq-eqb}}
 use Rattle.event_log.specs.{WordsLog.{LockPhase, Idle, Waiting, Holding}, Actions.{Phase, Rests, Waits, Holds}}
 
--- what a CPU does that stands here
+-- what a CPU in this lock phase does
 abbrev pub phase_of : LockPhase → Phase
 phase_of Idle = Rests
 phase_of (Waiting lock ticket) = Waits lock
 phase_of (Holding lock ticket) = Holds lock
 
--- a ticket is the rest of the spot modulo 2^64
+-- a ticket is the ticket index modulo 2^64
 abbrev pub TicketOf : LockPhase → ℕ → Type 0
 TicketOf Idle spot = Unit {0}
 TicketOf (Waiting lock ticket) spot = ticket ≡ spot % 2 ^ 64

@@ -1,4 +1,5 @@
--- While a CPU waits at a lock or holds it, no other CPU gives the lock on twice: to come back it would have to pass.
+-- While a CPU waits at a lock or holds it, no other CPU releases the lock twice: it would have to
+-- overtake the first CPU.
 use Rattle.std.proofs.Common.{◌≡◌, ℕ, ◌<◌, ◌≤◌, Bool, true, false, List, [], ◌∷◌, ◌++◌, if◌then◌else◌, refl, ap, sym, subst, ◌∙◌, arith}
 use Rattle.event_log.specs.{declared.{ids.{CpuId.CpuId, LockId.LockId}, events.Event.{Event, TheVariants.Draw}}, History.{same_cpu, own_events}}
 use Rattle.event_log.specs.{WordsLog.{cpu_of_event, frees, IsLegalWords}, Actions.{Action, Take, Try, Give, phase, phase_after, cpu_of_action, spot_of, takes}}
@@ -18,7 +19,8 @@ pub left_own : {N : Type 0} (a : Action N) (log : List (Action N)) (c : CpuId) �
 left_own a log c by = subst (λ d. phase d (a ∷ log) ≡ phase_after a) by (phase_own a log)
 
 module _ {N : Type 0} (lock : LockId) (cpu other : CpuId) (first : ℕ) (differ : same_cpu cpu other ≡ false) where
-  -- the first CPU still has its spot, and the other one, if it has given the lock on, stands behind it
+  -- the first CPU still has its ticket index, and the other one, if it has released the lock, is
+  -- after it in the queue
   pub record Meanwhile (between log : List (Action N)) : Type 0 where
     pub stands : is_at lock (phase cpu log) ≡ true
     pub spot : spot_of cpu log ≡ first
@@ -30,7 +32,7 @@ module _ {N : Type 0} (lock : LockId) (cpu other : CpuId) (first : ℕ) (differ 
       → same_cpu (cpu_of_action a) other ≡ false → Meanwhile (a ∷ between) (a ∷ log)
   by_third a between log so_far not_cpu not_other = grind (arith, own_not, phase_other, spot_other)
 
-  -- an action of the first CPU, which can only be a try
+  -- an action of the first CPU, which can only be a poll
   by_try : (a : Action N) (between log : List (Action N)) → MayAct log a → Meanwhile between log → OnlyTries (a ∷ own_events cpu_of_action cpu between)
       → cpu_of_action a ≡ cpu → same_cpu (cpu_of_action a) other ≡ false → Meanwhile (a ∷ between) (a ∷ log)
   by_try a between log may so_far tries by not_other = grind (arith, own_not, left_own, at_either, phase_other)
@@ -84,7 +86,7 @@ looks_try : {M N : Type 0} (name : M → N) (log : List (Event M)) → OnlyLooks
 looks_try name [] looks = tt
 looks_try name (e ∷ past) looks = grind (arith, looks_try name past)
 
--- from the Draw of a CPU on, while it does nothing but look, no other CPU frees that lock twice
+-- from a CPU's Draw on, while it only polls, no other CPU frees that lock twice
 pub freed_once : {M : Type 0} (past between : List (Event M)) (cpu other : CpuId) (lock : LockId) (ticket : ℕ)
     → IsLegalWords (between ++ (Draw cpu lock ticket ∷ past)) → OnlyLooks (own_events cpu_of_event cpu between) → same_cpu cpu other ≡ false
     → frees lock (own_events cpu_of_event other between) ≤ 1

@@ -3,7 +3,7 @@ use Rattle.std.proofs.Common.{arith, ◌≡◌, ℕ, ◌+◌, ◌<◌, ◌≤◌
 use Rattle.std.proofs.Common.{sym, ◌∙◌, ap, add-one, drop-cons, drop_of_length-le, append-nil}
 use Rattle.event_log.specs.Reading.{◌>>=◌, read_from, all_as}
 
--- what is read so far stands in front of the rest
+-- what is read so far precedes the rest
 abbrev pub after : {B E : Type 0} → List B → Result (List B) E → Result (List B) E
 after front read = read >>= λ rest. Ok (front ++ rest)
 
@@ -25,7 +25,7 @@ module _ {X A B E : Type 0} (view : X → A) (read : ℕ → A → Result B E) w
   pub read_all : (xs : List X) (i : ℕ) (front : List B) → length xs ≤ i → after front (left_from view read xs i) ≡ Ok front
   read_all xs i front h = ap (λ rest. after front (read_from read i (map view rest))) (drop_of_length-le xs h) ∙ ap Ok (append-nil front)
 
--- the same where a part is seen as something, or is of another kind
+-- the same if a part is seen as something, or is of another kind
 abbrev pub with_front : {B : Type 0} → List B → Option (List B) → Option (List B)
 with_front front seen = option_map (λ rest. front ++ rest) seen
 

@@ -1,4 +1,4 @@
--- Actions under other names: nothing changes but the names of the sections.
+-- Actions under other names: only the names of the sections change.
 use Rattle.std.proofs.Common.{arith, ◌≡◌, List, [], ◌∷◌, ◌==◌, if◌then◌else◌, map, refl, sym, ◌∙◌}
 use Rattle.event_log.specs.{declared.ids.{CpuId.CpuId, LockId.LockId}, History.{same_cpu, AreOthers}, Actions.{Action, Take, Try, Give, Phase, Rests, Waits}}
 use Rattle.event_log.specs.Actions.{Holds, phase, cpu_of_action, spot_of, takes, gives, MayAct, AreLegal, action_in, next_action, renamed}

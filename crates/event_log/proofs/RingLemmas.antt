@@ -22,7 +22,7 @@ module _ {A : Type 0} (N k n : ℕ) (xs : List A) (start_in_range : k < N) (len_
 
 -- A second block, since these use the lemmas above at other windows.
 module _ {A : Type 0} (N k n : ℕ) (xs : List A) (start_in_range : k < N) (len_fits : n ≤ N) (length_xs : length xs ≡ N) where
-  -- a write behind the last item adds it at the end; the two lists are compared item by item
+  -- a write after the last item adds it at the end; the two lists are compared item by item
   pub window_after_push : (x : A) → n < N → window k (n + 1) (set xs ((k + n) % N) x) ≡ window k n xs ++ x ∷ []
   window_after_push x has_room =
       let ys = set xs ((k + n) % N) x in

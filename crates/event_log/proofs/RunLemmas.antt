@@ -25,7 +25,7 @@ pub left_from : (caps : List ℕ) (earlier : List Entry) (contents : List (List 
 left_from caps earlier contents [] left same = sym same
 left_from caps earlier contents (x ∷ es) left run = left_from caps (earlier ++ x ∷ []) (after_entry contents x) es left run.1
 
--- each entry may come behind those before it
+-- each entry may follow those before it
 pub next_from : (caps : List ℕ) (earlier : List Entry) (contents : List (List Message)) (es : List Entry) (left : List (List Message))
     → IsRunFrom caps earlier contents es left → (k : ℕ) (e : Entry) → slice_get es k ≡ Some e
     → IsNext caps (earlier ++ take k es) (contents_from contents (take k es)) e
@@ -37,7 +37,7 @@ next_from caps earlier contents (x ∷ es) left run (suc k) e at =
     let front : (earlier ++ x ∷ []) ++ take k es ≡ earlier ++ x ∷ take k es = append_assoc earlier (x ∷ []) (take k es) in
     rw (← front) (next_from caps (earlier ++ x ∷ []) (after_entry contents x) es left run.1 k e at)
 
--- entries that each may come behind those before them are a run
+-- entries that each may follow those before them are a run
 pub run_from_next : (caps : List ℕ) (earlier : List Entry) (contents : List (List Message)) (es : List Entry)
     → ((k : ℕ) (e : Entry) → slice_get es k ≡ Some e → IsNext caps (earlier ++ take k es) (contents_from contents (take k es)) e)
     → IsRunFrom caps earlier contents es (contents_from contents es)
@@ -53,7 +53,7 @@ pub op_order_from : (caps : List ℕ) (earlier : List Entry) (contents : List (L
 op_order_from caps earlier contents [] left run = tt
 op_order_from caps earlier contents (x ∷ es) left run = (run.0.op, op_order_from caps (earlier ++ x ∷ []) (after_entry contents x) es left run.1)
 
--- ---- the numbers behind one entry more
+-- ---- the numbers after one more entry
 
 pub count_more : (earlier : List Entry) (e : Entry) (b : ℕ) → count_of (earlier ++ e ∷ []) b ≡ count_of earlier b + (if e.buffer.0 == b then 1 else 0)
 count_more earlier e b = sum_by_push (λ (x : Entry). if x.buffer.0 == b then 1 else 0) earlier e
@@ -62,7 +62,7 @@ pub count_kind_more : (earlier : List Entry) (e : Entry) (b : ℕ) (kind : Kind)
     → count_of_kind (earlier ++ e ∷ []) b kind ≡ count_of_kind earlier b kind + (if (e.buffer.0 == b) && kind_eq e.kind kind then 1 else 0)
 count_kind_more earlier e b kind = sum_by_push (λ (x : Entry). if (x.buffer.0 == b) && kind_eq x.kind kind then 1 else 0) earlier e
 
--- ---- the numbers where the newest entry comes first
+-- ---- the numbers if the newest entry is first
 
 pub count_cons : (e : Entry) (es : List Entry) (b : ℕ) → count_of (e ∷ es) b ≡ (if e.buffer.0 == b then 1 else 0) + count_of es b
 count_cons e es b = sum_by-cons (λ (x : Entry). if x.buffer.0 == b then 1 else 0) e es

@@ -1,4 +1,5 @@
--- What was put into a buffer is what was taken from it, and then what is left: one entry after the other.
+-- The messages sent to a buffer are those received from it, followed by those left: one entry after
+-- the other.
 use Rattle.std.proofs.Common.{arith, length-set, ◌≡◌, ℕ, ◌==◌, Bool, if◌then◌else◌, List, [], ◌∷◌, ◌++◌, length, refl, sym, ap, ◌∙◌, append_assoc}
 use Rattle.{std.proofs.lemmas.{Bool.{eqb-true, eqb-false}, List.{get_or-set_same, get_or-set_other, append-nil, length-map}}, event_log.specs.Messages.Message}
 use Rattle.event_log.specs.{declared.entries.{Entry.Entry, Kind.Kind}, Buffers.{empty_buffers, items_of, IsAllowedEffect, after_effect}, Runs.IsNext}

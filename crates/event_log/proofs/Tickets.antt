@@ -1,4 +1,5 @@
--- A legal words log is a legal list of actions: the rests modulo 2^64 tell the true counts, since at most CPUS spots wait.
+-- A legal words log is a legal list of actions: the numbers modulo 2^64 determine the true counts,
+-- since at most CPUS ticket indices wait.
 use Rattle.std.proofs.Common.{◌≡◌, ℕ, ◌+◌, ◌%◌, ◌^◌, ◌<◌, ◌≤◌, false, List, [], ◌∷◌, ◌==◌, if◌then◌else◌, refl, ap, subst, ◌∙◌, arith}
 use Rattle.event_log.specs.declared.{ids.{CpuId.CpuId, LockId.LockId, TheConstants.CPUS}, events.Event.{Event, TheVariants.{Draw, Look, Free}}}
 use Rattle.event_log.specs.{History.same_cpu, WordsLog.{cpu_of_event, draws, frees, Holding, left_by, lock_phase, MayFollow, IsLegalWords}, Actions.phase}
@@ -9,17 +10,17 @@ pub use Rattle.event_log.proofs.Observed.{phase_of, TicketOf}
 pub cpu_of_action_is : {M N : Type 0} (name : M → N) (e : Event M) → cpu_of_action (act_of name e) ≡ cpu_of_event e
 cpu_of_action_is name e = grind arith
 
--- the lock phase of a CPU tells its phase
+-- the lock phase of a CPU determines its phase
 pub phase_acts : {M N : Type 0} (name : M → N) (c : CpuId) (log : List (Event M)) → phase c (acts_of name log) ≡ phase_of (lock_phase c log)
 phase_acts name c [] = refl
 phase_acts name c (e ∷ past) = grind (arith, phase_acts name c past)
 
--- the spots taken are the draws
+-- the requests are the draws
 pub takes_acts : {M N : Type 0} (name : M → N) (lock : LockId) (log : List (Event M)) → takes lock (acts_of name log) ≡ draws lock log
 takes_acts name lock [] = refl
 takes_acts name lock (e ∷ past) = grind (arith, takes_acts name lock past)
 
--- the gives are the frees
+-- the releases are the frees
 pub gives_acts : {M N : Type 0} (name : M → N) (lock : LockId) (log : List (Event M)) → gives lock (acts_of name log) ≡ frees lock log
 gives_acts name lock [] = refl
 gives_acts name lock (e ∷ past) = grind (arith, gives_acts name lock past)
@@ -29,7 +30,7 @@ pub lock_phase_other : {M : Type 0} (e : Event M) (past : List (Event M)) (c : C
     → lock_phase c (e ∷ past) ≡ lock_phase c past
 lock_phase_other e past c other = ap (λ b. if b then left_by e else lock_phase c past) other
 
--- in a legal log each ticket is the rest of the true spot
+-- in a legal log each ticket is the ticket index modulo 2^64
 pub ticket_at : {M N : Type 0} (name : M → N) (log : List (Event M)) → IsLegalWords log → (c : CpuId)
     → TicketOf (lock_phase c log) (spot_of c (acts_of name log))
 ticket_at name [] legal c = tt
@@ -37,14 +38,14 @@ ticket_at name (Draw cpu lock ticket ∷ past) legal c = grind (arith, same_cpu_
 ticket_at name (Look cpu lock ticket read ∷ past) legal c = grind (arith, same_cpu_true, ticket_at name past legal.1 c)
 ticket_at name (Free cpu lock mark ∷ past) legal c = grind (arith, ticket_at name past legal.1 c)
 
--- the next number's rest follows that of the number
+-- the successor modulo 2^64 is the successor of the number modulo 2^64
 pub next_rests : (count n : ℕ) → n ≡ count % 2 ^ 64 → (n + 1) % 2 ^ 64 ≡ (count + 1) % 2 ^ 64
 next_rests count n is = omega arith
 
 near_rests : (given spot : ℕ) → given ≤ spot → spot < given + CPUS → given % 2 ^ 64 ≡ spot % 2 ^ 64 → given ≡ spot
 near_rests given spot ahead close same = omega arith
 
--- among spots so near one another equal rests are equal spots
+-- among ticket indices so near one another, equal numbers modulo 2^64 are equal indices
 pub same_rests : (given spot read ticket : ℕ) → given ≤ spot → spot < given + CPUS → read ≡ given % 2 ^ 64 → ticket ≡ spot % 2 ^ 64
     → (read == ticket) ≡ (given == spot)
 same_rests given spot read ticket ahead close reads has = grind (arith, eqb_same, near_rests)
@@ -64,7 +65,7 @@ pub legal_acts : {M N : Type 0} (name : M → N) (log : List (Event M)) → IsLe
 legal_acts name [] legal = tt
 legal_acts name (e ∷ past) legal = let acts = legal_acts name past legal.1 in (legal_act name e past legal.0 legal.1 acts, acts)
 
--- two CPUs are never inside one lock
+-- mutual exclusion: two CPUs are never inside one lock
 pub one_inside : {M : Type 0} (log : List (Event M)) → IsLegalWords log → (a b : CpuId) (lock : LockId) (s t : ℕ)
     → lock_phase a log ≡ Holding lock s → lock_phase b log ≡ Holding lock t → a ≡ b
 one_inside {M = M} log legal a b lock s t first second =

@@ -23,7 +23,7 @@ two_sections = Free b lock 8 ∷ Look b lock 1 1 ∷ Free a lock 9 ∷ Look b lo
 two_sections_are_legal : IsLegalWords two_sections
 two_sections_are_legal = ((1, refl), ((refl, refl), ((0, refl), ((refl, refl), ((refl, refl), ((omega arith, refl, refl), ((omega arith, refl, refl), tt)))))))
 
--- the first CPU draws again while the second one is inside, and enters behind it
+-- the first CPU draws again while the second one is inside, and enters after it
 third_section_is_legal : IsLegalWords {M = ℕ} (Look a lock 2 2 ∷ Free b lock 8 ∷ Draw a lock 2 ∷ Look b lock 1 1 ∷ Free a lock 9 ∷ Look b lock 1 0
     ∷ Look a lock 0 0 ∷ Draw b lock 1 ∷ Draw a lock 0 ∷ [])
 third_section_is_legal = ((refl, refl), ((1, refl), ((omega arith, refl, refl), two_sections_are_legal.1)))
@@ -77,7 +77,7 @@ peek_before_its_turn legal = omega (arith, legal.0.1)
 give_while_waiting : IsLegalGrants {M = ℕ} (Give a lock 9 ∷ Take a lock 0 ∷ []) → ⊥
 give_while_waiting legal = cc (legal.0.1)
 
--- a log without an event, a CPU inside, two locks, each of which counts alone
+-- a log without an event, a CPU inside, two locks, each of which counts separately
 abbrev inside : List (Event ℕ)
 inside = Look a lock 0 0 ∷ Draw a lock 0 ∷ []
 

@@ -1,10 +1,12 @@
--- What any fair lock's log says, whatever its words are: who took a spot in the line of a lock, tried, and gave the lock on.
--- A give carries the name of the section that it ends. Newest first, with true numbers.
+-- What the log of any FIFO lock says, whatever the lock's words are: which CPU requested a lock
+-- (Take), polled it (Try) and released it (Give). A Give carries the name of the section that it
+-- ends. Lists are newest first, and numbers are not modulo 2^64.
 use Rattle.std.specs.Prelude.{◌≡◌, ℕ, ◌<◌, Bool, false, List, [], ◌∷◌, ◌==◌, map, if◌then◌else◌}
 use Rattle.event_log.specs.declared.{ids.{CpuId.CpuId, LockId.LockId, TheConstants.CPUS}, events.Event.{Event, TheVariants.{Draw, Look, Free}}}
 use Rattle.event_log.specs.History.{same_cpu, same_lock, how_many, IsLawful}
 
--- an action at a lock: a spot in its line is taken, an entry is tried, or the lock is given on by a section of this name
+-- an action at a lock: a request, which takes a place in its queue; a poll, which tries to enter;
+-- or a release, by a section of this name
 pub data Action (N : Type 0) : Type 0 where
   Take : (cpu : CpuId) (lock : LockId) → Action N
   Try : (cpu : CpuId) (lock : LockId) (hit : Bool) → Action N
@@ -22,23 +24,23 @@ lock_of_action (Take cpu lock) = lock
 lock_of_action (Try cpu lock hit) = lock
 lock_of_action (Give cpu lock name) = lock
 
--- whether it takes a spot in the line of this lock
+-- whether it requests this lock
 abbrev pub is_take : {N : Type 0} → LockId → Action N → Bool
 is_take lock (Take cpu at) = same_lock lock at
 is_take lock (Try cpu at hit) = false
 is_take lock (Give cpu at name) = false
 
--- whether it gives this lock on
+-- whether it releases this lock
 abbrev pub is_give : {N : Type 0} → LockId → Action N → Bool
 is_give lock (Take cpu at) = false
 is_give lock (Try cpu at hit) = false
 is_give lock (Give cpu at name) = same_lock lock at
 
--- how many spots in the line of this lock were taken
+-- how often this lock was requested
 abbrev pub takes : {N : Type 0} → LockId → List (Action N) → ℕ
 takes lock past = how_many (is_take lock) past
 
--- how often this lock was given on
+-- how often this lock was released
 abbrev pub gives : {N : Type 0} → LockId → List (Action N) → ℕ
 gives lock past = how_many (is_give lock) past
 
@@ -54,20 +56,21 @@ phase_after (Take cpu lock) = Waits lock
 phase_after (Try cpu lock hit) = if hit then Holds lock else Waits lock
 phase_after (Give cpu lock name) = Rests
 
--- what a CPU does: its newest action tells
+-- what a CPU does, according to its newest action
 abbrev pub phase : {N : Type 0} → CpuId → List (Action N) → Phase
 phase cpu [] = Rests
 phase cpu (a ∷ past) = if same_cpu (cpu_of_action a) cpu then phase_after a else phase cpu past
 
--- the spot in line that a CPU took last: how many spots of that lock had been taken before
+-- the ticket index of a CPU: how often the lock had been requested before the CPU's last request
 abbrev pub spot_of : {N : Type 0} → CpuId → List (Action N) → ℕ
 spot_of cpu [] = 0
 spot_of cpu (Take by lock ∷ past) = if same_cpu by cpu then takes lock past else spot_of cpu past
 spot_of cpu (Try by lock hit ∷ past) = spot_of cpu past
 spot_of cpu (Give by lock name ∷ past) = spot_of cpu past
 
--- the action may come after this past. A CPU of the machine takes a spot while it rests. While it waits it tries, and
--- enters exactly where the lock has been given on as often as its spot says. While it holds the lock it may give it on.
+-- the action may follow this past. A CPU of the machine requests a lock while it rests. While it
+-- waits it polls, and enters exactly if the lock has been released as often as its ticket index
+-- says. While it holds the lock it may release it.
 abbrev pub MayAct : {N : Type 0} → List (Action N) → Action N → Type 0
 MayAct past (Take cpu lock) = (cpu.0 < CPUS) × (phase cpu past ≡ Rests)
 MayAct past (Try cpu lock hit) = (phase cpu past ≡ Waits lock) × (hit ≡ (gives lock past == spot_of cpu past))
@@ -77,7 +80,7 @@ MayAct past (Give cpu lock name) = phase cpu past ≡ Holds lock
 abbrev pub AreLegal : {N : Type 0} → List (Action N) → Type 0
 AreLegal actions = IsLawful MayAct actions
 
--- the lock is free: it was given on as often as a spot in its line was taken
+-- the lock is free: it was released as often as it was requested
 abbrev pub IsFree : {N : Type 0} → LockId → List (Action N) → Type 0
 IsFree lock actions = takes lock actions ≡ gives lock actions
 
@@ -85,13 +88,13 @@ IsFree lock actions = takes lock actions ≡ gives lock actions
 abbrev pub AreFree : {N : Type 0} → List (Action N) → Type 0
 AreFree actions = (lock : LockId) → IsFree lock actions
 
--- the action that is due to a CPU in this phase: at this lock, and its section to be given this name
+-- the action that is due to a CPU in this phase: at this lock, and its section will have this name
 abbrev pub action_in : {N : Type 0} → CpuId → LockId → N → List (Action N) → Phase → Action N
 action_in cpu lock name past Rests = Take cpu lock
 action_in cpu lock name past (Waits at) = Try cpu at (gives at past == spot_of cpu past)
 action_in cpu lock name past (Holds at) = Give cpu at name
 
--- the next action of a CPU: the past tells which it is
+-- the next action of a CPU, according to the past
 abbrev pub next_action : {N : Type 0} → CpuId → LockId → N → List (Action N) → Action N
 next_action cpu lock name past = action_in cpu lock name past (phase cpu past)
 

@@ -7,7 +7,7 @@ unfoldable pub is_number : List ℕ → Bool
 is_number [] = false
 is_number (c ∷ cs) = if c == 48 then length cs == 0 else all_ascii_digits (c ∷ cs)
 
--- the number that a text spells, where that is at most `most`
+-- the number that a text spells, if that is at most `most`
 unfoldable pub number_to : ℕ → List ℕ → Option ℕ
 number_to most text =
     if is_number text && nat_le (digits_value 10 text) most then Some (digits_value 10 text) else None

@@ -1,8 +1,8 @@
--- Lawful logs, to be read aloud: oldest first, and each event may follow what stands before it.
+-- Lawful logs, to be read aloud: oldest first, and each event may follow the events before it.
 use Rattle.std.specs.Prelude.{◌≡◌, ◌↔◌, List, [], ◌∷◌, ◌++◌, reverse}
 use Rattle.event_log.specs.{declared.events.Event.Event, WordsLog.{MayFollow, IsLegalWords}}
 
--- wherever the log, oldest first, is split at an event, the event may follow the history of what stands before it
+-- wherever the log, oldest first, is split at an event, the event may follow the history before it
 abbrev pub IsLawfulLog : {E : Type 0} → (List E → E → Type 0) → List E → Type 0
 IsLawfulLog {E} May log = (before : List E) (e : E) (later : List E) → log ≡ before ++ (e ∷ later) → May (reverse before) e
 
@@ -14,6 +14,6 @@ IsLegalLog log = IsLawfulLog MayFollow log
 abbrev pub BothFormsAgree : Type 0 → Type 0
 BothFormsAgree M = (log : List (Event M)) → IsLegalLog log ↔ IsLegalWords (reverse log)
 
--- a log with one more event is legal exactly where it was, and the event may follow it
+-- a log with one more event is legal exactly if it was, and the event may follow it
 abbrev pub LegalLogsGrow : Type 0 → Type 0
 LegalLogsGrow M = (log : List (Event M)) (e : Event M) → IsLegalLog (log ++ (e ∷ [])) ↔ (IsLegalLog log × MayFollow (reverse log) e)

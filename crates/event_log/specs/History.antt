@@ -1,4 +1,5 @@
--- Histories: lists of events, newest first. What may come after what, whose events they are, and how a history grows.
+-- Histories: lists of events, newest first. Which event may follow which history, whose events they
+-- are, and how a history grows.
 use Rattle.std.specs.Prelude.{◌≡◌, ℕ, ◌+◌, Bool, false, List, [], ◌∷◌, ◌++◌, ◌==◌, if◌then◌else◌}
 use Rattle.event_log.specs.declared.ids.{CpuId.CpuId, LockId.LockId, LockId.TheVariants.Pending, LockId.TheVariants.Buffer}
 
@@ -13,7 +14,7 @@ same_lock (Buffer a) (Buffer b) = a.0 == b.0
 same_lock (Pending a) (Buffer b) = false
 same_lock (Buffer a) (Pending b) = false
 
--- each event of the history may follow what was before it
+-- each event of the history may follow the events before it
 abbrev pub IsLawful : {E : Type 0} → (List E → E → Type 0) → List E → Type 0
 IsLawful May [] = Unit {0}
 IsLawful May (e ∷ past) = May past e × IsLawful May past
@@ -33,17 +34,17 @@ abbrev pub AreOthers : {E : Type 0} → (E → CpuId) → CpuId → List E → T
 AreOthers by cpu [] = Unit {0}
 AreOthers by cpu (e ∷ past) = (same_cpu (by e) cpu ≡ false) × AreOthers by cpu past
 
--- none of these events is of a CPU for which the holder of the machine acts
+-- environment events: none is of a CPU for which the holder of the machine acts
 abbrev pub AreForeign : {E : Type 0} → (CpuId → Type 0) → (E → CpuId) → List E → Type 0
 AreForeign ActsFor by others = (c : CpuId) → ActsFor c → AreOthers by c others
 
--- the history has grown by this event, put after foreign ones
+-- the history has grown by this event, added after environment events
 pub record Adds {E : Type 0} (ActsFor : CpuId → Type 0) (by : E → CpuId) (e : E) (old new : List E) : Type 0 where
   pub others : List E
   pub foreign : AreForeign ActsFor by others
   pub is : new ≡ e ∷ (others ++ old)
 
--- the history has grown by foreign events alone
+-- the history has grown only by environment events
 pub record Grows {E : Type 0} (ActsFor : CpuId → Type 0) (by : E → CpuId) (old new : List E) : Type 0 where
   pub others : List E
   pub foreign : AreForeign ActsFor by others

@@ -4,21 +4,23 @@ use Rattle.event_log.specs.declared.{ids.{CpuId.CpuId, LockId.LockId, TheConstan
 use Rattle.event_log.specs.{History.{same_cpu, own_events}, WordsLog.{cpu_of_event, frees, IsLegalWords, Holding, lock_phase}, Actions.{Action, Take, Try}}
 use Rattle.event_log.specs.{Actions.{Give, Rests, Holds, cpu_of_action, gives, phase, AreLegal, IsFree, AreFree, next_action, acts_of}, Sections.sections_in}
 
--- two CPUs never hold one lock
+-- mutual exclusion, for actions: two CPUs never hold one lock
 abbrev pub OneHolds : Type 0 → Type 0
 OneHolds N = (actions : List (Action N)) → AreLegal actions → (a b : CpuId) (lock : LockId)
     → phase a actions ≡ Holds lock → phase b actions ≡ Holds lock → a ≡ b
 
--- two CPUs are never inside one lock, whatever their tickets are
+-- mutual exclusion, for words logs: two CPUs are never inside one lock, whatever their tickets are
 abbrev pub OneInside : Type 0 → Type 0
 OneInside M = (log : List (Event M)) → IsLegalWords log → (a b : CpuId) (lock : LockId) (s t : ℕ)
     → lock_phase a log ≡ Holding lock s → lock_phase b log ≡ Holding lock t → a ≡ b
 
--- a legal words log is a legal list of actions: its tickets, modulo 2^64, tell the true spots
+-- simulation: a legal words log is a legal list of actions. Its tickets, modulo 2^64, determine the
+-- ticket indices
 abbrev pub TicketsTellSpots : Type 0 → Type 0
 TicketsTellSpots M = (log : List (Event M)) → IsLegalWords log → AreLegal (acts_of (λ (m : M). m) log)
 
--- a CPU that rests, alone at a free lock: its next three actions are one section, of this name, and leave the lock free
+-- the next three actions of a resting CPU at a free lock, without others between, are one section,
+-- of this name, and leave the lock free
 abbrev pub IsOneSection : {N : Type 0} → CpuId → LockId → N → List (Action N) → Type 0
 IsOneSection cpu lock name past =
     let first = next_action cpu lock name past in
@@ -28,42 +30,45 @@ IsOneSection cpu lock name past =
     × (sections_in (third ∷ second ∷ first ∷ past) ≡ record { cpu = cpu; lock = lock; edit = name } ∷ sections_in past)
     × IsFree lock (third ∷ second ∷ first ∷ past)
 
--- three actions of a CPU alone are exactly one section
+-- three actions of a CPU without others between are exactly one section
 abbrev pub ThreeAreOneSection : Type 0 → Type 0
 ThreeAreOneSection N = (cpu : CpuId) (lock : LockId) (name : N) (past : List (Action N))
     → phase cpu past ≡ Rests → IsFree lock past → IsOneSection cpu lock name past
 
--- where each CPU of the machine rests, every lock is free, and the other way round
+-- every lock is free if each CPU of the machine rests, and only then
 abbrev pub FreeWhereAllRest : Type 0 → Type 0
 FreeWhereAllRest N = (actions : List (Action N)) → AreLegal actions
     → ((c : CpuId) → c.0 < CPUS → phase c actions ≡ Rests) ↔ AreFree actions
 
--- each of these actions is a try
+-- each of these actions is a poll
 abbrev pub OnlyTries : {N : Type 0} → List (Action N) → Type 0
 OnlyTries [] = Unit {0}
 OnlyTries (Take cpu lock ∷ past) = ⊥
 OnlyTries (Try cpu lock hit ∷ past) = OnlyTries past
 OnlyTries (Give cpu lock name ∷ past) = ⊥
 
--- from the Take of a CPU on, while it does nothing but try, no other CPU gives that lock on twice
+-- bounded bypass, per CPU: from a CPU's request on, while it only polls, no other CPU releases that
+-- lock twice
 abbrev pub GivenOnceMeanwhile : Type 0 → Type 0
 GivenOnceMeanwhile N = (past between : List (Action N)) (cpu other : CpuId) (lock : LockId)
     → AreLegal (between ++ (Take cpu lock ∷ past)) → OnlyTries (own_events cpu_of_action cpu between) → same_cpu cpu other ≡ false
     → gives lock (own_events cpu_of_action other between) ≤ 1
 
--- bounded waiting: from the Take of a CPU on, while it does nothing but try, the lock is given on fewer than CPUS times
+-- bounded bypass: from a CPU's request on, while it only polls, the lock is released fewer than
+-- CPUS times
 abbrev pub WaitsForFew : Type 0 → Type 0
 WaitsForFew N = (past between : List (Action N)) (cpu : CpuId) (lock : LockId)
     → AreLegal (between ++ (Take cpu lock ∷ past)) → OnlyTries (own_events cpu_of_action cpu between) → gives lock between < CPUS
 
--- each of these events is a look
+-- each of these events is a poll of `serving`
 abbrev pub OnlyLooks : {M : Type 0} → List (Event M) → Type 0
 OnlyLooks [] = Unit {0}
 OnlyLooks (Draw cpu lock ticket ∷ past) = ⊥
 OnlyLooks (Look cpu lock ticket read ∷ past) = OnlyLooks past
 OnlyLooks (Free cpu lock mark ∷ past) = ⊥
 
--- from the Draw of a CPU on, while it does nothing but look, no other CPU frees that lock twice
+-- bounded bypass of a ticket lock, per CPU: from a CPU's Draw on, while it only polls, no other CPU
+-- frees that lock twice
 abbrev pub FreedOnceMeanwhile : Type 0 → Type 0
 FreedOnceMeanwhile M = (past between : List (Event M)) (cpu other : CpuId) (lock : LockId) (ticket : ℕ)
     → IsLegalWords (between ++ (Draw cpu lock ticket ∷ past)) → OnlyLooks (own_events cpu_of_event cpu between) → same_cpu cpu other ≡ false

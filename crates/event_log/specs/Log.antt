@@ -1,4 +1,4 @@
--- What an event log shows of itself.
+-- The view of an event log in clauses.
 use Rattle.{std.specs.Prelude.{ℕ, List}, event_log.specs.declared.logs.EventLog.EventLog}
 
 -- the events of a log, oldest first

@@ -1,4 +1,5 @@
--- What a buffer carries: a message is a list of one to eight numbers, its words, and none is spelled by the one word 0.
+-- What a buffer carries: a message is a list of one to eight numbers, its words. The one word 0
+-- also spells that there is no message.
 use Rattle.std.specs.{Prelude.{◌-◌, ◌<◌, ◌≤◌, ◌^◌, ℕ, List, [], ◌∷◌, ◌++◌, length, replicate, slice_index_or}, List.AllByRecursion}
 use Rattle.event_log.specs.declared.messages.TheConstants.{WORDS}
 
@@ -6,7 +7,7 @@ use Rattle.event_log.specs.declared.messages.TheConstants.{WORDS}
 abbrev pub Message : Type 0
 Message = List ℕ
 
--- what stands where a message is asked for and there is none
+-- the value that is used if a message is expected and there is none
 abbrev pub no_message : Message
 no_message = 0 ∷ []
 
@@ -14,11 +15,12 @@ no_message = 0 ∷ []
 abbrev pub first_word : Message → ℕ
 first_word message = slice_index_or message 0 0
 
--- the words with zeroes behind them: as many as a message has at most
+-- the words followed by zeroes: as many as a message has at most
 abbrev pub padded : List ℕ → List ℕ
 padded words = words ++ replicate (WORDS - length words) 0
 
--- a list is one that a message may be: it has a word, and no more than the most, and each is a number of 64 bits
+-- a list is a valid message: it has a word, and no more than the most, and each is a number of 64
+-- bits
 pub record IsMessage (m : Message) : Type 0 where
   pub some : 0 < length m
   pub most : length m ≤ WORDS

@@ -1,6 +1,7 @@
--- The refusal of an allocation.
+-- The error of a failed allocation.
 use Rattle.event_log.specs.declared.refusals.NoMemory.{NoMemory}
 
--- what a refused allocation is told by: all its values are alike, and a program has one only from the allocator's refusal
+-- the value of this error: the type has only this value, and a program gets it only from the
+-- allocator's error
 abbrev pub no_memory : NoMemory
 no_memory = record { refused = tt }

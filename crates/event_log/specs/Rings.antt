@@ -1,7 +1,7 @@
 -- The part of a table that holds a queue of items, and a queue's steps on a list.
 use Rattle.std.specs.Prelude.{ℕ, List, [], ◌∷◌, ◌++◌, take, drop, Some, None, Option}
 
--- a list turned k places to the left
+-- a list rotated by k places to the left
 abbrev pub rotate_left : {A : Type 0} → ℕ → List A → List A
 rotate_left k slots = drop k slots ++ take k slots
 
@@ -14,7 +14,7 @@ abbrev pub front_item : {A : Type 0} → List A → Option A
 front_item [] = None
 front_item (item ∷ items) = Some item
 
--- the items behind the first
+-- the items after the first
 abbrev pub items_behind : {A : Type 0} → List A → List A
 items_behind [] = []
 items_behind (item ∷ items) = items

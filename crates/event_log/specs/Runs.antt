@@ -1,9 +1,11 @@
--- Runs of the machine whose sends, receives and closes are single steps on first-in first-out buffers.
+-- Runs: legal sequential histories of first-in first-out buffers, in which a send, a receive or a
+-- close is a single step.
 use Rattle.std.specs.Prelude.{◌≡◌, ℕ, ◌<◌, Bool, true, false, ◌&&◌, ◌==◌, List, [], ◌∷◌, ◌++◌, length, nat_lt, count_by, slice_index, slice_set}
 use Rattle.event_log.specs.{declared.entries.{Kind.{Kind, TheVariants.{Send, Recv, Close, SendClosed, RecvClosed}}, Entry.Entry}, Messages.Message}
 use Rattle.event_log.specs.Buffers.{items_of, empty_buffers, IsAllowedEffect, after_effect}
 
--- what an effect is counted with: a send that found its buffer closed is a send, and a receive that did is a receive
+-- the effects that are counted together: a send that found its buffer closed is a send, and a
+-- receive that did is a receive
 pub data Group : Type 0 where
   Sends : Group
   Receives : Group
@@ -43,8 +45,9 @@ count_of_kind entries b kind = count_by (λ e. (e.buffer.0 == b) && kind_eq e.ki
 abbrev pub is_closed : List Entry → ℕ → Bool
 is_closed entries b = nat_lt 0 (count_of_kind entries b Close)
 
--- behind the earlier entries, with these contents, e may come: its effect is allowed, its op is the
--- number of earlier entries of its buffer, its pos the number of those of its buffer that are counted with it
+-- after the earlier entries, with these contents, e may follow. Its effect is allowed, its op is
+-- the number of earlier entries of its buffer. Its pos is the number of those of its buffer that
+-- are counted with it
 pub record IsNext (caps : List ℕ) (earlier : List Entry) (contents : List (List Message)) (e : Entry) : Type 0 where
   pub known : e.buffer.0 < length caps
   pub allowed : IsAllowedEffect e.kind (is_closed earlier e.buffer.0) (slice_index caps e.buffer.0) (items_of contents e.buffer.0) e.value
@@ -64,11 +67,12 @@ contents_from contents (e ∷ es) = contents_from (after_entry contents e) es
 abbrev pub contents_after : List ℕ → List Entry → List (List Message)
 contents_after caps es = contents_from (empty_buffers caps) es
 
--- behind the earlier entries, with these contents, the entries come one after the other, and leave what is left
+-- after the earlier entries, with these contents, the entries are legal one after the other, and
+-- leave what is left
 abbrev pub IsRunFrom : List ℕ → List Entry → List (List Message) → List Entry → List (List Message) → Type 0
 IsRunFrom caps earlier contents [] left = contents ≡ left
 IsRunFrom caps earlier contents (e ∷ es) left = IsNext caps earlier contents e × IsRunFrom caps (earlier ++ e ∷ []) (after_entry contents e) es left
 
--- the entries are a run from empty buffers, and it ends in what is left
+-- the entries are a legal sequential history from empty buffers on, which ends in what is left
 abbrev pub IsRun : List ℕ → List Entry → List (List Message) → Type 0
 IsRun caps es left = IsRunFrom caps [] (empty_buffers caps) es left

@@ -3,7 +3,7 @@ use Rattle.std.specs.Prelude.{List, [], ◌∷◌, option_map, Option, if◌then
 use Rattle.event_log.specs.{declared.{ids.{CpuId.CpuId, LockId.LockId}, events.Event.{Event, TheVariants.{Draw, Look, Free}}}, History.same_lock}
 use Rattle.event_log.specs.Actions.{Action, Take, Try, Give}
 
--- a section: who edited the block of which lock, and how
+-- a section: which CPU edited the block of which lock, and how
 pub record Section (E : Type 0) : Type 0 where
   pub cpu : CpuId
   pub lock : LockId
@@ -17,7 +17,7 @@ cpu_of_section s = s.cpu
 abbrev pub renamed_section : {N L : Type 0} → (N → L) → Section N → Section L
 renamed_section f s = record { cpu = s.cpu; lock = s.lock; edit = f s.edit }
 
--- the sections of a words log: its Frees, each with the edit that its mark tells
+-- the sections of a words log: its Frees, each with the edit that its mark denotes
 abbrev pub sections_of : {M E : Type 0} → (M → E) → List (Event M) → List (Section E)
 sections_of edit [] = []
 sections_of edit (Draw cpu lock ticket ∷ past) = sections_of edit past
@@ -31,7 +31,8 @@ sections_in (Take cpu lock ∷ past) = sections_in past
 sections_in (Try cpu lock hit ∷ past) = sections_in past
 sections_in (Give cpu lock name ∷ past) = record { cpu = cpu; lock = lock; edit = name } ∷ sections_in past
 
--- the block of a lock after these sections: the opening block, edited by each of the lock's sections in turn
+-- the block of a lock after these sections: the opening block, edited by each of the lock's
+-- sections in turn
 abbrev pub block_after : {E B : Type 0} → (E → B → B) → (LockId → Option B) → LockId → List (Section E) → Option B
 block_after edited opening lock [] = opening lock
 block_after edited opening lock (s ∷ past) =

@@ -1,14 +1,14 @@
-//! Tables whose reads and writes are counted. No call takes memory or waits.
+//! Tables whose reads and writes are counted. No call allocates memory or waits.
 
 ghost use Rattle.std.specs.Prelude.{◌≡◌, ◌+◌, ◌<◌, ℕ, length, slice_index_or, slice_set};
 
 use std::marker::Model;
 use std::sync::ledger::{Blank, Book, Ledger, Share};
 
-/// How many cells were read or written: a count in proofs alone, which takes no bytes and no time.
-/// Only [`Cells`] adds to it, one for each cell that it reads or writes, so a call that is handed a
-/// count leaves in it at least what it read and wrote under it. What a call does under a count of
-/// its own, made by [`fresh`](Ticks::fresh), stands in that one.
+/// How many cells were read or written: a ghost count, which takes no bytes and no time. Only
+/// [`Cells`] adds to it, one for each cell that it reads or writes. A call that is passed a count
+/// therefore adds to it at least what the call read and wrote under it. What a call does under a
+/// private count, made by [`fresh`](Ticks::fresh), is in that count.
 #[derive(Drop)]
 pub struct Ticks<L: Ledger> {
     book: Book<L>,
@@ -26,7 +26,7 @@ impl<L: Ledger> Model for Ticks<L> {
 }
 
 impl<L: Ledger> Ticks<L> {
-    /// A count that stands at 0. No type stands for `blank` yet.
+    /// Returns a count of 0. No type is assigned to `blank` yet.
     ///
     /// Requires: `blank` is a ledger of one part. `L` has its name and its parts.
     pub fn fresh(blank: Blank) -> Ticks<L>
@@ -62,7 +62,7 @@ impl<T: Copy + Drop, const N: usize> Model for Cells<T, N> {
 }
 
 impl<T: Copy + Drop, const N: usize> Cells<T, N> {
-    /// A table that holds `value` in each of its `N` cells.
+    /// Returns a table with `value` in each of its `N` cells.
     pub fn filled(value: T) -> Self
         ensures length { length result ≡ N }
         ensures each { (i : ℕ) → i < N → slice_index_or result i value ≡ value }
@@ -70,7 +70,7 @@ impl<T: Copy + Drop, const N: usize> Cells<T, N> {
         Cells { cells: [value; N] }
     }
 
-    /// What cell `i` holds. One tick.
+    /// Returns the value of cell `i`. One tick.
     ///
     /// Requires: `i` is less than the number of cells.
     pub fn get<L: Ledger>(&self, i: usize, ticks: &mut Ticks<L>) -> T
@@ -83,7 +83,7 @@ impl<T: Copy + Drop, const N: usize> Cells<T, N> {
         cells[i]
     }
 
-    /// Puts `value` in cell `i`. One tick.
+    /// Stores `value` in cell `i`. One tick.
     ///
     /// Requires: `i` is less than the number of cells.
     pub fn set<L: Ledger>(&mut self, i: usize, value: T, ticks: &mut Ticks<L>)

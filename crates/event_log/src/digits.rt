@@ -1,11 +1,12 @@
 //! Numbers written in decimal digits, as programs, schedules and trace texts spell them. No call
-//! takes memory or waits.
+//! allocates memory or waits.
 
 ghost use Rattle.std.specs.{Prelude.{◌≡◌, ◌≤◌, ◌<◌, ◌^◌, ℕ, List, Some, decimal, false, length, slice_index, take, true, IfSome}, Char.is_ascii_digit};
 ghost use Rattle.{std.specs.{List.list_all, Str.{all_ascii_digits, Parse.digits_value}}, event_log.specs.declared.digits.TheConstants.SHORT};
 ghost use Rattle.event_log.specs.Digits.{is_number, number_to};
 
-/// Whether `text` spells a number, of any size: it is `0`, or digits of which the first is not `0`.
+/// Returns whether `text` spells a number, of any size: it is `0`, or digits of which the first is
+/// not `0`.
 pub fn is_number(text: &[u8]) -> bool
     ensures { result ≡ is_number text.now }
 {
@@ -18,19 +19,19 @@ pub fn is_number(text: &[u8]) -> bool
     has_only_digits(text)
 }
 
-/// Whether each byte of `text` is a digit.
+/// Returns whether each byte of `text` is a digit.
 fn has_only_digits(text: &[u8]) -> bool
     ensures { result ≡ list_all is_ascii_digit text.now }
 {
     text.iter().all(|byte| byte.is_ascii_digit())
 }
 
-/// How many digits `leading_digits` reads at most: so many stay below 2^64, with no look at the size
-/// of their number.
+/// How many digits `leading_digits` reads at most: so many stay below 2^64, without a test of the
+/// size of their number.
 pub const SHORT: usize = 19;
 
-/// The digits that the text begins with, `SHORT` at most: how many they are, and their number, which
-/// is 0 where there is none. They may begin with zeros.
+/// Returns the digits that the text begins with, `SHORT` at most: how many they are, and their
+/// number, which is 0 if there is none. They may begin with zeros.
 #[inline(always)]
 pub fn leading_digits(text: &[u8]) -> (usize, u64)
     ensures few { result.0 ≤ SHORT }
@@ -51,8 +52,8 @@ pub fn leading_digits(text: &[u8]) -> (usize, u64)
     (most, number)
 }
 
-/// The number of at most `most` that a text of any length spells: a digit is taken only where the
-/// number stays that small.
+/// Returns the number of at most `most` that a text of any length spells: a digit is taken only
+/// while the number stays that small.
 fn long_number(text: &[u8], most: u64) -> Option<u64>
     requires some { 0 < length text.now }
     requires lead { slice_index text.now 0 ≡ 48 → length text.now ≡ 1 }
@@ -78,8 +79,8 @@ fn long_number(text: &[u8], most: u64) -> Option<u64>
     Some(number)
 }
 
-/// The number that `text` spells, if it spells one of at most `most`: `0`, or digits of which the
-/// first is not `0`. Any other text gives `None`, a sign or a leading zero included.
+/// Returns the number that `text` spells, if it spells one of at most `most`: `0`, or digits of
+/// which the first is not `0`. `None` for any other text, also one with a sign or a leading zero.
 #[tactic(auto, using(crate::proofs::DigitsLemmas::early_answers))]
 pub fn number_to(text: &[u8], most: u64) -> Option<u64>
     ensures number { result ≡ number_to most text.now }
@@ -102,7 +103,7 @@ pub fn number_to(text: &[u8], most: u64) -> Option<u64>
 }
 
 /// The law of the spelling: each number up to `most` is spelled by one text, the one that `{}`
-/// writes of it, and that text is read as the number.
+/// prints for it. That text is read as the number.
 #[tactic(auto, using(crate::proofs::DigitsLemmas::one_spelling))]
 pub fn number_has_one_spelling()
     ensures read_back { (most n : ℕ) → n < 2 ^ 64 → n ≤ most → number_to most (decimal n) ≡ Some n }

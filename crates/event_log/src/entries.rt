@@ -1,4 +1,4 @@
-//! What a send, a receive or a close that took effect leaves behind.
+//! The record of a send, a receive or a close that took effect.
 
 use crate::ids::{BufId, CpuId, Tid};
 use crate::messages::Msg;
@@ -18,7 +18,8 @@ pub enum Kind {
     RecvClosed,
 }
 
-/// One send, receive or close that took effect: what it did to its buffer, who did it, and its numbers.
+/// One send, receive or close that took effect (its linearization point): what it did to its
+/// buffer, which thread did it, and its sequence numbers.
 #[derive(Clone, Copy, Debug, PartialEq, Eq)]
 pub struct Entry {
     /// The CPU on which the call ran.
@@ -29,12 +30,12 @@ pub struct Entry {
     pub kind: Kind,
     /// The buffer.
     pub buffer: BufId,
-    /// The message that was put, taken or offered; 0 of a close, and of a receive that found the
+    /// The message that was put, taken or offered; 0 for a close, and for a receive that found the
     /// buffer closed.
     pub value: Msg,
     /// How many effects, of all kinds together, the buffer had before this one.
     pub op: u64,
-    /// How many effects of this kind the buffer had before this one, where all sends count
-    /// together, and all receives, whether or not they found the buffer closed.
+    /// How many effects of this kind the buffer had before this one. All sends count together, and
+    /// all receives, whether or not they found the buffer closed.
     pub pos: u64,
 }

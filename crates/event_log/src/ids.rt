@@ -1,6 +1,6 @@
-//! The names of the machine's parts, and how many of each a machine may have. Each name is a number
-//! with a type of its own, so that a CPU is never taken for a thread. No call takes memory or
-//! waits.
+//! The names of the machine's parts, and how many of each a machine may have. Each kind of name is
+//! a number with a separate type, so that a CPU is never taken for a thread. No call allocates
+//! memory or waits.
 
 ghost use Rattle.std.specs.Prelude.{◌≡◌, ◌<◌};
 ghost use Rattle.event_log.specs.{declared.ids.TheConstants.LOCKS, Locks.lock_number};
@@ -49,13 +49,13 @@ pub enum LockId {
     Buffer(BufId),
 }
 
-/// How many locks there can be: one for each number of a CPU and one for each number of a buffer,
-/// of which each is a `u8`. A table indexed by lock has this size.
+/// How many locks there can be: one for each number of a CPU and one for each number of a buffer.
+/// Each number is a `u8`. A table indexed by lock has this size.
 pub const LOCKS: usize = 512;
 
 impl LockId {
-    /// The number of the lock among all that there can be: even for that of a CPU's queue, odd for
-    /// that of a buffer. Two locks have two numbers.
+    /// Returns the number of the lock among all that there can be: even for that of a CPU's queue,
+    /// odd for that of a buffer. Two locks have two numbers.
     pub fn number(self) -> usize
         ensures number { result ≡ lock_number self }
         ensures within { result < LOCKS }

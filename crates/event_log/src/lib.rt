@@ -1,5 +1,6 @@
-//! The ground of the tower: the numbers that name CPUs, threads, buffers and locks, the atomic
-//! events, a log of events with room, and the definitions that every layer speaks in.
+//! The lowest crate of the tower: the numbers that name CPUs, threads, buffers and locks, and the
+//! atomic events. It also has a log of events with a capacity, and the definitions that every layer
+//! uses.
 //!
 //! ```rust
 //! use event_log::{BufId, CpuId, Event, EventLog, LockId};

@@ -1,4 +1,4 @@
-//! A log of events with room for so many. Only `with_room` takes memory. No call waits.
+//! A log of events with a fixed capacity. Only `with_room` allocates memory. No call waits.
 
 ghost use Rattle.std.specs.Prelude.{◌≡◌, ◌≤◌, ◌<◌, ◌++◌, ◌∷◌, ◌+◌, ◌↔◌, [], List};
 ghost use Rattle.std.specs.Prelude.{length, replicate, slice_get, vec_capacity, IfOk, IsOk, IsErr, OnOk, OnErr, option_map};
@@ -7,7 +7,7 @@ use crate::refusals::{LogFull, NoMemory};
 use std::alloc::Global;
 
 /// A log of events, oldest first, with room for a number of events that is fixed when it is made.
-/// No call after `with_room` takes memory.
+/// No call after `with_room` allocates memory.
 #[derive(Drop)]
 pub struct EventLog<E> {
     events: Vec<E>,
@@ -19,9 +19,9 @@ pub struct EventLog<E> {
 impl<E> EventLog<E> {
     ghost use Rattle.event_log.specs.Log.{events_in, room_of};
 
-    /// An empty log with room for `n` events.
+    /// Returns an empty log with room for `n` events.
     ///
-    /// Errors: `NoMemory` where the room could not be had; nothing was made.
+    /// Errors: `NoMemory` if the allocation failed; nothing was made.
     pub fn with_room(alloc: Global, n: usize) -> Result<EventLog<E>, NoMemory>
         ensures empty { IfOk result (λ log. events_in log ≡ []) }
         ensures room { IfOk result (λ log. room_of log ≡ n) }
@@ -31,10 +31,10 @@ impl<E> EventLog<E> {
         Ok(EventLog { events, room: n })
     }
 
-    /// Puts `event` at the end of the log. Takes no memory.
+    /// Appends `event` to the log. Allocates no memory.
     ///
-    /// Errors: `LogFull` exactly where as many events stand in the log as it has room for; then
-    /// nothing changed.
+    /// Errors: `LogFull` exactly if the log has as many events as it has room for; then nothing
+    /// changed.
     pub fn push(&mut self, event: E) -> Result<(), LogFull>
     where
         E: Drop,
@@ -50,10 +50,10 @@ impl<E> EventLog<E> {
         Ok(())
     }
 
-    /// Puts `event` at the end of a log that is known to have room: no test is made when it runs.
-    /// Takes no memory.
+    /// Appends `event` to a log that is known to have room: there is no test at run time. Allocates
+    /// no memory.
     ///
-    /// Requires: fewer events stand in the log than it has room for.
+    /// Requires: the log has fewer events than it has room for.
     #[inline(always)]
     pub fn push_reserved(&mut self, event: E)
     where
@@ -65,8 +65,8 @@ impl<E> EventLog<E> {
         self.events.push_reserved(event);
     }
 
-    /// Puts so many copies of `event` at the end of a log that is known to have room: no test is made
-    /// for each of them when it runs. Takes no memory.
+    /// Appends so many copies of `event` to a log that is known to have room. There is no test for
+    /// each of them at run time. Allocates no memory.
     ///
     /// Requires: the log has room for as many more events.
     #[inline(always)]
@@ -81,14 +81,14 @@ impl<E> EventLog<E> {
         let _filled = self.events.resize(len, event);
     }
 
-    /// How many events stand in the log.
+    /// Returns how many events the log has.
     pub fn len(&self) -> usize
         ensures { result ≡ length (events_in self.now) }
     {
         self.events.len()
     }
 
-    /// The event at `i`, counted from 0 at the oldest; `None` past the last.
+    /// Returns the event at `i`, counted from 0 at the oldest; `None` past the last.
     pub fn get(&self, i: usize) -> Option<&E>
         ensures { option_map (λ event. event.now) result ≡ slice_get (events_in self.now) i }
     {

@@ -1,4 +1,4 @@
-//! What a buffer carries. No call takes memory or waits.
+//! What a buffer carries. No call allocates memory or waits.
 
 ghost use Rattle.std.specs.Prelude.{◌≡◌, ◌<◌, ◌≤◌, ◌^◌, ◌∷◌, ℕ, [], length, slice_index_or};
 ghost use Rattle.event_log.specs.Messages.{IsMessage, first_word, no_message};
@@ -8,8 +8,8 @@ use std::marker::Model;
 /// The most words of a message.
 pub const WORDS: usize = 8;
 
-/// A message: a list of one to [`WORDS`] numbers of 64 bits, its words. Everything that holds, sends
-/// or receives a message says `Msg`. It is copied whole; two are equal where their lists are.
+/// A message: a list of one to [`WORDS`] numbers of 64 bits, its words. All code that holds, sends
+/// or receives a message uses `Msg`. It is copied whole; two are equal if their lists are.
 #[derive(Clone, Copy, Debug, PartialEq, Eq)]
 pub struct Msg {
     words: [u64; WORDS],
@@ -32,7 +32,7 @@ impl Model for Msg {
 }
 
 impl Msg {
-    /// The message of this one word.
+    /// Returns the message of this one word.
     pub fn one(word: u64) -> Msg
         ensures { result ≡ word ∷ [] }
     {
@@ -42,14 +42,14 @@ impl Msg {
         }
     }
 
-    /// What stands where a message is asked for and there is none.
+    /// Returns the value that is used if a message is expected and there is none.
     pub fn none() -> Msg
         ensures { result ≡ no_message }
     {
         Msg::one(0)
     }
 
-    /// The message of these words.
+    /// Returns the message of these words.
     ///
     /// Requires: there are one to [`WORDS`] words.
     pub fn new(words: &[u64]) -> Msg
@@ -65,7 +65,7 @@ impl Msg {
         }
     }
 
-    /// How many words it has.
+    /// Returns how many words it has.
     pub fn len(&self) -> usize
         ensures length { result ≡ length self.now }
         ensures some { 0 < result }
@@ -74,14 +74,14 @@ impl Msg {
         usize::from(self.count)
     }
 
-    /// Its words, in order.
+    /// Returns its words, in order.
     pub fn words(&self) -> &[u64]
         ensures { result.now ≡ self.now }
     {
         &self.words[..usize::from(self.count)]
     }
 
-    /// Its first word: what a register takes of it.
+    /// Returns its first word: what a register takes of it.
     pub fn first(&self) -> u64
         ensures { result ≡ first_word self.now }
     {
@@ -97,7 +97,7 @@ impl Msg {
     }
 }
 
-// Each word has 64 bits, as its type says; a list of words does not tell it by itself.
+// Each word has 64 bits, according to its type; a list of words by itself does not show it.
 fn words_fit(words: &[u64])
     ensures { (k d : ℕ) → k < length words.now → slice_index_or words.now k d < 2 ^ 64 }
 {

@@ -1,10 +1,10 @@
-//! What this crate's calls refuse. Each refusal prints as its name and its number.
+//! The errors of this crate's calls. Each prints as its name and its number.
 
 use std::alloc::{AllocError, AllocFailed};
 use thiserror::Error;
 
-/// An allocation was refused. Nothing was made. A value of this type is evidence of it: it is
-/// made from the allocator's own refusal alone.
+/// An allocation failed. Nothing was made. A value of this type is evidence of it: it is made only
+/// from the allocator's error.
 #[derive(Clone, Copy, Debug, PartialEq, Eq, Error)]
 #[error("NoMemory(1)")]
 pub struct NoMemory {

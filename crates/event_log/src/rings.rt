@@ -1,5 +1,5 @@
-//! A queue of items in a table of a fixed size, where no item is ever moved. No call takes memory
-//! or waits.
+//! A queue of items in a table of a fixed size, where no item is ever moved. No call allocates
+//! memory or waits.
 
 ghost use Rattle.std.specs.Prelude.{◌≡◌, ◌+◌, ◌<◌, ◌≤◌, ◌++◌, ◌∷◌, [], length};
 ghost use Rattle.event_log.specs.{declared.ids.TheConstants.CAPACITY, Rings.{front_item, items_behind}};
@@ -10,9 +10,9 @@ use arrayvec::ArrayVec;
 use std::marker::{Brand, Model};
 use std::sync::ledger::{Blank, Ledger};
 
-/// A queue of at most [`CAPACITY`] items, front first. It lies in its table from a start on and
-/// around the end (the bounded buffer of Anderson and Dahlin, Operating Systems: Principles and
-/// Practice), so a put or a take touches one cell.
+/// A queue of at most [`CAPACITY`] items, front first. It is a circular buffer, in which a put or a
+/// take touches one cell (the bounded buffer of Anderson and Dahlin, Operating Systems: Principles
+/// and Practice).
 #[derive(Drop)]
 pub struct Ring<T: Copy + Drop> {
     slots: Cells<T, CAPACITY>,
@@ -32,7 +32,7 @@ impl<T: Copy + Drop> Model for Ring<T> {
 }
 
 impl<T: Copy + Drop> Ring<T> {
-    /// An empty queue. Its cells hold `filler` until an item is put in them.
+    /// Returns an empty queue. Its cells hold `filler` until an item is put in them.
     pub fn new(filler: T) -> Ring<T>
         ensures { result ≡ [] }
     {
@@ -43,7 +43,7 @@ impl<T: Copy + Drop> Ring<T> {
         }
     }
 
-    /// How many items are in the queue.
+    /// Returns how many items are in the queue.
     pub fn len(&self) -> usize
         ensures items { result ≡ length self.now }
         ensures within { result ≤ CAPACITY }
@@ -51,9 +51,9 @@ impl<T: Copy + Drop> Ring<T> {
         self.len
     }
 
-    /// Puts `item` behind the others. At most two ticks.
+    /// Puts `item` after the others. At most two ticks.
     ///
-    /// Requires: there is room. The queue holds fewer than [`CAPACITY`] items.
+    /// Requires: the queue holds fewer than [`CAPACITY`] items.
     pub fn put_in<L: Ledger>(&mut self, item: T, ticks: &mut Ticks<L>)
         requires { length self.old < CAPACITY }
         ensures items { self.new ≡ self.old ++ item ∷ [] }
@@ -64,7 +64,7 @@ impl<T: Copy + Drop> Ring<T> {
         self.len += 1;
     }
 
-    /// Takes the item at the front; `None` where the queue is empty. At most two ticks.
+    /// Removes and returns the item at the front; `None` if the queue is empty. At most two ticks.
     pub fn take_in<L: Ledger>(&mut self, ticks: &mut Ticks<L>) -> Option<T>
         ensures first { result ≡ front_item self.old }
         ensures rest { self.new ≡ items_behind self.old }
@@ -78,9 +78,9 @@ impl<T: Copy + Drop> Ring<T> {
         self.len -= 1;
         Some(item)
     }
-    /// Puts `item` behind the others.
+    /// Puts `item` after the others.
     ///
-    /// Requires: there is room. The queue holds fewer than [`CAPACITY`] items.
+    /// Requires: the queue holds fewer than [`CAPACITY`] items.
     pub fn put(&mut self, item: T)
         requires { length self.old < CAPACITY }
         ensures { self.new ≡ self.old ++ item ∷ [] }
@@ -88,7 +88,7 @@ impl<T: Copy + Drop> Ring<T> {
         put_from::<T, Brand>(self, item, Blank::new(1));
     }
 
-    /// Takes the item at the front; `None` where the queue is empty.
+    /// Removes and returns the item at the front; `None` if the queue is empty.
     pub fn take(&mut self) -> Option<T>
         ensures first { result ≡ front_item self.old }
         ensures rest { self.new ≡ items_behind self.old }
@@ -96,7 +96,7 @@ impl<T: Copy + Drop> Ring<T> {
         take_from::<T, Brand>(self, Blank::new(1))
     }
 
-    /// The items, front first, as a list of their own. One tick for each.
+    /// Returns the items, front first, as a separate list. One tick for each.
     pub fn items_in<L: Ledger>(&self, ticks: &mut Ticks<L>) -> ArrayVec<T, CAPACITY>
     where
         T: Default,
@@ -111,7 +111,7 @@ impl<T: Copy + Drop> Ring<T> {
         items
     }
 
-    /// The items, front first, as a list of their own.
+    /// Returns the items, front first, as a separate list.
     pub fn items(&self) -> ArrayVec<T, CAPACITY>
     where
         T: Default,

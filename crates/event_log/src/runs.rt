@@ -1,11 +1,11 @@
-//! What holds of every run of the machine whose sends, receives and closes are single steps on
-//! first-in first-out buffers: laws, with nothing to run.
+//! What holds of every run: a legal sequential history of FIFO buffers, in which a send, a receive
+//! or a close is a single step. These are laws: there is nothing to execute.
 
 ghost use Rattle.std.specs.Prelude.{◌≡◌, ◌<◌, ◌++◌, ◌∷◌, ◌↔◌, ℕ, [], List, length, take, slice_get, Some};
 ghost use Rattle.event_log.specs.{Messages.Message, declared.entries.Entry.Entry as AnEntry, Runs.IsNext, Runs.IsRun, Runs.after_entry, Runs.contents_after};
 ghost use Rattle.event_log.specs.{Streams.TakenIsPut, Traces.HasOpOrder};
 
-/// A law: a run with one entry more at its end, which may come there, is a run, and ends in what
+/// A law: a run with one more entry at its end, which may follow there, is a run, and ends in what
 /// that entry leaves.
 #[tactic(auto, using(crate::proofs::RunLemmas::run_more))]
 pub fn run_grows()
@@ -13,9 +13,9 @@ pub fn run_grows()
         → IsRun caps (es ++ e ∷ []) (after_entry left e) }
 {}
 
-/// A law: entries are a run that ends in what is left exactly if what is left is the contents after
-/// them, and each entry may come behind the entries that stand before it. So its op and its pos
-/// are the numbers of entries before it, of its buffer, and of its buffer and kind.
+/// A law: entries are a run that ends in what is left exactly under two conditions. What is left is
+/// the contents after them, and each entry may follow the entries before it. Its op and its pos are
+/// therefore the numbers of entries before it, of its buffer, and of its buffer and kind.
 #[tactic(auto, using(crate::proofs::RunLemmas::run_from_next))]
 pub fn run_by_index()
     ensures runs { (caps : List ℕ) (es : List AnEntry) (left : List (List Message)) → IsRun caps es left
@@ -32,8 +32,8 @@ pub fn run_has_op_order()
     ensures { (caps : List ℕ) (es : List AnEntry) (left : List (List Message)) → IsRun caps es left → HasOpOrder es }
 {}
 
-/// A law: in a run the messages that were put into each buffer are those that were taken from it,
-/// in that order, and then those that are left. So none is lost, none comes twice, none overtakes.
+/// A law: in a run the messages sent to each buffer are, in order, those received from it, followed
+/// by those left. None is lost, duplicated or reordered.
 #[tactic(auto, using(crate::proofs::Streams::taken_put))]
 pub fn taken_is_put()
     ensures { TakenIsPut }

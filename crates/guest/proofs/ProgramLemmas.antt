@@ -1,10 +1,10 @@
--- Reading a program line by line: what stands after some lines.
+-- Reading a program line by line: what has been read after some lines.
 use Rattle.std.proofs.{Common.{◌≡◌, ℕ, ◌<◌, ◌≤◌, List, length, get_or, map, All, Ok, sym, ◌∙◌, ap}, lemmas.List.length-map}
 use Rattle.event_log.{specs.Reading.read_from, proofs.ReadingLemmas.{after, left_from, read_fault, read_all}}
 use Rattle.guest.specs.{declared.{instructions.Instruction.Instruction, refusals.GuestError.{GuestError, TheVariants.{NoMemory, At}}}, Instructions.IsWithin}
 use Rattle.guest.specs.Language.{numbered_line, program_lines, FaultsAs}
 
--- after the first `i` lines: their instructions stand in front of what is left to read
+-- after the first `i` lines: their instructions precede what is left to read
 pub record ReadSoFar {X : Type 0} (text : X → List ℕ) (lines : List X) (i : ℕ) (front : List Instruction) : Type 0 where
   pub read : after front (left_from text (numbered_line (length lines)) lines i) ≡ read_from (numbered_line (length lines)) 0 (map text lines)
   pub len : length front ≡ i

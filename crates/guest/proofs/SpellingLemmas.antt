@@ -14,7 +14,8 @@ use Rattle.guest.specs.Language.{or_fault, register_in}
 use Rattle.guest.specs.Language.{word_in, buffer_in, words_in, target_in, pieces_in, line_in, one_piece, two_pieces, three_pieces, four_pieces}
 use Rattle.guest.specs.Spelling.{register_name, target_of, pieces_of, instruction_line}
 
--- one word of a chain of words: what is read is that of this word, or it comes from the words behind
+-- one word of a chain of words: what is read is that of this word, or is read from the words after
+-- it
 word_or : {A P : Type 0} {y : A} {x rest : Result A GuestFault} (word name : List ℕ) → (if bytes_eq word name then x else rest) ≡ Ok y
     → (word ≡ name → x ≡ Ok y → P) → (rest ≡ Ok y → P) → P
 word_or {P = P} {y = y} {x = x} {rest = rest} word name h here behind = go (bytes_eq word name) refl h
@@ -23,7 +24,7 @@ word_or {P = P} {y = y} {x = x} {rest = rest} word name h here behind = go (byte
     go true same is = here ((bytes_eq-Decides word name).0 same) is
     go false other is = behind is
 
--- what was read where something came of it
+-- what was read, if something was made of it
 part : {A B P : Type 0} {y : B} {S : A → Type 0} {read : Result A GuestFault} {f : A → Result B GuestFault} → ((x : A) → read ≡ Ok x → S x)
     → ((x : A) → S x → f x ≡ Ok y → P) → (read >>= f) ≡ Ok y → P
 part {read = Ok x} spelled behind h = behind x (spelled x refl) h
@@ -157,7 +158,7 @@ target_no_space : (count : ℕ) (k : Option ℕ) → count ≤ 2 ^ 64 → IsTarg
 target_no_space count None most below = tt
 target_no_space count (Some k) most below = (decimal_no_space k (omega arith), tt)
 
--- pieces without spaces come back
+-- pieces without spaces are read back
 split_again : (word : List ℕ) (pieces : List (List ℕ)) → HaveNoSpace (word ∷ pieces)
     → slice_split (λ byte. byte == 32) (join_with_byte 32 (word ∷ pieces)) ≡ word ∷ pieces
 split_again word [] none = slice_split_none (λ byte. byte == 32) word none.0

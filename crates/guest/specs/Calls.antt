@@ -6,7 +6,7 @@ use Rattle.guest.specs.declared.instructions.{Into.Into, Instruction.{Instructio
 use Rattle.guest.specs.State.{State, at_start, next_of, register_value, message_from, moved_on, moved_with, moved_into, moved_to, moved_aside, wrapped_sum}
 use Rattle.guest.specs.State.{wrapped_difference}
 
--- the program has made just the calls of these entries, newest first, when it stands in this state
+-- the program has made exactly the calls of these entries, newest first, when it is in this state
 pub data IsProgramsCalls (program : List Instruction) : List Entry → State → Type 0 where
   made_none : IsProgramsCalls program [] at_start
   sets : {es : List Entry} {s : State} (r : Register) (n : ℕ) → IsProgramsCalls program es s → next_of program s ≡ Set r n
@@ -35,7 +35,7 @@ pub data IsProgramsCalls (program : List Instruction) : List Entry → State →
       → next_of program s ≡ Recv b into k
       → e.kind ≡ RecvClosed → e.buffer ≡ b → IsProgramsCalls program (e ∷ es) (moved_aside s k)
 
--- the program has ended: it stands at `exit`, or past its last line
+-- the program has ended: it is at `exit`, or past its last line
 abbrev pub HasEnded : List Instruction → State → Type 0
 HasEnded program s = next_of program s ≡ Exit
 

@@ -19,17 +19,19 @@ number_of Reg7 = 7
 abbrev pub instruction_at : List Instruction → ℕ → Instruction
 instruction_at program line = unwrap_or (slice_get program line) Exit
 
--- the line at which a thread goes on whose call found its buffer closed, of a program of so many lines; none means the following line
+-- the line at which a thread continues whose call found its buffer closed, in a program of so many
+-- lines; none means the following line
 abbrev pub IsTarget : ℕ → Option ℕ → Type 0
 IsTarget lines None = Unit {0}
 IsTarget lines (Some k) = k < lines
 
--- what a send takes its words from: the first registers, at least one
+-- a send's words are those of one register, or of the first registers, at least one
 abbrev pub IsSource : Source → Type 0
 IsSource (One r) = Unit {0}
 IsSource (First n) = (1 ≤ n) × (n ≤ REGISTERS)
 
--- an instruction of a program of so many lines: it sets a number of 64 bits, jumps to one of them, or calls one of the buffers
+-- an instruction of a program of so many lines: it sets a number of 64 bits, jumps to one of the
+-- lines, or calls one of the buffers
 abbrev pub IsWithin : ℕ → Instruction → Type 0
 IsWithin lines (Set r n) = n < 2 ^ 64
 IsWithin lines (Add r q) = Unit {0}

@@ -1,4 +1,5 @@
--- The guest language: which line is which instruction, and the first fault of a line and of a program.
+-- The guest language: which line is which instruction, and the first fault of a line and of a
+-- program.
 use Rattle.std.specs.Prelude.{◌≡◌, ℕ, ◌==◌, ◌-◌, List, [], ◌∷◌, length, codes, bytes_eq, nat_lt, Option, Some, None, Result, Ok, Err, if◌then◌else◌}
 use Rattle.std.specs.List.{slice_split}
 use Rattle.event_log.specs.{declared.ids.{BufId.BufId, TheConstants.BUFFERS}, Digits.{is_number, number_to}, Reading.{◌>>=◌, read_from}}
@@ -8,7 +9,7 @@ use Rattle.guest.specs.declared.{instructions.Instruction.TheVariants.{Set, Add,
 use Rattle.guest.specs.declared.refusals.{GuestFault.TheVariants.{UnknownWord, BadRegister, BadNumber, BadTarget, TooLong, Empty}, GuestError.GuestError}
 use Rattle.guest.specs.declared.refusals.GuestError.TheVariants.{NoMemory, At}
 
--- the value, if there is one, or else this fault
+-- the value, if there is one, otherwise this fault
 abbrev pub or_fault : {A : Type 0} → GuestFault → Option A → Result A GuestFault
 or_fault fault None = Err fault
 or_fault fault (Some x) = Ok x
@@ -34,7 +35,8 @@ word_in piece = or_fault BadNumber (number_to 18446744073709551615 piece)
 unfoldable pub buffer_in : List ℕ → Result BufId GuestFault
 buffer_in piece = or_fault BadNumber (number_to (BUFFERS - 1) piece) >>= λ b. Ok (record { 0 = b })
 
--- how many words a message has, as a piece spells it: at least one, and no more than there are registers
+-- how many words a message has, as a piece spells it: at least one, and no more than there are
+-- registers
 unfoldable pub words_in : List ℕ → Result ℕ GuestFault
 words_in piece = or_fault BadNumber (number_to REGISTERS piece) >>= λ n. if n == 0 then Err BadNumber else Ok n
 
@@ -85,7 +87,8 @@ pieces_in count (word ∷ a ∷ b ∷ []) = three_pieces count word a b
 pieces_in count (word ∷ a ∷ b ∷ c ∷ []) = four_pieces count word a b c
 pieces_in count _ = Err UnknownWord
 
--- the instruction of a line of a program of so many lines: its pieces stand between single spaces
+-- the instruction of a line of a program of so many lines: its pieces are separated by single
+-- spaces
 unfoldable pub line_in : ℕ → List ℕ → Result Instruction GuestFault
 line_in count text = pieces_in count (slice_split (λ byte. byte == 32) text)
 
@@ -109,12 +112,13 @@ program_in lines =
     else if nat_lt 256 (length lines) then Err (At 256 TooLong)
     else program_lines lines
 
--- what an error says of what is meant: that fault, but nothing where memory was refused
+-- what an error says of the intended result: it is that fault. An error of memory says nothing
 abbrev pub FaultsAs : {Y : Type 0} → GuestError → Result Y GuestError → Type 0
 FaultsAs (NoMemory _) ghost_of = Unit {0}
 FaultsAs (At line fault) ghost_of = ghost_of ≡ Err (At line fault)
 
--- a call gives the value that is meant, as it is viewed, or the fault; want of memory aside
+-- a call returns the intended value, as it is viewed, or the intended fault; out of memory is the
+-- exception
 abbrev pub GivesOrFaults : {X Y : Type 0} → (X → Y) → Result X GuestError → Result Y GuestError → Type 0
 GivesOrFaults view (Ok x) ghost_of = ghost_of ≡ Ok (view x)
 GivesOrFaults view (Err e) ghost_of = FaultsAs e ghost_of

@@ -5,7 +5,7 @@ use Rattle.guest.specs.declared.instructions.{Source.{Source, TheVariants.{One a
 use Rattle.guest.specs.declared.instructions.Instruction.{Instruction, TheVariants.{Set, Add, Sub, Jnz, Send, Recv, Close, Yield, Exit}}
 use Rattle.guest.specs.Instructions.{number_of, instruction_at}
 
--- the line at which a thread stands, and its registers by number
+-- the line of a thread, and its registers by number
 pub record State : Type 0 where
   pub line : ℕ
   pub registers : List ℕ
@@ -14,7 +14,7 @@ pub record State : Type 0 where
 abbrev pub at_start : State
 at_start = record { line = 0; registers = replicate REGISTERS 0 }
 
--- the instruction at which the thread stands
+-- the instruction of the thread's line
 abbrev pub next_of : List Instruction → State → Instruction
 next_of program s = instruction_at program s.line
 
@@ -22,7 +22,7 @@ next_of program s = instruction_at program s.line
 abbrev pub register_value : State → Register → ℕ
 register_value s r = slice_index s.registers (number_of r)
 
--- the message that a thread sends which stands at a send: one register's number, or the first registers' numbers
+-- the message that a thread at a send sends: one register's number, or the first registers' numbers
 abbrev pub message_from : State → Source → Message
 message_from s (FromOne r) = register_value s r ∷ []
 message_from s (First n) = take n s.registers
@@ -35,7 +35,8 @@ moved_on s = record { line = s.line + 1; registers = s.registers }
 abbrev pub moved_with : State → Register → ℕ → State
 moved_with s r n = record { line = s.line + 1; registers = slice_set s.registers (number_of r) n }
 
--- at the following line, with what a receive brings: the message's first word in one register, or its words in the first registers and 0 in the others
+-- at the following line, with what a receive brings: the message's first word in one register, or
+-- its words in the first registers and 0 in the others
 abbrev pub moved_into : State → Into → Message → State
 moved_into s (IntoOne r) message = moved_with s r (first_word message)
 moved_into s All message = record { line = s.line + 1; registers = padded message }
@@ -44,7 +45,7 @@ moved_into s All message = record { line = s.line + 1; registers = padded messag
 abbrev pub moved_to : State → ℕ → State
 moved_to s line = record { line = line; registers = s.registers }
 
--- at the target, or at the following line where there is none
+-- at the target, or at the following line if there is none
 abbrev pub moved_aside : State → Option ℕ → State
 moved_aside s None = moved_on s
 moved_aside s (Some k) = moved_to s k

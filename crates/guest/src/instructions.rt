@@ -1,4 +1,4 @@
-//! Registers and instructions. No call takes memory or waits.
+//! Registers and instructions. No call allocates memory or waits.
 
 use event_log::{BufId, WORDS};
 
@@ -30,7 +30,7 @@ impl Register {
     ghost use Rattle.std.specs.Prelude.{◌≡◌, ◌<◌};
     ghost use Rattle.guest.specs.{declared.instructions.TheConstants.REGISTERS, Instructions.number_of};
 
-    /// The register's number, counted from 0.
+    /// Returns the register's number, counted from 0.
     #[inline(always)]
     pub fn number(self) -> usize
         ensures number { result ≡ number_of self }
@@ -49,7 +49,7 @@ impl Register {
     }
 }
 
-/// What a send takes its words from.
+/// The source of a send's words.
 #[derive(Clone, Copy, Debug, PartialEq, Eq)]
 pub enum Source {
     /// One register: a message of one word.
@@ -76,15 +76,15 @@ pub enum Instruction {
     Add(Register, Register),
     /// `sub rD rS`: the first register becomes the first less the second, modulo 2^64.
     Sub(Register, Register),
-    /// `jnz rS k`: where the register is not 0 the next line is `k`, counted from 0.
+    /// `jnz rS k`: if the register is not 0 the next line is `k`, counted from 0.
     Jnz(Register, usize),
-    /// `send b rS` sends the register to the buffer, `sendm b n` the first `n` registers. Where the
+    /// `send b rS` sends the register to the buffer, `sendm b n` the first `n` registers. If the
     /// buffer is closed the next line is `k`, the last piece of `send b rS k` and `sendm b n k`, or
-    /// the following one where there is no `k`.
+    /// the following line if there is no `k`.
     Send(BufId, Source, Option<usize>),
     /// `recv b rD` receives a message from the buffer, of which the register takes the first word;
-    /// `recvm b` receives one into all registers. Where the buffer is closed and empty the
-    /// registers stay, and the next line is as for a send: `recv b rD k`, `recvm b k`.
+    /// `recvm b` receives one into all registers. If the buffer is closed and empty the registers
+    /// are unchanged, and the next line is as for a send: `recv b rD k`, `recvm b k`.
     Recv(BufId, Into, Option<usize>),
     /// `close b`: closes the buffer.
     Close(BufId),
@@ -98,7 +98,8 @@ impl Instruction {
     ghost use Rattle.std.specs.Prelude.{◌≡◌};
     ghost use Rattle.guest.specs.Instructions.{names_below};
 
-    /// Whether the instruction names none but the first `buffers` buffers.
+    /// Returns whether each buffer that the instruction names is one of the first `buffers`
+    /// buffers.
     pub fn names_below(&self, buffers: usize) -> bool
         ensures { result ≡ names_below buffers self.now }
     {

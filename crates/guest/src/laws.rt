@@ -3,8 +3,8 @@
 ghost use Rattle.std.specs.Prelude.{ℕ, ◌<◌, ◌≤◌, ◌^◌};
 ghost use Rattle.guest.specs.{declared.instructions.Instruction.Instruction, Laws.StepsKeepCalls, Spelling.HasOneLine};
 
-/// The law of steps: whatever a thread of a program does, the entries of its calls, newest first,
-/// stay the program's calls at the thread's new state.
+/// The law of steps: after each step of a thread, the entries of its calls, newest first, are still
+/// its program's calls at the new state.
 pub fn steps_keep_calls()
     ensures { StepsKeepCalls }
 {}

@@ -1,8 +1,8 @@
 //! The guest language: programs of a few instructions over eight registers, and the threads that
 //! run them one instruction at a time.
 //!
-//! A program's next call is a function of what it received: the relation of a program to the calls
-//! that it makes stands in this crate's definitions.
+//! A program's next call is a function of what it received: this crate defines the relation of a
+//! program to the calls that it makes.
 //!
 //! ```rust
 //! use guest::{Program, Register, Thread};

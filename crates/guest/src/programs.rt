@@ -1,5 +1,5 @@
-//! Programs, each some lines of instructions. Only `Program::read` and `Program::copy` take memory. No
-//! call waits.
+//! Programs, each some lines of instructions. Only `Program::read` and `Program::copy` allocate
+//! memory. No call waits.
 
 use crate::instructions::Instruction;
 use crate::reading::instructions_in;
@@ -11,8 +11,8 @@ use std::marker::Model;
 /// How many lines a program may have.
 pub const LINES: usize = 256;
 
-/// A program: 1 to 256 instructions, each jump and each target of a call to one of its lines, each
-/// call of one of the buffers 0 to `BUFFERS - 1`.
+/// A program: 1 to 256 instructions. Each jump and each target of a call is to one of its lines,
+/// each call is of one of the buffers 0 to `BUFFERS - 1`.
 #[derive(Drop)]
 pub struct Program {
     lines: Vec<Instruction>,
@@ -35,9 +35,9 @@ impl Program {
 
     /// Reads the lines of a program, one instruction each.
     ///
-    /// Errors: `At(0, Empty)` where there is no line; `At(256, TooLong)` where there are more than
-    /// 256; otherwise the first line with a fault, counted from 0, and the first fault in it, its
-    /// pieces taken from left to right. `NoMemory` where an allocation was refused.
+    /// Errors: `At(0, Empty)` if there is no line; `At(256, TooLong)` if there are more than 256.
+    /// Otherwise the first line with a fault, counted from 0, and the first fault in it, its pieces
+    /// taken from left to right. `NoMemory` if an allocation failed.
     #[tactic(auto, unfolding(crate::specs::Language::program_in))]
     pub fn read(alloc: Global, lines: &[&str]) -> Result<Program, GuestError>
         ensures read { GivesOrFaults (λ program. program) result (program_in (map (λ line. line.now) lines.now)) }
@@ -55,9 +55,9 @@ impl Program {
         }
     }
 
-    /// The same program in memory of its own.
+    /// Copies the program into newly allocated memory.
     ///
-    /// Errors: `NoMemory` where the allocation was refused.
+    /// Errors: `NoMemory` if the allocation failed.
     pub fn copy(&self, alloc: Global) -> Result<Program, NoMemory>
         ensures { IfOk result (λ program. program ≡ self.now) }
     {
@@ -66,7 +66,7 @@ impl Program {
         Ok(Program { lines })
     }
 
-    /// How many lines the program has, from 1 to 256.
+    /// Returns how many lines the program has, from 1 to 256.
     pub fn len(&self) -> usize
         ensures len { result ≡ length self.now }
         ensures within { IsProgram self.now }
@@ -74,7 +74,7 @@ impl Program {
         self.lines.len()
     }
 
-    /// Whether the program names none but the first `buffers` buffers.
+    /// Returns whether each buffer that the program names is one of the first `buffers` buffers.
     pub fn names_below(&self, buffers: usize) -> bool
         ensures { result ≡ list_all (names_below buffers) self.now }
     {
@@ -83,11 +83,11 @@ impl Program {
             .all(|instruction| instruction.names_below(buffers))
     }
 
-    /// The instruction of a line, counted from 0. Past the last line it is `exit`.
+    /// Returns the instruction of a line, counted from 0. Past the last line it is `exit`.
     #[inline(always)]
     pub fn instruction(&self, line: usize) -> Instruction
         ensures instruction { result ≡ instruction_at self.now line }
-        // Only `exit` stands past the last line.
+        // Past the last line there is only `exit`.
         ensures inside { result ≢ Exit → line < length self.now }
         ensures within { IsProgram self.now }
         ensures fits { IsWithin (length self.now) result }

@@ -1,5 +1,5 @@
 //! Reads the lines of a program. One line is one instruction; its pieces are separated by one space
-//! each. `instructions_in` takes memory. No call waits.
+//! each. `instructions_in` allocates memory. No call waits.
 
 ghost use Rattle.std.specs.Prelude.{◌≡◌, ◌<◌, ◌≤◌, ◌^◌, ℕ, List, Ok, map, length, All, IfOk};
 ghost use Rattle.{event_log.specs.{declared.ids.TheConstants.BUFFERS, Reading.read_from}, guest.specs.Instructions.{IsSource, IsWithin}};
@@ -11,7 +11,7 @@ use crate::refusals::{GuestError, GuestFault};
 use event_log::{BUFFERS, BufId};
 use std::alloc::Global;
 
-/// The register that a piece names.
+/// Returns the register that a piece names.
 #[tactic(auto, unfolding(crate::specs::Language::register_in))]
 fn register(piece: &str) -> Result<Register, GuestFault>
     ensures { result ≡ register_in piece.now }
@@ -29,7 +29,7 @@ fn register(piece: &str) -> Result<Register, GuestFault>
     }
 }
 
-/// The number that a piece spells, from 0 to 2^64 - 1.
+/// Returns the number that a piece spells, from 0 to 2^64 - 1.
 #[tactic(auto, unfolding(crate::specs::Language::word_in))]
 fn word(piece: &str) -> Result<u64, GuestFault>
     ensures { result ≡ word_in piece.now }
@@ -37,7 +37,7 @@ fn word(piece: &str) -> Result<u64, GuestFault>
     event_log::number_to(piece.as_bytes(), u64::MAX).ok_or(GuestFault::BadNumber)
 }
 
-/// The buffer that a piece spells, from 0 to `BUFFERS - 1`.
+/// Returns the buffer that a piece spells, from 0 to `BUFFERS - 1`.
 #[tactic(auto, unfolding(crate::specs::Language::buffer_in))]
 fn buffer(piece: &str) -> Result<BufId, GuestFault>
     ensures buffer { result ≡ buffer_in piece.now }
@@ -49,7 +49,7 @@ fn buffer(piece: &str) -> Result<BufId, GuestFault>
     }
 }
 
-/// How many words a message has, as a piece spells it, from 1 to `REGISTERS`.
+/// Returns how many words a message has, as a piece spells it, from 1 to `REGISTERS`.
 #[tactic(auto, unfolding(crate::specs::Language::words_in))]
 fn words(piece: &str) -> Result<usize, GuestFault>
     ensures words { result ≡ words_in piece.now }
@@ -61,7 +61,7 @@ fn words(piece: &str) -> Result<usize, GuestFault>
     }
 }
 
-/// The line that a piece spells, of a program of `count` lines.
+/// Returns the line that a piece spells, of a program of `count` lines.
 #[tactic(auto, unfolding(crate::specs::Language::target_in))]
 fn target(piece: &str, count: usize) -> Result<usize, GuestFault>
     requires { 0 < count }
@@ -77,7 +77,7 @@ fn target(piece: &str, count: usize) -> Result<usize, GuestFault>
     }
 }
 
-/// The instruction of three pieces.
+/// Returns the instruction of three pieces.
 #[tactic(auto, unfolding(crate::specs::Language::three_pieces))]
 fn three_pieces(
     word: &str,
@@ -102,7 +102,7 @@ fn three_pieces(
     }
 }
 
-/// The instruction of four pieces.
+/// Returns the instruction of four pieces.
 #[tactic(auto, unfolding(crate::specs::Language::four_pieces))]
 fn four_pieces(
     word: &str,
@@ -135,7 +135,7 @@ fn four_pieces(
     }
 }
 
-/// The instruction of two pieces.
+/// Returns the instruction of two pieces.
 #[tactic(auto, unfolding(crate::specs::Language::two_pieces))]
 fn two_pieces(word: &str, first: &str) -> Result<Instruction, GuestFault>
     ensures instruction { result ≡ two_pieces word.now first.now }
@@ -148,7 +148,7 @@ fn two_pieces(word: &str, first: &str) -> Result<Instruction, GuestFault>
     }
 }
 
-/// The instruction of one piece.
+/// Returns the instruction of one piece.
 #[tactic(auto, unfolding(crate::specs::Language::one_piece))]
 fn one_piece(word: &str) -> Result<Instruction, GuestFault>
     ensures instruction { result ≡ one_piece word.now }
@@ -161,7 +161,7 @@ fn one_piece(word: &str) -> Result<Instruction, GuestFault>
     }
 }
 
-/// The instruction of a line's pieces.
+/// Returns the instruction of a line's pieces.
 fn pieces(pieces: &[&str], count: usize) -> Result<Instruction, GuestFault>
     requires { 0 < count }
     ensures instruction { result ≡ pieces_in count (map (λ piece. piece.now) pieces.now) }
@@ -176,7 +176,7 @@ fn pieces(pieces: &[&str], count: usize) -> Result<Instruction, GuestFault>
     }
 }
 
-/// The instruction of a line of a program of `count` lines.
+/// Returns the instruction of a line of a program of `count` lines.
 #[tactic(auto, unfolding(crate::specs::Language::line_in))]
 fn line_at(alloc: Global, text: &str, count: usize, line: usize) -> Result<Instruction, GuestError>
     requires { 0 < count }
@@ -190,12 +190,12 @@ fn line_at(alloc: Global, text: &str, count: usize, line: usize) -> Result<Instr
     }
 }
 
-/// The instructions of a program's lines.
+/// Returns the instructions of a program's lines.
 ///
 /// Requires: there is at least one line.
 ///
 /// Errors: `At` with the first line that has a fault, counted from 0, and its first fault.
-/// `NoMemory` if an allocation was refused. Then nothing was made.
+/// `NoMemory` if an allocation failed. Then nothing was made.
 pub fn instructions_in(alloc: Global, lines: &[&str]) -> Result<Vec<Instruction>, GuestError>
     requires { 0 < length lines.now }
     ensures instructions { GivesOrFaults (λ read. read.items) result (program_lines (map (λ line. line.now) lines.now)) }

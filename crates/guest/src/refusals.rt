@@ -1,4 +1,4 @@
-//! What is refused of a program, and where.
+//! What can be wrong with a program, and where.
 
 ghost use Rattle.std.specs.Prelude.{◌≡◌};
 ghost use Rattle.event_log.specs.Refusals.{no_memory};
@@ -11,16 +11,17 @@ use thiserror::Error;
 /// What is wrong with a line of a program. Each prints as its name and its number.
 #[derive(Clone, Copy, Debug, PartialEq, Eq, Error)]
 pub enum GuestFault {
-    /// The first piece is none of the eleven words, or the line has not the word's number of pieces.
+    /// The first piece is not one of the eleven words, or the line does not have the word's number
+    /// of pieces.
     #[error("UnknownWord(10)")]
     UnknownWord,
-    /// A register is wanted, and the piece is none of `r0` to `r7`.
+    /// A register is expected, and the piece is not one of `r0` to `r7`.
     #[error("BadRegister(11)")]
     BadRegister,
-    /// A number is wanted, and the piece spells none, or one that is too large.
+    /// A number is expected, and the piece is not a number, or is one that is too large.
     #[error("BadNumber(12)")]
     BadNumber,
-    /// The target of a jump or of a call is no line of the program.
+    /// The target of a jump or of a call is not a line of the program.
     #[error("BadTarget(13)")]
     BadTarget,
     /// The program has more than 256 lines.
@@ -34,7 +35,7 @@ pub enum GuestFault {
 /// Why a program was not read.
 #[derive(Clone, Copy, Debug, PartialEq, Eq, Error)]
 pub enum GuestError {
-    /// An allocation was refused.
+    /// An allocation failed.
     #[error("NoMemory(1)")]
     NoMemory(NoMemory),
     /// The first line with a fault, counted from 0, and its first fault.

@@ -1,4 +1,4 @@
-//! One thread's private state, and what each instruction makes of it. No call takes memory or
+//! One thread's private state, and what each instruction makes of it. No call allocates memory or
 //! waits.
 
 use crate::instructions::{Instruction, Into, REGISTERS, Register, Source};
@@ -6,7 +6,7 @@ use crate::programs::Program;
 use event_log::Msg;
 use std::marker::Model;
 
-/// A thread of a program: the line at which it stands and its registers.
+/// A thread of a program: its line and its registers.
 #[derive(Clone, Copy)]
 pub struct Thread {
     line: usize,
@@ -29,7 +29,7 @@ impl Thread {
     ghost use Rattle.guest.specs.State.{after_yield, after_send, after_recv, after_close, after_closed, register_value, message_from, moved_on, moved_with};
     ghost use Rattle.guest.specs.State.{moved_into, moved_aside};
 
-    /// A thread before its first instruction: at line 0, each register 0.
+    /// Returns a thread before its first instruction: at line 0, each register 0.
     pub fn new() -> Thread
         ensures { result ≡ at_start }
     {
@@ -39,7 +39,7 @@ impl Thread {
         }
     }
 
-    /// The instruction at which the thread stands. Past the program's last line it is `exit`.
+    /// Returns the instruction of the thread's line. Past the program's last line it is `exit`.
     #[inline(always)]
     pub fn next(&self, program: &Program) -> Instruction
         ensures next { result ≡ next_of program.now self.now }
@@ -49,7 +49,7 @@ impl Thread {
         program.instruction(line)
     }
 
-    /// The number in a register.
+    /// Returns the number in a register.
     #[inline(always)]
     pub fn value(&self, register: Register) -> u64
         ensures { result ≡ register_value self.now register }
@@ -57,8 +57,8 @@ impl Thread {
         self.registers[register.number()]
     }
 
-    /// The message that a send takes from here: the number of one register, or those of the first
-    /// registers.
+    /// Returns the message that a send takes from here: the number of one register, or those of the
+    /// first registers.
     ///
     /// Requires: a `from` that names several registers names 1 to [`REGISTERS`] of them.
     #[inline(always)]
@@ -72,9 +72,9 @@ impl Thread {
         }
     }
 
-    /// Does the instruction at which the thread stands where that is `set`, `add`, `sub` or `jnz`,
-    /// and moves the thread to its next line. Another instruction leaves the thread as it is.
-    /// Takes no memory.
+    /// Executes the instruction of the thread's line if it is `set`, `add`, `sub` or `jnz`, and
+    /// moves the thread to its next line. At another instruction the thread is unchanged. Allocates
+    /// no memory.
     #[inline(always)]
     pub fn step_local(&mut self, program: &Program)
         ensures { self.new ≡ after_local (next_of program.now self.old) self.old }
@@ -104,8 +104,8 @@ impl Thread {
         }
     }
 
-    /// Moves the thread past the `send` or `sendm` at which it stands, once the call has returned. At another
-    /// instruction nothing changes. Takes no memory.
+    /// Moves the thread past the `send` or `sendm` of its line, once the call has returned. At
+    /// another instruction nothing changes. Allocates no memory.
     #[inline(always)]
     pub fn after_send(&mut self, program: &Program)
         ensures { self.new ≡ after_send (next_of program.now self.old) self.old }
@@ -115,10 +115,10 @@ impl Thread {
         }
     }
 
-    /// Moves the thread past the `recv` or `recvm` at which it stands, once the call has returned
-    /// with `message`: the first word goes to the register of `recv`, all words go to the registers
-    /// from the first on with `recvm`, and 0 to those behind. At another instruction nothing
-    /// changes. Takes no memory.
+    /// Moves the thread past the `recv` or `recvm` of its line, once the call has returned with
+    /// `message`. `recv` writes the first word to its register. `recvm` writes all words to the
+    /// registers from the first on, and 0 to the registers after them. At another instruction
+    /// nothing changes. Allocates no memory.
     #[inline(always)]
     pub fn after_recv(&mut self, program: &Program, message: Msg)
         ensures { self.new ≡ after_recv (next_of program.now self.old) message self.old }
@@ -131,8 +131,8 @@ impl Thread {
         }
     }
 
-    /// Moves the thread past the `close` at which it stands, once the call has returned. At another
-    /// instruction nothing changes. Takes no memory.
+    /// Moves the thread past the `close` of its line, once the call has returned. At another
+    /// instruction nothing changes. Allocates no memory.
     #[inline(always)]
     pub fn after_close(&mut self, program: &Program)
         ensures { self.new ≡ after_close (next_of program.now self.old) self.old }
@@ -142,9 +142,9 @@ impl Thread {
         }
     }
 
-    /// Moves the thread from the send or receive at which it stands to the call's target, or past
-    /// it where it has none, once the call has returned and found its buffer closed. The registers
-    /// stay. At another instruction nothing changes. Takes no memory.
+    /// Moves the thread from the send or receive of its line to the call's target, or to the
+    /// following line if it has none. The call has returned and found its buffer closed. The
+    /// registers are unchanged. At another instruction nothing changes. Allocates no memory.
     #[inline(always)]
     pub fn after_closed(&mut self, program: &Program)
         ensures { self.new ≡ after_closed (next_of program.now self.old) self.old }
@@ -155,8 +155,8 @@ impl Thread {
         }
     }
 
-    /// Moves the thread past the `yield` at which it stands. At another instruction nothing
-    /// changes. Takes no memory.
+    /// Moves the thread past the `yield` of its line. At another instruction nothing changes.
+    /// Allocates no memory.
     #[inline(always)]
     pub fn after_yield(&mut self, program: &Program)
         ensures { self.new ≡ after_yield (next_of program.now self.old) self.old }
@@ -189,7 +189,7 @@ impl Thread {
         self.line += 1;
     }
 
-    /// Moves to the target, or to the following line where there is none.
+    /// Moves to the target, or to the following line if there is none.
     #[inline(always)]
     fn move_aside(&mut self, target: Option<usize>)
         requires { self.old.line < 256 }

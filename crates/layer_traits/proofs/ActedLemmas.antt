@@ -1,4 +1,4 @@
--- A layer whose history is that of its actions' sections tells of threads what these make of it.
+-- A layer whose history is that of its actions' sections reports of threads what these make of it.
 use Rattle.std.proofs.Common.{◌≡◌, List, Option, option_map, map, ap, sym, ◌∙◌, arith}
 use Rattle.event_log.specs.{declared.ids.{BufId.BufId, LockId.{LockId, TheVariants.Buffer}}, Sections.sections_in}
 use Rattle.layer_traits.specs.declared.{buffer_edits.BufferEdit.BufferEdit, queue_edits.QueueBlock.{QueueBlock, TheVariants.Above}}
@@ -13,7 +13,7 @@ above_made above = grind arith
 
 module _ (opening : LockId → Option (QueueBlock BufferLock)) (acts : BufferActs) (starts : StartsWell opening) (proper : AreProper (sections_in acts))
     (seen : List (QueueEvent (CvCall BufferEdit))) (seen_is : seen ≡ map event_of (sections_in acts)) where
-  -- a buffer's lock by the history is what its block holds
+  -- a buffer's lock according to the history is what its block holds
   pub lock_is : (b : BufId) → lock_after buffer_rules (inner opening) (Buffer b) (buffer_sections seen) ≡ above_of (guarded opening acts (Buffer b))
   lock_is b =
       ap (λ past. lock_after buffer_rules (inner opening) (Buffer b) (buffer_sections past)) seen_is

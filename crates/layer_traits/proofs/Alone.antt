@@ -1,11 +1,12 @@
--- A machine whose holder acts for every CPU sees no foreign events; and a section where every CPU rests.
+-- A machine whose holder acts for every CPU has no environment events; and a section where every
+-- CPU rests.
 use Rattle.std.proofs.{Common.{◌≡◌, ◌<◌, true, false, List, [], ◌∷◌, ◌++◌, Option, IsSome, option_map, refl, ap, ◌∙◌, arith}, lemmas.Bool.eq-eqb}
 use Rattle.event_log.specs.{declared.ids.{CpuId.CpuId, LockId.LockId, TheConstants.CPUS}, History.AreForeign, Actions.{Action, Take, Try, Give, Rests, Waits}}
 use Rattle.event_log.specs.{Actions.{Holds, cpu_of_action, phase, takes, gives, AreLegal, next_action, action_in}, Sections.{Section, sections_in, block_after}}
 use Rattle.event_log.proofs.{Exclusion.{is_at, line_at, phase_own}, Foreign.cpu_of_action_known, Line.{crowd, crowd_same, crowd_none}, Same.same_cpu_self}
 use Rattle.layer_traits.specs.Polling.Plans.{Table, Left, Acting, at_give, reply}
 
--- no action is foreign to a holder that acts for every CPU
+-- no action is an environment action for a holder that acts for every CPU
 pub no_foreign_acts : {N : Type 0} (ActsFor : CpuId → Type 0) → ((c : CpuId) → c.0 < CPUS → ActsFor c) → (others old : List (Action N))
     → AreLegal (others ++ old) → AreForeign ActsFor cpu_of_action others → others ≡ []
 no_foreign_acts ActsFor all [] old legal foreign = refl
@@ -20,7 +21,7 @@ block_there {B = B} edited opening lock [] some = some
 block_there {B = B} edited opening lock (s ∷ past) some = grind (arith, block_there edited opening lock past some)
 
 module _ {N : Type 0} (cpu : CpuId) (lock : LockId) (name : N) (past : List (Action N)) (rests : (c : CpuId) → phase c past ≡ Rests) where
-  -- where every CPU rests, each lock was given on as often as it was taken
+  -- if every CPU rests, each lock was released as often as it was requested
   all_given : AreLegal past → takes lock past ≡ gives lock past
   all_given legal =
       let line = line_at lock past legal in
@@ -49,7 +50,7 @@ module _ {N : Type 0} (cpu : CpuId) (lock : LockId) (name : N) (past : List (Act
       ≡ option_map (table.answer name) (block_after table.edited opening lock (sections_in past))
   third_reply table opening = ap (λ p. at_give p (option_map (table.answer name) (block_after table.edited opening lock (sections_in past)))) holds
 
--- where the holder acts for every CPU, a planned action is exactly the one that is due
+-- if the holder acts for every CPU, a planned action is exactly the one that is due
 pub acts_alone : {N B R S A : Type 0} (ActsFor : CpuId → Type 0) (table : Table N B R) (opening : LockId → Option B) (cpu : CpuId) (lock : LockId)
     (name : N) (react : Option R → Left S A) (old new : List (Action N)) (got : Left S A)
     → ((c : CpuId) → c.0 < CPUS → ActsFor c) → AreLegal new → Acting ActsFor table opening cpu lock name react old new got
@@ -62,7 +63,7 @@ acts_alone ActsFor table opening cpu lock name react old new got all legal actin
       acting.moves ∙ ap (λ past. react (reply table opening cpu lock name past)) same,
     )
 
--- what three polls in a row leave where every CPU rests
+-- what three consecutive polls leave if every CPU rests
 pub record Section3 {N B R : Type 0} (table : Table N B R) (opening : LockId → Option B) (cpu : CpuId) (lock : LockId) (name : N)
     (first third fourth : List (Action N)) (answer : Option R) : Type 0 where
   pub tried : third ≡ Try cpu lock true ∷ Take cpu lock ∷ first

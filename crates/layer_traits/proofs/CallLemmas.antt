@@ -1,4 +1,5 @@
--- Calls at shared queues: their steps are lawful moves, calls of others are moves of others, and what a poll of a pass means in moves.
+-- Calls at shared queues: their steps are lawful moves, calls of others are moves of others, and
+-- what a poll of a pass means in moves.
 use Rattle.std.proofs.Common.{◌≡◌, Bool, true, List, [], ◌∷◌, ◌++◌, Option, Some, None, is_some, if◌then◌else◌, refl, ap, sym, ◌∙◌, arith}
 use Rattle.event_log.specs.{declared.ids.{BufId.BufId, CpuId.CpuId, LockId.{LockId, TheVariants.Buffer}, Tid.Tid}, History.{AreOthers, IsLawful}}
 use Rattle.{event_log.specs.Actions.Action, thread_blocks.proofs.Members.same_tid_true, layer_traits.specs.declared.queues.QueueCall.TheVariants.OnBuffer}
@@ -10,7 +11,7 @@ use Rattle.layer_traits.specs.{Polling.Plans.raised, Layers.Queues.{CallAllowed,
 use Rattle.layer_traits.specs.Layers.{Queues.{moves_in, out_at}, Scheds.{SchedPolled, events_of, pass_call}}
 use Rattle.layer_traits.specs.declared.scheds.SchedCall.TheVariants as call
 
--- Where a thread sleeps needs no home.
+-- Where a thread sleeps does not depend on its home.
 
 taken_wait_channel : (d : CpuId) (w : Where) → wait_channel_of (where_taken d w) ≡ wait_channel_of w
 taken_wait_channel d w = grind arith
@@ -24,7 +25,7 @@ module _ (homes : List CpuId) where
       → wait_channel_of (where_after homes c move t (where_is homes past t)) ≡ asleep_after move t (asleep_by past t)
   wait_channel_after past c move t may is = grind (arith, same_tid_true, taken_wait_channel, woken_wait_channel)
 
-  -- where a thread sleeps by its place is where it sleeps by the moves alone
+  -- where a thread sleeps according to its place is where it sleeps according to the moves only
   pub asleep_wait_channel : (moves : List Step) (t : Tid) → AreMoves homes moves → wait_channel_of (where_is homes moves t) ≡ asleep_by moves t
   asleep_wait_channel [] t legal = refl
   asleep_wait_channel (s ∷ past) t legal = wait_channel_after past s.cpu s.move t legal.0 (asleep_wait_channel past t legal.1)
@@ -46,12 +47,12 @@ module _ {E B O : Type 0} (k : Kernel E B O) where
   moves_others c [] past others = tt
   moves_others c (e ∷ more) past others = (others.0, moves_others c more past others.1)
 
-  -- the sections of the layer above are allowed where the calls are
+  -- the sections of the layer above are allowed if the calls are
   pub upper_lawful : (log : List (QueueEvent E)) → IsLawful (QueueAllowed k) log → IsLawful (k.rules.allowed k.opening) (buffer_sections log)
   upper_lawful [] lawful = tt
   upper_lawful (e ∷ past) lawful = grind (arith, upper_lawful past lawful.1)
 
-  -- pushes and takings put nobody to sleep and wake nobody
+  -- pushes and takings put no thread to sleep and wake none
   pub sections_asleep : (past : List (QueueEvent E)) (u : Tid) → asleep_by (section_moves k.rules k.moves k.opening (buffer_sections past)) u
       ≡ asleep_by (moves_in k past) u
   sections_asleep [] u = refl
@@ -70,7 +71,7 @@ module _ {E B O : Type 0} (k : Kernel E B O) where
     moves_lawful [] lawful = tt
     moves_lawful (e ∷ past) lawful = grind (arith, moves_lawful past lawful.1, sleeps)
 
-    -- whom an allowed edit wakes sleeps
+    -- a thread that an allowed edit wakes is asleep
     pub woken_sleeps : (past : List (QueueEvent E)) → IsLawful (QueueAllowed k) past → (c : CpuId) (b : BufId) (e : E) → CallAllowed k past c (OnBuffer b e)
         → (o : O) → out_at k past b e ≡ Some o → (u : Tid) → k.moves.woke o ≡ Some u → is_asleep (where_is k.homes (moves_in k past) u) ≡ true
     woken_sleeps past lawful = sleeps past lawful (moves_lawful past lawful)
@@ -81,7 +82,7 @@ module _ {E B O : Type 0} (k : Kernel E B O) where
       → moves_in k (events_of c (pass_call k.homes c p) ++ past) ≡ pass_steps k.homes c p ++ moves_in k past
   pass_moves c p past = grind arith
 
-  -- a poll of a pass, in moves alone
+  -- a poll of a pass, only in moves
   pub pass_polled : (ActsFor : CpuId → Type 0) (c : CpuId) (p : Pass) (result : Option (SchedAnswer O)) (old new : List (QueueEvent E)) (own own' : Threads)
       → SchedPolled k ActsFor c (call.Pass p) result old new own own' → PassPolled k.homes ActsFor c p result (moves_in k old) (moves_in k new) own own'
   pass_polled ActsFor c p result old new own own' polled = record {
@@ -96,7 +97,7 @@ module _ {E B O : Type 0} (k : Kernel E B O) where
           ≡ (if b then pass_steps k.homes c p ++ (moves_over polled.others old ++ moves_in k old) else moves_over polled.others old ++ moves_in k old)
       by_answer b = grind (arith, pass_moves, moves_append)
 
--- a poll that followed a plan followed the plan raised, with what is made of what it left
+-- a poll that followed a plan followed the raised plan, with what is made of what it left
 pub follows_raised : {N B R S T A Q : Type 0} (ActsFor : CpuId → Type 0) (table : Table N B R) (opening : LockId → Option B) (cpu : CpuId)
     (f : Left S A → Left T Q) (plan : Plan N R S A) (old new : List (Action N)) (got : Left S A) → Follows ActsFor table opening cpu plan old new got
     → Follows ActsFor table opening cpu (raised f plan) old new (f got)

@@ -1,4 +1,4 @@
--- Locks that opened with these capacities tell them.
+-- Locks that opened with these capacities report them.
 use Rattle.std.{proofs.Common.{◌≡◌, ℕ, zero, suc, ◌+◌, ◌≤◌, List, [], ◌∷◌, length, Option, None, option_map, refl, ap, ◌∙◌, arith}, specs.Prelude.slice_get}
 use Rattle.{event_log.specs.declared.ids.LockId.{LockId, TheVariants.Buffer}, layer_traits.specs.Blocks.Capacities.{with_cap_of, caps_from}}
 
@@ -17,6 +17,6 @@ module _ {L : Type 0} (capacity : L → ℕ) (fresh : ℕ → L) (shows : (n : �
   caps_read [] (suc more) n same few = ap (λ o. with_cap_of capacity o (caps_from capacity more (n + 1) locks)) (here n None (same 0))
   caps_read (k ∷ caps) (suc more) n same few = grind (arith, caps_read caps more (n + 1), here, further)
 
-  -- the capacities that the locks tell are those with which they opened
+  -- the capacities that the locks report are those with which they opened
   pub caps_observed : (most : ℕ) → length all ≤ most → caps_from capacity most 0 locks ≡ all
   caps_observed most few = grind (arith, caps_read)

@@ -16,7 +16,7 @@ is_cpu_true c home is = grind (arith, same_cpu_true)
 pub is_cpu_of : (c : CpuId) (home : Option CpuId) → home ≡ Some c → is_cpu c home ≡ true
 is_cpu_of c home is = ap (is_cpu c) is ∙ same_cpu_self c
 
--- a thread's home is one CPU alone
+-- a thread's home is only one CPU
 pub is_cpu_other : (c d : CpuId) (home : Option CpuId) → same_cpu c d ≡ false → is_cpu c home ≡ true → is_cpu d home ≡ false
 is_cpu_other c d home other is = ap (is_cpu d) (is_cpu_true c home is) ∙ (same_cpu_sym d c ∙ other)
 
@@ -27,7 +27,7 @@ pub count_append : (t : Tid) (p q : List Tid) → count_in t (p ++ q) ≡ count_
 count_append t [] q = sym (zero-add (count_in t q))
 count_append t (x ∷ p) q = ap (λ n. one_if (same_tid t x) + n) (count_append t p q) ∙ sym (add_assoc (one_if (same_tid t x)) (count_in t p) (count_in t q))
 
--- how often a thread stands in a list that another one joined
+-- how often a thread is in a list that another one joined
 pub count_other : (t u : Tid) → same_tid u t ≡ false → one_if (same_tid t u) ≡ 0
 count_other t u other = ap one_if (same_tid_sym t u ∙ other)
 
@@ -37,11 +37,11 @@ count_behind t u q other = omega (arith, count_other t u other, count_append t q
 pub count_as_list : (t : Tid) (o : Option Tid) → count_in t (as_list o) ≡ one_if (is_thread t o)
 count_as_list t o = grind (arith, same_tid_sym)
 
--- the front and the rest are the whole
+-- the head and the rest are the whole
 pub count_front : (t : Tid) (q : List Tid) → one_if (is_thread t (first q)) + count_in t (rest q) ≡ count_in t q
 count_front t q = grind (arith, same_tid_sym)
 
--- who stands in a list is counted, and the other way round
+-- a thread in a list is counted, and the converse
 pub in_counted : (t : Tid) (q : List Tid) → is_in t q ≡ true → 0 < count_in t q
 in_counted t [] is = absurd cc
 in_counted t (x ∷ q) is = grind (arith, in_counted t q)

@@ -1,4 +1,4 @@
--- Effects that may come one after the other are a run.
+-- Effects that may follow one another are a run.
 use Rattle.std.proofs.Common.{◌≡◌, ℕ, ◌+◌, ◌<◌, ◌%◌, ◌^◌, Bool, ◌&&◌, ◌==◌, List, [], ◌∷◌, ◌++◌, length, reverse, if◌then◌else◌, refl, ap, sym, ◌∙◌, subst}
 use Rattle.std.proofs.{Common.{arith, count_by, add_comm}, lemmas.List.{reverse-append, Sums.{count_by-le-length, sum_by-cons, sum_by_push}}}
 use Rattle.std.specs.Prelude.{nat_lt, slice_index}
@@ -9,7 +9,7 @@ use Rattle.layer_traits.specs.Blocks.EffectRuns.{EffectsAreRun}
 turned : {E : Type 0} (e : E) (es : List E) → reverse (e ∷ es) ≡ reverse es ++ e ∷ []
 turned e es = reverse-append (e ∷ []) es
 
--- how many a test picks does not go by the order
+-- how many a test picks does not depend on the order
 pub count_reversed : {E : Type 0} (picks : E → Bool) (es : List E) → count_by picks (reverse es) ≡ count_by picks es
 count_reversed picks [] = refl
 count_reversed {E} picks (e ∷ es) =

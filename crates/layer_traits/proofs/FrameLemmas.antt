@@ -1,4 +1,4 @@
--- A call that leaves the machine as it was leaves all that is framed.
+-- The frame condition: a call that leaves the machine unchanged leaves all that is framed.
 use Rattle.std.proofs.Common.{ℕ, ◌+◌, ◌≤◌, List, Option, ap, arith, refl}
 use Rattle.{event_log.specs.declared.ids.{CpuId.CpuId, LockId.LockId}, layer_traits.specs.Polling.Framed.Stays}
 
@@ -9,7 +9,7 @@ pub untouched_stays : {M B : Type 0} (opening_of : M → LockId → Option B) (s
     → Stays opening_of site_of room_of ActsFor m m
 untouched_stays opening_of site_of room_of ActsFor m = record { opening = refl; site = refl; room = one_less (room_of m); acts = λ c acts. acts }
 
--- what stays beneath stays under another view of the blocks
+-- what stays in the lower layer stays under another view of the blocks
 pub viewed_stays : {M B C : Type 0} (view : (LockId → Option B) → LockId → Option C) {opening_of : M → LockId → Option B} {site_of : M → List ℕ}
     {room_of : M → ℕ} {ActsFor : M → CpuId → Type 0} {m n : M} → Stays opening_of site_of room_of ActsFor m n
     → Stays (λ k. view (opening_of k)) site_of room_of ActsFor m n

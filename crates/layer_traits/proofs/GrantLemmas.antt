@@ -1,4 +1,4 @@
--- How the told log of grant words grows, and what its counts and words are.
+-- How the translated log of grant words grows, and what its counts and words are.
 use Rattle.std.proofs.Common.{arith, ◌≡◌, ℕ, ◌<◌, List, [], ◌∷◌, ◌++◌, Option, Some, None, MatchOption, slice_index, refl, ap, sym, ◌∙◌}
 use Rattle.event_log.specs.{declared.{ids.{CpuId.CpuId, LockId.LockId, TheConstants.CPUS}, grants.GrantEvent.GrantEvent, events.Event.Event}, Actions.gives}
 use Rattle.event_log.specs.{Actions.takes, Grants.{WordFits, cpu_of_grant, grant_lock_phase, grant_word, tickets}, History.{AreOthers, Adds, same_cpu}}
@@ -8,7 +8,7 @@ use Rattle.layer_traits.specs.{declared.edits.Mark.Mark, Protocols.{GrantProtoco
 use Rattle.layer_traits.specs.Laws.AsGrants.{acts_as_grants, sections_as_grants, stands_as_grants, grants_agree}
 
 module _ {M : Type 0} where
-  -- the events that came after these, as they are told
+  -- the events after these, as they are translated
   record MoreAsGrants (others old : List (Event M)) : Type 0 where
     more : List (GrantEvent M)
     is : as_grants (others ++ old) ≡ more ++ as_grants old
@@ -28,7 +28,7 @@ module _ {M : Type 0} where
         foreign = λ c is. (ap (λ d. same_cpu d c) (cpu_as_grant e (as_grants (others ++ old))) ∙ is.0, rest.foreign c is.1);
       }
 
-  -- where the log grew by an event, the told one grew by that event as it is told
+  -- if the log grew by an event, the translated one grew by that event's translation
   pub adds_mapped : (By : CpuId → Type 0) (e : Event M) (old new : List (Event M)) → (adds : Adds By cpu_of_event e old new)
       → Adds By cpu_of_grant (as_grant e (as_grants (adds.others ++ old))) (as_grants old) (as_grants new)
   adds_mapped By e old new adds =
@@ -47,7 +47,7 @@ module _ {M : Type 0} where
     pub tickets_as_grants : tickets lock (as_grants log) ≡ draws lock log
     tickets_as_grants = sym (takes_grants same lock (as_grants log)) ∙ (ap (takes lock) (acts_as_grants same log legal) ∙ takes_acts same lock log)
 
-    -- words that the number of frees tells are the grant words
+    -- words that agree with the number of frees are the grant words
     pub words_as_grants : (words : List ℕ) → ((k : ℕ) → k < CPUS → WordFits k (frees lock log) (slice_index words k))
         → (k : ℕ) → k < CPUS → slice_index words k ≡ grant_word lock k (as_grants log)
     words_as_grants words fits k within =
@@ -56,7 +56,7 @@ module _ {M : Type 0} where
         one_word k (frees lock log) (slice_index words k) (grant_word lock k (as_grants log)) (fits k within)
         (rw count at (words_fit same lock k within (as_grants log) told (legal_grants same (as_grants log) told)))
 
--- what a look found, in terms of grant words
+-- what a poll found, in terms of grant words
 pub hits_as_grants : {E B : Type 0} (edited : E → B → B) (opening : LockId → Option B) (log : List (Event (Mark E))) → IsLegalWords log
     → (cpu : CpuId) (lock : LockId) (ticket : ℕ) (found : Option B)
     → MatchOption found (lock_phase cpu log ≡ Waiting lock ticket)

@@ -1,5 +1,5 @@
--- A layer that wraps its edits in those of the layer beneath: what was seen, allowed, polled and planned there is so here, under the
--- layer's own names.
+-- A layer that wraps its edits in those of the lower layer: what was observed, allowed, polled and
+-- planned there is so here, under the layer's own names.
 use Rattle.std.proofs.Common.{◌≡◌, Bool, List, [], ◌∷◌, ◌++◌, Option, Some, None, IsSome, MatchOption, option_map, is_some, if◌then◌else◌, map, refl, ap, sym}
 use Rattle.std.proofs.{Common.{◌∙◌, subst, arith}, Math.Path.transport}
 use Rattle.event_log.specs.{declared.ids.{BufId.BufId, CpuId.CpuId, LockId.{LockId, TheVariants.{Pending, Buffer}}}, History.{IsLawful, AreOthers, Grows}}
@@ -16,10 +16,10 @@ use Rattle.layer_traits.specs.Views.Renaming.{plan_named, renamed_call, renamed_
 use Rattle.layer_traits.proofs.PlanRenaming.{block_viewed, map-append, reply_viewed}
 use Rattle.layer_traits.specs.declared.scheds.SchedCall.TheVariants as call
 
--- Openings that are seen so.
+-- Openings with this view.
 
 module _ {A B : Type 0} (view : A → B) (opening : LockId → Option (QueueBlock A)) where
-  -- the blocks of buffers are seen so
+  -- the blocks of buffers with this view
   pub inner_viewed : (lock : LockId) → inner (viewed view opening) lock ≡ option_map view (inner opening lock)
   inner_viewed lock = grind arith
 
@@ -30,11 +30,11 @@ module _ {A B : Type 0} (view : A → B) (opening : LockId → Option (QueueBloc
   pub homes_viewed : homes_in (viewed view opening) ≡ homes_in opening
   homes_viewed = homes_seen (opening (Pending (record { 0 = 0 })))
 
-  -- so what is said of them is said of those that are seen
+  -- therefore what is said of them is said of their views
   pub at_viewed : (Says : List CpuId → Type 0) → Says (homes_in opening) → Says (homes_in (viewed view opening))
   at_viewed Says says = subst Says (sym homes_viewed) says
 
-  -- a lock is there exactly where it was
+  -- a lock exists exactly if it did
   pub there_viewed : (lock : LockId) → IsSome (viewed view opening lock) → IsSome (opening lock)
   there_viewed lock there = grind arith
 
@@ -68,7 +68,7 @@ module _ {D E : Type 0} (name : D → E) where
   known_renamed [] known = tt
   known_renamed (e ∷ past) known = (known.0, known_renamed past known.1)
 
-  -- a history that grew by foreign events did so
+  -- a history that grew by environment events did so
   pub grows_renamed : (ActsFor : CpuId → Type 0) (old new : List (QueueEvent D)) → Grows ActsFor cpu_of_queue_event old new
       → Grows ActsFor cpu_of_queue_event (renamed_events name old) (renamed_events name new)
   grows_renamed ActsFor old new grows = record {
@@ -107,8 +107,9 @@ pub named_raised : {M N R S T A C : Type 0} (name : M → N) (f : Left S A → L
     → plan_named name (raised f plan) ≡ raised f (plan_named name plan)
 named_raised name f plan = grind arith
 
--- The kernel j of a layer wraps the kernel k beneath: j's edits go under a name of theirs, and its blocks are views of those beneath.
--- What is edited, answered, opened and moved there is so here, and what is allowed there is allowed here.
+-- The kernel j of a layer wraps the kernel k of the lower layer. The edits of j are under a name of
+-- theirs, and its blocks are views of the lower ones. What is edited, returned, opened and moved
+-- there is so here, and what is allowed there is allowed here.
 pub record Wraps {D E A B O : Type 0} (k : Kernel D A O) (j : Kernel E B O) (name : D → E) (view : A → B) : Type 0 where
   pub edits : (d : D) (a : A) → view (k.rules.edited d a) ≡ j.rules.edited (name d) (view a)
   pub answers : (d : D) (a : A) → k.rules.answer d a ≡ j.rules.answer (name d) (view a)
@@ -123,7 +124,7 @@ pub record Wraps {D E A B O : Type 0} (k : Kernel D A O) (j : Kernel E B O) (nam
 module _ {D E A B O : Type 0} (k : Kernel D A O) (j : Kernel E B O) (name : D → E) (view : A → B) (wraps : Wraps k j name view) where
   open wraps use {edits, answers, openings, homes, callers, slept, woke, allowed}
 
-  -- the block of a lock is the view of the block beneath
+  -- the block of a lock is the view of the lower layer's block
   pub block_renamed : (lock : LockId) (past : List (Section D))
       → block_after j.rules.edited j.opening lock (map (renamed_section name) past) ≡ option_map view (block_after k.rules.edited k.opening lock past)
   block_renamed lock past =
@@ -134,7 +135,7 @@ module _ {D E A B O : Type 0} (k : Kernel D A O) (j : Kernel E B O) (name : D �
   out_viewed : (d : D) (o : Option A) → option_map (j.rules.answer (name d)) (option_map view o) ≡ option_map (k.rules.answer d) o
   out_viewed d o = grind (arith, answers)
 
-  -- an edit answers the same
+  -- an edit has the same result
   pub out_renamed : (past : List (QueueEvent D)) (b : BufId) (d : D) → out_at j (renamed_events name past) b (name d) ≡ out_at k past b d
   out_renamed past b d = grind (arith, sections_renamed, block_renamed, out_viewed)
 
@@ -153,12 +154,12 @@ module _ {D E A B O : Type 0} (k : Kernel D A O) (j : Kernel E B O) (name : D �
       → CallAllowed j (renamed_events name past) c (renamed_call name q)
   allowed_renamed past c q may = grind (arith, transport, homes, moves_renamed, callers, sections_renamed)
 
-  -- what is lawful beneath is lawful here
+  -- what is lawful in the lower layer is lawful here
   pub lawful_renamed : (past : List (QueueEvent D)) → IsLawful (QueueAllowed k) past → IsLawful (QueueAllowed j) (renamed_events name past)
   lawful_renamed [] lawful = tt
   lawful_renamed (e ∷ past) lawful = (allowed_renamed past e.cpu e.call lawful.0, lawful_renamed past lawful.1)
 
-  -- an edit that stays allowed here is allowed here after whatever others do beneath
+  -- an edit that stays allowed here is allowed here after environment steps in the lower layer
   pub stays_renamed : (c : CpuId) (past : List (QueueEvent D)) (b : BufId) (d : D) → EditStays j c (renamed_events name past) (call.OnBuffer b (name d))
       → (more : List (QueueEvent D)) → AreOthers cpu_of_queue_event c more → IsLawful (QueueAllowed k) (more ++ past)
       → j.rules.allowed j.opening (map (renamed_section name) (buffer_sections (more ++ past))) (section c (Buffer b) (name d))
@@ -185,7 +186,7 @@ module _ {D E A B O : Type 0} (k : Kernel D A O) (j : Kernel E B O) (name : D �
   local_renamed : (s : SchedCall D) → IsLocal (renamed_sched name s) → IsLocal s
   local_renamed s local = grind arith
 
-  -- a poll beneath is a poll here
+  -- a poll of the lower layer is a poll here
   pub polled_renamed : (ActsFor : CpuId → Type 0) (c : CpuId) (s : SchedCall D) (result : Option (SchedAnswer O)) (old new : List (QueueEvent D))
       (own own' : Threads) → SchedPolled k ActsFor c s result old new own own'
       → SchedPolled j ActsFor c (renamed_sched name s) result (renamed_events name old) (renamed_events name new) own own'
@@ -220,7 +221,7 @@ module _ {D E A B O : Type 0} (k : Kernel D A O) (j : Kernel E B O) (name : D �
   by_renamed : (c : CpuId) (h : List CpuId) (own : Threads) (r : Option (QueueAnswer O)) → sched_left_by k.moves h c own r ≡ sched_left_by j.moves h c own r
   by_renamed c h own r = grind (arith, woke, slept)
 
-  -- the plan beneath is the plan here
+  -- the plan of the lower layer is the plan here
   pub plan_renamed : (h : List CpuId) (c : CpuId) (s : SchedCall D) (own : Threads)
       → plan_named (renamed_edit name) (sched_plan k.moves h c s own) ≡ sched_plan j.moves h c (renamed_sched name s) own
   plan_renamed h c s own = grind (arith, by_renamed)
@@ -236,7 +237,7 @@ module _ {D E A B O : Type 0} (k : Kernel D A O) (j : Kernel E B O) (name : D �
   same_option : {X : Type 0} (o : Option X) → option_map (λ (x : X). x) o ≡ o
   same_option o = grind arith
 
-  -- a poll that followed its plan beneath followed it here
+  -- a poll that followed its plan in the lower layer followed it here
   pub follows_named : {S T : Type 0} (ActsFor : CpuId → Type 0) (opening : LockId → Option (QueueBlock A)) (cpu : CpuId)
       (plan : Plan (QueueEdit D) (QueueAnswer O) S T)
       (old new : List (Action (QueueEdit D))) (got : Left S T) → Follows ActsFor (table_of (queue_rules k.rules k.moves)) opening cpu plan old new got

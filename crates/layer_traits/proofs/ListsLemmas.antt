@@ -1,4 +1,5 @@
--- The waiting lists of locks and the places of threads agree after each section, so whom a section wakes sleeps.
+-- The waiting lists of locks and the places of threads agree after each section. A thread that a
+-- section wakes is therefore asleep.
 use Rattle.std.proofs.Common.{◌≡◌, ◌+◌, ◌<◌, Bool, true, false, ◌&&◌, List, [], ◌∷◌, Option, Some, None, option_map, if◌then◌else◌, refl, ap, ◌∙◌, arith}
 use Rattle.std.proofs.lemmas.Bool.{and_left, and_right}
 use Rattle.event_log.specs.{declared.ids.{LockId.LockId, Tid.Tid, TheConstants.THREADS}, History.{same_lock, IsLawful}, Sections.{Section, block_after}}
@@ -13,27 +14,27 @@ use Rattle.thread_blocks.{specs.Queues.{same_tid, is_in, first, rest, without}, 
 
 -- Counts.
 
--- who does not stand in a list is not counted
+-- a thread that is not in a list is not counted
 pub count_none : (t : Tid) (q : List Tid) → is_in t q ≡ false → count_in t q ≡ 0
 count_none t [] out = refl
 count_none t (x ∷ q) out = grind (arith, count_none t q)
 
--- and who is counted stands in it
+-- and a thread that is counted is in it
 pub counted_in : (t : Tid) (q : List Tid) → 0 < count_in t q → is_in t q ≡ true
 counted_in t q some = grind (arith, count_none t q)
 
--- a thread that is taken out is gone, and each other stands there as before
+-- a thread that is removed is gone, and each other is there as before
 pub count_without : (t u : Tid) (q : List Tid) → count_in t (without u q) ≡ (if same_tid u t then 0 else count_in t q)
 count_without t u [] = grind arith
 count_without t u (x ∷ q) = grind (arith, count_without t u q)
 
--- who joins a list stands there once more
+-- a thread that joins a list is in it once more
 pub count_joined : (t x : Tid) (q : List Tid) → x.0 < THREADS → is_in x q ≡ false → count_in t (joined x q) ≡ count_in t q + one_if (same_tid t x)
 count_joined t x q small new = grind (arith, count_append)
 
 -- Places.
 
--- who sleeps at one line sleeps at no other, and at no other lock
+-- a thread that sleeps in one waiting list sleeps in no other, and at no other lock
 same_list_true : (line other : WaitList) → same_list line other ≡ true → line ≡ other
 same_list_true line other same = grind arith
 
@@ -56,18 +57,18 @@ other_lock lock at line at_line apart = and_left (same_lock at lock) (same_list 
 lock_apart : (lock other : LockId) → same_lock lock other ≡ false → same_lock other lock ≡ false
 lock_apart lock other apart = grind arith
 
--- The lists of one lock, and who leaves and joins them.
+-- The lists of one lock, and the threads that leave and join them.
 
 module _ (lock : LockId) (lines : WaitList → List Tid) (asleep : Tid → Option WaitChannel) (agrees : Agrees lock lines asleep) where
-  -- who stands in a list sleeps there
+  -- a thread in a list sleeps there
   pub stands_asleep : (line : WaitList) (t : Tid) → 0 < count_in t (lines line) → asleep t ≡ Some (At lock line)
   stands_asleep line t some = at_wait_channel lock line (asleep t) (grind (arith, agrees line t))
 
-  -- who is awake stands in no list
+  -- a thread that is awake is in no list
   awake_out : (line : WaitList) (t : Tid) → asleep t ≡ None → count_in t (lines line) ≡ 0
   awake_out line t awake = agrees line t ∙ ap (λ p. one_if (is_at lock line p)) awake
 
-  -- a list that nobody left, where who left stood in another
+  -- a list that no thread left, if the thread that left was in another
   stays_there : (line other : WaitList) (t : Tid) (b : Bool) → (b ≡ true → 0 < count_in t (lines line)) → same_list line other ≡ false
       → count_in t (lines other) ≡ one_if (is_at lock other (if b then None else asleep t))
   stays_there line other t b stood apart = grind (arith, stands_asleep, other_list)
@@ -80,11 +81,11 @@ module _ (lock : LockId) (lines : WaitList → List Tid) (asleep : Tid → Optio
       (lines line)) then None else asleep t))
   first_left line t = grind (arith, count_front t (lines line), agrees line t)
 
-  -- who is woken by name stood in the list
+  -- a thread that is woken by name was in the list
   named_stood : (line : WaitList) (t u : Tid) → is_thread t (if is_in u (lines line) then Some u else None) ≡ true → 0 < count_in t (lines line)
   named_stood line t u is = grind (arith, same_tid_true, in_counted u (lines line))
 
-  -- the list that the named one left, if it stood there
+  -- the list that the named one left, if it was there
   named_left : (line : WaitList) (t u : Tid)
       → count_in t (without u (lines line)) ≡ one_if (is_at lock line (if is_thread t (if is_in u (lines line) then Some u else None) then None else asleep t))
   named_left line t u = grind (arith, count_without t u (lines line), agrees line t, same_tid_true, count_none u (lines line))
@@ -101,7 +102,7 @@ module _ (lock : LockId) (lines : WaitList → List Tid) (asleep : Tid → Optio
   left_agrees (Sender u) Senders t = named_left Senders t u
   left_agrees (Sender u) line t = stays_there Senders line t _ (named_stood Senders t u) refl
 
-  -- whom they wake sleeps at this lock
+  -- a thread that they wake sleeps at this lock
   pub woken_asleep : (leave : Wake) (t : Tid) → is_thread t (woken_by leave (lines Sleepers) (lines Receivers) (lines Senders)) ≡ true
       → (line : WaitList) × (asleep t ≡ Some (At lock line))
   woken_asleep Nobody t is = absurd cc
@@ -132,11 +133,11 @@ module _ (lock : LockId) (lines : WaitList → List Tid) (asleep : Tid → Optio
 
 module _ (lock : LockId) (lines : WaitList → List Tid) (asleep : Tid → Option WaitChannel) (agrees : Agrees lock lines asleep) (leave : Wake) (caller : Tid)
     (awake : asleep caller ≡ None) (small : caller.0 < THREADS) (joins : Option WaitList) where
-  -- whom the section wakes
+  -- which thread the section wakes
   abbrev woke : Option Tid
   woke = woken_by leave (lines Sleepers) (lines Receivers) (lines Senders)
 
-  -- who is woken is not the caller
+  -- a woken thread is not the caller
   both_ways : (t : Tid) (b : Bool) → is_thread t woke ≡ b → (if same_tid caller t then slept_at lock joins (if b then None else asleep t) else
       (if b then None else asleep t)) ≡ (if b then None else (if same_tid caller t then slept_at lock joins (asleep t) else asleep t))
   both_ways t false is = refl
@@ -168,7 +169,7 @@ module _ (lock : LockId) (lines : WaitList → List Tid) (asleep : Tid → Optio
 
 -- The lists of all locks, section by section.
 
--- whom an answer tells to be woken
+-- which thread a result says is woken
 abbrev woke_in : {O : Type 0} → Option (Outcome O) → Option Tid
 woke_in None = None
 woke_in (Some outcome) = outcome.woke
@@ -220,7 +221,7 @@ module _ {E B O : Type 0} (rules : SleepRules E B O) (opening : LockId → Optio
   lists_agree [] lawful nobody lock line t = ap (count_in t) (nobody lock line)
   lists_agree (s ∷ past) lawful nobody lock line t = agree_step past s lawful.0 (lists_agree past lawful.1 nobody) lock line t
 
-  -- whom a section wakes sleeps
+  -- a thread that a section wakes is asleep
   pub section_wakes : (past : List (Section E)) (s : Section E) (outcome : Outcome O) (u : Tid) → IsLawful (IsAwake rules opening) past → NobodySleeps opening
       → option_map (sleep_answer rules s.edit) (block_after (sleep_edited rules) opening s.lock past) ≡ Some outcome → outcome.woke ≡ Some u
       → is_wait_channel (asleep_by (section_moves (sleep_rules rules) (sleep_moves rules) opening past) u) ≡ true

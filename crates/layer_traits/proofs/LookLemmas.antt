@@ -1,9 +1,9 @@
--- A look at a waiting section, under other names.
+-- A poll of the lock by a waiting section, under other names.
 use Rattle.std.proofs.Common.{List, ◌∷◌, ◌==◌, map, ap, sym, ◌∙◌}
 use Rattle.event_log.{specs.{declared.ids.CpuId.CpuId, Actions.{Action, Try, renamed}}, proofs.Renaming.{phase_renamed, gives_renamed, spot_renamed}}
 use Rattle.{event_log.proofs.Renaming.others_renamed, layer_traits.{proofs.PlanRenaming.map-append, specs.Polling.Looks.Tries}}
 
--- under other names it is the same look
+-- under other names it is the same poll
 pub tries_renamed : {M N : Type 0} (name : M → N) (ActsFor : CpuId → Type 0) (cpu : CpuId) (old new : List (Action M)) → Tries ActsFor cpu old new
     → Tries ActsFor cpu (map (renamed name) old) (map (renamed name) new)
 tries_renamed name ActsFor cpu old new tries = record {

@@ -1,5 +1,5 @@
--- Sections of the edits of shared queues as calls: a section is its call, what the blocks of the locks hold after calls, and what one
--- poll of a section means as a poll of its call.
+-- Sections of the edits of shared queues as calls: a section is its call. What the blocks of the
+-- locks hold after calls, and what one poll of a section means as a poll of its call.
 use Rattle.std.proofs.Common.{◌≡◌, ◌<◌, Bool, false, ◌&&◌, not, List, [], ◌∷◌, ◌++◌, Option, Some, None, MatchOption, is_some, option_map, if◌then◌else◌}
 use Rattle.std.proofs.{Common.{map, refl, ap, ◌∙◌, subst, arith}, lemmas.{Bool.lt-ltb, Option.slice_get_within}}
 use Rattle.event_log.specs.declared.ids.{BufId.BufId, CpuId.CpuId, LockId.{LockId, TheVariants.{Pending, Buffer}}, Tid.Tid, TheConstants.THREADS}
@@ -51,7 +51,7 @@ pub known_events : {E : Type 0} (log : List (Section (QueueEdit E))) → IsLawfu
 known_events [] known = tt
 known_events (s ∷ past) known = (known.0, known_events past known.1)
 
--- a history of sections that grew by foreign ones is a history of calls that did
+-- a history of sections that grew by environment sections is a history of calls that did
 pub event_grows : {E : Type 0} (ActsFor Acts : CpuId → Type 0) → ((d : CpuId) → Acts d → ActsFor d) → (old new : List (Section (QueueEdit E)))
     → Grows ActsFor cpu_of_section old new → Grows Acts cpu_of_queue_event (map event_of old) (map event_of new)
 event_grows ActsFor Acts weakens old new grows = record {
@@ -120,7 +120,7 @@ module _ {E B O : Type 0} (rules : Rules E B O) (mv : MoveRules E O) (opening : 
     opens_queue : (d : CpuId) (found : Option (QueueBlock B)) → StartsAs (Pending d) found → found ≡ with_queue [] found
     opens_queue d found kind = grind arith
 
-    -- who may be pushed is one of the machine's threads, and does not stand in the queue
+    -- a thread that may be pushed is one of the machine's threads, and is not in the queue
     pub push_known : (past : List (QueueEvent E)) (c d : CpuId) (t : Tid) → MayPush (homes_in opening) (moves_in beneath past) c d t → t.0 < THREADS
     push_known past c d t may = grind (arith, slice_get_within)
 
@@ -159,7 +159,7 @@ module _ {E B O : Type 0} (rules : Rules E B O) (mv : MoveRules E O) (opening : 
     queue_step d (Buffer at) (edit.Above e) c past proper may moving is = grind (arith, still_pending)
     queue_step d lock x c past proper may moving is = absurd cc
 
-    -- a queue's block holds who is pending there by the moves
+    -- a queue's block holds the threads that are pending there according to the moves
     pub proper_queue : (d : CpuId) (log : List (Section (QueueEdit E))) → AreProper log → AreMoves (homes_in opening) (moves_in beneath (map event_of log))
         → block_after (queue_edited rules.edited) opening (Pending d) log
         ≡ with_queue (pending_by (moves_in beneath (map event_of log)) d) (opening (Pending d))
@@ -186,7 +186,7 @@ module _ {E B O : Type 0} (rules : Rules E B O) (mv : MoveRules E O) (opening : 
           ≡ option_map (queue_answer rules.answer (edit.Above e)) (option_map block.Above above)
       report_above e above = grind arith
 
-      -- the answer of a section is that of its call
+      -- the result of a section is that of its call
       pub answers_call : (log : List (Section (QueueEdit E))) → Lawful log → (call : QueueCall E) (answer : QueueAnswer O)
           → option_map (queue_answer rules.answer (queue_edit_of call)) (block_after (queue_edited rules.edited) opening (lock_of call) log) ≡ Some answer
           → answer_of beneath (map event_of log) call ≡ Some answer

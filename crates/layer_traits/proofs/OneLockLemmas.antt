@@ -1,4 +1,4 @@
--- The home and the counts of one lock, event by event.
+-- The stored block and the counts of one lock, event by event.
 use Rattle.std.proofs.Common.{◌≡◌, ℕ, ◌+◌, ◌%◌, ◌^◌, ◌<◌, ◌≤◌, Bool, true, false, List, [], ◌∷◌, ◌==◌, Option, Some, None, IsSome, option_map, if◌then◌else◌}
 use Rattle.std.proofs.Common.{refl, ap, sym, ◌∙◌, subst, arith}
 use Rattle.event_log.specs.declared.{ids.{CpuId.CpuId, LockId.LockId, TheConstants.CPUS}, events.Event.{Event, TheVariants.{Draw, Look, Free}}}
@@ -22,7 +22,8 @@ pub counts_elsewhere : {M : Type 0} (Fit : ℕ → ℕ → Type 0) (e : Event M)
     → Fit (draws lock log) (frees lock log) → Fit (draws lock (e ∷ log)) (frees lock (e ∷ log))
 counts_elsewhere Fit e log lock other fits = grind arith
 
--- for a CPU that waits, words that tell which spot is served tell whether its look hits
+-- for a CPU that waits, words that show which ticket index is served determine whether its poll
+-- succeeds
 pub serves_exactly : {E : Type 0} (log : List (Event (Mark E))) → IsLegalWords log → (cpu : CpuId) (lock : LockId) (ticket : ℕ)
     → lock_phase cpu log ≡ Waiting lock ticket → (served : Bool)
     → ((spot : ℕ) → frees lock log ≤ spot → spot < frees lock log + CPUS → ticket ≡ spot % 2 ^ 64 → served ≡ (frees lock log == spot))
@@ -39,12 +40,13 @@ serves_exactly log legal cpu lock ticket waiting served tells =
     let behind : spot < frees lock log + CPUS = subst (λ n. spot < n + CPUS) count close.1 in
     tells spot ahead behind has ∙ sym (same_rests (frees lock log) spot (frees lock log % 2 ^ 64) ticket ahead behind refl has)
 
--- who is inside is not the CPU that acts, where that one was not inside, and so stays inside
+-- a CPU inside the lock is not the CPU that acts, if the latter was not inside, and therefore stays
+-- inside
 someone_stays : {M : Type 0} (lock : LockId) (e : Event M) (log : List (Event M)) → ((t : ℕ) → lock_phase (cpu_of_event e) log ≡ Holding lock t → ⊥)
     → SomeoneInside lock log → SomeoneInside lock (e ∷ log)
 someone_stays lock e log was (c, t, inside) = (c, t, grind (arith, lock_phase_other e log c, was t, same_cpu_true (cpu_of_event e) c, inside))
 
--- where nobody is inside, an event by which its CPU does not enter leaves nobody inside
+-- if no CPU is inside, an event by which its CPU does not enter leaves none inside
 nobody_stays : {M : Type 0} (lock : LockId) (e : Event M) (log : List (Event M)) → ((t : ℕ) → left_by e ≡ Holding lock t → ⊥)
     → NobodyInside lock log → NobodyInside lock (e ∷ log)
 nobody_stays lock e log now nobody c t inside = grind (arith, lock_phase_own, lock_phase_other, same_cpu_true)
@@ -60,7 +62,7 @@ module _ {E B : Type 0} (edited : E → B → B) (opening : LockId → Option B)
       → block_after edited opening lock (sections (e ∷ log)) ≡ block_after edited opening lock (sections log)
   block_keeps e log other = grind arith
 
-  -- an event that does not free this lock, and by which nobody enters or leaves it
+  -- an event that does not free this lock, and by which no CPU enters or leaves it
   lock_stays : (e : Event (Mark E)) (log : List (Event (Mark E))) → is_free lock e ≡ false → ((t : ℕ) → lock_phase (cpu_of_event e) log ≡ Holding lock t → ⊥)
       → ((t : ℕ) → left_by e ≡ Holding lock t → ⊥) → (home : Option B) → HomeFits edited opening log lock home → HomeFits edited opening (e ∷ log) lock home
   lock_stays e log not_freed was now home fits = grind (arith, someone_stays, nobody_stays, block_keeps)
@@ -70,30 +72,30 @@ module _ {E B : Type 0} (edited : E → B → B) (opening : LockId → Option B)
       → (home : Option B) → HomeFits edited opening log lock home → HomeFits edited opening (e ∷ log) lock home
   home_elsewhere e log may other = grind (arith, lock_stays, not_entered, not_here)
 
-  -- a draw leaves the home as it is
+  -- a draw leaves the stored block unchanged
   pub home_after_draw : (cpu : CpuId) (ticket : ℕ) (log : List (Event (Mark E))) → lock_phase cpu log ≡ Idle → (home : Option B)
       → HomeFits edited opening log lock home → HomeFits edited opening (Draw cpu lock ticket ∷ log) lock home
   home_after_draw cpu ticket log outside = lock_stays (Draw cpu lock ticket) log refl (λ t h. absurd (cc (outside, h))) (λ t h. absurd (cc h))
 
-  -- and so does a look that misses
+  -- and so does a failed poll
   pub home_after_miss : (cpu : CpuId) (ticket read : ℕ) (log : List (Event (Mark E))) → lock_phase cpu log ≡ Waiting lock ticket → (read == ticket) ≡ false
       → (home : Option B) → HomeFits edited opening log lock home → HomeFits edited opening (Look cpu lock ticket read ∷ log) lock home
   home_after_miss cpu ticket read log waiting misses = grind (arith, lock_stays)
 
-  -- a look that hits leaves the home empty
+  -- a successful poll removes the stored block
   pub home_after_hit : (cpu : CpuId) (ticket read : ℕ) (log : List (Event (Mark E))) → (read == ticket) ≡ true
       → HomeFits edited opening (Look cpu lock ticket read ∷ log) lock None
   home_after_hit cpu ticket read log hits =
       (cpu, ticket, lock_phase_own (Look cpu lock ticket read) log ∙ ap (λ b. if b then Holding lock ticket else Waiting lock ticket) hits)
 
-  -- a free brings the edited block home
+  -- a free stores the edited block
   pub home_after_free : (cpu : CpuId) (ticket : ℕ) (mark : Mark E) (log : List (Event (Mark E))) → IsLegalWords log → lock_phase cpu log ≡ Holding lock ticket
       → (block : B) → option_map (edited mark.edit) (block_after edited opening lock (sections log)) ≡ Some block
       → HomeFits edited opening (Free cpu lock mark ∷ log) lock (Some block)
   home_after_free cpu ticket mark log legal inside block is =
       grind (arith, same_lock_self, lock_phase_own, same_cpu_true, lock_phase_other, one_inside, same_cpu_self)
 
-  -- a look that hits finds the block at home
+  -- a successful poll finds the block stored
   pub hit_finds : (cpu : CpuId) (ticket read : ℕ) (log : List (Event (Mark E))) → IsLegalWords (Look cpu lock ticket read ∷ log) → (read == ticket) ≡ true
       → (home : Option B) → HomeFits edited opening log lock home → IsSome home
   hit_finds cpu ticket read log legal hits (Some block) fits = refl
@@ -109,10 +111,10 @@ module _ {E B : Type 0} (edited : E → B → B) (opening : LockId → Option B)
           let one = one_inside (Look cpu lock ticket read ∷ log) legal fits.0 cpu lock fits.1 ticket there entered in
           cc (other, ap (same_cpu cpu) one, same_cpu_self cpu)
 
-  -- where nobody is inside, the block is home
+  -- if no CPU is inside, the block is stored
   pub all_home : (log : List (Event (Mark E))) → NobodyInside lock log → (home : Option B) → HomeFits edited opening log lock home → IsSome home
   all_home log nobody home fits = grind arith
 
-  -- before the first event the block is home
+  -- before the first event the block is stored
   pub home_at_start : (block : B) → opening lock ≡ Some block → HomeFits edited opening [] lock (Some block)
   home_at_start block is = (λ c t h. absurd (cc h), is)

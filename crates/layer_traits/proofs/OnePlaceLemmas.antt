@@ -1,4 +1,5 @@
--- Each thread stands in exactly one place: the sums over all CPUs, by cases on the thread's home and place.
+-- Each thread has exactly one place: the sums over all CPUs, by cases on the thread's home and
+-- place.
 use Rattle.std.proofs.Common.{◌≡◌, ℕ, zero, suc, ◌+◌, ◌<◌, true, false, ◌&&◌, List, Option, Some, None, is_some, refl, ap, sym, ◌∙◌, arith}
 use Rattle.std.proofs.lemmas.Bool.{and_right, cases_eq, ne_eqb}
 use Rattle.{event_log.{specs.{declared.ids.{CpuId.CpuId, Tid.Tid}, History.same_cpu}, proofs.Same.same_cpu_self}, layer_traits.specs.Threads.OnePlace.total}
@@ -18,21 +19,22 @@ total_sum : (f g : ℕ → ℕ) (n : ℕ) → total (λ k. f k + g k) n ≡ tota
 total_sum f g zero = omega arith
 total_sum f g (suc n) = let below = total_sum f g n in omega (arith, below)
 
--- where f is 0 but at d
+-- if f is 0 except at d
 pub total_at : (f : ℕ → ℕ) (n d : ℕ) → d < n → ((k : ℕ) → k < n → (k ≡ d → ⊥) → f k ≡ 0) → total f n ≡ f d
 total_at f zero d within none = absurd (omega arith)
 total_at f (suc n) d within none = grind (arith, total_at f n d, cases_eq, total_none)
 
--- where f is 1 at d and 0 elsewhere
+-- if f is 1 at d and 0 elsewhere
 pub total_one : (d : ℕ) (f : ℕ → ℕ) (n : ℕ) → d < n → f d ≡ 1 → ((k : ℕ) → (d ≡ k → ⊥) → f k ≡ 0) → total f n ≡ 1
 total_one d f n within one none = total_at f n d within (λ k under other. none k (λ e. other (sym e))) ∙ one
 
--- of all CPUs the one that is d passes a test that asks whether it is d
+-- of all CPUs the one that is d passes a test whether it is d
 one_cpu : (d : CpuId) (n : ℕ) → d.0 < n → total (λ k. one_if (same_cpu d (cpu_at k))) n ≡ 1
 one_cpu d n within = total_one d.0 (λ k. one_if (same_cpu d (cpu_at k))) n within (ap one_if (same_cpu_self d)) (λ k other. ap one_if (ne_eqb d.0 k other))
 
 module _ (homes : List CpuId) (n : ℕ) (moves : List Step) (own : ℕ → Threads) (sleeping : Tid → ℕ) (all : AllStand homes n moves own sleeping) (t : Tid) where
-  -- how often a thread is at home with a CPU, and how often in its hand or pending there, by the thread's place
+  -- how often a thread is on its home CPU, in a CPU's hand or pending there, by case on the
+  -- thread's place
   abbrev at_home : Where → ℕ
   at_home w = total (λ k. one_if (is_cpu (cpu_at k) (home_of homes t) && is_home w)) n
 

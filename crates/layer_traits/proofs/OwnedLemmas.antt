@@ -1,4 +1,4 @@
--- What a layer beneath tells of its blocks, a layer tells of what it makes of them.
+-- What a lower layer reports of its blocks, a layer reports of what it makes of them.
 use Rattle.std.proofs.{Common.{◌≡◌, Option, Some, None, option_map, refl, sym, ◌∙◌, subst, arith}, lemmas.Option.same_Some}
 use Rattle.{event_log.specs.declared.ids.CpuId.CpuId, layer_traits.specs.Views.{Owned.{IsHeld, IsObserved}, Observed.IsObservedAs}}
 
@@ -9,7 +9,7 @@ same_shown Fits cpu_of IsInside here home truth other same shown = subst (λ o. 
 
 module _ {P Q A : Type 0} (below : Q → P) (FitsP : P → Type 0) (FitsQ : Q → Type 0) (cpu_below : P → CpuId) (cpu_of : Q → CpuId)
     (InsideP InsideQ : CpuId → Type 0) (here : P → Option A) where
-  -- a block in the hands of a part beneath is in those of the part that stands on it
+  -- a block that a lower part holds is held by the part over it
   held_under : ((q : Q) → FitsQ q → FitsP (below q)) → ((q : Q) → FitsQ q → cpu_below (below q) ≡ cpu_of q) → ((c : CpuId) → InsideP c → InsideQ c)
       → IsHeld FitsP cpu_below InsideP here → IsHeld FitsQ cpu_of InsideQ (λ q. here (below q))
   held_under fits cpus inside is = record {
@@ -19,7 +19,7 @@ module _ {P Q A : Type 0} (below : Q → P) (FitsP : P → Type 0) (FitsQ : Q �
     has = λ q at fit. is.has (below q) (cpus q fit ∙ at) (fits q fit);
   }
 
-  -- parts that stand on those beneath tell what those tell
+  -- parts over lower parts report what those report
   pub shown_under : (home truth : Option A) → ((q : Q) → FitsQ q → FitsP (below q)) → ((q : Q) → FitsQ q → cpu_below (below q) ≡ cpu_of q)
       → ((c : CpuId) → InsideP c → InsideQ c)
       → IsObserved FitsP cpu_below InsideP here home truth → IsObserved FitsQ cpu_of InsideQ (λ q. here (below q)) home truth
@@ -29,7 +29,7 @@ module _ {P Q A : Type 0} (below : Q → P) (FitsP : P → Type 0) (FitsQ : Q �
     somewhere = λ none. held_under fits cpus inside (shown.somewhere none);
   }
 
-  -- and of a block that there is
+  -- and of a block that exists
   pub read_under : (home : Option A) (truth : A) → ((q : Q) → FitsQ q → FitsP (below q)) → ((q : Q) → FitsQ q → cpu_below (below q) ≡ cpu_of q)
       → ((c : CpuId) → InsideP c → InsideQ c)
       → IsObservedAs FitsP cpu_below InsideP here home truth → IsObservedAs FitsQ cpu_of InsideQ (λ q. here (below q)) home truth
@@ -39,7 +39,8 @@ module _ {P Q A : Type 0} (below : Q → P) (FitsP : P → Type 0) (FitsQ : Q �
     somewhere = λ none. held_under fits cpus inside (told.somewhere none);
   }
 
--- parts that stand on parts beneath, each of the CPU of its lower part, which fits where it does; and who may hold a lock beneath
+-- parts over lower parts, each of the CPU of its lower part, which fits if the part fits; and which
+-- CPU may hold a lock in the lower layer
 pub record PartsOn (P Q : Type 0) : Type 1 where
   pub below : Q → P
   pub FitsP : P → Type 0
@@ -53,7 +54,7 @@ abbrev pub parts_on : {P Q : Type 0} (below : Q → P) (FitsP : P → Type 0) (F
 parts_on below FitsP FitsQ cpu_below MayHold fits =
     record { below = below; FitsP = FitsP; FitsQ = FitsQ; cpu_below = cpu_below; MayHold = MayHold; fits = fits }
 
--- they tell what those beneath tell
+-- they report what the lower ones report
 pub shown_on : {P Q A : Type 0} (parts : PartsOn P Q) (tells : P → Option A) (home truth : Option A)
     → IsObserved parts.FitsP parts.cpu_below parts.MayHold tells home truth
     → IsObserved parts.FitsQ (λ q. parts.cpu_below (parts.below q)) parts.MayHold (λ q. tells (parts.below q)) home truth
@@ -68,7 +69,7 @@ viewed_some view truth o y tells is = grind (arith, tells)
 viewed_none : {A B : Type 0} (view : A → B) (o : Option A) → option_map view o ≡ None → o ≡ None
 viewed_none view o none = grind (arith, none)
 
--- what is told of a block is told of its view
+-- what is reported of a block is reported of its view
 pub viewed_shown : {P A B : Type 0} (view : A → B) (Fits : P → Type 0) (cpu_of : P → CpuId) (IsInside : CpuId → Type 0) (here : P → Option A)
     (home truth : Option A) (seen : Option B) → seen ≡ option_map view truth → IsObserved Fits cpu_of IsInside here home truth
     → IsObserved Fits cpu_of IsInside (λ p. option_map view (here p)) (option_map view home) seen
@@ -86,7 +87,7 @@ viewed_shown view Fits cpu_of IsInside here home truth seen is shown = record {
       has = λ p same fits none. at.has p same fits (viewed_none view (here p) none);
     }
 
--- what is shown of a block that there is is true of it
+-- what is shown of a block that exists is true of it
 pub observed_as : {P A : Type 0} (Fits : P → Type 0) (cpu_of : P → CpuId) (IsInside : CpuId → Type 0) (here : P → Option A) (home truth : Option A) (x : A)
     → truth ≡ Some x → IsObserved Fits cpu_of IsInside here home truth → IsObservedAs Fits cpu_of IsInside here home x
 observed_as Fits cpu_of IsInside here home truth x is shown = record {
@@ -95,7 +96,7 @@ observed_as Fits cpu_of IsInside here home truth x is shown = record {
   somewhere = shown.somewhere;
 }
 
--- they tell a view of what those beneath tell of a block that there is
+-- they report a view of what the lower ones report of a block that exists
 pub view_read : {P Q A B : Type 0} (parts : PartsOn P Q) (view : A → B) (truth : Option A) (tells : P → Option A) (home : Option A) (x : B)
     → option_map view truth ≡ Some x → IsObserved parts.FitsP parts.cpu_below parts.MayHold tells home truth
     → IsObservedAs parts.FitsQ (λ q. parts.cpu_below (parts.below q)) parts.MayHold (λ q. option_map view (tells (parts.below q))) (option_map view home) x
@@ -103,7 +104,7 @@ view_read parts view truth tells home x is shown =
     observed_as parts.FitsQ _ parts.MayHold (λ q. option_map view (tells (parts.below q))) (option_map view home) (option_map view truth) x is
     (viewed_shown view parts.FitsQ _ parts.MayHold (λ q. tells (parts.below q)) home truth (option_map view truth) refl (shown_on parts tells home truth shown))
 
--- and what they tell of one as it is
+-- and what they report of one as it is
 pub read_on : {P Q A : Type 0} (parts : PartsOn P Q) (tells : P → Option A) (home : Option A) (x : A)
     → IsObserved parts.FitsP parts.cpu_below parts.MayHold tells home (Some x)
     → IsObservedAs parts.FitsQ (λ q. parts.cpu_below (parts.below q)) parts.MayHold (λ q. tells (parts.below q)) home x

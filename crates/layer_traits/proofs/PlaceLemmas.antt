@@ -1,5 +1,6 @@
--- Places under moves: what a move may do to a place, that moves of others leave a CPU's own alone, who stands in a pending queue,
--- and that each change of what a CPU has of its own keeps its agreement with the places.
+-- Places under moves: what a move may do to a place, and which threads are in a pending queue.
+-- Moves of others do not change a CPU's private state, and each change of that state keeps its
+-- agreement with the places.
 use Rattle.std.proofs.Common.{◌≡◌, ◌≢◌, ℕ, zero, suc, ◌+◌, ◌<◌, Bool, true, false, ◌&&◌, List, [], ◌∷◌, ◌++◌, Option, Some, None, MatchOption, IsSome}
 use Rattle.std.proofs.{Common.{if◌then◌else◌, refl, ap, sym, ◌∙◌, arith, zero-add, slice_get}, lemmas.Bool.and_parts}
 use Rattle.event_log.{specs.{declared.ids.{CpuId.CpuId, LockId.LockId, Tid.Tid}, History.{same_cpu, AreOthers}}, proofs.Same.{same_cpu_self, same_cpu_true}}
@@ -17,7 +18,7 @@ asleep_at : (w : Where) → is_asleep w ≡ true → (p : WaitChannel) × (w ≡
 asleep_at (Asleep p) asleep = (p, refl)
 asleep_at w asleep = absurd cc
 
--- a taking empties its own queue and leaves the others, and each hand, as they are
+-- a taking empties its own queue and leaves the other queues, and each hand, unchanged
 taken_count : (d e : CpuId) (t : Tid) (queue : List Tid) (w : Where) → count_in t queue ≡ one_if (is_pend d w)
     → count_in t (if same_cpu e d then [] else queue) ≡ one_if (is_pend d (where_taken e w))
 taken_count d e t queue w before = grind (arith, same_cpu_true)
@@ -25,7 +26,7 @@ taken_count d e t queue w before = grind (arith, same_cpu_true)
 taken_hand : (c d : CpuId) (w : Where) → is_hand d w ≡ is_hand d (where_taken c w)
 taken_hand c d w = grind arith
 
--- who was pending in the queue of its home is at home after a taking
+-- a thread that was pending in the queue of its home is on its home CPU after a taking
 taken_here : (c : CpuId) (home : Option CpuId) (w : Where) → ((d : CpuId) → w ≡ IsPending d → home ≡ Some d)
     → one_if (is_cpu c home && is_home w) + one_if (is_pend c w) ≡ one_if (is_cpu c home && is_home (where_taken c w))
 taken_here c home w at = grind (arith, same_cpu_sym)
@@ -35,14 +36,14 @@ pushed_count : (c d e : CpuId) (t u : Tid) (queue : List Tid) (w : Where) → (s
     → count_in t (if same_cpu e d then queue ++ u ∷ [] else queue) ≡ one_if (is_pend d (if same_tid u t then IsPending e else w))
 pushed_count c d e t u queue w held before = grind (arith, count_append, same_tid_sym)
 
--- a woken thread is in no queue, and in no hand but the waker's
+-- a woken thread is in no queue, and in no hand except the waker's
 woken_pending : (c d : CpuId) (home : Option CpuId) → is_pend d (where_woken c home) ≡ false
 woken_pending c d home = grind arith
 
 woken_hand : (c d : CpuId) (home : Option CpuId) → where_woken c home ≡ Hand d → c ≡ d
 woken_hand c d home is = grind arith
 
--- nor is it at home with another CPU
+-- nor does another CPU have it as its home CPU
 woken_elsewhere : (c d : CpuId) (home : Option CpuId) → same_cpu c d ≡ false
     → (is_hand d (where_woken c home) ≡ false) × ((is_cpu d home && is_home (where_woken c home)) ≡ (is_cpu d home && false))
 woken_elsewhere c d home other = grind (arith, is_cpu_other)
@@ -59,26 +60,26 @@ is_home_true w is = grind arith
 -- An edit: its caller may fall asleep, and then a sleeper may be woken.
 
 module _ (homes : List CpuId) (c : CpuId) (own : Threads) where
-  -- how often the CPU has a thread at home with it after the caller's sleep
+  -- how often the CPU has a thread on its home CPU after the caller's sleep
   slept_copies : (lock : LockId) (caller t : Tid) (w : Where) (slept : Option WaitList) → own.current ≡ Some caller
       → (same_tid caller t ≡ true → (count_in t own.ready ≡ 0) × (count_in t own.ended ≡ 0)) → copies own t ≡ one_if (is_cpu c (home_of homes t) && is_home w)
       → copies (own_slept slept own) t ≡ one_if (is_cpu c (home_of homes t) && is_home (if same_tid caller t then where_slept lock slept w else w))
   slept_copies lock caller t w slept runs once before = grind arith
 
-  -- and after the waking
+  -- and after the wake-up
   woken_copies : (t : Tid) (w : Where) (woke : Option Tid) → (is_thread t woke ≡ true → is_home w ≡ false)
       → copies own t ≡ one_if (is_cpu c (home_of homes t) && is_home w)
       → copies (own_woken homes c woke own) t ≡ one_if (is_cpu c (home_of homes t) && is_home (if is_thread t woke then where_woken c (home_of homes t) else w))
   woken_copies t w None away before = before
   woken_copies t w (Some u) away before = grind (arith, count_append t own.ready (u ∷ []), same_tid_true u t)
 
-  -- in the hand stands who was woken, where its home is elsewhere
+  -- the hand has the woken thread, if its home is another CPU
   moved_hand : (lock : LockId) (caller t : Tid) (w : Where) (slept : Option WaitList) (woke : Option Tid) → own.hand ≡ None → is_hand c w ≡ false
       → is_thread t (own_woken homes c woke (own_slept slept own)).hand
       ≡ is_hand c (if is_thread t woke then where_woken c (home_of homes t) else (if same_tid caller t then where_slept lock slept w else w))
   moved_hand lock caller t w slept woke empty before = grind (arith, same_tid_true)
 
--- who sleeps is not the caller
+-- a thread that sleeps is not the caller
 sleeper_away : (place : Tid → Where) (lock : LockId) (caller t : Tid) (slept : Option WaitList) (woke : Option Tid) → place caller ≡ Home
     → MatchOption woke (Unit {0}) (λ u. is_asleep (place u) ≡ true) → is_thread t woke ≡ true
     → is_home (if same_tid caller t then where_slept lock slept (place t) else place t) ≡ false
@@ -111,8 +112,8 @@ module _ (homes : List CpuId) where
           let sleeps_there = asleep_at (where_is homes past t) (rw (same_tid_true u t same) at sleeper) in
           rw sleeps_there.1 (wakes caller may.0.home sleeps_there.0)
 
-  -- what a move may do to a place: leave it, push from the hand into the queue of the home, take from the own queue home, wake, put
-  -- to sleep at home
+  -- what a move may do to a place: leave it, push from the hand into the home's queue, take from
+  -- the own queue to the home CPU, wake, put to sleep
   pub view_step : (past : List Step) (c : CpuId) (move : Move) (t : Tid) (P : Where → Where → Type 0)
       → MayMove homes past c move → ((w : Where) → P w w)
       → ((home : CpuId) → home_of homes t ≡ Some home → P (Hand c) (IsPending home))
@@ -137,12 +138,12 @@ module _ (homes : List CpuId) where
   view_step past c (Moved lock caller slept woke) t P may stays pushes takes wakes sleeps = view_moved past c lock caller slept woke t P may stays wakes sleeps
   view_step past c Still t P may stays pushes takes wakes sleeps = stays (where_is homes past t)
 
-  -- who is pending is so at home
+  -- a pending thread is pending at its home
   pub pend_home : (moves : List Step) (t : Tid) (d : CpuId) → AreMoves homes moves → where_is homes moves t ≡ IsPending d → home_of homes t ≡ Some d
   pend_home [] t d legal is = absurd cc
   pend_home (s ∷ past) t d legal is = grind (arith, pend_home past t d legal.1, woken_pending, same_cpu_self)
 
-  -- who is away from home has one
+  -- a thread that is not on its home CPU has a home
   pub away_known : (moves : List Step) (t : Tid) → AreMoves homes moves → is_home (where_is homes moves t) ≡ false → IsSome (home_of homes t)
   away_known [] t legal away = absurd cc
   away_known (s ∷ past) t legal away = grind (arith, away_known past t legal.1)
@@ -159,7 +160,8 @@ module _ (homes : List CpuId) where
       (λ home p before now. absurd cc)
       (hand_home past t d legal.1) is
 
-  -- moves of others leave alone who stands in a CPU's hand and who stands at home with it
+  -- moves of others do not change which thread is in a CPU's hand and which threads are on it as
+  -- their home CPU
   step_keeps : (d : CpuId) (past : List Step) (c : CpuId) (move : Move) (t : Tid) → AreMoves homes past → MayMove homes past c move → same_cpu c d ≡ false
       → (is_hand d (where_is homes (step_with c move ∷ past) t) ≡ is_hand d (where_is homes past t))
       × (is_here homes d (step_with c move ∷ past) t ≡ is_here homes d past t)
@@ -173,7 +175,7 @@ module _ (homes : List CpuId) where
       let before = others_keep d others old t foreign.1 legal.1 in
       (here.0 ∙ before.0, here.1 ∙ before.1)
 
-  -- so what a CPU has of its own agrees with the places whatever others do
+  -- a CPU's private state therefore agrees with the places under environment steps
   pub stands_others : (d : CpuId) (others old : List Step) (own : Threads) → AreOthers cpu_of_step d others → AreMoves homes (others ++ old)
       → Stands homes d old own → Stands homes d (others ++ old) own
   stands_others d others old own foreign legal stands = record {
@@ -181,7 +183,7 @@ module _ (homes : List CpuId) where
     hand = λ t. stands.hand t ∙ sym (others_keep d others old t foreign legal).0;
   }
 
-  -- each thread stands in a pending queue as often as it stands there by its place: once or not at all
+  -- each thread is in a pending queue as often as its place says: once or not at all
   pub pend_count : (moves : List Step) → AreMoves homes moves → (d : CpuId) (t : Tid)
       → count_in t (pending_by moves d) ≡ one_if (is_pend d (where_is homes moves t))
   pend_count [] legal d t = refl
@@ -202,9 +204,9 @@ module _ (homes : List CpuId) where
       let some = in_counted t (pending_by moves d) is in
       is_pend_true d (where_is homes moves t) (grind (arith, counts, some))
 
-  -- What a CPU has of its own, where it agrees with the places.
+  -- A CPU's private state that agrees with the places.
   module _ (c : CpuId) (moves : List Step) (own : Threads) (legal : AreMoves homes moves) (stands : Stands homes c moves own) where
-    -- a thread that this CPU has among its own once stands at home with it
+    -- a thread that this CPU has among its own once is on its home CPU
     here : (t : Tid) → is_here homes c moves t ≡ true → (home_of homes t ≡ Some c) × (where_is homes moves t ≡ Home)
     here t is = grind (arith, and_parts, is_cpu_true, is_home_true)
 
@@ -281,7 +283,7 @@ stands_boot homes c = record {
   hand = λ t. refl;
 }
 
--- Homes, and who runs after a wake.
+-- Homes, and which thread runs after a wake-up.
 
 pub home_there : (c : CpuId) (o : Option CpuId) → IsSome o → o ≡ Some (or_else c o)
 home_there c o there = grind arith

@@ -1,12 +1,14 @@
--- A layer that wraps its edits in those of the layer beneath: its blocks and replies are views of those there, under the layer's own names.
+-- A layer that wraps its edits in those of the lower layer: its blocks and replies are views of the
+-- lower ones, under the layer's own names.
 use Rattle.std.proofs.Common.{◌≡◌, List, [], ◌∷◌, Option, option_map, map, refl, ap, sym, ◌∙◌, arith}
 use Rattle.event_log.specs.{declared.ids.{CpuId.CpuId, LockId.LockId}, Actions.{Action, Phase, phase, renamed}, Sections.{Section, renamed_section}}
 use Rattle.{event_log.{specs.Sections.{sections_in, block_after}, proofs.Renaming.{phase_renamed, sections_in_renamed}}, layer_traits.specs.Polling.Plans.Table}
 use Rattle.layer_traits.specs.Polling.Plans.{at_give, reply}
 pub use Rattle.std.proofs.lemmas.List.{map-append}
 
--- A table stands on the one beneath: its names, blocks and answers are made of those there, and edits and answers agree. M, A and Q
--- are the names, blocks and answers beneath, and N, B and R those of the layer.
+-- A table is over a lower one: its names, blocks and results are made of the lower ones, and edits
+-- and results agree. M, A and Q are the names, blocks and results of the lower table, and N, B and
+-- R those of the layer.
 pub record StandsOn {M N A B Q R : Type 0} (low : Table M A Q) (high : Table N B R) : Type 0 where
   pub name : M → N
   pub view : A → B
@@ -20,7 +22,7 @@ module _ {M N A B Q R : Type 0} (low : Table M A Q) (high : Table N B R) (stands
   viewed_answer : (m : M) (block : Option A) → option_map told (option_map (low.answer m) block) ≡ option_map (high.answer (name m)) (option_map view block)
   viewed_answer m block = grind (arith, answers)
 
-  -- the layer's block is its view of the block beneath
+  -- the layer's block is its view of the lower layer's block
   pub block_viewed : (lock : LockId) (past : List (Section M))
       → block_after high.edited (λ l. option_map view (opening l)) lock (map (renamed_section name) past)
       ≡ option_map view (block_after low.edited opening lock past)
@@ -30,7 +32,7 @@ module _ {M N A B Q R : Type 0} (low : Table M A Q) (high : Table N B R) (stands
   at_give_mapped : (p : Phase) (answer : Option Q) → option_map told (at_give p answer) ≡ at_give p (option_map told answer)
   at_give_mapped p answer = grind arith
 
-  -- and its reply is what the reply beneath tells
+  -- and its reply is what the lower reply means
   pub reply_viewed : (cpu : CpuId) (lock : LockId) (m : M) (past : List (Action M))
       → option_map told (reply low opening cpu lock m past) ≡ reply high (λ l. option_map view (opening l)) cpu lock (name m) (map (renamed name) past)
   reply_viewed cpu lock m past =

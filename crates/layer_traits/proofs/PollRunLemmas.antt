@@ -1,4 +1,5 @@
--- Runs of polls: what a run keeps, and that a call that was quiet so far may be polled again.
+-- Consecutive polls: what they keep, and that a call without an end and an effect so far may be
+-- polled again.
 use Rattle.std.proofs.Common.{◌≡◌, ◌≢◌, ◌⊎◌, ℕ, ◌+◌, ◌<◌, ◌≤◌, List, Option, Some, None, is_some, length, refl, ap, sym, ◌∙◌, subst, arith}
 use Rattle.std.proofs.Math.Nat.{lt_of_not-le}
 use Rattle.{event_log.specs.declared.ids.{CpuId.CpuId, Tid.Tid}, layer_traits.specs.declared.calls.{Call.Call, Effect.Effect, Reply.Reply, ReplyKind.ReplyKind}}
@@ -7,7 +8,7 @@ use Rattle.layer_traits.specs.Layers.BufferLaw.{BufferPlan, Buffering, Calling, 
 use Rattle.layer_traits.specs.{Layers.BufferLaw.{call_state_of, going, going_at, still_calling}, Views.OwnParts.threads_in, Polling.Framed.Framed}
 use Rattle.layer_traits.specs.Polling.{LayerPolls.{IsBegunAt, LookedOnAt, PolledAt, PolledOnAt}, PollRuns.{LookedOn, once, again, looks}}
 
--- a call that has begun goes on as it is
+-- a call that has begun continues unchanged
 going_begun_at : (stage : Stage) (call_state : CallState) (call : Call) → begun_at stage call_state.call ≡ Some call
     → going_at stage call_state call ≡ call_state
 going_begun_at stage call_state call is = grind (arith, is)
@@ -22,7 +23,7 @@ pub may_go_on : (call_state : CallState) (call : Call) → begun_of call_state �
 may_go_on call_state call is =
     ap (λ (x : CallState). x.call) (going_begun call_state call is) ∙ begun_is_at call_state.stage call_state call is
 
--- a call that has not ended and whose thread runs is under way
+-- a call that has not ended and whose thread runs is pending
 still_called : (t : Tid) (current : Option Tid) (under_way : Option UnderWay) → current ≡ Some t → under_way ≡ still_calling t current None
     → under_way ≡ Some (Calling t)
 still_called t current under_way runs is = is ∙ ap (λ (u : Option Tid). still_calling t u None) runs
@@ -30,7 +31,7 @@ still_called t current under_way runs is = is ∙ ap (λ (u : Option Tid). still
 still_runs : {A : Type 0} (t : Tid) (current : Option Tid) → (current ≡ Some t) ⊎ ((current ≡ None) × A) → current ≢ None → current ≡ Some t
 still_runs t current either runs = grind (arith, either)
 
--- where a poll leaves a call with an effect just where it had one, it is the same
+-- if a poll leaves a call with an effect exactly if it had one, it is the same
 effect_kept : (call : Call) (old new mine : Option Effect) → ((f : Effect) → mine ≡ Some f → (old ≡ None) × (new ≡ Some f) × IsEffectOf call f)
     → (mine ≡ None → new ≡ old) → is_some new ≡ is_some old → new ≡ old
 effect_kept call old new None fresh stays same = stays refl
@@ -39,14 +40,14 @@ effect_kept call old new (Some f) fresh stays same = absurd (let both = fresh f 
 room_on : (k a b c : ℕ) → a ≤ b + k → b ≤ c + 1 → a ≤ c + (k + 1)
 room_on k a b c first second = omega arith
 
--- looks leave what the part tells of its CPU
+-- polls of the lock leave what the part reports of its CPU
 pub looks_keep : {P L M : Type 0} (I : Ghosts P L M) (plan : ℕ → List CpuId → CpuId → Tid → Call → Buffering → BufferPlan Reply) {p : P} {m : M} {j k : ℕ}
     {q : P} {n : M} → LookedOnAt I plan p m j k q n → (I.own q ≡ I.own p) × (I.is_inside q ≡ I.is_inside p)
 looks_keep I plan LookedOn.none = (refl, refl)
 looks_keep I plan (LookedOn.more looked last) = let so_far = looks_keep I plan looked in (last.own ∙ so_far.0, last.inside ∙ so_far.1)
 
 module _ {P L M : Type 0} (I : Ghosts P L M) (plan : ℕ → List CpuId → CpuId → Tid → Call → Buffering → BufferPlan Reply) (t : Tid) (call : Call) where
-  -- what a run of so many actions keeps
+  -- what so many consecutive actions keep
   pub record Kept (p : P) (m : M) (actions : ℕ) (q : P) (n : M) : Type 0 where
     pub fits : I.Fits q n
     pub cpu : I.cpu_of q ≡ I.cpu_of p
@@ -82,7 +83,7 @@ module _ {P L M : Type 0} (I : Ghosts P L M) (plan : ℕ → List CpuId → CpuI
     holders = λ c other acts held. first.holders c other acts (second.holders c (λ same. other (same ∙ first.cpu)) (first.acts c acts) held);
   }
 
-  -- a run keeps the frame of each of its actions
+  -- consecutive actions keep the frame of each of them
   pub run_kept : (p : P) (m : M) (actions : ℕ) (q : P) (n : M) (told : Option ReplyKind) → PolledOnAt I plan t call p m actions q n told → Kept p m actions q n
   run_kept p m _ q n told (once polled) = kept_by p q m n polled.framed
   run_kept p m _ r o told (again {k = k} {q = q} {n = n} run quiet polled) =
@@ -90,7 +91,7 @@ module _ {P L M : Type 0} (I : Ghosts P L M) (plan : ℕ → List CpuId → CpuI
   run_kept p m _ r o _ (looks {k = k} {q = q} {n = n} run quiet looked) =
       kept_on k (run_kept p m k q n None run) (kept_by q r n o looked.framed)
 
-  -- the call is under way
+  -- the call is pending
   pub record IsOn (q : P) : Type 0 where
     pub under_way : I.under_way q ≡ Some (Calling t)
     pub begun : begun_of (call_state_of (I.own q).call_states t) ≡ Some call
@@ -105,7 +106,7 @@ module _ {P L M : Type 0} (I : Ghosts P L M) (plan : ℕ → List CpuId → CpuI
     begun = (polled.called (there p q m n polled)).answers;
   }
 
-  -- after a run with no reply in which the thread runs its call is under way
+  -- after actions with no reply, after which the thread runs, its call is pending
   pub is_on : (p : P) (m : M) (actions : ℕ) (q : P) (n : M) → PolledOnAt I plan t call p m actions q n None → (threads_in (I.own q)).current ≡ Some t → IsOn q
   is_on p m _ q n (once polled) runs = on_by p q m n polled runs
   is_on p m _ r o (again {q = q} {n = n} run quiet polled) runs = on_by q r n o polled runs
@@ -116,7 +117,7 @@ module _ {P L M : Type 0} (I : Ghosts P L M) (plan : ℕ → List CpuId → CpuI
         begun = ap (λ (o : Buffering). begun_of (call_state_of o.call_states t)) looked.own ∙ on.begun;
       }
 
-  -- what a poll of the call asks of its part and machine
+  -- what a poll of the call requires of its part and machine
   pub record MayPoll (p : P) (m : M) : Type 0 where
     pub fits : I.Fits p m
     pub runs : (threads_in (I.own p)).current ≡ Some t
@@ -124,7 +125,7 @@ module _ {P L M : Type 0} (I : Ghosts P L M) (plan : ℕ → List CpuId → CpuI
     pub same : MayPollCall (call_state_of (I.own p).call_states t) call
     pub goes_on : MayGoOn (I.under_way p) (Calling t)
 
-  -- so far nothing was done, or the call was quiet
+  -- so far nothing was done, or the call had no end and no effect
   pub data SoFar (p : P) (m : M) : ℕ → P → M → Type 0 where
     nothing_yet : SoFar p m 0 p m
     quiet_yet : {k : ℕ} {q : P} {n : M} → 0 < k → PolledOnAt I plan t call p m k q n None → IsBegunAt I plan t call p q → SoFar p m k q n
@@ -154,7 +155,8 @@ module _ {P L M : Type 0} (I : Ghosts P L M) (plan : ℕ → List CpuId → CpuI
   one_more p m _ _ _ r o told nothing_yet polled = once polled
   one_more p m _ q n r o told (quiet_yet some run quiet) polled = again run quiet polled
 
-  -- looks behind a run leave the call quiet, and are part of it
+  -- polls of the lock after such actions leave the call without an end and an effect, and are among
+  -- the actions
   pub quiet_after_looks : {p q : P} {n : M} {j k : ℕ} {r : P} {o : M} → IsBegunAt I plan t call p q → LookedOnAt I plan q n j k r o
       → IsBegunAt I plan t call p r
   quiet_after_looks quiet looked =
@@ -169,14 +171,15 @@ module _ {P L M : Type 0} (I : Ghosts P L M) (plan : ℕ → List CpuId → CpuI
   more_looks run quiet LookedOn.none = run
   more_looks run quiet (LookedOn.more looked last) = looks (more_looks run quiet looked) (quiet_after_looks quiet looked) last
 
-  -- the effect with which the next poll goes on is that of the call when the run began
+  -- the effect with which the next poll continues is that of the call when the actions began
   pub same_effect : (p : P) (m : M) (actions : ℕ) (q : P) (n : M) → SoFar p m actions q n
       → (going (call_state_of (I.own q).call_states t) call).effect ≡ (going (call_state_of (I.own p).call_states t) call).effect
   same_effect p m _ _ _ nothing_yet = refl
   same_effect p m _ q n (quiet_yet {k = k} some run quiet) =
       ap (λ (x : CallState). x.effect) (going_begun (call_state_of (I.own q).call_states t) call (is_on p m k q n run quiet.runs).begun) ∙ quiet.effect
 
-  -- a poll after which the thread runs, and the call has had its effect just where it had it at the start, leaves it quiet
+  -- a poll after which the thread runs leaves the call without an end and a further effect, if the
+  -- call has an effect exactly if it had it at the start
   pub quiet_after_poll : (p : P) (m : M) (actions : ℕ) (q : P) (n : M) (r : P) (o : M) → SoFar p m actions q n → PolledAt I plan t call q n r o None
       → (threads_in (I.own r)).current ≢ None
       → is_some (call_state_of (I.own r).call_states t).effect ≡ is_some (going (call_state_of (I.own p).call_states t) call).effect

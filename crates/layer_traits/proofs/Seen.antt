@@ -1,4 +1,5 @@
--- What a CPU knows of a history that foreign events lengthen: where it is, its block, and that its section stays allowed.
+-- What a CPU knows of a history that environment events lengthen: where it is, its block, and that
+-- its section stays allowed.
 use Rattle.std.proofs.Common.{◌≡◌, List, [], ◌∷◌, ◌++◌, sym, subst, append_assoc}
 use Rattle.event_log.specs.{declared.{ids.CpuId.CpuId, events.Event.{Event, TheVariants.{Draw, Look, Free}}}, History.{IsLawful, AreOthers}}
 use Rattle.event_log.{specs.{WordsLog.cpu_of_event, Sections.{Section, cpu_of_section}}, proofs.Foreign.{sections_of-append, others_sections_of}}

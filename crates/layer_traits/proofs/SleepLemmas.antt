@@ -5,7 +5,7 @@ use Rattle.layer_traits.specs.{declared.{scheds.SchedAnswer.{SchedAnswer, TheVar
 use Rattle.layer_traits.specs.Layers.{Queues.{Kernel, out_at}, Scheds.{SchedPolled, own_answered}, SleepLaw.{Sleeping, SleepPolled, WaitsStill, Does}}
 use Rattle.layer_traits.specs.Layers.SleepLaw.{SendsHome, due, done_if, left_done, left_reported}
 
--- an outcome is kept exactly while a thread stands in the hand
+-- an outcome is deferred exactly while a thread is in the hand
 abbrev pub HandDefers : {O : Type 0} → Option Tid → Option (Outcome O) → Type 0
 HandDefers None None = Unit {0}
 HandDefers (Some t) (Some outcome) = Unit {0}
@@ -20,7 +20,7 @@ module _ {E B O : Type 0} (k : Kernel E B (Outcome O)) (b : BufId) (e : E) where
   no_answer : (past : List (QueueEvent E)) → option_map Answer (out_at k past b e) ≡ Some Done → ⊥
   no_answer past answers = grind (arith, answers)
 
-  -- what the scheduler's poll did is a poll here, and leaves what its answer tells
+  -- what the scheduler's poll did is a poll here, and leaves what its result means
   pub sleep_polled : (ActsFor : CpuId → Type 0) (c : CpuId) (old new : List (QueueEvent E)) (own : Sleeping O) (own' : Threads) (hand : Option Tid)
       (deferred : Option (Outcome O)) (answer : Option (SchedAnswer (Outcome O))) → own.threads.hand ≡ hand → own.deferred ≡ deferred → HandDefers hand deferred
       → SchedPolled k ActsFor c (due hand b e) answer old new own.threads own' → SleepPolled k ActsFor c b e old new own (left_reported deferred own' answer)
@@ -54,6 +54,6 @@ module _ {E B O : Type 0} (k : Kernel E B (Outcome O)) (b : BufId) (e : E) where
   sleep_polled ActsFor c old new own own' (Some t) (Some outcome) (Some (Answer out)) in_hand is_deferred fits polled = let other = polled.answers in absurd cc
   sleep_polled ActsFor c old new own own' hand deferred (Some answer) in_hand is_deferred fits polled = absurd fits
 
--- whether a pass is done, told as an answer of the scheduler
+-- whether a pass is done, as a result of the scheduler
 pub done_same : (O : Type 0) (result : Option (Unit {0})) → is_some (done_if {O = O} result) ≡ is_some result
 done_same O result = grind arith

@@ -1,5 +1,5 @@
--- A layer that wraps its edits in those of a sleeping layer beneath: a poll and a plan there are a poll and a plan here, under the
--- layer's own names.
+-- A layer that wraps its edits in those of a lower sleeping layer. A poll and a plan there are a
+-- poll and a plan here, under the layer's own names.
 use Rattle.std.proofs.Common.{◌≡◌, List, ◌++◌, Option, ap, ◌∙◌, subst, arith}
 use Rattle.{event_log.specs.declared.ids.{BufId.BufId, CpuId.CpuId, Tid.Tid}, layer_traits.specs.declared.{passes.Pass.Pass, queues.QueueEvent.QueueEvent}}
 use Rattle.layer_traits.specs.{declared.sleeps.Outcome.Outcome, Polling.Plans.Left, Layers.{Queues.Kernel, SleepLaw.{PollResult, MayDo, SleepPolled, Sleeping}}}
@@ -22,7 +22,7 @@ module _ {D E A B O : Type 0} (k : Kernel D A (Outcome O)) (j : Kernel E B (Outc
       → left_with k c b d poll_result own ≡ left_with j c b (name d) poll_result own
   left_renamed c b d poll_result own = grind (arith, answered_renamed)
 
-  -- a poll beneath is a poll here
+  -- a poll of the lower layer is a poll here
   pub sleeps_renamed : (ActsFor : CpuId → Type 0) (c : CpuId) (b : BufId) (d : D) (old new : List (QueueEvent D)) (own : Sleeping O)
       (got : Left (Sleeping O) (Outcome O))
       → SleepPolled k ActsFor c b d old new own got → SleepPolled j ActsFor c b (name d) (renamed_events name old) (renamed_events name new) own got
@@ -42,7 +42,7 @@ module _ {D E A B O : Type 0} (k : Kernel D A (Outcome O)) (j : Kernel E B (Outc
   due_renamed : (hand : Option Tid) (b : BufId) (d : D) → renamed_sched name (due hand b d) ≡ due hand b (name d)
   due_renamed hand b d = grind arith
 
-  -- the plan beneath is the plan here
+  -- the plan of the lower layer is the plan here
   pub sleep_plan_renamed : (h : List CpuId) (c : CpuId) (b : BufId) (d : D) (own : Sleeping O)
       → plan_named (renamed_edit name) (sleep_plan k.moves h c b d own) ≡ sleep_plan j.moves h c b (name d) own
   sleep_plan_renamed h c b d own = grind (arith, named_raised, plan_renamed, due_renamed)

@@ -1,11 +1,12 @@
--- Looks that all missed change no CPU's phase or spot and no section, and are the same looks under other names.
+-- Failed polls change no CPU's phase or ticket index and no section, and are the same polls under
+-- other names.
 use Rattle.std.proofs.Common.{◌≡◌, ℕ, zero, suc, ◌<◌, ◌%◌, false, List, ◌∷◌, ◌++◌, map, replicate, refl, ap, ◌∙◌, arith}
 use Rattle.event_log.specs.declared.{ids.{CpuId.CpuId, LockId.{LockId, TheVariants.Pending}, TheConstants.CPUS}, events.Event.{Event, TheVariants.Look}}
 use Rattle.event_log.specs.{declared.grants.GrantEvent.{GrantEvent, TheVariants.Peek}, Actions.{Action, Try, Waits, phase, renamed, spot_of}, Grants.grant_word}
 use Rattle.{event_log.{specs.Sections.sections_in, proofs.{Same.same_cpu_true, Renaming.phase_renamed}}, layer_traits.specs.Protocols.AsGrants.as_grants}
 use Rattle.layer_traits.specs.Polling.Spins.{Misses}
 
--- no look is none that hit
+-- zero polls are failed polls
 pub none_missed : {N : Type 0} (cpu : CpuId) (acts : List (Action N)) → Misses cpu 0 acts acts
 none_missed cpu acts = record { lock = Pending cpu; waits = λ some. absurd (omega arith); grows = refl }
 
@@ -28,7 +29,7 @@ module _ {N : Type 0} (cpu : CpuId) (lock : LockId) (old : List (Action N)) wher
   same_sections zero = refl
   same_sections (suc looks) = same_sections looks
 
--- what looks that all missed leave
+-- what failed polls leave
 pub record LeftSame {N : Type 0} (old new : List (Action N)) : Type 0 where
   pub phases : (c : CpuId) → phase c new ≡ phase c old
   pub spots : (c : CpuId) → spot_of c new ≡ spot_of c old
@@ -46,7 +47,7 @@ missed_renamed : {M N : Type 0} (name : M → N) (cpu : CpuId) (lock : LockId) (
 missed_renamed name cpu lock old zero = refl
 missed_renamed name cpu lock old (suc looks) = ap (λ l. Try cpu lock false ∷ l) (missed_renamed name cpu lock old looks)
 
--- under other names they are the same looks
+-- under other names they are the same polls
 pub misses_renamed : {M N : Type 0} (name : M → N) (cpu : CpuId) (looks : ℕ) (old new : List (Action M)) → Misses cpu looks old new
     → Misses cpu looks (map (renamed name) old) (map (renamed name) new)
 misses_renamed name cpu looks old new misses = record {
@@ -64,7 +65,7 @@ module _ {M : Type 0} (cpu : CpuId) (lock : LockId) (ticket read : ℕ) (old : L
   word_peeked read_here zero past = refl
   word_peeked read_here (suc looks) past = word_peeked read_here looks past
 
-  -- looks, told as peeks
+  -- polls of `serving`, translated into polls of a grant word
   pub as_peeks : (looks : ℕ) → as_grants (replicate looks (Look cpu lock ticket read) ++ old) ≡ replicate looks (Peek cpu lock ticket shown) ++ as_grants old
   as_peeks zero = refl
   as_peeks (suc looks) = grind (arith, as_peeks looks, word_peeked)

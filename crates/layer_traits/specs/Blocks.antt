@@ -1,4 +1,4 @@
--- What locks guard: queues, buffers and what lies in them, and what edits make of it.
+-- What locks guard: queues, buffers and their contents, and what edits make of it.
 pub mod QueueBlocks
 pub mod QueueRules
 pub mod BufferBlocks

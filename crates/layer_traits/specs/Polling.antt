@@ -1,4 +1,4 @@
--- What one poll adds and leaves, polls and looks one after the other, and plans of polls.
+-- What one poll adds and leaves, consecutive polls, and plans of polls.
 pub mod Polls
 pub mod Framed
 pub mod Plans

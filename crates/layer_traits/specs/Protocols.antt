@@ -1,4 +1,4 @@
--- Which CPU may come to a lock after which sections, and what its words' logs say of that.
+-- Which CPU may do a section at a lock after which sections, and what its words' logs say of that.
 pub mod Protocol
 pub mod WordsProtocol
 pub mod GrantProtocol

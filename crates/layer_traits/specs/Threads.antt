@@ -1,4 +1,4 @@
--- Where threads stand, and how a CPU passes from one to another.
+-- The places of threads, and the scheduling operations of a CPU.
 pub mod Places
 pub mod MoveRules
 pub mod Passes

@@ -1,4 +1,4 @@
--- What a machine and its parts tell, and how a layer sees the one beneath it.
+-- What a machine and its parts report, and the view that a layer has of the lower one.
 pub mod Acted
 pub mod Renaming
 pub mod OwnParts

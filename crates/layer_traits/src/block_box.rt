@@ -1,6 +1,6 @@
-//! Boxes: blocks behind a pointer, so that who hands a block on moves one pointer.
+//! Boxes: blocks stored in separate memory, so that passing a block on moves one pointer.
 //!
-//! Only `BlockBox::new` takes memory, and no call waits.
+//! Only `BlockBox::new` allocates memory, and no call waits.
 
 ghost use Rattle.std.specs.Prelude.{◌≡◌, ◌<◌, ◌++◌, ◌∷◌, [], false, IfOk};
 ghost use Rattle.{event_log.specs.declared.ids.TheConstants.THREADS, thread_blocks.specs.Queues.is_in};
@@ -12,7 +12,7 @@ use std::alloc::Global;
 use std::marker::Model;
 use thread_blocks::{ThreadList, ThreadQueue};
 
-/// A block behind a pointer: to move it moves no content. It is seen as what it holds.
+/// A pointer to a block: moving the box moves no content. Its view is its content.
 #[derive(Drop)]
 pub struct BlockBox<B> {
     content: Box<B>,
@@ -25,9 +25,9 @@ impl<B> Model for BlockBox<B> {
 }
 
 impl<B: Drop> BlockBox<B> {
-    /// A box that holds `block`.
+    /// Returns a box that holds `block`.
     ///
-    /// Errors: `NoMemory` where there is none for it; then `block` is gone.
+    /// Errors: `NoMemory` if the allocation failed; then `block` is gone.
     pub fn new(alloc: Global, block: B) -> Result<BlockBox<B>, NoMemory>
         ensures { IfOk result (λ r. r ≡ block) }
     {
@@ -35,7 +35,7 @@ impl<B: Drop> BlockBox<B> {
         Ok(BlockBox { content })
     }
 
-    /// What the box holds.
+    /// Returns what the box holds.
     pub fn content(&self) -> &B
         ensures { result.now ≡ self.now }
     {
@@ -43,7 +43,8 @@ impl<B: Drop> BlockBox<B> {
     }
 }
 
-/// Edits what the box holds as is meant, and gives what brings the edit's answer. Takes no memory.
+/// Performs on the content the edit that `handed` means, and returns the passed-back form of the
+/// edit's result. It is given no allocator.
 #[inline(always)]
 pub fn edit_in_box<E: SplitEdit>(
     boxed: &mut BlockBox<E::Block>,
@@ -56,9 +57,9 @@ pub fn edit_in_box<E: SplitEdit>(
     E::apply_handed(handed, &mut boxed.content, payload)
 }
 
-/// Puts `t` behind the others of the queue that the box holds.
+/// Appends `t` to the queue that the box holds.
 ///
-/// Requires: `t` is below `THREADS`, and does not stand in the queue.
+/// Requires: `t` is below `THREADS`, and is not in the queue.
 #[inline(always)]
 pub fn push_in(boxed: &mut BlockBox<ThreadQueue>, t: Tid)
     requires known { t.0 < THREADS }
@@ -68,8 +69,8 @@ pub fn push_in(boxed: &mut BlockBox<ThreadQueue>, t: Tid)
     boxed.content.push(t);
 }
 
-/// Takes all threads of the queue that the box holds into `taken`, in place of those that lay there, and
-/// leaves the queue empty.
+/// Moves all threads of the queue that the box holds into `taken`, in place of those that were
+/// there, and leaves the queue empty.
 #[inline(always)]
 pub fn take_from(boxed: &mut BlockBox<ThreadQueue>, taken: &mut ThreadList)
     ensures all { taken.new ≡ boxed.old }

@@ -1,6 +1,6 @@
-//! A buffer's block: its lines, its items, whether it is closed, and its counters.
+//! A buffer's block: its two queues of threads, its items, whether it is closed, and its counters.
 //!
-//! No call takes memory, and none waits.
+//! No call is given an allocator, and none waits.
 
 ghost use Rattle.std.specs.Prelude.{◌≡◌, ◌≤◌, ◌++◌, ◌∷◌, [], if◌then◌else◌};
 ghost use Rattle.{event_log.specs.declared.ids.TheConstants.CAPACITY, layer_traits.specs.declared.buffer_edits.BufferEdit.TheVariants.{Enter, TryPut, TryTake}};
@@ -17,9 +17,9 @@ use event_log::{CAPACITY, Kind, Msg, Ring, THREADS, Tid};
 use std::marker::Model;
 use thread_blocks::ThreadQueue;
 
-/// What the lock of a buffer guards: who stands in line to receive and to send, the items, whether
-/// it is closed, and how many effects, entries of each line and closes there were, modulo 2^64. No
-/// edit of it takes memory.
+/// What the lock of a buffer guards: the queues of receiving and of sending threads, the items, and
+/// whether the buffer is closed. It also counts the effects, the entries of each queue and the
+/// closes, modulo 2^64. No edit of it allocates memory.
 #[derive(Drop)]
 pub struct BufferBlock {
     receive_line: ThreadQueue,
@@ -55,7 +55,7 @@ impl Model for BufferBlock {
 }
 
 impl BufferBlock {
-    /// An empty buffer with room for `capacity` items.
+    /// Returns an empty buffer with room for `capacity` items.
     ///
     /// Requires: `capacity` is at most `CAPACITY`.
     pub fn new(capacity: usize) -> BufferBlock
@@ -75,35 +75,35 @@ impl BufferBlock {
         }
     }
 
-    /// The items, first in front.
+    /// Returns the items, front first.
     pub fn items(&self) -> ArrayVec<Msg, CAPACITY>
         ensures { result.items ≡ self.now.items }
     {
         self.items.items()
     }
 
-    /// Whether the buffer is closed.
+    /// Returns whether the buffer is closed.
     pub fn is_closed(&self) -> bool
         ensures { result ≡ self.now.closed }
     {
         self.closed
     }
 
-    /// Whether there is room for one more item, or the buffer is closed.
+    /// Returns whether there is room for one more item, or the buffer is closed.
     fn may_put(&self) -> bool
         ensures { result ≡ may_go Senders self.now }
     {
         self.closed || self.items.len() < self.capacity
     }
 
-    /// Whether there is an item, or the buffer is closed.
+    /// Returns whether there is an item, or the buffer is closed.
     fn may_take(&self) -> bool
         ensures { result ≡ may_go Receivers self.now }
     {
         self.closed || 0 < self.items.len()
     }
 
-    /// Lets `t` enter the line of this side, and lays down its position in it.
+    /// Puts `t` into the queue of this side, and stores its position in `parcel`.
     fn enter(&mut self, t: Tid, side: Side, parcel: &mut Parcel) -> BareBufferOut
         ensures block { self.new ≡ buffer_edited (Enter t side) self.old }
         ensures answer { buffer_told result parcel.new ≡ buffer_answer (Enter t side) self.old }
@@ -128,8 +128,8 @@ impl BufferBlock {
         }
     }
 
-    /// Puts the message beside it for `t`, where it stands first in the send line and there is room; a closed
-    /// buffer takes no message, and tells `t` that it is closed.
+    /// Puts the message of `parcel` for `t`, if `t` is the first sender and there is room. A closed
+    /// buffer takes no message, and the result says so.
     fn put(&mut self, t: Tid, parcel: &mut Parcel) -> BareBufferOut
         ensures block { self.new ≡ buffer_edited (TryPut t parcel.old.message) self.old }
         ensures answer { buffer_told result parcel.new ≡ buffer_answer (TryPut t parcel.old.message) self.old }
@@ -151,8 +151,8 @@ impl BufferBlock {
         BareBufferOut::Done(Kind::Send)
     }
 
-    /// Takes the first item for `t`, and lays it down, where it stands first in the receive line and
-    /// there is one; a buffer that is closed and has none tells `t` that it is closed.
+    /// Takes the first item for `t` into `parcel`, if `t` is the first receiver and there is an
+    /// item. If the buffer is closed and empty, the result says so.
     fn take(&mut self, t: Tid, parcel: &mut Parcel) -> BareBufferOut
         ensures block { self.new ≡ buffer_edited (TryTake t) self.old }
         ensures answer { buffer_told result parcel.new ≡ buffer_answer (TryTake t) self.old }
@@ -179,8 +179,8 @@ impl BufferBlock {
         }
     }
 
-    /// Closes the buffer, which may be closed already, and lays down how many effects and how many
-    /// closes it had before.
+    /// Closes the buffer, which may be closed already, and stores in `parcel` how many effects and
+    /// how many closes it had before.
     fn shut(&mut self, t: Tid, parcel: &mut Parcel) -> BareBufferOut
         ensures block { self.new ≡ buffer_edited (Shut t) self.old }
         ensures answer { buffer_told result parcel.new ≡ buffer_answer (Shut t) self.old }
@@ -195,7 +195,7 @@ impl BufferBlock {
         BareBufferOut::WasShut
     }
 
-    /// The front of this side's line, where it may go on.
+    /// Returns the thread at the head of this side's queue, if it may proceed.
     fn ready(&self, side: Side) -> Option<Tid>
         ensures { result ≡ front_ready side self.now }
     {
@@ -218,7 +218,7 @@ impl BufferBlock {
     }
 }
 
-/// Puts `t` at the end of `line`, where it may join it, and tells whether it did.
+/// Appends `t` to `line`, if it may join it, and returns whether it did.
 fn join(line: &mut ThreadQueue, t: Tid) -> bool
     ensures joins { result ≡ may_join t line.old }
     ensures line { line.new ≡ (if result then line.old ++ t ∷ [] else line.old) }
@@ -233,7 +233,7 @@ fn join(line: &mut ThreadQueue, t: Tid) -> bool
     true
 }
 
-/// Whether `t` stands first in `line`.
+/// Returns whether `t` is the first in `line`.
 fn leads(line: &ThreadQueue, t: Tid) -> bool
     ensures { result ≡ is_first t line.now }
 {

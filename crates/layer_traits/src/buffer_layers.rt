@@ -1,13 +1,13 @@
-//! The layer of buffers. No call takes memory or waits.
+//! The layer of buffers. No call is given an allocator or waits.
 
 ghost use Rattle.std.specs.Prelude.{◌<◌, length};
 ghost use Rattle.layer_traits.specs.Layers.BufferLaw.{buffer_of, fifo_plan};
 
 use crate::call_layers::{CallLaw, CallLayer};
 
-/// The law of first-in first-out blocking bounded buffers (Anderson and Dahlin): whoever calls enters
-/// the line of its side, and the first of a line goes on once the buffer allows it. A call is on a
-/// buffer that is there.
+/// The law of FIFO blocking bounded buffers (Anderson and Dahlin). A caller enters the queue of its
+/// side, and the first of a queue proceeds once the buffer allows it. A call is on a buffer that
+/// exists.
 pub struct BufferLaw;
 
 impl CallLaw for BufferLaw {
@@ -18,8 +18,8 @@ impl CallLaw for BufferLaw {
     ghost plan = { λ buffers. fifo_plan };
 }
 
-/// One CPU's part of a layer of buffers. Its parts are polled with the number of a buffer that is
-/// there.
+/// One CPU's part of a layer of buffers. Its parts are polled with the number of a buffer that
+/// exists.
 pub trait BufferLayer: CallLayer<BufferLaw> {}
 
 impl<X: CallLayer<BufferLaw>> BufferLayer for X {}

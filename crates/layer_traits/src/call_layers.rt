@@ -1,7 +1,7 @@
-//! One trait for the two layers at the top, over the law that each of them meets: buffers, and message
-//! calls over them.
+//! One trait for the two layers at the top, over the law that each of them meets: buffers, and
+//! message calls over them.
 //!
-//! No call takes memory, and none waits.
+//! No call is given an allocator, and none waits.
 
 ghost use Rattle.std.specs.Prelude.{◌≡◌, ◌≢◌, ℕ, ◌+◌, ◌<◌, ◌≤◌, ◌⊎◌, Bool, true, false, List, [], Option, Some, None, IsSome, length, map};
 ghost use Rattle.event_log.specs.declared.{ids.{CpuId.CpuId, Tid.Tid, BufId.BufId, LockId.LockId, TheConstants.THREADS}, entries.Entry.Entry};
@@ -23,41 +23,42 @@ use event_log::{CpuId, Msg, Tid};
 
 /// The law of a layer whose calls send messages and receive them.
 pub trait CallLaw {
-    /// What the call is on is there, with buffers of these capacities.
+    /// What the call is on exists, with buffers of these capacities.
     ghost IsThere: { List ℕ → Call → Type 0 };
 
     /// A part that was made for so many buffers fits buffers of these capacities.
     ghost IsCount: { List ℕ → ℕ → Type 0 };
 
-    /// What a poll of a call is to do, where a poll is one action.
+    /// What a poll of a call must do, if a poll is one action.
     ghost plan: { ℕ → List CpuId → CpuId → Tid → Call → Buffering → BufferPlan Reply };
 }
 
-/// One CPU's part of a layer that meets the law `L` and in which threads send to first-in first-out
-/// buffers and receive from them. A message call is one event, its effect. A poll does at most one
-/// atomic action; if it returns `None` the same call is polled again, once its thread runs.
+/// One CPU's part of a layer that meets the law `L` and in which threads send to FIFO buffers and
+/// receive from them. A message call is one event, its effect (linearization point). A poll does at
+/// most one atomic action; if it returns `None` the same call must be polled again, once its thread
+/// runs.
 ///
-/// No call takes memory.
+/// No call allocates memory.
 pub trait CallLayer<L: CallLaw>: Sized {
-    /// What lies beneath.
+    /// The machine under the layer.
     type Machine;
 
-    /// The effects that the holder of the machine has seen, newest first.
+    /// The effects that the holder of the machine has observed, newest first.
     ghost seen: { Self.Machine → List Entry };
 
-    /// The moves of threads that it has seen, newest first.
+    /// The moves of threads that it has observed, newest first.
     ghost moves: { Self.Machine → List Step };
 
-    /// Who sleeps at a buffer, as its last section left it.
+    /// The threads that sleep at a buffer, as its last section left them.
     ghost wait_lists: { Self.Machine → BufId → WaitList → List Tid };
 
-    /// For which CPUs the holder of the machine acts. It carries that the machine is sound.
+    /// The CPUs for which the holder of the machine acts; this implies that the machine is sound.
     ghost ActsFor: { Self.Machine → CpuId → Type 0 };
 
-    /// For how many more events there is room.
+    /// How many more events there is room for.
     ghost room: { Self.Machine → ℕ };
 
-    /// Which machine it is, as numbers; a machine that nobody has to know again needs none. No poll
+    /// Which machine it is, as numbers; a machine that no caller must recognize needs none. No poll
     /// changes it.
     ghost site: { Self.Machine → List ℕ } = { λ _. [] };
 
@@ -65,39 +66,39 @@ pub trait CallLayer<L: CallLaw>: Sized {
     /// this CPU needs.
     ghost IsFresh: { Self.Machine → List CpuId → CpuId → Type 0 };
 
-    /// This CPU may hold a lock, as far as the machine tells.
+    /// This CPU may hold a lock, as far as the machine shows.
     ghost MayHold: { Self.Machine → CpuId → Type 0 };
 
-    /// Whose part it is.
+    /// The CPU whose part it is.
     ghost cpu_of: { Self → CpuId };
 
     /// Whether a section is under way.
     ghost is_inside: { Self → Bool };
 
-    /// What the CPU does that has not ended.
+    /// The CPU's pending call or pass.
     ghost under_way: { Self → Option UnderWay };
 
-    /// The part and the machine agree.
+    /// Coupling invariant: the part and the machine agree.
     ghost Fits: { Self → Self.Machine → Type 0 };
 
-    /// Whether one poll is one call: it takes effect at the first poll at which its buffer allows
-    /// it.
+    /// Whether one poll is one call: the call takes effect at the first poll at which its buffer
+    /// allows it.
     ghost IsWhole: { Type 0 };
 
     /// Whether one poll is one action, as in the tower.
     ghost IsStepwise: { Type 0 };
 
-    /// The opening block of each lock; None where there is no such lock.
+    /// The opening block of each lock; None if there is no such lock.
     ghost opening: { Self.Machine → LockId → Option (QueueBlock BufferLock) };
 
     /// The actions on the locks, newest first, each Give under its section's edit.
     ghost acts: { Self.Machine → List (Action (QueueEdit (CvCall BufferEdit))) };
 
-    /// The CPU's own state.
+    /// The CPU's private state.
     ghost own: { Self → Buffering };
 
-    /// The part of `cpu` at boot: its threads are ready, and none has called. `homes` holds the
-    /// home of each thread, and the buffers are numbered from 0 to `buffers - 1`.
+    /// Returns the part of `cpu` at boot: its threads are ready, and none has called. `homes` holds
+    /// the home of each thread, and the buffers are numbered from 0 to `buffers - 1`.
     ///
     /// Requires: there are at most `THREADS` homes.
     fn part(cpu: CpuId, homes: &[CpuId], buffers: u8) -> Self
@@ -107,15 +108,15 @@ pub trait CallLayer<L: CallLaw>: Sized {
         ensures own { own result ≡ buffering_at_start homes.now cpu }
         ensures fits { (m : Self.Machine) → IsFresh m homes.now cpu → L.IsCount (caps_in (opening m)) buffers → Fits result m };
 
-    /// Whether a section is under way.
+    /// Returns whether a section is under way.
     fn is_busy(&self) -> bool
         ensures { result ≡ is_inside self.now };
 
-    /// The CPU's threads, where they lie.
+    /// Returns the CPU's threads, without a copy.
     fn own_threads(&self) -> &OwnThreads
         ensures { result.now ≡ threads_in (own self.now) };
 
-    /// The thread that runs.
+    /// Returns the thread that runs.
     #[inline(always)]
     fn current(&self) -> Option<Tid>
         ensures { result ≡ (threads_in (own self.now)).current }
@@ -123,7 +124,8 @@ pub trait CallLayer<L: CallLaw>: Sized {
         self.own_threads().current()
     }
 
-    /// The thread that this CPU woke and has yet to send home.
+    /// Returns the thread in the hand: this CPU woke it and has not yet forwarded it to its home
+    /// CPU.
     #[inline(always)]
     fn hand(&self) -> Option<Tid>
         ensures { result ≡ (threads_in (own self.now)).hand }
@@ -131,7 +133,7 @@ pub trait CallLayer<L: CallLaw>: Sized {
         self.own_threads().hand()
     }
 
-    /// Whether a thread is ready.
+    /// Returns whether a thread is ready.
     #[inline(always)]
     fn has_ready(&self) -> bool
         ensures some { result ≡ true → (threads_in (own self.now)).ready ≢ [] }
@@ -140,24 +142,24 @@ pub trait CallLayer<L: CallLaw>: Sized {
         self.own_threads().has_ready()
     }
 
-    /// The effect of this thread's newest call, from the poll in which it came until the thread's
-    /// next call begins.
+    /// Returns the effect of this thread's newest call, from the poll in which it occurred until
+    /// the thread's next call begins.
     ///
     /// Requires: `t` is below `THREADS`.
     fn effect(&self, t: Tid) -> Option<Effect>
         requires { t.0 < THREADS }
         ensures { result ≡ (call_state_of (own self.now).call_states t).effect };
 
-    /// The same effect where it lies: nothing is copied.
+    /// Returns the same effect, without a copy.
     ///
     /// Requires: `t` is below `THREADS`.
     fn effect_here(&self, t: Tid) -> &Option<Effect>
         requires { t.0 < THREADS }
         ensures { result.now ≡ (call_state_of (own self.now).call_states t).effect };
 
-    /// Looks again for a section that waits at its lock, and tells whether it did: a poll that ends
-    /// nothing, so it needs no call and has no answer. Where it tells `false` nothing has changed,
-    /// and the call is to be polled; a layer may always tell that.
+    /// Polls the lock again for a section that waits at it, and returns whether it did. Such a poll
+    /// ends no call, so that it needs no call and has no result. If it returns `false` nothing has
+    /// changed, and the call must be polled; a layer may always return `false`.
     ///
     /// Requires: part and machine agree, and there is room for an event.
     fn look(&mut self, m: &mut Self::Machine) -> bool
@@ -166,12 +168,13 @@ pub trait CallLayer<L: CallLaw>: Sized {
         ensures { Looked Fits cpu_of opening site room ActsFor MayHold own is_inside under_way seen moves acts
             IsWhole IsStepwise L.plan result self.old m.old self.new m.new };
 
-    /// Looks again for a section that waits at its lock, twice at most: of two looks in a row the first
-    /// has missed. Each look is one more action taken. Returns whether the run of actions is to end: it
-    /// has looked twice, or `most` actions are taken. A layer that never looks does nothing here.
+    /// Polls the lock again for a section that waits at it, at most twice: the second poll follows
+    /// a first one that failed. Each poll is one more action taken. Returns whether the actions
+    /// must end here: it has polled twice, or `most` actions are taken. A layer that never polls in
+    /// this way does nothing.
     ///
-    /// Requires: part and machine agree. Fewer than `most` actions are taken, and there is room for as
-    /// many events as are left.
+    /// Requires: part and machine agree. Fewer than `most` actions are taken, and there is room for
+    /// as many events as are left.
     fn looks(&mut self, m: &mut Self::Machine, taken: &mut usize, most: usize) -> bool
         requires fits { Fits self.old m.old }
         requires some { taken.old < most }
@@ -183,9 +186,10 @@ pub trait CallLayer<L: CallLaw>: Sized {
         ensures looked_on { LookedOn Fits cpu_of opening site room ActsFor MayHold own is_inside under_way seen moves acts
             IsWhole IsStepwise L.plan self.old m.old taken.old taken.new self.new m.new };
 
-    /// Notes looks of a section that waits at its lock and whose look would miss: one for each of the
-    /// steps at the front of `steps` that are this CPU's, at most. Returns how many it noted: each
-    /// missed, and nothing else has changed. A layer may always return 0.
+    /// Records failed polls of a section that waits at its lock, as long as a poll would fail. It
+    /// records at most one for each of the steps at the front of `steps` that are this CPU's.
+    /// Returns how many it recorded: each failed, and nothing else is changed. A layer may always
+    /// return 0.
     ///
     /// Requires: part and machine agree, and there is room for as many events as there are steps.
     #[inline(always)]
@@ -202,14 +206,14 @@ pub trait CallLayer<L: CallLaw>: Sized {
         0
     }
 
-    /// Does at most one action of the call of `t`. Returns the kind of its reply once the call has
-    /// ended, and `None` while the same call is to be polled again. A message that was received lies in
-    /// the effect of `t`, where a CPU reads it with no copy. `NoBuffer` comes exactly where the number
-    /// is no buffer's, and then nothing was done.
+    /// Performs at most one action of the call of `t`. Returns the kind of its reply once the call
+    /// has ended, and `None` while the same call must be polled again. A message that was received
+    /// is in the effect of `t`, where a CPU reads it without a copy. `NoBuffer` is returned exactly
+    /// if the number is not a buffer's, and then nothing was done.
     ///
-    /// Requires: what the call is on is there, part and machine agree, there is room for an event,
-    /// `t` runs here, the call is the one that `t` has begun or `t` is between calls, and the CPU has
-    /// nothing else under way. If it has nothing under way, no woken thread is in its hand.
+    /// Requires: what the call is on exists, part and machine agree, there is room for an event,
+    /// and `t` runs here. The call is the one that `t` has begun, or `t` is between calls. The CPU
+    /// has no other pending call. If it has none, its hand is empty.
     fn poll_kind(&mut self, m: &mut Self::Machine, t: Tid, call: &Call) -> Option<ReplyKind>
         requires fits { Fits self.old m.old }
         requires there { L.IsThere (caps_in (opening m.old)) call.now }
@@ -221,12 +225,13 @@ pub trait CallLayer<L: CallLaw>: Sized {
         ensures { Polled Fits cpu_of opening site room ActsFor MayHold own is_inside under_way seen moves acts
             IsWhole IsStepwise L.plan t call.now self.old m.old self.new m.new (answer_in (own self.new).call_states t result) };
 
-    /// Does up to `most` actions of the call of `t`, one after the other: the first is a poll, and
-    /// each after it a poll or a look of the call's section at its lock. It goes on at most until the
-    /// call ends, has its effect, or leaves `t` not running, and may stop before. Returns how many it
-    /// did, and the kind of the reply if the last of them ended the call.
+    /// Performs up to `most` actions of the call of `t`, one after the other. The first is a poll
+    /// of the call, and each later one a poll of the call or of its section's lock. It continues at
+    /// most until the call ends, has its effect, or leaves `t` not running, and may stop before.
+    /// Returns how many actions it did, and the kind of the reply if the last of them ended the
+    /// call.
     ///
-    /// Requires: as `poll_kind`, with room for as many events as `most` tells, which is not 0.
+    /// Requires: as `poll_kind`, with room for `most` events. `most` is not 0.
     #[inline(always)]
     fn poll_on(&mut self, m: &mut Self::Machine, t: Tid, call: &Call, most: usize) -> PollRun
         requires fits { Fits self.old m.old }
@@ -247,7 +252,7 @@ pub trait CallLayer<L: CallLaw>: Sized {
         }
     }
 
-    /// The same as `poll_kind`, with the whole reply.
+    /// Does the same as `poll_kind`, with the whole reply.
     ///
     /// Requires: as `poll_kind`.
     #[inline(always)]
@@ -268,10 +273,10 @@ pub trait CallLayer<L: CallLaw>: Sized {
         }
     }
 
-    /// Passes a call on to the scheduler. The call states stay.
+    /// Passes a call down to the scheduler. The call states are unchanged.
     ///
-    /// Requires: part and machine agree, there is room for an event, the CPU's threads let the pass
-    /// come, and nothing else is under way.
+    /// Requires: part and machine agree, there is room for an event, the CPU's threads allow the
+    /// pass, and no other call is pending.
     fn pass(&mut self, m: &mut Self::Machine, call: Pass) -> Option<()>
         requires fits { Fits self.old m.old }
         requires room { 0 < room m.old }
@@ -293,19 +298,19 @@ pub trait CallLayer<L: CallLaw>: Sized {
     /// Law: a part that agrees with a machine is of a CPU for which the machine's holder acts.
     ghost own_cpu: { (p : Self) (m : Self.Machine) → Fits p m → ActsFor m (cpu_of p) };
 
-    /// Law: each effect that was seen may come after those before it.
+    /// Law: each effect in the history may follow those before it.
     ghost lawful: { (m : Self.Machine) (c : CpuId) → ActsFor m c → IsLawful (MayTakeEffect (caps_in (opening m))) (seen m) };
 
-    /// Law: a CPU's threads stand where the moves say.
+    /// Law: a CPU's threads are in the places that the moves say.
     ghost stands: { (p : Self) (m : Self.Machine) → Fits p m → Stands (homes_in (opening m)) (cpu_of p) (moves m) (threads_in (own p)) };
 
-    /// Law: each move that was seen may follow those before it.
+    /// Law: each move in the history may follow those before it.
     ghost moves_legal: { (m : Self.Machine) (c : CpuId) → ActsFor m c → AreMoves (homes_in (opening m)) (moves m) };
 
     /// Law: the waiting lists of the buffers and the threads' places agree.
     ghost lists: { (p : Self) (m : Self.Machine) → Fits p m → WaitListsAgree (length (caps_in (opening m))) (homes_in (opening m)) (moves m) (wait_lists m) };
 
-    /// Law: where the CPU has nothing begun, no section is under way.
+    /// Law: if the CPU has no pending call, no section is under way.
     ghost idle: { (p : Self) (m : Self.Machine) → Fits p m → under_way p ≡ None → is_inside p ≡ false };
 
     /// Law: the opening blocks are those of a machine in which nothing was done, and each home of a
@@ -315,27 +320,27 @@ pub trait CallLayer<L: CallLaw>: Sized {
     /// Law: the actions are legal.
     ghost legal: { (m : Self.Machine) (c : CpuId) → ActsFor m c → AreLegal (acts m) };
 
-    /// Law: where a poll is one action, the effects are those of the sections of the actions, so
-    /// each has the position that its thread drew.
+    /// Law: if a poll is one action, the effects are those of the sections of the actions. Each has
+    /// the position that its thread drew.
     ghost seen_is: { IsStepwise → (m : Self.Machine)
         → seen m ≡ effects_in (inner (opening m)) (buffer_sections (map event_of (sections_in (acts m)))) };
 
-    /// Law: where a poll is one action, what the layer tells of threads, their moves and the waiting
-    /// lists, is what the sections of the actions make of it, and so are the pending queues.
+    /// Law: if a poll is one action, the threads, moves and waiting lists that the layer reports
+    /// are what the sections of the actions make of them. The same holds of the pending queues.
     ghost moves_are: { IsStepwise → (m : Self.Machine) (c : CpuId) → ActsFor m c
         → MovesAre (opening m) (acts m) (moves m) (wait_lists m) };
 
-    /// Law: where a poll is one action, a part has a section under way exactly while its CPU waits
-    /// at a lock or holds one.
+    /// Law: if a poll is one action, a part has a section under way exactly while its CPU waits at
+    /// a lock or holds one.
     ghost busy: { (p : Self) (m : Self.Machine) → Fits p m → IsStepwise → is_inside p ≡ is_in_section (phase (cpu_of p) (acts m)) };
 
-    /// Law: where a poll is one action, a fresh machine's blocks are those of its capacities and
+    /// Law: if a poll is one action, a fresh machine's blocks are those of its capacities and
     /// homes.
     ghost opens: { IsStepwise → (m : Self.Machine) (homes : List CpuId) (c : CpuId) → IsFresh m homes c
         → OpensSo (caps_in (opening m)) homes c (opening m) };
 }
 
-/// The reply of this kind, with the message of this effect where it has one.
+/// Returns the reply of this kind, with the message of this effect if it has one.
 #[inline(always)]
 fn whole_reply(kind: ReplyKind, effect: &Option<Effect>) -> Reply
     ensures { result ≡ reply_with kind effect.now }
@@ -349,7 +354,7 @@ fn whole_reply(kind: ReplyKind, effect: &Option<Effect>) -> Reply
     }
 }
 
-/// The message of an effect; none if there is no effect.
+/// Returns the message of an effect; none if there is no effect.
 #[inline(always)]
 pub fn message_of(effect: &Option<Effect>) -> Msg
     ensures { result ≡ message_of effect.now }

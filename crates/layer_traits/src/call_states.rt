@@ -1,4 +1,4 @@
-//! How far the message call of a thread has come. No call takes memory or waits.
+//! The stage of a thread's message call: its continuation. No call allocates memory or waits.
 
 ghost use Rattle.std.specs.Prelude.{◌≡◌, replicate};
 ghost use Rattle.{event_log.specs.declared.ids.TheConstants.THREADS, layer_traits.specs.Layers.BufferLaw.no_call};
@@ -7,35 +7,35 @@ use crate::calls::{Call, Effect};
 use crate::payloads::Ghost;
 use event_log::THREADS;
 
-/// The stages of a message call, each by the section that it does.
+/// The stages of a message call, each named by the section that it performs.
 #[derive(Clone, Copy)]
 pub enum Stage {
     /// The thread is in no call.
     Idle,
     /// It asks for the buffer's lock.
     Acquires,
-    /// It enters the line of its side, or closes the buffer.
+    /// It enters the queue of its side, or closes the buffer.
     Enters,
     /// It tries to put or to take.
     Tries,
-    /// It tried in vain, and waits on its side.
+    /// Its try failed, and it waits on its side.
     Waits,
     /// It was woken, and asks for the lock again.
     AcquiresAgain,
-    /// Its message call took effect, and it signals to the far side.
+    /// Its message call took effect, and it signals to the other side.
     Signals,
     /// It signals to its own side.
     SignalsOwn,
-    /// It leaves the lock.
+    /// It releases the lock.
     Releases,
 }
 
-/// What a part keeps of a thread's message call.
+/// What a part stores of a thread's message call.
 #[derive(Drop)]
 pub struct CallState {
-    /// How far the call has come.
+    /// The stage of the call.
     pub stage: Stage,
-    /// The call; `None` between calls. It is for clauses alone.
+    /// The call; `None` between calls. It is for clauses only.
     pub call: Ghost<Option<Call>>,
     /// The position that the thread drew last.
     pub position: u64,
@@ -46,7 +46,7 @@ pub struct CallState {
 impl Default for CallState {
     ghost is_default = { λ call_state. call_state ≡ no_call };
 
-    /// A thread that never called.
+    /// Returns the call state of a thread that never called.
     fn default() -> CallState {
         CallState {
             stage: Stage::Idle,
@@ -57,7 +57,7 @@ impl Default for CallState {
     }
 }
 
-/// The call states, by thread, where no thread ever called.
+/// Returns the call states, by thread, of threads that never called.
 pub fn no_calls() -> [CallState; THREADS]
     ensures { result ≡ replicate THREADS no_call }
 {

@@ -1,16 +1,16 @@
-//! Message calls, what they answer, what they leave behind, and where a thread stands. No call
-//! takes memory or waits.
+//! Message calls, their replies, their effects, and the places of threads. No call allocates memory
+//! or waits.
 
 use event_log::{BufId, CpuId, Kind, Msg};
 
 /// A message call of a thread.
 #[derive(Clone, Copy)]
 pub enum Call {
-    /// Puts this message at the end of the buffer, once there is room and it is the thread's turn;
-    /// puts nothing where the buffer is closed by then.
+    /// Puts this message at the end of the buffer, once there is room and it is the thread's turn.
+    /// Puts nothing if the buffer is closed by then.
     Send(BufId, Msg),
-    /// Takes the first message of the buffer, once there is one and it is the thread's turn; takes
-    /// nothing where the buffer is closed and empty by then.
+    /// Takes the first message of the buffer, once there is one and it is the thread's turn. Takes
+    /// nothing if the buffer is closed and empty by then.
     Recv(BufId),
     /// Closes the buffer, which may be closed already.
     Close(BufId),
@@ -20,7 +20,7 @@ impl Call {
     ghost use Rattle.std.specs.Prelude.{◌≡◌};
     ghost use Rattle.layer_traits.specs.Layers.BufferLaw.{buffer_of};
 
-    /// The buffer that the call names.
+    /// Returns the buffer that the call names.
     #[inline(always)]
     pub fn buffer(&self) -> BufId
         ensures { result ≡ buffer_of self.now }
@@ -31,7 +31,7 @@ impl Call {
     }
 }
 
-/// What a message call answers.
+/// The reply of a message call.
 #[derive(Clone, Copy)]
 pub enum Reply {
     /// The message was put.
@@ -46,7 +46,7 @@ pub enum Reply {
     NoBuffer,
 }
 
-/// What a message call answers, without the message of a receive: that one lies in the effect of the
+/// The kind of a reply, without the message of a receive: that message is in the effect of the
 /// call.
 #[derive(Clone, Copy)]
 pub enum ReplyKind {
@@ -62,42 +62,42 @@ pub enum ReplyKind {
     NoBuffer,
 }
 
-/// What a run of polls of one call did.
+/// What consecutive polls of one call did.
 #[derive(Clone, Copy)]
 pub struct PollRun {
-    /// How many actions it did: polls of the call, and looks of its section at its lock.
+    /// How many actions they did: polls of the call, and polls of its section's lock.
     pub actions: usize,
     /// The kind of the reply, once the last of them ended the call.
     pub reply: Option<ReplyKind>,
 }
 
-/// The effect of a message call: the one step in which its message was put or taken, its buffer
-/// was closed, or it learned that the buffer is closed.
+/// The effect of a message call (its linearization point). In this one step its message was put or
+/// taken, its buffer was closed, or it found that the buffer is closed.
 #[derive(Clone, Copy)]
 pub struct Effect {
     /// What was done to the buffer.
     pub kind: Kind,
-    /// The message; none, which is the one word 0, of a close, and of a receive that found the
-    /// buffer closed.
+    /// The message. For a close, and for a receive that found the buffer closed, it is none: the
+    /// one word 0.
     pub value: Msg,
     /// How many effects, of all kinds together, the buffer had before this one, modulo 2^64.
     pub op: u64,
-    /// The position that the thread drew when it entered the line: how many threads had entered
-    /// that line of the buffer before it, modulo 2^64; of a close, how many closes of the buffer were
-    /// before it.
+    /// The position that the thread drew when it entered the queue: how many threads had entered
+    /// that queue of the buffer before it, modulo 2^64. For a close, how many closes of the buffer
+    /// were before it.
     pub pos: u64,
 }
 
-/// Where a thread stands.
+/// The place of a thread: its scheduling state.
 #[derive(Clone, Copy)]
 pub enum Place {
     /// It runs on this CPU.
     Running(CpuId),
     /// It is ready on this CPU.
     Ready(CpuId),
-    /// It was sent to this CPU, which has not taken it yet.
+    /// It was forwarded to this CPU, which has not taken it from its pending queue yet.
     Pending(CpuId),
-    /// This CPU woke it and has yet to send it home.
+    /// It is in this CPU's hand: the CPU woke it and has not yet forwarded it to its home CPU.
     Hand(CpuId),
     /// It sleeps for this buffer's lock.
     LockSleeper(BufId),

@@ -1,7 +1,7 @@
-//! Conditions: the edits by which the owner of a lock signals to the front of a side's line, and
-//! those by which it leaves the lock or waits.
+//! Conditions: the edits by which the owner of a lock signals to the head of a side's queue, leaves
+//! the lock or waits.
 //!
-//! No call takes memory, and none waits.
+//! No call is given an allocator, and none waits.
 
 ghost use Rattle.std.specs.Prelude.{◌≡◌, Option};
 
@@ -14,11 +14,11 @@ use event_log::Tid;
 pub enum CvEdit<G> {
     /// An edit of the block.
     Edit(G),
-    /// This thread wakes the front of this side's line, where that one may go on and waits.
+    /// This thread wakes the head of this side's queue, if that thread may proceed and waits.
     SignalFront(Tid, Side),
 }
 
-/// How the owner of a lock with conditions gives it on.
+/// How the owner of a lock with conditions releases it.
 #[derive(Clone, Copy)]
 pub enum CvLeave {
     /// This thread leaves.
@@ -27,12 +27,13 @@ pub enum CvLeave {
     Wait(Tid, Side),
 }
 
-/// What a section of a lock with conditions answers.
+/// The result of a section of a lock with conditions.
 #[derive(Clone, Copy)]
 pub enum CvOut<O> {
-    /// The block was edited, with this answer.
+    /// The block was edited, with this result.
     Did(O),
-    /// The front of this side's line was to be woken, where there is one that may go on.
+    /// The thread at the head of this side's queue was to be woken; `None` if none there may
+    /// proceed.
     Signalled(Side, Option<Tid>),
     /// The caller left.
     Left,
@@ -40,43 +41,43 @@ pub enum CvOut<O> {
     Waited(Side),
 }
 
-/// A pure edit of the block of a lock with conditions. The block has a line for each side, and
-/// tells whether the first of a line may go on.
+/// A pure edit of the block of a lock with conditions. The block has a queue for each side, and
+/// determines whether the first of a queue may proceed.
 pub trait Guarded: Sized + Drop {
     ghost use Rattle.layer_traits.specs.{declared.payloads.Parcel.Parcel, Layers.Conditions.MonitorRules};
 
     /// What the lock guards.
     type Block: Drop;
 
-    /// What an edit answers.
+    /// An edit's result.
     type Out: Drop;
 
-    /// What is handed on of an edit.
+    /// The form in which layers pass an edit down.
     type Handed: Drop;
 
-    /// What is handed back of an answer.
+    /// The form in which layers pass a result back up.
     type Brought: Drop;
 
-    /// What an edit means: its caller, the block that it leaves and its answer; who stands at the
-    /// front of a side's line and may go on; and after which sections which CPU may do which.
+    /// What an edit means: its caller, the block that it leaves and its result. Which thread is at
+    /// the head of a side's queue and may proceed. After which sections which CPU may do which.
     ghost monitor_rules: { MonitorRules Self Self.Block Self.Out };
 
-    /// The thread that edits.
+    /// Returns the thread that edits.
     fn caller(handed: &Self::Handed) -> Tid
         ensures { (parcel : Parcel) → result ≡ monitor_rules.caller (meant handed.now parcel) };
 
-    /// The edit that is meant by what is handed on, with this message beside it.
+    /// Abstraction function: the edit that a passed-down form means, with this message beside it.
     ghost meant: { Self.Handed → Parcel → Self };
 
-    /// The answer that is told by what is handed back, with this message beside it.
+    /// Abstraction function: the result that a passed-back form means, with this message beside it.
     ghost told: { Self.Brought → Parcel → Self.Out };
 
-    /// The edit that is meant.
+    /// Returns the edit that `handed` means.
     fn whole(handed: &Self::Handed, parcel: &Parcel) -> Self
         ensures { result ≡ meant handed.now parcel.now };
 
-    /// Edits `block` as is meant. The answer is told by what it returns and the message that it
-    /// leaves. Takes no memory.
+    /// Performs on `block` the edit that `handed` means. What it returns, with the message that it
+    /// leaves, means the edit's result. It is given no allocator.
     fn apply_handed(
         handed: &Self::Handed,
         block: &mut Self::Block,
@@ -85,18 +86,20 @@ pub trait Guarded: Sized + Drop {
         ensures block { block.new ≡ monitor_rules.edited (meant handed.now parcel.old) block.old }
         ensures answer { told result parcel.new ≡ monitor_rules.answer (meant handed.now parcel.old) block.old };
 
-    /// The front of this side's line, where it may go on.
+    /// Returns the thread at the head of this side's queue, if it may proceed.
     fn ready(side: Side, block: &Self::Block) -> Option<Tid>
         ensures { result ≡ monitor_rules.ready side block.now };
 }
 
-/// An edit of the block of a lock with conditions in one piece: it is copied, and holds what it puts.
+/// An edit of the block of a lock with conditions, as one value: it can be copied, and holds what
+/// it puts.
 pub trait WholeGuarded: Guarded + Copy {
-    /// What is handed on of this edit. The message that it puts lies beside it then.
+    /// Returns the form of this edit that layers pass down, and stores the message that it puts in
+    /// `parcel`.
     fn hand_on(self, parcel: &mut Parcel) -> Self::Handed
         ensures { Self.meant result parcel.new ≡ self };
 
-    /// The answer in one piece, with this message beside what is handed back.
+    /// Returns the whole result, given its passed-back form and the message beside it.
     fn bring_back(brought: Self::Brought, parcel: &Parcel) -> Self::Out
         ensures { result ≡ Self.told brought parcel.now };
 }

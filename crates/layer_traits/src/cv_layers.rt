@@ -1,6 +1,6 @@
 //! The layer of conditions.
 //!
-//! No call takes memory, and none waits.
+//! No call is given an allocator, and none waits.
 
 ghost use Rattle.std.specs.Prelude.{◌≡◌, ◌⊎◌, ◌≤◌, [], IsSome, None, length, map};
 ghost use Rattle.layer_traits.specs.Layers.{CvLaw.{Waiting, waiting_at_start, CvPolled, MayCallCond, MustStay, cv_plan, cv_pass_plan}, Conditions.cv_rules};
@@ -25,7 +25,7 @@ use crate::sleeps::Outcome;
 use crate::threads::{ThreadLaw, ThreadLayer};
 use std::marker::{Model, PhantomData};
 
-/// Stands in clauses for what a CPU keeps of its locks, and where each thread waits.
+/// In clauses: a CPU's private state of its locks, and where each thread waits.
 pub struct WaitingOf<O> {
     outcomes: PhantomData<O>,
 }
@@ -36,12 +36,13 @@ impl<O> Model for WaitingOf<O> {
     ghost view = { λ _. waiting_at_start [] (record { 0 = 0 }) };
 }
 
-/// The law of queuing locks with Mesa conditions (Anderson and Dahlin): the owner of a lock may give
-/// it on and wait in one event; a signal wakes the front of a line, and the woken thread takes the
-/// lock again by a call of its own. A wait answers once its thread was woken and runs again.
+/// The law of queuing locks with Mesa conditions (Anderson and Dahlin). The owner of a lock may
+/// release it and wait in one event. A signal wakes the head of a queue, and the woken thread
+/// acquires the lock again by a separate call. A wait returns once its thread was woken and runs
+/// again.
 ///
-/// A call may come if the lock beneath allows it. A thread that was woken out of a wait calls that
-/// wait again, and nothing is under way.
+/// A call is allowed if the lock below allows it. A thread that was woken from a wait calls that
+/// wait again, and no other call is pending.
 pub struct CvLaw<G> {
     edits: PhantomData<G>,
 }
@@ -147,8 +148,8 @@ impl<G: Guarded> SleeperLaw for CvLaw<G> {
     ghost wait_list_of = { wait_list_under };
 }
 
-/// One CPU's part of a layer of queuing locks with conditions. A poll does at most one atomic action;
-/// if it returns `None` the same call is polled again, once its thread runs.
+/// One CPU's part of a layer of queuing locks with conditions. A poll does at most one atomic
+/// action; if it returns `None` the same call must be polled again, once its thread runs.
 pub trait CvLayer<G: Guarded>: ThreadLayer<CvLaw<G>> {}
 
 impl<G: Guarded, X: ThreadLayer<CvLaw<G>>> CvLayer<G> for X {}

@@ -1,53 +1,53 @@
-//! Edits: the pure changes that sections make to the blocks of locks.
+//! Edits: the pure state updates that sections apply to the blocks of locks.
 //!
-//! No call takes memory, and none waits.
+//! No call is given an allocator, and none waits.
 
 ghost use Rattle.std.specs.Prelude.{◌≡◌};
 
 use crate::payloads::Payload;
 
-/// What a section leaves in the event that ends it: its edit. So a words log tells each section's
-/// edit and, by the fold of the edits, its answer.
+/// What a section leaves in the event that ends it: its edit. A words log therefore determines each
+/// section's edit and, by the fold of the edits, its result.
 #[derive(Drop)]
 pub struct Mark<E> {
     /// The edit of the section.
     pub edit: E,
 }
 
-/// A pure edit of a lock's block, in two pieces: what layers hand on, and the payload beside it, in
-/// which a message or a list of threads lies. One section applies one edit. [`Edit`] is the same in
-/// one piece.
+/// A pure edit of a lock's block, in two pieces: the form that layers pass down, and the payload
+/// beside it. The payload has a message or a list of threads. One section applies one edit.
+/// [`Edit`] is the same as one value.
 pub trait SplitEdit: Sized + Drop {
     ghost use Rattle.layer_traits.specs.{declared.payloads.Payload.Payload, Protocols.Protocol.Rules};
 
     /// What the lock guards.
     type Block: Drop;
 
-    /// What an edit answers.
+    /// An edit's result.
     type Out: Drop;
 
-    /// What is handed on of an edit.
+    /// The form in which layers pass an edit down.
     type Handed: Drop;
 
-    /// What is handed back of an answer.
+    /// The form in which layers pass a result back up.
     type Brought: Drop;
 
-    /// What an edit means: the block that it leaves and its answer, as functions of the block that
-    /// it finds; and after which sections which CPU may do it.
+    /// What an edit means: the block that it leaves and its result, as functions of the block that
+    /// it finds. After which sections which CPU may do it.
     ghost rules: { Rules Self Self.Block Self.Out };
 
-    /// The edit that is meant by what is handed on, with this payload beside it.
+    /// Abstraction function: the edit that a passed-down form means, with this payload beside it.
     ghost meant: { Self.Handed → Payload → Self };
 
-    /// The answer that is told by what is handed back, with this payload beside it.
+    /// Abstraction function: the result that a passed-back form means, with this payload beside it.
     ghost told: { Self.Brought → Payload → Self.Out };
 
-    /// The edit that is meant.
+    /// Returns the edit that `handed` means.
     fn whole(handed: &Self::Handed, payload: &Payload) -> Self
         ensures { result ≡ meant handed.now payload.now };
 
-    /// Edits `block` as is meant. The answer is told by what it returns and what it leaves in the
-    /// payload. Takes no memory.
+    /// Performs on `block` the edit that `handed` means. What it returns, with what it leaves in
+    /// the payload, means the edit's result. It is given no allocator.
     fn apply_handed(
         handed: &Self::Handed,
         block: &mut Self::Block,
@@ -57,20 +57,20 @@ pub trait SplitEdit: Sized + Drop {
         ensures answer { told result payload.new ≡ rules.answer (meant handed.now payload.old) block.old };
 }
 
-/// A pure edit of a lock's block, in one piece: it is copied, holds what it puts, and its answer
-/// holds what it brings. Layers hand on its two pieces.
+/// A pure edit of a lock's block, as one value: it can be copied, holds what it puts, and its
+/// result holds what it brings. Layers pass its two pieces down.
 pub trait Edit: SplitEdit + Copy {
     ghost use Rattle.layer_traits.specs.declared.payloads.Payload.{Payload};
 
-    /// What is handed on of this edit. What it puts lies in the payload then.
+    /// Returns the form of this edit that layers pass down, and stores what it puts in the payload.
     fn hand_on(self, payload: &mut Payload) -> Self::Handed
         ensures { Self.meant result payload.new ≡ self };
 
-    /// The answer in one piece. What it brings is taken out of the payload.
+    /// Returns the whole result. What it brings is taken out of the payload.
     fn bring_back(brought: Self::Brought, payload: &mut Payload) -> Self::Out
         ensures { result ≡ Self.told brought payload.old };
 
-    /// Edits `block` and gives the edit's answer. Takes no memory.
+    /// Edits `block` and returns the edit's result. It is given no allocator.
     fn apply(self, block: &mut Self::Block) -> Self::Out
         ensures block { block.new ≡ Self.rules.edited self block.old }
         ensures answer { result ≡ Self.rules.answer self block.old }

@@ -1,18 +1,17 @@
-//! A machine beneath the layers: the words and the blocks of locks with a grant word for each
-//! waiter.
+//! A machine under the layers: the words and the blocks of locks with a grant word for each waiter.
 //!
-//! No call takes memory, and none waits.
+//! No call is given an allocator, and none waits.
 
 ghost use Rattle.std.specs.Prelude.{◌≡◌, ℕ, ◌+◌, ◌<◌, ◌≤◌, ◌++◌, length, replicate, List, [], Option, IsSome, MatchOption, option_map};
 
 use crate::edits::{Mark, SplitEdit};
 use event_log::{CpuId, GrantEvent, LockId};
 
-/// A holder of locks with grant words: each lock has the word `next` and a grant word for each CPU
-/// that may wait, and guards a block. An owned machine acts for all CPUs; a seat at shared words
-/// acts for its own CPU, and events of the others may come in at any call.
+/// A holder of locks with grant words. Each lock has the word `next` and a grant word for each CPU
+/// that may wait, and guards a block. An owned machine acts for all CPUs. A seat (a per-CPU handle
+/// of shared words) acts for its own CPU, and events of other CPUs may be added at any call.
 ///
-/// No call takes memory, and each succeeds.
+/// No call allocates memory, and each succeeds.
 pub trait GrantWords {
     ghost use Rattle.event_log.specs.declared.{ids.{CpuId.CpuId, LockId.LockId}, grants.GrantEvent.{GrantEvent, TheVariants.{Take, Peek, Give}}};
     ghost use Rattle.event_log.specs.{Grants.{cpu_of_grant, grant_lock_phase}, History.{Adds, IsLawful}, WordsLog.{Idle, Waiting, Holding}};
@@ -23,38 +22,38 @@ pub trait GrantWords {
     /// The edits of the sections.
     type Edit: SplitEdit;
 
-    /// What a Give leaves in the log: it tells the section's edit.
+    /// What a Give leaves in the log: it determines the section's edit.
     type Mark;
 
-    /// The edit that a mark tells.
+    /// The edit that a mark denotes.
     ghost edit_in: { Self.Mark → Self.Edit };
 
-    /// The opening block of each lock; None where there is no such lock.
+    /// The opening block of each lock; None if there is no such lock.
     ghost opening: { Self → LockId → Option Self.Edit.Block };
 
-    /// The events that this holder has seen, newest first.
+    /// The events that this holder has observed, newest first.
     ghost seen: { Self → List (GrantEvent (Mark Self.Edit)) };
 
-    /// For which CPUs the holder acts. It carries that the machine is sound.
+    /// The CPUs for which the holder acts; this implies that the machine is sound.
     ghost ActsFor: { Self → CpuId → Type 0 };
 
-    /// For how many more events there is room.
+    /// How many more events there is room for.
     ghost room: { Self → ℕ };
 
-    /// Which machine it is, as numbers; a machine that nobody has to know again needs none. No call
+    /// Which machine it is, as numbers; a machine that no caller must recognize needs none. No call
     /// changes it.
     ghost site: { Self → List ℕ } = { λ _. [] };
 
-    /// The mark of a section with this edit, of which this is handed on. A machine may keep what is
-    /// handed on, and the edit for clauses alone.
+    /// Returns the mark of a section with this edit, of which `handed` is the passed-down form. A
+    /// machine may store the passed-down form, and the edit for clauses only.
     fn mark(handed: <Self::Edit as SplitEdit>::Handed, edit: Self::Edit) -> Self::Mark
         ensures { edit_in result ≡ edit };
 
     /// Takes a ticket of `lock` for `cpu`: a fetch-and-add of 1 on `next`, whose old value is the
     /// ticket.
     ///
-    /// Requires: the holder acts for `cpu`, the lock is there, there is room for an event, and
-    /// `cpu` has no ticket outstanding.
+    /// Requires: the holder acts for `cpu`, the lock exists, there is room for an event, and `cpu`
+    /// has no ticket outstanding.
     fn take(&mut self, cpu: CpuId, lock: LockId) -> u64
         requires cpu { ActsFor self.old cpu }
         requires lock { IsSome (opening self.old lock) }
@@ -66,11 +65,11 @@ pub trait GrantWords {
         ensures room { room self.old ≤ room self.new + 1 }
         ensures acts { (c : CpuId) → ActsFor self.old c → ActsFor self.new c };
 
-    /// Loads the grant word of `ticket` at `lock` for `cpu`. Where it reads the ticket plus 1 the
-    /// peek hits: the lock's block passes to the CPU.
+    /// Loads the grant word of `ticket` at `lock` for `cpu`: one poll. If it reads the ticket plus
+    /// 1 the poll succeeds: the lock's block passes to the CPU.
     ///
-    /// Requires: the holder acts for `cpu`, the lock is there, there is room for an event, and
-    /// `cpu` waits there with `ticket`.
+    /// Requires: the holder acts for `cpu`, the lock exists, there is room for an event, and `cpu`
+    /// waits there with `ticket`.
     fn peek(
         &mut self,
         cpu: CpuId,
@@ -91,12 +90,13 @@ pub trait GrantWords {
         ensures room { room self.old ≤ room self.new + 1 }
         ensures acts { (c : CpuId) → ActsFor self.old c → ActsFor self.new c };
 
-    /// Notes peeks of `cpu`, which waits at `lock` with `ticket`, if a peek would miss: one for each of
-    /// the steps at the front of `steps` that are this CPU's, at most. Returns how many it noted: each
-    /// missed, and nothing else has changed. A machine may always return 0.
+    /// Records failed polls of `cpu`, which waits at `lock` with `ticket`, as long as a poll would
+    /// fail. It records at most one for each of the steps at the front of `steps` that are this
+    /// CPU's. Returns how many it recorded: each failed, and nothing else is changed. A machine may
+    /// always return 0.
     ///
-    /// Requires: the holder acts for `cpu`, the lock is there, there is room for as many events as
-    /// there are steps, and `cpu` waits there with `ticket`.
+    /// Requires: the holder acts for `cpu`, which waits at `lock` with `ticket`. The lock exists,
+    /// and there is room for as many events as there are steps.
     #[inline(always)]
     fn spin(&mut self, cpu: CpuId, lock: LockId, ticket: u64, steps: &[CpuId]) -> usize
         requires cpu { ActsFor self.old cpu }
@@ -115,12 +115,12 @@ pub trait GrantWords {
         0
     }
 
-    /// Gives `lock` on for `cpu`: a store of its ticket plus 2 in the next ticket's grant word.
-    /// `block` goes home.
+    /// Releases `lock` for `cpu`: a store of its ticket plus 2 in the next ticket's grant word.
+    /// `block` is stored in the machine.
     ///
-    /// Requires: the holder acts for `cpu`, the lock is there, there is room for an event, `cpu` is
-    /// inside it, and `block` is the one that the CPU's peek gave, edited as `mark` says. The
-    /// protocol allows that edit, and goes on to whatever other CPUs do first.
+    /// Requires: the holder acts for `cpu`, the lock exists, there is room for an event, and `cpu`
+    /// is inside it. `block` is the one that the CPU's poll returned, edited as `mark` says. The
+    /// protocol allows that edit, and still does after whatever other CPUs do first.
     fn give(
         &mut self,
         cpu: CpuId,
@@ -142,6 +142,7 @@ pub trait GrantWords {
         ensures room { room self.old ≤ room self.new + 1 }
         ensures acts { (c : CpuId) → ActsFor self.old c → ActsFor self.new c };
 
-    /// Law: what a holder has seen is a legal log of grant words in which each section keeps the protocol.
+    /// Law: what a holder has observed is a legal log of grant words in which each section keeps
+    /// the protocol.
     ghost legal: { (w : Self) (c : CpuId) → ActsFor w c → IsLawful (GrantMayCome (Self.Edit.rules.allowed (opening w))) (seen w) };
 }

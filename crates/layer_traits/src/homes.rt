@@ -1,6 +1,6 @@
-//! The homes of all threads, as parts of layers keep them.
+//! The homes of all threads, as parts of layers store them.
 //!
-//! No call takes memory, and none waits.
+//! No call is given an allocator, and none waits.
 
 ghost use Rattle.std.specs.Prelude.{◌≡◌, ◌≤◌, length};
 ghost use Rattle.event_log.specs.declared.ids.TheConstants.{THREADS};
@@ -8,7 +8,7 @@ ghost use Rattle.event_log.specs.declared.ids.TheConstants.{THREADS};
 use arrayvec::ArrayVec;
 use event_log::{CpuId, THREADS};
 
-/// The homes to keep, by thread. Takes no memory.
+/// Returns the homes in the form that parts store, by thread. It is given no allocator.
 ///
 /// Requires: there are at most `THREADS` homes.
 pub fn kept_homes(homes: &[CpuId]) -> ArrayVec<CpuId, THREADS>

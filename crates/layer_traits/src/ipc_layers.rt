@@ -1,12 +1,12 @@
-//! The layer of message calls. No call takes memory or waits.
+//! The layer of message calls. No call is given an allocator or waits.
 
 ghost use Rattle.std.specs.Prelude.{◌≡◌, length};
 ghost use Rattle.layer_traits.specs.Layers.IpcLaw.{ipc_plan};
 
 use crate::call_layers::{CallLaw, CallLayer};
 
-/// The law of message calls: as that of buffers, and a number that is no buffer's is refused at once,
-/// with nothing done.
+/// The law of message calls: as that of buffers, and a number that is not a buffer's is rejected at
+/// once, with nothing done.
 pub struct IpcLaw;
 
 impl CallLaw for IpcLaw {

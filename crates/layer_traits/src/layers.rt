@@ -1,6 +1,6 @@
 //! One trait for the layers of the tower, over the law that each of them meets.
 //!
-//! No call takes memory, and none waits.
+//! No call is given an allocator, and none waits.
 
 ghost use Rattle.std.specs.Prelude.{◌≡◌, ℕ, ◌<◌, ◌≤◌, length, true, false, Bool, List, [], Option, None, Some, OnSome, if◌then◌else◌};
 ghost use Rattle.event_log.specs.{declared.ids.{CpuId.CpuId, LockId.LockId, TheConstants.CPUS}, Actions.{Action, AreLegal, phase}, History.{IsLawful, Grows}};
@@ -12,13 +12,15 @@ use event_log::{CpuId, LockId};
 
 /// What a layer promises of its calls. The rest, which every layer promises, is in `Layer`.
 pub trait Law {
-    /// What is handed on of a call. A message that the call puts lies in the payload beside it.
+    /// The form in which layers pass a call down. A message that the call puts is in the payload
+    /// beside it.
     type Call: Drop;
 
-    /// What is handed back of an answer. A message that it brings lies in the payload beside it.
+    /// The form in which layers pass a result back up. A message that it brings is in the payload
+    /// beside it.
     type Answer: Drop;
 
-    /// What a call answers.
+    /// A call's result.
     type Told;
 
     /// What a lock guards.
@@ -27,7 +29,7 @@ pub trait Law {
     /// The name of a section: its edit.
     type Name;
 
-    /// What a section answers.
+    /// A section's result.
     type Reply;
 
     /// A call that took effect.
@@ -36,58 +38,58 @@ pub trait Law {
     /// A call that has begun.
     type Begun;
 
-    /// What a part has of its own.
+    /// A part's private state.
     type State;
 
     /// The CPU of an event.
     ghost cpu_of_event: { Self.Event → CpuId };
 
-    /// What an answer tells, with this payload beside it.
+    /// Abstraction function: the result that a passed-back form means, with this payload beside it.
     ghost told: { Self.Answer → Payload → Self.Told };
 
-    /// From the opening blocks on, after which events which may come.
+    /// The events that are allowed after this history, from the opening blocks on.
     ghost allowed: { (LockId → Option Self.Block) → List Self.Event → Self.Event → Type 0 };
 
-    /// The lock of a call is there.
+    /// The lock of a call exists.
     ghost IsThere: { (LockId → Option Self.Block) → Self.Call → Payload → Type 0 };
 
-    /// With this own state of the part, the call touches nothing shared.
+    /// With this private state of the part, the call touches nothing shared.
     ghost IsLocal: { Self.State → Self.Call → Payload → Type 0 };
 
     /// The homes are those of a boot.
     ghost AreHomes: { List CpuId → Type 0 };
 
-    /// What a part has of its own at boot.
+    /// A part's private state at boot.
     ghost at_boot: { List CpuId → CpuId → Self.State };
 
     /// The machine is one in which the parts of these homes may begin.
     ghost Boots: { (LockId → Option Self.Block) → List Self.Event → List CpuId → CpuId → Type 0 };
 
-    /// A call may be polled: at its first poll it may come, and after that it is the one under way.
+    /// A call may be polled: at its first poll it is allowed, and after that it is the pending one.
     ghost MayPoll: { (LockId → Option Self.Block) → CpuId → List Self.Event → Self.State → Option Self.Begun → Self.Call → Payload → Type 0 };
 
-    /// Which call is under way after a poll with this answer, as far as the answer tells.
+    /// Which call is pending after a poll with this result, as far as the result determines it.
     ghost LeavesBegun: { CpuId → Self.Call → Payload → Option Self.Answer → Option Self.Begun → Type 0 };
 
-    /// What a poll adds to the events, makes of what the part has of its own, leaves under way, and
-    /// answers.
+    /// What a poll adds to the events, does to the part's private state, leaves pending, and
+    /// returns.
     ghost Polled: { (LockId → Option Self.Block) → (CpuId → Type 0) → CpuId → Self.Call → Payload → Option Self.Told
         → List Self.Event → List Self.Event → Self.State → Self.State → Option Self.Begun → Type 0 };
 
-    /// What the poll of a whole machine makes of what the part has of its own: it answers, or the law
-    /// tells why it does not.
+    /// What the poll of a whole machine does to the part's private state: it returns a result, or
+    /// the law says why it does not.
     ghost IsPrompt: { Self.Call → Payload → Option Self.Answer → Self.State → Self.State → Type 0 };
 
     /// What the names of sections mean.
     ghost table: { Table Self.Name Self.Block Self.Reply };
 
-    /// What a poll is to do.
+    /// What a poll must do.
     ghost plan: { (LockId → Option Self.Block) → CpuId → Self.Call → Payload → Self.State → Plan Self.Name Self.Reply Self.State Self.Told };
 
     /// The events that these actions are.
     ghost events_in: { List (Action Self.Name) → List Self.Event };
 
-    /// What a call under way tells of whether a section is.
+    /// What a pending call says of whether a section is under way.
     ghost Inside: { Option Self.Begun → Bool → Type 0 };
 
     /// The opening blocks are those of a machine that may start.
@@ -96,48 +98,48 @@ pub trait Law {
     /// Each section of the actions edits a block of its kind.
     ghost AreProper: { List (Action Self.Name) → Type 0 };
 
-    /// Each thread moves from where it stands.
+    /// Each move of a thread starts at its place.
     ghost MovesAreLegal: { (LockId → Option Self.Block) → List Self.Event → Type 0 };
 
-    /// What a part has of its own agrees with the events.
+    /// A part's private state agrees with the events.
     ghost Agrees: { (LockId → Option Self.Block) → CpuId → List Self.Event → Self.State → Type 0 };
 }
 
 /// One CPU's part of a layer that meets the law `L`. A poll does at most one atomic action of the
-/// call; it answers in the poll that ends the call, and until then the same call is polled again. To
-/// the layers above a call is one event.
+/// call. The poll that ends the call returns its result, and until then the same call must be
+/// polled again. To the layers above a call is one event.
 ///
-/// No call takes memory.
+/// No call allocates memory.
 pub trait Layer<L: Law>: Sized {
-    /// What lies beneath.
+    /// The machine under the layer.
     type Machine;
 
-    /// The opening block of each lock; None where there is no such lock.
+    /// The opening block of each lock; None if there is no such lock.
     ghost opening: { Self.Machine → LockId → Option L.Block };
 
-    /// The events that the holder of the machine has seen, newest first.
+    /// The events that the holder of the machine has observed, newest first.
     ghost seen: { Self.Machine → List L.Event };
 
-    /// For which CPUs the holder of the machine acts. It carries that the machine is sound.
+    /// The CPUs for which the holder of the machine acts; this implies that the machine is sound.
     ghost ActsFor: { Self.Machine → CpuId → Type 0 };
 
-    /// For how many more events there is room.
+    /// How many more events there is room for.
     ghost room: { Self.Machine → ℕ };
 
-    /// Which machine it is, as numbers; a machine that nobody has to know again needs none. No poll
+    /// Which machine it is, as numbers; a machine that no caller must recognize needs none. No poll
     /// changes it.
     ghost site: { Self.Machine → List ℕ } = { λ _. [] };
 
     /// No section of this CPU is under way.
     ghost IsOutside: { Self.Machine → CpuId → Type 0 };
 
-    /// This CPU may hold a lock, as far as the machine tells.
+    /// This CPU may hold a lock, as far as the machine shows.
     ghost MayHold: { Self.Machine → CpuId → Type 0 };
 
-    /// Whose part it is.
+    /// The CPU whose part it is.
     ghost cpu_of: { Self → CpuId };
 
-    /// What the part has of its own.
+    /// The part's private state.
     ghost own: { Self → L.State };
 
     /// The call that has begun and has not ended.
@@ -146,21 +148,21 @@ pub trait Layer<L: Law>: Sized {
     /// Whether the CPU waits at a lock or holds one.
     ghost is_inside: { Self → Bool };
 
-    /// The part and the machine agree.
+    /// Coupling invariant: the part and the machine agree.
     ghost Fits: { Self → Self.Machine → Type 0 };
 
     /// Whether one poll is one action, as in the tower.
     ghost IsStepwise: { Type 0 };
 
-    /// Whether one poll is one call: each poll answers. A lock that lets polls pass without an action
-    /// is neither.
+    /// Whether one poll is one call: each poll returns a result. A lock that lets polls pass
+    /// without an action is neither whole nor stepwise.
     ghost IsWhole: { Type 0 };
 
     /// The actions on the locks, newest first, each Give under its section's edit.
     ghost acts: { Self.Machine → List (Action L.Name) };
 
-    /// The part of `cpu` at boot, with no call under way. `homes` holds the home of each thread,
-    /// and `buffers` is the number of buffers; layers above use it.
+    /// Returns the part of `cpu` at boot, with no pending call. `homes` holds the home of each
+    /// thread, and `buffers` is the number of buffers; layers above use it.
     ///
     /// Requires: the homes are those of a boot: for a layer with threads, at most `THREADS`.
     fn part(cpu: CpuId, homes: &[CpuId], buffers: u8) -> Self
@@ -170,17 +172,17 @@ pub trait Layer<L: Law>: Sized {
         ensures call { under_way result ≡ None }
         ensures fits { (m : Self.Machine) → ActsFor m cpu → IsOutside m cpu → L.Boots (opening m) (seen m) homes.now cpu → Fits result m };
 
-    /// Whether the CPU waits at a lock or holds one.
+    /// Returns whether the CPU waits at a lock or holds one.
     fn is_busy(&self) -> bool
         ensures { result ≡ is_inside self.now };
 
-    /// What the part has of its own, where it lies.
+    /// Returns the part's private state, without a copy.
     fn own_here(&self) -> &L::State
         ensures { result.now ≡ own self.now };
 
-    /// Looks again for a section that waits at its lock, and returns whether it did: a poll that ends
-    /// nothing, so it needs no call and has no answer. If it returns `false` nothing has changed,
-    /// and the call is to be polled; a layer may always return that.
+    /// Polls the lock again for a section that waits at it, and returns whether it did. Such a poll
+    /// ends no call, so that it needs no call and has no result. If it returns `false` nothing has
+    /// changed, and the call must be polled; a layer may always return `false`.
     ///
     /// Requires: part and machine agree, and there is room for an event.
     fn look(&mut self, m: &mut Self::Machine) -> bool
@@ -196,9 +198,10 @@ pub trait Layer<L: Law>: Sized {
         ensures tries { IsStepwise → result ≡ true
             → Tries (ActsFor m.old) (cpu_of self.old) (acts m.old) (acts m.new) };
 
-    /// Notes looks of a section that waits at its lock and whose look would miss: one for each of the
-    /// steps at the front of `steps` that are this CPU's, at most. Returns how many it noted: each
-    /// missed, and nothing else has changed. A layer may always return 0.
+    /// Records failed polls of a section that waits at its lock, as long as a poll would fail. It
+    /// records at most one for each of the steps at the front of `steps` that are this CPU's.
+    /// Returns how many it recorded: each failed, and nothing else is changed. A layer may always
+    /// return 0.
     ///
     /// Requires: part and machine agree, and there is room for as many events as there are steps.
     #[inline(always)]
@@ -214,14 +217,15 @@ pub trait Layer<L: Law>: Sized {
         0
     }
 
-    /// Does at most one action of `call`. Returns its answer once the call has ended, and `None` while
-    /// the same call is to be polled again. A call that touches nothing shared answers at once.
+    /// Performs at most one action of `call`. Returns its result once the call has ended, and
+    /// `None` while the same call must be polled again. A call that touches nothing shared returns
+    /// its result at once.
     ///
-    /// A message that the call puts lies in the payload at each poll, and one that its answer
-    /// brings lies there afterwards.
+    /// A message that the call puts is in the payload at each poll, and one that its result brings
+    /// is there afterwards.
     ///
-    /// Requires: part and machine agree, the lock of the call is there, there is room for an event,
-    /// and the call is one that may come now: while one is under way, the same call.
+    /// Requires: part and machine agree, the lock of the call exists, and there is room for an
+    /// event. The call may be polled now: while a call is pending, only that call.
     fn poll(
         &mut self,
         m: &mut Self::Machine,
@@ -246,31 +250,31 @@ pub trait Layer<L: Law>: Sized {
     /// Law: a part that agrees with a machine is of a CPU for which the machine's holder acts.
     ghost own_cpu: { (p : Self) (m : Self.Machine) → Fits p m → ActsFor m (cpu_of p) };
 
-    /// Law: each event that was seen was allowed.
+    /// Law: each event in the history was allowed.
     ghost lawful: { (m : Self.Machine) (c : CpuId) → ActsFor m c → IsLawful (L.allowed (opening m)) (seen m) };
 
-    /// Law: each event that was seen is of a CPU that a machine may have.
+    /// Law: each event in the history is of a CPU that a machine may have.
     ghost known: { (m : Self.Machine) (c : CpuId) → ActsFor m c → IsLawful (λ past e. (L.cpu_of_event e).0 < CPUS) (seen m) };
 
-    /// Law: each thread moves from where it stands.
+    /// Law: each move of a thread starts at its place.
     ghost moves_legal: { (m : Self.Machine) (c : CpuId) → ActsFor m c → L.MovesAreLegal (opening m) (seen m) };
 
     /// Law: the machine opened as one that may start.
     ghost opens: { (m : Self.Machine) (c : CpuId) → ActsFor m c → L.Starts (opening m) };
 
-    /// Law: what a part has of its own agrees with the events.
+    /// Law: a part's private state agrees with the events.
     ghost stands: { (p : Self) (m : Self.Machine) → Fits p m → L.Agrees (opening m) (cpu_of p) (seen m) (own p) };
 
-    /// Law: what a call under way tells of whether a section is.
+    /// Law: what a pending call says of whether a section is under way.
     ghost inside: { (p : Self) → L.Inside (under_way p) (is_inside p) };
 
-    /// Law: if no call is under way no lock is waited for or held.
+    /// Law: if no call is pending, the CPU neither waits at a lock nor holds one.
     ghost idle: { (p : Self) (m : Self.Machine) → Fits p m → under_way p ≡ None → is_inside p ≡ false };
 
     /// Law: the actions are legal.
     ghost legal: { (m : Self.Machine) (c : CpuId) → ActsFor m c → AreLegal (acts m) };
 
-    /// Law: if a poll is one action, the events that were seen are those of the actions.
+    /// Law: if a poll is one action, the events of the history are those of the actions.
     ghost seen_is: { IsStepwise → (m : Self.Machine) → seen m ≡ L.events_in (acts m) };
 
     /// Law: if a poll is one action, each section of the actions edits a block of its kind.

@@ -1,7 +1,8 @@
-//! The laws that the tower's machines and layers meet: what an edit is, what a machine of lock
-//! words gives, and what a layer of critical sections promises to the layer above it.
+//! The laws that the tower's machines and layers meet: what an edit is, and what a machine of lock
+//! words provides. They also say what a layer of critical sections promises to the layer above it.
 //!
-//! A layer on a layer meets its trait by the polls of the one beneath. Here shared queues over locks:
+//! A layer over another layer implements its trait by polling the lower one. Here are shared queues
+//! over locks:
 //!
 //! ```text
 //! fn poll(&mut self, m: &mut L::Machine, call: QueueCall<E::Handed>, payload: &mut Payload)

@@ -1,6 +1,6 @@
 //! The layer of critical sections.
 //!
-//! No call takes memory, and none waits.
+//! No call is given an allocator, and none waits.
 
 ghost use Rattle.std.specs.Prelude.{◌≡◌, IsSome, is_some};
 ghost use Rattle.{event_log.specs.Sections.{Section, cpu_of_section, sections_in}, layer_traits.specs.{Protocols.Protocol.section, Polling.Plans.section_plan}};
@@ -11,16 +11,16 @@ use crate::layers::{Law, Layer};
 use event_log::{CpuId, LockId};
 use std::marker::{Model, PhantomData};
 
-/// A section as layers hand it on: one edit of what a lock guards.
+/// A section in the form in which layers pass it down: one edit of what a lock guards.
 #[derive(Clone, Copy)]
 pub struct LockCall<E> {
     /// The lock.
     pub lock: LockId,
-    /// What is handed on of the edit.
+    /// The passed-down form of the edit.
     pub edit: E,
 }
 
-/// Stands in clauses for a section of a CPU.
+/// In clauses: a section of a CPU.
 pub struct SectionOf<E> {
     cpu: CpuId,
     call: LockCall<E>,
@@ -32,8 +32,8 @@ impl<E> Model for SectionOf<E> {
     ghost view = { λ s. section s.cpu s.call.lock s.call.edit };
 }
 
-/// The law of critical sections: a call is one section, and the poll that ends it answers what its
-/// edit answers.
+/// The law of critical sections: a call is one section, and the poll that ends it returns the
+/// result of its edit.
 pub struct LockLaw<E> {
     edits: PhantomData<E>,
 }

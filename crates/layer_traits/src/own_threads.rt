@@ -1,6 +1,6 @@
-//! The threads that a CPU has of its own.
+//! A CPU's private scheduling state.
 //!
-//! No call takes memory, and none waits.
+//! No call is given an allocator, and none waits.
 
 ghost use Rattle.std.specs.Prelude.{◌≡◌, ◌≢◌, [], Option, true, false};
 ghost use Rattle.thread_blocks.specs.Queues.{is_in};
@@ -9,17 +9,18 @@ use event_log::Tid;
 use std::marker::Model;
 use thread_blocks::ThreadQueue;
 
-/// The threads of a CPU: the one that runs, the woken one in its hand whose home is elsewhere, who is
-/// ready, and who has ended. A scheduler moves them; the layers above it read them where they lie.
+/// The threads of a CPU: the one that runs, the woken one in its hand, the ready and the ended
+/// ones. The hand is the in-transit slot for a woken thread whose home is another CPU. A scheduler
+/// moves the threads; the layers above read them without a copy.
 #[derive(Drop)]
 pub struct OwnThreads {
     /// The thread that runs, if one does.
     pub current: Option<Tid>,
-    /// The woken thread in hand, if there is one.
+    /// The woken thread in the hand, if there is one.
     pub hand: Option<Tid>,
-    /// Who is ready, the next one in front.
+    /// The run queue: the threads that are ready, the next one in front.
     pub ready: ThreadQueue,
-    /// Who has ended.
+    /// The threads that have ended.
     pub ended: ThreadQueue,
 }
 
@@ -32,7 +33,7 @@ impl Model for OwnThreads {
 }
 
 impl OwnThreads {
-    /// The thread that runs; `None` if none does.
+    /// Returns the thread that runs; `None` if none does.
     #[inline(always)]
     pub fn current(&self) -> Option<Tid>
         ensures { result ≡ self.now.current }
@@ -40,7 +41,7 @@ impl OwnThreads {
         self.current
     }
 
-    /// The woken thread in hand; `None` if there is none.
+    /// Returns the woken thread in the hand; `None` if there is none.
     #[inline(always)]
     pub fn hand(&self) -> Option<Tid>
         ensures { result ≡ self.now.hand }
@@ -48,7 +49,7 @@ impl OwnThreads {
         self.hand
     }
 
-    /// Whether any thread is ready.
+    /// Returns whether any thread is ready.
     #[inline(always)]
     pub fn has_ready(&self) -> bool
         ensures some { result ≡ true → self.now.ready ≢ [] }
@@ -57,7 +58,7 @@ impl OwnThreads {
         self.ready.front().is_some()
     }
 
-    /// Whether `t` is ready.
+    /// Returns whether `t` is ready.
     #[inline(always)]
     pub fn is_ready(&self, t: Tid) -> bool
         ensures { result ≡ is_in t self.now.ready }
@@ -65,7 +66,7 @@ impl OwnThreads {
         self.ready.contains(t)
     }
 
-    /// Whether `t` has ended.
+    /// Returns whether `t` has ended.
     #[inline(always)]
     pub fn has_ended(&self, t: Tid) -> bool
         ensures { result ≡ is_in t self.now.ended }

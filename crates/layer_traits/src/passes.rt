@@ -1,17 +1,17 @@
-//! The calls by which a CPU passes from thread to thread.
+//! Passes: the scheduling operations of a CPU.
 
 use event_log::Tid;
 
-/// A pass of a CPU's scheduler from thread to thread. No pass edits what a buffer's lock guards.
+/// A scheduling operation of a CPU. No pass edits what a buffer's lock guards.
 #[derive(Clone, Copy)]
 pub enum Pass {
-    /// The front of the ready threads runs; nobody ran before.
+    /// Context switch: the thread at the head of the run queue runs; none ran before.
     Switch,
-    /// Who is pending joins the ready threads, and behind them the thread that runs.
+    /// The pending threads join the run queue, and after them the thread that runs.
     YieldNow,
-    /// Who is pending becomes ready; nobody runs and nobody is ready.
+    /// The pending threads become ready; no thread runs and none is ready.
     Drain,
-    /// The thread in hand goes into the pending queue of its home.
+    /// The thread in the hand is forwarded to its home CPU: it enters the pending queue there.
     MakeReady(Tid),
     /// The thread that runs has ended.
     End,

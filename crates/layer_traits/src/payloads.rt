@@ -1,6 +1,6 @@
-//! What edits and their answers carry, beside them.
+//! The data that are passed by reference beside edits and their results.
 //!
-//! No call takes memory, and none waits.
+//! No call is given an allocator, and none waits.
 
 ghost use Rattle.std.specs.Prelude.{◌≡◌, []};
 ghost use Rattle.event_log.specs.Messages.{no_message};
@@ -11,8 +11,8 @@ use std::mem;
 use std::snapshot::Snapshot;
 use thread_blocks::{ThreadList, ThreadQueue};
 
-/// A `T` for clauses alone: they see the value, which has no bytes at run time. So a part keeps what a
-/// call meant for the price of nothing.
+/// A `T` for clauses only: they see the value, which has no bytes at run time. A part can therefore
+/// record what a call meant at no cost.
 #[derive(Drop)]
 pub struct Ghost<T> {
     value: Snapshot<T>,
@@ -25,7 +25,7 @@ impl<T> Model for Ghost<T> {
 }
 
 impl<T> Ghost<T> {
-    /// This value.
+    /// Returns this value, for clauses.
     #[inline(always)]
     pub fn of(value: &T) -> Ghost<T>
         ensures { result ≡ value.now }
@@ -36,20 +36,20 @@ impl<T> Ghost<T> {
     }
 }
 
-/// What an edit of a buffer puts, and what its answer brings. It lies beside the edit and the answer,
-/// which are small and are handed on by value.
+/// What an edit of a buffer puts, and what its result brings. It is beside the edit and the result,
+/// which are small and are passed by value.
 #[derive(Clone, Copy)]
 pub struct Parcel {
-    /// The message that an edit puts, or that its answer brings.
+    /// The message that an edit puts, or that its result brings.
     pub message: Msg,
-    /// The first number of an answer.
+    /// The first number of a result.
     pub first: u64,
-    /// The second number of an answer.
+    /// The second number of a result.
     pub second: u64,
 }
 
 impl Parcel {
-    /// No message, and zeros.
+    /// Returns a parcel with no message, and zeros.
     pub fn new() -> Parcel
         ensures { result ≡ record { message = no_message; first = 0; second = 0 } }
     {
@@ -61,18 +61,18 @@ impl Parcel {
     }
 }
 
-/// What lies beside an edit on its way to a block, and beside its answer on the way back. The
-/// layers hand on one reference to it.
+/// The data beside an edit on its way down to a block, and beside its result on the way back up.
+/// The layers pass one reference to it.
 #[derive(Drop)]
 pub struct Payload {
-    /// What an edit puts, or its answer brings.
+    /// What an edit puts, or its result brings.
     pub parcel: Parcel,
-    /// The threads that were taken of a pending queue.
+    /// The threads that were taken from a pending queue.
     pub taken: ThreadList,
 }
 
 impl Payload {
-    /// An empty payload.
+    /// Returns an empty payload.
     pub fn new() -> Payload
         ensures parcel { result.parcel ≡ record { message = no_message; first = 0; second = 0 } }
         ensures taken { result.taken ≡ [] }
@@ -83,7 +83,7 @@ impl Payload {
         }
     }
 
-    /// Takes the threads out, and leaves none.
+    /// Removes and returns the threads.
     pub fn take_threads(&mut self) -> ThreadList
         ensures taken { result ≡ self.old.taken }
         ensures none { self.new.taken ≡ [] }

@@ -1,6 +1,6 @@
 //! The layer of locks that are handed from owner to owner.
 //!
-//! No call takes memory, and none waits.
+//! No call is given an allocator, and none waits.
 
 ghost use Rattle.std.specs.Prelude.{◌≡◌, ◌≤◌, [], IsSome, None, length, map};
 ghost use Rattle.layer_traits.specs.Layers.{QLocking.{LockState, AreAtRest, lock_after, lock_caller, lock_moves, lock_rules}, QLockLaw.Locking};
@@ -23,7 +23,7 @@ use crate::sleeps::Outcome;
 use crate::threads::{ThreadLaw, ThreadLayer};
 use std::marker::{Model, PhantomData};
 
-/// Stands in clauses for the block of a lock with its owner and its waiting lists.
+/// In clauses: the block of a lock with its owner and its waiting lists.
 pub struct LockStateOf<B> {
     above: B,
 }
@@ -34,7 +34,7 @@ impl<B> Model for LockStateOf<B> {
     ghost view = { λ s. record { owner = None; sleepers = []; receivers = []; senders = []; above = s.above } };
 }
 
-/// Stands in clauses for what a CPU keeps beneath, and for which lock each thread slept.
+/// In clauses: a CPU's private state of the lower layer, and for which lock each thread slept.
 pub struct LockingOf<O> {
     outcomes: PhantomData<O>,
 }
@@ -45,13 +45,13 @@ impl<O> Model for LockingOf<O> {
     ghost view = { λ _. locking_at_start [] (record { 0 = 0 }) };
 }
 
-/// The law of queuing locks (Gu et al., OSDI 2016): each buffer's lock has an owner. An Acquire of a
-/// lock that has one puts its caller to sleep, and is polled again once the thread runs again: it
-/// then owns the lock, and is told so without an action.
+/// The law of queuing locks (Gu et al., OSDI 2016): each buffer's lock has an owner. An Acquire of
+/// a lock that has one puts its caller to sleep, and is polled again once the thread runs again.
+/// The thread then owns the lock, and the result says so without an action.
 ///
-/// A call may come if its caller runs here, no woken thread is in hand, it is the owner's or asks for
-/// the lock, and the edits' protocol allows it and stays so. A thread that slept for a lock asks for
-/// it again, and nothing is under way.
+/// A call is allowed if its caller runs here and the hand is empty, and if it is the owner's or
+/// asks for the lock. The edits' protocol must allow it and continue to. A thread that slept for a
+/// lock asks for it again, and no other call is pending.
 pub struct QLockLaw<F> {
     edits: PhantomData<F>,
 }

@@ -1,6 +1,6 @@
-//! The edits of shared queues, what they answer, and the blocks that they edit.
+//! The edits of shared queues, their results, and the blocks that they edit.
 //!
-//! No call takes memory, and none waits.
+//! No call is given an allocator, and none waits.
 
 use crate::block_box::{BlockBox, edit_in_box, push_in, take_from};
 use crate::edits::{Edit, SplitEdit};
@@ -22,34 +22,35 @@ pub enum QueueEdit<E> {
     Above(E),
 }
 
-/// What a call at shared queues answers.
+/// The result of a call at shared queues.
 #[derive(Drop)]
 pub enum QueueAnswer<O> {
     /// The thread was pushed.
     Done,
     /// The threads that were taken, in their order.
     Taken(ThreadList),
-    /// What the edit answers.
+    /// The edit's result.
     Answer(O),
 }
 
-/// What layers hand back of an answer at shared queues: threads that it brings lie in the payload.
+/// The form in which layers pass back a result of shared queues: threads that it brings are in the
+/// payload.
 #[derive(Clone, Copy)]
 pub enum BareQueueAnswer<O> {
     /// [`QueueAnswer::Done`].
     Done,
-    /// [`QueueAnswer::Taken`], of the threads beside it.
+    /// [`QueueAnswer::Taken`], of the payload's threads.
     Taken,
     /// [`QueueAnswer::Answer`].
     Answer(O),
 }
 
-/// What a lock guards at shared queues. The blocks lie behind pointers, so that a block passes from
-/// hand to hand as one pointer.
+/// What a lock guards at shared queues. Each block is stored in a box, so that it passes from CPU
+/// to CPU as one pointer.
 #[derive(Drop)]
 pub enum QueueBlock<B> {
-    /// A queue of pending threads. The homes of all threads stand beside it for the proofs alone:
-    /// they cost nothing at run time.
+    /// A queue of pending threads. The homes of all threads are beside it for the proofs only: they
+    /// cost nothing at run time.
     Queue(BlockBox<ThreadQueue>, Snapshot<ArrayVec<CpuId, THREADS>>),
     /// A block of the layer above.
     Above(BlockBox<B>),

@@ -1,6 +1,6 @@
 //! The layer of shared queues.
 //!
-//! No call takes memory, and none waits.
+//! No call is given an allocator, and none waits.
 
 ghost use Rattle.std.specs.Prelude.{◌≡◌, IsSome, is_some, map};
 ghost use Rattle.{event_log.specs.{declared.ids.LockId.TheVariants.Buffer, Sections.{block_after, sections_in}}, layer_traits.specs.Blocks.Payloads.call_meant};
@@ -35,9 +35,9 @@ pub struct QueueEvent<E> {
     pub call: QueueCall<E>,
 }
 
-/// The law of shared queues: each CPU has a queue of pending threads, into which others push and of
-/// which it takes all, and each buffer has a block, which is edited. A CPU pushes who is in its hand
-/// into the queue of that thread's home, and takes its own queue alone.
+/// The law of shared queues. Each CPU has a queue of pending threads (remote wake-ups), into which
+/// other CPUs push and which it drains. Each buffer has a block, which is edited. A CPU pushes the
+/// thread in its hand into the queue of that thread's home, and takes only its own queue.
 pub struct QueueLaw<E> {
     edits: PhantomData<E>,
 }
@@ -116,8 +116,8 @@ impl<E: Moves> BlockLaw for QueueLaw<E> {
     ghost pending_after = { λ opening seen d. pending_by (moves_in (kernel E.rules E.moves opening) seen) d };
 }
 
-/// One CPU's part of a layer of shared queues. A poll does at most one atomic action of the call. To
-/// the layers above a call is one event.
+/// One CPU's part of a layer of shared queues. A poll does at most one atomic action of the call.
+/// To the layers above a call is one event.
 pub trait QueueLayer<E: Moves>: Layer<QueueLaw<E>> {}
 
 impl<E: Moves, X: Layer<QueueLaw<E>>> QueueLayer<E> for X {}

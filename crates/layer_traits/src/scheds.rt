@@ -1,4 +1,4 @@
-//! The layer of schedulers. No call takes memory or waits.
+//! The layer of schedulers. No call is given an allocator or waits.
 
 ghost use Rattle.std.specs.Prelude.{◌≡◌, ◌≢◌, ◌≤◌, true, false, length, [], IsSome, is_some, map};
 ghost use Rattle.layer_traits.specs.{Threads.Places.{at_boot, pending_by, Stands}, Blocks.{Payloads.{sched_meant, sched_told}, QueueBlocks.StartsWell}};
@@ -20,25 +20,25 @@ use std::marker::PhantomData;
 /// A call of a CPU's scheduler.
 #[derive(Clone, Copy)]
 pub enum SchedCall<E> {
-    /// Passes from thread to thread.
+    /// Performs a pass, a scheduling operation.
     Pass(Pass),
     /// The thread that runs edits the block of a buffer.
     OnBuffer(BufId, E),
 }
 
-/// What a call of a scheduler answers.
+/// The result of a call of a scheduler.
 #[derive(Clone, Copy)]
 pub enum SchedAnswer<O> {
     /// The pass is done.
     Done,
-    /// What the edit answers.
+    /// The edit's result.
     Answer(O),
 }
 
-/// The law of schedulers: which thread runs on a CPU, who is ready there, who has ended, and the
-/// woken thread in its hand whose home is elsewhere. An edit may put the thread that runs to sleep,
-/// and may wake a sleeper: that one is ready at once if its home is here, and else is in this CPU's
-/// hand until it is made ready at its home (Gu et al., PLDI 2018).
+/// The law of schedulers: which thread runs on a CPU, which are ready there, which have ended, and
+/// which woken thread of another home is in its hand. An edit may put the thread that runs to
+/// sleep, and may wake a sleeper. A woken thread is ready at once if its home is this CPU.
+/// Otherwise it is in this CPU's hand until it is made ready at its home (Gu et al., PLDI 2018).
 pub struct SchedLaw<E> {
     edits: PhantomData<E>,
 }
@@ -117,10 +117,10 @@ impl<E: Moves> BlockLaw for SchedLaw<E> {
     ghost pending_after = { λ opening seen d. pending_by (moves_in (kernel E.rules E.moves opening) seen) d };
 }
 
-/// One CPU's part of a layer of schedulers. A poll does at most one atomic action of the call. To the
-/// layers above a call is one event.
+/// One CPU's part of a layer of schedulers. A poll does at most one atomic action of the call. To
+/// the layers above a call is one event.
 pub trait SchedLayer<E: Moves>: Layer<SchedLaw<E>> {
-    /// The thread that runs; `None` if none does.
+    /// Returns the thread that runs; `None` if none does.
     #[inline(always)]
     fn current(&self) -> Option<Tid>
         ensures { result ≡ (Self.own self.now).current }
@@ -128,7 +128,7 @@ pub trait SchedLayer<E: Moves>: Layer<SchedLaw<E>> {
         self.own_here().current()
     }
 
-    /// The woken thread in hand, whose home is elsewhere; `None` if there is none.
+    /// Returns the woken thread in the hand, whose home is another CPU; `None` if there is none.
     #[inline(always)]
     fn hand(&self) -> Option<Tid>
         ensures { result ≡ (Self.own self.now).hand }
@@ -136,7 +136,7 @@ pub trait SchedLayer<E: Moves>: Layer<SchedLaw<E>> {
         self.own_here().hand()
     }
 
-    /// Whether any thread is ready.
+    /// Returns whether any thread is ready.
     #[inline(always)]
     fn has_ready(&self) -> bool
         ensures some { result ≡ true → (Self.own self.now).ready ≢ [] }

@@ -1,6 +1,6 @@
 //! The layer of sections that put threads to sleep and wake them.
 //!
-//! No call takes memory, and none waits.
+//! No call is given an allocator, and none waits.
 
 ghost use Rattle.std.specs.Prelude.{◌≡◌, ◌≤◌, [], IsSome, None, length, map, false};
 ghost use Rattle.layer_traits.specs.Layers.{Sleeping.{SleepState, NobodySleeps, sleep_edited, sleep_moves, sleep_rules}, Queues.QueueAllowed};
@@ -22,16 +22,17 @@ use crate::threads::{ThreadLaw, ThreadLayer};
 use event_log::BufId;
 use std::marker::{Model, PhantomData};
 
-/// A section at the lock of a buffer, as layers hand it on: one edit of what that lock guards.
+/// A section at the lock of a buffer, in the form in which layers pass it down: one edit of what
+/// that lock guards.
 #[derive(Clone, Copy)]
 pub struct BufferCall<E> {
     /// The buffer.
     pub buffer: BufId,
-    /// What is handed on of the edit.
+    /// The passed-down form of the edit.
     pub edit: E,
 }
 
-/// Stands in clauses for the block of a lock with its waiting lists.
+/// In clauses: the block of a lock with its waiting lists.
 pub struct SleepStateOf<B> {
     above: B,
 }
@@ -42,7 +43,7 @@ impl<B> Model for SleepStateOf<B> {
     ghost view = { λ s. record { sleepers = []; receivers = []; senders = []; above = s.above } };
 }
 
-/// Stands in clauses for the threads of a CPU, and the outcome that is still to be given.
+/// In clauses: the threads of a CPU, and the outcome that is still to be returned.
 pub struct SleepingOf<O> {
     outcomes: PhantomData<O>,
 }
@@ -53,16 +54,16 @@ impl<O> Model for SleepingOf<O> {
     ghost view = { λ _. record { threads = at_boot [] (record { 0 = 0 }); deferred = None } };
 }
 
-/// The law of sections that put threads to sleep and wake them (Gu et al., PLDI 2018). Each buffer's
-/// lock has three waiting lists. A section does one edit, by which its caller may join one of them,
-/// and one thread may leave one.
+/// The law of sections that put threads to sleep and wake them (Gu et al., PLDI 2018). Each
+/// buffer's lock has three waiting lists. A section does one edit, by which its caller may join one
+/// of them, and one thread may leave one.
 ///
-/// A section that wakes a thread of another CPU leaves it in its CPU's hand. If the caller goes on,
-/// its own call then sends that thread home, and only then answers. A caller that fell asleep is
-/// answered at once, and the scheduler's next call sends the thread home.
+/// A section that wakes a thread of another CPU leaves it in its CPU's hand. If the caller
+/// continues, its call then forwards that thread to its home CPU, and only then returns. A call
+/// whose caller fell asleep returns at once, and the scheduler's next call forwards the thread.
 ///
-/// A call may come if its caller runs here, no woken thread is in hand, and the edits' protocol
-/// allows it and stays so.
+/// A call is allowed if its caller runs here, the hand is empty, and the edits' protocol allows it
+/// and continues to.
 pub struct SleepLaw<E> {
     edits: PhantomData<E>,
 }
@@ -162,8 +163,8 @@ impl<E: Sleeps> SleeperLaw for SleepLaw<E> {
     ghost wait_list_of = { wait_list_with };
 }
 
-/// One CPU's part of a layer whose sections put threads to sleep and wake them. To the layers above a
-/// section is one event.
+/// One CPU's part of a layer whose sections put threads to sleep and wake them. To the layers above
+/// a section is one event.
 pub trait SleepLayer<E: Sleeps>: ThreadLayer<SleepLaw<E>> {}
 
 impl<E: Sleeps, X: ThreadLayer<SleepLaw<E>>> SleepLayer<E> for X {}

@@ -1,6 +1,6 @@
-//! What one step of a CPU answers, and the steps of one CPU at the front of a schedule.
+//! The result of one step of a CPU, and the steps of one CPU at the front of a schedule.
 //!
-//! No call takes memory, and none waits.
+//! No call is given an allocator, and none waits.
 
 ghost use Rattle.{std.specs.Prelude.{length, IsTrue}, layer_traits.specs.Polling.Spins.BeginWith};
 
@@ -9,16 +9,16 @@ use event_log::CpuId;
 /// Why a CPU takes no step.
 #[derive(Clone, Copy)]
 pub enum Reason {
-    /// Each thread at home on the CPU has ended.
+    /// Each thread whose home is the CPU has ended.
     AllEnded,
-    /// The call at which the current thread stands could leave no entry: the CPU's trace is full
-    /// but for the entries that its calls under way will leave.
+    /// The current thread's call could leave no entry: the CPU's trace is full, except for the
+    /// entries that its pending calls will leave.
     TraceFull,
     /// The system has taken all the steps that it has room for.
     StepsUsed,
 }
 
-/// What one step of a CPU answers.
+/// The result of one step of a CPU.
 #[derive(Clone, Copy)]
 pub enum Step {
     /// The step was taken.
@@ -30,8 +30,8 @@ pub enum Step {
 /// How many steps are compared at once.
 const RUN: usize = 32;
 
-/// How many of the steps at the front of `steps` are those of `cpu`. Runs of `RUN` steps are
-/// compared whole, and the rest step by step.
+/// Returns how many of the steps at the front of `steps` are those of `cpu`. Blocks of `RUN` steps
+/// are compared whole, and the rest step by step.
 pub fn steps_of(cpu: CpuId, steps: &[CpuId]) -> usize
     ensures { BeginWith cpu result steps.now }
 {
@@ -39,7 +39,8 @@ pub fn steps_of(cpu: CpuId, steps: &[CpuId]) -> usize
     runs + few_of(cpu, &steps[runs..])
 }
 
-/// How many steps there are in the runs at the front of `steps` whose steps are all those of `cpu`.
+/// Returns how many steps are in the blocks of `RUN` steps at the front of `steps` that have only
+/// steps of `cpu`.
 fn runs_of(cpu: CpuId, steps: &[CpuId]) -> usize
     ensures { BeginWith cpu result steps.now }
 {
@@ -53,8 +54,8 @@ fn runs_of(cpu: CpuId, steps: &[CpuId]) -> usize
     own
 }
 
-/// Whether all of `steps` are those of `cpu`. No step is passed over, so that many are compared at
-/// once.
+/// Returns whether all of `steps` are those of `cpu`. It has no early exit, so that many steps are
+/// compared at once.
 #[inline(always)]
 fn all_of(cpu: CpuId, steps: &[CpuId]) -> bool
     ensures { IsTrue result → BeginWith cpu (length steps.now) steps.now }
@@ -66,7 +67,7 @@ fn all_of(cpu: CpuId, steps: &[CpuId]) -> bool
     all
 }
 
-/// How many of the steps at the front of `steps` are those of `cpu`, step by step.
+/// Returns how many of the steps at the front of `steps` are those of `cpu`, step by step.
 fn few_of(cpu: CpuId, steps: &[CpuId]) -> usize
     ensures { BeginWith cpu result steps.now }
 {

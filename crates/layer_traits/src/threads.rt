@@ -1,10 +1,10 @@
 //! One trait for the layers whose calls put threads to sleep, over the law that each of them meets.
 //!
-//! It is `Layer` with the threads: which run, which are ready, and how a CPU passes from one to the
-//! next. A type that stands on another is checked with all traits that its bound brings, so a second
-//! trait beside `Layer` would double each layer above it.
+//! It is `Layer` with the threads: which run, which are ready, and how a CPU switches between them.
+//! A type over another type is checked with all traits that its bound brings. A second trait beside
+//! `Layer` would therefore double each layer above it.
 //!
-//! No call takes memory, and none waits.
+//! No call is given an allocator, and none waits.
 
 ghost use Rattle.std.specs.Prelude.{◌≡◌, ◌≢◌, ℕ, ◌<◌, ◌≤◌, length, true, false, Bool, List, [], Option, None, Some, IsSome, OnSome, is_some, if◌then◌else◌};
 ghost use Rattle.event_log.specs.{declared.ids.{CpuId.CpuId, LockId.LockId, TheConstants.CPUS}, Actions.{Action, AreLegal, phase}, History.{IsLawful, Grows}};
@@ -18,12 +18,12 @@ use crate::passes::Pass;
 use crate::payloads::Payload;
 use event_log::{CpuId, LockId, Tid};
 
-/// The law of a layer whose parts hold threads, and that passes calls on to its scheduler.
+/// The law of a layer whose parts hold threads, and that passes calls down to its scheduler.
 pub trait ThreadLaw: Law {
     /// The threads of the part's CPU.
     ghost threads_of: { Self.State → Threads };
 
-    /// The call of the thread that runs will answer without an action.
+    /// The call of the thread that runs will return without an action.
     ghost at_once: { Self.State → Bool };
 
     /// A pass, once it has begun.
@@ -33,48 +33,48 @@ pub trait ThreadLaw: Law {
     ghost Passed: { (LockId → Option Self.Block) → (CpuId → Type 0) → CpuId → Pass → Option (Unit {0}) → List Self.Event → List Self.Event
         → Threads → Threads → Type 0 };
 
-    /// What else the part has of its own is as before.
+    /// The rest of the part's private state is unchanged.
     ghost KeepsRest: { Self.State → Self.State → Type 0 };
 
-    /// What a poll of a pass is to do.
+    /// What a poll of a pass must do.
     ghost pass_plan: { (LockId → Option Self.Block) → CpuId → Pass → Self.State → Plan Self.Name Self.Reply Self.State (Unit {0}) };
 }
 
-/// One CPU's part of a layer that meets the law `L` and whose calls put threads to sleep. A poll does
-/// at most one atomic action; if it returns `None` the same call is polled again, once its thread
-/// runs. To the layers above a section is one event.
+/// One CPU's part of a layer that meets the law `L` and whose calls put threads to sleep. A poll
+/// does at most one atomic action; if it returns `None` the same call must be polled again, once
+/// its thread runs. To the layers above a section is one event.
 ///
-/// No call takes memory.
+/// No call allocates memory.
 pub trait ThreadLayer<L: ThreadLaw>: Sized {
-    /// What lies beneath.
+    /// The machine under the layer.
     type Machine;
 
-    /// The opening block of each lock; None where there is no such lock.
+    /// The opening block of each lock; None if there is no such lock.
     ghost opening: { Self.Machine → LockId → Option L.Block };
 
-    /// The events that the holder of the machine has seen, newest first.
+    /// The events that the holder of the machine has observed, newest first.
     ghost seen: { Self.Machine → List L.Event };
 
-    /// For which CPUs the holder of the machine acts. It carries that the machine is sound.
+    /// The CPUs for which the holder of the machine acts; this implies that the machine is sound.
     ghost ActsFor: { Self.Machine → CpuId → Type 0 };
 
-    /// For how many more events there is room.
+    /// How many more events there is room for.
     ghost room: { Self.Machine → ℕ };
 
-    /// Which machine it is, as numbers; a machine that nobody has to know again needs none. No poll
+    /// Which machine it is, as numbers; a machine that no caller must recognize needs none. No poll
     /// changes it.
     ghost site: { Self.Machine → List ℕ } = { λ _. [] };
 
     /// No section of this CPU is under way.
     ghost IsOutside: { Self.Machine → CpuId → Type 0 };
 
-    /// This CPU may hold a lock, as far as the machine tells.
+    /// This CPU may hold a lock, as far as the machine shows.
     ghost MayHold: { Self.Machine → CpuId → Type 0 };
 
-    /// Whose part it is.
+    /// The CPU whose part it is.
     ghost cpu_of: { Self → CpuId };
 
-    /// What the part has of its own.
+    /// The part's private state.
     ghost own: { Self → L.State };
 
     /// The call that has begun and has not ended.
@@ -83,21 +83,21 @@ pub trait ThreadLayer<L: ThreadLaw>: Sized {
     /// Whether the CPU waits at a lock or holds one.
     ghost is_inside: { Self → Bool };
 
-    /// The part and the machine agree.
+    /// Coupling invariant: the part and the machine agree.
     ghost Fits: { Self → Self.Machine → Type 0 };
 
     /// Whether one poll is one action, as in the tower.
     ghost IsStepwise: { Type 0 };
 
-    /// Whether one poll is one call: each poll answers or leaves its thread to wait. A lock that lets
-    /// polls pass without an action is neither.
+    /// Whether one poll is one call: each poll returns a result or leaves its thread to wait. A
+    /// lock that lets polls pass without an action is neither whole nor stepwise.
     ghost IsWhole: { Type 0 };
 
     /// The actions on the locks, newest first, each Give under its section's edit.
     ghost acts: { Self.Machine → List (Action L.Name) };
 
-    /// The part of `cpu` at boot, with no call under way. `homes` holds the home of each thread,
-    /// and `buffers` is the number of buffers; layers above use it.
+    /// Returns the part of `cpu` at boot, with no pending call. `homes` holds the home of each
+    /// thread, and `buffers` is the number of buffers; layers above use it.
     ///
     /// Requires: the homes are those of a boot: for a layer with threads, at most `THREADS`.
     fn part(cpu: CpuId, homes: &[CpuId], buffers: u8) -> Self
@@ -107,15 +107,15 @@ pub trait ThreadLayer<L: ThreadLaw>: Sized {
         ensures call { under_way result ≡ None }
         ensures fits { (m : Self.Machine) → ActsFor m cpu → IsOutside m cpu → L.Boots (opening m) (seen m) homes.now cpu → Fits result m };
 
-    /// Whether the CPU waits at a lock or holds one.
+    /// Returns whether the CPU waits at a lock or holds one.
     fn is_busy(&self) -> bool
         ensures { result ≡ is_inside self.now };
 
-    /// The threads of this CPU, where they lie.
+    /// Returns the threads of this CPU, without a copy.
     fn own_threads(&self) -> &OwnThreads
         ensures { result.now ≡ L.threads_of (own self.now) };
 
-    /// The thread that runs; `None` if none does.
+    /// Returns the thread that runs; `None` if none does.
     #[inline(always)]
     fn current(&self) -> Option<Tid>
         ensures { result ≡ (L.threads_of (own self.now)).current }
@@ -123,8 +123,8 @@ pub trait ThreadLayer<L: ThreadLaw>: Sized {
         self.own_threads().current()
     }
 
-    /// The thread in this CPU's hand: woken here, and still to be sent to its home. `None` if there
-    /// is none.
+    /// Returns the thread in this CPU's hand: woken here, and not yet forwarded to its home CPU.
+    /// `None` if there is none.
     #[inline(always)]
     fn hand(&self) -> Option<Tid>
         ensures { result ≡ (L.threads_of (own self.now)).hand }
@@ -132,7 +132,7 @@ pub trait ThreadLayer<L: ThreadLaw>: Sized {
         self.own_threads().hand()
     }
 
-    /// Whether any thread is ready here.
+    /// Returns whether any thread is ready here.
     #[inline(always)]
     fn has_ready(&self) -> bool
         ensures some { result ≡ true → (L.threads_of (own self.now)).ready ≢ [] }
@@ -141,14 +141,14 @@ pub trait ThreadLayer<L: ThreadLaw>: Sized {
         self.own_threads().has_ready()
     }
 
-    /// Whether the call of the thread that runs will answer without an action, since it slept for a
-    /// lock and was handed it.
+    /// Returns whether the call of the thread that runs will return without an action, since it
+    /// slept for a lock and was handed it.
     fn at_once(&self) -> bool
         ensures { result ≡ L.at_once (own self.now) };
 
-    /// Looks again for a section that waits at its lock, and returns whether it did: a poll that ends
-    /// nothing, so it needs no call and has no answer. If it returns `false` nothing has changed,
-    /// and the call is to be polled; a layer may always return that.
+    /// Polls the lock again for a section that waits at it, and returns whether it did. Such a poll
+    /// ends no call, so that it needs no call and has no result. If it returns `false` nothing has
+    /// changed, and the call must be polled; a layer may always return `false`.
     ///
     /// Requires: part and machine agree, and there is room for an event.
     fn look(&mut self, m: &mut Self::Machine) -> bool
@@ -164,9 +164,10 @@ pub trait ThreadLayer<L: ThreadLaw>: Sized {
         ensures tries { IsStepwise → result ≡ true
             → Tries (ActsFor m.old) (cpu_of self.old) (acts m.old) (acts m.new) };
 
-    /// Notes looks of a section that waits at its lock and whose look would miss: one for each of the
-    /// steps at the front of `steps` that are this CPU's, at most. Returns how many it noted: each
-    /// missed, and nothing else has changed. A layer may always return 0.
+    /// Records failed polls of a section that waits at its lock, as long as a poll would fail. It
+    /// records at most one for each of the steps at the front of `steps` that are this CPU's.
+    /// Returns how many it recorded: each failed, and nothing else is changed. A layer may always
+    /// return 0.
     ///
     /// Requires: part and machine agree, and there is room for as many events as there are steps.
     #[inline(always)]
@@ -182,14 +183,15 @@ pub trait ThreadLayer<L: ThreadLaw>: Sized {
         0
     }
 
-    /// Does at most one action of `call`. Returns its answer once the call has ended, and `None` while
-    /// the same call is to be polled again. A call that touches nothing shared answers at once.
+    /// Performs at most one action of `call`. Returns its result once the call has ended, and
+    /// `None` while the same call must be polled again. A call that touches nothing shared returns
+    /// its result at once.
     ///
-    /// A message that the call puts lies in the payload at each poll, and one that its answer
-    /// brings lies there afterwards.
+    /// A message that the call puts is in the payload at each poll, and one that its result brings
+    /// is there afterwards.
     ///
-    /// Requires: part and machine agree, the lock of the call is there, there is room for an event,
-    /// and the call is one that may come now: while one is under way, the same call.
+    /// Requires: part and machine agree, the lock of the call exists, and there is room for an
+    /// event. The call may be polled now: while a call is pending, only that call.
     fn poll(
         &mut self,
         m: &mut Self::Machine,
@@ -211,11 +213,11 @@ pub trait ThreadLayer<L: ThreadLaw>: Sized {
             (L.plan (opening m.old) (cpu_of self.old) call payload.old (own self.old))
             (acts m.old) (acts m.new) (record { own = own self.new; answer = told_by L.told result payload.new }) };
 
-    /// Does at most one action of a pass. Returns `Some` once the pass has ended, and `None` while the
-    /// same pass is to be polled again.
+    /// Performs at most one action of a pass. Returns `Some` once the pass has ended, and `None`
+    /// while the same pass must be polled again.
     ///
-    /// Requires: part and machine agree, there is room for an event, and the pass is one that may
-    /// come now (while a call is under way, the same call).
+    /// Requires: part and machine agree, and there is room for an event. The pass may be polled
+    /// now: while a call is pending, only that call.
     fn pass(&mut self, m: &mut Self::Machine, call: Pass, payload: &mut Payload) -> Option<()>
         requires fits { Fits self.old m.old }
         requires room { 0 < room m.old }
@@ -235,31 +237,31 @@ pub trait ThreadLayer<L: ThreadLaw>: Sized {
     /// Law: a part that agrees with a machine is of a CPU for which the machine's holder acts.
     ghost own_cpu: { (p : Self) (m : Self.Machine) → Fits p m → ActsFor m (cpu_of p) };
 
-    /// Law: each event that was seen was allowed.
+    /// Law: each event in the history was allowed.
     ghost lawful: { (m : Self.Machine) (c : CpuId) → ActsFor m c → IsLawful (L.allowed (opening m)) (seen m) };
 
-    /// Law: each event that was seen is of a CPU that a machine may have.
+    /// Law: each event in the history is of a CPU that a machine may have.
     ghost known: { (m : Self.Machine) (c : CpuId) → ActsFor m c → IsLawful (λ past e. (L.cpu_of_event e).0 < CPUS) (seen m) };
 
-    /// Law: each thread moves from where it stands.
+    /// Law: each move of a thread starts at its place.
     ghost moves_legal: { (m : Self.Machine) (c : CpuId) → ActsFor m c → L.MovesAreLegal (opening m) (seen m) };
 
     /// Law: the machine opened as one that may start.
     ghost opens: { (m : Self.Machine) (c : CpuId) → ActsFor m c → L.Starts (opening m) };
 
-    /// Law: what a part has of its own agrees with the events.
+    /// Law: a part's private state agrees with the events.
     ghost stands: { (p : Self) (m : Self.Machine) → Fits p m → L.Agrees (opening m) (cpu_of p) (seen m) (own p) };
 
-    /// Law: what a call under way tells of whether a section is.
+    /// Law: what a pending call says of whether a section is under way.
     ghost inside: { (p : Self) → L.Inside (under_way p) (is_inside p) };
 
-    /// Law: if no call is under way no lock is waited for or held.
+    /// Law: if no call is pending, the CPU neither waits at a lock nor holds one.
     ghost idle: { (p : Self) (m : Self.Machine) → Fits p m → under_way p ≡ None → is_inside p ≡ false };
 
     /// Law: the actions are legal.
     ghost legal: { (m : Self.Machine) (c : CpuId) → ActsFor m c → AreLegal (acts m) };
 
-    /// Law: if a poll is one action, the events that were seen are those of the actions.
+    /// Law: if a poll is one action, the events of the history are those of the actions.
     ghost seen_is: { IsStepwise → (m : Self.Machine) → seen m ≡ L.events_in (acts m) };
 
     /// Law: if a poll is one action, each section of the actions edits a block of its kind.

@@ -1,6 +1,6 @@
-//! Words whose log is told in terms of grant words.
+//! Words whose log is translated into one of grant words.
 //!
-//! Only `open` takes memory, and no call waits.
+//! Only `open` allocates memory, and no call waits.
 
 ghost use Rattle.std.specs.Prelude.{◌≡◌, ◌<◌, [], IfOk};
 
@@ -12,9 +12,9 @@ use crate::words::Words;
 use event_log::{CpuId, LockId, NoMemory};
 use std::alloc::Global;
 
-/// A machine whose locks have grant words, and which keeps its log in the events of a ticket lock,
-/// as it would with two words to a lock. That log, told in terms of grant words, is one of theirs;
-/// so the machine meets [`GrantWords`] by what it does as [`Words`].
+/// A machine whose locks have grant words. It stores its log in the events of a ticket lock, as it
+/// would with two words to a lock. That log, translated into events of grant words, is legal for
+/// them. The machine therefore meets [`GrantWords`] by what it does as [`Words`].
 pub trait UsesGrantWords: Words {}
 
 impl<W: UsesGrantWords> GrantWords for W {

@@ -1,6 +1,6 @@
-//! The machine beneath the layers: the words and the blocks of ticket locks.
+//! The machine under the layers: the words and the blocks of ticket locks.
 //!
-//! No call takes memory, and none waits.
+//! No call is given an allocator, and none waits.
 
 ghost use Rattle.std.specs.Prelude.{◌≡◌, ℕ, ◌+◌, ◌<◌, ◌≤◌, ◌++◌, length, replicate, List, [], Option, IsSome, MatchOption, option_map};
 
@@ -8,13 +8,13 @@ use crate::edits::{Mark, SplitEdit};
 use event_log::{CpuId, Event, LockId};
 
 /// A holder of ticket locks: each lock has the words `next` and `serving`, and guards a block. An
-/// owned machine acts for all CPUs; a seat at shared words acts for its own CPU, and events of the
-/// others may come in at any call.
+/// owned machine acts for all CPUs. A seat (a per-CPU handle of shared words) acts for its own CPU,
+/// and events of other CPUs may be added at any call.
 ///
-/// A machine with other words meets this too, where it keeps its log as ticket locks would: a look
-/// reads in that log how often the lock was freed, whatever word the machine loads.
+/// A machine with other words meets this trait too, if it stores its log as ticket locks would. A
+/// poll then reads in that log how often the lock was freed, whatever word the machine loads.
 ///
-/// No call takes memory, and each succeeds.
+/// No call allocates memory, and each succeeds.
 pub trait Words {
     ghost use Rattle.event_log.specs.{declared.{ids.{CpuId.CpuId, LockId.LockId}, events.Event.{Event, TheVariants.{Draw, Look, Free}}}, History.Adds};
     ghost use Rattle.event_log.specs.{History.IsLawful, WordsLog.{cpu_of_event, lock_phase, Idle, Waiting, Holding}, Sections.{Section, block_after}};
@@ -24,38 +24,38 @@ pub trait Words {
     /// The edits of the sections.
     type Edit: SplitEdit;
 
-    /// What a Free leaves in the log: it tells the section's edit.
+    /// What a Free leaves in the log: it determines the section's edit.
     type Mark;
 
-    /// The edit that a mark tells.
+    /// The edit that a mark denotes.
     ghost edit_in: { Self.Mark → Self.Edit };
 
-    /// The opening block of each lock; None where there is no such lock.
+    /// The opening block of each lock; None if there is no such lock.
     ghost opening: { Self → LockId → Option Self.Edit.Block };
 
-    /// The events that this holder has seen, newest first.
+    /// The events that this holder has observed, newest first.
     ghost seen: { Self → List (Event (Mark Self.Edit)) };
 
-    /// For which CPUs the holder acts. It carries that the machine is sound.
+    /// The CPUs for which the holder acts; this implies that the machine is sound.
     ghost ActsFor: { Self → CpuId → Type 0 };
 
-    /// For how many more events there is room.
+    /// How many more events there is room for.
     ghost room: { Self → ℕ };
 
-    /// Which machine it is, as numbers; a machine that nobody has to know again needs none. No call
+    /// Which machine it is, as numbers; a machine that no caller must recognize needs none. No call
     /// changes it.
     ghost site: { Self → List ℕ } = { λ _. [] };
 
-    /// The mark of a section with this edit, of which this is handed on. A machine may keep what is
-    /// handed on, and the edit for clauses alone.
+    /// Returns the mark of a section with this edit, of which `handed` is the passed-down form. A
+    /// machine may store the passed-down form, and the edit for clauses only.
     fn mark(handed: <Self::Edit as SplitEdit>::Handed, edit: Self::Edit) -> Self::Mark
         ensures { edit_in result ≡ edit };
 
     /// Draws a ticket of `lock` for `cpu`: a fetch-and-add of 1 on `next`, whose old value is the
     /// ticket.
     ///
-    /// Requires: the holder acts for `cpu`, the lock is there, there is room for an event, and
-    /// `cpu` has no ticket outstanding.
+    /// Requires: the holder acts for `cpu`, the lock exists, there is room for an event, and `cpu`
+    /// has no ticket outstanding.
     fn draw(&mut self, cpu: CpuId, lock: LockId) -> u64
         requires cpu { ActsFor self.old cpu }
         requires lock { IsSome (opening self.old lock) }
@@ -67,11 +67,11 @@ pub trait Words {
         ensures room { room self.old ≤ room self.new + 1 }
         ensures acts { (c : CpuId) → ActsFor self.old c → ActsFor self.new c };
 
-    /// Loads `serving` of `lock` for `cpu`. Where it reads the ticket the look hits: the lock's
-    /// block passes to the CPU.
+    /// Loads `serving` of `lock` for `cpu`: one poll. If it reads the ticket the poll succeeds: the
+    /// lock's block passes to the CPU.
     ///
-    /// Requires: the holder acts for `cpu`, the lock is there, there is room for an event, and
-    /// `cpu` waits there with `ticket`.
+    /// Requires: the holder acts for `cpu`, the lock exists, there is room for an event, and `cpu`
+    /// waits there with `ticket`.
     fn look(
         &mut self,
         cpu: CpuId,
@@ -92,12 +92,13 @@ pub trait Words {
         ensures room { room self.old ≤ room self.new + 1 }
         ensures acts { (c : CpuId) → ActsFor self.old c → ActsFor self.new c };
 
-    /// Notes looks of `cpu`, which waits at `lock` with `ticket`, if a look would miss: one for each of
-    /// the steps at the front of `steps` that are this CPU's, at most. Returns how many it noted: each
-    /// missed, and nothing else has changed. A machine may always return 0.
+    /// Records failed polls of `cpu`, which waits at `lock` with `ticket`, as long as a poll would
+    /// fail. It records at most one for each of the steps at the front of `steps` that are this
+    /// CPU's. Returns how many it recorded: each failed, and nothing else is changed. A machine may
+    /// always return 0.
     ///
-    /// Requires: the holder acts for `cpu`, the lock is there, there is room for as many events as
-    /// there are steps, and `cpu` waits there with `ticket`.
+    /// Requires: the holder acts for `cpu`, which waits at `lock` with `ticket`. The lock exists,
+    /// and there is room for as many events as there are steps.
     #[inline(always)]
     fn spin(&mut self, cpu: CpuId, lock: LockId, ticket: u64, steps: &[CpuId]) -> usize
         requires cpu { ActsFor self.old cpu }
@@ -116,11 +117,12 @@ pub trait Words {
         0
     }
 
-    /// Frees `lock` for `cpu`: a fetch-and-add of 1 on `serving`. `block` goes home.
+    /// Releases `lock` for `cpu`: a fetch-and-add of 1 on `serving`. `block` is stored in the
+    /// machine.
     ///
-    /// Requires: the holder acts for `cpu`, the lock is there, there is room for an event, `cpu` is
-    /// inside it, and `block` is the one that the CPU's look gave, edited as `mark` says. The
-    /// protocol allows that edit, and goes on to whatever other CPUs do first.
+    /// Requires: the holder acts for `cpu`, the lock exists, there is room for an event, and `cpu`
+    /// is inside it. `block` is the one that the CPU's poll returned, edited as `mark` says. The
+    /// protocol allows that edit, and still does after whatever other CPUs do first.
     fn free(
         &mut self,
         cpu: CpuId,
@@ -142,6 +144,7 @@ pub trait Words {
         ensures room { room self.old ≤ room self.new + 1 }
         ensures acts { (c : CpuId) → ActsFor self.old c → ActsFor self.new c };
 
-    /// Law: what a holder has seen is a legal words log in which each section keeps the protocol.
+    /// Law: what a holder has observed is a legal words log in which each section keeps the
+    /// protocol.
     ghost legal: { (w : Self) (c : CpuId) → ActsFor w c → IsLawful (MayCome (Self.Edit.rules.allowed (opening w))) (seen w) };
 }

@@ -1,4 +1,5 @@
--- What is kept agrees with the call under way and the hand: an outcome is kept of a call inside or of a release alone.
+-- What is deferred agrees with the pending call and the hand: only the outcome of a call inside or
+-- of a release is deferred.
 use Rattle.std.proofs.Common.{◌≡◌, Bool, true, false, ◌&&◌, not, if◌then◌else◌, List, [], Option, Some, None, option_map, is_some, IsSome, refl, ap, sym, ◌∙◌}
 use Rattle.std.proofs.Common.{arith, subst}
 use Rattle.event_log.specs.{declared.ids.{BufId.BufId, CpuId.CpuId, LockId.{LockId, TheVariants.Buffer}, Tid.Tid}, Sections.block_after}
@@ -16,45 +17,46 @@ use Rattle.queuing_lock.specs.{Nested.{lock_call, nested_lock_of}, Parts.{Deferr
 nobody_in : {B : Type 0} (line : WaitList) (o : Option (SleepState (QBlock B))) → IsAtRest (option_map nested_lock_of o) → wait_list_at line o ≡ []
 nobody_in line o rest = grind arith
 
--- where locks are at rest nobody sleeps beneath
+-- where locks are at rest no thread is asleep below
 pub nobody_beneath : {B : Type 0} (opening : LockId → Option (QueueBlock (SleepState (QBlock B)))) → AreAtRest (inner (viewed nested_lock_of opening))
     → NobodySleeps (inner opening)
 nobody_beneath opening rest lock line = nobody_in line (inner opening lock) (subst (λ o. IsAtRest o) (inner_viewed nested_lock_of opening lock) (rest lock))
 
--- a part at boot keeps nothing
+-- a part at boot has no deferred outcome
 pub fresh_deferred : {F R O : Type 0} (under : Option (SchedCall (QLockEdit F R))) (deferred : Option (Outcome (QOut O))) (hand : Option Tid) → under ≡ None
     → deferred ≡ None → DeferredFits (option_map (renamed_sched lock_call) under) deferred hand
 fresh_deferred under deferred hand none nothing = grind arith
 
--- Calls under way beneath and here.
+-- Pending calls below and here.
 
 pub may_beneath : {F R : Type 0} (under : Option (SchedCall (QLockEdit F R))) (b : BufId) (e : QEdit F R) (duty owed : Type 0) → (duty → owed)
     → MayCall (option_map (renamed_sched lock_call) under) (OnBuffer b e) duty → MayCall under (OnBuffer b (as_section e)) owed
 may_beneath under b e duty owed gives may = grind arith
 
--- a call goes on, and what is kept agrees with it
+-- a call continues, and what is deferred agrees with it
 pub deferred_goes : {F R O : Type 0} (under : Option (SchedCall (QEdit F R))) (deferred : Option (Outcome (QOut O))) (hand : Option Tid) (b : BufId)
     (e : QEdit F R) (duty : Type 0)
     → DeferredFits under deferred hand → MayCall under (OnBuffer b e) duty → (duty → hand ≡ None) → DeferredFits (Some (OnBuffer b e)) deferred hand
 deferred_goes under deferred hand b e duty fits may empty = grind arith
 
--- who asks for a lock finds nothing kept
+-- a thread that asks for a lock finds nothing deferred
 pub asks_none : {F R O : Type 0} (deferred : Option (Outcome (QOut O))) (hand : Option Tid) (b : BufId) (e : QEdit F R)
     → DeferredFits (Some (OnBuffer b e)) deferred hand → IsAcquire e → deferred ≡ None
 asks_none deferred hand b e fits given = grind arith
 
--- and who goes on with nothing kept has nobody in hand
+-- and while a call continues with nothing deferred the hand is empty
 hand_empty : {F R O : Type 0} (deferred : Option (Outcome (QOut O))) (hand : Option Tid) (b : BufId) (e : QEdit F R)
     → DeferredFits (Some (OnBuffer b e)) deferred hand → deferred ≡ None → hand ≡ None
 hand_empty deferred hand b e fits given = grind arith
 
--- what is kept is not told to one who is queued
+-- what is deferred is not reported to a queued thread
 pub deferred_is : {F R O : Type 0} (deferred : Option (Outcome (QOut O))) (hand : Option Tid) (b : BufId) (e : QEdit F R) (outcome : Outcome (QOut O))
     → DeferredFits (Some (OnBuffer b e)) deferred hand → deferred ≡ Some outcome → is_queued outcome.out ≡ false
 deferred_is deferred hand b e outcome fits is = grind arith
 
 module _ {F R B O : Type 0} (rules : LockRules F R B O) (homes : List CpuId) (c : CpuId) (own : Threads) (empty : own.hand ≡ None) where
-  -- of whom a thread is to be sent home is no asker, and not queued
+  -- if a thread must be forwarded to its home CPU, the caller is not asking for a lock, and is not
+  -- queued
   sends_inside : (e : QEdit F R) (state : LockState B)
       → must_send (lock_answer rules e state) (own_answered (lock_moves rules) homes c (Some (lock_answer rules e state)) own) ≡ true
       → (IsAcquire e → ⊥) × (is_queued (lock_out rules e state) ≡ false)
@@ -65,7 +67,7 @@ module _ {F R B O : Type 0} (rules : LockRules F R B O) (homes : List CpuId) (c 
   sends_by e o outcome is sends = grind (arith, sends_inside)
 
 module _ {F R B O : Type 0} (rules : LockRules F R B O) (opening : LockId → Option (QueueBlock (LockState B))) (c : CpuId) (b : BufId) (e : QEdit F R) where
-  -- what is kept agrees with what goes on, where a poll left this
+  -- what is deferred agrees with the call that continues, where a poll left this
   abbrev pub DeferredIn : Left (Sleeping (QOut O)) (Outcome (QOut O)) → Type 0
   DeferredIn got = DeferredFits {F = F} {R = R} (if is_some got.answer then None else Some (OnBuffer b e)) got.own.deferred got.own.threads.hand
 
@@ -89,13 +91,13 @@ module _ {F R B O : Type 0} (rules : LockRules F R B O) (opening : LockId → Op
       (block_after (lock_edited rules) (inner opening) (Buffer b) (buffer_sections past)) outcome may.1)
   left_fits (SendsHome t) past own may fits = sent own.deferred (passed_on own.threads) may.0
 
-  -- what is kept after a poll agrees with the call that goes on, or with none
+  -- what is deferred after a poll agrees with the call that continues, or with none
   pub deferred_result : (poll_result : PollResult (QOut O)) (past : List (QueueEvent (QEdit F R))) (own : Sleeping (QOut O))
       (got : Left (Sleeping (QOut O)) (Outcome (QOut O))) → MayDo (lock_kernel rules opening) c b e poll_result past own
       → got ≡ left_with (lock_kernel rules opening) c b e poll_result own → DeferredFits (Some (OnBuffer b e)) own.deferred own.threads.hand → DeferredIn got
   deferred_result poll_result past own got may leaves fits = subst (λ l. DeferredIn l) (sym leaves) (left_fits poll_result past own may fits)
 
--- a pass leaves what is kept
+-- a pass leaves what is deferred
 pub deferred_passed : {F R O : Type 0} (under : Option (SchedCall (QEdit F R))) (deferred : Option (Outcome (QOut O))) (hand hand' : Option Tid) (p : PassCall)
     (duty : Type 0) (done : Bool)
     → DeferredFits under deferred hand → MayCall under (Pass p) duty → DeferredFits {F = F} {R = R} (if done then None else Some (Pass p)) deferred hand'

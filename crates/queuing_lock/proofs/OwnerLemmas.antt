@@ -1,4 +1,4 @@
--- What the owner of a lock may do it may do whatever others do.
+-- What the owner of a lock may do stays permitted under environment steps.
 use Rattle.std.proofs.Common.{arith}
 use Rattle.std.proofs.Common.{◌≡◌, ◌≢◌, false, List, ◌++◌, Option, Some, None}
 use Rattle.event_log.specs.{declared.ids.{BufId.BufId, CpuId.CpuId, LockId.{LockId, TheVariants.Buffer}, Tid.Tid}, History.{AreOthers, IsLawful}}
@@ -19,7 +19,7 @@ module _ {F R B O : Type 0} (rules : LockRules F R B O) (opening : LockId → Op
   abbrev owns : (t : Tid) (c : CpuId) (b : BufId) → home_of (homes_in opening) t ≡ Some c → IsPreserved rules opening
   owns t c b at = record { t = t; P = IsOwner rules t; keeps = keeps_owned rules t; c = c; at_home = at; lock = Buffer b }
 
-  -- the call stays the owner's, and an Acquire that of a thread which is not
+  -- the call stays the owner's, and an Acquire stays that of a thread which is not the owner
   pub owners_stay : (c : CpuId) (b : BufId) (e : QEdit F R) (past : List (QueueEvent (QEdit F R))) → home_of (homes_in opening) (lock_caller rules e) ≡ Some c
       → is_in (lock_caller rules e) (wait_list_in Sleepers (lock_after rules (inner opening) (Buffer b) (buffer_sections past))) ≡ false
       → IsOwners rules e (owner_of rules (inner opening) (buffer_sections past) (Buffer b)) → (more : List (QueueEvent (QEdit F R)))

@@ -1,4 +1,5 @@
--- A part and its polls, from what the part beneath says of its own: what is owed beneath, and what was done here.
+-- A part and its polls, from the private state of the lower part: what is owed below, and what was
+-- done here.
 use Rattle.std.proofs.Common.{arith}
 use Rattle.std.proofs.Common.{◌≡◌, ◌≢◌, true, false, if◌then◌else◌, List, ◌++◌, Option, Some, None, option_map, is_some, map, refl, ap, sym, ◌∙◌, subst, ◌<◌}
 use Rattle.std.proofs.{Common.arith, Math.Path.transport, lemmas.Option.slice_get_within}
@@ -23,13 +24,13 @@ use Rattle.queuing_lock.proofs.{DeferredLemmas.{asks_none, deferred_result, defe
 use Rattle.{queuing_lock.proofs.PollLemmas.{slept_of_others, slept_polled, slept_queued}, thread_blocks.specs.Queues.is_in}
 use Rattle.layer_traits.specs.declared.scheds.SchedCall.TheVariants as call
 
--- the call under way beneath is the one under way here, whatever the answer tells
+-- the call pending below is the one pending here, whatever the result reports
 pub under_is : {F R A T : Type 0} (told : A → T) (under : Option (SchedCall (QLockEdit F R))) (answer : Option A) (s : SchedCall (QLockEdit F R))
     → under ≡ (if is_some answer then None else Some s)
     → option_map (renamed_sched lock_call) under ≡ (if is_some (option_map told answer) then None else Some (renamed_sched lock_call s))
 under_is told under answer s is = grind arith
 
--- a caller that slept for a lock calls its Acquire alone
+-- a caller that slept for a lock calls only its Acquire
 slept_alone : {H F R B O : Type 0} (rules : LockRules F R B O) (meant : H → Parcel → F) (parcel : Parcel) (call : QEdit H R) (slept : List (Option BufId))
     (under : Option (SchedCall (QEdit F R))) (b : BufId) (duty : Type 0)
     → MayGo (slept_for slept (lock_caller rules (lock_meant meant call parcel))) under b (lock_meant meant call parcel)
@@ -59,7 +60,8 @@ pub record Before {F R B O : Type 0} (rules : LockRules F R B O) (opening : Lock
 module _ {F R B O : Type 0} {rules : LockRules F R B O} {opening : LockId → Option (QueueBlock (SleepState (QBlock B)))} (before : Before rules opening) where
   open before use {c, b, e, past, own, under, slept}
 
-  -- the history and the opening here, the call under way here, who calls, and what the first poll of the call owes
+  -- the history and the opening here, the pending call, the calling thread, and what the first poll
+  -- of the call owes
   abbrev seen : List (QueueEvent (QEdit F R))
   seen = renamed_events lock_call past
 
@@ -94,12 +96,12 @@ module _ {F R B O : Type 0} {rules : LockRules F R B O} {opening : LockId → Op
   pub caller_small : t.0 < THREADS
   caller_small = grind (arith, homes_viewed, at_home, slice_get_within)
 
-  -- so its call tells whether it slept
+  -- therefore its call determines whether it slept
   pub slept_asks : {H : Type 0} (meant : H → Parcel → F) (parcel : Parcel) (call : QEdit H R) → lock_meant meant call parcel ≡ e
       → is_some (slept_for slept t) ≡ asks_again slept call
   slept_asks meant parcel call is = grind (arith, slept_alone)
 
-  -- whoever slept for the lock owns it now
+  -- a thread that slept for the lock owns it now
   pub sleeper_handed : (ActsFor : CpuId → Type 0) (x : Option BufId) → slept_for slept t ≡ x → is_some x ≡ true → MayGo x under_here b e t duty
       → LockPolled rules (at_the_lock rules opening) ActsFor c b e x seen seen (record { sleep = own; slept = slept }) under_here (left_handed t slept own)
   sleeper_handed ActsFor None is some may = absurd cc
@@ -118,14 +120,14 @@ module _ {F R B O : Type 0} {rules : LockRules F R B O} {opening : LockId → Op
     goes : MayCall under_here (call.OnBuffer b e) duty
     goes = subst (λ x. MayGo x under_here b e t duty) sleeps_for_none before.may
 
-    -- the call stays allowed whatever others do
+    -- the call stays allowed under environment steps
     stays : duty → EditStays (at_the_lock rules opening) c seen (call.OnBuffer b e)
     stays may more others lawful = record {
       owners = owners_stay rules locks_here c b e seen at_home (awake_here (Buffer b)) may.owners more others lawful;
       granted = may.stays more others lawful;
     }
 
-    -- so the section may be polled beneath
+    -- therefore the section may be polled below
     pub beneath_owed : MayCall under (call.OnBuffer b (as_section e)) (MaySleep (beneath_the_lock rules opening) c past own.threads b (as_section e))
     beneath_owed = may_beneath under b e duty (MaySleep (beneath_the_lock rules opening) c past own.threads b (as_section e)) (λ may. record {
       current = before.caller;
@@ -139,7 +141,7 @@ module _ {F R B O : Type 0} {rules : LockRules F R B O} {opening : LockId → Op
 
     module _ {ActsFor : CpuId → Type 0} {new : List (QueueEvent (QLockEdit F R))} {got : Left (Sleeping (QOut O)) (Outcome (QOut O))}
         (polled : SleepPolled (beneath_the_lock rules opening) ActsFor c b (as_section e) past new own got) where
-      -- the poll beneath is a poll here
+      -- the lower layer's poll is a poll here
       polled_here : SleepPolled (at_the_lock rules opening) ActsFor c b e seen (renamed_events lock_call new) own got
       polled_here = sleeps_renamed _ _ _ _ (locks_wrap rules opening) _ _ _ _ _ _ _ _ polled
 
@@ -150,13 +152,13 @@ module _ {F R B O : Type 0} {rules : LockRules F R B O} {opening : LockId → Op
       locks under' got' ends leaves = rw sleeps_for_none
           (record { left = got; polled = polled_here; ends = ends; asks = asks_none own.deferred own.threads.hand b e deferred_now; leaves = leaves })
 
-      -- what is kept agrees with the call that goes on
+      -- what is deferred agrees with the call that continues
       pub deferred_after : DeferredIn rules locks_here c b e got
       deferred_after = deferred_result rules locks_here c b e polled_here.poll_result (polled_here.others ++ seen) own got polled_here.may polled_here.leaves
           deferred_now
 
       module _ (acts : ActsFor c) (lawful : IsLawful (QueueAllowed (beneath_the_lock rules opening)) new) where
-        -- who slept owns or sleeps still
+        -- a thread that slept owns its lock or still sleeps for it
         pub slept_after : SleptFits rules locks_here c (renamed_events lock_call new) slept
         slept_after = slept_polled rules locks_here c polled_here acts (locks_lawful rules opening new lawful) slept sleeps_for_none before.fits
 
@@ -166,7 +168,7 @@ module _ {F R B O : Type 0} {rules : LockRules F R B O} {opening : LockId → Op
             slept_queued rules locks_here c polled_here acts (locks_lawful rules opening new lawful) slept sleeps_for_none before.fits outcome
             at_home caller_small answer deferred_now
 
--- the part of another CPU agrees still
+-- the part of another CPU still agrees
 pub others_after : {F R B O : Type 0} (rules : LockRules F R B O) (opening : LockId → Option (QueueBlock (SleepState (QBlock B)))) (c d : CpuId) → c ≢ d
     → {ActsFor : CpuId → Type 0} {b : BufId} {e : QEdit F R} {past new : List (QueueEvent (QLockEdit F R))} {own : Sleeping (QOut O)}
     {got : Left (Sleeping (QOut O)) (Outcome (QOut O))} → SleepPolled (beneath_the_lock rules opening) ActsFor d b (as_section e) past new own got → ActsFor c
@@ -176,11 +178,11 @@ pub others_after : {F R B O : Type 0} (rules : LockRules F R B O) (opening : Loc
 others_after rules opening c d apart polled acts lawful slept fits = slept_of_others rules (viewed nested_lock_of opening) c d apart acts slept
     (sleeps_renamed _ _ _ _ (locks_wrap rules opening) _ _ _ _ _ _ _ _ polled) (locks_lawful rules opening _ lawful) fits
 
--- A poll that followed its plan beneath followed it here.
+-- A poll that followed its plan below followed it here.
 
 module _ {F R B O : Type 0} (rules : LockRules F R B O) (opening : LockId → Option (QueueBlock (SleepState (QBlock B)))) (ActsFor : CpuId → Type 0) (c : CpuId)
     (acts acts' : List (Action (QueueEdit (QLockEdit F R)))) where
-  -- a poll followed a plan beneath
+  -- a poll followed a plan of the lower layer
   abbrev pub FollowsBeneath : {S A : Type 0} → Plan (QueueEdit (QLockEdit F R)) (QueueAnswer (Outcome (QOut O))) S A → Left S A → Type 0
   FollowsBeneath plan got
       = Follows ActsFor (table_of (queue_rules (sleep_rules (busy_rules rules)) (sleep_moves (busy_rules rules)))) opening c plan acts acts' got
@@ -190,7 +192,7 @@ module _ {F R B O : Type 0} (rules : LockRules F R B O) (opening : LockId → Op
   FollowsHere plan got = Follows ActsFor (table_of (queue_rules (lock_rules rules) (lock_moves rules))) (viewed nested_lock_of opening) c plan
       (map (renamed (renamed_edit lock_call)) acts) (map (renamed (renamed_edit lock_call)) acts') got
 
-  -- so a plan beneath that is this one here, raised, was followed here
+  -- therefore a plan of the lower layer that is this one here, raised, was followed here
   raised_here : {S T A C : Type 0} (f : Left S A → Left T C) (plan : Plan (QueueEdit (QLockEdit F R)) (QueueAnswer (Outcome (QOut O))) S A)
       (plan' : Plan (QueueEdit (QEdit F R)) (QueueAnswer (Outcome (QOut O))) S A) → plan_named (renamed_edit lock_call) plan ≡ plan' → (got : Left S A)
       → FollowsBeneath plan got → FollowsHere (raised f plan') (f got)

@@ -1,4 +1,5 @@
--- One poll of a part: what it leaves of who slept, and that it is the poll which the law of the layer asks for.
+-- One poll of a part: what it leaves of the threads that slept, and that it is the poll which the
+-- law of the layer requires.
 use Rattle.std.proofs.Common.{◌≡◌, ◌≢◌, inl, inr, ◌<◌, Bool, true, false, ◌&&◌, ◌||◌, not, nat_lt, if◌then◌else◌, List, [], ◌∷◌, ◌++◌, Option, Some, None}
 use Rattle.std.proofs.{Common.{arith, option_map, is_some, refl, ap, sym, ◌∙◌, subst}, lemmas.Bool.{lt-ltb, ne_eqb}, Math.Bool.or-true}
 use Rattle.event_log.specs.{declared.ids.{BufId.BufId, CpuId.CpuId, LockId.{LockId, TheVariants.Buffer}, TheConstants.THREADS, Tid.Tid}, History.IsLawful}
@@ -18,15 +19,15 @@ use Rattle.queuing_lock.{specs.Parts.reported_with, proofs.{DeferredLemmas.defer
 use Rattle.layer_traits.specs.declared.passes.Pass.TheVariants as pass
 use Rattle.layer_traits.specs.declared.scheds.SchedCall.TheVariants as call
 
--- who owns a lock or sleeps for it, and does not sleep, owns it
+-- a thread that owns a lock or sleeps for it, and is not asleep, owns it
 pub awaits_owner : {B : Type 0} (t : Tid) (o : Option (LockState B)) → HasOrAwaits t o → is_in t (wait_list_in Sleepers o) ≡ false → owner_in o ≡ Some t
 awaits_owner t o awaits awake = grind arith
 
--- a thread of the machine that joined a queue stands in it
+-- a thread of the machine that joined a queue is in it
 joined_in : (t : Tid) (queue : List Tid) → t.0 < THREADS → is_in t (joined t queue) ≡ true
 joined_in t queue small = grind (arith, pushed_in, same_tid_self)
 
--- a section that was done and answers answers its outcome
+-- a section that was done and completes returns its outcome
 answered_with : {O : Type 0} (done : Outcome O) (threads : Threads) (outcome : Outcome O) → (left_done done threads).answer ≡ Some outcome
     → Some done ≡ Some outcome
 answered_with done threads outcome answers = grind arith
@@ -36,12 +37,12 @@ pub reported_is : {O : Type 0} (t : Tid) (b : BufId) (slept : List (Option BufId
     → left_locked t b slept sleep out outcome ≡ locking sleep (slept_left_with t b slept out) (reported_with out outcome)
 reported_is t b slept sleep out outcome = grind arith
 
--- whether a call slept does not depend on what its answer tells
+-- whether a call slept does not depend on what its result reports
 pub slept_told : {B O : Type 0} (told : B → Parcel → O) (parcel : Parcel) (t : Tid) (b : BufId) (slept : List (Option BufId)) (out : QOut B)
     → slept_left_with t b slept out ≡ slept_left_with t b slept (lock_told told out parcel)
 slept_told told parcel t b slept out = grind arith
 
--- nor does whether its outcome is handed on
+-- nor does whether its outcome is passed on
 pub reported_told : {B O : Type 0} (told : B → Parcel → O) (parcel : Parcel) (out : QOut B) (outcome : Outcome (QOut B))
     → option_map (λ o. outcome_told (lock_told told) o parcel) (reported_with out outcome)
     ≡ reported_with (lock_told told out parcel) (outcome_told (lock_told told) outcome parcel)
@@ -52,7 +53,7 @@ module _ {F R B O : Type 0} (rules : LockRules F R B O) where
       → HasOrAwaits (lock_caller rules e) (Some (lock_edited rules e state))
   queued_by e state small queued = grind (arith, joined_in)
 
-  -- who is queued sleeps for the lock now
+  -- a queued thread sleeps for the lock now
   pub queued_awaits : (e : QEdit F R) (o : Option (LockState B)) (outcome : Outcome (QOut O)) → (lock_caller rules e).0 < THREADS
       → option_map (lock_answer rules e) o ≡ Some outcome → outcome.out ≡ Queued → HasOrAwaits (lock_caller rules e) (option_map (lock_edited rules e) o)
   queued_awaits e o outcome small is queued = grind (arith, queued_by)
@@ -64,7 +65,8 @@ module _ {F R B O : Type 0} (rules : LockRules F R B O) (opening : LockId → Op
   abbrev Lawful : List (QueueEvent (QEdit F R)) → Type 0
   Lawful log = IsLawful (QueueAllowed K) log
 
-  -- A poll of a section by a part of the CPU c, whose caller does not sleep for a lock, and those who did before it.
+  -- A poll of a section by a part of the CPU c, whose caller does not sleep for a lock, and the
+  -- threads that slept before it.
 
   module _ {ActsFor : CpuId → Type 0} {b : BufId} {e : QEdit F R} {old new : List (QueueEvent (QEdit F R))} {own : Sleeping (QOut O)}
       {got : Left (Sleeping (QOut O)) (Outcome (QOut O))} (polled : SleepPolled K ActsFor c b e old new own got) (acts : ActsFor c) (lawful : Lawful new)
@@ -76,7 +78,7 @@ module _ {F R B O : Type 0} (rules : LockRules F R B O) (opening : LockId → Op
     before : (poll_result : PollResult (QOut O)) (past : List (QueueEvent (QEdit F R))) → Lawful (seen_with K c b e poll_result past) → Lawful past
     before poll_result past lawful = grind arith
 
-    -- who slept owns or sleeps still
+    -- a thread that slept owns its lock or still sleeps for it
     pub slept_polled : SleptFits rules opening c new slept
     slept_polled =
         let after = subst Lawful polled.is lawful in
@@ -95,7 +97,7 @@ module _ {F R B O : Type 0} (rules : LockRules F R B O) (opening : LockId → Op
         let is = ap is_queued queued in
         absurd cc
 
-    -- and who is queued sleeps for the lock
+    -- and a queued thread sleeps for the lock
     pub slept_queued : (outcome : Outcome (QOut O)) → home_of (homes_in opening) (lock_caller rules e) ≡ Some c → (lock_caller rules e).0 < THREADS
         → got.answer ≡ Some outcome → DeferredFits (Some (call.OnBuffer b e)) own.deferred own.threads.hand
         → SleptFits rules opening c new (slept_left_by (lock_caller rules e) b slept outcome)
@@ -128,7 +130,7 @@ module _ {F R B O : Type 0} (rules : LockRules F R B O) (opening : LockId → Op
             slept_others rules opening c (event by (Push (queue_for (homes_in opening) by t) t) ∷ polled.others) old
             (not_by, polled.foreign c acts) lawful slept fits
 
--- A pass does no section, so nothing changes of who owns and who sleeps.
+-- A pass has no section, so that owners and sleepers are unchanged.
 
 module _ {F R B O : Type 0} (rules : LockRules F R B O) (opening : LockId → Option (QueueBlock (LockState B))) (by : CpuId)
     (past : List (QueueEvent (QEdit F R))) where
@@ -143,7 +145,7 @@ module _ {F R B O : Type 0} (rules : LockRules F R B O) (opening : LockId → Op
       → IsLawful (QueueAllowed (lock_kernel rules opening)) past
   before_pass done p lawful = grind (arith, lawful_before)
 
--- who slept owns or sleeps still after a pass, seen by any part
+-- a thread that slept owns its lock or still sleeps for it after a pass, seen by any part
 pub slept_passed : {F R B O : Type 0} (rules : LockRules F R B O) (opening : LockId → Option (QueueBlock (LockState B))) {ActsFor : CpuId → Type 0}
     {by : CpuId} (p : PassCall) (answer : Option (SchedAnswer (Outcome (QOut O)))) {old new : List (QueueEvent (QEdit F R))} {own own' : Threads}
     → SchedPolled (lock_kernel rules opening) ActsFor by (call.Pass p) answer old new own own' → (c : CpuId) → ActsFor c

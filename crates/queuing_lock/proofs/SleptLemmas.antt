@@ -1,4 +1,4 @@
--- Whoever slept for a lock owns it or sleeps for it still, whatever is called.
+-- A thread that slept for a lock owns it or still sleeps for it, whatever is called.
 use Rattle.std.proofs.Common.{◌≡◌, ◌⊎◌, inl, inr, ℕ, zero, suc, List, [], ◌∷◌, ◌++◌, Option, Some, None, slice_index_or, slice_set, replicate, refl, ap, sym}
 use Rattle.std.proofs.{Common.{◌∙◌, subst}, Math.Path.transport, lemmas.Option.same_Some}
 use Rattle.event_log.specs.{declared.ids.{BufId.BufId, CpuId.CpuId, LockId.{LockId, TheVariants.Buffer}, Tid.Tid}, History.{AreOthers, IsLawful}}
@@ -7,7 +7,7 @@ use Rattle.layer_traits.specs.Layers.{QLocking.{LockRules, LockState, lock_calle
 use Rattle.layer_traits.specs.Layers.{Queues.cpu_of_queue_event, SleepLaw.{PollResult, WaitsStill, Does, SendsHome, seen_with}}
 use Rattle.queuing_lock.specs.{Laws.Steady.{keeps_awaits, preserved_by, preserved_by_others}, Parts.{SleptFits, SleptOne}}
 
--- what stands in a list in which one was set stands there because it was set, or stood there before
+-- an entry of a list in which one entry was set is the set one, or was there before
 pub set_reads : {A : Type 0} (xs : List (Option A)) (i j : ℕ) (v : Option A) (a : A) → slice_index_or (slice_set xs i v) j None ≡ Some a
     → ((i ≡ j) × (v ≡ Some a)) ⊎ (slice_index_or xs j None ≡ Some a)
 set_reads [] i j v a is = inr is
@@ -16,7 +16,7 @@ set_reads (x ∷ xs) zero (suc j) v a is = inr is
 set_reads (x ∷ xs) (suc i) zero v a is = inr is
 set_reads (x ∷ xs) (suc i) (suc j) v a is = elim (set_reads xs i j v a is) [ inl both ↦ inl (ap suc both.0, both.1) | inr was ↦ inr was ]
 
--- a list of nothing tells nothing
+-- a list of nothing has nothing at each index
 pub none_at : {A : Type 0} (n j : ℕ) (x : Option A) → x ≡ None → slice_index_or (replicate n x) j None ≡ None
 none_at zero j x is = refl
 none_at (suc n) zero x is = is
@@ -34,7 +34,7 @@ module _ {F R B O : Type 0} (rules : LockRules F R B O) (opening : LockId → Op
         more past others lawful (fits t b is).awaits;
   }
 
-  -- the history went on by calls of others
+  -- the history grew by calls of other CPUs
   pub slept_goes : (more past new : List (QueueEvent (QEdit F R))) → AreOthers cpu_of_queue_event c more → new ≡ more ++ past
       → IsLawful (QueueAllowed (lock_kernel rules opening)) new
       → (slept : List (Option BufId)) → SleptFits rules opening c past slept → SleptFits rules opening c new slept
@@ -59,13 +59,13 @@ module _ {F R B O : Type 0} (rules : LockRules F R B O) (opening : LockId → Op
   }
   slept_result b e (SendsHome u) past slept lawful none fits = λ t at is. record { here = (fits t at is).here; awaits = (fits t at is).awaits }
 
-  -- whose call was handed its lock has slept
+  -- a thread whose call was handed its lock has slept
   pub slept_less : (t : Tid) (past : List (QueueEvent (QEdit F R))) (slept : List (Option BufId)) → SleptFits rules opening c past slept
       → SleptFits rules opening c past (slice_set slept t.0 None)
   slept_less t past slept fits u b is =
       elim (set_reads slept t.0 u.0 None b is) [ inl both ↦ (let none = both.1 in absurd cc) | inr was ↦ fits u b was ]
 
-  -- who is queued now sleeps
+  -- a thread that is queued now sleeps
   pub slept_more : (t : Tid) (b : BufId) (past : List (QueueEvent (QEdit F R))) (slept : List (Option BufId)) → SleptOne rules opening c past t b
       → SleptFits rules opening c past slept → SleptFits rules opening c past (slice_set slept t.0 (Some b))
   slept_more t b past slept one fits u at is = elim (set_reads slept t.0 u.0 (Some b) at is) [
@@ -73,7 +73,7 @@ module _ {F R B O : Type 0} (rules : LockRules F R B O) (opening : LockId → Op
     | inr was ↦ fits u at was
   ]
 
-  -- at boot nobody has slept
+  -- at boot no thread has slept
   pub slept_none : (past : List (QueueEvent (QEdit F R))) (slept : List (Option BufId)) (n : ℕ) → slept ≡ replicate n None
       → SleptFits rules opening c past slept
   slept_none past slept n is t b some =

@@ -1,4 +1,5 @@
--- The calls on a queuing lock as sections of the layer that lets threads sleep: what they do to the busy word and to what lies above.
+-- The calls on a queuing lock as sections of the layer that lets threads sleep. They edit the busy
+-- word and the block of the layer above.
 use Rattle.{std.specs.Prelude.{map, Option, Some, None, option_map}, event_log.specs.{declared.ids.{LockId.LockId, Tid.Tid}, Sections.renamed_section}}
 use Rattle.layer_traits.specs.declared.locked.{QEdit.{QEdit, TheVariants.{Acquire, Inside, Release}}, QOut.{QOut, TheVariants.{Acquired, Queued, Did}}}
 use Rattle.layer_traits.specs.declared.{locked.{QOut.TheVariants.Released, WakeWaiter.WakeWaiter}, payloads.Parcel.Parcel, sleeps.Wake.Wake}
@@ -15,7 +16,7 @@ lock_call section = section.edit
 abbrev pub as_section : {F R : Type 0} → QEdit F R → QLockEdit F R
 as_section e = record { edit = e }
 
--- the section that is meant by what is handed on: of the call that is meant, with this parcel
+-- the section that a passed-down section means: that of the call that is meant, with this parcel
 abbrev pub section_meant : {H F R : Type 0} → (H → Parcel → F) → QLockEdit H R → Parcel → QLockEdit F R
 section_meant meant section parcel = record { edit = lock_meant meant section.edit parcel }
 
@@ -37,13 +38,13 @@ nested_lock_of state = record {
 abbrev pub locks : {B : Type 0} → (LockId → Option (SleepState (QBlock B))) → LockId → Option (LockState B)
 locks opening lock = option_map nested_lock_of (opening lock)
 
--- who leaves a waiting list at a signal
+-- which thread leaves a waiting list at a signal
 abbrev pub leaving : WakeWaiter → Wake
 leaving signal.Nobody = Nobody
 leaving (signal.Receiver t) = Receiver t
 leaving (signal.Sender t) = Sender t
 
--- the block that this thread asked for, where this was in the busy word
+-- the block that this thread asked for, if this was in the busy word
 abbrev pub busy_asked : {B : Type 0} → Tid → Option Tid → QBlock B → QBlock B
 busy_asked t None block = record { busy = Some t; above = block.above }
 busy_asked t (Some owner) block = block
@@ -55,13 +56,13 @@ module _ {F R B O : Type 0} (rules : LockRules F R B O) where
   busy_edited (Inside f) front block = record { busy = block.busy; above = rules.edited f block.above }
   busy_edited (Release r) front block = record { busy = front; above = rules.last_edited r block.above }
 
-  -- what a call is told
+  -- the result of a call
   abbrev pub busy_answer : QEdit F R → Option Tid → QBlock B → QOut O
   busy_answer (Acquire t) front block = asker_report block.busy
   busy_answer (Inside f) front block = Did (rules.answer f block.above)
   busy_answer (Release r) front block = Released (rules.last_answer r block.above)
 
-  -- who leaves a waiting list, by what the call was told
+  -- which thread leaves a waiting list, according to the call's result
   abbrev pub busy_leaves : QOut O → Wake
   busy_leaves Acquired = Nobody
   busy_leaves Queued = Nobody

@@ -1,4 +1,5 @@
--- What a part of queuing locks keeps of its own: who slept for which lock, and why that agrees with the locks.
+-- The private state of a part of queuing locks: which thread slept for which lock, and how that
+-- agrees with the locks.
 use Rattle.std.specs.Prelude.{◌≡◌, Bool, true, false, List, Option, Some, None, is_some, slice_set}
 use Rattle.event_log.specs.declared.ids.{BufId.BufId, CpuId.CpuId, LockId.{LockId, TheVariants.Buffer}, Tid.Tid}
 use Rattle.layer_traits.specs.declared.locked.{QEdit.{QEdit, TheVariants.{Acquire, Inside, Release}}, QOut.{QOut, TheVariants.{Acquired, Queued, Did}}}
@@ -7,25 +8,25 @@ use Rattle.layer_traits.specs.{declared.{scheds.SchedCall.{SchedCall, TheVariant
 use Rattle.layer_traits.specs.Layers.{QLocking.{LockState, lock_after}, QLockLaw.{HasOrAwaits, IsAcquire, slept_for}, Queues.buffer_sections}
 use Rattle.layer_traits.specs.{Threads.Places.home_of, Blocks.QueueBlocks.{homes_in, inner}}
 
--- who slept for which lock after a call of t was told this: who is queued sleeps
+-- which thread slept for which lock after a call of t with this result: a queued thread sleeps
 abbrev pub slept_left_with : {O : Type 0} → Tid → BufId → List (Option BufId) → QOut O → List (Option BufId)
 slept_left_with t b slept Queued = slice_set slept t.0 (Some b)
 slept_left_with t b slept Acquired = slept
 slept_left_with t b slept (Did out) = slept
 slept_left_with t b slept (Released out) = slept
 
--- the same, by the outcome of the call
+-- the same, in terms of the outcome of the call
 abbrev pub slept_left_by : {O : Type 0} → Tid → BufId → List (Option BufId) → Outcome (QOut O) → List (Option BufId)
 slept_left_by t b slept outcome = slept_left_with t b slept outcome.out
 
--- what is handed on of an outcome, by what the call was told: nothing to who is queued
+-- which outcome is passed on, according to the call's result: none if the thread is queued
 abbrev pub reported_with : {O : Type 0} → QOut O → Outcome (QOut O) → Option (Outcome (QOut O))
 reported_with Queued outcome = None
 reported_with Acquired outcome = Some outcome
 reported_with (Did out) outcome = Some outcome
 reported_with (Released out) outcome = Some outcome
 
--- what is handed on of an outcome
+-- which outcome is passed on
 abbrev pub outcome_handed_on : {O : Type 0} → Outcome (QOut O) → Option (Outcome (QOut O))
 outcome_handed_on outcome = reported_with outcome.out outcome
 
@@ -35,26 +36,27 @@ asks_again slept (Acquire t) = is_some (slept_for slept t)
 asks_again slept (Inside f) = false
 asks_again slept (Release r) = false
 
--- whether a call was told that it is queued
+-- whether a call's result is that it is queued
 abbrev pub is_queued : {O : Type 0} → QOut O → Bool
 is_queued Queued = true
 is_queued Acquired = false
 is_queued (Did out) = false
 is_queued (Released out) = false
 
--- a thread that slept for the lock of a buffer is at home here, and it owns that lock or sleeps for it still
+-- a thread that slept for the lock of a buffer has this CPU as its home, and owns that lock or
+-- still sleeps for it
 pub record SleptOne {F R B O : Type 0} (rules : LockRules F R B O) (opening : LockId → Option (QueueBlock (LockState B))) (c : CpuId)
     (seen : List (QueueEvent (QEdit F R))) (t : Tid) (b : BufId) : Type 0 where
   pub here : home_of (homes_in opening) t ≡ Some c
   pub awaits : HasOrAwaits t (lock_after rules (inner opening) (Buffer b) (buffer_sections seen))
 
--- so it is with each thread that slept for a lock
+-- this holds of each thread that slept for a lock
 abbrev pub SleptFits : {F R B O : Type 0} → LockRules F R B O → (LockId → Option (QueueBlock (LockState B))) → CpuId → List (QueueEvent (QEdit F R))
     → List (Option BufId) → Type 0
 SleptFits rules opening c seen slept = (t : Tid) (b : BufId) → slept_for slept t ≡ Some b → SleptOne rules opening c seen t b
 
--- what is kept agrees with the call under way and the hand: an outcome is kept of a call inside or of a release alone, and not
--- beside a pass
+-- what is deferred agrees with the pending call and the hand: only the outcome of a call inside or
+-- of a release is deferred, and none beside a pass
 abbrev pub DeferredFits : {F R O : Type 0} → Option (SchedCall (QEdit F R)) → Option (Outcome (QOut O)) → Option Tid → Type 0
 DeferredFits None None hand = Unit {0}
 DeferredFits None (Some outcome) hand = ⊥

@@ -1,4 +1,4 @@
-//! The blocks at boot. `lock_blocks` takes memory. It does not wait.
+//! The blocks at boot. `lock_blocks` allocates memory. It does not wait.
 
 ghost use Rattle.std.specs.Prelude.{◌≡◌, IfOk, map};
 ghost use Rattle.queuing_lock.specs.Nested.{unowned};
@@ -7,9 +7,9 @@ use crate::edits::QBlock;
 use event_log::NoMemory;
 use std::alloc::Global;
 
-/// The blocks of the layer above, each under a lock without an owner, in their order.
+/// Returns the blocks of the layer above, each under a lock without an owner, in their order.
 ///
-/// Errors: `NoMemory` where there is none for them; then the blocks are gone.
+/// Errors: `NoMemory` if an allocation failed; then the blocks are gone.
 pub fn lock_blocks<B: Drop>(alloc: Global, blocks: Vec<B>) -> Result<Vec<QBlock<B>>, NoMemory>
     ensures { IfOk result (λ made. made.items ≡ map unowned blocks.items) }
 {

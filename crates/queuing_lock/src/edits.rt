@@ -16,8 +16,8 @@ pub struct QLockEdit<F, R> {
     pub edit: QEdit<F, R>,
 }
 
-/// What a queuing lock guards, with the busy word that names its owner; who sleeps for it stands in
-/// the waiting lists beneath.
+/// What a queuing lock guards, with the busy word that names its owner. The threads that sleep for
+/// the lock are in the waiting lists of the layer below.
 #[derive(Drop)]
 pub struct QBlock<B> {
     /// The owner, if there is one.
@@ -111,7 +111,7 @@ impl<F: Locked> Sleeps for QLockEdit<F, F::Release> {
     }
 }
 
-/// The list of those that wait on a side.
+/// Returns the waiting list of a side.
 #[inline(always)]
 fn wait_list(side: Option<Side>) -> Option<WaitList>
     ensures { result ≡ wait_list_for side }
@@ -123,7 +123,7 @@ fn wait_list(side: Option<Side>) -> Option<WaitList>
     }
 }
 
-/// Who leaves a waiting list at a signal.
+/// Returns which thread leaves a waiting list at a signal.
 #[inline(always)]
 fn leave(signal: WakeWaiter) -> Wake
     ensures { result ≡ leaving signal }

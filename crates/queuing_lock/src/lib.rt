@@ -1,5 +1,5 @@
-//! The queuing lock: whoever finds it taken sleeps, and the releaser hands it to the first sleeper,
-//! so that it passes from owner to owner without becoming free.
+//! The queuing lock, a sleeping mutex with direct hand-off. A thread that finds it taken sleeps,
+//! and a release makes the first sleeper its owner, without freeing it in between.
 //!
 //! Thread 3 asks for the lock of buffer 0, and is polled until it owns it:
 //!

@@ -8,8 +8,8 @@ use layer_traits::{
     QOut, SleepLaw, Sleeps, ThreadLayer, WaitList,
 };
 
-/// One CPU's part of queuing locks over a part `S` of a layer that lets threads sleep: it keeps of
-/// each thread for the lock of which buffer it slept.
+/// One CPU's part of queuing locks over a part `S` of a layer that lets threads sleep. For each
+/// thread it records the buffer for whose lock the thread slept.
 #[derive(Drop)]
 pub struct QLock<S> {
     lower: S,

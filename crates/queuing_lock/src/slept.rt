@@ -1,4 +1,4 @@
-//! Who sleeps for which lock. No call takes memory or waits.
+//! Which thread sleeps for which lock. No call allocates memory or waits.
 
 ghost use Rattle.std.specs.Prelude.{◌≡◌, ◌<◌, Some, None, is_some, replicate, slice_set, if◌then◌else◌};
 ghost use Rattle.{event_log.specs.declared.ids.TheConstants.THREADS, layer_traits.specs.Layers.QLockLaw.slept_for, queuing_lock.specs.Parts.asks_again};
@@ -7,16 +7,16 @@ ghost use Rattle.queuing_lock.specs.Parts.{slept_left_by, outcome_handed_on};
 use event_log::{BufId, THREADS, Tid};
 use layer_traits::{Outcome, QEdit, QOut};
 
-/// Of each thread the buffer for whose lock it slept, from the poll in which it fell asleep until
-/// its call answers.
+/// For each thread the buffer for whose lock it slept, from the poll in which it fell asleep until
+/// its call returns.
 #[derive(Drop)]
 pub struct Slept {
-    /// By thread.
+    /// By thread number.
     pub buffers: [Option<BufId>; THREADS],
 }
 
 impl Slept {
-    /// Nobody sleeps for a lock.
+    /// Returns the record of no sleeper.
     pub fn new() -> Slept
         ensures { result.buffers ≡ replicate THREADS None }
     {
@@ -25,7 +25,7 @@ impl Slept {
         }
     }
 
-    /// Whether `t` slept for a lock.
+    /// Returns whether `t` slept for a lock.
     #[inline(always)]
     pub fn has(&self, t: Tid) -> bool
         ensures { result ≡ is_some (slept_for self.now.buffers t) }
@@ -38,8 +38,8 @@ impl Slept {
         }
     }
 
-    /// Whether the call asks again for a lock for which its thread slept. Such a thread calls nothing
-    /// else, so no other call asks the table.
+    /// Returns whether the call asks again for a lock for which its thread slept. Such a thread
+    /// makes no other call, so that no other call consults the record.
     #[inline(always)]
     pub fn asks_again<F, R>(&self, call: &QEdit<F, R>) -> bool
         ensures { result ≡ asks_again self.now.buffers call.now }
@@ -50,7 +50,7 @@ impl Slept {
         }
     }
 
-    /// The sleep of `t` is over.
+    /// Records that the sleep of `t` is over.
     ///
     /// Requires: the thread is below `THREADS`.
     #[inline(always)]
@@ -61,7 +61,7 @@ impl Slept {
         self.buffers[usize::from(t.0)] = None;
     }
 
-    /// `t` sleeps for the lock of `buffer` from now on.
+    /// Records that `t` sleeps for the lock of `buffer`.
     ///
     /// Requires: the thread is below `THREADS`.
     pub fn put(&mut self, t: Tid, buffer: BufId)
@@ -71,8 +71,8 @@ impl Slept {
         self.buffers[usize::from(t.0)] = Some(buffer);
     }
 
-    /// Takes what the lock of `buffer` told `t`: who is queued sleeps there, and its call goes on;
-    /// each other outcome is handed on.
+    /// Takes the outcome of a call of `t` at the lock of `buffer`. A queued thread sleeps there,
+    /// and its call continues; any other outcome is returned.
     ///
     /// Requires: the thread is below `THREADS`.
     #[inline(always)]

@@ -1,10 +1,10 @@
--- The threads at home on a CPU, home by home.
+-- The threads whose home is a CPU, home by home.
 use Rattle.std.proofs.Common.{◌≡◌, ℕ, ◌+◌, ◌<◌, ◌≤◌, min, Bool, true, false, List, [], ◌∷◌, ◌++◌, length, take, get_or, if◌then◌else◌, refl, ap, ◌∙◌, arith}
 use Rattle.std.proofs.lemmas.{Bool.{eq-eqb, ne_eqb}, List.{take_more, length-take}}
 use Rattle.{event_log.specs.{declared.ids.{CpuId.CpuId, Tid.Tid}, History.same_cpu}, thread_blocks.{specs.Queues.is_in, proofs.Members.tid_numbered}}
 use Rattle.layer_traits.specs.Threads.Places.{homed}
 
--- one home more: its thread stands last, if it is at home here
+-- one home more: its thread is the last, if this CPU is its home
 homed_more : (c : CpuId) (n : ℕ) (homes : List CpuId) (home : CpuId)
     → homed c n (homes ++ home ∷ []) ≡ (if same_cpu c home then homed c n homes ++ tid_numbered (n + length homes) ∷ [] else homed c n homes)
 homed_more c n [] home = ap (λ k. if same_cpu c home then tid_numbered k ∷ [] else []) (omega arith)
@@ -26,7 +26,7 @@ next c homes i d within b is =
     ap (homed c 0) (take_more homes i d within) ∙ (homed_more c 0 (take i homes) (get_or homes i d)
     ∙ (λ j. if is j then homed c 0 (take i homes) ++ tid_numbered (most j) ∷ [] else homed c 0 (take i homes)))
 
--- and joins them, if it is at home here
+-- and joins them, if this CPU is its home
 pub homed_joins : (c : CpuId) (homes : List CpuId) (i : ℕ) (d : CpuId) → i < length homes → c.0 ≡ (get_or homes i d).0
     → homed c 0 (take (i + 1) homes) ≡ homed c 0 (take i homes) ++ tid_numbered i ∷ []
 homed_joins c homes i d within here = next c homes i d within true (eq-eqb c.0 (get_or homes i d).0 here)

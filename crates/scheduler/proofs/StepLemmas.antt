@@ -1,5 +1,5 @@
--- One poll of a scheduler's part: a call that touches nothing shared, a poll that waits, and one that answers. In each what the CPU has of
--- its own goes on agreeing with the places.
+-- One poll of a scheduler's part: a call that touches nothing shared, a poll that waits, and a poll
+-- that completes its call. In each the CPU's private scheduling state still agrees with the places.
 use Rattle.std.proofs.Common.{◌≡◌, ℕ, zero, suc, ◌<◌, true, false, List, [], ◌∷◌, ◌++◌, Option, Some, None, IsSome, length, slice_get, refl, ap}
 use Rattle.std.proofs.{Common.{sym, ◌∙◌, subst, arith}, lemmas.Option.same_Some}
 use Rattle.event_log.specs.{declared.ids.{BufId.BufId, CpuId.CpuId, LockId.{LockId, TheVariants.Buffer}, Tid.Tid, TheConstants.THREADS}, History.AreOthers}
@@ -25,14 +25,14 @@ known_within [] n c is = absurd cc
 known_within (x ∷ homes) zero c is = omega arith
 known_within (x ∷ homes) (suc n) c is = let below = known_within homes n c is in omega (arith, below)
 
--- who sleeps is away from home
+-- an asleep thread is not on its home CPU
 asleep_away : (w : Where) → is_asleep w ≡ true → is_home w ≡ false
 asleep_away w asleep = grind arith
 
 -- Which call it is.
 
 module _ {E : Type 0} (homes : List CpuId) (c : CpuId) where
-  -- what the CPU has of its own tells which scheduler's call it is
+  -- the CPU's private state determines which scheduler's call it is
   same_call : {O : Type 0} (mv : MoveRules E O) (s : SchedCall E) (q : QueueCall E) (own : Threads) → StateFor mv s own → queue_call homes c s ≡ Some q
       → sched_call q own.current ≡ s
   same_call mv s q own state is = grind arith
@@ -70,7 +70,7 @@ module _ {E B O : Type 0} (rules : Rules E B O) (mv : MoveRules E O) (opening : 
         let at = current_at H c (moves_in K past) own moves stands t runs in
         (known t c at.0, not_counted t own.ended at.3)
 
-    -- what the CPU has of its own and the layer above let a call come at the shared queues
+    -- the CPU's private state and the layer above allow a call at the shared queues
     allowed_now : (s : SchedCall E) (q : QueueCall E) → StateFor mv s own → queue_call H c s ≡ Some q → UpperNow c past s → CallAllowed K past c q
     allowed_now (call.Pass (MakeReady t)) q state is upper =
         let pushed : Push (queue_for H c t) t ≡ q = cc in
@@ -91,7 +91,7 @@ module _ {E B O : Type 0} (rules : Rules E B O) (mv : MoveRules E O) (opening : 
     local_stands (call.Pass End) state is = stands_finished H c (moves_in K past) own moves stands
     local_stands other state is = absurd cc
 
-  -- what others do keeps the agreement
+  -- environment steps keep the agreement
   stands_on : (c : CpuId) (more past : List (QueueEvent E)) (own : Threads) → AreOthers cpu_of_queue_event c more → Lawful (more ++ past)
       → Stands H c (moves_in K past) own → Stands H c (moves_in K (more ++ past)) own
   stands_on c more past own others lawful stands =
@@ -105,11 +105,11 @@ module _ {E B O : Type 0} (rules : Rules E B O) (mv : MoveRules E O) (opening : 
     state_of : (o : Option (QueueEvent E)) → UnderFits mv H c o own → MaySched K c past own (sched_under o own.current) s → StateFor mv s own
     state_of o calls may = grind arith
 
-    -- what the CPU has of its own lets the call come, at each of its polls
+    -- the CPU's private state allows the call, at each of its polls
     pub state : StateFor mv s own
     state = state_of under fits.calls may
 
-    -- the lock of the call is there
+    -- the lock of the call exists
     pub lock_is_there : (q : QueueCall E) → queue_call H c s ≡ Some q → BufferIsThere opening s → IsSome (opening (lock_of q))
     lock_is_there q is there = grind arith
 
@@ -175,17 +175,17 @@ module _ {E B O : Type 0} (rules : Rules E B O) (mv : MoveRules E O) (opening : 
           calling : IsCalling mv H c (event below q) own
           calling = record { cpu = fits.cpu; step = ap (queue_call H c) one ∙ is; state = subst (λ x. StateFor mv x own) (sym one) state }
 
-      -- A poll that answers, after these calls of others.
+      -- A poll that completes its call, after these calls of other CPUs.
       module _ (answer : QueueAnswer O) (before : List (QueueEvent E)) (legal : Lawful (event c q ∷ before)) (stands_so : Stands H c (moves_in K before) own)
           (answers : answer_of K before q ≡ Some answer) where
         legal_moves : AreMoves H (moves_in K before)
         legal_moves = moves_lawful K wakes before legal.1
 
-        -- the answer of an edit
+        -- the result of an edit
         edit_out : (b : BufId) (e : E) → q ≡ OnBuffer b e → (o : O) × (out_at K before b e ≡ Some o) × (answer ≡ told.Answer o)
         edit_out b e edits = grind arith
 
-        -- who was woken is away from home, and one of the threads that a machine may have
+        -- a woken thread is not on its home CPU, and is one of the threads that a machine may have
         settles : (b : BufId) (e : E) → q ≡ OnBuffer b e → (o : O) → out_at K before b e ≡ Some o → MaySettle (mv.woke o) own
         settles b e edits o is u woke =
             let asleep = woken_sleeps K wakes before legal.1 c b e (subst (CallAllowed K before c) edits legal.0) o is u woke in
@@ -193,7 +193,7 @@ module _ {E B O : Type 0} (rules : Rules E B O) (mv : MoveRules E O) (opening : 
             let home = home_there c (home_of H u) (away_known H (moves_in K before) u legal_moves away) in
             (known u (or_else c (home_of H u)) home, not_counted u own.ready (away_from H c (moves_in K before) own legal_moves stands_so u away))
 
-        -- a taking answers the pending queue
+        -- a taking returns the pending queue
         all_taken : q ≡ TakeAll c → told.Taken (pending_by (moves_in K before) c) ≡ answer
         all_taken takes = same_Some (told.Taken (pending_by (moves_in K before) c)) answer (subst (λ x. answer_of K before x ≡ Some answer) takes answers)
 
@@ -213,7 +213,7 @@ module _ {E B O : Type 0} (rules : Rules E B O) (mv : MoveRules E O) (opening : 
         pushed_done : (d : CpuId) (t : Tid) → q ≡ Push d t → told.Done ≡ answer
         pushed_done d t pushes = same_Some told.Done answer (subst (λ x. answer_of K before x ≡ Some answer) pushes answers)
 
-        -- what the answer leaves agrees with the places after the call
+        -- what the result leaves agrees with the places after the call
         taken_stands : q ≡ TakeAll c → Stands H c (moves_in K (event c q ∷ before)) (own_by mv H c answer own)
         taken_stands takes = rw (takes, ← all_taken takes) (stands_taken H c (moves_in K before) own legal_moves stands_so)
 
@@ -234,11 +234,11 @@ module _ {E B O : Type 0} (rules : Rules E B O) (mv : MoveRules E O) (opening : 
         done_stands (call.OnBuffer b e) state is = edited_stands b e state.0 state.1 (cc)
         done_stands other state is = taken_stands (cc)
 
-        -- it is what the call is to leave
+        -- it is what the call must leave
         done_after : (s : SchedCall E) → queue_call H c s ≡ Some q → own_by mv H c answer own ≡ own_after K c before s own
         done_after s is = grind (arith, all_taken, pushed_done)
 
-        -- and so is the answer
+        -- and so is the result
         done_answer : (s : SchedCall E) → queue_call H c s ≡ Some q → answer_to K before s ≡ Some (answer_by answer)
         done_answer s is = grind (arith, all_taken, pushed_done)
 
@@ -257,7 +257,7 @@ module _ {E B O : Type 0} (rules : Rules E B O) (mv : MoveRules E O) (opening : 
         stands_before : Stands H c (moves_in K joined) own
         stands_before = stands_on c polled.others past own (polled.foreign c acts) legal_last.1 fits.stands
 
-        -- the answer may be taken up
+        -- the result may be taken up
         pub may_take : MayTake mv answer own
         may_take = may_take_by answer joined legal_last stands_before polled.answers q refl
 
@@ -283,7 +283,7 @@ module _ {E B O : Type 0} (rules : Rules E B O) (mv : MoveRules E O) (opening : 
 
   -- Other CPUs' parts.
 
-  -- what others do keeps a part in agreement with the machine
+  -- environment steps keep a part in agreement with the machine
   grown_fits : {d below : CpuId} {table : List CpuId} {under : Option (QueueEvent E)} {past : List (QueueEvent E)} {own : Threads}
       (more new : List (QueueEvent E)) → AreOthers cpu_of_queue_event d more → new ≡ more ++ past → Lawful new
       → SchedPartFits rules mv opening d below table under past own → SchedPartFits rules mv opening d below table under new own
@@ -305,7 +305,7 @@ module _ {E B O : Type 0} (rules : Rules E B O) (mv : MoveRules E O) (opening : 
   other_fits ActsFor c d below table under q (Some answer) past new own acts other polled legal fits =
       grown_fits (event c q ∷ polled.others) new (other, polled.foreign d acts) polled.is legal fits
 
-  -- and one more look at a section that waits
+  -- and one more poll of a section that waits
   pub looked_fits : {ActsFor : CpuId → Type 0} {d below below' : CpuId} {table : List CpuId} {under under' : Option (QueueEvent E)}
       {past new : List (QueueEvent E)} {own : Threads} → Grows ActsFor cpu_of_queue_event past new → ActsFor d → Lawful new → below' ≡ below → under' ≡ under
       → SchedPartFits rules mv opening d below table under past own → SchedPartFits rules mv opening d below' table under' new own

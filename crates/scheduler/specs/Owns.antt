@@ -1,4 +1,5 @@
--- What a CPU's own threads must be like for a change of them to be one, and what a call leaves that touches nothing shared.
+-- What each change of a CPU's private scheduling state requires, and what a call leaves that
+-- touches nothing shared.
 use Rattle.std.specs.Prelude.{◌≡◌, ◌<◌, false, List, ◌++◌, Option, Some}
 use Rattle.{event_log.specs.declared.ids.{Tid.Tid, TheConstants.THREADS}, thread_blocks.specs.Queues.{is_in, AreApart}}
 use Rattle.layer_traits.specs.declared.{passes.Pass.{Pass, TheVariants.{Switch, YieldNow, Drain, MakeReady, End}}, queue_edits.QueueAnswer.QueueAnswer}
@@ -10,15 +11,16 @@ use Rattle.layer_traits.specs.declared.scheds.SchedCall.TheVariants as call
 abbrev pub MayFinish : Threads → Type 0
 MayFinish own = (t : Tid) → own.current ≡ Some t → (t.0 < THREADS) × (is_in t own.ended ≡ false)
 
--- the threads of a queue, and behind them the thread that runs, may join those that are ready: none of them stands there
+-- the threads of a queue, and after them the thread that runs, may join the run queue: none of them
+-- is in it
 abbrev pub MayJoin : List Tid → Threads → Type 0
 MayJoin queue own = AreApart queue own.ready × ((t : Tid) → own.current ≡ Some t → (t.0 < THREADS) × (is_in t (own.ready ++ queue) ≡ false))
 
--- a thread that was woken may become ready: it is not
+-- a thread that was woken may become ready: it is not ready yet
 abbrev pub MaySettle : Option Tid → Threads → Type 0
 MaySettle woke own = (t : Tid) → woke ≡ Some t → (t.0 < THREADS) × (is_in t own.ready ≡ false)
 
--- an answer of the shared queues may be taken up
+-- a result of the shared queues may be taken up
 abbrev pub MayTake : {E O : Type 0} → MoveRules E O → QueueAnswer O → Threads → Type 0
 MayTake mv Done own = Unit {0}
 MayTake mv (Taken queue) own = MayJoin queue own

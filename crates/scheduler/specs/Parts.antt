@@ -1,5 +1,5 @@
--- A CPU's part of a scheduler: which scheduler's call is under way by the call at the shared queues, and how the part agrees with the
--- machine.
+-- A CPU's part of a scheduler: which scheduler's call is pending, in terms of the call at the
+-- shared queues, and how the part agrees with the machine.
 use Rattle.std.specs.Prelude.{◌≡◌, List, Option, Some, None, IsSome}
 use Rattle.event_log.specs.declared.ids.{CpuId.CpuId, LockId.{LockId, TheVariants.Pending}, Tid.Tid}
 use Rattle.layer_traits.specs.declared.{passes.Pass.TheVariants.{YieldNow, Drain, MakeReady}, queue_edits.QueueBlock.QueueBlock, queues.QueueCall.QueueCall}
@@ -8,31 +8,34 @@ use Rattle.layer_traits.specs.{Threads.{MoveRules.MoveRules, Places.{Threads, St
 use Rattle.layer_traits.specs.Layers.{Queues.{kernel, moves_in}, Scheds.{StateFor, queue_call}}
 use Rattle.layer_traits.specs.declared.scheds.SchedCall.TheVariants as call
 
--- the scheduler's call that is at the shared queues with this call: a taking is a yield where a thread runs, and else a drain
+-- the scheduler's call that is this call at the shared queues: a taking is a yield if a thread
+-- runs, otherwise a drain
 abbrev pub sched_call : {E : Type 0} → QueueCall E → Option Tid → SchedCall E
 sched_call (Push d t) current = call.Pass (MakeReady t)
 sched_call (TakeAll d) None = call.Pass Drain
 sched_call (TakeAll d) (Some t) = call.Pass YieldNow
 sched_call (OnBuffer b e) current = call.OnBuffer b e
 
--- the scheduler's call that is under way, by that at the shared queues
+-- the scheduler's call that is pending, in terms of the call at the shared queues
 abbrev pub sched_under : {E : Type 0} → Option (QueueEvent E) → Option Tid → Option (SchedCall E)
 sched_under None current = None
 sched_under (Some e) current = Some (sched_call e.call current)
 
--- the call under way at the shared queues is this CPU's, is the one of its scheduler's call, and what the CPU has of its own lets it come
+-- the call pending at the shared queues is this CPU's, is the one of its scheduler's call, and the
+-- CPU's private state allows it
 pub record IsCalling {E O : Type 0} (mv : MoveRules E O) (homes : List CpuId) (c : CpuId) (e : QueueEvent E) (own : Threads) : Type 0 where
   pub cpu : e.cpu ≡ c
   pub step : queue_call homes c (sched_call e.call own.current) ≡ Some e.call
   pub state : StateFor mv (sched_call e.call own.current) own
 
--- the same of a call that may be under way
+-- the same of a call that may be pending
 abbrev pub UnderFits : {E O : Type 0} → MoveRules E O → List CpuId → CpuId → Option (QueueEvent E) → Threads → Type 0
 UnderFits mv homes c None own = Unit {0}
 UnderFits mv homes c (Some e) own = IsCalling mv homes c e own
 
--- a part of this CPU agrees with the machine: the part beneath is of the same CPU, the homes are the machine's, the CPU has a pending
--- queue, what it has of its own agrees with the places, and so does the call under way beneath
+-- coupling invariant of a part of this CPU and its machine. The lower part is of the same CPU, the
+-- homes are the machine's, and the CPU has a pending queue. Its private state agrees with the
+-- places, and the lower layer's pending call with that state
 pub record SchedPartFits {E B O : Type 0} (rules : Rules E B O) (mv : MoveRules E O) (opening : LockId → Option (QueueBlock B)) (c below : CpuId)
     (table : List CpuId)
     (under : Option (QueueEvent E)) (past : List (QueueEvent E)) (own : Threads) : Type 0 where

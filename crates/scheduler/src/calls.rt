@@ -1,6 +1,6 @@
 //! Which call a scheduler's call is at the shared queues.
 //!
-//! No call takes memory, and none waits.
+//! No call is given an allocator, and none waits.
 
 ghost use Rattle.std.specs.Prelude.{◌≡◌, Some, None, IfOk, IfErr};
 ghost use Rattle.layer_traits.specs.{declared.payloads.Payload.Payload, Threads.Passes.queue_for, Blocks.Payloads.{call_meant, sched_meant}};
@@ -10,11 +10,12 @@ ghost use Rattle.layer_traits.specs.declared.scheds.SchedCall.TheVariants as cal
 use event_log::{CpuId, Tid};
 use layer_traits::{Moves, Pass, QueueCall, SchedCall};
 
-/// The call of `cpu` at the shared queues, into which `call` is moved. Whatever payload lies beside it,
-/// it means the call there of what `call` means. `homes` holds the home of each thread.
+/// Returns the call of `cpu` at the shared queues, into which `call` is moved. With any payload
+/// beside it, the returned call means the call there of what `call` means. `homes` holds the home
+/// of each thread.
 ///
-/// Errors: the pass that `call` is, if it touches nothing shared: there is no call beneath. Nothing
-/// else has changed.
+/// Errors: the pass that `call` is, if it touches nothing shared: it is no call of the lower layer.
+/// Nothing else is changed.
 #[inline(always)]
 pub fn call_beneath<E: Moves>(
     homes: &[CpuId],
@@ -37,7 +38,7 @@ pub fn call_beneath<E: Moves>(
     }
 }
 
-/// The CPU whose pending queue is for `t`: the thread's home, or `cpu` where it has none.
+/// Returns the CPU whose pending queue is for `t`: the thread's home, or `cpu` if it has none.
 #[inline(always)]
 fn queue_for(homes: &[CpuId], cpu: CpuId, t: Tid) -> CpuId
     ensures { result ≡ queue_for homes.now cpu t }

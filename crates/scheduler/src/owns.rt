@@ -1,6 +1,7 @@
-//! What moves the threads that a CPU has of its own.
+//! Changes a CPU's private scheduling state: the thread that runs, the hand (in-transit slot), the
+//! run queue and the ended threads.
 //!
-//! No call takes memory, and none waits.
+//! No call is given an allocator, and none waits.
 
 ghost use Rattle.std.specs.Prelude.{◌≡◌, ◌≤◌, length};
 ghost use Rattle.{event_log.specs.declared.ids.TheConstants.THREADS, layer_traits.specs.Threads.{Places.{at_boot, home_of, is_cpu}, Passes.switched}};
@@ -11,8 +12,8 @@ use event_log::{CpuId, Tid};
 use layer_traits::{BareQueueAnswer, Moves, OwnThreads, Pass, Payload, SchedAnswer, WaitList};
 use thread_blocks::{ThreadList, ThreadQueue};
 
-/// What `cpu` has of its own at boot: all threads at home on it are ready, in the order of their
-/// numbers. `homes` holds the home of each thread.
+/// Returns the scheduling state of `cpu` at boot: all threads whose home it is are ready, in the
+/// order of their numbers. `homes` holds the home of each thread.
 ///
 /// Requires: there are at most `THREADS` homes.
 pub fn threads_at_boot(homes: &[CpuId], cpu: CpuId) -> OwnThreads
@@ -33,7 +34,7 @@ pub fn threads_at_boot(homes: &[CpuId], cpu: CpuId) -> OwnThreads
     }
 }
 
-/// The front of the ready threads runs.
+/// Switches the context: the thread at the head of the run queue runs.
 #[inline(always)]
 fn switch(own: &mut OwnThreads)
     ensures { own.new ≡ switched own.old }
@@ -41,7 +42,7 @@ fn switch(own: &mut OwnThreads)
     own.current = own.ready.pop();
 }
 
-/// The thread that runs has ended.
+/// Moves the thread that runs to the ended ones.
 #[inline(always)]
 fn finish(own: &mut OwnThreads)
     requires { MayFinish own.old }
@@ -53,7 +54,7 @@ fn finish(own: &mut OwnThreads)
     own.current = None;
 }
 
-/// The threads of `queue` join those that are ready, and behind them the thread that runs.
+/// Moves the threads of `queue` to the run queue, and after them the thread that runs.
 #[inline(always)]
 fn join_ready(own: &mut OwnThreads, queue: &mut ThreadList)
     requires { MayJoin queue.old own.old }
@@ -66,7 +67,7 @@ fn join_ready(own: &mut OwnThreads, queue: &mut ThreadList)
     own.current = None;
 }
 
-/// The hand has passed its thread on.
+/// Empties the hand: its thread was forwarded to its home CPU.
 #[inline(always)]
 fn pass_on(own: &mut OwnThreads)
     ensures { own.new ≡ passed_on own.old }
@@ -74,8 +75,8 @@ fn pass_on(own: &mut OwnThreads)
     own.hand = None;
 }
 
-/// The thread that runs went to sleep, if `slept` tells a line, and `woke` was woken: that one is
-/// ready if `cpu` is its home, and else in hand.
+/// Takes note that the thread that runs went to sleep, if `slept` names a wait list, and that
+/// `woke` was woken. A woken thread is ready if `cpu` is its home, and otherwise in the hand.
 #[inline(always)]
 fn settle(
     own: &mut OwnThreads,
@@ -114,10 +115,11 @@ pub fn pass_locally(own: &mut OwnThreads, pass: Pass)
     }
 }
 
-/// Takes up the answer of the shared queues, and gives the scheduler's. The threads that were taken
-/// go straight from the payload to those that are ready.
+/// Takes up the result of the shared queues, and returns the scheduler's. The threads that were
+/// taken are moved directly from the payload to the run queue.
 ///
-/// Requires: who becomes ready by the answer is below `THREADS`, is not ready yet and comes once.
+/// Requires: each thread that becomes ready through the result is below `THREADS`, is not ready yet
+/// and occurs once.
 #[inline(always)]
 pub fn take_answer<E: Moves>(
     own: &mut OwnThreads,
@@ -146,7 +148,7 @@ pub fn take_answer<E: Moves>(
     }
 }
 
-/// Whether `cpu` is the home of `t`.
+/// Returns whether `cpu` is the home of `t`.
 #[inline(always)]
 fn is_home(homes: &[CpuId], cpu: CpuId, t: Tid) -> bool
     ensures { result ≡ is_cpu cpu (home_of homes.now t) }

@@ -1,6 +1,6 @@
 //! The scheduler.
 //!
-//! No call takes memory, and none waits.
+//! No call is given an allocator, and none waits.
 
 use crate::calls::call_beneath;
 use crate::owns::{pass_locally, take_answer, threads_at_boot};
@@ -11,9 +11,10 @@ use layer_traits::{
     kept_homes,
 };
 
-/// One CPU's part of a scheduler over shared queues: it does its CPU's calls one by one, and keeps
-/// what the CPU has of its own. A thread that it wakes is ready at once if its home is here; else it
-/// stands in hand until it is pushed into the pending queue of its home (Gu et al., PLDI 2018).
+/// One CPU's part of a scheduler over shared queues: it performs its CPU's calls one by one, and
+/// has the CPU's private scheduling state. A thread that it wakes is ready at once if this CPU is
+/// its home. Otherwise the thread is in the hand (in-transit slot) until it is pushed into its
+/// home's pending queue, the remote wake-up queue (Gu et al., PLDI 2018).
 #[derive(Drop)]
 pub struct Sched<Q> {
     lower: Q,

@@ -1,4 +1,4 @@
--- What a poll or a look of the locks beneath leaves, shared queues leave: they keep nothing of their own.
+-- What a poll of the underlying locks leaves, shared queues leave: they have no state.
 use Rattle.std.proofs.Common.{arith}
 use Rattle.std.proofs.Common.{◌≡◌, ℕ, Bool, List, Option, Some, None, if◌then◌else◌, sym, subst}
 use Rattle.{event_log.specs.{declared.ids.{CpuId.CpuId, LockId.LockId}, Sections.Section}, layer_traits.specs.declared.queue_edits.QueueBlock.QueueBlock}

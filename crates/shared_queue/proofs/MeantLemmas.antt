@@ -1,4 +1,4 @@
--- The section of a call that is handed on means that of the call that is meant.
+-- The section of a call that is passed down means that of the call that is meant.
 use Rattle.std.proofs.Common.{arith}
 use Rattle.std.proofs.Common.{◌≡◌, ◌∙◌}
 use Rattle.{event_log.specs.declared.ids.{CpuId.CpuId, LockId.LockId}, layer_traits.specs.declared.{payloads.Payload.Payload, queue_edits.QueueEdit.QueueEdit}}

@@ -18,7 +18,7 @@ module _ {B : Type 0} (homes : List CpuId) where
   queues_more n k [] block are count empty = let here : k ≡ n = omega (arith, count) in (ap (λ m. Pending (record { 0 = m })) here, empty, tt)
   queues_more n k (o ∷ locks) block are count empty = (are.0, are.1, queues_more (n + 1) k locks block are.2 (omega (arith, count)) empty)
 
-  -- once no block is left, all locks are there
+  -- once no block is left, the list has all locks
   pub all_there : (n : ℕ) (locks all : List (LockId × QueueBlock B)) (left : List B) → length left ≡ 0 → locks ++ buffers_from n left ≡ all → locks ≡ all
   all_there n locks all [] none is = sym (append-nil locks) ∙ is
   all_there n locks all (block ∷ left) none is = absurd (omega (arith, none))
@@ -63,7 +63,7 @@ module _ {B : Type 0} (homes : List CpuId) where
   buffer_opens n (block ∷ blocks) b zero at = grind (arith, eq-eqb)
   buffer_opens n (block ∷ blocks) b (suc i) at = grind (arith, ne_eqb, buffer_opens (n + 1) blocks b i)
 
-  -- No lock stands twice.
+  -- No lock occurs twice.
 
   missing_both : (lock : LockId) (locks more : List (LockId × QueueBlock B)) → IsMissing lock locks → IsMissing lock more → IsMissing lock (locks ++ more)
   missing_both lock [] more first second = second

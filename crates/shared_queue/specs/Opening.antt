@@ -1,9 +1,11 @@
--- The locks with which shared queues open: an empty pending queue for each CPU, and a block for each buffer.
+-- The locks with which shared queues open: an empty pending queue for each CPU, and a block for
+-- each buffer.
 use Rattle.std.specs.Prelude.{◌≡◌, ◌<◌, ◌≤◌, ℕ, ◌+◌, All, List, [], ◌∷◌, length}
 use Rattle.event_log.specs.declared.ids.{CpuId.CpuId, LockId.{LockId, TheVariants.{Pending, Buffer}}, TheConstants.{BUFFERS, CPUS, THREADS}}
 use Rattle.layer_traits.specs.declared.queue_edits.QueueBlock.{QueueBlock, TheVariants.{Queue, Above}}
 
--- so many CPUs, these homes and so many buffers make a machine: it has a CPU, each home is one of its CPUs, and no limit is passed
+-- so many CPUs, these homes and so many buffers make a machine: it has a CPU, each home is one of
+-- its CPUs, and all are within the limits
 pub record AreQueues (cpus : ℕ) (homes : List CpuId) (buffers : ℕ) : Type 0 where
   pub some : 1 ≤ cpus
   pub most : cpus ≤ CPUS
@@ -11,12 +13,13 @@ pub record AreQueues (cpus : ℕ) (homes : List CpuId) (buffers : ℕ) : Type 0 
   pub within : All (λ home. home.0 < cpus) homes
   pub few : buffers ≤ BUFFERS
 
--- the block is an empty queue that tells these homes
+-- the block is an empty queue that records these homes
 abbrev pub IsEmptyQueue : {B : Type 0} → List CpuId → QueueBlock B → Type 0
 IsEmptyQueue homes (Queue queue told) = (queue ≡ []) × (told.value.items ≡ homes)
 IsEmptyQueue homes (Above block) = ⊥
 
--- these are the locks of the pending queues from CPU n on, each with an empty queue that tells these homes
+-- these are the locks of the pending queues from CPU n on, each with an empty queue that records
+-- these homes
 abbrev pub AreEmptyQueues : {B : Type 0} → List CpuId → ℕ → List (LockId × QueueBlock B) → Type 0
 AreEmptyQueues homes n [] = Unit {0}
 AreEmptyQueues homes n (o ∷ rest) = (o.0 ≡ Pending (record { 0 = n })) × IsEmptyQueue homes o.1 × AreEmptyQueues homes (n + 1) rest

@@ -1,20 +1,22 @@
--- What is read off a lock's block, a buffer's block or a queue's threads; and who tells of blocks.
+-- What is read from a lock's block: a buffer's block or a queue's threads; and which parts observe
+-- blocks.
 use Rattle.{std.specs.Prelude.{List, Option, Some, None}, event_log.specs.{declared.ids.{CpuId.CpuId, LockId.LockId, Tid.Tid}, History.IsLawful}}
 use Rattle.{event_log.specs.Sections.Section, layer_traits.specs.declared.queue_edits.QueueBlock.{QueueBlock, TheVariants.{Queue, Above}}}
 use Rattle.layer_traits.specs.{declared.queue_edits.QueueEdit.QueueEdit, Threads.MoveRules.MoveRules, Protocols.Protocol.Rules, Blocks.QueueBlocks.StartsWell}
 use Rattle.layer_traits.specs.Blocks.QueueRules.{SectionAllowed}
 
--- the block of the layer above, where it is one
+-- the block of the layer above, if it is one
 abbrev pub above_in : {B : Type 0} → QueueBlock B → Option B
 above_in (Queue queue homes) = None
 above_in (Above block) = Some block
 
--- the threads of a queue, where it is one
+-- the threads of a queue, if it is one
 abbrev pub queue_in : {B : Type 0} → QueueBlock B → Option (List Tid)
 queue_in (Queue queue homes) = Some queue
 queue_in (Above block) = None
 
--- lawful sections over the blocks of a boot, and who tells of blocks: the parts that fit, the CPU of each, and when a CPU is in a section
+-- lawful sections over the blocks of a boot, and the parts that observe blocks. They say which
+-- parts fit, the CPU of each, and when a CPU is in a section
 pub record Observers (P : Type 0) {E B O : Type 0} (rules : Rules E B O) (mv : MoveRules E O) (opening : LockId → Option (QueueBlock B)) : Type 1 where
   pub past : List (Section (QueueEdit E))
   pub starts : StartsWell opening

@@ -1,6 +1,6 @@
 //! The blocks of shared queues at boot.
 //!
-//! `queue_blocks` takes all memory that the blocks need, and does not wait.
+//! `queue_blocks` allocates all memory that the blocks need, and does not wait.
 
 ghost use Rattle.std.specs.Prelude.{◌≡◌, ◌+◌, ◌≤◌, ◌<◌, ◌++◌, IsSome, IfOk, length, slice_get, vec_len, vec_capacity};
 ghost use Rattle.event_log.specs.declared.ids.{LockId.TheVariants.{Pending, Buffer}, TheConstants.{BUFFERS, CPUS, THREADS}};
@@ -13,7 +13,7 @@ use std::alloc::Global;
 use std::snapshot::Snapshot;
 use thread_blocks::ThreadQueue;
 
-/// The lock of each CPU's pending queue, which is empty, with room for so many locks more.
+/// Returns the lock of each CPU's pending queue, which is empty, with room for so many locks more.
 fn empty_queues<B: Drop>(
     alloc: Global,
     cpus: u8,
@@ -36,14 +36,14 @@ fn empty_queues<B: Drop>(
     Ok(locks)
 }
 
-/// The locks of shared queues at boot, each with its block: an empty pending queue for each of so
-/// many CPUs, and for each of `blocks` the buffer whose number is its place. `homes` holds the home
-/// of each thread. All memory that the blocks need is taken here.
+/// Returns the locks of shared queues at boot, each with its block: an empty pending queue for each
+/// of so many CPUs, and `blocks` for the buffers. The index of a block is its buffer's number.
+/// `homes` holds the home of each thread. All memory that the blocks need is allocated here.
 ///
 /// Requires: there are at least one CPU and at most `CPUS`, at most `BUFFERS` blocks and at most
 /// `THREADS` homes. Each home is one of the CPUs.
 ///
-/// Errors: `NoMemory` if an allocation was refused; then the blocks are gone.
+/// Errors: `NoMemory` if an allocation failed; then the blocks are gone.
 pub fn queue_blocks<B: Drop>(
     alloc: Global,
     blocks: Vec<B>,

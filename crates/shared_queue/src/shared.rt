@@ -1,6 +1,6 @@
 //! Shared queues under locks.
 //!
-//! No call takes memory, and none waits.
+//! No call is given an allocator, and none waits.
 
 ghost use Rattle.std.specs.Prelude.{◌≡◌, refl};
 ghost use Rattle.layer_traits.specs.Layers.Queues.{lock_of, queue_edit_of};
@@ -11,7 +11,7 @@ use layer_traits::{
     QueueCall, QueueEdit, QueueLaw,
 };
 
-/// The section of a call: its lock, and its edit of the block that the lock guards.
+/// Returns the section of a call: its lock, and its edit of the block that the lock guards.
 #[inline(always)]
 fn section_of<E>(call: QueueCall<E>) -> LockCall<QueueEdit<E>>
     ensures lock { result.lock ≡ lock_of call }
@@ -25,8 +25,8 @@ fn section_of<E>(call: QueueCall<E>) -> LockCall<QueueEdit<E>>
     LockCall { lock, edit }
 }
 
-/// One CPU's part of shared queues (Gu et al., OSDI 2016): a call is one section at the lock that
-/// guards the queue or the block. It keeps nothing of its own.
+/// One CPU's part of shared queues (Gu et al., OSDI 2016): a call is one section under the lock
+/// that guards the queue or the block. The part has only the part of its locks.
 #[derive(Drop)]
 pub struct SharedQueues<L> {
     lower: L,

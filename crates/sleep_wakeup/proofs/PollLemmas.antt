@@ -1,4 +1,4 @@
--- One poll of a part: what it owes the scheduler, and what the scheduler's poll is here.
+-- One poll of a part: what the part owes the scheduler, and what the scheduler's poll is here.
 use Rattle.std.proofs.Common.{arith, ◌≡◌, List, Option, Some, None, option_map, map, refl, ap, sym, ◌∙◌, subst}
 use Rattle.event_log.specs.{declared.ids.{BufId.BufId, CpuId.CpuId, LockId.LockId, Tid.Tid}, History.IsLawful, Actions.{Action, renamed}}
 use Rattle.layer_traits.specs.declared.{passes.Pass.Pass, payloads.{Parcel.Parcel, Payload.Payload}, queue_edits.{QueueBlock.QueueBlock, QueueEdit.QueueEdit}}
@@ -16,33 +16,33 @@ use Rattle.sleep_wakeup.specs.{Nested.{slept_edit, nested_moves, nested_rules, n
 use Rattle.sleep_wakeup.specs.Parts.{answer_reported, as_edit, deferred_of_answer, deferred_told, done_of, parcel_reported, outcome_in, own_of, under_of}
 use Rattle.layer_traits.specs.declared.scheds.SchedCall.TheVariants as call
 
--- where nobody sleeps at the opening here, nobody does beneath
+-- where no thread is asleep at the opening here, none is below
 pub nobody_beneath : {B : Type 0} (opening : LockId → Option (QueueBlock (SleepBlock B))) → NobodySleeps (inner (viewed state_of opening))
     → NobodySleeps (states (inner opening))
 nobody_beneath opening nobody lock line = ap (wait_list_at line) (sym (inner_viewed state_of opening lock)) ∙ nobody lock line
 
--- a part at boot keeps nothing
+-- a part at boot has no deferred outcome
 pub fresh_deferred : {E : Type 0} (O : Type 0) (under : Option (SchedCall (SleepEdit E))) (hand : Option Tid) → under ≡ None
     → SectionDeferredFits {E = E} {O = O} None under hand
 fresh_deferred O under hand none = grind arith
 
--- an outcome is kept exactly while a thread stands in the hand, where a section may be polled
+-- where a section may be polled, an outcome is deferred exactly while a thread is in the hand
 pub hand_defers : {E O : Type 0} (deferred : Option (Deferred E O)) (under : Option (SchedCall (SleepEdit E))) (hand : Option Tid) (b : BufId) (e : E)
     (duty : Type 0) → SectionDeferredFits deferred under hand → MayCall (under_of deferred under) (call.OnBuffer b e) duty → (duty → hand ≡ None)
     → HandDefers hand (outcome_in deferred)
 hand_defers deferred under hand b e duty fits may empty = grind arith
 
--- the scheduler's answer to a call that is passed on tells no more than that it is done
+-- the scheduler's result of a call that is passed down reports only that the call is done
 pub done_is : {O : Type 0} (answer : Option (SchedAnswer (Outcome O))) → ((a : SchedAnswer (Outcome O)) → answer ≡ Some a → a ≡ Done)
     → done_if (done_of answer) ≡ answer
 done_is answer only = grind arith
 
--- whether it is done does not depend on what its answer tells
+-- whether it is done does not depend on what its result reports
 pub done_told : {B O : Type 0} (told : SchedAnswer B → Payload → SchedAnswer O) (answer : Option (SchedAnswer B)) (payload : Payload)
     → done_of answer ≡ done_of (told_by told answer payload)
 done_told told answer payload = grind arith
 
--- what is kept and answered is what the scheduler's answer tells
+-- what is deferred and returned is what the scheduler's result reports
 pub reported_is : {E B O : Type 0} (told : B → Parcel → O) (deferred : Option (DeferredOutcome E B)) (threads : Threads) (b : BufId) (e : E)
     (answer : SchedAnswer (Outcome B)) (payload payload' : Payload)
     (hand : Option Tid) (deferred' : Option (DeferredOutcome E B)) (result : Option (Outcome B))
@@ -87,7 +87,7 @@ module _ {E B O : Type 0} (rules : SleepRules E B O) (opening : LockId → Optio
 
   module _ (ActsFor : CpuId → Type 0) (c : CpuId) (answer : Option (SchedAnswer (Outcome O))) (old new : List (QueueEvent (SleepEdit E)))
       (threads threads' : Threads) where
-    -- a poll of a call that was answered so, here
+    -- a poll of a call that returned this, here
     abbrev Polled : SchedCall E → Option (SchedAnswer (Outcome O)) → Type 0
     Polled s a = SchedPolled (here rules opening) ActsFor c s a (renamed_events slept_edit old) (renamed_events slept_edit new) threads threads'
 
@@ -105,7 +105,7 @@ module _ {E B O : Type 0} (rules : SleepRules E B O) (opening : LockId → Optio
         = sleep_polled _ b e _ _ _ _ (own_of deferred threads) threads' hand (outcome_in deferred) answer (sym is) refl
         fits (subst (λ s. Polled s answer) (due_renamed hand b e) (nested_polled (due hand b (as_edit e)) polled))
 
-    -- the poll of a call that is passed on is one here
+    -- the poll of a call that is passed down is one here
     pub nested_passed : (p : Pass) (result : Option (Unit {0})) → result ≡ done_of answer
         → SchedPolled (beneath rules opening) ActsFor c (call.Pass p) answer old new threads threads' → Polled (call.Pass p) (done_if result)
     nested_passed p result is polled = subst (Polled (call.Pass p)) (sym (ap done_if is ∙ done_is answer (only answer (nested_polled (call.Pass p) polled))))
@@ -115,7 +115,7 @@ module _ {E B O : Type 0} (rules : SleepRules E B O) (opening : LockId → Optio
         only r told a is = grind arith
 
   module _ (ActsFor : CpuId → Type 0) (c : CpuId) (acts acts' : List (Action (QueueEdit (SleepEdit E)))) where
-    -- a poll followed a plan beneath
+    -- a poll followed a plan of the lower layer
     abbrev pub FollowsBeneath : {S A : Type 0} → Plan (QueueEdit (SleepEdit E)) (QueueAnswer (Outcome O)) S A → Left S A → Type 0
     FollowsBeneath plan got = Follows ActsFor (table_of (queue_rules (nested_rules rules) (nested_moves rules))) opening c plan acts acts' got
 

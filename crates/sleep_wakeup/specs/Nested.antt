@@ -9,15 +9,16 @@ use Rattle.{sleep_wakeup.specs.declared.edits.{SleepBlock.SleepBlock, SleepEdit.
 abbrev pub slept_edit : {E : Type 0} → SleepEdit E → E
 slept_edit d = d.edit
 
--- the edit that is meant by what is handed on: of the layer above, with the parcel of the payload
+-- the edit that a passed-down edit means: the edit of the layer above, with the parcel of the
+-- payload
 abbrev pub nested_meant : {H E : Type 0} → (H → Parcel → E) → SleepEdit H → Payload → SleepEdit E
 nested_meant meant section payload = record { edit = meant section.edit payload.parcel }
 
--- the outcome that is told, with that parcel
+-- the outcome that is reported, with that parcel
 abbrev pub nested_told : {B O : Type 0} → (B → Parcel → O) → Outcome B → Payload → Outcome O
 nested_told told outcome payload = outcome_told told outcome payload.parcel
 
--- a block with nobody in its waiting lists
+-- a block with empty waiting lists
 abbrev pub resting : {B : Type 0} → B → SleepBlock B
 resting above = record { sleepers = []; receivers = []; senders = []; above = above }
 
@@ -25,7 +26,7 @@ resting above = record { sleepers = []; receivers = []; senders = []; above = ab
 abbrev pub state_of : {B : Type 0} → SleepBlock B → SleepState B
 state_of block = record { sleepers = block.sleepers; receivers = block.receivers; senders = block.senders; above = block.above }
 
--- the opening blocks so
+-- the opening blocks in this form
 abbrev pub states : {B : Type 0} → (LockId → Option (SleepBlock B)) → LockId → Option (SleepState B)
 states opening lock = option_map state_of (opening lock)
 
@@ -38,11 +39,12 @@ nested_edited rules d block = record {
   above = rules.edited d.edit (first block.sleepers) block.above;
 }
 
--- what it answers
+-- the edit's result
 abbrev pub nested_answer : {E B O : Type 0} → SleepRules E B O → SleepEdit E → SleepBlock B → Outcome O
 nested_answer rules d block = sleep_answer rules d.edit (state_of block)
 
--- an edit keeps the protocol: nobody slept at the opening, its caller is awake, and the layer above allows it
+-- an edit keeps the protocol: no thread was asleep at the opening, the edit's caller is awake, and
+-- the layer above allows it
 pub record NestedAllowed {E B O : Type 0} (rules : SleepRules E B O) (opening : LockId → Option (SleepBlock B)) (past : List (Section (SleepEdit E)))
     (s : Section (SleepEdit E)) : Type 0 where
   pub start : NobodySleeps (states opening)

@@ -1,4 +1,4 @@
--- A part of the layer: the call under way, its own state, and what the scheduler's answer leaves.
+-- A part of the layer: the pending call, its private state, and what the scheduler's result leaves.
 use Rattle.std.specs.Prelude.{◌≡◌, Bool, not, ◌&&◌, Option, Some, None, is_some, option_map, if◌then◌else◌}
 use Rattle.{event_log.specs.declared.ids.{BufId.BufId, Tid.Tid}, layer_traits.specs.declared.{passes.Pass.TheVariants.MakeReady, payloads.Parcel.Parcel}}
 use Rattle.layer_traits.specs.declared.{scheds.{SchedCall.SchedCall, SchedAnswer.{SchedAnswer, TheVariants.{Done, Answer}}}, sleeps.Outcome.Outcome}
@@ -10,31 +10,31 @@ use Rattle.layer_traits.specs.declared.scheds.SchedCall.TheVariants as call
 abbrev pub as_edit : {E : Type 0} → E → SleepEdit E
 as_edit e = record { edit = e }
 
--- a section that is done and not answered yet, with the outcome that is told
+-- a section that is done and has not returned, with the outcome that it will report
 pub record Deferred (E O : Type 0) : Type 0 where
   pub buffer : BufId
   pub edit : E
   pub outcome : Outcome O
 
--- what is told of one that is kept with its parcel
+-- what a deferred outcome reports, given its parcel
 abbrev pub deferred_told : {E B O : Type 0} → (B → Parcel → O) → DeferredOutcome E B → Deferred E O
 deferred_told told k = record { buffer = k.buffer; edit = k.edit; outcome = outcome_told told k.outcome k.parcel }
 
--- the outcome of a section that is kept
+-- the outcome of a deferred section
 abbrev pub outcome_in : {E O : Type 0} → Option (Deferred E O) → Option (Outcome O)
 outcome_in deferred = option_map (λ k. k.outcome) deferred
 
--- a part's own state
+-- a part's private state
 abbrev pub own_of : {E O : Type 0} → Option (Deferred E O) → Threads → Sleeping O
 own_of deferred threads = record { threads = threads; deferred = outcome_in deferred }
 
--- the call under way: the section whose outcome is kept, or else the scheduler's call
+-- the pending call: the section whose outcome is deferred, or otherwise the scheduler's call
 abbrev pub under_of : {E O : Type 0} → Option (Deferred E O) → Option (SchedCall (SleepEdit E)) → Option (SchedCall E)
 under_of None under = option_map (renamed_sched slept_edit) under
 under_of (Some k) under = Some (call.OnBuffer k.buffer k.edit)
 
--- an outcome is kept only while a thread stands in the hand, and then the scheduler's call, if there is one, sends that thread home;
--- while a section is under way nobody stands in the hand
+-- an outcome is deferred only while a thread is in the hand. The scheduler's call, if there is one,
+-- then forwards that thread to its home CPU. While a section is under way the hand is empty
 abbrev pub SectionDeferredFits : {E O : Type 0} → Option (Deferred E O) → Option (SchedCall (SleepEdit E)) → Option Tid → Type 0
 SectionDeferredFits None None hand = Unit {0}
 SectionDeferredFits None (Some (call.Pass p)) hand = Unit {0}
@@ -44,27 +44,27 @@ SectionDeferredFits (Some k) (Some under) (Some t) = under ≡ call.Pass (MakeRe
 SectionDeferredFits (Some k) None None = ⊥
 SectionDeferredFits (Some k) (Some under) None = ⊥
 
--- the outcome has to wait: its caller goes on, and a thread stands in the hand
+-- the outcome must be deferred: its caller continues, and a thread is in the hand
 abbrev pub must_wait : {O : Type 0} → Outcome O → Option Tid → Bool
 must_wait outcome hand = not outcome.slept && is_some hand
 
--- what is kept after the scheduler's answer, where this parcel lies in the payload
+-- what is deferred after the scheduler's result, with this parcel in the payload
 abbrev pub deferred_of_answer : {E B : Type 0} → Option Tid → BufId → E → SchedAnswer (Outcome B) → Parcel → Option (DeferredOutcome E B)
 deferred_of_answer hand b e Done parcel = None
 deferred_of_answer hand b e (Answer outcome) parcel =
     if must_wait outcome hand then Some (record { buffer = b; edit = e; outcome = outcome; parcel = parcel }) else None
 
--- what is handed back after it
+-- what is returned after the scheduler's result
 abbrev pub answer_reported : {E B : Type 0} → Option (DeferredOutcome E B) → Option Tid → SchedAnswer (Outcome B) → Option (Outcome B)
 answer_reported deferred hand Done = option_map (λ k. k.outcome) deferred
 answer_reported deferred hand (Answer outcome) = if must_wait outcome hand then None else Some outcome
 
--- the parcel in the payload after it: that of the kept outcome, where that is answered
+-- the parcel in the payload after it: that of the deferred outcome, if it is returned
 abbrev pub parcel_reported : {E B : Type 0} → Option (DeferredOutcome E B) → SchedAnswer (Outcome B) → Parcel → Parcel
 parcel_reported None Done parcel = parcel
 parcel_reported (Some k) Done parcel = k.parcel
 parcel_reported deferred (Answer outcome) parcel = parcel
 
--- a call that is passed on is done where the scheduler answers
+-- a call that is passed down is done if the scheduler returns a result
 abbrev pub done_of : {O : Type 0} → Option (SchedAnswer O) → Option (Unit {0})
 done_of answer = option_map (λ a. tt) answer

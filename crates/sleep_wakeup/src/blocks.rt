@@ -1,4 +1,4 @@
-//! The blocks at boot. `sleep_blocks` takes memory. It does not wait.
+//! The blocks at boot. `sleep_blocks` allocates memory. It does not wait.
 
 ghost use Rattle.std.specs.Prelude.{◌≡◌, IfOk, map};
 ghost use Rattle.sleep_wakeup.specs.Nested.{resting};
@@ -8,9 +8,9 @@ use event_log::NoMemory;
 use std::alloc::Global;
 use thread_blocks::ThreadQueue;
 
-/// The blocks of the layer above, each with nobody in its waiting lists, in their order.
+/// Returns the blocks of the layer above, each with empty waiting lists, in their order.
 ///
-/// Errors: `NoMemory` where there is none for them; then the blocks are gone.
+/// Errors: `NoMemory` if an allocation failed; then the blocks are gone.
 pub fn sleep_blocks<B: Drop>(alloc: Global, blocks: Vec<B>) -> Result<Vec<SleepBlock<B>>, NoMemory>
     ensures { IfOk result (λ made. made.items ≡ map resting blocks.items) }
 {

@@ -1,4 +1,5 @@
-//! The outcome of a section whose answer waits until the thread that it woke has left the hand.
+//! A deferred outcome: that of a section that returns only after the thread that it woke has left
+//! the hand.
 
 ghost use Rattle.std.specs.Prelude.{◌≡◌, Some, None, option_map};
 ghost use Rattle.{layer_traits.specs.{declared.scheds.SchedAnswer.TheVariants.Done, Layers.SleepLaw.due}, sleep_wakeup.specs.Parts.{answer_reported, as_edit}};
@@ -8,29 +9,29 @@ use crate::edits::SleepEdit;
 use event_log::{BufId, Tid};
 use layer_traits::{Ghost, Outcome, Parcel, Payload, SchedAnswer, SchedCall, Sleeps};
 
-/// A section that is done and not answered yet: which it was, its outcome, and the parcel that the
-/// outcome brings. The section's edit has gone down with its call, and clauses alone speak of it.
+/// A section that is done and has not returned: which it is, its outcome, and the parcel that the
+/// outcome brings. The section's edit was passed down with its call: only clauses mention it.
 #[derive(Drop)]
 pub struct DeferredOutcome<E, B> {
     /// The buffer whose block it edited.
     pub buffer: BufId,
     /// Its edit.
     pub edit: Ghost<E>,
-    /// What it answers once the thread that it woke has left the hand.
+    /// What it returns once the thread that it woke has left the hand.
     pub outcome: Outcome<B>,
-    /// What lies in the payload then, as others use the payload until then.
+    /// The payload's parcel at that time: other calls use the payload until then.
     pub parcel: Parcel,
 }
 
-/// The edit that is meant, for clauses alone. It is made before the poll beneath, which writes the
-/// payload.
+/// Returns the edit that is meant, for clauses only. It is made before the poll of the scheduler,
+/// which writes the payload.
 pub(crate) fn kept_edit<E: Sleeps>(handed: &E::Handed, payload: &Payload) -> Ghost<E>
     ensures { result ≡ E.meant handed.now payload.now.parcel }
 {
     Ghost::of(&E::whole(handed, &payload.parcel))
 }
 
-/// The section's call on the scheduler.
+/// Returns the section's call on the scheduler.
 #[inline(always)]
 pub(crate) fn section<H: Drop>(buffer: BufId, edit: H) -> SchedCall<SleepEdit<H>>
     ensures { result ≡ due None buffer (as_edit edit) }
@@ -38,9 +39,9 @@ pub(crate) fn section<H: Drop>(buffer: BufId, edit: H) -> SchedCall<SleepEdit<H>
     SchedCall::OnBuffer(buffer, SleepEdit { edit })
 }
 
-/// Takes the scheduler's answer, after which the hand is this, and gives the outcome of the section
-/// if it has one now, with its parcel in the payload. It is kept while its caller goes on and a thread
-/// stands in the hand.
+/// Takes the scheduler's result, and `hand`, the thread in the hand after it. Returns the outcome
+/// of the section if it can be returned, with its parcel in the payload. The outcome is deferred
+/// while its caller continues and a thread is in the hand.
 #[inline(always)]
 pub(crate) fn complete<E, B: Drop>(
     deferred: &mut Option<DeferredOutcome<E, B>>,
@@ -69,8 +70,8 @@ pub(crate) fn complete<E, B: Drop>(
     }
 }
 
-/// Does as [`complete`] after a pass that sent the thread in the hand home. It stands out of line, as
-/// few polls do so.
+/// Does as [`complete`] after a pass that forwarded the thread in the hand to its home CPU. It is
+/// not inlined, since few polls do so.
 #[inline(never)]
 pub(crate) fn complete_home<E, B: Drop>(
     deferred: &mut Option<DeferredOutcome<E, B>>,
@@ -87,8 +88,8 @@ pub(crate) fn complete_home<E, B: Drop>(
     complete(deferred, hand, buffer, edit, answer, payload)
 }
 
-/// Gives the outcome that is kept, if one is, with its parcel in the payload. It stands out of line, as
-/// few polls wake a thread of another CPU.
+/// Returns the deferred outcome, if there is one, with its parcel in the payload. It is not
+/// inlined, since few polls wake a thread of another CPU.
 #[inline(never)]
 fn release<E, B: Drop>(
     deferred: &mut Option<DeferredOutcome<E, B>>,
@@ -103,8 +104,8 @@ fn release<E, B: Drop>(
     Some(k.outcome)
 }
 
-/// Keeps this outcome of a section, with the parcel that lies in the payload. It stands out of line, as
-/// [`release`] does.
+/// Defers this outcome of a section, with the parcel in the payload. It is not inlined, as
+/// [`release`] is not.
 #[inline(never)]
 fn keep<E, B: Drop>(
     deferred: &mut Option<DeferredOutcome<E, B>>,
@@ -123,7 +124,7 @@ fn keep<E, B: Drop>(
     });
 }
 
-/// Keeps no outcome.
+/// Drops the deferred outcome.
 #[inline(never)]
 fn forget<E, B: Drop>(deferred: &mut Option<DeferredOutcome<E, B>>)
     ensures { deferred.new ≡ None }
@@ -131,7 +132,7 @@ fn forget<E, B: Drop>(deferred: &mut Option<DeferredOutcome<E, B>>)
     *deferred = None;
 }
 
-/// Whether a call that is passed on is done.
+/// Returns whether a call that is passed down is done.
 #[inline(always)]
 pub(crate) fn done<O: Drop>(answer: Option<SchedAnswer<O>>) -> Option<()>
     ensures { result ≡ done_of answer }

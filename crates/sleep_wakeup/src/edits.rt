@@ -1,4 +1,4 @@
-//! A section's edit with the waiting lists of its lock. No call takes memory or waits.
+//! A section's edit with the waiting lists of its lock. No call allocates memory or waits.
 
 ghost use Rattle.std.specs.Prelude.{◌≡◌};
 ghost use Rattle.layer_traits.specs.{declared.moves.WaitList.TheVariants.{Sleepers, Receivers, Senders}, Views.Owned.wait_list_with, Layers.Sleeping.joined};
@@ -8,7 +8,7 @@ use event_log::{THREADS, Tid};
 use layer_traits::{Edit, Moves, Outcome, Payload, Sleeps, SplitEdit, WaitList, Wake, WholeSleeps};
 use thread_blocks::ThreadQueue;
 
-/// An edit of the layer above, with what it makes of the waiting lists.
+/// An edit of the layer above, with its effect on the waiting lists.
 #[derive(Clone, Copy)]
 pub struct SleepEdit<E> {
     /// The edit.
@@ -18,18 +18,18 @@ pub struct SleepEdit<E> {
 /// What a lock guards: its waiting lists, and the block of the layer above.
 #[derive(Drop)]
 pub struct SleepBlock<B> {
-    /// Those that sleep for the lock itself.
+    /// The threads that sleep for the lock itself.
     pub sleepers: ThreadQueue,
-    /// Those that wait to receive.
+    /// The threads that wait to receive.
     pub receivers: ThreadQueue,
-    /// Those that wait to send.
+    /// The threads that wait to send.
     pub senders: ThreadQueue,
     /// The block of the layer above.
     pub above: B,
 }
 
-/// Puts `t` at the end of a waiting list, if it is a thread that a machine may have and does not
-/// stand there yet.
+/// Puts `t` at the end of a waiting list, if it is a thread of the machine and is not in the list
+/// yet.
 fn join(queue: &mut ThreadQueue, t: Tid)
     ensures { queue.new ≡ joined t queue.old }
 {
@@ -38,7 +38,7 @@ fn join(queue: &mut ThreadQueue, t: Tid)
     }
 }
 
-/// The waiting list in which `t` stands, if any.
+/// Returns the waiting list that has `t`, if any.
 pub fn wait_list_in_block<B>(block: &SleepBlock<B>, t: Tid) -> Option<WaitList>
     ensures { result ≡ wait_list_with t (state_of block.now) }
 {
@@ -54,7 +54,7 @@ pub fn wait_list_in_block<B>(block: &SleepBlock<B>, t: Tid) -> Option<WaitList>
     None
 }
 
-/// Lets those go that leave, and gives whom that wakes.
+/// Removes the thread that leaves a waiting list, and returns the thread that this wakes.
 #[inline(always)]
 fn let_out(
     leave: Wake,
@@ -85,7 +85,7 @@ fn let_out(
     }
 }
 
-/// Puts `t` at the end of the list of this line, if there is one.
+/// Puts `t` at the end of the named waiting list, if one is named.
 #[inline(always)]
 fn fall_asleep(
     line: Option<WaitList>,

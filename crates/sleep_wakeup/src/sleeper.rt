@@ -15,18 +15,18 @@ use layer_traits::{
     SchedAnswer, SchedCall, SchedLaw, SleepLaw, Sleeps, ThreadLayer, WaitList,
 };
 
-/// One CPU's part of sleep and wakeup over a part of a scheduler (Gu et al., PLDI 2018): the
-/// scheduler moves the threads, and the edits keep the waiting lists. Who joins or leaves a list
-/// does so in the section that puts it to sleep or wakes it.
+/// One CPU's part of sleep and wakeup over a part of a scheduler (Gu et al., PLDI 2018). The
+/// scheduler moves the threads, and the edits maintain the waiting lists. A thread joins or leaves
+/// a list in the same section that puts it to sleep or wakes it.
 #[derive(Drop)]
 pub struct Sleeper<E: Sleeps, S> {
     lower: S,
     deferred: Option<DeferredOutcome<E, E::Brought>>,
 }
 
-/// Polls the scheduler for the pass that sends the thread in its hand home. It stands out of line, as
-/// few sections wake a thread of another CPU: a poll that holds two polls of all beneath it is too
-/// large to be put into its caller.
+/// Polls the scheduler for the pass that forwards the thread in its hand to that thread's home CPU.
+/// It is not inlined, since few sections wake a thread of another CPU. A poll that contains two
+/// polls of all lower layers is too large to be inlined into its caller.
 #[inline(never)]
 fn send_home<E: Sleeps, S: Layer<SchedLaw<SleepEdit<E>>>>(
     lower: &mut S,

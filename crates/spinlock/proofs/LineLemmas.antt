@@ -1,4 +1,5 @@
--- What one event of a machine is at the line: an action, put after foreign ones, by a CPU whose ticket tells its spot.
+-- What one event of a machine is at the lock's queue: an action, added after environment events, by
+-- a CPU whose ticket is its ticket index modulo 2^64.
 use Rattle.std.proofs.Common.{◌≡◌, ℕ, ◌%◌, ◌^◌, List, [], ◌∷◌, ◌++◌, Option, Some, None, MatchOption, map, ap, sym, ◌∙◌, if◌then◌else◌, arith}
 use Rattle.std.proofs.lemmas.List.{map-append}
 use Rattle.event_log.specs.declared.{ids.{CpuId.CpuId, LockId.LockId}, events.Event.{Event, TheVariants.Draw}, grants.GrantEvent.{GrantEvent, TheVariants.Take}}
@@ -15,7 +16,8 @@ others_mapped f by reported_by same c [] foreign = tt
 others_mapped f by reported_by same c (e ∷ others) foreign =
     (rw (same e) foreign.0, others_mapped f by reported_by same c others foreign.1)
 
--- a history that grew by one event grew by one action, where each event is told as an action of its CPU
+-- a history that grew by one event grew by one action, if each event is mapped to an action of its
+-- CPU
 adds_mapped : {X Y : Type 0} (f : X → Y) (by : X → CpuId) (reported_by : Y → CpuId) → ((e : X) → reported_by (f e) ≡ by e)
     → (ActsFor : CpuId → Type 0) (e : X) (old new : List X) → Adds ActsFor by e old new → Adds ActsFor reported_by (f e) (map f old) (map f new)
 adds_mapped f by reported_by same ActsFor e old new adds = record {
@@ -24,7 +26,7 @@ adds_mapped f by reported_by same ActsFor e old new adds = record {
   is = ap (map f) adds.is ∙ ap (λ l. f e ∷ l) (map-append f adds.others old);
 }
 
--- what a look or a peek found, in terms of the line
+-- what a poll of a ticket word or of a grant word found, in terms of the queue
 pub line_enters : {E B : Type 0} (acts : List (Action E)) (cpu : CpuId) (s : LockPhase) (lock : LockId) (ticket : ℕ) → phase cpu acts ≡ phase_of s
     → (told truth : Option B) → truth ≡ told → (found : Option B)
     → MatchOption found (s ≡ Waiting lock ticket) (λ block. (s ≡ Holding lock ticket) × (told ≡ Some block))
@@ -37,13 +39,13 @@ module _ {E : Type 0} {ActsFor : CpuId → Type 0} {old new : List (Event (Mark 
       → Adds ActsFor cpu_of_action (act_of edit_of e) (acts_of edit_of old) (acts_of edit_of new)
   event_adds {e} adds = adds_mapped (act_of edit_of) cpu_of_event cpu_of_action (cpu_of_action_is edit_of) ActsFor e old new adds
 
-  -- a draw gives the ticket of the spot
+  -- a draw returns the ticket of the ticket index
   pub draws_spot : {cpu : CpuId} {lock : LockId} {ticket : ℕ} → Adds ActsFor cpu_of_event (Draw cpu lock ticket) old new → IsLegalWords new
       → ticket ≡ spot_of cpu (acts_of edit_of new) % 2 ^ 64
   draws_spot {cpu} {lock} {ticket} adds legal =
       rw (ap (lock_phase cpu) adds.is ∙ lock_phase_own (Draw cpu lock ticket) (adds.others ++ old)) at (ticket_at edit_of new legal cpu)
 
--- who waits in the line waits with the ticket of its spot
+-- a CPU that waits in the queue waits with the ticket of its ticket index
 pub waits_by_ticket : {E : Type 0} (Allowed : List (Section E) → Section E → Type 0) (log : List (Event (Mark E))) → IsLawful (MayCome Allowed) log
     → (cpu : CpuId) (lock : LockId) (ticket : ℕ) → phase cpu (acts_of edit_of log) ≡ Waits lock → ticket ≡ spot_of cpu (acts_of edit_of log) % 2 ^ 64
     → lock_phase cpu log ≡ Waiting lock ticket
@@ -58,7 +60,7 @@ module _ {E : Type 0} {ActsFor : CpuId → Type 0} {old new : List (GrantEvent (
       → Adds ActsFor cpu_of_action (act_of_grant edit_of e) (acts_of_grants edit_of old) (acts_of_grants edit_of new)
   grant_adds {e} adds = adds_mapped (act_of_grant edit_of) cpu_of_grant cpu_of_action cpu_of_act_of_grant ActsFor e old new adds
 
-  -- a Take gives the ticket of the spot
+  -- a Take returns the ticket of the ticket index
   pub takes_spot : {cpu : CpuId} {lock : LockId} {ticket : ℕ} → Adds ActsFor cpu_of_grant (Take cpu lock ticket) old new → IsLegalGrants new
       → ticket ≡ spot_of cpu (acts_of_grants edit_of new) % 2 ^ 64
   takes_spot {cpu} {lock} {ticket} adds legal = rw (ap (grant_lock_phase cpu) adds.is

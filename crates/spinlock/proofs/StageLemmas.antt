@@ -13,7 +13,7 @@ cpu_differs : (a b : CpuId) → b ≢ a → same_cpu a b ≡ false
 cpu_differs a b other = ne_eqb a.0 b.0 (λ e. other (ap (λ (k : ℕ). record { 0 = k }) (sym e)))
 
 module _ {E B : Type 0} (edited : E → B → B) (opening : LockId → Option B) (cpu : CpuId) (lock : LockId) where
-  -- while a CPU holds a lock, another gives another lock on
+  -- while a CPU holds a lock, another CPU releases only another lock
   gives_elsewhere : (by : CpuId) (at : LockId) (edit : E) (past : List (Action E)) → AreLegal past → same_cpu by cpu ≡ false
       → phase by past ≡ Holds at → phase cpu past ≡ Holds lock → (b : Bool) → same_lock lock at ≡ b
       → (if b then option_map (edited edit) (block_after edited opening lock (sections_in past)) else block_after edited opening lock (sections_in past))
@@ -23,7 +23,7 @@ module _ {E B : Type 0} (edited : E → B → B) (opening : LockId → Option B)
       let one : by ≡ cpu = one_holds past legal by cpu lock (rw (same_lock_true lock at same) there) here in
       let itself : same_cpu by cpu ≡ true = rw one (same_cpu_self cpu) in absurd (cc (other, itself))
 
-  -- so no action of others changes the block that the sections leave there
+  -- therefore no action of other CPUs changes the block that the sections leave there
   block_stays : (more acts : List (Action E)) → AreLegal (more ++ acts) → AreOthers cpu_of_action cpu more → phase cpu acts ≡ Holds lock
       → block_after edited opening lock (sections_in (more ++ acts)) ≡ block_after edited opening lock (sections_in acts)
   block_stays [] acts legal others holds = refl
@@ -34,13 +34,14 @@ module _ {E B : Type 0} (edited : E → B → B) (opening : LockId → Option B)
       ∙ block_stays more acts legal.1 others.1 holds
 
 module _ {E B O : Type 0} (rules : Rules E B O) (opening : LockId → Option B) where
-  -- a section stays allowed after actions of others
+  -- a section stays allowed after actions of other CPUs
   allowed_stays : (s : Section E) (more acts : List (Action E)) → AreOthers cpu_of_action s.cpu more
       → StaysAllowed (rules.allowed opening) (sections_in acts) s → StaysAllowed (rules.allowed opening) (sections_in (more ++ acts)) s
   allowed_stays s more acts others stays = rw (sections_in-append more acts)
       (stays_on (rules.allowed opening) (sections_in more) (sections_in acts) s (others_sections_in s.cpu more others) stays)
 
-  -- a stage fits on where its CPU has its phase and its spot, may do what it might, and finds the block that it holds
+  -- a stage still fits if its CPU has its phase and its ticket index, may do what it could do, and
+  -- finds the block that it holds
   pub stage_stays : (cpu : CpuId) (stage : TicketPhase E B) (old new : List (Action E)) → phase cpu new ≡ phase cpu old → spot_of cpu new ≡ spot_of cpu old
       → ((s : Section E) → s.cpu ≡ cpu → StaysAllowed (rules.allowed opening) (sections_in old) s → StaysAllowed (rules.allowed opening) (sections_in new) s)
       → ((lock : LockId) → phase cpu old ≡ Holds lock
@@ -52,16 +53,16 @@ module _ {E B O : Type 0} (rules : Rules E B O) (opening : LockId → Option B) 
   stage_stays cpu (Holding lock edit block) old new at spot may found fits =
       (at ∙ fits.0, may (section cpu lock edit) refl fits.1, found lock fits.0 ∙ fits.2)
 
--- a history that stays as it is has grown by nothing
+-- an unchanged history has grown by nothing
 pub grown_by_none : {E : Type 0} (ActsFor : CpuId → Type 0) (by : E → CpuId) (past : List E) → Grows ActsFor by past past
 grown_by_none ActsFor by past = record { others = []; foreign = λ c acts. tt; is = refl }
 
--- what led to legal actions was legal
+-- what precedes legal actions is legal
 grown : {E : Type 0} {ActsFor : CpuId → Type 0} {a : Action E} {old new : List (Action E)} (adds : Adds ActsFor cpu_of_action a old new) → AreLegal new
     → AreLegal (a ∷ (adds.others ++ old))
 grown adds legal = rw adds.is at legal
 
--- a step in which one action of a CPU came after foreign ones; the opening blocks stay as they were
+-- a step in which one action of a CPU follows environment actions; the opening blocks are unchanged
 module _ {E B O : Type 0} (rules : Rules E B O) {opening opening' : LockId → Option B} (same : opening' ≡ opening) {ActsFor : CpuId → Type 0} {cpu : CpuId}
     {old new : List (Action E)} (legal : AreLegal new) where
   -- the parts of other CPUs still fit
@@ -74,20 +75,20 @@ module _ {E B O : Type 0} (rules : Rules E B O) {opening opening' : LockId → O
       (λ s its. allowed_stays rules opening s more old (subst (λ c. AreOthers cpu_of_action c more) (sym its) others))
       (λ lock. block_stays rules.edited opening q lock more old (grown adds legal) others) fits)
 
-  -- no other CPU comes to wait or to hold
+  -- no other CPU begins to wait or to hold
   others_rest : (a : Action E) → cpu_of_action a ≡ cpu → Adds ActsFor cpu_of_action a old new → (q : CpuId) → q ≢ cpu → ActsFor q
       → is_in_section (phase q new) ≡ true → is_in_section (phase q old) ≡ true
   others_rest a acts adds q other acts_q inside =
       let others : AreOthers cpu_of_action q (a ∷ adds.others) = (rw acts (cpu_differs cpu q other), adds.foreign q acts_q) in
       ap is_in_section (sym (ap (phase q) adds.is ∙ phase_others q (a ∷ adds.others) old others)) ∙ inside
 
-  -- what is allowed stays so after foreign actions
+  -- what is allowed stays so after environment actions
   allowed_on : (lock : LockId) (edit : E) (a : Action E) (adds : Adds ActsFor cpu_of_action a old new) → ActsFor cpu
       → StaysAllowed (rules.allowed opening) (sections_in old) (section cpu lock edit)
       → StaysAllowed (rules.allowed opening') (sections_in (adds.others ++ old)) (section cpu lock edit)
   allowed_on lock edit a adds acts stays = rw same (allowed_stays rules opening (section cpu lock edit) adds.others old (adds.foreign cpu acts) stays)
 
-  -- a CPU that joined the line waits with the ticket of its spot
+  -- a CPU that joined the queue waits with the ticket of its ticket index
   pub joined_fits : (lock : LockId) (edit : E) (ticket : ℕ) → Adds ActsFor cpu_of_action (Take cpu lock) old new → ticket ≡ spot_of cpu new % 2 ^ 64
       → ActsFor cpu
       → StaysAllowed (rules.allowed opening) (sections_in old) (section cpu lock edit) → IsSome (opening lock)
@@ -98,7 +99,7 @@ module _ {E B O : Type 0} (rules : Rules E B O) {opening opening' : LockId → O
     rw same there,
   )
 
-  -- a CPU that tried waits on, or holds the lock with the block
+  -- a CPU that tried still waits, or holds the lock with the block
   pub tried_fits : (lock : LockId) (edit : E) (ticket : ℕ) (hit : Bool) → Adds ActsFor cpu_of_action (Try cpu lock hit) old new
       → ticket ≡ spot_of cpu old % 2 ^ 64
       → ActsFor cpu → StaysAllowed (rules.allowed opening) (sections_in old) (section cpu lock edit) → IsSome (opening lock) → (found : Option B)
@@ -111,16 +112,16 @@ module _ {E B O : Type 0} (rules : Rules E B O) {opening opening' : LockId → O
   tried_fits lock edit ticket hit adds has acts stays there (Some block) holds stage is =
       rw is (holds.0, rw adds.is (allowed_on lock edit (Try cpu lock hit) adds acts stays), holds.1)
 
-  -- a CPU that gave its lock on rests
+  -- a CPU that released its lock rests
   pub left_fits : (lock : LockId) (edit : E) → Adds ActsFor cpu_of_action (Give cpu lock edit) old new → StageFits rules opening' new cpu Out
   left_fits lock edit adds = ap (phase cpu) adds.is ∙ phase_own (Give cpu lock edit) (adds.others ++ old)
 
-  -- while a CPU holds a lock, foreign actions leave its block as it was
+  -- while a CPU holds a lock, environment actions leave its block unchanged
   found_still : (lock : LockId) (edit : E) (adds : Adds ActsFor cpu_of_action (Give cpu lock edit) old new) → ActsFor cpu → phase cpu old ≡ Holds lock
       → block_after rules.edited opening lock (sections_in (adds.others ++ old)) ≡ block_after rules.edited opening lock (sections_in old)
   found_still lock edit adds acts holds = block_stays rules.edited opening cpu lock adds.others old (grown adds legal).1 (adds.foreign cpu acts) holds
 
-  -- a Give ends its section, with the answer of its edit on the block with which the CPU entered
+  -- a Give ends its section, with the result of its edit on the block with which the CPU entered
   pub left_polled : (lock : LockId) (edit : E) (adds : Adds ActsFor cpu_of_action (Give cpu lock edit) old new) → ActsFor cpu → phase cpu old ≡ Holds lock
       → (block : B) → block_after rules.edited opening lock (sections_in old) ≡ Some block → (out : O) → out ≡ rules.answer edit block
       → PolledAtLock rules opening ActsFor (section cpu lock edit) (Some out) (sections_in old) (sections_in new)
@@ -173,7 +174,7 @@ acted_framed rules acts stage_of {ActsFor = ActsFor} {cpu_of = cpu_of} {p = p} {
   holders = others_rest rules stays.opening legal a its adds;
 }
 
--- an action that ends no section brings foreign sections alone
+-- an action that ends no section adds only environment sections
 pub unended : {E : Type 0} {ActsFor : CpuId → Type 0} {old new : List (Action E)} (a : Action E)
     → ((past : List (Action E)) → sections_in (a ∷ past) ≡ sections_in past) → Adds ActsFor cpu_of_action a old new
     → Grows ActsFor cpu_of_section (sections_in old) (sections_in new)
@@ -183,13 +184,13 @@ unended {old = old} a ends adds = record {
   is = ap sections_in adds.is ∙ (ends (adds.others ++ old) ∙ sections_in-append adds.others old);
 }
 
--- so its poll has no answer
+-- therefore its poll has no result
 pub poll_unanswered : {E B O : Type 0} (rules : Rules E B O) (opening : LockId → Option B) {ActsFor : CpuId → Type 0} {old new : List (Section E)}
     (s : Section E)
     → Grows ActsFor cpu_of_section old new → PolledAtLock rules opening ActsFor s None old new
 poll_unanswered rules opening s grows = record { others = grows.others; foreign = grows.foreign; is = grows.is; answers = tt }
 
--- a look is one more Try of a CPU that waits at its lock
+-- a poll of the word is one more Try of a CPU that waits at its lock
 pub tried_again : {E : Type 0} {ActsFor : CpuId → Type 0} {cpu : CpuId} {old new : List (Action E)} → AreLegal new → (lock : LockId) (hit : Bool)
     → Adds ActsFor cpu_of_action (Try cpu lock hit) old new → Tries ActsFor cpu old new
 tried_again {cpu = cpu} {old = old} legal lock hit adds =

@@ -1,4 +1,4 @@
--- Who holds a lock.
+-- Which locks are held.
 use Rattle.std.specs.Prelude.{◌≡◌, List}
 use Rattle.event_log.specs.{declared.ids.{CpuId.CpuId, LockId.LockId}, Actions.{Action, Holds, phase}}
 

@@ -1,22 +1,23 @@
-//! The line at a lock, whatever the lock's words are.
+//! The FIFO queue at a lock, whatever the lock's words are.
 //!
-//! No call takes memory, and none waits.
+//! No call is given an allocator, and none waits.
 
 ghost use Rattle.std.specs.Prelude.{◌≡◌, ℕ, ◌+◌, ◌%◌, ◌^◌, ◌<◌, ◌≤◌, Bool, List, Option, IsSome, MatchOption, length, option_map, ◌↔◌};
 
 use event_log::{CpuId, LockId};
 use layer_traits::{GrantWords, SplitEdit, Words};
 
-/// The way of [`Words`]: a spot is a ticket, which is served once `serving` shows it.
+/// The protocol of [`Words`]: a place in the queue is a ticket, which is served once `serving`
+/// shows it.
 pub struct UsesTickets;
 
-/// The way of [`GrantWords`]: a spot is a ticket, which is served once its own grant word shows
-/// the ticket plus 1.
+/// The protocol of [`GrantWords`]: a place in the queue is a ticket, which is served once its own
+/// grant word shows the ticket plus 1.
 pub struct UsesGrants;
 
-/// A machine at whose locks CPUs stand in line: a CPU takes a spot, tries to enter, and gives the
-/// lock on. `LockProtocol` is the way in which the machine's words say so; no word is named here. Of a
-/// spot the ticket tells the rest modulo 2^64.
+/// A machine with FIFO spin locks: a CPU takes a place in the queue of a lock, tries to enter, and
+/// releases the lock. `LockProtocol` says how the machine's words represent this; no word is named
+/// here. A ticket is the CPU's ticket index (how often the lock was requested before) modulo 2^64.
 pub trait FairLock<LockProtocol> {
     ghost use Rattle.event_log.specs.{declared.ids.{CpuId.CpuId, LockId.LockId}, Actions.{Action, Take, Try, Give, Rests, Waits, Holds, AreLegal}};
     ghost use Rattle.event_log.specs.{Actions.{cpu_of_action, phase, spot_of}, History.{Adds, IsLawful}, Sections.{block_after, sections_in}};
@@ -25,19 +26,19 @@ pub trait FairLock<LockProtocol> {
     /// The edits of the sections.
     type Edit: SplitEdit;
 
-    /// What a Give leaves in the machine: it tells the section's edit.
+    /// What a Give leaves in the machine: it determines the section's edit.
     type Mark;
 
-    /// The edit that a mark tells.
+    /// The edit that a mark denotes.
     ghost edit_in: { Self.Mark → Self.Edit };
 
-    /// The opening block of each lock; None where there is no such lock.
+    /// The opening block of each lock; None if there is no such lock.
     ghost opening: { Self → LockId → Option Self.Edit.Block };
 
-    /// The actions that this holder has seen, newest first, each Give under its section's edit.
+    /// The actions that this holder has seen, newest first, each Give with its section's edit.
     ghost acts: { Self → List (Action Self.Edit) };
 
-    /// For which CPUs the holder acts. It carries that the machine is sound.
+    /// The CPUs for which the holder acts; this implies that the machine is sound.
     ghost ActsFor: { Self → CpuId → Type 0 };
 
     /// For how many more actions there is room.
@@ -49,14 +50,14 @@ pub trait FairLock<LockProtocol> {
     /// No section of this CPU is under way.
     ghost IsOutside: { Self → CpuId → Type 0 };
 
-    /// The mark of a section with this edit, of which this is handed on.
+    /// Returns the mark of a section with this edit, of which `handed` is passed down.
     fn mark(handed: <Self::Edit as SplitEdit>::Handed, edit: Self::Edit) -> Self::Mark
         ensures { edit_in result ≡ edit };
 
-    /// Takes a spot in the line of `lock` for `cpu`, and returns its ticket.
+    /// Takes a place in the queue of `lock` for `cpu`, and returns its ticket.
     ///
-    /// Requires: the holder acts for `cpu`, the lock is there, there is room for an event, and
-    /// `cpu` neither waits at a lock nor holds one.
+    /// Requires: the holder acts for `cpu`, the lock exists, there is room for an event, and `cpu`
+    /// neither waits at a lock nor holds one.
     fn join(&mut self, cpu: CpuId, lock: LockId) -> u64
         requires cpu { ActsFor self.old cpu }
         requires lock { IsSome (opening self.old lock) }
@@ -69,10 +70,10 @@ pub trait FairLock<LockProtocol> {
         ensures room { room self.old ≤ room self.new + 1 }
         ensures acts { (c : CpuId) → ActsFor self.old c → ActsFor self.new c };
 
-    /// Tries to enter `lock` for `cpu`. Returns the lock's block if it enters.
+    /// Tries once to enter `lock` for `cpu`. Returns the lock's block if it enters.
     ///
-    /// Requires: the holder acts for `cpu`, the lock is there, there is room for an event, and
-    /// `cpu` waits there with `ticket`.
+    /// Requires: the holder acts for `cpu`, the lock exists, there is room for an event, and `cpu`
+    /// waits there with `ticket`.
     fn enter(
         &mut self,
         cpu: CpuId,
@@ -94,12 +95,12 @@ pub trait FairLock<LockProtocol> {
         ensures room { room self.old ≤ room self.new + 1 }
         ensures acts { (c : CpuId) → ActsFor self.old c → ActsFor self.new c };
 
-    /// Tries to enter `lock` for `cpu`, if it would miss: once for each of the steps at the front of
-    /// `steps` that are this CPU's, at most. Returns how often it tried: each time it missed, and
-    /// nothing else has changed. A machine may always return 0.
+    /// Tries to enter `lock` for `cpu`, as long as the tries fail. It tries at most once for each
+    /// of the steps at the front of `steps` that are this CPU's. Returns how often it tried: each
+    /// try failed, and nothing else is changed. A machine may always return 0.
     ///
-    /// Requires: the holder acts for `cpu`, the lock is there, there is room for as many events as
-    /// there are steps, and `cpu` waits there with `ticket`.
+    /// Requires: the holder acts for `cpu`, which waits at `lock` with `ticket`. The lock exists,
+    /// and there is room for as many events as there are steps.
     #[inline(always)]
     fn spin(&mut self, cpu: CpuId, lock: LockId, ticket: u64, steps: &[CpuId]) -> usize
         requires cpu { ActsFor self.old cpu }
@@ -118,11 +119,11 @@ pub trait FairLock<LockProtocol> {
         0
     }
 
-    /// Gives `lock` on for `cpu`. `block` goes home.
+    /// Releases `lock` for `cpu`, and stores `block` in the machine.
     ///
-    /// Requires: the holder acts for `cpu`, the lock is there, there is room for an event, `cpu`
-    /// holds it, and `block` is the one with which it entered, edited as `mark` says. The protocol
-    /// allows that edit, and goes on to whatever other CPUs do first.
+    /// Requires: the holder acts for `cpu`, the lock exists, there is room for an event, and `cpu`
+    /// holds it. `block` is the one with which it entered, edited as `mark` says. The protocol
+    /// allows that edit, and still does after whatever other CPUs do first.
     fn leave(
         &mut self,
         cpu: CpuId,
@@ -149,7 +150,7 @@ pub trait FairLock<LockProtocol> {
     /// Law: each section keeps the protocol.
     ghost lawful: { (m : Self) (c : CpuId) → ActsFor m c → IsLawful (Self.Edit.rules.allowed (opening m)) (sections_in (acts m)) };
 
-    /// Law: a CPU rests exactly where no section of it is under way.
+    /// Law: a CPU rests exactly if no section of it is under way.
     ghost rests: { (m : Self) (c : CpuId) → IsOutside m c ↔ (phase c (acts m) ≡ Rests) };
 }
 

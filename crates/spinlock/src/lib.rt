@@ -1,14 +1,14 @@
-//! The locks at which CPUs take turns: critical sections over the words of a machine. One body
-//! serves both kinds of words.
+//! FIFO spin locks: critical sections over the words of a machine. One implementation serves both
+//! kinds of words, tickets and one grant word for each waiter.
 //!
-//! A part of a ticket lock over the owned machine, polled until it answers:
+//! A part of a ticket lock over the owned machine is polled until it returns a result:
 //!
 //! ```text
 //! let mut machine = Ticket::<Plain<AddOne>>::open(alloc, blocks, 3)?;
 //! let mut part = Ticket::<Plain<AddOne>>::part(CpuId(0), &[], 1);
 //! let mut payload = Payload::new();
 //! for _ in 0..3 {
-//!     // None as it draws and as its look hits; then Some: the section is done.
+//!     // None as it draws a ticket, and as its poll succeeds; then Some: the section is done.
 //!     let answer = part.poll(&mut machine, LockCall { lock, edit: AddOne }, &mut payload);
 //! }
 //! ```

@@ -1,6 +1,6 @@
-//! Machines at whose locks CPUs stand in line, that are opened with their blocks and tell of them.
+//! Machines with FIFO locks that are opened with their blocks and report them.
 //!
-//! Only `open` takes memory, and no call waits.
+//! Only `open` allocates memory, and no call waits.
 
 ghost use Rattle.std.specs.Prelude.{◌≡◌, ◌<◌, [], Option, Some, IsSome, IfOk, MatchOption, option_map};
 
@@ -9,21 +9,20 @@ use event_log::{LockId, NoMemory};
 use layer_traits::{OwnedGrantWords, OwnedWords, SplitEdit};
 use std::alloc::Global;
 
-/// A machine at whose locks CPUs stand in line, that is opened with its blocks and tells of those
-/// that are at home.
+/// A machine with FIFO locks that is opened with its blocks and reports those that no CPU holds.
 pub trait OwnedFairLock<LockProtocol>: FairLock<LockProtocol> {
     ghost use Rattle.event_log.specs.{declared.ids.{CpuId.CpuId, LockId.LockId, TheConstants.CPUS}, Sections.{block_after, sections_in}};
     ghost use Rattle.{layer_traits.specs.Protocols.OneLock.{AreDistinct, opened}, spinlock.specs.OwnedLaws.SomeoneHolds};
 
-    /// The block of a lock where it is at home.
+    /// The block of a lock, if no CPU holds it.
     ghost block_at: { Self → LockId → Option Self.Edit.Block };
 
-    /// A machine with these locks, each with its block, and with room for `room` events. All memory
-    /// is taken here.
+    /// Opens a machine with these locks, each with its block, and with room for `room` events. All
+    /// memory is allocated here.
     ///
-    /// Requires: no lock stands twice in `blocks`.
+    /// Requires: no lock occurs twice in `blocks`.
     ///
-    /// Errors: `NoMemory` where an allocation was refused; then the blocks are gone.
+    /// Errors: `NoMemory` if an allocation failed; then the blocks are gone.
     fn open(
         alloc: Global,
         blocks: Vec<(LockId, <Self::Edit as SplitEdit>::Block)>,
@@ -35,16 +34,16 @@ pub trait OwnedFairLock<LockProtocol>: FairLock<LockProtocol> {
         ensures room { IfOk result (λ m. Self.room m ≡ room) }
         ensures owned { IfOk result (λ m. (c : CpuId) → c.0 < CPUS → Self.ActsFor m c) };
 
-    /// The block of `lock`; `None` where it is in the hands of a CPU.
+    /// Returns the block of `lock`; `None` if a CPU holds it.
     ///
-    /// Requires: the holder acts for some CPU, and the lock is there.
+    /// Requires: the holder acts for some CPU, and the lock exists.
     fn block(&self, lock: LockId) -> Option<&<Self::Edit as SplitEdit>::Block>
         requires acts { (c : CpuId) × Self.ActsFor self.now c }
         requires lock { IsSome (Self.opening self.now lock) }
         ensures { option_map (λ block. block.now) result ≡ block_at self.now lock };
 
-    /// Law: a block that is not at home is in the hands of a CPU that holds its lock, and one that
-    /// is at home is what the sections make of it.
+    /// Law: a block that is not in the machine is with a CPU that holds its lock. One that is in
+    /// the machine is what the sections make of it.
     ghost blocks: { (m : Self) (c : CpuId) (lock : LockId) → Self.ActsFor m c → IsSome (Self.opening m lock)
         → MatchOption (block_at m lock) (SomeoneHolds lock (Self.acts m))
         (λ block. block_after Self.Edit.rules.edited (Self.opening m) lock (sections_in (Self.acts m)) ≡ Some block) };

@@ -1,4 +1,4 @@
-//! A whole section at once, where no CPU has a ticket. It takes no memory and does not wait.
+//! A whole section at once, where no CPU has a ticket. It is given no allocator and does not wait.
 
 ghost use Rattle.std.specs.Prelude.{◌≡◌, ◌≢◌, ◌+◌, ◌<◌, ◌≤◌, ◌∷◌, true, IsSome, OnSome, is_some, if◌then◌else◌};
 ghost use Rattle.{event_log.specs.{declared.ids.CpuId.CpuId, Actions.{Take, Try, Give, Rests, phase, next_action}}, layer_traits.specs.Blocks.Payloads.told_by};
@@ -7,14 +7,14 @@ ghost use Rattle.layer_traits.specs.{Polling.{Plans.{table_of, reply}, Polls.{Ma
 use event_log::{CPUS, LockId};
 use layer_traits::{Edit, LockCall, LockLayer, Payload};
 
-/// The answer in one piece, if there is one.
+/// Returns the result with its message, if there is a result.
 fn answer_in<E: Edit>(brought: Option<E::Brought>, payload: &mut Payload) -> Option<E::Out>
     ensures { result ≡ told_by E.told brought payload.old }
 {
     Some(E::bring_back(brought?, payload))
 }
 
-/// One poll on a machine whose holder acts for every CPU: exactly the action that is due.
+/// Polls once on a machine whose holder acts for every CPU: exactly the action that is due.
 fn alone<E: Edit, L: LockLayer<E>>(
     part: &mut L,
     m: &mut L::Machine,
@@ -44,13 +44,14 @@ fn alone<E: Edit, L: LockLayer<E>>(
     answer_in::<E>(brought, payload)
 }
 
-/// Does the whole section of `edit` at `lock`, where no CPU has a ticket and the holder of the
-/// machine acts for every CPU: three polls, of which the first draws, the second hits and the third
-/// frees with the answer. What the edit puts and what its answer brings go by way of `payload`.
+/// Performs the whole section of `edit` at `lock`, where no CPU has a ticket and the holder of the
+/// machine acts for every CPU. It takes three polls: the first draws a ticket, the second enters,
+/// the third releases and returns the result. What the edit puts and what its result brings are
+/// passed in `payload`.
 ///
 /// Requires: part and machine agree, a poll is one action, the holder acts for every CPU, and no
-/// CPU has a ticket. The lock is there, there is room for three events, and the part has no call
-/// under way. The edit is allowed and stays so.
+/// CPU has a ticket. The lock exists, there is room for three events, and the part has no pending
+/// call. The edit is allowed and stays so.
 pub fn whole<E: Edit, L: LockLayer<E>>(
     part: &mut L,
     m: &mut L::Machine,

@@ -1,4 +1,4 @@
-//! The lock: one body for every machine at whose locks CPUs stand in line.
+//! The lock: one implementation for every machine with FIFO locks.
 
 ghost use Rattle.std.specs.Prelude.{◌≡◌, ◌+◌, ◌%◌, ◌^◌, ◌<◌, ◌≤◌, Bool, Option, Some, IsSome, MatchOption};
 ghost use Rattle.event_log.specs.{declared.ids.CpuId.CpuId, Actions.{Try, Waits, Holds, cpu_of_action, phase, spot_of}, History.Adds, Sections.block_after};
@@ -13,30 +13,29 @@ use std::alloc::Global;
 use std::marker::PhantomData;
 use std::mem;
 
-/// One CPU's part of a lock at which CPUs stand in line: a section takes a spot in the line, tries to
-/// enter until that spot is served, and gives the lock on with its edit done. Each poll does one
-/// of these.
+/// One CPU's part of a FIFO spin lock. A section takes a place in the queue, tries to enter until
+/// that place is served, and releases the lock with its edit done. Each poll does one of these.
 #[derive(Drop)]
 pub struct SpinLock<M: FairLock<LockProtocol>, LockProtocol> {
     cpu: CpuId,
-    // The edit is kept for clauses alone: the poll that holds the lock is given it again.
+    // The edit is stored for clauses only: the poll that holds the lock is passed it again.
     stage: TicketPhase<Ghost<M::Edit>, <M::Edit as SplitEdit>::Block>,
     // Always None: it names the machine's type, and what that borrows.
     machine: Option<M>,
     lock_protocol: PhantomData<LockProtocol>,
 }
 
-/// One CPU's part of a ticket lock (Gu et al., OSDI 2016): a section draws a ticket, looks until
-/// `serving` is that ticket, and frees with its edit done.
+/// One CPU's part of a ticket lock (Gu et al., OSDI 2016). A section draws a ticket, polls until
+/// `serving` is that ticket, and releases with its edit done.
 pub type Ticket<W> = SpinLock<W, UsesTickets>;
 
-/// One CPU's part of a lock with a grant word for each waiter: a section takes a ticket, peeks at
-/// that ticket's word until it is granted, and gives on to the next ticket's with its edit done.
+/// One CPU's part of a lock with a grant word for each waiter. A section takes a ticket, polls that
+/// ticket's word until it is granted, and with its edit done grants the next ticket's word.
 pub type Grant<W> = SpinLock<W, UsesGrants>;
 
-/// Tries to enter `lock` for `cpu`, which waits there with this ticket, and keeps the block if it
-/// enters. It stands out of line, so that a poll of all layers is small enough to be put into its
-/// caller.
+/// Tries to enter `lock` for `cpu`, which waits there with this ticket, and stores the block in
+/// `stage` if it enters. It is not inlined, so that a poll of all layers is small enough to be
+/// inlined into its caller.
 ///
 /// Requires: as [`FairLock::enter`].
 #[inline(never)]
@@ -180,7 +179,7 @@ impl<M: FairLock<LockProtocol>, LockProtocol> Layer<LockLaw<M::Edit>>
                 else {
                     unreachable!()
                 };
-                // The edit that is meant, before its answer is laid in the payload.
+                // The edit that is meant, before its result is stored in the payload.
                 let edit = <M::Edit as SplitEdit>::whole(&call.edit, payload);
                 let out = <M::Edit as SplitEdit>::apply_handed(&call.edit, &mut block, payload);
                 let mark = M::mark(call.edit, edit);

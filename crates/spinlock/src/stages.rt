@@ -1,19 +1,19 @@
-//! How far a section has come.
+//! The stage of a section: its control state.
 //!
-//! No call takes memory, and none waits.
+//! No call is given an allocator, and none waits.
 
 ghost use Rattle.std.specs.Prelude.{◌≡◌, option_map};
 
 use event_log::LockId;
 use std::mem;
 
-/// How far a CPU's section has come, with what the CPU keeps of it: its edit `E` may be kept for
-/// clauses alone.
+/// The stage of a CPU's section, with what the CPU has of it: its edit `E` may be stored for
+/// clauses only.
 #[derive(Drop)]
 pub enum TicketPhase<E, B> {
     /// No section is under way.
     Out,
-    /// A ticket is drawn, and no look has hit.
+    /// A ticket is drawn, and no poll of the word has succeeded.
     Waiting {
         /// The lock.
         lock: LockId,
@@ -22,13 +22,13 @@ pub enum TicketPhase<E, B> {
         /// The ticket.
         ticket: u64,
     },
-    /// A look has hit, and the block is in the CPU's hands.
+    /// A poll has succeeded, and the CPU has the block.
     Holding {
         /// The lock.
         lock: LockId,
         /// The section's edit, still to be done.
         edit: E,
-        /// The lock's block as the look gave it.
+        /// The lock's block as the poll returned it.
         block: B,
     },
 }
@@ -36,8 +36,8 @@ pub enum TicketPhase<E, B> {
 impl<E: Drop, B: Drop> TicketPhase<E, B> {
     ghost use Rattle.spinlock.specs.Stages.{hit_by};
 
-    /// Goes on after a look of a CPU that waits: a look that found this block hits, and the edit
-    /// moves on with it. A look that missed writes nothing.
+    /// Moves to the stage after a poll of a CPU that waits. A poll that found this block succeeds,
+    /// and the edit moves on with it. A failed poll writes nothing.
     #[inline(always)]
     pub fn hit(&mut self, found: Option<B>)
         ensures { self.new ≡ hit_by found self.old }
@@ -56,7 +56,7 @@ impl<E: Drop, B: Drop> TicketPhase<E, B> {
 impl<E, B> TicketPhase<E, B> {
     ghost use Rattle.spinlock.specs.Stages.{held_block};
 
-    /// The block of `lock`, where it is in the CPU's hands.
+    /// Returns the block of `lock`, if this CPU has it.
     pub fn held(&self, lock: LockId) -> Option<&B>
         ensures { option_map (λ block. block.now) result ≡ held_block lock self.now }
     {

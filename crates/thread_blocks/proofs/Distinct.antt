@@ -1,4 +1,4 @@
--- Queues as lists in which no thread stands twice.
+-- Queues as lists in which no thread occurs twice.
 use Rattle.std.proofs.Common.{◌≡◌, ◌≢◌, ℕ, ◌<◌, ◌≤◌, Bool, true, false, List, [], ◌∷◌, ◌++◌, length, refl, sym, ap, ◌∙◌, arith, subst, eqb, ◌||◌, suc, ◌==◌}
 use Rattle.std.proofs.{Common.{slice_index_or, remove, Some, None}, lemmas.Bool.{or_parts, or_from, or_left, or_right, true≢false}}
 use Rattle.std.proofs.lemmas.{List.Folds.list_any-append, Map.Keys.{IsDistinct-head, IsDistinct-tail, IsDistinct-cons, IsDistinct-push}}
@@ -9,7 +9,7 @@ use Rattle.thread_blocks.proofs.{Linking.{IsOff, AreDistinct, AreBelow}, Members
 laws : IsEquivalence same_tid
 laws = grind arith
 
--- no thread stands in none
+-- no thread is in the empty queue
 pub queue_of_none : IsQueue []
 unfolding IsDistinct
 queue_of_none = (tt, λ t found. absurd cc)
@@ -58,7 +58,7 @@ pub apart_is : (t : Tid) (queue : List Tid) → AllByRecursion (λ y. same_tid t
 apart_is t [] apart = refl
 apart_is t (x ∷ queue) apart = or_from _ _ apart.0 (apart_is t queue apart.1)
 
--- one more thread behind the others
+-- one more thread at the back
 pub queue_pushed : (queue : List Tid) (t : Tid) → IsQueue queue → t.0 < THREADS → is_in t queue ≡ false → IsQueue (queue ++ t ∷ [])
 queue_pushed queue t is known new = (IsDistinct-push laws queue t is.0 new, λ u found. grind (arith, is.1 u, list_any-append))
 
@@ -79,27 +79,27 @@ in_without u t (x ∷ queue) found = grind (arith, in_without u t queue)
 pub taken_out : (t : Tid) (queue : List Tid) → IsQueue queue → IsQueue (without t queue)
 taken_out t queue is = (distinct_without t queue is.0, λ u found. is.1 u (in_without u t queue found))
 
--- a thread that stands nowhere is taken out of nothing
+-- removing a thread that is not there removes nothing
 pub without_none : (t : Tid) (queue : List Tid) → is_in t queue ≡ false → without t queue ≡ queue
 without_none t [] absent = refl
 without_none t (x ∷ queue) absent = grind (arith, without_none t queue)
 
--- a thread that stands once is taken out from between the others
+-- a thread that occurs once is removed from between the others
 pub without_parted : (t : Tid) (ys zs : List Tid) → is_in t ys ≡ false → is_in t zs ≡ false → without t (ys ++ t ∷ zs) ≡ ys ++ zs
 without_parted t [] zs before after = grind (arith, same_tid_self, without_none)
 without_parted t (y ∷ ys) zs before after = grind (arith, without_parted t ys zs)
 
--- a thread that was taken out stands there no more
+-- a removed thread is absent
 pub taken_absent : (t : Tid) (queue : List Tid) → is_in t (without t queue) ≡ false
 taken_absent t [] = refl
 taken_absent t (x ∷ queue) = grind (arith, taken_absent t queue)
 
--- the others stand where they stood
+-- the others stay in their places
 pub others_stay : (u t : Tid) (queue : List Tid) → same_tid u t ≡ false → is_in u (without t queue) ≡ is_in u queue
 others_stay u t [] differ = refl
 others_stay u t (x ∷ queue) differ = grind (arith, others_stay u t queue differ)
 
--- who stands in a queue with one more thread behind the others
+-- which threads are in a queue with one more at its back
 pub pushed_in : (u t : Tid) (queue : List Tid) → is_in u (queue ++ t ∷ []) ≡ (is_in u queue || (same_tid u t || false))
 pushed_in u t queue = list_any-append (same_tid u) queue (t ∷ [])
 
@@ -107,13 +107,13 @@ parts_step : (t y : Tid) (ys zs : List Tid) → AllByRecursion (λ z. same_tid y
 parts_step t y [] zs apart = laws.symm t y ∙ apart.0
 parts_step t y (x ∷ ys) zs apart = parts_step t y ys zs apart.1
 
--- a thread of a queue stands neither before nor behind itself
+-- a thread of a queue is neither before nor after itself
 pub distinct_parts : (t : Tid) (ys zs : List Tid) → IsDistinct same_tid (ys ++ t ∷ zs) → (is_in t ys ≡ false) × (is_in t zs ≡ false)
 unfolding IsDistinct
 distinct_parts t [] zs distinct = (refl, apart_is t zs distinct.0)
 distinct_parts t (y ∷ ys) zs distinct = let later = distinct_parts t ys zs distinct.1 in (or_from _ _ (parts_step t y ys zs distinct.0) later.0, later.1)
 
--- where a thread stands in a list
+-- where a thread is in a list
 pub record Parted (t : Tid) (queue : List Tid) : Type 0 where
   pub before : List Tid
   pub after : List Tid
@@ -129,7 +129,7 @@ pub parted : (t : Tid) (queue : List Tid) → is_in t queue ≡ true → Parted 
 parted t [] found = absurd (true≢false (sym found))
 parted t (x ∷ queue) found = parted_step (same_tid t x) t x queue refl (parted t queue) found
 
--- a thread of a queue stands between others, which are left where it is taken out
+-- a thread of a queue is between others, which are left when it is removed
 pub record Split (t : Tid) (queue : List Tid) : Type 0 where
   pub before : List Tid
   pub after : List Tid
@@ -142,7 +142,7 @@ queue_split t queue distinct found =
     let apart = distinct_parts t p.before p.after (subst (IsDistinct same_tid) p.is distinct) in
     record { before = p.before; after = p.after; is = p.is; left = ap (without t) p.is ∙ without_parted t p.before p.after apart.0 apart.1 }
 
--- the first thread is one of the machine's, and does not stand behind itself
+-- the first thread is one of the machine's, and is not after itself
 pub first_known : (t : Tid) (queue : List Tid) → IsQueue (t ∷ queue) → t.0 < THREADS
 first_known t queue is = is.1 t (or_left _ _ (same_tid_self t))
 
@@ -157,11 +157,11 @@ front_out queue t some is = grind arith
 pub first_once : (t : Tid) (queue : List Tid) → IsQueue (t ∷ queue) → is_in t queue ≡ false
 first_once t queue is = apart_is t queue (IsDistinct-head same_tid t queue is.0)
 
--- who does not stand in a queue is not its first, and does not stand behind the first
+-- a thread that is not in a queue is not its first, and is not after the first
 pub out_of_rest : (t : Tid) (queue : List Tid) → is_in t queue ≡ false → (first queue ≢ Some t) × (is_in t (rest queue) ≡ false)
 out_of_rest t queue out = grind (arith, same_tid_self)
 
--- the same in the words of links
+-- the same in terms of links
 pub is_off_absent : (t : Tid) (queue : List Tid) → is_in t queue ≡ false → IsOff (Some t) queue
 is_off_absent t [] absent = tt
 is_off_absent t (x ∷ queue) absent = grind (arith, same_tid_self, is_off_absent t queue)

@@ -40,7 +40,7 @@ part_kept : {A : Type 0} (part : Node → A) {old new : Option Tid → Node} {no
     → part value ≡ part (old node) → (other : Option Tid) → part (new other) ≡ part (old other)
 part_kept part {node = node} changed same other = grind (arith, same_node other node)
 
--- what stays before and behind a change leaves that change
+-- what stays before and after a change leaves that change
 changed_within : {A : Type 0} {old old' new new' : Option Tid → A} {node : Option Tid} {value : A} → ((n : Option Tid) → old' n ≡ old n)
     → Changed old' new' node value → ((n : Option Tid) → new n ≡ new' n) → Changed old new node value
 changed_within {node = node} before changed behind = record {
@@ -56,11 +56,11 @@ changed_at {old} {new} {node} {node'} {value} {value'} is goes changed = grind a
 at_counted : (nodes : Nodes) (count : ℕ) (node : Option Tid) → at (record nodes { count = count }) node ≡ at nodes node
 at_counted nodes count node = grind arith
 
--- the end's node alone is changed
+-- only the end's node is changed
 end_changed : (nodes : Nodes) (end : Node) (count : ℕ) → Changed (at nodes) (at (record nodes { end = end; count = count })) None end
 end_changed nodes end count = record { here = refl; there = λ other differ. grind arith }
 
--- which threads are members after one came or went
+-- which threads are members after one is added or removed
 members_after : {old new : Option Tid → Bool} {b : Bool} (t : Tid) (before after : List Tid) → Changed old new (Some t) b
     → ((u : Tid) → u.0 < THREADS → old (Some u) ≡ is_in u before) → is_in t after ≡ b → ((u : Tid) → same_tid u t ≡ false → is_in u after ≡ is_in u before)
     → (u : Tid) → u.0 < THREADS → new (Some u) ≡ is_in u after
@@ -70,7 +70,7 @@ module _ {nodes : Nodes} where
   are_below : (queue : List Tid) → Hold nodes queue → AreBelow THREADS queue
   are_below queue hold = all_below THREADS queue hold.queue_is.1
 
-  -- a thread of the queue, the node before it and the one behind it have a place in the table
+  -- a thread of the queue, the node before it and the one after it have a place in the table
   pub known_there : (before : List Tid) (t : Tid) (after : List Tid) → Hold nodes (before ++ t ∷ after) → t.0 < THREADS
   known_there before t after hold = below_at THREADS before t after (are_below _ hold)
 
@@ -93,7 +93,7 @@ module _ {nodes : Nodes} where
   pub front_held : (queue : List Tid) (t : Tid) → Hold nodes queue → nodes.end.next ≡ Some t → queue ≡ t ∷ rest queue
   front_held queue t hold leads = grind arith
 
-  -- t is taken out from between the others
+  -- t is removed from between the others
   pub taken_held : (nodes1 nodes2 nodes3 : Nodes) {out ahead back : Node} (before : List Tid) (t : Tid) (after : List Tid) → out ≡ at nodes (Some t)
       → Changed (at nodes) (at nodes1) (Some t) (record out { is_member = false }) → ahead ≡ at nodes1 out.prev
       → Changed (at nodes1) (at nodes2) out.prev (record ahead { next = out.next }) → back ≡ at nodes2 out.next
@@ -124,7 +124,7 @@ module _ {nodes : Nodes} where
             (λ x other. subst (λ (q : List Tid). is_in x q ≡ is_in x queue) left (others_stay x t queue other));
       }
 
-  -- t is put behind the others
+  -- t is appended to the others
   pub behind_held : (nodes1 nodes2 : Nodes) {before : Node} (t : Tid) (queue : List Tid) → t.0 < THREADS → before ≡ at nodes nodes.end.prev
       → Changed (at nodes) (at nodes1) nodes.end.prev (record before { next = Some t })
       → Changed (at nodes1) (at nodes2) (Some t) (record { next = None; prev = nodes.end.prev; is_member = true })

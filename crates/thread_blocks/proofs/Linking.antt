@@ -1,4 +1,4 @@
--- What a changed node leaves of a queue that lies in a table of nodes.
+-- What a changed node leaves of a queue in a table of nodes.
 use Rattle.std.proofs.Common.{◌≡◌, ◌≢◌, ℕ, ◌<◌, false, List, [], ◌∷◌, ◌++◌, length, sym, ap, ◌∙◌, subst, ◌⊎◌, Option, Some, None, IfSome}
 use Rattle.std.proofs.Common.{arith}
 use Rattle.{std.proofs.lemmas.{Bool.{true≢false}, Option.same_Some}, event_log.specs.declared.ids.Tid.Tid, thread_blocks.specs.Queues.same_tid}
@@ -9,7 +9,7 @@ abbrev pub IsOff : Option Tid → List Tid → Type 0
 IsOff at [] = Unit {0}
 IsOff at (x ∷ xs) = (Some x ≢ at) × IsOff at xs
 
--- no thread stands here twice
+-- no thread occurs here twice
 abbrev pub AreDistinct : List Tid → Type 0
 AreDistinct [] = Unit {0}
 AreDistinct (x ∷ xs) = IsOff (Some x) xs × AreDistinct xs
@@ -54,7 +54,7 @@ walk_is next prev at [] linked = ap (λ node. walk next node 0) linked.0
 walk_is next prev at (x ∷ xs) linked = grind (arith, walk_is next prev (Some x) xs linked.2)
 
 module _ (next prev : Option Tid → Option Tid) where
-  -- the links behind a thread
+  -- the links after a thread
   pub linked_from : (at : Option Tid) (ys : List Tid) (t : Tid) (zs : List Tid) → AreLinked next prev at (ys ++ t ∷ zs) → AreLinked next prev (Some t) zs
   linked_from at [] t zs linked = linked.2
   linked_from at (y ∷ ys) t zs linked = linked_from (Some y) ys t zs linked.2
@@ -78,7 +78,7 @@ module _ (next prev : Option Tid → Option Tid) where
   before_below n at [] t zs linked below all = subst (λ (node : Option Tid). IfSome node (λ u. u.0 < n)) (sym linked.1) below
   before_below n at (y ∷ ys) t zs linked below all = before_below n (Some y) ys t zs linked.2 all.0 all.1
 
-  -- the node behind a node is one of the tables'
+  -- the node after a node is one of the tables'
   pub after_below : (n : ℕ) (at : Option Tid) (zs : List Tid) → AreLinked next prev at zs → AreBelow n zs → IfSome (next at) (λ u. u.0 < n)
   after_below n at [] linked all = subst (λ (node : Option Tid). IfSome node (λ u. u.0 < n)) (sym linked.0) tt
   after_below n at (z ∷ zs) linked all = subst (λ (node : Option Tid). IfSome node (λ u. u.0 < n)) (sym linked.0) all.0
@@ -102,7 +102,7 @@ module _ (next prev : Option Tid → Option Tid) where
       unlinked_here at [] off distinct linked = grind (arith, nexts, prevs)
       unlinked_here at (z ∷ zs) off distinct linked = grind (arith, nexts, prevs, stay nexts prevs (Some z) zs)
 
-      -- where the node before t leads behind it, and the one behind it back before it, t is out
+      -- if the node before t leads to the one after it, and that one back, t is removed
       pub unlinked_between : (at : Option Tid) (ys zs : List Tid) → IsOff at (ys ++ t ∷ zs) → AreDistinct (ys ++ t ∷ zs) → AreLinked next prev at (ys ++ t ∷ zs)
           → AreLinked next' prev' at (ys ++ zs)
       unlinked_between at [] zs off distinct linked = unlinked_here at zs off.1 distinct.1 linked
@@ -113,7 +113,7 @@ module _ (next prev : Option Tid → Option Tid) where
         unlinked_between (Some y) ys zs distinct.0 distinct.1 linked.2,
       )
 
-  -- where the last node leads to t and t to the end, and back, t is behind the others
+  -- if the last node leads to t and t to the end, and back, t is after the others
   module _ {next1 next' prev1 prev' : Option Tid → Option Tid} (t : Tid)
       (to_new : Changed next next1 (prev None) (Some t)) (new_to_end : Changed next1 next' (Some t) None)
       (new_back : Changed prev prev1 (Some t) (prev None)) (end_back : Changed prev1 prev' None (Some t)) where

@@ -1,4 +1,4 @@
--- Which threads stand in a list.
+-- Which threads are in a list.
 use Rattle.std.proofs.{Common.{◌≡◌, ℕ, true, refl, ap}, lemmas.Bool.{eq-eqb, eqb-true}}
 use Rattle.{event_log.specs.declared.ids.Tid.Tid, thread_blocks.specs.Queues.same_tid}
 

@@ -1,5 +1,5 @@
--- Queues, each in one table of nodes that are linked both ways. A node is a thread, or the end: the node before the first thread
--- and behind the last.
+-- Queues, each in one table of nodes that are doubly linked. A node is a thread, or the end: the
+-- node before the first thread and after the last.
 use Rattle.std.specs.Prelude.{◌≡◌, ◌≢◌, ℕ, zero, suc, ◌<◌, Bool, false, List, [], ◌∷◌, length, Option, Some, None, slice_index_or}
 use Rattle.event_log.specs.declared.ids.{Tid.Tid, TheConstants.THREADS}
 use Rattle.thread_blocks.specs.{Queues.is_in, Queues.IsQueue, declared.nodes.Node.Node, declared.nodes.Nodes.Nodes}
@@ -33,7 +33,8 @@ walk next (Some t) (suc n) = t ∷ walk next (next (Some t)) n
 abbrev pub threads_of : Nodes → List Tid
 threads_of nodes = walk (next_node nodes) nodes.end.next nodes.count
 
--- from this node through these threads to the end, each node leads to the next one, and each next one back
+-- from this node through these threads to the end, each node leads to the next one, and each next
+-- one back
 abbrev pub AreLinked : (Option Tid → Option Tid) → (Option Tid → Option Tid) → Option Tid → List Tid → Type 0
 AreLinked next prev node [] = (next node ≡ None) × (prev None ≡ node)
 AreLinked next prev node (t ∷ queue) = (next node ≡ Some t) × (prev (Some t) ≡ node) × AreLinked next prev (Some t) queue
@@ -43,7 +44,8 @@ pub record Changed {A : Type 0} (old new : Option Tid → A) (node : Option Tid)
   pub here : new node ≡ value
   pub there : (other : Option Tid) → other ≢ node → new other ≡ old other
 
--- the table holds this queue: its threads are linked both ways, they alone are members, and they are counted
+-- the table holds this queue: its threads are doubly linked, only they are members, and they are
+-- counted
 pub record Hold (nodes : Nodes) (queue : List Tid) : Type 0 where
   pub fits : length nodes.cells ≡ THREADS
   pub counted : length queue ≡ nodes.count

@@ -1,4 +1,4 @@
-//! The threads that were taken out of a queue at once. No call takes memory or waits.
+//! The threads that were taken out of a queue at once. No call allocates memory or waits.
 
 ghost use Rattle.std.specs.Prelude.{◌≡◌, ◌<◌, ◌++◌, ◌∷◌, [], false, length, MatchOption};
 ghost use Rattle.{event_log.specs.declared.ids.TheConstants.THREADS, thread_blocks.specs.Queues.{is_in}};
@@ -7,9 +7,9 @@ use arrayvec::ArrayVec;
 use event_log::{THREADS, Tid};
 use std::marker::Model;
 
-/// Threads that were taken out of a queue at once, in their order; none of them twice. They lie
-/// side by side, in a fifth of a queue's room, so whoever hands them on moves little. No call takes
-/// memory.
+/// The threads that were taken out of a queue at once, in their order; none of them twice. They are
+/// stored contiguously, in a fifth of the size of a queue, so that passing them on moves few bytes.
+/// No call allocates memory.
 #[derive(Drop)]
 pub struct ThreadList {
     threads: ArrayVec<Tid, THREADS>,
@@ -26,7 +26,7 @@ impl Model for ThreadList {
 }
 
 impl ThreadList {
-    /// No thread.
+    /// Returns a list without threads.
     #[inline(always)]
     pub(crate) fn new() -> ThreadList
         ensures { result ≡ [] }
@@ -36,14 +36,14 @@ impl ThreadList {
         }
     }
 
-    /// How many threads there are.
+    /// Returns how many threads there are.
     pub fn len(&self) -> usize
         ensures { result ≡ length self.now }
     {
         self.threads.len()
     }
 
-    /// Leaves no thread.
+    /// Removes all threads.
     #[inline(always)]
     pub(crate) fn clear(&mut self)
         ensures { self.new ≡ [] }
@@ -51,9 +51,9 @@ impl ThreadList {
         self.threads.clear();
     }
 
-    /// Puts `t`, which is not there, behind the others.
+    /// Appends `t`, which is not in the list.
     ///
-    /// Requires: `t` is one of the threads that there may be, and is not there.
+    /// Requires: `t` is one of the threads that there may be, and is not in the list.
     #[inline(always)]
     pub(crate) fn push(&mut self, t: Tid)
         requires known { t.0 < THREADS }
@@ -63,7 +63,7 @@ impl ThreadList {
         self.threads.push(t);
     }
 
-    /// Takes the first thread out; `None` where there is none.
+    /// Removes and returns the first thread; `None` if there is none.
     pub(crate) fn pop(&mut self) -> Option<Tid>
         ensures { MatchOption result ((self.old ≡ []) × (self.new ≡ [])) (λ t. (t.0 < THREADS) × (is_in t self.new ≡ false) × (self.old ≡ t ∷ self.new)) }
     {

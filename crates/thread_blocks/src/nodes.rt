@@ -1,4 +1,4 @@
-//! The table that a queue lies in. No call takes memory or waits.
+//! The table that holds a queue. No call allocates memory or waits.
 
 ghost use Rattle.std.specs.Prelude.{◌≡◌, ◌+◌, ◌<◌, ◌≤◌, [], IfSome, length};
 ghost use Rattle.{event_log.specs.declared.ids.TheConstants.THREADS, thread_blocks.specs.Links.{at, Changed, Hold}};
@@ -6,9 +6,9 @@ ghost use Rattle.{event_log.specs.declared.ids.TheConstants.THREADS, thread_bloc
 use event_log::{Cells, THREADS, Ticks, Tid};
 use std::sync::ledger::Ledger;
 
-/// What the table says of a node: the node behind it, the one before it, and whether it stands in
-/// the queue. A node is a thread, or `None`: the end, which is the node before the first thread and
-/// behind the last. So there is no case for an empty queue, a first thread or a last one.
+/// What the table records of a node: the next node, the previous one, and whether it is in the
+/// queue. A node is a thread, or `None`: the end, which is the node before the first thread and
+/// after the last. An empty queue, a first thread and a last one are therefore no special cases.
 #[derive(Clone, Copy)]
 pub struct Node {
     pub next: Option<Tid>,
@@ -16,9 +16,9 @@ pub struct Node {
     pub is_member: bool,
 }
 
-/// The end's own node, how many threads stand in the queue, and a node for each thread. What a call
-/// reads and writes of a node lies side by side, and the nodes of the first threads beside the end's,
-/// so few cache lines pass from processor to processor.
+/// The end's node, how many threads are in the queue, and a node for each thread. What a call reads
+/// and writes of a node is stored side by side, and so are the nodes of the end and of the first
+/// threads. Few cache lines therefore move between processors.
 #[derive(Drop)]
 pub struct Nodes {
     pub end: Node,
@@ -27,7 +27,7 @@ pub struct Nodes {
 }
 
 impl Nodes {
-    /// The table of the empty queue.
+    /// Returns the table of the empty queue.
     pub fn empty() -> Nodes
         ensures { Hold result [] }
     {
@@ -43,7 +43,7 @@ impl Nodes {
         }
     }
 
-    /// What the table says of this node. At most one tick.
+    /// Returns what the table records of this node. At most one tick.
     ///
     /// Requires: there is a cell for each of the [`THREADS`] threads. A `node` that is a thread has
     /// a number less than [`THREADS`].
@@ -59,7 +59,7 @@ impl Nodes {
         }
     }
 
-    /// Has the table say `value` of this node, and changes no other node. At most one tick.
+    /// Records `value` of this node, and changes no other node. At most one tick.
     ///
     /// Requires: there is a cell for each of the [`THREADS`] threads. A `node` that is a thread has
     /// a number less than [`THREADS`].

@@ -1,4 +1,4 @@
-//! A queue of threads. No call takes memory or waits.
+//! A queue of threads. No call allocates memory or waits.
 
 ghost use Rattle.std.specs.Prelude.{◌≡◌, ◌+◌, ◌*◌, ◌<◌, ◌≤◌, ◌++◌, ◌∷◌, [], List, false, length, MatchOption};
 ghost use Rattle.{event_log.specs.declared.ids.TheConstants.THREADS, thread_blocks.specs.{Queues.{is_in, first, rest, without, AreApart}, Links.Hold}};
@@ -9,13 +9,14 @@ use event_log::{THREADS, Ticks, Tid};
 use std::marker::{Brand, Model};
 use std::sync::ledger::{Blank, Ledger};
 
-/// A queue of threads, the first one first. No thread stands in it twice, so it has room for all
-/// [`THREADS`] threads, and no call takes memory.
+/// A FIFO queue of threads. No thread is in it twice, so that it has room for all [`THREADS`]
+/// threads, and no call allocates memory.
 ///
-/// It lies in one table by thread number: for each thread the one behind it, the one before it, and
-/// whether it stands in the queue. So each call touches few cells, wherever its thread stands: at
-/// most 8, and 16 for each thread that [`drain_into`](ThreadQueue::drain_into) moves. A
-/// [`take`](ThreadQueue::take) pops one thread after another.
+/// It is a doubly linked list in one table, indexed by thread number. For each thread the table has
+/// the next one, the previous one, and whether it is in the queue. Each call therefore touches few
+/// cells, wherever its thread is: at most 8, and 16 for each thread that
+/// [`drain_into`](ThreadQueue::drain_into) moves. A [`take`](ThreadQueue::take) pops one thread
+/// after another.
 #[derive(Drop)]
 pub struct ThreadQueue {
     nodes: Nodes,
@@ -32,7 +33,7 @@ impl Model for ThreadQueue {
 }
 
 impl ThreadQueue {
-    /// An empty queue.
+    /// Returns an empty queue.
     pub fn new() -> ThreadQueue
         ensures { result ≡ [] }
     {
@@ -41,20 +42,20 @@ impl ThreadQueue {
         }
     }
 
-    /// How many threads stand in the queue.
+    /// Returns how many threads are in the queue.
     pub fn len(&self) -> usize
         ensures { result ≡ length self.now }
     {
         self.nodes.count
     }
 
-    /// The thread at the front, which stays there; `None` where the queue is empty.
+    /// Returns the thread at the head, which stays there; `None` if the queue is empty.
     pub fn front(&self) -> Option<Tid>
         ensures { result ≡ first self.now }
     {
         self.nodes.end.next
     }
-    /// Whether `t` stands in the queue. At most 8 ticks.
+    /// Returns whether `t` is in the queue. At most 8 ticks.
     pub fn contains_in<L: Ledger>(&self, t: Tid, ticks: &mut Ticks<L>) -> bool
         ensures found { result ≡ is_in t self.now }
         ensures ticks { ticks.new ≤ ticks.old + 8 }
@@ -62,9 +63,9 @@ impl ThreadQueue {
         is_member(&self.nodes, t, ticks)
     }
 
-    /// Puts `t` behind the others. At most 8 ticks.
+    /// Enqueues `t` at the back. At most 8 ticks.
     ///
-    /// Requires: the number of `t` is less than [`THREADS`]. `t` does not stand in the queue yet.
+    /// Requires: the number of `t` is less than [`THREADS`]. `t` is not in the queue yet.
     pub fn push_in<L: Ledger>(&mut self, t: Tid, ticks: &mut Ticks<L>)
         requires known { t.0 < THREADS }
         requires new { is_in t self.old ≡ false }
@@ -74,8 +75,8 @@ impl ThreadQueue {
         link_behind(&mut self.nodes, t, ticks);
     }
 
-    /// Takes the thread at the front out; `None` where the queue is empty. At most 8 ticks, and none
-    /// where it is empty.
+    /// Dequeues the thread at the head; `None` if the queue is empty. At most 8 ticks, and none if
+    /// it is empty.
     pub fn pop_in<L: Ledger>(&mut self, ticks: &mut Ticks<L>) -> Option<Tid>
         ensures value { result ≡ first self.old }
         ensures rest { self.new ≡ rest self.old }
@@ -90,7 +91,7 @@ impl ThreadQueue {
         Some(t)
     }
 
-    /// Takes `t` out, wherever it stands, and tells whether it stood in the queue. At most 8 ticks.
+    /// Removes `t`, wherever it is, and returns whether it was in the queue. At most 8 ticks.
     pub fn remove_in<L: Ledger>(&mut self, t: Tid, ticks: &mut Ticks<L>) -> bool
         ensures found { result ≡ is_in t self.old }
         ensures rest { self.new ≡ without t self.old }
@@ -102,10 +103,10 @@ impl ThreadQueue {
         unlink(&mut self.nodes, t, ticks);
         true
     }
-    /// Moves all threads behind those of `to`, and keeps their order. At most 16 ticks for each
+    /// Moves all threads to the back of `to`, and keeps their order. At most 16 ticks for each
     /// thread that is moved.
     ///
-    /// Requires: no thread stands in both.
+    /// Requires: no thread is in both.
     pub fn drain_in<L: Ledger>(&mut self, to: &mut ThreadQueue, ticks: &mut Ticks<L>)
         requires { AreApart self.old to.old }
         ensures to { to.new ≡ to.old ++ self.old }
@@ -117,16 +118,16 @@ impl ThreadQueue {
         }
     }
 
-    /// Whether `t` stands in the queue.
+    /// Returns whether `t` is in the queue.
     pub fn contains(&self, t: Tid) -> bool
         ensures { result ≡ is_in t self.now }
     {
         contains_from::<Brand>(self, t, Blank::new(1))
     }
 
-    /// Puts `t` behind the others.
+    /// Enqueues `t` at the back.
     ///
-    /// Requires: the number of `t` is less than [`THREADS`]. `t` does not stand in the queue yet.
+    /// Requires: the number of `t` is less than [`THREADS`]. `t` is not in the queue yet.
     pub fn push(&mut self, t: Tid)
         requires known { t.0 < THREADS }
         requires new { is_in t self.old ≡ false }
@@ -135,7 +136,7 @@ impl ThreadQueue {
         push_from::<Brand>(self, t, Blank::new(1));
     }
 
-    /// Takes the thread at the front out; `None` where the queue is empty.
+    /// Dequeues the thread at the head; `None` if the queue is empty.
     pub fn pop(&mut self) -> Option<Tid>
         ensures value { result ≡ first self.old }
         ensures rest { self.new ≡ rest self.old }
@@ -144,7 +145,7 @@ impl ThreadQueue {
         pop_from::<Brand>(self, Blank::new(1))
     }
 
-    /// Takes `t` out, wherever it stands, and tells whether it stood in the queue.
+    /// Removes `t`, wherever it is, and returns whether it was in the queue.
     pub fn remove(&mut self, t: Tid) -> bool
         ensures found { result ≡ is_in t self.old }
         ensures rest { self.new ≡ without t self.old }
@@ -162,8 +163,8 @@ impl ThreadQueue {
         taken
     }
 
-    /// Takes all threads into `to`, in place of those that lay there, and leaves the queue empty.
-    /// Nothing is copied but the threads that are taken.
+    /// Moves all threads into `to`, in place of those that were there, and leaves the queue empty.
+    /// Only the threads that are taken are copied.
     #[inline(always)]
     pub fn take_into(&mut self, to: &mut ThreadList)
         ensures all { to.new ≡ self.old }
@@ -175,9 +176,9 @@ impl ThreadQueue {
         }
     }
 
-    /// Moves all threads behind those of `to`, and keeps their order.
+    /// Moves all threads to the back of `to`, and keeps their order.
     ///
-    /// Requires: no thread stands in both.
+    /// Requires: no thread is in both.
     pub fn drain_into(&mut self, to: &mut ThreadQueue)
         requires { AreApart self.old to.old }
         ensures to { to.new ≡ to.old ++ self.old }
@@ -188,9 +189,9 @@ impl ThreadQueue {
 }
 
 impl ThreadList {
-    /// Moves all threads behind those of `to`, and keeps their order.
+    /// Moves all threads to the back of `to`, and keeps their order.
     ///
-    /// Requires: no thread stands in both.
+    /// Requires: no thread is in both.
     pub fn drain_into(&mut self, to: &mut ThreadQueue)
         requires { AreApart self.old to.old }
         ensures to { to.new ≡ to.old ++ self.old }
@@ -259,7 +260,7 @@ fn drain_from<L: Ledger>(queue: &mut ThreadQueue, to: &mut ThreadQueue, blank: B
     queue.drain_in(to, &mut ticks);
 }
 
-/// Whether `t` is a member, for each queue that this table holds.
+/// Returns whether `t` is a member, for each queue that this table holds.
 fn is_member<L: Ledger>(nodes: &Nodes, t: Tid, ticks: &mut Ticks<L>) -> bool
     requires { length nodes.now.cells ≡ THREADS }
     ensures found { (queue : List Tid) → Hold nodes.now queue → result ≡ is_in t queue }
@@ -272,8 +273,7 @@ fn is_member<L: Ledger>(nodes: &Nodes, t: Tid, ticks: &mut Ticks<L>) -> bool
     }
 }
 
-/// Has the node before `t` lead to the one behind it, and that one back to it. `t` is no member any
-/// more.
+/// Links the node before `t` with the one after it, both ways. `t` is then not a member.
 fn unlink<L: Ledger>(nodes: &mut Nodes, t: Tid, ticks: &mut Ticks<L>)
     requires there { (before after : List Tid) × Hold nodes.old (before ++ t ∷ after) }
     ensures held { (before after : List Tid) → Hold nodes.old (before ++ t ∷ after) → Hold nodes.new (before ++ after) }
@@ -291,7 +291,7 @@ fn unlink<L: Ledger>(nodes: &mut Nodes, t: Tid, ticks: &mut Ticks<L>)
     nodes.count -= 1;
 }
 
-/// Has the last node lead to `t`, and `t` to the end, and back. `t` is a member then.
+/// Links the last node with `t`, and `t` with the end, both ways. `t` is then a member.
 fn link_behind<L: Ledger>(nodes: &mut Nodes, t: Tid, ticks: &mut Ticks<L>)
     requires known { t.0 < THREADS }
     requires new { (queue : List Tid) × Hold nodes.old queue × (is_in t queue ≡ false) }

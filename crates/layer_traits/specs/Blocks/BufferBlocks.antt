@@ -1,4 +1,5 @@
--- A buffer's block: its two lines, its items, whether it is closed, and its counters, and what the edits make of it.
+-- A buffer's block: its two queues of threads, its items, whether it is closed, and its counters;
+-- and what the edits make of it.
 use Rattle.std.specs.Prelude.{ℕ, ◌+◌, ◌%◌, ◌^◌, Bool, true, false, not, ◌&&◌, ◌||◌, List, [], ◌∷◌, ◌++◌, length, nat_lt, Option, None, if◌then◌else◌}
 use Rattle.event_log.specs.declared.{entries.Kind.{Kind, TheVariants.{Send, Recv, SendClosed, RecvClosed}}, ids.{Tid.Tid, TheConstants.THREADS}}
 use Rattle.{event_log.specs.Messages.{Message, no_message}, layer_traits.specs.declared.locked.Side.{Side, TheVariants.{Receivers, Senders}}}
@@ -6,9 +7,9 @@ use Rattle.layer_traits.specs.declared.buffer_edits.{BufferEdit.{BufferEdit, The
 use Rattle.{layer_traits.specs.declared.buffer_edits.BufferOut.TheVariants.{Entered, NotYet, Done, WasShut}, thread_blocks.specs.Queues.{same_tid, is_in}}
 use Rattle.thread_blocks.specs.Queues.{first, rest}
 
--- what a buffer's block holds: who stands in line, first in front, on either side; the items, first in front; how many there is
--- room for; whether it is closed; and, modulo 2^64, how many effects it had, how many threads entered the send line and the receive
--- line, and how often it was closed
+-- what a buffer's block holds: the queue of each side, first in front; the items, first in front;
+-- the capacity; and whether it is closed. It also counts, modulo 2^64, its effects, the threads
+-- that entered the send queue and the receive queue, and how often it was closed
 pub record BufferState : Type 0 where
   pub receive_line : List Tid
   pub send_line : List Tid
@@ -20,11 +21,11 @@ pub record BufferState : Type 0 where
   pub closed : Bool
   pub closes : ℕ
 
--- a counter of 64 bits, one further
+-- a counter of 64 bits, incremented
 abbrev pub counted : ℕ → ℕ
 counted n = (n + 1) % 2 ^ 64
 
--- the line of a side
+-- the queue of a side
 abbrev pub line_of : Side → BufferState → List Tid
 line_of Receivers x = x.receive_line
 line_of Senders x = x.send_line
@@ -34,36 +35,37 @@ abbrev pub drawn_of : Side → BufferState → ℕ
 drawn_of Receivers x = x.receives
 drawn_of Senders x = x.sends
 
--- whether the thread stands first
+-- whether the thread is the first
 abbrev pub is_first : Tid → List Tid → Bool
 is_first t [] = false
 is_first t (u ∷ queue) = same_tid t u
 
--- whether the thread may enter this line: it is one that a machine may have, and does not stand there
+-- whether the thread may enter this queue: it is one that a machine may have, and is not in the
+-- queue
 abbrev pub may_join : Tid → List Tid → Bool
 may_join t queue = nat_lt t.0 THREADS && not (is_in t queue)
 
--- whether the first of a side's line may go on: a sender where there is room, a receiver where there is a message, and either where the
--- buffer is closed
+-- whether the first of a side's queue may proceed: a sender if there is room, a receiver if there
+-- is a message, and either if the buffer is closed
 abbrev pub may_go : Side → BufferState → Bool
 may_go Receivers x = x.closed || nat_lt 0 (length x.items)
 may_go Senders x = x.closed || nat_lt (length x.items) x.capacity
 
--- the kind of the effect that the first of a side has where it goes on: a sender puts nothing into a closed buffer, a receiver drains
--- it first
+-- the kind of the effect that the first of a side has if it proceeds: a sender puts nothing into a
+-- closed buffer, a receiver first drains it
 abbrev pub effect_kind : Side → BufferState → Kind
 effect_kind Receivers x = if nat_lt 0 (length x.items) then Recv else RecvClosed
 effect_kind Senders x = if x.closed then SendClosed else Send
 
--- whether it is this thread's turn: it stands first in the line of its side, and may go on
+-- whether it is this thread's turn: it is the first in the queue of its side, and may proceed
 abbrev pub is_next : Side → Tid → BufferState → Bool
 is_next side t x = is_first t (line_of side x) && may_go side x
 
--- the front of a side's line, where it may go on
+-- the head of a side's queue, if it may proceed
 abbrev pub front_ready : Side → BufferState → Option Tid
 front_ready side x = if may_go side x then first (line_of side x) else None
 
--- the message in front, and those behind it
+-- the message in front, and those after it
 abbrev pub first_item : List Message → Message
 first_item [] = no_message
 first_item (m ∷ items) = m
@@ -72,21 +74,22 @@ abbrev pub other_items : List Message → List Message
 other_items [] = []
 other_items (m ∷ items) = items
 
--- the thread has entered the line of a side
+-- the thread has entered the queue of a side
 abbrev pub entered : Side → Tid → BufferState → BufferState
 entered Receivers t x = record x { receive_line = x.receive_line ++ t ∷ []; receives = counted x.receives }
 entered Senders t x = record x { send_line = x.send_line ++ t ∷ []; sends = counted x.sends }
 
--- the items behind a put of this message: a closed buffer takes none
+-- the items after a put of this message: a closed buffer takes none
 abbrev pub items_put : Bool → Message → List Message → List Message
 items_put true m items = items
 items_put false m items = items ++ m ∷ []
 
--- the first of the send line has put this message, or was answered that the buffer is closed
+-- the first sender has put this message, or its result is that the buffer is closed
 abbrev pub put_in : Message → BufferState → BufferState
 put_in m x = record x { send_line = rest x.send_line; items = items_put x.closed m x.items; effects = counted x.effects }
 
--- the first of the receive line has taken the first message, or was answered that the buffer is closed, where there is none
+-- the first receiver has taken the first message, or its result is that the buffer is closed, if
+-- there is none
 abbrev pub taken_out : BufferState → BufferState
 taken_out x = record x { receive_line = rest x.receive_line; items = other_items x.items; effects = counted x.effects }
 
@@ -101,14 +104,15 @@ thread_of_edit (TryPut t m) = t
 thread_of_edit (TryTake t) = t
 thread_of_edit (Shut t) = t
 
--- the block after an edit: a try whose turn it is not leaves it as it was
+-- the block after an edit: a try out of turn leaves it unchanged
 abbrev pub buffer_edited : BufferEdit → BufferState → BufferState
 buffer_edited (Enter t side) x = if may_join t (line_of side x) then entered side t x else x
 buffer_edited (TryPut t m) x = if is_next Senders t x then put_in m x else x
 buffer_edited (TryTake t) x = if is_next Receivers t x then taken_out x else x
 buffer_edited (Shut t) x = shut x
 
--- the answer of an edit: the position drawn; the effect; that it is not the thread's turn yet; or the numbers of the close
+-- the result of an edit: the position drawn; the effect; that it is not the thread's turn yet; or
+-- the numbers of the close
 abbrev pub buffer_answer : BufferEdit → BufferState → BufferOut
 buffer_answer (Enter t side) x = Entered (drawn_of side x)
 buffer_answer (TryPut t m) x = if is_next Senders t x then Done (effect_kind Senders x) x.effects m else NotYet

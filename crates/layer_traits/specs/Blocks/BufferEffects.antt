@@ -1,5 +1,5 @@
--- Effects: which entries the sections of buffers leave, and that a list of entries, newest first, is one of effects that may come
--- one after the other. Counters have 64 bits: numbers are modulo 2^64.
+-- Effects: which entries the sections of buffers leave, and the lists of entries, newest first, of
+-- effects that may follow one another. Counters have 64 bits: numbers are modulo 2^64.
 use Rattle.std.specs.Prelude.{◌≡◌, ℕ, ◌%◌, ◌^◌, ◌<◌, Bool, false, ◌&&◌, List, [], ◌∷◌, ◌++◌, length, slice_get, slice_index, Option, Some, None, option_map}
 use Rattle.std.specs.Prelude.{option_to_list, if◌then◌else◌}
 use Rattle.event_log.specs.declared.{entries.{Entry.Entry, Kind.{Kind, TheVariants.Close}}, ids.{BufId.BufId, CpuId.CpuId, LockId.LockId}}
@@ -11,7 +11,7 @@ use Rattle.layer_traits.specs.{declared.buffer_edits.BufferEdit.TheVariants.{Try
 use Rattle.layer_traits.specs.Blocks.{BufferBlocks.{empty_block, first_item, is_next, drawn_of}, BufferProtocol.{BufferLock, BufferSection, buffer_lock_at}}
 use Rattle.thread_blocks.specs.Queues.{same_tid}
 
--- whether a call enters this side's line for this thread
+-- whether a call enters this side's queue for this thread
 abbrev pub is_enter : Side → Tid → CvCall BufferEdit → Bool
 is_enter side t (Acquire u) = false
 is_enter Receivers t (Inside (Edit (Enter u Receivers))) = same_tid u t
@@ -24,12 +24,12 @@ is_enter side t (Inside (Edit (Shut u))) = false
 is_enter side t (Inside (SignalFront u at)) = false
 is_enter side t (Release leave) = false
 
--- how many threads entered this side's line of a lock's buffer, modulo 2^64
+-- how many threads entered this side's queue of a lock's buffer, modulo 2^64
 abbrev pub drawn_in : Side → Option BufferLock → ℕ
 drawn_in side None = 0
 drawn_in side (Some lock) = drawn_of side lock.above
 
--- the position that a thread drew last in this side's line: how many had entered before it
+-- the position that a thread drew last in this side's queue: how many had entered before it
 abbrev pub drawn : (LockId → Option BufferLock) → LockId → Side → Tid → List BufferSection → ℕ
 drawn opening lock side t [] = 0
 drawn opening lock side t (s ∷ past) =
@@ -41,8 +41,8 @@ drawn opening lock side t (s ∷ past) =
 abbrev pub entry : CpuId → Tid → Kind → BufId → Message → ℕ → ℕ → Entry
 entry cpu t kind b value op pos = record { cpu = cpu; thread = t; kind = kind; buffer = b; value = value; op = op; pos = pos }
 
--- the effect of a call on a lock's buffer: a try at its thread's turn has one, with the position that its thread drew; a close has one,
--- whose position is the number of those before it
+-- the effect of a call on a lock's buffer. A try at its thread's turn has one, with the position
+-- that its thread drew. A close has one, whose position is the number of those before it
 abbrev pub effect_on : CpuId → BufId → CvCall BufferEdit → (Side → Tid → ℕ) → Option BufferLock → Option Entry
 effect_on cpu b call position None = None
 effect_on cpu b (Acquire t) position (Some lock) = None
@@ -78,15 +78,15 @@ abbrev pub contents_of : List ℕ → List Entry → List (List Message)
 contents_of caps [] = empty_buffers caps
 contents_of caps (e ∷ past) = after_entry (contents_of caps past) e
 
--- an effect may come after these: its buffer is there and allows it, its op is the number of earlier effects on that buffer, and its
--- pos the number of those that are counted with its kind
+-- an effect may follow these. Its buffer exists and allows it. Its op is the number of earlier
+-- effects on that buffer, and its pos the number of those that are counted with its kind
 pub record MayTakeEffect (caps : List ℕ) (past : List Entry) (e : Entry) : Type 0 where
   pub known : e.buffer.0 < length caps
   pub allowed : IsAllowedEffect e.kind (is_closed past e.buffer.0) (slice_index caps e.buffer.0) (items_of (contents_of caps past) e.buffer.0) e.value
   pub op : e.op ≡ count_of past e.buffer.0 % 2 ^ 64
   pub pos : e.pos ≡ count_of_kind past e.buffer.0 e.kind % 2 ^ 64
 
--- a lock round an empty buffer, with no owner and nobody asleep
+-- a lock over an empty buffer, with no owner and no sleeper
 abbrev pub fresh_lock : ℕ → BufferLock
 fresh_lock capacity = record { owner = None; sleepers = []; receivers = []; senders = []; above = empty_block capacity }
 

@@ -1,5 +1,6 @@
--- Which section of a buffer which CPU may do after which sections: whoever enters stands in no line of the buffer, whoever tries
--- stands in the line of its side, and whoever waits tried in vain in its section before; whoever owns the lock may close.
+-- Which section of a buffer which CPU may do after which sections. A thread that enters is in no
+-- queue of the buffer. A thread that tries is in the queue of its side. A thread that waits failed
+-- its try in its section before. The owner of the lock may close.
 use Rattle.std.specs.Prelude.{◌≡◌, Bool, true, false, not, ◌&&◌, List, [], ◌∷◌, Option, Some, None, if◌then◌else◌}
 use Rattle.event_log.specs.{declared.ids.{LockId.LockId, Tid.Tid}, History.same_lock, Sections.Section}
 use Rattle.layer_traits.specs.declared.locked.{QEdit.TheVariants.{Acquire, Inside, Release}, Side.{Side, TheVariants.{Receivers, Senders}}}
@@ -13,7 +14,7 @@ use Rattle.thread_blocks.specs.Queues.{same_tid, is_in}
 abbrev pub BufferSection : Type 0
 BufferSection = Section (CvCall BufferEdit)
 
--- a buffer's lock, with its owner and who sleeps there, round the block
+-- a buffer's lock, with its owner and the threads that sleep there, over the block
 abbrev pub BufferLock : Type 0
 BufferLock = LockState BufferState
 
@@ -35,7 +36,7 @@ buffer_rules = cv_rules plain_rules
 abbrev pub buffer_lock_at : (LockId → Option BufferLock) → List BufferSection → LockId → Option BufferLock
 buffer_lock_at opening past lock = lock_after buffer_rules opening lock past
 
--- whether a thread stands in the line of this side of a buffer
+-- whether a thread is in the queue of this side of a buffer
 abbrev pub is_in_line : Side → Tid → Option BufferLock → Bool
 is_in_line side t None = false
 is_in_line side t (Some lock) = is_in t (line_of side lock.above)
@@ -59,7 +60,7 @@ is_try Senders (Inside (Edit (Shut t))) = false
 is_try side (Inside (SignalFront t at)) = false
 is_try side (Release leave) = false
 
--- whether the thread's newest section is a try of this side at this lock, and was in vain
+-- whether the thread's newest section is a try of this side at this lock that failed
 abbrev pub has_tried_in_vain : (LockId → Option BufferLock) → LockId → Side → Tid → List BufferSection → Bool
 has_tried_in_vain opening lock side t [] = false
 has_tried_in_vain opening lock side t (s ∷ past) =

@@ -1,4 +1,4 @@
--- The capacities of buffers, as their locks tell them one by one.
+-- The capacities of buffers, read from their locks one by one.
 use Rattle.std.specs.Prelude.{ℕ, zero, suc, ◌+◌, List, [], ◌∷◌, Option, Some, None}
 use Rattle.{event_log.specs.declared.ids.LockId.{LockId, TheVariants.Buffer}, layer_traits.specs.declared.queue_edits.QueueBlock.QueueBlock}
 use Rattle.layer_traits.specs.Blocks.{BufferProtocol.BufferLock, QueueBlocks.inner}
@@ -13,6 +13,6 @@ unfoldable pub caps_from : {L : Type 0} → (L → ℕ) → ℕ → ℕ → (Loc
 caps_from capacity zero n locks = []
 caps_from capacity (suc more) n locks = with_cap_of capacity (locks (Buffer (record { 0 = n }))) (caps_from capacity more (n + 1) locks)
 
--- the capacities of the buffers that open so: a buffer's number is less than 256
+-- the capacities of the buffers with these opening blocks: a buffer's number is less than 256
 unfoldable pub caps_in : (LockId → Option (QueueBlock BufferLock)) → List ℕ
 caps_in opening = caps_from (λ (lock : BufferLock). lock.above.capacity) 256 0 (inner opening)

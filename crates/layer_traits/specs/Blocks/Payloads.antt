@@ -1,5 +1,5 @@
--- What an edit means, and what an answer tells, with the payload beside it: the parcel that is put or brought, and the threads that
--- were taken.
+-- Abstraction functions: what an edit and a result mean, with the payload beside them: the parcel
+-- that is put or brought, and the threads that were taken.
 use Rattle.{std.specs.Prelude.{Option, option_map}, layer_traits.specs.declared.buffer_edits.{BareBufferEdit.BareBufferEdit, BareBufferOut.BareBufferOut}}
 use Rattle.layer_traits.specs.declared.buffer_edits.{BufferEdit.{BufferEdit, TheVariants.{Enter, TryPut, TryTake, Shut}}, BufferOut.BufferOut}
 use Rattle.layer_traits.specs.declared.{conditions.{CvEdit.{CvEdit, TheVariants.{Edit, SignalFront}}, CvOut.CvOut}, locked.QEdit.{QEdit, TheVariants.Acquire}}
@@ -18,17 +18,19 @@ use Rattle.layer_traits.specs.declared.queue_edits.QueueAnswer.TheVariants as qu
 use Rattle.layer_traits.specs.declared.scheds.SchedAnswer.TheVariants as sched
 use Rattle.layer_traits.specs.declared.scheds.SchedCall.TheVariants as call
 
--- what the answer of a poll tells, if there is one
+-- what the result of a poll means, if there is one
 abbrev pub told_by : {B P T : Type 0} → (B → P → T) → Option B → P → Option T
 told_by told brought payload = option_map (λ b. told b payload) brought
 
--- the edit of shared queues that is meant by what is handed on: of the layer above, with its payload
+-- the edit of shared queues that a passed-down form means: the edit of the layer above, with its
+-- payload
 abbrev pub queue_meant : {H E : Type 0} → (H → Payload → E) → QueueEdit H → Payload → QueueEdit E
 queue_meant meant (edit.Push t) payload = edit.Push t
 queue_meant meant edit.TakeAll payload = edit.TakeAll
 queue_meant meant (edit.Above e) payload = edit.Above (meant e payload)
 
--- the answer of shared queues that is told: the threads that were taken lie in the payload
+-- the result of shared queues that a passed-back form means: the threads that were taken are in the
+-- payload
 abbrev pub queue_told : {B O : Type 0} → (B → Payload → O) → BareQueueAnswer B → Payload → QueueAnswer O
 queue_told told bare_queue.Done payload = queue.Done
 queue_told told bare_queue.Taken payload = queue.Taken payload.taken
@@ -45,12 +47,12 @@ abbrev pub sched_meant : {H E : Type 0} → (H → Payload → E) → SchedCall 
 sched_meant meant (call.Pass pass) payload = call.Pass pass
 sched_meant meant (call.OnBuffer b e) payload = call.OnBuffer b (meant e payload)
 
--- of a scheduler's answer
+-- of a scheduler's result
 abbrev pub sched_told : {B O : Type 0} → (B → Payload → O) → SchedAnswer B → Payload → SchedAnswer O
 sched_told told sched.Done payload = sched.Done
 sched_told told (sched.Answer out) payload = sched.Answer (told out payload)
 
--- of what a section of a sleeping layer answers
+-- of the result of a section of a sleeping layer
 abbrev pub outcome_told : {B O P : Type 0} → (B → P → O) → Outcome B → P → Outcome O
 outcome_told told outcome payload = record { out = told outcome.out payload; slept = outcome.slept; woke = outcome.woke }
 
@@ -60,7 +62,7 @@ lock_meant meant (Acquire t) parcel = Acquire t
 lock_meant meant (Inside edit) parcel = Inside (meant edit parcel)
 lock_meant meant (Release last) parcel = Release last
 
--- of what such a call answers
+-- of the result of such a call
 abbrev pub lock_told : {B O : Type 0} → (B → Parcel → O) → QOut B → Parcel → QOut O
 lock_told told lock.Acquired parcel = lock.Acquired
 lock_told told lock.Queued parcel = lock.Queued
@@ -72,7 +74,7 @@ abbrev pub cv_meant : {H G : Type 0} → (H → Parcel → G) → CvEdit H → P
 cv_meant meant (Edit edit) parcel = Edit (meant edit parcel)
 cv_meant meant (SignalFront t side) parcel = SignalFront t side
 
--- of what that answers
+-- of its result
 abbrev pub cv_told : {B O : Type 0} → (B → Parcel → O) → CvOut B → Parcel → CvOut O
 cv_told told (cv.Did out) parcel = cv.Did (told out parcel)
 cv_told told (cv.Signalled side front) parcel = cv.Signalled side front
@@ -86,7 +88,8 @@ buffer_meant (bare.TryPut t) parcel = TryPut t parcel.message
 buffer_meant (bare.TryTake t) parcel = TryTake t
 buffer_meant (bare.Shut t) parcel = Shut t
 
--- the answer of a buffer that is told: the message is the one of the effect, and the numbers are those beside it
+-- the result of a buffer that is meant: the message is that of the effect, and the numbers are
+-- those beside it
 abbrev pub buffer_told : BareBufferOut → Parcel → BufferOut
 buffer_told brought.Entered parcel = told.Entered parcel.first
 buffer_told brought.NotYet parcel = told.NotYet

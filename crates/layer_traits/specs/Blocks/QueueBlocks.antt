@@ -1,10 +1,10 @@
--- The blocks of locks that guard queues of threads: nested, so that the homes, the pending queues and the blocks above them are all
--- read off one opening.
+-- The blocks of locks that guard queues of threads: nested, so that the homes, the pending queues
+-- and the blocks above them are all read from one opening.
 use Rattle.std.specs.Prelude.{◌≡◌, ◌≤◌, List, [], length, Option, Some, None, IsSome}
 use Rattle.event_log.specs.declared.ids.{CpuId.CpuId, LockId.{LockId, TheVariants.{Pending, Buffer}}, Tid.Tid, TheConstants.THREADS}
 use Rattle.layer_traits.specs.{declared.queue_edits.QueueBlock.{QueueBlock, TheVariants.{Queue, Above}}, Threads.Places.home_of}
 
--- the block of the layer above, where it is one
+-- the block of the layer above, if it is one
 abbrev pub above_of : {B : Type 0} → Option (QueueBlock B) → Option B
 above_of None = None
 above_of (Some (Queue queue homes)) = None
@@ -14,19 +14,19 @@ above_of (Some (Above block)) = Some block
 abbrev pub inner : {B : Type 0} → (LockId → Option (QueueBlock B)) → LockId → Option B
 inner opening lock = above_of (opening lock)
 
--- the block with this queue in it, where it is a queue's
+-- the block with this queue in it, if it is a queue's
 abbrev pub with_queue : {B : Type 0} → List Tid → Option (QueueBlock B) → Option (QueueBlock B)
 with_queue queue None = None
 with_queue queue (Some (Queue old homes)) = Some (Queue queue homes)
 with_queue queue (Some (Above block)) = Some (Above block)
 
--- the homes that a pending queue's block tells
+-- the homes that a pending queue's block records
 abbrev pub homes_of : {B : Type 0} → Option (QueueBlock B) → List CpuId
 homes_of None = []
 homes_of (Some (Queue queue homes)) = homes.value.items
 homes_of (Some (Above block)) = []
 
--- the homes of all threads: the block of CPU 0's pending queue tells them
+-- the homes of all threads, as the block of CPU 0's pending queue records them
 abbrev pub homes_in : {B : Type 0} → (LockId → Option (QueueBlock B)) → List CpuId
 homes_in opening = homes_of (opening (Pending (record { 0 = 0 })))
 
@@ -38,7 +38,8 @@ StartsAs (Pending c) (Some (Above block)) = ⊥
 StartsAs (Buffer b) (Some (Queue queue homes)) = ⊥
 StartsAs (Buffer b) (Some (Above block)) = Unit {0}
 
--- an opening is well formed: each lock opens as it must, each thread's home has its queue, and there are no more homes than threads
+-- an opening is well formed: each lock opens as it must, each thread's home has its queue, and
+-- there are no more homes than threads
 pub record StartsWell {B : Type 0} (opening : LockId → Option (QueueBlock B)) : Type 0 where
   pub kinds : (lock : LockId) → StartsAs lock (opening lock)
   pub queues : (t : Tid) (home : CpuId) → home_of (homes_in opening) t ≡ Some home → IsSome (opening (Pending home))

@@ -1,4 +1,5 @@
--- What the edits of shared queues mean as edits of locks' blocks, and which sections of them are allowed.
+-- What the edits of shared queues mean as edits of locks' blocks, and which sections of them are
+-- allowed.
 use Rattle.std.specs.{Prelude.{◌≡◌, List, [], Option, Some, None, map}, List.AllByRecursion}
 use Rattle.{event_log.specs.{declared.ids.LockId.LockId, Sections.Section}, layer_traits.specs.declared.queue_edits.QueueBlock.QueueBlock}
 use Rattle.layer_traits.specs.declared.queue_edits.{QueueEdit.{QueueEdit, TheVariants.{Push, TakeAll, Above}}, QueueAnswer.{QueueAnswer, TheVariants.Done}}
@@ -6,7 +7,8 @@ use Rattle.layer_traits.specs.{declared.queue_edits.QueueAnswer.TheVariants.{Tak
 use Rattle.layer_traits.specs.Layers.{Queues.{kernel, QueueAllowed, event_of, lock_of, call_at}, Sleeping.joined}
 use Rattle.layer_traits.specs.declared.queue_edits.QueueBlock.TheVariants as block
 
--- the block that an edit leaves: a thread that is pushed joins the queue; an edit of the other kind of block changes nothing
+-- the block that an edit leaves: a thread that is pushed joins the queue; an edit of the other kind
+-- of block changes nothing
 abbrev pub queue_edited : {E B : Type 0} → (E → B → B) → QueueEdit E → QueueBlock B → QueueBlock B
 queue_edited edited (Push t) (block.Queue queue homes) = block.Queue (joined t queue) homes
 queue_edited edited (Push t) (block.Above b) = block.Above b
@@ -15,7 +17,7 @@ queue_edited edited TakeAll (block.Above b) = block.Above b
 queue_edited edited (Above e) (block.Queue queue homes) = block.Queue queue homes
 queue_edited edited (Above e) (block.Above b) = block.Above (edited e b)
 
--- what an edit answers
+-- the result of an edit
 abbrev pub queue_answer : {E B O : Type 0} → (E → B → O) → QueueEdit E → QueueBlock B → QueueAnswer O
 queue_answer answer (Push t) b = Done
 queue_answer answer TakeAll (block.Queue queue homes) = Taken queue
@@ -36,7 +38,7 @@ abbrev pub IsProperCall : {E : Type 0} → Option (Section (QueueEdit E)) → Ty
 IsProperCall None = Unit {0}
 IsProperCall (Some s) = IsProper s.lock s.edit
 
--- a section may come after these: it edits a block of its kind, and its call is allowed
+-- a section may follow these: it edits a block of its kind, and its call is allowed
 pub record SectionAllowed {E B O : Type 0} (rules : Rules E B O) (mv : MoveRules E O) (opening : LockId → Option (QueueBlock B))
     (past : List (Section (QueueEdit E))) (s : Section (QueueEdit E)) : Type 0 where
   pub proper : IsProper s.lock s.edit

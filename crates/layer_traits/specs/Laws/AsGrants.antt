@@ -1,4 +1,5 @@
--- The log of grant words as which a words log is told is legal, and has the same phases, actions and sections.
+-- The log of grant words into which a words log is translated is legal, and has the same phases,
+-- actions and sections.
 use Rattle.std.proofs.Common.{◌≡◌, ℕ, ◌+◌, ◌%◌, ◌^◌, List, [], ◌∷◌, ◌==◌, if◌then◌else◌, refl, ap, sym, subst, ◌∙◌, Option, Some, None, MatchOption}
 use Rattle.event_log.specs.declared.{ids.{CpuId.CpuId, LockId.LockId, TheConstants.CPUS}, grants.GrantEvent.TheVariants.Peek, events.Event.Event}
 use Rattle.event_log.specs.{declared.events.Event.TheVariants.{Draw, Look, Free}, Actions.{Take as TakeSpot, Try as TryEntry, Give as GiveOn, acts_of, takes}}
@@ -13,7 +14,8 @@ module _ {M : Type 0} where
   abbrev same : M → M
   same mark = mark
 
-  -- a peek hits exactly where the look does: both say that the spot is served
+  -- a poll of the grant word succeeds exactly if the poll of `serving` does: both say that the
+  -- ticket index is served
   hits_same : (cpu : CpuId) (lock : LockId) (ticket read : ℕ) (past : List (Event M)) → IsLegalWords (Look cpu lock ticket read ∷ past)
       → (grants_agree : GrantsAgree past) → grant_lock_phase cpu (as_grants past) ≡ Waiting lock ticket
       → (grant_word lock (ticket % CPUS) (as_grants past) == (ticket + 1) % 2 ^ 64) ≡ (read == ticket)
@@ -59,7 +61,7 @@ module _ {M : Type 0} where
         acts = λ name. ap (λ l. GiveOn cpu lock (name mark) ∷ l) (before.acts name);
       }
 
-  -- the told log leaves each CPU where the other log does
+  -- the translated log leaves each CPU where the other log does
   pub stands_as_grants : (log : List (Event M)) → IsLegalWords log → (c : CpuId) → grant_lock_phase c (as_grants log) ≡ lock_phase c log
   stands_as_grants log legal c = (grants_agree log legal).stands c
 
@@ -79,14 +81,14 @@ module _ {E : Type 0} (Allowed : List (Section E) → Section E → Type 0) wher
   keeps_as_grants (Free cpu lock mark) past legal keeps before told =
       ((told.0, subst (λ l. Allowed l (record { cpu = cpu; lock = lock; edit = mark.edit })) (sym (sections_as_grants past legal)) keeps), before)
 
-  -- where each event of the log may come, so may each of the told one
+  -- if each event of the log is allowed, so is each of the translated one
   pub as_grants_come : (log : List (Event (Mark E))) → IsLawful (MayCome Allowed) log → IsLawful (GrantMayCome Allowed) (as_grants log)
   as_grants_come [] lawful = tt
   as_grants_come (e ∷ past) lawful =
       let legal : IsLegalWords past = words_legal Allowed past lawful.1 in
       keeps_as_grants e past legal lawful.0.1 (as_grants_come past lawful.1) (grants_agree (e ∷ past) (lawful.0.0, legal)).legal
 
--- what is told of a home in terms of the one log holds in terms of the other
+-- what one log says of a stored block, the other says too
 pub home_as_grants : {E B : Type 0} (edited : E → B → B) (opening : LockId → Option B) (log : List (Event (Mark E))) → IsLegalWords log → (lock : LockId)
     (home : Option B) → MatchOption home (SomeoneInside lock log) (λ block. block_after edited opening lock (sections log) ≡ Some block)
     → MatchOption home (SomeoneHasIt lock (as_grants log)) (λ block. block_after edited opening lock (grant_sections (as_grants log)) ≡ Some block)

@@ -5,7 +5,7 @@ use Rattle.layer_traits.specs.{declared.queue_edits.QueueBlock.{QueueBlock, TheV
 use Rattle.layer_traits.specs.{Blocks.{BufferProtocol.BufferLock, QueueBlocks.{StartsAs, StartsWell, above_of, homes_in, inner}}, Layers.IpcLaw.OpensSo}
 
 module _ {B : Type 0} where
-  -- a buffer's lock opens with the block that the layer above is shown
+  -- a buffer's lock opens with the block that the layer above sees
   pub above_is : (b : BufId) (block : Option (QueueBlock B)) → StartsAs (Buffer b) block → block ≡ option_map Above (above_of block)
   above_is b block starts = grind arith
 

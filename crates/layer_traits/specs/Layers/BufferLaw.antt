@@ -1,5 +1,5 @@
--- The law of the layer of buffers: the stages of a message call, what one poll of a call does to the effects, to the moves and to
--- the part's own state, and the plan of a poll.
+-- The law of the layer of buffers: the stages of a message call, and the plan of a poll. What one
+-- poll of a call does to the effects, to the moves and to the part's private state.
 use Rattle.std.specs.Prelude.{◌≡◌, ◌≢◌, ◌⊎◌, ℕ, List, ◌++◌, Option, Some, None, option_map, option_to_list, replicate, slice_index, slice_index_or, slice_set}
 use Rattle.std.specs.List.{AllByRecursion}
 use Rattle.event_log.specs.{declared.{entries.{Entry.Entry, Kind.Kind}, ids.{BufId.BufId, CpuId.CpuId, Tid.Tid, TheConstants.THREADS}}, Buffers.IsAllowedEffect}
@@ -26,7 +26,7 @@ buffer_of (Send b m) = b
 buffer_of (Recv b) = b
 buffer_of (Close b) = b
 
--- its own side, and the far one: a close signals to the receivers first
+-- its own side, and the other one: a close signals to the receivers first
 abbrev pub side_of : Call → Side
 side_of (Send b m) = Senders
 side_of (Recv b) = Receivers
@@ -37,7 +37,8 @@ other_side (Send b m) = Receivers
 other_side (Recv b) = Senders
 other_side (Close b) = Receivers
 
--- its first edit once it owns the lock, and the edit that it tries: a close has done all with its first
+-- its first edit once it owns the lock, and the edit that it tries: a close is complete after its
+-- first
 abbrev pub first_of : Tid → Call → BufferEdit
 first_of t (Send b m) = Enter t Senders
 first_of t (Recv b) = Enter t Receivers
@@ -85,7 +86,7 @@ reply_with bare.Shut effect = reply.Shut
 reply_with bare.Closed effect = reply.Closed
 reply_with bare.NoBuffer effect = reply.NoBuffer
 
--- the answer of a poll that told this kind, and after which the call has had this effect
+-- the result of a poll that returned this kind, and after which the call has had this effect
 abbrev pub answer_with : Option Effect → Option ReplyKind → Option Reply
 answer_with effect answer = option_map (λ kind. reply_with kind effect) answer
 
@@ -101,7 +102,7 @@ no_call = record { stage = Idle; call = None; position = 0; effect = None }
 abbrev pub begun : Call → CallState
 begun call = record { stage = Acquires; call = Some call; position = 0; effect = None }
 
--- what its thread's call state is to a poll of a call: between calls a new one begins
+-- what its thread's call state is for a poll of a call: between calls a new one begins
 abbrev pub going_at : Stage → CallState → Call → CallState
 going_at Idle call_state call = begun call
 going_at stage call_state call = call_state
@@ -125,11 +126,12 @@ begun_of call_state = begun_at call_state.stage call_state.call
 abbrev pub call_state_of : List CallState → Tid → CallState
 call_state_of call_states t = slice_index_or call_states t.0 no_call
 
--- the answer of a poll that told this kind and left these call states
+-- the result of a poll that returned this kind and left these call states
 abbrev pub answer_in : List CallState → Tid → Option ReplyKind → Option Reply
 answer_in left t answer = answer_with (call_state_of left t).effect answer
 
--- an answer agrees with the call state: the call goes on, or it is over and the answer is its effect's
+-- a result agrees with the call state: the call continues, or it is over and the result is its
+-- effect's
 abbrev pub Answered : Call → CallState → Option Reply → Type 0
 Answered call call_state None = begun_of call_state ≡ Some call
 Answered call call_state (Some reply) = (call_state.stage ≡ Idle) × ((f : Effect) × (call_state.effect ≡ Some f) × (reply ≡ reply_of call f))
@@ -138,8 +140,8 @@ Answered call call_state (Some reply) = (call_state.stage ≡ Idle) × ((f : Eff
 abbrev pub cpu_of_entry : Entry → CpuId
 cpu_of_entry e = e.cpu
 
--- a poll of a call: foreign effects come first, then at most the call's own one, of which it has one in all; the call states of other
--- threads stay
+-- a poll of a call: environment effects are first, then at most the call's own one; each call has
+-- exactly one in all. The call states of other threads are unchanged
 pub record Called (ActsFor : CpuId → Type 0) (cpu : CpuId) (t : Tid) (call : Call) (call_states left : List CallState)
     (old new : List Entry) (answer : Option Reply) : Type 0 where
   pub others : List Entry
@@ -152,13 +154,13 @@ pub record Called (ActsFor : CpuId → Type 0) (cpu : CpuId) (t : Tid) (call : C
   pub answers : Answered call (call_state_of left t) answer
   pub apart : (u : Tid) → u.0 ≢ t.0 → call_state_of left u ≡ call_state_of call_states u
 
--- effects of other CPUs alone
+-- only effects of other CPUs
 pub record OthersSeen (ActsFor : CpuId → Type 0) (old new : List Entry) : Type 0 where
   pub others : List Entry
   pub foreign : AreForeign ActsFor cpu_of_entry others
   pub is : new ≡ others ++ old
 
--- the moves grow by foreign ones and then by this CPU's own
+-- the moves grow by environment moves and then by this CPU's own
 pub record MovesGrow (ActsFor : CpuId → Type 0) (cpu : CpuId) (old new : List Step) : Type 0 where
   pub others : List Step
   pub mine : List Step
@@ -166,29 +168,31 @@ pub record MovesGrow (ActsFor : CpuId → Type 0) (cpu : CpuId) (old new : List 
   pub own : AllByRecursion (λ s. s.cpu ≡ cpu) mine
   pub is : new ≡ mine ++ (others ++ old)
 
--- what a CPU does that has not ended: a call of its current thread, or a call of the scheduler
+-- a CPU's pending operation: a call of its current thread, or a call of the scheduler
 pub data UnderWay : Type 0 where
   Calling : (thread : Tid) → UnderWay
   Passing : (pass : Pass) → UnderWay
 
--- what has begun goes on
+-- what has begun continues
 abbrev pub MayGoOn : {A : Type 0} → Option A → A → Type 0
 MayGoOn None next = Unit {0}
 MayGoOn (Some begun) next = begun ≡ next
 
--- after a poll of a call the CPU is still at it exactly where the thread still runs and there is no answer
+-- after a poll of a call, the call is still pending exactly if the thread still runs and there is
+-- no result
 abbrev pub still_calling : Tid → Option Tid → Option Reply → Option UnderWay
 still_calling t None None = None
 still_calling t None (Some reply) = None
 still_calling t (Some u) None = Some (Calling t)
 still_calling t (Some u) (Some reply) = None
 
--- after a poll of a scheduler's call, where there is no answer
+-- after a poll of a scheduler's call, if there is no result
 abbrev pub still_passing : {A : Type 0} → Pass → Option A → Option UnderWay
 still_passing pass None = Some (Passing pass)
 still_passing pass (Some answer) = None
 
--- the thread runs on, or it sleeps and its call goes on; a call that answers leaves the hand empty; no thread ends
+-- the thread runs on, or it sleeps and its call continues; a call that returns leaves the hand
+-- empty; no thread ends
 pub record RunsOn {A : Type 0} (t : Tid) (own left : Threads) (answer : Option A) : Type 0 where
   pub current : (left.current ≡ Some t) ⊎ ((left.current ≡ None) × (answer ≡ None))
   pub hand : (a : A) → answer ≡ Some a → left.hand ≡ None
@@ -198,13 +202,14 @@ pub record RunsOn {A : Type 0} (t : Tid) (own left : Threads) (answer : Option A
 abbrev pub AllowsAfter : List ℕ → List Entry → BufId → Kind → Message → Type 0
 AllowsAfter caps past b kind m = IsAllowedEffect kind (is_closed past b.0) (slice_index caps b.0) (items_of (contents_of caps past) b.0) m
 
--- why a machine that does a whole call in one poll answers nothing: the buffer allows the call no effect. A close may always come
+-- why a machine that does a whole call in one poll returns no result: the buffer allows the call no
+-- effect. A close is always allowed
 abbrev pub IsRefused : Call → List ℕ → List Entry → Type 0
 IsRefused (Send b m) caps past = (AllowsAfter caps past b kind.Send m → ⊥) × (AllowsAfter caps past b kind.SendClosed m → ⊥)
 IsRefused (Recv b) caps past = (m : Message) → (AllowsAfter caps past b kind.Recv m → ⊥) × (AllowsAfter caps past b kind.RecvClosed m → ⊥)
 IsRefused (Close b) caps past = ⊥
 
--- a CPU's own state: that of its conditions, and the call state of each thread
+-- a CPU's private state: that of its conditions, and the call state of each thread
 pub record Buffering : Type 0 where
   pub cv : Waiting BufferOut
   pub call_states : List CallState
@@ -228,7 +233,7 @@ section_at t call Signals = Inside (SignalFront t (other_side call))
 section_at t call SignalsOwn = Inside (SignalFront t (side_of call))
 section_at t call Releases = Release (Leave t)
 
--- what an edit of the buffer answered, in a lock's answer
+-- the result of an edit of the buffer, in a lock's result
 abbrev pub edit_report_in : CvOut BufferOut → BufferOut
 edit_report_in (answer.Did out) = out
 edit_report_in other = NotYet
@@ -237,7 +242,8 @@ abbrev pub reported_by : QOut (CvOut BufferOut) → BufferOut
 reported_by (out.Did cv) = edit_report_in cv
 reported_by other = NotYet
 
--- the thread has entered its line: it keeps its position, and tries next; or it has closed the buffer, and signals
+-- the thread has entered its queue: it records its position, and tries next; or it has closed the
+-- buffer, and signals
 abbrev pub enlisted : CallState → BufferOut → CallState
 enlisted call_state (Entered position) = record { stage = Tries; call = call_state.call; position = position; effect = call_state.effect }
 enlisted call_state NotYet = call_state
@@ -249,7 +255,7 @@ enlisted call_state (WasShut op pos) = record {
   effect = Some (record { kind = kind.Close; value = no_message; op = op; pos = pos });
 }
 
--- the thread has tried: after its effect it signals, else it waits
+-- the thread has tried: after its effect it signals, otherwise it waits
 abbrev pub tried : CallState → BufferOut → CallState
 tried call_state (Entered position) = record { stage = Waits; call = call_state.call; position = call_state.position; effect = call_state.effect }
 tried call_state NotYet = record { stage = Waits; call = call_state.call; position = call_state.position; effect = call_state.effect }
@@ -265,7 +271,7 @@ tried call_state (Done kind op value) = record {
 abbrev pub at_stage : Stage → CallState → CallState
 at_stage stage call_state = record { stage = stage; call = call_state.call; position = call_state.position; effect = call_state.effect }
 
--- the call state after the section of a stage, which was told this
+-- the call state after the section of a stage with this result
 abbrev pub recorded : CallState → Stage → QOut (CvOut BufferOut) → CallState
 recorded call_state Idle out = call_state
 recorded call_state Acquires out = at_stage Enters call_state
@@ -277,7 +283,7 @@ recorded call_state Signals out = at_stage SignalsOwn call_state
 recorded call_state SignalsOwn out = at_stage Releases call_state
 recorded call_state Releases out = record { stage = Idle; call = None; position = call_state.position; effect = call_state.effect }
 
--- the reply of a call at a stage: the last section's answer is the effect's
+-- the reply of a call at a stage: the last section's result is the effect's
 abbrev pub replied : Call → CallState → Stage → Option Reply
 replied call call_state Releases = option_map (reply_of call) call_state.effect
 replied call call_state stage = None
@@ -292,11 +298,11 @@ left_recorded_with t call call_state call_states stage cv (Some outcome) =
 abbrev pub left_recorded : Tid → Call → CallState → List CallState → Stage → Left (Waiting BufferOut) (Outcome (QOut (CvOut BufferOut))) → Left Buffering Reply
 left_recorded t call call_state call_states stage left = left_recorded_with t call call_state call_states stage left.own left.answer
 
--- the names, answers and states of the plans of buffers
+-- the names, results and states of the plans of buffers
 abbrev pub BufferPlan : Type 0 → Type 0
 BufferPlan A = Plan (QueueEdit (CvCall BufferEdit)) (QueueAnswer (Outcome (QOut (CvOut BufferOut)))) Buffering A
 
--- a plan that goes on in the same poll where the section beneath answers without an action
+-- a plan that continues in the same poll if the lower layer's section returns without an action
 abbrev pub chained_now : {N R S T A B : Type 0} → (T → Plan N R T B) → (Left S A → Left T B) → Left S A → Option A → Plan N R T B
 chained_now next f left None = Now (f left)
 chained_now next f left (Some answer) = next (f left).own
@@ -306,7 +312,7 @@ chained next f (Now left) = chained_now next f left left.answer
 chained next f (Act lock name react) = Act lock name (λ reply. f (react reply))
 
 module _ (homes : List CpuId) (c : CpuId) (t : Tid) (call : Call) where
-  -- the plan of a stage's section, beneath
+  -- the plan of a stage's section, in the lower layer
   abbrev pub plan_beneath : Stage → Waiting BufferOut
       → Plan (QueueEdit (CvCall BufferEdit)) (QueueAnswer (Outcome (QOut (CvOut BufferOut)))) (Waiting BufferOut) (Outcome (QOut (CvOut BufferOut)))
   plan_beneath stage cv = cv_plan (lock_moves buffer_rules) homes c (buffer_of call) (section_at t call stage) cv
@@ -315,7 +321,8 @@ module _ (homes : List CpuId) (c : CpuId) (t : Tid) (call : Call) where
   abbrev pub stage_plan : Stage → CallState → Buffering → BufferPlan Reply
   stage_plan stage call_state own = raised (left_recorded t call call_state own.call_states stage) (plan_beneath stage own.cv)
 
-  -- the plan of a stage whose section may be over without an action, where the next stage's section follows in the same poll
+  -- the plan of a stage whose section may be over without an action: the next stage's section then
+  -- follows in the same poll
   abbrev pub plan_on : Stage → (CallState → Buffering → BufferPlan Reply) → CallState → Buffering → BufferPlan Reply
   plan_on stage next call_state own =
       chained (λ left. next (call_state_of left.call_states t) left) (left_recorded t call call_state own.call_states stage) (plan_beneath stage own.cv)
@@ -336,7 +343,7 @@ module _ (homes : List CpuId) (c : CpuId) (t : Tid) (call : Call) where
   abbrev pub fifo_plan : Buffering → BufferPlan Reply
   fifo_plan own = plan_at (going (call_state_of own.call_states t) call).stage (going (call_state_of own.call_states t) call) own
 
--- a pass leaves the call states as they are
+-- a pass leaves the call states unchanged
 abbrev pub call_states_passed : {A : Type 0} → List CallState → Left (Waiting BufferOut) A → Left Buffering A
 call_states_passed call_states left = record { own = buffering left.own call_states; answer = left.answer }
 

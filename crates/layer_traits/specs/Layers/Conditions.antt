@@ -5,12 +5,14 @@ use Rattle.layer_traits.specs.declared.{locked.WakeWaiter.TheVariants.{Receiver,
 use Rattle.layer_traits.specs.declared.conditions.{CvLeave.{CvLeave, TheVariants.{Leave, Wait}}, CvOut.{CvOut, TheVariants.{Did, Signalled, Left, Waited}}}
 use Rattle.layer_traits.specs.Layers.QLocking.{LockState, LockRules}
 
--- the calls on a lock with conditions: Acquire, an edit or a signal inside, and a leave or a wait as its release
+-- the calls on a lock with conditions: Acquire, an edit or a signal inside, and a leave or a wait
+-- as its release
 abbrev pub CvCall : Type 0 → Type 0
 CvCall G = QEdit (CvEdit G) CvLeave
 
--- what an edit of the block means: its caller, the block that it leaves and its answer; who is at the front of a side's line and
--- may go on; and after which sections which CPU may do which section
+-- what an edit of the block means: its caller, the block that it leaves and its result. Which
+-- thread is at the head of a side's queue and may proceed. After which sections which CPU may do
+-- which section
 pub record MonitorRules (G B O : Type 0) : Type 1 where
   pub caller : G → Tid
   pub edited : G → B → B
@@ -25,7 +27,7 @@ signal_to Senders None = Nobody
 signal_to Receivers (Some t) = Receiver t
 signal_to Senders (Some t) = Sender t
 
--- whom an answer wakes
+-- which thread a result wakes
 abbrev pub signals_in : {O : Type 0} → CvOut O → WakeWaiter
 signals_in (Did out) = Nobody
 signals_in (Signalled side front) = signal_to side front
@@ -49,17 +51,17 @@ abbrev pub cv_edited : {G B O : Type 0} → MonitorRules G B O → CvEdit G → 
 cv_edited monitor_rules (Edit e) block = monitor_rules.edited e block
 cv_edited monitor_rules (SignalFront t side) block = block
 
--- its answer: a signal tells whom it found
+-- its result: a signal says which thread it found
 abbrev pub cv_answer : {G B O : Type 0} → MonitorRules G B O → CvEdit G → B → CvOut O
 cv_answer monitor_rules (Edit e) block = Did (monitor_rules.answer e block)
 cv_answer monitor_rules (SignalFront t side) block = Signalled side (monitor_rules.ready side block)
 
--- the thread that gives the lock on
+-- the thread that releases the lock
 abbrev pub leave_caller : CvLeave → Tid
 leave_caller (Leave t) = t
 leave_caller (Wait t side) = t
 
--- what it is answered
+-- the result of its release
 abbrev pub leave_answer : {B O : Type 0} → CvLeave → B → CvOut O
 leave_answer (Leave t) block = Left
 leave_answer (Wait t side) block = Waited side

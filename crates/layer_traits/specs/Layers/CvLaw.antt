@@ -1,5 +1,6 @@
--- The law of the layer of conditions: what one poll of a call does to the history and to the part's own state.
--- A wait is one event; what it answers is held back until its thread is current again. To take the lock again is a call of its own.
+-- The law of the layer of conditions: what one poll of a call does to the history and to the part's
+-- private state. A wait is one event; its result is deferred until its thread is current again. To
+-- acquire the lock again is a separate call.
 use Rattle.std.specs.Prelude.{◌≡◌, ◌⊎◌, false, List, Option, Some, None, replicate, slice_set}
 use Rattle.event_log.specs.declared.ids.{BufId.BufId, CpuId.CpuId, LockId.{LockId, TheVariants.Buffer}, Tid.Tid, TheConstants.THREADS}
 use Rattle.layer_traits.specs.declared.locked.{QEdit.TheVariants.{Acquire, Inside, Release}, QOut.{QOut, TheVariants.{Acquired, Queued, Did, Released}}}
@@ -11,21 +12,23 @@ use Rattle.layer_traits.specs.Layers.QLockLaw.{LockPolled, MayGo, MayLock, MustW
 use Rattle.{layer_traits.specs.{Threads.MoveRules.MoveRules, Polling.Plans.{Left, Plan, Now, raised}}, thread_blocks.specs.Queues.is_in}
 use Rattle.layer_traits.specs.declared.conditions.CvOut.TheVariants as answer
 
--- a CPU's own state: that of its queuing locks, and of each thread the buffer at which it waits, until its wait answers
+-- a CPU's private state: that of its queuing locks, and for each thread the buffer at which it
+-- waits, until its wait returns
 pub record Waiting (O : Type 0) : Type 0 where
   pub lock : Locking (CvOut O)
   pub waits : List (Option BufId)
 
--- at the start nobody waits
+-- at the start no thread waits
 abbrev pub waiting_at_start : {O : Type 0} → List CpuId → CpuId → Waiting O
 waiting_at_start homes c = record { lock = locking_at_start homes c; waits = replicate THREADS None }
 
--- what a thread may call: where it does not wait, what the lock allows; where it was woken out of a wait, the answer to that wait
+-- what a thread may call: if it does not wait, what the lock allows; if it was woken from a wait,
+-- only that wait
 abbrev pub MayWait : {G E : Type 0} → Option BufId → Option (SchedCall E) → BufId → CvCall G → Tid → Type 0 → Type 0
 MayWait None under_way b call t may = may
 MayWait (Some at) under_way b call t may = (under_way ≡ None) × (at ≡ b) × ((side : Side) × (call ≡ Release (Wait t side)))
 
--- a call may be polled: its caller runs here, and it goes on or may begin
+-- a call may be polled: its caller runs here, and it continues or may begin
 pub record MayCallCond {G B O : Type 0} (monitor_rules : MonitorRules G B O) (k : Kernel (CvCall G) (LockState B) (Outcome (QOut (CvOut O)))) (c : CpuId)
     (past : List (QueueEvent (CvCall G))) (own : Waiting O) (under_way : Option (SchedCall (CvCall G))) (b : BufId) (call : CvCall G) : Type 0 where
   pub runs : own.lock.sleep.threads.current ≡ Some (lock_caller (cv_rules monitor_rules) call)
@@ -33,15 +36,15 @@ pub record MayCallCond {G B O : Type 0} (monitor_rules : MonitorRules G B O) (k 
       (MayGo (slept_for own.lock.slept (lock_caller (cv_rules monitor_rules) call)) under_way b call (lock_caller (cv_rules monitor_rules) call)
       (MayLock (cv_rules monitor_rules) k c past own.lock.sleep.threads.hand b call))
 
--- the answer of a wait on this side that is over
+-- the result of a wait on this side that is over
 abbrev pub waited : {O : Type 0} → Side → Outcome (QOut (CvOut O))
 waited side = record { out = Released (answer.Waited side); slept = false; woke = None }
 
--- what a poll leaves: the state of the locks, who waits, and the answer
+-- what a poll leaves: the state of the locks, which threads wait, and the result
 abbrev pub waiting_with : {O A : Type 0} → Locking (CvOut O) → List (Option BufId) → Option A → Left (Waiting O) A
 waiting_with lock waits answer = record { own = record { lock = lock; waits = waits }; answer = answer }
 
--- the answer of a release: after a wait it is held back, and its caller waits at this buffer
+-- the result of a release: after a wait it is deferred, and its caller waits at this buffer
 abbrev pub left_released : {O : Type 0} → Tid → BufId → List (Option BufId) → Locking (CvOut O) → CvOut O → Outcome (QOut (CvOut O))
     → Left (Waiting O) (Outcome (QOut (CvOut O)))
 left_released t b waits lock (answer.Did out) outcome = waiting_with lock waits (Some outcome)
@@ -49,7 +52,7 @@ left_released t b waits lock (answer.Signalled side front) outcome = waiting_wit
 left_released t b waits lock answer.Left outcome = waiting_with lock waits (Some outcome)
 left_released t b waits lock (answer.Waited side) outcome = waiting_with lock (slice_set waits t.0 (Some b)) None
 
--- what a poll leaves where the lock answered this
+-- what a poll leaves if the lock returned this
 abbrev pub waiting_reported : {O : Type 0} → Tid → BufId → List (Option BufId) → Locking (CvOut O) → QOut (CvOut O) → Outcome (QOut (CvOut O))
     → Left (Waiting O) (Outcome (QOut (CvOut O)))
 waiting_reported t b waits lock Acquired outcome = waiting_with lock waits (Some outcome)
@@ -63,7 +66,7 @@ abbrev pub left_waiting : {O : Type 0} → Tid → BufId → List (Option BufId)
 left_waiting t b waits lock None = waiting_with lock waits None
 left_waiting t b waits lock (Some outcome) = waiting_reported t b waits lock outcome.out outcome
 
--- what a poll leaves where the caller was woken out of its wait
+-- what a poll leaves if the caller was woken from its wait
 abbrev pub left_woken : {O : Type 0} → Tid → Side → List (Option BufId) → Locking (CvOut O) → Left (Waiting O) (Outcome (QOut (CvOut O)))
 left_woken t side waits lock = waiting_with lock (slice_set waits t.0 None) (Some (waited side))
 
@@ -77,7 +80,8 @@ pub record PollsItsLock {G B O : Type 0} (monitor_rules : MonitorRules G B O) (k
       (cv_rules monitor_rules) call)) old new own.lock under_way left
   pub leaves : got ≡ left_waiting (lock_caller (cv_rules monitor_rules) call) b own.waits left.own left.answer
 
--- a poll of a thread that waited does nothing but answer: the thread stands on no line of the buffer any more
+-- a poll of a thread that waited only returns: the thread is in no waiting list of the buffer any
+-- more
 pub record WaitOver {G B O : Type 0} (monitor_rules : MonitorRules G B O) (opening : LockId → Option (LockState B)) (b : BufId) (call : CvCall G)
     (old : List (QueueEvent (CvCall G))) (own : Waiting O)
     (under_way : Option (SchedCall (CvCall G))) (got : Left (Waiting O) (Outcome (QOut (CvOut O)))) : Type 0 where
@@ -89,21 +93,21 @@ pub record WaitOver {G B O : Type 0} (monitor_rules : MonitorRules G B O) (openi
   pub ends : under_way ≡ None
   pub leaves : got ≡ left_woken (lock_caller (cv_rules monitor_rules) call) side own.waits own.lock
 
--- a poll of a call, by the buffer at which its caller waits
+-- a poll of a call, by case on the buffer at which its caller waits
 abbrev pub CvPolled : {G B O : Type 0} → MonitorRules G B O → Kernel (CvCall G) (LockState B) (Outcome (QOut (CvOut O))) → (CpuId → Type 0) → CpuId → BufId
     → CvCall G → Option BufId → List (QueueEvent (CvCall G)) → List (QueueEvent (CvCall G)) → Waiting O → Option (SchedCall (CvCall G))
     → Left (Waiting O) (Outcome (QOut (CvOut O))) → Type 0
 CvPolled monitor_rules k ActsFor c b call None old new own under_way got = PollsItsLock monitor_rules k ActsFor c b call old new own under_way got
 CvPolled monitor_rules k ActsFor c b call (Some at) old new own under_way got = WaitOver monitor_rules k.opening b call old own under_way got
 
--- what the answer to a wait leaves; a thread that waited asks for nothing else
+-- what the return of a wait leaves; a thread that waited makes no other call
 abbrev pub left_over : {G O : Type 0} → Tid → CvCall G → Waiting O → Left (Waiting O) (Outcome (QOut (CvOut O)))
 left_over t (Acquire u) own = waiting_with own.lock own.waits None
 left_over t (Inside e) own = waiting_with own.lock own.waits None
 left_over t (Release (Leave u)) own = waiting_with own.lock own.waits None
 left_over t (Release (Wait u side)) own = left_woken t side own.waits own.lock
 
--- the plan of a call, by the buffer at which its caller waits
+-- the plan of a call, by case on the buffer at which its caller waits
 abbrev pub cv_plan_for : {G O : Type 0} → MoveRules (CvCall G) (Outcome (QOut (CvOut O))) → List CpuId → CpuId → BufId → CvCall G → Waiting O → Option BufId
     → Plan (QueueEdit (CvCall G)) (QueueAnswer (Outcome (QOut (CvOut O)))) (Waiting O) (Outcome (QOut (CvOut O)))
 cv_plan_for mv homes c b call own None = raised (λ l. left_waiting (mv.caller call) b own.waits l.own l.answer) (lock_plan mv homes c b call own.lock)
@@ -114,7 +118,7 @@ abbrev pub cv_plan : {G O : Type 0} → MoveRules (CvCall G) (Outcome (QOut (CvO
     → Plan (QueueEdit (CvCall G)) (QueueAnswer (Outcome (QOut (CvOut O)))) (Waiting O) (Outcome (QOut (CvOut O)))
 cv_plan mv homes c b call own = cv_plan_for mv homes c b call own (slept_for own.waits (mv.caller call))
 
--- a pass leaves those who wait as they are
+-- a pass leaves the waiting threads unchanged
 abbrev pub waits_passed : {O A : Type 0} → List (Option BufId) → Left (Locking (CvOut O)) A → Left (Waiting O) A
 waits_passed waits l = waiting_with l.own waits l.answer
 
@@ -123,6 +127,7 @@ abbrev pub cv_pass_plan : {G O : Type 0} → MoveRules (CvCall G) (Outcome (QOut
     → Plan (QueueEdit (CvCall G)) (QueueAnswer (Outcome (QOut (CvOut O)))) (Waiting O) (Unit {0})
 cv_pass_plan mv homes c p own = raised (waits_passed own.waits) (lock_pass_plan mv homes c p own.lock)
 
--- why a machine that does a whole section in one poll answers nothing: its lock does not, or its caller now waits
+-- why a machine that does a whole section in one poll returns no result: its lock returns none, or
+-- its caller now waits
 abbrev pub MustStay : {O : Type 0} → Tid → BufId → Waiting O → Waiting O → Type 0
 MustStay t b old new = MustWait t b old.lock new.lock ⊎ (new.waits ≡ slice_set old.waits t.0 (Some b))

@@ -6,14 +6,14 @@ use Rattle.layer_traits.specs.{declared.queue_edits.QueueBlock.TheVariants.{Queu
 use Rattle.layer_traits.specs.{Threads.{Places.where_is, ListsAgree.is_at}, Polling.Plans.Now, Blocks.{BufferProtocol.BufferLock, BufferEffects.fresh_lock}}
 use Rattle.layer_traits.specs.Layers.BufferLaw.{BufferPlan, Buffering, buffer_of, fifo_plan}
 
--- the waiting lists of the buffers and the threads' places agree by count: who sleeps stands once on the list of its place, and on no
--- other list; nobody sleeps but at a buffer
+-- the waiting lists of the buffers and the threads' places agree by count. A sleeping thread is
+-- once on the list of its place, and on no other list. No thread sleeps except at a buffer
 pub record WaitListsAgree (buffers : ℕ) (homes : List CpuId) (moves : List Step) (lines : BufId → WaitList → List Tid) : Type 0 where
   pub once : (b : BufId) (line : WaitList) (t : Tid) → b.0 < buffers
       → count_in t (lines b line) ≡ one_if (is_at (Buffer b) line (wait_channel_of (where_is homes moves t)))
   pub known : (t : Tid) (lock : LockId) (line : WaitList) → where_is homes moves t ≡ Asleep (At lock line) → (b : BufId) × (lock ≡ Buffer b) × (b.0 < buffers)
 
--- a call on a number that is no buffer's: nothing is done
+-- a call on a number that is not a buffer's: nothing is done
 pub record NothingDone {M P : Type 0} (old new : M) (before after : P) (answer : Option Reply) : Type 0 where
   pub machine : new ≡ old
   pub part : after ≡ before
@@ -26,8 +26,8 @@ ipc_plan buffers homes c t call own =
     then fifo_plan homes c t call own
     else Now (record { own = own; answer = Some NoBuffer })
 
--- the opening blocks, as far as a machine shows them: a fresh lock round an empty buffer of each capacity; an empty queue for this CPU
--- and for each thread's home
+-- the opening blocks, as far as a machine shows them. A fresh lock is over an empty buffer of each
+-- capacity. There is an empty queue for this CPU and for each thread's home
 pub record OpensSo (caps : List ℕ) (homes : List CpuId) (c : CpuId) (opening : LockId → Option (QueueBlock BufferLock)) : Type 0 where
   pub buffers : (b : BufId) → opening (Buffer b) ≡ option_map (λ capacity. Above (fresh_lock capacity)) (slice_get caps b.0)
   pub queues : (d : CpuId) → (d ≡ c) ⊎ ((u : Tid) × (slice_get homes u.0 ≡ Some d)) → (kept : _) × (opening (Pending d) ≡ Some (Queue [] kept))

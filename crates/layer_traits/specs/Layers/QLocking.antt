@@ -1,4 +1,5 @@
--- A lock with an owner: what its calls make of the owner and of the waiting lists; and the owner as a function of the history.
+-- A lock with an owner: what its calls make of the owner and of the waiting lists; and the owner as
+-- a function of the history.
 use Rattle.std.specs.Prelude.{◌≡◌, ◌≢◌, List, [], Option, Some, None, is_some, if◌then◌else◌}
 use Rattle.{event_log.specs.{declared.ids.{LockId.LockId, Tid.Tid}, Sections.{Section, block_after}}, layer_traits.specs.declared.locked.QEdit.QEdit}
 use Rattle.layer_traits.specs.declared.locked.{QEdit.TheVariants.{Acquire, Inside, Release}, QOut.{QOut, TheVariants.{Acquired, Queued, Did, Released}}}
@@ -20,8 +21,9 @@ abbrev pub owner_in : {B : Type 0} → Option (LockState B) → Option Tid
 owner_in None = None
 owner_in (Some state) = state.owner
 
--- what the edits inside a lock mean: their callers, the blocks above that they leave and their answers; whom an edit signals and on
--- which side the caller of a last edit waits, as the answer tells; and after which sections which CPU may do a call
+-- what the edits inside a lock mean: their callers, the blocks above that they leave and their
+-- results. According to the result, which thread an edit signals and on which side the caller of a
+-- last edit waits. After which sections which CPU may do a call
 pub record LockRules (F R B O : Type 0) : Type 1 where
   pub caller : F → Tid
   pub edited : F → B → B
@@ -33,7 +35,7 @@ pub record LockRules (F R B O : Type 0) : Type 1 where
   pub waits : O → Option Side
   pub allowed : (LockId → Option (LockState B)) → List (Section (QEdit F R)) → Section (QEdit F R) → Type 0
 
--- the list of this side, where a caller waits on that side
+-- the list of this side, if a caller waits on that side
 abbrev pub list_with_waiter : Side → Option Side → Tid → List Tid → List Tid
 list_with_waiter Receivers (Some Receivers) t queue = joined t queue
 list_with_waiter Senders (Some Senders) t queue = joined t queue
@@ -51,13 +53,13 @@ waiting_without Receivers (Sender u) queue = queue
 waiting_without Senders Nobody queue = queue
 waiting_without Senders (Receiver u) queue = queue
 
--- whom a signal wakes, of these receivers and senders
+-- which of these receivers and senders a signal wakes
 abbrev pub signalled : WakeWaiter → List Tid → List Tid → Option Tid
 signalled Nobody receivers senders = None
 signalled (Receiver u) receivers senders = if is_in u receivers then Some u else None
 signalled (Sender u) receivers senders = if is_in u senders then Some u else None
 
--- the lock that this thread asked for, where this was its owner: it owns it, or sleeps for it
+-- the lock that this thread asked for, if this was its owner: it owns the lock, or sleeps for it
 abbrev pub lock_asked_by : {B : Type 0} → Tid → Option Tid → LockState B → LockState B
 lock_asked_by t None state = record {
   owner = Some t;
@@ -74,7 +76,7 @@ lock_asked_by t (Some owner) state = record {
   above = state.above;
 }
 
--- what it is told
+-- its result
 abbrev pub asker_report : {O : Type 0} → Option Tid → QOut O
 asker_report None = Acquired
 asker_report (Some owner) = Queued
@@ -84,20 +86,21 @@ abbrev pub wait_list_asked : Option Tid → Option WaitList
 wait_list_asked None = None
 wait_list_asked (Some owner) = Some wait_list.Sleepers
 
--- the list of those that wait on a side
+-- the waiting list of a side
 abbrev pub wait_list_for : Option Side → Option WaitList
 wait_list_for None = None
 wait_list_for (Some Receivers) = Some wait_list.Receivers
 wait_list_for (Some Senders) = Some wait_list.Senders
 
 module _ {F R B O : Type 0} (rules : LockRules F R B O) where
-  -- the thread that calls
+  -- the calling thread
   abbrev pub lock_caller : QEdit F R → Tid
   lock_caller (Acquire t) = t
   lock_caller (Inside f) = rules.caller f
   lock_caller (Release r) = rules.last_caller r
 
-  -- the lock after a call. A Release does in one event its last edit, names the next owner, and lets its caller wait
+  -- the lock after a call. A Release does in one event its last edit, names the next owner, and
+  -- lets its caller wait
   abbrev pub lock_edited : QEdit F R → LockState B → LockState B
   lock_edited (Acquire t) state = lock_asked_by t state.owner state
   lock_edited (Inside f) state = record {
@@ -121,23 +124,23 @@ module _ {F R B O : Type 0} (rules : LockRules F R B O) where
   lock_slept (Inside f) state = None
   lock_slept (Release r) state = wait_list_for (rules.waits (rules.last_answer r state.above))
 
-  -- whom a call wakes
+  -- which thread a call wakes
   abbrev pub lock_woke : QEdit F R → LockState B → Option Tid
   lock_woke (Acquire t) state = None
   lock_woke (Inside f) state = signalled (rules.signals (rules.answer f state.above)) state.receivers state.senders
   lock_woke (Release r) state = first state.sleepers
 
-  -- what a call is told
+  -- a call's result, without its outcome
   abbrev pub lock_out : QEdit F R → LockState B → QOut O
   lock_out (Acquire t) state = asker_report state.owner
   lock_out (Inside f) state = Did (rules.answer f state.above)
   lock_out (Release r) state = Released (rules.last_answer r state.above)
 
-  -- what a call answers
+  -- a call's outcome
   abbrev pub lock_answer : QEdit F R → LockState B → Outcome (QOut O)
   lock_answer e state = record { out = lock_out e state; slept = is_some (lock_slept e state); woke = lock_woke e state }
 
-  -- which list a caller joined that was told this
+  -- which list a caller with this result joined
   abbrev pub wait_list_slept : QOut O → Option WaitList
   wait_list_slept Acquired = None
   wait_list_slept Queued = Some wait_list.Sleepers
@@ -148,13 +151,13 @@ module _ {F R B O : Type 0} (rules : LockRules F R B O) where
   abbrev pub lock_after : (LockId → Option (LockState B)) → LockId → List (Section (QEdit F R)) → Option (LockState B)
   lock_after opening lock past = block_after lock_edited opening lock past
 
-  -- a call is the owner's, but for an Acquire, which is not
+  -- a call is the owner's; an Acquire is not
   abbrev pub IsOwners : QEdit F R → Option Tid → Type 0
   IsOwners (Acquire t) owner = owner ≢ Some t
   IsOwners (Inside f) owner = owner ≡ Some (rules.caller f)
   IsOwners (Release r) owner = owner ≡ Some (rules.last_caller r)
 
-  -- the owner of a lock: a function of the history alone, so there is at most one
+  -- the owner of a lock: a function of the history only, so that there is at most one
   abbrev pub owner_of : (LockId → Option (LockState B)) → List (Section (QEdit F R)) → LockId → Option Tid
   owner_of opening past lock = owner_in (lock_after opening lock past)
 
@@ -172,18 +175,18 @@ lock_rules rules = record { edited = lock_edited rules; answer = lock_answer rul
 abbrev pub lock_moves : {F R B O : Type 0} → LockRules F R B O → MoveRules (QEdit F R) (Outcome (QOut O))
 lock_moves rules = record { caller = lock_caller rules; slept = λ outcome. wait_list_slept rules outcome.out; woke = λ outcome. outcome.woke }
 
--- the list of this line of a lock; empty where there is no such lock
+-- this waiting list of a lock; empty if there is no such lock
 abbrev pub wait_list_in : {B : Type 0} → WaitList → Option (LockState B) → List Tid
 wait_list_in l None = []
 wait_list_in wait_list.Sleepers (Some state) = state.sleepers
 wait_list_in wait_list.Receivers (Some state) = state.receivers
 wait_list_in wait_list.Senders (Some state) = state.senders
 
--- a lock has no owner, and nobody sleeps or waits there
+-- a lock has no owner, and no thread sleeps or waits there
 abbrev pub IsAtRest : {B : Type 0} → Option (LockState B) → Type 0
 IsAtRest None = Unit {0}
 IsAtRest (Some state) = (state.owner ≡ None) × (state.sleepers ≡ []) × (state.receivers ≡ []) × (state.senders ≡ [])
 
--- so it is with each lock
+-- this holds of each lock
 abbrev pub AreAtRest : {B : Type 0} → (LockId → Option (LockState B)) → Type 0
 AreAtRest opening = (lock : LockId) → IsAtRest (opening lock)

@@ -1,5 +1,6 @@
--- Calls at shared queues as one list of events, newest first: pushes, takings, and edits of the blocks above. Which moves they make,
--- after which of them which may come, what each answers, and what one poll of a call means.
+-- Calls at shared queues as one list of events, newest first: pushes, takings, and edits of the
+-- blocks above. Which moves they make, which may follow which, each call's result, and what one
+-- poll of a call means.
 use Rattle.std.specs.Prelude.{◌≡◌, ◌<◌, List, [], ◌∷◌, ◌++◌, Option, Some, None, option_map, is_some, MatchOption, if◌then◌else◌}
 use Rattle.event_log.specs.{declared.ids.{BufId.BufId, CpuId.CpuId, LockId.{LockId, TheVariants.{Pending, Buffer}}, TheConstants.CPUS}, History.AreForeign}
 use Rattle.{event_log.specs.{History.{AreOthers, IsLawful}, Sections.{Section, block_after}}, layer_traits.specs.declared.queue_edits.QueueBlock.QueueBlock}
@@ -9,14 +10,15 @@ use Rattle.layer_traits.specs.Threads.{MoveRules.{MoveRules, edit_move}, Places.
 use Rattle.layer_traits.specs.{Polling.Plans.{Plan, section_plan}, Protocols.Protocol.{Rules, section}, Blocks.QueueBlocks.{inner, homes_in}}
 use Rattle.layer_traits.specs.declared.queue_edits.QueueEdit.TheVariants as edit
 
--- what stands above shared queues: what its edits mean and what they do to places, its opening blocks, and the homes of all threads
+-- the layer above shared queues: what its edits mean and what they do to places, its opening
+-- blocks, and the homes of all threads
 pub record Kernel (E B O : Type 0) : Type 1 where
   pub rules : Rules E B O
   pub moves : MoveRules E O
   pub opening : LockId → Option B
   pub homes : List CpuId
 
--- what stands above this opening
+-- the layer above with this opening
 abbrev pub kernel : {E B O : Type 0} → Rules E B O → MoveRules E O → (LockId → Option (QueueBlock B)) → Kernel E B O
 kernel rules moves opening = record { rules = rules; moves = moves; opening = inner opening; homes = homes_in opening }
 
@@ -39,7 +41,7 @@ abbrev pub buffer_sections : {E : Type 0} → List (QueueEvent E) → List (Sect
 buffer_sections [] = []
 buffer_sections (e ∷ past) = with_section e.cpu e.call (buffer_sections past)
 
--- the answer of this edit of this buffer's block after these events
+-- the result of this edit of this buffer's block after these events
 abbrev pub out_at : {E B O : Type 0} → Kernel E B O → List (QueueEvent E) → BufId → E → Option O
 out_at k past b e = option_map (k.rules.answer e) (block_after k.rules.edited k.opening (Buffer b) (buffer_sections past))
 
@@ -49,18 +51,19 @@ call_move k past (Push d t) = Pushed d t
 call_move k past (TakeAll d) = Took d
 call_move k past (OnBuffer b e) = edit_move k.moves (Buffer b) e (out_at k past b e)
 
--- the steps of these events: all that is known of places
+-- the steps of these events: the places are a function of them
 abbrev pub moves_in : {E B O : Type 0} → Kernel E B O → List (QueueEvent E) → List Step
 moves_in k [] = []
 moves_in k (e ∷ past) = step_with e.cpu (call_move k past e.call) ∷ moves_in k past
 
--- an edit of a buffer's block may come: its caller stands at home, nobody is in the CPU's hand, and the layer above allows it
+-- an edit of a buffer's block is allowed: its caller is on its home CPU, that CPU's hand is empty,
+-- and the layer above allows it
 pub record BufferAllowed {E B O : Type 0} (k : Kernel E B O) (past : List (QueueEvent E)) (c : CpuId) (b : BufId) (e : E) : Type 0 where
   pub caller : MayEditFor k.homes (moves_in k past) c (k.moves.caller e)
   pub upper : k.rules.allowed k.opening (buffer_sections past) (section c (Buffer b) e)
 
--- a call of a CPU may come after these events: it pushes who is in its hand into the queue of that thread's home, takes its own queue
--- alone, and edits as is allowed
+-- a call of a CPU is allowed after these events. It pushes the thread in its hand into the queue of
+-- that thread's home, takes only its own queue, and edits as is allowed
 abbrev pub CallAllowed : {E B O : Type 0} → Kernel E B O → List (QueueEvent E) → CpuId → QueueCall E → Type 0
 CallAllowed k past c (Push d t) = MayPush k.homes (moves_in k past) c d t
 CallAllowed k past c (TakeAll d) = d ≡ c
@@ -74,22 +77,25 @@ QueueAllowed k past e = CallAllowed k past e.cpu e.call
 abbrev pub IsKnownEvent : {E : Type 0} → List (QueueEvent E) → QueueEvent E → Type 0
 IsKnownEvent past e = e.cpu.0 < CPUS
 
--- a call is allowed, and stays so whatever allowed calls of other CPUs come before it
+-- a call is allowed, and stays so after whatever allowed calls of other CPUs precede it
 abbrev pub StaysCallable : {E : Type 0} → (List (QueueEvent E) → QueueEvent E → Type 0) → List (QueueEvent E) → QueueEvent E → Type 0
 StaysCallable Allowed past e = (more : List _) → AreOthers cpu_of_queue_event e.cpu more → IsLawful Allowed (more ++ past) → Allowed (more ++ past) e
 
--- a call may be polled: at its first poll it is allowed and stays so; after that it is the one under way
+-- a call may be polled: at its first poll it is allowed and stays so; after that it is the pending
+-- one
 abbrev pub MayQueue : {E : Type 0} → (List (QueueEvent E) → QueueEvent E → Type 0) → List (QueueEvent E) → Option (QueueEvent E) → QueueEvent E → Type 0
 MayQueue Allowed past None e = StaysCallable Allowed past e
 MayQueue Allowed past (Some under_way) e = under_way ≡ e
 
--- what a call answers after these events: a taking all threads of the queue, and an edit its answer
+-- a call's result after these events: for a taking all threads of the queue, and for an edit its
+-- result
 abbrev pub answer_of : {E B O : Type 0} → Kernel E B O → List (QueueEvent E) → QueueCall E → Option (QueueAnswer O)
 answer_of k past (Push d t) = Some Done
 answer_of k past (TakeAll d) = Some (Taken (pending_by (moves_in k past) d))
 answer_of k past (OnBuffer b e) = option_map Answer (out_at k past b e)
 
--- a poll of a call: foreign events come first, then the call itself exactly where the poll answers, with its answer at that point
+-- a poll of a call: environment events are first, then the call itself exactly if the poll returns
+-- a result, with its result at that point
 pub record QueuePolled {E B O : Type 0} (k : Kernel E B O) (ActsFor : CpuId → Type 0) (e : QueueEvent E) (result : Option (QueueAnswer O))
     (old new : List (QueueEvent E)) : Type 0 where
   pub others : List (QueueEvent E)

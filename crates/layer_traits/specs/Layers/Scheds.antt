@@ -1,5 +1,6 @@
--- Calls of a scheduler: a pass from thread to thread, or an edit of a buffer's block by the thread that runs. What each makes of the
--- CPU's own threads, which call it is at the shared queues, where it may come, and what one poll of it means.
+-- Calls of a scheduler: a pass from thread to thread, or an edit of a buffer's block by the thread
+-- that runs. What each makes of the CPU's own threads, which call it is at the shared queues, where
+-- it is allowed, and what one poll of it means.
 use Rattle.std.specs.Prelude.{◌≡◌, List, [], ◌∷◌, ◌++◌, Option, Some, None, IsSome, option_map, is_some, MatchOption, if◌then◌else◌}
 use Rattle.event_log.specs.{declared.ids.{CpuId.CpuId, LockId.{LockId, TheVariants.Buffer}}, History.{AreForeign, AreOthers, IsLawful}}
 use Rattle.layer_traits.specs.declared.{passes.Pass.{Pass, TheVariants.{Switch, YieldNow, Drain, MakeReady, End}}, queue_edits.QueueEdit.QueueEdit}
@@ -30,17 +31,18 @@ abbrev pub events_of : {E : Type 0} → CpuId → Option (QueueCall E) → List 
 events_of c None = []
 events_of c (Some q) = event c q ∷ []
 
--- what a CPU has of its own after an edit's answer: the caller may have gone to sleep, and a sleeper may have been woken
+-- the CPU's private state after an edit's result: the caller may have gone to sleep, and a sleeper
+-- may have been woken
 abbrev pub own_answered : {E O : Type 0} → MoveRules E O → List CpuId → CpuId → Option O → Threads → Threads
 own_answered mv homes c None own = own
 own_answered mv homes c (Some out) own = own_woken homes c (mv.woke out) (own_slept (mv.slept out) own)
 
--- what a CPU has of its own after a call that is done after these events
+-- the CPU's private state after a call that is done after these events
 abbrev pub own_after : {E B O : Type 0} → Kernel E B O → CpuId → List (QueueEvent E) → SchedCall E → Threads → Threads
 own_after k c past (call.Pass p) own = pass_after p (pending_by (moves_in k past) c) own
 own_after k c past (call.OnBuffer b e) own = own_answered k.moves k.homes c (out_at k past b e) own
 
--- what a call answers after these events
+-- a call's result after these events
 abbrev pub answer_to : {E B O : Type 0} → Kernel E B O → List (QueueEvent E) → SchedCall E → Option (SchedAnswer O)
 answer_to k past (call.Pass p) = Some Done
 answer_to k past (call.OnBuffer b e) = option_map Answer (out_at k past b e)
@@ -50,29 +52,33 @@ abbrev pub IsLocal : {E : Type 0} → SchedCall E → Type 0
 IsLocal (call.Pass p) = IsLocalPass p
 IsLocal (call.OnBuffer b e) = ⊥
 
--- the buffer of a call is there
+-- the buffer of a call exists
 abbrev pub BufferIsThere : {E B : Type 0} → (LockId → Option B) → SchedCall E → Type 0
 BufferIsThere opening (call.Pass p) = Unit {0}
 BufferIsThere opening (call.OnBuffer b e) = IsSome (opening (Buffer b))
 
--- what a CPU has of its own lets this call come: a pass may come, or the caller of the edit runs and nobody is in hand
+-- the CPU's private state allows this call: a pass is allowed, or the caller of the edit runs and
+-- the hand is empty
 abbrev pub StateFor : {E O : Type 0} → MoveRules E O → SchedCall E → Threads → Type 0
 StateFor mv (call.Pass p) own = MayPass p own
 StateFor mv (call.OnBuffer b e) own = (own.current ≡ Some (mv.caller e)) × (own.hand ≡ None)
 
--- the layer above allows an edit, and goes on to whatever allowed calls of other CPUs come before it
+-- the layer above allows an edit, and still does after whatever allowed calls of other CPUs precede
+-- it
 abbrev pub EditStays : {E B O : Type 0} → Kernel E B O → CpuId → List (QueueEvent E) → SchedCall E → Type 0
 EditStays k c past (call.Pass p) = Unit {0}
 EditStays k c past (call.OnBuffer b e) = (more : List (QueueEvent _)) → AreOthers cpu_of_queue_event c more → IsLawful (QueueAllowed k) (more ++ past)
     → k.rules.allowed k.opening (buffer_sections (more ++ past)) (section c (Buffer b) e)
 
--- a call may be polled: at its first poll the CPU's own threads and the layer above let it come; after that it is the one under way
+-- a call may be polled: at its first poll the CPU's own threads and the layer above allow it; after
+-- that it is the pending one
 abbrev pub MaySched : {E B O : Type 0} → Kernel E B O → CpuId → List (QueueEvent E) → Threads → Option (SchedCall E) → SchedCall E → Type 0
 MaySched k c past own None s = StateFor k.moves s own × EditStays k c past s
 MaySched k c past own (Some under_way) s = under_way ≡ s
 
--- a poll of a call: foreign events come first, then the call's own exactly where the poll answers; the CPU's own threads change with
--- it and only then, the answer is that at this point, and a call that touches nothing shared answers at once
+-- a poll of a call: environment events are first, then the call's own exactly if the poll returns a
+-- result. The CPU's own threads change with it and only then, the result is that at this point, and
+-- a call that touches nothing shared returns at once
 pub record SchedPolled {E B O : Type 0} (k : Kernel E B O) (ActsFor : CpuId → Type 0) (c : CpuId) (s : SchedCall E) (result : Option (SchedAnswer O))
     (old new : List (QueueEvent E)) (own own' : Threads) : Type 0 where
   pub others : List (QueueEvent E)
@@ -82,33 +88,33 @@ pub record SchedPolled {E B O : Type 0} (k : Kernel E B O) (ActsFor : CpuId → 
   pub answers : MatchOption result (Unit {0}) (λ answer. answer_to k (others ++ old) s ≡ Some answer)
   pub at_once : IsLocal s → IsSome result
 
--- what a poll leaves: the CPU's own threads, and the answer if it came
+-- what a poll leaves: the CPU's own threads, and the result if there is one
 abbrev pub sched_left : {A : Type 0} → Threads → Option A → Left Threads A
 sched_left own answer = record { own = own; answer = answer }
 
--- what the answer of the shared queues makes of a CPU's own threads
+-- what the result of the shared queues makes of a CPU's own threads
 abbrev pub own_by : {E O : Type 0} → MoveRules E O → List CpuId → CpuId → QueueAnswer O → Threads → Threads
 own_by mv homes c told.Done own = passed_on own
 own_by mv homes c (told.Taken queue) own = took_pending queue own
 own_by mv homes c (told.Answer out) own = own_answered mv homes c (Some out) own
 
--- the scheduler's answer by that of the shared queues
+-- the scheduler's result, given that of the shared queues
 abbrev pub answer_by : {O : Type 0} → QueueAnswer O → SchedAnswer O
 answer_by told.Done = Done
 answer_by (told.Taken queue) = Done
 answer_by (told.Answer out) = Answer out
 
--- what a poll leaves by what it left at the shared queues
+-- what a poll leaves, given what it left at the shared queues
 abbrev pub sched_left_by : {E O : Type 0} → MoveRules E O → List CpuId → CpuId → Threads → Option (QueueAnswer O) → Left Threads (SchedAnswer O)
 sched_left_by mv homes c own None = sched_left own None
 sched_left_by mv homes c own (Some answer) = sched_left (own_by mv homes c answer own) (Some (answer_by answer))
 
--- what the poll of a call leaves that touches nothing shared
+-- what the poll of a call that touches nothing shared leaves
 abbrev pub left_local : {E O : Type 0} → SchedCall E → Threads → Left Threads (SchedAnswer O)
 left_local (call.Pass p) own = sched_left (pass_after p [] own) (Some Done)
 left_local (call.OnBuffer b e) own = sched_left own None
 
--- the plan of a call by its call at the shared queues
+-- the plan of a call, given its call at the shared queues
 abbrev pub plan_by : {E O : Type 0} → MoveRules E O → List CpuId → CpuId → SchedCall E → Threads → Option (QueueCall E)
     → Plan (QueueEdit E) (QueueAnswer O) Threads (SchedAnswer O)
 plan_by mv homes c s own None = Now (left_local s own)

@@ -1,4 +1,5 @@
--- What one poll of a sleeping layer adds to the history, and what it leaves of the part's own state.
+-- What one poll of a sleeping layer adds to the history, and what it leaves of the part's private
+-- state.
 use Rattle.std.specs.Prelude.{◌≡◌, Bool, not, ◌&&◌, List, ◌∷◌, ◌++◌, Option, Some, None, IsSome, option_map, is_some, if◌then◌else◌}
 use Rattle.event_log.specs.{declared.ids.{BufId.BufId, CpuId.CpuId, LockId.LockId, Tid.Tid}, History.AreForeign}
 use Rattle.layer_traits.specs.declared.{queue_edits.{QueueBlock.QueueBlock, QueueEdit.QueueEdit, QueueAnswer.QueueAnswer}, queues.QueueCall.TheVariants.Push}
@@ -9,16 +10,18 @@ use Rattle.layer_traits.specs.Layers.{Queues.{Kernel, kernel, event, cpu_of_queu
 use Rattle.layer_traits.specs.Layers.Sleeping.{SleepRules, SleepState, sleep_rules, sleep_moves}
 use Rattle.layer_traits.specs.declared.scheds.SchedCall.TheVariants as call
 
--- all that says what the sections of a sleeping layer mean
+-- all definitions of what the sections of a sleeping layer mean
 abbrev pub sleep_kernel : {E B O : Type 0} → SleepRules E B O → (LockId → Option (QueueBlock (SleepState B))) → Kernel E (SleepState B) (Outcome O)
 sleep_kernel rules opening = kernel (sleep_rules rules) (sleep_moves rules) opening
 
--- a part's own state: its threads, and the outcome of a section that answers once the thread which it woke has left the hand
+-- a part's private state: its threads, and the deferred outcome, that of a section that returns
+-- once the thread which it woke has left the hand
 pub record Sleeping (O : Type 0) : Type 0 where
   pub threads : Threads
   pub deferred : Option (Outcome O)
 
--- a section may begin: its caller runs here, nobody is in the CPU's hand, and it is allowed and stays so
+-- a section may begin: its caller runs here, the CPU's hand is empty, and it is allowed and stays
+-- so
 pub record MaySleep {E B O : Type 0} (k : Kernel E B O) (c : CpuId) (past : List (QueueEvent E)) (own : Threads) (b : BufId) (e : E) : Type 0 where
   pub current : own.current ≡ Some (k.moves.caller e)
   pub hand : own.hand ≡ None
@@ -29,17 +32,18 @@ abbrev pub MayCall : {S : Type 0} → Option S → S → Type 0 → Type 0
 MayCall None s duty = duty
 MayCall (Some under_way) s duty = under_way ≡ s
 
--- what a poll of a section did: nothing that others see, the section itself, or to send the thread that the section woke to its home
+-- what a poll of a section did: nothing visible to other CPUs, the section itself, or the
+-- forwarding of the thread that the section woke to its home CPU
 pub data PollResult (O : Type 0) : Type 0 where
   WaitsStill : PollResult O
   Does : (outcome : Outcome O) → PollResult O
   SendsHome : (t : Tid) → PollResult O
 
--- the caller goes on, and a thread in the hand has to be sent home first
+-- the caller continues, and a thread in the hand must first be forwarded to its home CPU
 abbrev pub must_send : {O : Type 0} → Outcome O → Threads → Bool
 must_send outcome own = not outcome.slept && is_some own.hand
 
--- what a section leaves where it was done with this outcome, and the threads are now these
+-- what a section leaves if it was done with this outcome, and the threads are now these
 abbrev pub left_done : {O : Type 0} → Outcome O → Threads → Left (Sleeping O) (Outcome O)
 left_done outcome threads =
     if must_send outcome threads
@@ -47,8 +51,8 @@ left_done outcome threads =
     else record { own = record { threads = threads; deferred = None }; answer = Some outcome }
 
 module _ {E B O : Type 0} (k : Kernel E B (Outcome O)) (c : CpuId) (b : BufId) (e : E) where
-  -- a poll result may be done after this past: a section where none has been done yet, with its outcome there; a thread is sent home from
-  -- the hand once its section is done
+  -- a poll result may follow this past: a section if none has been done yet, with its outcome
+  -- there. A thread is forwarded from the hand once its section is done
   abbrev pub MayDo : PollResult O → List (QueueEvent E) → Sleeping O → Type 0
   MayDo WaitsStill past own = Unit {0}
   MayDo (Does outcome) past own = (own.deferred ≡ None) × (out_at k past b e ≡ Some outcome)
@@ -66,7 +70,8 @@ module _ {E B O : Type 0} (k : Kernel E B (Outcome O)) (c : CpuId) (b : BufId) (
   left_with (Does outcome) own = left_done outcome (own_answered k.moves k.homes c (Some outcome) own.threads)
   left_with (SendsHome t) own = record { own = record { threads = passed_on own.threads; deferred = None }; answer = own.deferred }
 
--- a poll of a section: foreign events come first, then at most one poll result, which leaves what was got
+-- a poll of a section: environment events are first, then at most one poll result, which leaves
+-- this
 pub record SleepPolled {E B O : Type 0} (k : Kernel E B (Outcome O)) (ActsFor : CpuId → Type 0) (c : CpuId) (b : BufId) (e : E)
     (old new : List (QueueEvent E)) (own : Sleeping O) (got : Left (Sleeping O) (Outcome O)) : Type 0 where
   pub others : List (QueueEvent E)
@@ -76,12 +81,12 @@ pub record SleepPolled {E B O : Type 0} (k : Kernel E B (Outcome O)) (ActsFor : 
   pub is : new ≡ seen_with k c b e poll_result (others ++ old)
   pub leaves : got ≡ left_with k c b e poll_result own
 
--- the call on the scheduler that is due: the hand tells which
+-- the call on the scheduler that is due, according to the hand
 abbrev pub due : {E : Type 0} → Option Tid → BufId → E → SchedCall E
 due None b e = call.OnBuffer b e
 due (Some t) b e = call.Pass (MakeReady t)
 
--- what the scheduler's answer leaves, where this is kept and the threads are now these
+-- what the scheduler's result leaves, if this outcome is deferred and the threads are now these
 abbrev pub left_reported : {O : Type 0} → Option (Outcome O) → Threads → Option (SchedAnswer (Outcome O)) → Left (Sleeping O) (Outcome O)
 left_reported deferred threads None = record { own = record { threads = threads; deferred = deferred }; answer = None }
 left_reported deferred threads (Some Done) = record { own = record { threads = threads; deferred = None }; answer = deferred }
@@ -92,20 +97,21 @@ abbrev pub sleep_plan : {E O : Type 0} → MoveRules E (Outcome O) → List CpuI
     → Plan (QueueEdit E) (QueueAnswer (Outcome O)) (Sleeping O) (Outcome O)
 sleep_plan mv homes c b e own = raised (λ l. left_reported own.deferred l.own l.answer) (sched_plan mv homes c (due own.threads.hand b e) own.threads)
 
--- the scheduler's answer to a call that is passed on
+-- the scheduler's result of a call that is passed down
 abbrev pub done_if : {O : Type 0} → Option (Unit {0}) → Option (SchedAnswer O)
 done_if result = option_map (λ u. Done) result
 
--- what a call that is passed on leaves
+-- what a call that is passed down leaves
 abbrev pub left_passed : {O A : Type 0} → Option (Outcome O) → Left Threads A → Left (Sleeping O) (Unit {0})
 left_passed deferred l = record { own = record { threads = l.own; deferred = deferred }; answer = option_map (λ a. tt) l.answer }
 
--- the plan of a call that is passed on
+-- the plan of a call that is passed down
 abbrev pub pass_plan : {E O : Type 0} → MoveRules E (Outcome O) → List CpuId → CpuId → Pass → Sleeping O
     → Plan (QueueEdit E) (QueueAnswer (Outcome O)) (Sleeping O) (Unit {0})
 pass_plan mv homes c p own = raised (left_passed own.deferred) (sched_plan mv homes c (call.Pass p) own.threads)
 
--- why the poll of a whole machine answers nothing: the section was done in it, and the thread that it woke is now to be sent home
+-- why the poll of a whole machine returns no result: the section was done in it, and its woken
+-- thread must now be forwarded to its home CPU
 pub record MustSend {O : Type 0} (old new : Sleeping O) : Type 0 where
   pub before : old.deferred ≡ None
   pub after : IsSome new.deferred

@@ -1,4 +1,5 @@
--- The waiting lists of a lock, and what a section makes of them: who leaves one, and which its caller joins.
+-- The waiting lists of a lock, and what a section makes of them: which thread leaves one, and which
+-- its caller joins.
 use Rattle.std.specs.Prelude.{◌≡◌, ◌<◌, not, ◌&&◌, nat_lt, List, [], ◌∷◌, ◌++◌, Option, Some, None, is_some, if◌then◌else◌}
 use Rattle.event_log.specs.{declared.ids.{LockId.LockId, TheConstants.THREADS, Tid.Tid}, Sections.Section}
 use Rattle.layer_traits.specs.declared.{moves.WaitList.{WaitList, TheVariants.{Sleepers, Receivers, Senders}}, sleeps.Wake.{Wake, TheVariants.Nobody}}
@@ -13,8 +14,9 @@ pub record SleepState (B : Type 0) : Type 0 where
   pub senders : List Tid
   pub above : B
 
--- what an edit means: its caller; the block above that it leaves and its answer, which also see the lock's first sleeper; which
--- list its caller joins and who leaves one, as the answer tells; and after which sections which CPU may do it
+-- what an edit means: its caller; the block above that it leaves and its result, which also depend
+-- on the lock's first sleeper. According to the result, which list its caller joins and which
+-- thread leaves one. After which sections which CPU may do it
 pub record SleepRules (E B O : Type 0) : Type 1 where
   pub caller : E → Tid
   pub edited : E → Option Tid → B → B
@@ -27,7 +29,7 @@ pub record SleepRules (E B O : Type 0) : Type 1 where
 abbrev pub joined : Tid → List Tid → List Tid
 joined t queue = if nat_lt t.0 THREADS && not (is_in t queue) then queue ++ t ∷ [] else queue
 
--- the list of this line, where a caller joins this one
+-- this waiting list, if a caller joins that one
 abbrev pub wait_list_joined : WaitList → Option WaitList → Tid → List Tid → List Tid
 wait_list_joined Sleepers (Some Sleepers) t queue = joined t queue
 wait_list_joined Receivers (Some Receivers) t queue = joined t queue
@@ -42,7 +44,7 @@ wait_list_joined Sleepers None t queue = queue
 wait_list_joined Receivers None t queue = queue
 wait_list_joined Senders None t queue = queue
 
--- the list of this line, where these leave
+-- this waiting list, after the thread that leaves
 abbrev pub left : WaitList → Wake → List Tid → List Tid
 left Sleepers FirstSleeper queue = rest queue
 left Receivers (Receiver u) queue = without u queue
@@ -57,30 +59,30 @@ left Senders Nobody queue = queue
 left Senders FirstSleeper queue = queue
 left Senders (Receiver u) queue = queue
 
--- whom this wakes, of these sleepers, receivers and senders
+-- which of these sleepers, receivers and senders this wakes
 abbrev pub woken_by : Wake → List Tid → List Tid → List Tid → Option Tid
 woken_by Nobody sleepers receivers senders = None
 woken_by FirstSleeper sleepers receivers senders = first sleepers
 woken_by (Receiver u) sleepers receivers senders = if is_in u receivers then Some u else None
 woken_by (Sender u) sleepers receivers senders = if is_in u senders then Some u else None
 
--- the list of this line
+-- this waiting list
 abbrev pub wait_list_of : {B : Type 0} → WaitList → SleepState B → List Tid
 wait_list_of Sleepers state = state.sleepers
 wait_list_of Receivers state = state.receivers
 wait_list_of Senders state = state.senders
 
--- the list of this line of a lock; empty where there is no such lock
+-- this waiting list of a lock; empty if there is no such lock
 abbrev pub wait_list_at : {B : Type 0} → WaitList → Option (SleepState B) → List Tid
 wait_list_at line None = []
 wait_list_at line (Some state) = wait_list_of line state
 
 module _ {E B O : Type 0} (rules : SleepRules E B O) where
-  -- what the edit above answers
+  -- the result of the edit above
   abbrev pub answer_above : E → SleepState B → O
   answer_above e state = rules.answer e (first state.sleepers) state.above
 
-  -- the list of this line after a section: who leaves has left, and then the caller joins
+  -- this waiting list after a section: the thread that leaves has left, and then the caller joins
   abbrev pub wait_list_after : WaitList → E → SleepState B → List Tid → List Tid
   wait_list_after line e state queue =
       wait_list_joined line (rules.joins (answer_above e state)) (rules.caller e) (left line (rules.leaves (answer_above e state)) queue)
@@ -94,11 +96,11 @@ module _ {E B O : Type 0} (rules : SleepRules E B O) where
     above = rules.edited e (first state.sleepers) state.above;
   }
 
-  -- whom a section wakes
+  -- which thread a section wakes
   abbrev pub sleep_woke : E → SleepState B → Option Tid
   sleep_woke e state = woken_by (rules.leaves (answer_above e state)) state.sleepers state.receivers state.senders
 
-  -- what a section answers
+  -- a section's outcome
   abbrev pub sleep_answer : E → SleepState B → Outcome O
   sleep_answer e state = record {
     out = answer_above e state;

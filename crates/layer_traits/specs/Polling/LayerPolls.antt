@@ -1,20 +1,21 @@
--- Runs of polls of a layer of calls, said of the layer.
+-- Consecutive polls of a layer of calls, stated for the layer.
 use Rattle.{std.specs.Prelude.{ℕ, Bool, List, Option}, event_log.specs.declared.ids.{CpuId.CpuId, Tid.Tid}}
 use Rattle.layer_traits.specs.{declared.{call_layers.CallLayer.Ghosts, calls.{Call.Call, Reply.Reply, ReplyKind.ReplyKind}}, Layers.BufferLaw.BufferPlan}
 use Rattle.layer_traits.specs.{Layers.BufferLaw.{Buffering, answer_in}, Polling.PollRuns.{IsBegun, Looked, LookedOn, Polled, PolledOn}}
 
 module _ {P L M : Type 0} (I : Ghosts P L M) (plan : ℕ → List CpuId → CpuId → Tid → Call → Buffering → BufferPlan Reply) where
-  -- a look of the layer took its part and machine to the last two, and told whether it looked
+  -- a poll of the lock took the layer's part and machine to the last two, and returned whether it
+  -- polled
   abbrev pub LookedAt : Bool → P → M → P → M → Type 0
   LookedAt = Looked I.Fits I.cpu_of I.opening I.site I.room I.ActsFor I.MayHold I.own I.is_inside I.under_way I.seen
       I.moves I.acts I.IsWhole I.IsStepwise plan
 
-  -- and so did looks, with so many actions taken before them and after
+  -- and so did such polls, with so many actions taken before them and after
   abbrev pub LookedOnAt : P → M → ℕ → ℕ → P → M → Type 0
   LookedOnAt = LookedOn I.Fits I.cpu_of I.opening I.site I.room I.ActsFor I.MayHold I.own I.is_inside I.under_way I.seen
       I.moves I.acts I.IsWhole I.IsStepwise plan
 
-  -- and so did a poll of this call, which told this kind
+  -- and so did a poll of this call, which returned this kind
   abbrev pub PolledAt : Tid → Call → P → M → P → M → Option ReplyKind → Type 0
   PolledAt t call p m q n told = Polled I.Fits I.cpu_of I.opening I.site I.room I.ActsFor I.MayHold I.own I.is_inside I.under_way I.seen
       I.moves I.acts I.IsWhole I.IsStepwise plan t call p m q n (answer_in (I.own q).call_states t told)
@@ -24,7 +25,7 @@ module _ {P L M : Type 0} (I : Ghosts P L M) (plan : ℕ → List CpuId → CpuI
   IsBegunAt = IsBegun I.Fits I.cpu_of I.opening I.site I.room I.ActsFor I.MayHold I.own I.is_inside I.under_way I.seen
       I.moves I.acts I.IsWhole I.IsStepwise plan
 
-  -- and so did so many polls and looks of this call
+  -- and so did so many polls of this call and of its section's lock
   abbrev pub PolledOnAt : Tid → Call → P → M → ℕ → P → M → Option ReplyKind → Type 0
   PolledOnAt = PolledOn I.Fits I.cpu_of I.opening I.site I.room I.ActsFor I.MayHold I.own I.is_inside I.under_way I.seen
       I.moves I.acts I.IsWhole I.IsStepwise plan

@@ -1,4 +1,5 @@
--- Runs of polls: what one poll of a call did, what one look of its section at its lock did, and polls and looks of one call one after the other.
+-- Consecutive polls: what one poll of a call did, what one poll of its section's lock did, and
+-- polls of both kinds one after the other.
 use Rattle.std.specs.Prelude.{◌≡◌, ℕ, ◌+◌, ◌<◌, ◌≤◌, Bool, true, false, List, Option, Some, None, length}
 use Rattle.event_log.specs.{declared.{entries.Entry.Entry, ids.{CpuId.CpuId, LockId.LockId, Tid.Tid}}, Actions.Action}
 use Rattle.layer_traits.specs.declared.{calls.{Call.Call, Reply.Reply, ReplyKind.ReplyKind}, buffer_edits.BufferEdit.BufferEdit}
@@ -13,7 +14,8 @@ module _ {P M : Type 0} (Fits : P → M → Type 0) (cpu_of : P → CpuId) (open
     (is_inside : P → Bool) (under_way_of : P → Option UnderWay) (seen_of : M → List Entry)
     (moves_of : M → List Step) (acts_of : M → List (Action (QueueEdit (CvCall BufferEdit)))) (IsWhole IsStepwise : Type 0)
     (plan : ℕ → List CpuId → CpuId → Tid → Call → Buffering → BufferPlan Reply) where
-  -- a look took the part p and the machine m to q and n, and told whether it looked: all that a look promises
+  -- a poll of the lock took the part p and the machine m to q and n, and returned whether it
+  -- polled: all that such a poll guarantees
   pub record Looked (told : Bool) (p : P) (m : M) (q : P) (n : M) : Type 0 where
     pub still : told ≡ false → (q ≡ p) × (n ≡ m)
     pub waits : told ≡ true → is_inside p ≡ true
@@ -25,13 +27,15 @@ module _ {P M : Type 0} (Fits : P → M → Type 0) (cpu_of : P → CpuId) (open
     pub moves : MovesGrow (ActsFor m) (cpu_of p) (moves_of m) (moves_of n)
     pub tries : IsStepwise → told ≡ true → Tries (ActsFor m) (cpu_of p) (acts_of m) (acts_of n)
 
-  -- looks, one after the other, took the part p and the machine m to this part and machine, and the number of actions taken from `before` to this one
+  -- consecutive polls of the lock took the part p and the machine m to this part and machine, and
+  -- the number of actions taken from `before` to this one
   pub data LookedOn (p : P) (m : M) (before : ℕ) : (taken : ℕ) → P → M → Type 0 where
     none : LookedOn p m before before p m
     more : {taken : ℕ} {q r : P} {n o : M} → LookedOn p m before taken q n → Looked true q n r o → LookedOn p m before (taken + 1) r o
 
   module _ (t : Tid) (call : Call) where
-    -- a poll of the call took the part p and the machine m to q and n, with this answer: all that a poll promises
+    -- a poll of the call took the part p and the machine m to q and n, with this result: all that a
+    -- poll guarantees
     pub record Polled (p : P) (m : M) (q : P) (n : M) (answer : Option Reply) : Type 0 where
       pub nothing : length (caps_in (opening_of m)) ≤ (buffer_of call).0 → NothingDone m n p q answer
       pub called : (buffer_of call).0 < length (caps_in (opening_of m))
@@ -45,13 +49,15 @@ module _ {P M : Type 0} (Fits : P → M → Type 0) (cpu_of : P → CpuId) (open
           (plan (length (caps_in (opening_of m))) (homes_in (opening_of m)) (cpu_of p) t call (own_of p)) (acts_of m) (acts_of n)
           (record { own = own_of q; answer = answer })
 
-    -- the call that began in the part p has not ended in q, its thread runs, and it has had no effect since
+    -- the call that began in the part p has not ended in q, its thread runs, and it has had no
+    -- effect since
     pub record IsBegun (p q : P) : Type 0 where
       pub runs : (threads_in (own_of q)).current ≡ Some t
       pub effect : (call_state_of (own_of q).call_states t).effect ≡ (going (call_state_of (own_of p).call_states t) call).effect
 
-    -- so many polls of the call and looks of its section, a poll first, took the part p and the machine m to this part and machine, and the last told this
-    -- kind: after each but the last the call was quiet
+    -- so many polls of the call and of its section's lock, of which the first is one of the call.
+    -- They took the part p and the machine m to this part and machine, and the last returned this
+    -- kind. After each poll except the last, the call had not ended and had had no effect
     pub data PolledOn (p : P) (m : M) : (actions : ℕ) → P → M → (told : Option ReplyKind) → Type 0 where
       once : {q : P} {n : M} {told : Option ReplyKind} → Polled p m q n (answer_in (own_of q).call_states t told) → PolledOn p m 1 q n told
       again : {k : ℕ} {q r : P} {n o : M} {told : Option ReplyKind} → PolledOn p m k q n None → IsBegun p q

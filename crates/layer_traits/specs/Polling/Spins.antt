@@ -1,4 +1,4 @@
--- What looks leave that all missed: nothing but the log has changed, and no other CPU has acted.
+-- What consecutive failed polls leave: only the log has changed, and no other CPU has acted.
 use Rattle.std.specs.Prelude.{◌≡◌, ℕ, ◌+◌, ◌<◌, ◌≤◌, false, List, ◌++◌, Option, length, replicate, take}
 use Rattle.event_log.specs.{declared.ids.CpuId.CpuId, declared.ids.LockId.LockId, Actions.Action, Actions.Try, Actions.Waits, Actions.phase}
 
@@ -7,8 +7,9 @@ pub record BeginWith (cpu : CpuId) (looks : ℕ) (steps : List CpuId) : Type 0 w
   pub few : looks ≤ length steps
   pub first : take looks steps ≡ replicate looks cpu
 
--- so many looks took the machine m to n: the same opening blocks, the same machine, the same events, room for all events but theirs, its holder acts for
--- whom it acted, each part that agreed with it still does, and nobody comes to hold a lock
+-- so many failed polls took the machine m to n: the same opening blocks, the same machine, the same
+-- events, and room for all events except theirs. The machine's holder acts for each CPU for which
+-- it acted, each part that agreed with the machine still does, and no CPU begins to hold a lock
 pub record Spun {P M B E : Type 0} (Fits : P → M → Type 0) (opening_of : M → LockId → Option B) (site_of : M → List ℕ) (seen_of : M → List E)
     (room_of : M → ℕ) (ActsFor MayHold : M → CpuId → Type 0) (looks : ℕ) (m n : M) : Type 0 where
   pub opening : opening_of n ≡ opening_of m
@@ -19,7 +20,7 @@ pub record Spun {P M B E : Type 0} (Fits : P → M → Type 0) (opening_of : M �
   pub fits : (p : P) → Fits p m → Fits p n
   pub holders : (c : CpuId) → MayHold n c → MayHold m c
 
--- the CPU tried so many times to enter the lock at which it waits, and missed each time
+-- the CPU tried so many times to enter the lock at which it waits, and failed each time
 pub record Misses {N : Type 0} (cpu : CpuId) (looks : ℕ) (old new : List (Action N)) : Type 0 where
   pub lock : LockId
   pub waits : 0 < looks → phase cpu old ≡ Waits lock

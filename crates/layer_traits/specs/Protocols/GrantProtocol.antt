@@ -4,17 +4,18 @@ use Rattle.event_log.specs.{declared.{ids.{CpuId.CpuId, LockId.LockId}, grants.G
 use Rattle.event_log.specs.{Grants.{acts_of_grants, grant_lock_phase}, Sections.{Section, sections_in}, WordsLog.Holding}
 use Rattle.layer_traits.specs.{declared.edits.Mark.Mark, Protocols.WordsProtocol.edit_of}
 
--- the sections of a log of grant words whose marks tell the edits: its Gives
+-- the sections of a log of grant words whose marks denote the edits: its Gives
 abbrev pub grant_sections : {E : Type 0} → List (GrantEvent (Mark E)) → List (Section E)
 grant_sections log = sections_in (acts_of_grants edit_of log)
 
--- an event keeps the protocol: where it gives a lock on, its section is one that the relation allows after the sections before
+-- an event keeps the protocol: if it releases a lock, its section is one that the relation allows
+-- after the sections before
 abbrev pub KeepsGrantProtocol : {E : Type 0} → (List (Section E) → Section E → Type 0) → List (GrantEvent (Mark E)) → GrantEvent (Mark E) → Type 0
 KeepsGrantProtocol Allowed past (Take cpu lock ticket) = Unit {0}
 KeepsGrantProtocol Allowed past (Peek cpu lock ticket read) = Unit {0}
 KeepsGrantProtocol Allowed past (Give cpu lock mark) = Allowed (grant_sections past) (record { cpu = cpu; lock = lock; edit = mark.edit })
 
--- an event may come: it may follow this past in a log of grant words, and it keeps the protocol
+-- an event is allowed: it may follow this past in a log of grant words, and it keeps the protocol
 abbrev pub GrantMayCome : {E : Type 0} → (List (Section E) → Section E → Type 0) → List (GrantEvent (Mark E)) → GrantEvent (Mark E) → Type 0
 GrantMayCome Allowed past e = MayFollowGrants past e × KeepsGrantProtocol Allowed past e
 

@@ -1,4 +1,4 @@
--- The home block of one lock, read against a words log; the opening blocks as a list.
+-- The stored block of one lock, in terms of a words log; the opening blocks as a list.
 use Rattle.std.specs.Prelude.{◌≡◌, ℕ, false, List, [], ◌∷◌, Option, Some, None, MatchOption, if◌then◌else◌}
 use Rattle.event_log.specs.{declared.{ids.{CpuId.CpuId, LockId.LockId}, events.Event.Event}, History.same_lock, WordsLog.{lock_phase, Holding}}
 use Rattle.{event_log.specs.Sections.block_after, layer_traits.specs.{declared.edits.Mark.Mark, Protocols.WordsProtocol.sections}}
@@ -11,22 +11,24 @@ SomeoneInside lock log = (cpu : CpuId) × (ticket : ℕ) × (lock_phase cpu log 
 abbrev pub NobodyInside : {M : Type 0} → LockId → List (Event M) → Type 0
 NobodyInside lock log = (cpu : CpuId) (ticket : ℕ) → lock_phase cpu log ≡ Holding lock ticket → ⊥
 
--- the home of a lock is empty exactly while a CPU is inside, and else it holds the block that the sections leave
+-- the machine's store for a lock's block is empty exactly while a CPU is inside; otherwise it has
+-- the block that the sections leave
 abbrev pub HomeFits : {E B : Type 0} → (E → B → B) → (LockId → Option B) → List (Event (Mark E)) → LockId → Option B → Type 0
 HomeFits edited opening log lock home =
     MatchOption home (SomeoneInside lock log) (λ block. NobodyInside lock log × (block_after edited opening lock (sections log) ≡ Some block))
 
--- the opening block of a lock in a list of locks with their blocks; None where the lock does not stand there
+-- the opening block of a lock in a list of locks with their blocks; None if the lock is not in the
+-- list
 abbrev pub opened : {B : Type 0} → List (LockId × B) → LockId → Option B
 opened [] lock = None
 opened (o ∷ rest) lock = if same_lock o.0 lock then Some o.1 else opened rest lock
 
--- the lock does not stand in the list
+-- the lock is not in the list
 abbrev pub IsMissing : {B : Type 0} → LockId → List (LockId × B) → Type 0
 IsMissing lock [] = Unit {0}
 IsMissing lock (o ∷ rest) = (same_lock lock o.0 ≡ false) × IsMissing lock rest
 
--- no lock stands twice in the list
+-- no lock occurs twice in the list
 abbrev pub AreDistinct : {B : Type 0} → List (LockId × B) → Type 0
 AreDistinct [] = Unit {0}
 AreDistinct (o ∷ rest) = IsMissing o.0 rest × AreDistinct rest

@@ -1,5 +1,5 @@
--- The waiting lists of the locks agree with the places of the threads, by count: a thread stands once in the list of the line at
--- which it sleeps, and in no other.
+-- The waiting lists of the locks agree with the places of the threads, by count. A thread is once
+-- in the waiting list in which it sleeps, and in no other.
 use Rattle.std.specs.Prelude.{◌≡◌, Bool, true, false, ◌&&◌, List, Option, Some, None}
 use Rattle.event_log.specs.{declared.ids.{CpuId.CpuId, LockId.LockId, Tid.Tid}, History.same_lock, Sections.block_after}
 use Rattle.layer_traits.specs.declared.{moves.WaitList.{WaitList, TheVariants.{Sleepers, Receivers, Senders}}, queue_edits.QueueBlock.QueueBlock}
@@ -7,7 +7,7 @@ use Rattle.layer_traits.specs.{declared.queues.QueueEvent.QueueEvent, Threads.Pl
 use Rattle.layer_traits.specs.{Threads.Places.where_is, Blocks.QueueBlocks.{inner, homes_in}, Layers.{Queues.{buffer_sections, moves_in}, Sleeping.SleepRules}}
 use Rattle.layer_traits.specs.Layers.{Sleeping.{SleepState, wait_list_at, sleep_edited}, SleepLaw.sleep_kernel}
 
--- whether two lines are one
+-- whether two waiting lists are one
 abbrev pub same_list : WaitList → WaitList → Bool
 same_list Sleepers Sleepers = true
 same_list Receivers Receivers = true
@@ -19,12 +19,12 @@ same_list Receivers Senders = false
 same_list Senders Sleepers = false
 same_list Senders Receivers = false
 
--- whether this is the wait channel at which a thread sleeps, if it sleeps
+-- whether this is the wait channel on which a thread sleeps, if it sleeps
 abbrev pub is_at : LockId → WaitList → Option WaitChannel → Bool
 is_at lock line None = false
 is_at lock line (Some (At other at)) = same_lock other lock && same_list at line
 
--- the lists of one lock agree with the wait channels in which threads sleep
+-- the lists of one lock agree with the wait channels on which threads sleep
 abbrev pub Agrees : LockId → (WaitList → List Tid) → (Tid → Option WaitChannel) → Type 0
 Agrees lock lines asleep = (line : WaitList) (t : Tid) → count_in t (lines line) ≡ one_if (is_at lock line (asleep t))
 
@@ -34,7 +34,8 @@ ListsAgree rules opening seen = (lock : LockId) →
     Agrees lock (λ line. wait_list_at line (block_after (sleep_edited rules) (inner opening) lock (buffer_sections seen)))
     (λ t. wait_channel_of (where_is (homes_in opening) (moves_in (sleep_kernel rules opening) seen) t))
 
--- a part's threads stand at its CPU, each once and no other, and the lists of each lock agree with the places
+-- the places of a part's threads are at its CPU, each once and no other, and the lists of each lock
+-- agree with the places
 pub record SleepAgrees {E B O : Type 0} (rules : SleepRules E B O) (opening : LockId → Option (QueueBlock (SleepState B))) (c : CpuId)
     (seen : List (QueueEvent E)) (own : Threads) : Type 0 where
   pub stands : Stands (homes_in opening) c (moves_in (sleep_kernel rules opening) seen) own

@@ -1,16 +1,18 @@
--- What the sections of edits do to places: which move each makes, and where a thread sleeps after them.
+-- What the sections of edits do to places: which move each makes, and where a thread sleeps after
+-- them.
 use Rattle.std.specs.Prelude.{◌≡◌, true, List, [], ◌∷◌, Option, Some, None, option_map, if◌then◌else◌}
 use Rattle.{event_log.specs.{declared.ids.{LockId.LockId, Tid.Tid}, History.IsLawful, Sections.{Section, block_after}}, thread_blocks.specs.Queues.same_tid}
 use Rattle.layer_traits.specs.{declared.moves.WaitList.WaitList, Threads.Places.{WaitChannel, At, Move, Pushed, Took, Moved, Still, Step, step_with, is_thread}}
 use Rattle.layer_traits.specs.{Threads.Places.is_wait_channel, Protocols.Protocol.Rules}
 
--- what edits do to places: the thread that calls an edit, the line in which the answer leaves the caller asleep, and whom it wakes
+-- what edits do to places: the thread that calls an edit, the waiting list in which the result
+-- leaves the caller asleep, and which thread it wakes
 pub record MoveRules (E O : Type 0) : Type 0 where
   pub caller : E → Tid
   pub slept : O → Option WaitList
   pub woke : O → Option Tid
 
--- the move of an edit with this answer
+-- the move of an edit with this result
 abbrev pub edit_move : {E O : Type 0} → MoveRules E O → LockId → E → Option O → Move
 edit_move mv lock edit None = Still
 edit_move mv lock edit (Some out) = Moved lock (mv.caller edit) (mv.slept out) (mv.woke out)
@@ -36,12 +38,12 @@ asleep_after (Took d) t p = p
 asleep_after (Moved lock caller slept woke) t p = if is_thread t woke then None else (if same_tid caller t then slept_at lock slept p else p)
 asleep_after Still t p = p
 
--- where a thread sleeps after these steps, if it does; no home is asked for
+-- where a thread sleeps after these steps, if it does; it does not depend on homes
 abbrev pub asleep_by : List Step → Tid → Option WaitChannel
 asleep_by [] t = None
 asleep_by (s ∷ past) t = asleep_after s.move t (asleep_by past t)
 
--- whom a section wakes that is allowed after allowed ones, sleeps
+-- a thread that an allowed section wakes, after allowed ones, is asleep
 abbrev pub WakesSleepers : {E B O : Type 0} → Rules E B O → MoveRules E O → Type 0
 WakesSleepers {E} {B} {O} rules mv = (opening : LockId → Option B) (past : List (Section E)) (s : Section E) (out : O) (u : Tid)
     → IsLawful (rules.allowed opening) past → rules.allowed opening past s

@@ -1,11 +1,11 @@
--- Passes: the calls by which a CPU passes from thread to thread. What they do to a CPU's own threads and to the places, where each
--- may come, and what one poll of a pass means.
+-- Passes: the scheduling operations of a CPU. What they do to a CPU's own threads and to the
+-- places, where each is allowed, and what one poll of a pass means.
 use Rattle.std.specs.Prelude.{◌≡◌, ◌≢◌, List, [], ◌∷◌, ◌++◌, Option, Some, None, IsSome, is_some, if◌then◌else◌}
 use Rattle.{event_log.specs.{declared.ids.{CpuId.CpuId, Tid.Tid}, History.AreForeign}, thread_blocks.specs.Queues.{first, rest}}
 use Rattle.layer_traits.specs.declared.{moves.WaitList.WaitList, passes.Pass.{Pass, TheVariants.{Switch, YieldNow, Drain, MakeReady, End}}}
 use Rattle.layer_traits.specs.Threads.Places.{Threads, Step, Pushed, Took, step_with, cpu_of_step, home_of, is_cpu, pending_by}
 
--- the home, or this CPU where there is none
+-- the home, or this CPU if there is none
 abbrev pub or_else : CpuId → Option CpuId → CpuId
 or_else c None = c
 or_else c (Some home) = home
@@ -19,15 +19,15 @@ abbrev pub as_list : Option Tid → List Tid
 as_list None = []
 as_list (Some t) = t ∷ []
 
--- the front of the ready threads runs
+-- context switch: the thread at the head of the run queue runs
 abbrev pub switched : Threads → Threads
 switched own = record { current = first own.ready; hand = own.hand; ready = rest own.ready; ended = own.ended }
 
--- who was pending joins the ready threads, and behind them the thread that ran
+-- the pending threads join the run queue, and after them the thread that ran
 abbrev pub took_pending : List Tid → Threads → Threads
 took_pending queue own = record { current = None; hand = own.hand; ready = (own.ready ++ queue) ++ as_list own.current; ended = own.ended }
 
--- the hand has passed its thread on
+-- the hand is empty: its thread was forwarded
 abbrev pub passed_on : Threads → Threads
 passed_on own = record { current = own.current; hand = None; ready = own.ready; ended = own.ended }
 
@@ -40,7 +40,7 @@ abbrev pub own_slept : Option WaitList → Threads → Threads
 own_slept None own = own
 own_slept (Some line) own = record { current = None; hand = own.hand; ready = own.ready; ended = own.ended }
 
--- a thread that this CPU woke is ready where this CPU is its home, and else in hand
+-- a thread that this CPU woke is ready if this CPU is its home, and otherwise in the hand
 abbrev pub own_woken : List CpuId → CpuId → Option Tid → Threads → Threads
 own_woken homes c None own = own
 own_woken homes c (Some u) own = record {
@@ -50,7 +50,7 @@ own_woken homes c (Some u) own = record {
   ended = own.ended;
 }
 
--- what a CPU has of its own after a pass, where this was its pending queue
+-- a CPU's private state after a pass, if this was its pending queue
 abbrev pub pass_after : Pass → List Tid → Threads → Threads
 pass_after Switch queue own = switched own
 pass_after YieldNow queue own = took_pending queue own
@@ -58,8 +58,9 @@ pass_after Drain queue own = took_pending queue own
 pass_after (MakeReady t) queue own = passed_on own
 pass_after End queue own = finished own
 
--- a pass may come: a switch where nobody runs and somebody is ready, a drain where nobody runs and nobody is ready, a yield and an
--- end where a thread runs, and none of them while a woken thread is in hand: that one is made ready first
+-- a pass is allowed: a switch if no thread runs and some thread is ready, a drain if no thread runs
+-- and none is ready. A yield and an end are allowed if a thread runs. None of them is allowed while
+-- a woken thread is in the hand: that thread is made ready first
 abbrev pub MayPass : Pass → Threads → Type 0
 MayPass Switch own = (own.current ≡ None) × (own.hand ≡ None) × (own.ready ≢ [])
 MayPass YieldNow own = IsSome own.current × (own.hand ≡ None)
@@ -67,7 +68,7 @@ MayPass Drain own = (own.current ≡ None) × (own.hand ≡ None) × (own.ready 
 MayPass (MakeReady t) own = own.hand ≡ Some t
 MayPass End own = IsSome own.current × (own.hand ≡ None)
 
--- the steps of a pass, where it is done
+-- the steps of a pass, if it is done
 abbrev pub pass_steps : List CpuId → CpuId → Pass → List Step
 pass_steps homes c Switch = []
 pass_steps homes c YieldNow = step_with c (Took c) ∷ []
@@ -83,8 +84,9 @@ IsLocalPass Drain = ⊥
 IsLocalPass (MakeReady t) = ⊥
 IsLocalPass End = Unit {0}
 
--- a poll of a pass: foreign steps come first, then the pass's own exactly where the poll answers; the CPU's own threads change with
--- it and only then; and a pass that touches nothing shared answers at once
+-- a poll of a pass: environment steps are first, then the pass's own exactly if the poll returns a
+-- result. The CPU's own threads change with it and only then. A pass that touches nothing shared
+-- returns at once
 pub record PassPolled (homes : List CpuId) (ActsFor : CpuId → Type 0) (c : CpuId) (call : Pass) {A : Type 0} (result : Option A) (old new : List Step)
     (own own' : Threads) : Type 0 where
   pub others : List Step

@@ -1,4 +1,4 @@
--- What the layers tell of threads is what the sections of the actions make of it.
+-- What the layers report of threads is what the sections of the actions make of it.
 use Rattle.std.specs.Prelude.{◌≡◌, ℕ, Bool, List, Option, Some, map}
 use Rattle.event_log.specs.{declared.ids.{BufId.BufId, CpuId.CpuId, LockId.{LockId, TheVariants.{Pending, Buffer}}, Tid.Tid}, Actions.Action, Messages.Message}
 use Rattle.{event_log.specs.Sections.{block_after, sections_in}, layer_traits.specs.declared.{buffer_edits.BufferEdit.BufferEdit, moves.WaitList.WaitList}}
@@ -18,7 +18,8 @@ guarded opening acts lock = block_after (queue_edited (lock_edited buffer_rules)
 abbrev pub owner_after : (LockId → Option (QueueBlock BufferLock)) → BufferActs → BufId → Option Tid
 owner_after opening acts b = owner_in (above_of (guarded opening acts (Buffer b)))
 
--- a buffer has a lock after these actions, and in it these items, first in front, and this capacity; and it is closed or not
+-- a buffer has a lock after these actions, and under it these items, first in front, and this
+-- capacity; and it is closed or not
 pub record ItemsAre (opening : LockId → Option (QueueBlock BufferLock)) (acts : BufferActs) (b : BufId) (items : List Message) (capacity : ℕ)
     (closed : Bool) : Type 0 where
   pub lock : BufferLock
@@ -27,8 +28,9 @@ pub record ItemsAre (opening : LockId → Option (QueueBlock BufferLock)) (acts 
   pub may_hold : capacity ≡ lock.above.capacity
   pub shut : closed ≡ lock.above.closed
 
--- the moves are those of the actions' sections; so each pending queue that is there holds who is pending by the moves; and the waiting
--- lists of each buffer are those of its lock
+-- the moves are those of the actions' sections. Each pending queue that exists therefore holds the
+-- threads that are pending according to the moves; and the waiting lists of each buffer are those
+-- of its lock
 pub record MovesAre (opening : LockId → Option (QueueBlock BufferLock)) (acts : BufferActs) (moves : List Step) (lines : BufId → WaitList
     → List Tid) : Type 0 where
   pub made : moves ≡ moves_in (lock_kernel buffer_rules opening) (map event_of (sections_in acts))

@@ -1,4 +1,4 @@
--- What a machine and its parts tell: of a block, what is true of it; of a thread, where it stands.
+-- What a machine and its parts report: of a block, what is true of it; of a thread, its place.
 use Rattle.std.specs.Prelude.{◌≡◌, ◌⊎◌, ◌<◌, true, Option, Some, None}
 use Rattle.{event_log.specs.declared.ids.{CpuId.CpuId, Tid.Tid, TheConstants.CPUS}, layer_traits.specs.declared.calls.Place.Place}
 use Rattle.layer_traits.specs.{declared.moves.WaitList.TheVariants.{Sleepers, Receivers, Senders}, Views.Owned.IsHeld, Threads.Places.{Where, Home, Hand}}
@@ -6,25 +6,26 @@ use Rattle.{layer_traits.specs.Threads.Places.{IsPending, Asleep, At, Threads}, 
 use Rattle.event_log.specs.declared.ids.LockId.TheVariants as lock
 use Rattle.layer_traits.specs.declared.calls.Place.TheVariants as place
 
--- what the machine or a part tells is true, and what the machine does not tell some CPU has in its hands
+-- what the machine or a part reports is true, and some CPU holds what the machine does not report
 pub record IsObservedAs {P A : Type 0} (Fits : P → Type 0) (cpu_of : P → CpuId) (IsInside : CpuId → Type 0) (here : P → Option A)
     (home : Option A) (truth : A) : Type 0 where
   pub by_machine : (x : A) → home ≡ Some x → x ≡ truth
   pub by_part : (p : P) (x : A) → Fits p → here p ≡ Some x → x ≡ truth
   pub somewhere : home ≡ None → IsHeld Fits cpu_of IsInside here
 
--- a CPU may tell where a thread stands: it is the thread's home, it has the thread in its hand, or it may hold a lock
+-- a CPU may report the place of a thread: it is the thread's home, it has the thread in its hand,
+-- or it may hold a lock
 abbrev pub MayObserve : (CpuId → Type 0) → Option CpuId → Where → CpuId → Type 0
 MayObserve IsInside home where_it_is c = (home ≡ Some c) ⊎ ((where_it_is ≡ Hand c) ⊎ ((c.0 < CPUS) × IsInside c))
 
--- the parts of one CPU are not silent about where a thread stands
+-- the parts of one CPU report the place of a thread
 pub record ReadsPlace {P : Type 0} (Fits : P → Type 0) (cpu_of : P → CpuId) (IsInside : CpuId → Type 0) (IsSilent : P → Type 0)
     (home : Option CpuId) (where_it_is : Where) : Type 0 where
   pub cpu : CpuId
   pub may : MayObserve IsInside home where_it_is cpu
   pub has : (p : P) → cpu_of p ≡ cpu → Fits p → IsSilent p → ⊥
 
--- the queue in which a thread stands that is not with a CPU: a pending queue, or a line of a buffer
+-- the queue of a thread that is not with a CPU: a pending queue, or a waiting list of a buffer
 abbrev pub queue_place : Where → Option Place
 queue_place Home = None
 queue_place (Hand c) = None
@@ -34,7 +35,7 @@ queue_place (Asleep (At (lock.Buffer b) Sleepers)) = Some (place.LockSleeper b)
 queue_place (Asleep (At (lock.Buffer b) Receivers)) = Some (place.WaitRecv b)
 queue_place (Asleep (At (lock.Buffer b) Senders)) = Some (place.WaitSend b)
 
--- a thread stands here among the CPU's own threads
+-- a thread is here among the CPU's own threads
 abbrev pub IsOwnPlace : CpuId → Threads → Tid → Place → Type 0
 IsOwnPlace cpu own t (place.Running c) = (c ≡ cpu) × (own.current ≡ Some t)
 IsOwnPlace cpu own t (place.Ready c) = (c ≡ cpu) × (is_in t own.ready ≡ true)

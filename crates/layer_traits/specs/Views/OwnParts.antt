@@ -1,4 +1,4 @@
--- What a part of a layer of calls tells of its own state.
+-- What a part of a layer of calls reports of its private state.
 use Rattle.layer_traits.specs.{Layers.BufferLaw.Buffering, Threads.Places.Threads}
 
 -- its threads

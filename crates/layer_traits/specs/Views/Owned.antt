@@ -1,30 +1,31 @@
--- What a machine and its parts tell of a block: it is at home in the machine, or in the hands of a CPU that may hold its lock.
+-- What a machine and its parts report of a block: it is in the machine, or a CPU that may hold its
+-- lock holds it.
 use Rattle.std.specs.Prelude.{◌≡◌, ◌≢◌, ◌<◌, List, Option, Some, None, if◌then◌else◌}
 use Rattle.{event_log.specs.declared.ids.{CpuId.CpuId, Tid.Tid, TheConstants.CPUS}, layer_traits.specs.declared.moves.WaitList.{WaitList, TheVariants.Sleepers}}
 use Rattle.layer_traits.specs.{declared.moves.WaitList.TheVariants.{Receivers, Senders}, Layers.{QLocking.LockState, Sleeping.SleepState}}
 use Rattle.thread_blocks.specs.Queues.{is_in}
 
--- a CPU of the machine that may hold a lock has it in its hands: each part of that CPU has something to tell
+-- a CPU of the machine that may hold a lock holds it: each part of that CPU has something to report
 pub record IsHeld {P A : Type 0} (Fits : P → Type 0) (cpu_of : P → CpuId) (IsInside : CpuId → Type 0) (here : P → Option A) : Type 0 where
   pub cpu : CpuId
   pub known : cpu.0 < CPUS
   pub inside : IsInside cpu
   pub has : (p : P) → cpu_of p ≡ cpu → Fits p → here p ≢ None
 
--- what the machine or a part tells is the truth, and what the machine does not tell some CPU has in its hands
+-- what the machine or a part reports is true, and some CPU holds what the machine does not report
 pub record IsObserved {P A : Type 0} (Fits : P → Type 0) (cpu_of : P → CpuId) (IsInside : CpuId → Type 0) (here : P → Option A)
     (home truth : Option A) : Type 0 where
   pub by_machine : (x : A) → home ≡ Some x → truth ≡ Some x
   pub by_part : (p : P) (x : A) → Fits p → here p ≡ Some x → truth ≡ Some x
   pub somewhere : home ≡ None → IsHeld Fits cpu_of IsInside here
 
--- the first line among these in which a thread stands
+-- the first of these waiting lists that has a thread
 abbrev pub wait_list_among : Tid → (WaitList → List Tid) → Option WaitList
 wait_list_among t lines =
     if is_in t (lines Sleepers) then Some Sleepers
     else (if is_in t (lines Receivers) then Some Receivers else (if is_in t (lines Senders) then Some Senders else None))
 
--- the line of a lock in which a thread stands
+-- the waiting list of a lock that has a thread
 abbrev pub wait_list_with : {B : Type 0} → Tid → SleepState B → Option WaitList
 wait_list_with t state =
     if is_in t state.sleepers then Some Sleepers

@@ -1,4 +1,5 @@
--- A layer that wraps its edits in those of the layer beneath: the same blocks, events and calls under the layer's own names.
+-- A layer that wraps its edits in those of the lower layer: the same blocks, events and calls under
+-- the layer's own names.
 use Rattle.{std.specs.Prelude.{List, Option, map, option_map}, event_log.specs.declared.ids.LockId.LockId}
 use Rattle.layer_traits.specs.declared.{queue_edits.{QueueBlock.QueueBlock, QueueEdit.QueueEdit}, queues.{QueueCall.QueueCall, QueueEvent.QueueEvent}}
 use Rattle.layer_traits.specs.{declared.scheds.SchedCall.SchedCall, Polling.Plans.{Plan, Now, Act}, Layers.Queues.event}
@@ -7,12 +8,12 @@ use Rattle.layer_traits.specs.declared.queue_edits.QueueEdit.TheVariants as edit
 use Rattle.layer_traits.specs.declared.queues.QueueCall.TheVariants as queue
 use Rattle.layer_traits.specs.declared.scheds.SchedCall.TheVariants as call
 
--- a block, where a buffer's is seen so
+-- a block, with this view of a buffer's
 abbrev pub viewed_block : {A B : Type 0} → (A → B) → QueueBlock A → QueueBlock B
 viewed_block view (block.Queue queue homes) = block.Queue queue homes
 viewed_block view (block.Above above) = block.Above (view above)
 
--- the opening blocks, where those of buffers are seen so
+-- the opening blocks, with this view of those of buffers
 abbrev pub viewed : {A B : Type 0} → (A → B) → (LockId → Option (QueueBlock A)) → LockId → Option (QueueBlock B)
 viewed view opening lock = option_map (viewed_block view) (opening lock)
 

@@ -1,4 +1,5 @@
--- What a section beneath does to a block is what the call does to the lock that the block is.
+-- What a section of the lower layer does to a block is what the call does to the lock that the
+-- block is.
 use Rattle.std.proofs.Common.{◌≡◌, false, List, Option, Some, None, refl, arith}
 use Rattle.{event_log.specs.declared.ids.Tid.Tid, layer_traits.specs.declared.locked.QEdit.{QEdit, TheVariants.{Acquire, Inside, Release}}}
 use Rattle.layer_traits.specs.declared.{locked.{QOut.TheVariants.Did, Side.Side, WakeWaiter.WakeWaiter}, moves.WaitList.TheVariants.{Sleepers, Receivers}}
@@ -15,6 +16,6 @@ module _ {F R B O : Type 0} (rules : LockRules F R B O) where
       ≡ lock_edited rules (lock_call d) (nested_lock_of a)
   edits d a = grind arith
 
-  -- and answers what the call answers
+  -- and returns what the call returns
   pub answers : (d : QLockEdit F R) (a : SleepState (QBlock B)) → sleep_answer (busy_rules rules) d a ≡ lock_answer rules (lock_call d) (nested_lock_of a)
   answers d a = grind arith

@@ -1,4 +1,5 @@
--- The laws of the layer, by those of the layer beneath: the same history, threads and waiting lists under the layer's own names.
+-- The laws of the layer, from those of the lower layer: the same history, threads and waiting lists
+-- under the layer's own names.
 use Rattle.std.proofs.Common.{arith}
 use Rattle.std.proofs.{Common.{◌≡◌, Bool, List, [], ◌∷◌, Option, Some, None, option_map, map, refl, ap, sym, ◌∙◌, subst}, Math.Path.transport}
 use Rattle.event_log.specs.{declared.ids.{CpuId.CpuId, LockId.LockId}, History.IsLawful, Actions.{Action, phase, renamed}, Sections.{Section, block_after}}
@@ -14,11 +15,11 @@ use Rattle.{layer_traits.proofs.KernelRenaming.{lawful_renamed, moves_renamed, s
 use Rattle.queuing_lock.specs.{declared.edits.QLockEdit.QLockEdit, Laws.Edits.{answers, edits}, Nested.{busy_rules, lock_call, nested_lock_of, locks}}
 
 module _ {F R B O : Type 0} (rules : LockRules F R B O) (opening : LockId → Option (QueueBlock (SleepState (QBlock B)))) where
-  -- what stands beneath
+  -- the kernel of the lower layer
   abbrev pub beneath_the_lock : Kernel (QLockEdit F R) (SleepState (QBlock B)) (Outcome (QOut O))
   beneath_the_lock = sleep_kernel (busy_rules rules) opening
 
-  -- what stands here
+  -- the kernel of this layer
   abbrev pub at_the_lock : Kernel (QEdit F R) (LockState B) (Outcome (QOut O))
   at_the_lock = lock_kernel rules (viewed nested_lock_of opening)
 
@@ -49,17 +50,17 @@ module _ {F R B O : Type 0} (rules : LockRules F R B O) (opening : LockId → Op
   pub same_moves : (past : List (QueueEvent (QLockEdit F R))) → moves_in at_the_lock (renamed_events lock_call past) ≡ moves_in beneath_the_lock past
   same_moves past = moves_renamed _ _ _ _ locks_wrap past
 
-  -- the threads stand here as they stand beneath
+  -- the places of threads here are those of the lower layer
   pub locks_stand : (c : CpuId) (past : List (QueueEvent (QLockEdit F R))) (own : Threads) → Stands (homes_in opening) c (moves_in beneath_the_lock past) own
       → Stands (homes_in (viewed nested_lock_of opening)) c (moves_in at_the_lock (renamed_events lock_call past)) own
   locks_stand c past own stands = transport (λ i. Stands (sym (homes_viewed nested_lock_of opening) i) c (sym (same_moves past) i) own) stands
 
-  -- they move from where they stand
+  -- each move of a thread starts at its place
   pub locks_moves_legal : (past : List (QueueEvent (QLockEdit F R))) → AreMoves (homes_in opening) (moves_in beneath_the_lock past)
       → AreMoves (homes_in (viewed nested_lock_of opening)) (moves_in at_the_lock (renamed_events lock_call past))
   locks_moves_legal past moving = transport (λ i. AreMoves (sym (homes_viewed nested_lock_of opening) i) (sym (same_moves past) i)) moving
 
-  -- a lock is the view of the block beneath
+  -- a lock is the view of the lower layer's block
   pub lock_is : (lock : LockId) (past : List (QueueEvent (QLockEdit F R)))
       → lock_after rules (inner (viewed nested_lock_of opening)) lock (buffer_sections (renamed_events lock_call past))
       ≡ option_map nested_lock_of (block_after (sleep_edited (busy_rules rules)) (inner opening) lock (buffer_sections past))
@@ -75,16 +76,16 @@ module _ {F R B O : Type 0} (rules : LockRules F R B O) (opening : LockId → Op
   locks_lists past lists lock line t =
       rw (lock_is lock past, wait_list_seen line, homes_viewed nested_lock_of opening, same_moves past) (lists lock line t)
 
--- a layer with no history beneath has none here
+-- a layer with no history below has none here
 pub nothing_seen_at_the_lock : {F R : Type 0} (past : List (QueueEvent (QLockEdit F R))) → renamed_events lock_call past ≡ [] → past ≡ []
 nothing_seen_at_the_lock [] none = refl
 nothing_seen_at_the_lock (e ∷ past) none = absurd cc
 
--- while no call is under way here none is beneath
+-- while no call is pending here, none is pending below
 pub none_beneath : {F R : Type 0} (under : Option (SchedCall (QLockEdit F R))) → option_map (renamed_sched lock_call) under ≡ None → under ≡ None
 none_beneath under given = grind arith
 
--- a CPU waits or holds here as it does beneath
+-- a CPU waits or holds here as it does below
 pub locks_busy : {F R : Type 0} (c : CpuId) (acts : List (Action (QueueEdit (QLockEdit F R)))) (b : Bool) → b ≡ is_in_section (phase c acts)
     → b ≡ is_in_section (phase c (map (renamed (renamed_edit lock_call)) acts))
 locks_busy c acts b is = is ∙ ap is_in_section (sym (phase_renamed (renamed_edit lock_call) c acts))

@@ -1,4 +1,4 @@
--- What the layer beneath tells of its blocks, the layer tells of their locks.
+-- What the lower layer states of its blocks, the layer states of their locks.
 use Rattle.{std.proofs.Common.{List, Option, Some, option_map, ap, sym}, event_log.specs.declared.ids.{BufId.BufId, CpuId.CpuId, LockId.LockId}}
 use Rattle.event_log.specs.{declared.ids.{LockId.TheVariants.Buffer, Tid.Tid}, Sections.block_after}
 use Rattle.layer_traits.specs.{declared.{queue_edits.QueueBlock.QueueBlock, queues.QueueEvent.QueueEvent}, Layers.QLocking.{LockRules, lock_after}}
@@ -11,7 +11,7 @@ module _ {P Q F R B O : Type 0} (rules : LockRules F R B O) (opening : LockId �
     (past : List (QueueEvent (QLockEdit F R))) (parts : PartsOn P Q) where
   open parts use {below, FitsP, FitsQ, cpu_below, MayHold}
 
-  -- what is told of a block with its waiting lists is told of its lock
+  -- what is stated of a block with its waiting lists is stated of its lock
   pub locks_shown : (b : BufId) (tells : P → Option (SleepState (QBlock B))) (home : Option (SleepState (QBlock B)))
       → IsObserved FitsP cpu_below MayHold tells home (block_after (sleep_edited (busy_rules rules)) (inner opening) (Buffer b) (buffer_sections past))
       → IsObserved FitsQ (λ q. cpu_below (below q)) MayHold (λ q. option_map nested_lock_of (tells (below q))) (option_map nested_lock_of home)
@@ -21,7 +21,7 @@ module _ {P Q F R B O : Type 0} (rules : LockRules F R B O) (opening : LockId �
       viewed_shown nested_lock_of FitsQ _ MayHold (λ q. tells (below q)) home truth _ (lock_is rules opening (Buffer b) past)
       (shown_on parts tells home truth shown)
 
-  -- and what is told of a pending queue is told of it here
+  -- and what is stated of a pending queue is stated of it here
   pub locks_queues : (d : CpuId) (tells : P → Option (List Tid)) (home : Option (List Tid))
       → IsObserved FitsP cpu_below MayHold tells home (Some (pending_by (moves_in (beneath_the_lock rules opening) past) d))
       → IsObserved FitsQ (λ q. cpu_below (below q)) MayHold (λ q. tells (below q)) home

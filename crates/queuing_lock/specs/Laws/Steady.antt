@@ -1,4 +1,4 @@
--- What calls of other CPUs leave as it is: whether a thread owns a lock or sleeps for it, or neither.
+-- What calls of other CPUs preserve: whether a thread owns a lock, sleeps for it, or neither.
 use Rattle.std.proofs.Common.{◌≡◌, ◌≢◌, ◌⊎◌, inl, inr, Bool, ◌&&◌, ◌||◌, not, nat_lt, true, false, List, [], ◌∷◌, ◌++◌, Option, Some, None, option_map}
 use Rattle.std.proofs.Common.{arith, if◌then◌else◌, refl, ap, sym, ◌∙◌, subst}
 use Rattle.event_log.specs.{declared.ids.{BufId.BufId, CpuId.CpuId, LockId.{LockId, TheVariants.Buffer}, Tid.Tid, TheConstants.THREADS}, History.AreOthers}
@@ -58,18 +58,18 @@ joined_keeps t u queue stands = grind (arith, pushed_in)
 joined_only : (t u : Tid) (queue : List Tid) → (u ≡ t → ⊥) → is_in t queue ≡ false → is_in t (joined u queue) ≡ false
 joined_only t u queue apart missing = grind (arith, pushed_in, same_tid_true)
 
--- who stands in a queue is its first or stands behind
+-- a thread in a queue is its first or after the first
 front_or_behind : (t : Tid) (queue : List Tid) → is_in t queue ≡ true → (first queue ≡ Some t) ⊎ (is_in t (rest queue) ≡ true)
 front_or_behind t queue stands = grind (arith, same_tid_true)
 
--- The three that stay.
+-- The three preserved properties.
 
 module _ {F R B O : Type 0} (rules : LockRules F R B O) (t : Tid) where
-  -- whoever owns a lock or sleeps for it goes on to do so while others call
+  -- a thread that owns a lock or sleeps for it continues to do so while others call
   pub keeps_awaits : IsKeptByOwners rules t (HasOrAwaits t)
   keeps_awaits e state owners apart holds = grind (arith, joined_keeps, front_or_behind)
 
-  -- whoever has no part in a lock goes on to have none
+  -- a thread that neither owns a lock nor sleeps for it continues to do neither
   pub keeps_nothing : IsKeptByOwners rules t (HasNothing rules t)
   keeps_nothing (Acquire u) state owners apart holds = grind (arith, joined_only)
   keeps_nothing (Inside f) state owners apart holds = holds

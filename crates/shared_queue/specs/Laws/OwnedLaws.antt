@@ -1,4 +1,5 @@
--- What the locks beneath tell of their blocks, shared queues tell of what they read off them: a buffer's block, or a queue's threads.
+-- What the underlying locks state of their blocks, shared queues state of what they read from them:
+-- a buffer's block, or a queue's threads.
 use Rattle.std.proofs.Common.{arith}
 use Rattle.std.{specs.{Prelude.{◌≡◌, List, Option, Some, None, IsSome, option_map, map, refl}, Option.option_and_then}, proofs.Common.{ap, sym, ◌∙◌}}
 use Rattle.event_log.specs.{declared.ids.{BufId.BufId, CpuId.CpuId, LockId.{LockId, TheVariants.{Pending, Buffer}}, Tid.Tid}, Sections.block_after}
@@ -18,7 +19,7 @@ module _ {A B : Type 0} (read : A → Option B) (truth : Option A) (seen : Optio
   read_none : (o : Option A) → ((x : A) → o ≡ Some x → truth ≡ Some x) → option_and_then read o ≡ None → o ≡ None
   read_none o tells given = grind arith
 
-  -- what is told of a block is told of what is read off it
+  -- what is stated of a block is stated of what is read from it
   shown_read : {P : Type 0} (Fits : P → Type 0) (cpu_of : P → CpuId) (IsInside : CpuId → Type 0) (here : P → Option A) (home : Option A)
       → IsObserved Fits cpu_of IsInside here home truth → IsObserved Fits cpu_of IsInside (λ p. option_and_then read (here p)) (option_and_then read home) seen
   shown_read Fits cpu_of IsInside here home shown = record {
@@ -45,7 +46,7 @@ can_read_queue d (Some (Above block)) there kind truth queue is x tells = absurd
 module _ {P E B O : Type 0} (rules : Rules E B O) (mv : MoveRules E O) (opening : LockId → Option (QueueBlock B)) (those : Observers P rules mv opening) where
   open those use {past, starts, lawful, Fits, cpu_of, IsInside}
 
-  -- what is told of a buffer's lock is told of the buffer
+  -- what is stated of a buffer's lock is stated of the buffer
   pub buffer_shown : (b : BufId) (here : P → Option (QueueBlock B)) (home : Option (QueueBlock B))
       → IsObserved Fits cpu_of IsInside here home (block_after (queue_edited rules.edited) opening (Buffer b) past)
       → IsObserved Fits cpu_of IsInside (λ p. option_and_then above_in (here p)) (option_and_then above_in home)
@@ -53,7 +54,7 @@ module _ {P E B O : Type 0} (rules : Rules E B O) (mv : MoveRules E O) (opening 
   buffer_shown b here home shown =
       shown_read above_in _ _ (can_read_above _ _ (buffer_block rules mv opening starts b past lawful)) Fits cpu_of IsInside here home shown
 
-  -- what is told of a pending queue's lock is told of the queue
+  -- what is stated of a pending queue's lock is stated of the queue
   pub queue_shown : WakesSleepers rules mv → (d : CpuId) → IsSome (opening (Pending d)) → (here : P → Option (QueueBlock B)) (home : Option (QueueBlock B))
       → IsObserved Fits cpu_of IsInside here home (block_after (queue_edited rules.edited) opening (Pending d) past)
       → IsObserved Fits cpu_of IsInside (λ p. option_and_then queue_in (here p)) (option_and_then queue_in home)

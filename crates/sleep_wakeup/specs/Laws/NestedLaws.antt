@@ -1,4 +1,4 @@
--- The laws of the layer, by those of the scheduler beneath.
+-- The laws of the layer, from those of the underlying scheduler.
 use Rattle.std.proofs.Common.{◌≡◌, Bool, List, [], ◌∷◌, ◌++◌, Option, None, option_map, map, refl, ap, sym, ◌∙◌, subst, arith}
 use Rattle.std.proofs.{Math.Path.transport, lemmas.Option.slice_get_within}
 use Rattle.event_log.specs.{declared.ids.{BufId.BufId, CpuId.CpuId, LockId.{LockId}, Tid.Tid}, History.IsLawful, Actions.{Action, phase}}
@@ -24,7 +24,7 @@ module _ {E B O : Type 0} (rules : SleepRules E B O) (opening : LockId → Optio
   abbrev above : List (Section (SleepEdit E)) → List (Section E)
   above past = map (renamed_section slept_edit) past
 
-  -- the block of a lock is the view of the block beneath
+  -- the block of a lock is the view of the lower layer's block
   state_after : (lock : LockId) (past : List (Section (SleepEdit E)))
       → block_after (sleep_edited rules) (states opening) lock (above past) ≡ option_map state_of (block_after (nested_edited rules) opening lock past)
   state_after lock past =
@@ -35,7 +35,7 @@ module _ {E B O : Type 0} (rules : SleepRules E B O) (opening : LockId → Optio
       → option_map (sleep_answer rules (slept_edit d)) (option_map state_of o) ≡ option_map (nested_answer rules d) o
   answer_seen d o = grind arith
 
-  -- and so is its answer
+  -- and so is its result
   out_after : (past : List (Section (SleepEdit E))) (s : Section (SleepEdit E))
       → option_map (sleep_answer rules (slept_edit s.edit)) (block_after (sleep_edited rules) (states opening) s.lock (above past))
       ≡ option_map (nested_answer rules s.edit) (block_after (nested_edited rules) opening s.lock past)
@@ -57,20 +57,21 @@ module _ {E B O : Type 0} (rules : SleepRules E B O) (opening : LockId → Optio
   awake_above [] lawful = tt
   awake_above (s ∷ past) lawful = (lawful.0.awake, awake_above past lawful.1)
 
--- whom an allowed section wakes sleeps
+-- a thread that an allowed section wakes is asleep
 pub nested_wakes : {E B O : Type 0} (rules : SleepRules E B O) → WakesSleepers (nested_rules rules) (nested_moves rules)
 nested_wakes rules opening past s out u lawful allowed answers wakes = rw (← moves_above rules opening past)
     (section_wakes rules (states opening) (map (renamed_section slept_edit) past) (renamed_section slept_edit s) out u
     (awake_above rules opening past lawful) allowed.start (out_after rules opening past s ∙ answers) wakes)
 
--- Histories. The kernel beneath is that of the nested edits over this opening, and the kernel here that of the layer's own.
+-- Histories. The lower kernel is that of the nested edits over this opening, and the kernel here
+-- that of the layer's own edits.
 
 module _ {E B O : Type 0} (rules : SleepRules E B O) (opening : LockId → Option (QueueBlock (SleepBlock B))) where
-  -- what stands beneath
+  -- the kernel of the lower layer
   abbrev pub beneath : Kernel (SleepEdit E) (SleepBlock B) (Outcome O)
   beneath = kernel (nested_rules rules) (nested_moves rules) opening
 
-  -- what stands here
+  -- the kernel of this layer
   abbrev pub here : Kernel E (SleepState B) (Outcome O)
   here = sleep_kernel rules (viewed state_of opening)
 
@@ -100,18 +101,19 @@ module _ {E B O : Type 0} (rules : SleepRules E B O) (opening : LockId → Optio
   pub same_moves : (past : List (QueueEvent (SleepEdit E))) → moves_in here (renamed_events slept_edit past) ≡ moves_in beneath past
   same_moves past = moves_renamed _ _ _ _ nested_wraps past
 
-  -- the threads stand here as they stand beneath
+  -- the places of threads here are those of the lower layer
   pub nested_stands : (c : CpuId) (past : List (QueueEvent (SleepEdit E))) (own : Threads) → Stands (homes_in opening) c (moves_in beneath past) own
       → Stands (homes_in (viewed state_of opening)) c (moves_in here (renamed_events slept_edit past)) own
   nested_stands c past own stands = transport (λ i. Stands (sym (homes_viewed state_of opening) i) c (sym (same_moves past) i) own) stands
 
-  -- they move from where they stand
+  -- each move of a thread starts at its place
   pub nested_moves_legal : (past : List (QueueEvent (SleepEdit E))) → IsLawful (QueueAllowed beneath) past
       → AreMoves (homes_in (viewed state_of opening)) (moves_in here (renamed_events slept_edit past))
   nested_moves_legal past lawful =
       transport (λ i. AreMoves (sym (homes_viewed state_of opening) i) (sym (same_moves past) i)) (moves_lawful beneath (nested_wakes rules) past lawful)
 
-  -- where a thread sleeps by the sections of the layer above is where its place says
+  -- the list on which a thread sleeps, in terms of the sections of the layer above, is the list
+  -- that its place names
   asleep_here : (past : List (QueueEvent (SleepEdit E))) (t : Tid) → IsLawful (QueueAllowed beneath) past
       → wait_channel_of (where_is (homes_in opening) (moves_in beneath past) t)
       ≡ asleep_by (section_moves (sleep_rules rules) (sleep_moves rules) (states (inner opening)) (map (renamed_section slept_edit) (buffer_sections past))) t
@@ -128,7 +130,7 @@ module _ {E B O : Type 0} (rules : SleepRules E B O) (opening : LockId → Optio
       (buffer_sections past) (upper_lawful beneath past lawful)) nobody lock line t ∙ (ap (λ p. one_if (is_at lock line p)) (sym (asleep_here past t lawful))
       ∙ λ i. one_if (is_at lock line (wait_channel_of (where_is (sym (homes_viewed state_of opening) i) (sym (same_moves past) i) t))))))
 
-  -- A section that may begin here may begin beneath, and stays allowed there.
+  -- A section that may begin here may begin in the lower layer, and stays allowed there.
 
   pub nested_stays : (c : CpuId) (past : List (QueueEvent (SleepEdit E))) (own : Threads) (b : BufId) (e : E) → StartsWell opening
       → IsLawful (QueueAllowed beneath) past → NobodySleeps (states (inner opening)) → Stands (homes_in opening) c (moves_in beneath past) own
@@ -150,16 +152,16 @@ module _ {E B O : Type 0} (rules : SleepRules E B O) (opening : LockId → Optio
 
 -- The part.
 
--- a layer with no history beneath has none here
+-- a layer with no history below has none here
 pub nothing_seen : {E : Type 0} (past : List (QueueEvent (SleepEdit E))) → renamed_events slept_edit past ≡ [] → past ≡ []
 nothing_seen [] none = refl
 nothing_seen (e ∷ past) none = absurd cc
 
--- while no call is under way here none is beneath
+-- while no call is pending here, none is pending below
 pub nested_idle : {E O : Type 0} (deferred : Option (Deferred E O)) (under : Option (SchedCall (SleepEdit E))) → under_of deferred under ≡ None → under ≡ None
 nested_idle deferred under given = grind arith
 
--- a CPU waits or holds here as it does beneath
+-- a CPU waits or holds here as it does below
 pub nested_busy : {E : Type 0} (c : CpuId) (acts : List (Action (QueueEdit (SleepEdit E)))) (b : Bool) → b ≡ is_in_section (phase c acts)
     → b ≡ is_in_section (phase c (map (renamed (renamed_edit slept_edit)) acts))
 nested_busy c acts b is = is ∙ ap is_in_section (sym (phase_renamed (renamed_edit slept_edit) c acts))

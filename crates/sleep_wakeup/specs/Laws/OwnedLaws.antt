@@ -1,4 +1,4 @@
--- What the scheduler beneath tells of its blocks, the layer tells of their waiting lists.
+-- What the underlying scheduler states of its blocks, the layer states of their waiting lists.
 use Rattle.std.proofs.Common.{◌≡◌, List, Option, Some, option_map, ap, sym, ◌∙◌}
 use Rattle.event_log.specs.{declared.ids.{BufId.BufId, CpuId.CpuId, LockId.{LockId, TheVariants.Buffer}, Tid.Tid}, Sections.block_after}
 use Rattle.layer_traits.specs.{declared.{queue_edits.QueueBlock.QueueBlock, queues.QueueEvent.QueueEvent}, Views.{Owned.IsObserved, Renaming.renamed_events}}
@@ -12,13 +12,13 @@ module _ {P Q E B O : Type 0} (rules : SleepRules E B O) (opening : LockId → O
     (parts : PartsOn P Q) where
   open parts use {below, FitsP, FitsQ, cpu_below, MayHold}
 
-  -- the block of a buffer with its waiting lists is the view of the block beneath
+  -- the block of a buffer with its waiting lists is the view of the lower layer's block
   state_is : (b : BufId) → block_after (sleep_edited rules) (inner (viewed state_of opening)) (Buffer b) (buffer_sections (renamed_events slept_edit past))
       ≡ option_map state_of (block_after (nested_edited rules) (inner opening) (Buffer b) (buffer_sections past))
   state_is b = ap (λ sections. block_after (sleep_edited rules) (inner (viewed state_of opening)) (Buffer b) sections) (sections_renamed slept_edit past)
       ∙ block_renamed _ _ _ _ (nested_wraps rules opening) (Buffer b) (buffer_sections past)
 
-  -- so what is told of that block is told of its waiting lists
+  -- therefore what is stated of that block is stated of its waiting lists
   pub nested_shown : (b : BufId) (tells : P → Option (SleepBlock B)) (home : Option (SleepBlock B))
       → IsObserved FitsP cpu_below MayHold tells home (block_after (nested_edited rules) (inner opening) (Buffer b) (buffer_sections past))
       → IsObserved FitsQ (λ q. cpu_below (below q)) MayHold (λ q. option_map state_of (tells (below q))) (option_map state_of home)
@@ -27,7 +27,7 @@ module _ {P Q E B O : Type 0} (rules : SleepRules E B O) (opening : LockId → O
       let truth = block_after (nested_edited rules) (inner opening) (Buffer b) (buffer_sections past) in
       viewed_shown state_of FitsQ _ MayHold (λ q. tells (below q)) home truth _ (state_is b) (shown_on parts tells home truth shown)
 
-  -- and what is told of a pending queue is told of it here
+  -- and what is stated of a pending queue is stated of it here
   pub nested_queues : (d : CpuId) (tells : P → Option (List Tid)) (home : Option (List Tid))
       → IsObserved FitsP cpu_below MayHold tells home (Some (pending_by (moves_in (beneath rules opening) past) d))
       → IsObserved FitsQ (λ q. cpu_below (below q)) MayHold (λ q. tells (below q)) home

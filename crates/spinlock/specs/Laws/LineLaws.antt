@@ -1,4 +1,5 @@
--- What the two logs of lock words say of the line at a lock: the phases of the CPUs, and the tickets of their spots.
+-- What the two logs of lock words say of the queue at a lock: the phases of the CPUs, and the
+-- tickets of their ticket indices.
 use Rattle.std.proofs.Common.{arith, ◌≡◌, ℕ, ◌%◌, ◌^◌, ◌↔◌, List, [], ◌∷◌, Option, Some, None, MatchOption, ap, sym, subst, ◌∙◌}
 use Rattle.event_log.specs.declared.{ids.{CpuId.CpuId, LockId.LockId}, events.Event.Event, grants.GrantEvent.{GrantEvent, TheVariants.{Take, Peek, Give}}}
 use Rattle.event_log.specs.{Actions.{Rests, Waits, Holds, phase, acts_of}, Grants.{IsLegalGrants, acts_of_grants, grant_lock_phase}, History.IsLawful}
@@ -8,16 +9,16 @@ use Rattle.layer_traits.specs.Protocols.{GrantProtocol.{GrantMayCome, SomeoneHas
 use Rattle.layer_traits.{specs.Protocols.WordsProtocol.sections, proofs.{PlanLemmas.sections_acts, Seen.sections_allowed}}
 use Rattle.spinlock.specs.OwnedLaws.{SomeoneHolds}
 
--- who rests is outside
+-- a CPU that rests is outside
 pub outside_of : (s : LockPhase) → phase_of s ≡ Rests → s ≡ Idle
 outside_of s rests = grind arith
 
--- who waits has the ticket of its spot
+-- a CPU that waits has the ticket of its ticket index
 pub line_waiting_with : (s : LockPhase) (lock : LockId) (spot ticket : ℕ) → phase_of s ≡ Waits lock → TicketOf s spot → ticket ≡ spot % 2 ^ 64
     → s ≡ Waiting lock ticket
 line_waiting_with s lock spot ticket waits has is = grind arith
 
--- who holds a lock is inside it
+-- a CPU that holds a lock is inside it
 pub inside_of : (s : LockPhase) (lock : LockId) → phase_of s ≡ Holds lock → (ticket : ℕ) × (s ≡ Holding lock ticket)
 inside_of s lock holds = grind arith
 
@@ -53,7 +54,7 @@ rests_outside_grants log c = (
   λ rests. outside_of (grant_lock_phase c log) (sym (phase_grants edit_of c log) ∙ rests),
 )
 
--- what a machine of ticket locks tells of a block, in terms of the line
+-- what a machine of ticket locks states of a block, in terms of the queue
 pub words_blocks : {E B : Type 0} (edited : E → B → B) (opening : LockId → Option B) (log : List (Event (Mark E))) (lock : LockId) (home : Option B)
     → MatchOption home (SomeoneInside lock log) (λ block. block_after edited opening lock (sections log) ≡ Some block)
     → MatchOption home (SomeoneHolds lock (acts_of edit_of log)) (λ block. block_after edited opening lock (sections_in (acts_of edit_of log)) ≡ Some block)

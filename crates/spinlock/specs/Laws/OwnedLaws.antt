@@ -1,4 +1,5 @@
--- What a machine of locks and the stages of its CPUs tell of a block is what the sections make of it.
+-- What a machine of locks and the stages of its CPUs state of a block is what the sections make of
+-- it.
 use Rattle.std.{specs.Prelude.{◌≡◌, Bool, true, false, List, Option, Some, None, MatchOption, if◌then◌else◌, refl}, proofs.Common.{arith, ap, sym, ◌∙◌, subst}}
 use Rattle.event_log.specs.{declared.ids.{CpuId.CpuId, LockId.LockId}, Actions.{Action, Holds, AreLegal, phase}, History.same_lock, Sections.block_after}
 use Rattle.event_log.{specs.Sections.sections_in, proofs.{Exclusion.{is_at, cpu_is_known}, Same.{same_lock_self, same_lock_true}}}
@@ -10,7 +11,7 @@ module _ {E B O : Type 0} (rules : Rules E B O) (opening : LockId → Option B) 
   abbrev truth : Option B
   truth = block_after rules.edited opening lock (sections_in acts)
 
-  -- a block in a stage's hands is the lock's
+  -- a block that a stage holds is the lock's
   held_is : (cpu : CpuId) (stage : TicketPhase E B) (x : B) → StageFits rules opening acts cpu stage → held_block lock stage ≡ Some x → truth ≡ Some x
   held_is cpu Out x fits is = absurd cc
   held_is cpu (Waiting at edit ticket) x fits is = absurd cc
@@ -20,7 +21,7 @@ module _ {E B O : Type 0} (rules : Rules E B O) (opening : LockId → Option B) 
       go true same is = rw (same_lock_true lock at same) fits.2 ∙ is
       go false other is = absurd cc
 
-  -- a CPU that holds a lock has its block in its hands
+  -- a CPU that holds a lock holds its block
   holder_has : (cpu : CpuId) → phase cpu acts ≡ Holds lock → (stage : TicketPhase E B) → StageFits rules opening acts cpu stage
       → held_block lock stage ≡ None → ⊥
   holder_has cpu holds Out fits none = absurd (cc (holds, fits))
@@ -31,7 +32,7 @@ module _ {E B O : Type 0} (rules : Rules E B O) (opening : LockId → Option B) 
       let same : same_lock lock at ≡ true = rw (← one) (same_lock_self lock) in
       let held : Some block ≡ None = rw same at none in absurd (cc held)
 
-  -- what the machine and the stages tell is the truth
+  -- what the machine and the stages state is true
   pub spin_lock_shows : {P : Type 0} (ActsFor : CpuId → Type 0) (cpu_of : P → CpuId) (stage_of : P → TicketPhase E B) (home : Option B)
       → AreLegal acts
       → MatchOption home (SomeoneHolds lock acts) (λ block. block_after rules.edited opening lock (sections_in acts) ≡ Some block)

@@ -1,4 +1,4 @@
--- A stage tells whether a section is under way.
+-- A stage determines whether a section is under way.
 use Rattle.std.proofs.Common.{◌≡◌, List, Option, is_some, ap, sym}
 use Rattle.event_log.specs.{declared.ids.{CpuId.CpuId, LockId.LockId}, Actions.{Action, AreLegal, phase}, History.IsLawful, Sections.sections_in}
 use Rattle.{event_log.proofs.Foreign.{cpus_of_actions_known, sections_in_known}, layer_traits.specs.{Polling.Plans.is_in_section, Protocols.Protocol.Rules}}

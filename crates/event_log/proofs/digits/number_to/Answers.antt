@@ -1,4 +1,5 @@
--- A text that is digits to its end spells the number that was read; any other is read again, one digit at a time.
+-- A text that is digits to its end spells the number that was read; any other is read again, one
+-- digit at a time.
 use Rattle.std.{proofs.{Common.{◌≡◌, ◌<◌, length, get_or, arith, sym, ◌∙◌, ap, Some, take_all}, lemmas.Bool.Decides.nat_tests}, specs.Str.Parse.digits_value}
 use Rattle.event_log.proofs.DigitsLemmas.{IsSpelled, digits_spelled, number_to-beyond, number_to-spelled}
 use Rattle.event_log.proofs.digits.number_to.Goals.{else-text-eq48-via-then-text-eq48+else-text-gt1, else-text-eq48-via-else-text-eq48}

@@ -1,4 +1,4 @@
--- One direction each way, by the two lemmas on all lawful logs.
+-- One direction each, by the two lemmas on all lawful logs.
 use Rattle.event_log.{specs.WordsLog.MayFollow, proofs.Forms.{log_from_history, history_from_log}}
 use Rattle.event_log.proofs.laws.both_forms_agree.Goals as goal
 

@@ -1,4 +1,4 @@
--- Each element is that of a thread that never called, so the table is this one element again and again.
+-- Each element is that of a thread that never called: the table is this one element repeated.
 use Rattle.std.{specs.{Prelude.{◌≡◌, ℕ, ◌<◌, List, replicate}, Array.AllOfLen}, proofs.{Common.{sym, ◌∙◌, arith}, lemmas.List.{ext_get_or, length-replicate}}}
 use Rattle.std.proofs.lemmas.List.{get_or-replicate}
 use Rattle.{layer_traits.specs.Layers.BufferLaw.no_call, event_log.specs.declared.ids.TheConstants.THREADS}

@@ -2,7 +2,7 @@ use Rattle.std.proofs.Common.{subst, sym, ◌∙◌}
 use Rattle.{layer_traits.specs.Blocks.Payloads.queue_told, scheduler.specs.Owns.MayTake}
 use Rattle.scheduler.proofs.owns.take_answer.Goals as goal
 
--- the threads that were taken lie in the payload
+-- the threads that were taken are in the payload
 pub join_ready-requires : goal.join_ready-requires
 join_ready-requires g c = subst (λ a. MayTake g.E.Moves.moves (queue_told g.E.SplitEdit.told a c.args.payload.now) c.args.own.now) c.in-Taken.is c.requires
 

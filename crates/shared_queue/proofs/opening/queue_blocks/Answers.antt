@@ -4,7 +4,8 @@ use Rattle.{shared_queue.proofs.OpeningLemmas.{all_there, blocks_there, homes_re
 use Rattle.shared_queue.{proofs.OpeningLemmas.{locks_distinct, queues_there, starts_well}, specs.Opening.{AreQueues, buffers_from}}
 use Rattle.shared_queue.proofs.opening.queue_blocks.Goals as goal
 
--- no lock stands twice, each opens as it must, the pending queues tell the homes, and each CPU has its queue and each buffer its block
+-- no lock occurs twice, each opens as it must, the pending queues record the homes, and each CPU
+-- has its queue and each buffer its block
 pub returns : goal.returns
 returns g c =
     let locks = c.in_ok-locks.locks in

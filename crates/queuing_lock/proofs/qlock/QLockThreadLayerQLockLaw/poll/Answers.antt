@@ -69,9 +69,9 @@ returns-then-asks_again-clause-seen g c =
     let over = c.over.ensures ∙ ap (λ t. slice_set was.slept t.0 None) (c.caller-t.ensures c.args.payload.now.parcel) in
     rw over (sleeper_handed was (λ d. g.S.ThreadLayer.ActsFor c.args.m.now d) _ refl some was.may)
 
--- it calls beneath
+-- it calls the lower layer
 
--- who calls beneath did not sleep for the lock
+-- a caller of the lower layer did not sleep for the lock
 awake : (g : Over) (c : goal.After-poll-arg-3-1 g) → (let was = before g (goal.at.poll-requires-clause-call g c).Start in
     is_some (slept_for was.slept (lock_caller g.F.Locked.rules was.e)) ≡ false)
 awake g c = grind (arith, slept_asks)
@@ -83,7 +83,7 @@ pub complete-requires : goal.complete-requires
 complete-requires g c =
     subst (λ t. t.0 < THREADS) (sym (c.caller-t.ensures c.args.payload.now.parcel)) (caller_small (before g (goal.at.complete-requires g c).Start))
 
--- the poll beneath, seen here
+-- the lower layer's poll, seen here
 
 module _ (g : Over) (c : After-poll g) where
   open g.S.ThreadLayer use {ActsFor, opening, own, seen, under_way}
@@ -92,7 +92,7 @@ module _ (g : Over) (c : After-poll g) where
   abbrev was : Before rules (opening c.args.m.now)
   was = before g (goal.at.poll-requires-clause-call g c.before).Start
 
-  -- what it gave, as it is told
+  -- what it returned, as it is reported
   abbrev told : Outcome (QOut g.row.F-Brought.Denot) → Outcome (QOut g.row.F-Out.Denot)
   told o = outcome_told (lock_told g.F.Locked.told) o c.poll.new.payload.parcel
 
@@ -102,12 +102,12 @@ module _ (g : Over) (c : After-poll g) where
   acts : ActsFor c.args.m.now was.c
   acts = g.met.S.ThreadLayer.own_cpu c.args.self.now.lower c.args.m.now c.requires.fits.0
 
-  -- the log is lawful still
+  -- the log is still lawful
   lawful : IsLawful (QueueAllowed (beneath_the_lock rules (opening c.args.m.now))) (seen c.poll.new.m)
   lawful = rw c.poll.ensures.framed.stays.opening at (g.met.S.ThreadLayer.lawful c.poll.new.m was.c
       (c.poll.ensures.framed.stays.acts was.c acts))
 
-  -- the call that is under way beneath is under way here
+  -- the call that is pending below is pending here
   call_here : option_map (renamed_sched lock_call) (under_way c.poll.new.self) ≡ (if is_some gave.answer then None else Some (call.OnBuffer was.b was.e))
   call_here = under_is told (under_way c.poll.new.self) c.poll.result (call.OnBuffer was.b (as_section was.e)) c.poll.ensures.call
 
@@ -115,7 +115,7 @@ module _ (g : Over) (c : After-poll g) where
   deferred : DeferredFits (option_map (renamed_sched lock_call) (under_way c.poll.new.self)) gave.own.deferred gave.own.threads.hand
   deferred = subst (λ u. DeferredFits u gave.own.deferred gave.own.threads.hand) (sym call_here) (deferred_after was (awake g c.before) c.poll.ensures.seen)
 
-  -- what other CPUs note of sleepers agrees still
+  -- what other CPUs record of sleepers still agrees
   others : (d : CpuId) → d ≢ was.c → ActsFor c.args.m.now d → (slept : List (Option BufId))
       → SleptFits rules (viewed nested_lock_of (opening c.args.m.now)) d (renamed_events lock_call was.past) slept
       → SleptFits rules (viewed nested_lock_of (opening c.poll.new.m)) d (renamed_events lock_call (seen c.poll.new.m)) slept
@@ -123,7 +123,7 @@ module _ (g : Over) (c : After-poll g) where
       transport (λ i. SleptFits rules (viewed nested_lock_of (sym c.poll.ensures.framed.stays.opening i)) d (renamed_events lock_call (seen c.poll.new.m))
       slept) (others_after rules (opening c.args.m.now) d was.c apart c.poll.ensures.seen acts lawful slept fits)
 
--- the call goes on
+-- the call continues
 
 went_on : (g : Over) (c : goal.In-None g) → (let p = (goal.at.returns-in-None-clause-seen g c).After-poll in let gave = gave g p in let was = was g p in
     locking gave.own was.slept None ≡ left_after (lock_caller g.F.Locked.rules was.e) was.b was.slept gave.own gave.answer)
@@ -165,7 +165,7 @@ returns-in-None-clause-follows g c = λ step.
     locks_follow g.F.Locked.rules (S.opening c.args.m.now) (S.ActsFor c.args.m.now) was.c (S.acts c.args.m.now) (S.acts c.poll.new.m) was.own was.slept was.b
     was.e (gave g p) (sleeps_for_none was (awake g p.before)) _ (went_on g c) (c.poll.ensures.follows step)
 
--- the section answers
+-- the section completes
 
 module _ (g : Over) (c : After-complete g) where
   open g.F.Locked use {rules}

@@ -43,19 +43,19 @@ poll-requires-clause-call g c =
     call_may _ _ _ g.met.E.Moves.wakes_sleepers (opens g at.Start) (lawful g at.Start) c.requires.fits.1 (call_of g at.Start) c.requires.call
     (step_of g at.In-Ok) (is_shared g at.In-Ok)
 
--- the poll beneath
+-- the poll of the lower layer
 module _ (g : Over) (c : After-poll g) where
   open g.Q.Layer use {ActsFor, Fits, cpu_of, opening, seen, under_way}
 
   abbrev answer : Option (QueueAnswer g.row.E-Out.Denot)
   answer = told_by (queue_told g.E.SplitEdit.told) c.poll.result c.poll.new.payload
 
-  -- its log is lawful for whoever acts
+  -- its log is lawful for each CPU for which it acts
   legal : (cpu : CpuId) → ActsFor c.args.m.now cpu
       → IsLawful (QueueAllowed (kernel g.E.SplitEdit.rules g.E.Moves.moves (opening c.args.m.now))) (seen c.poll.new.m)
   legal cpu acts = rw c.poll.ensures.framed.stays.opening at (g.met.Q.Layer.lawful c.poll.new.m cpu (c.poll.ensures.framed.stays.acts cpu acts))
 
-  -- the parts of other CPUs agree still
+  -- the parts of other CPUs still agree
   others : (lower : g.row.Q.Denot) (cpu : CpuId) (homes : List CpuId) (own : Threads) → cpu ≢ c.args.self.now.cpu → Fits lower c.args.m.now
       → SchedPartFits g.E.SplitEdit.rules g.E.Moves.moves (opening c.args.m.now) cpu (cpu_of lower) homes (under_way lower) (seen c.args.m.now) own
       → Fits lower c.poll.new.m
@@ -137,7 +137,7 @@ returns-in-None-clause-framed g c =
       holders = λ d other acts held. said.framed.holders d (λ e. other (e ∙ c.requires.fits.1.cpu)) acts held;
     }
 
--- a poll that answers
+-- a poll that completes its call
 
 pub returns-in-Some-clause-framed : goal.returns-in-Some-clause-framed
 returns-in-Some-clause-framed g c =

@@ -2,11 +2,11 @@ use Rattle.{std.proofs.Common.{subst, sym}, layer_traits.{proofs.NestedLemmas.ev
 use Rattle.shared_queue.proofs.FrameLemmas.{frame_raised}
 use Rattle.shared_queue.proofs.shared.SharedQueuesLayerQueueLaw.look.Goals as goal
 
--- foreign sections are foreign calls
+-- environment sections are environment calls
 pub returns-clause-seen : goal.returns-clause-seen
 returns-clause-seen g c = event_grows _ _ (λ d both. both.0) _ _ c.look.ensures.seen
 
--- and the queues keep nothing of their own
+-- and the queues have no state
 pub returns-clause-framed : goal.returns-clause-framed
 returns-clause-framed g c =
     frame_raised _ g.L.Layer.under_way c.requires.fits.1 c.look.ensures.framed (subst IsProperCall (sym c.look.ensures.call) c.requires.fits.2)

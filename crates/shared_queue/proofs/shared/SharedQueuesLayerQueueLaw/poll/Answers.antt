@@ -34,7 +34,7 @@ returns-clause-seen g c =
     (subst (λ s. PolledAtLock (queue_rules rules mv) (L.opening m) (L.ActsFor m) s result (L.seen m) (L.seen n))
     (meant_section g.E.SplitEdit.meant c.args.payload.now cpu c.args.call _ _ is.lock is.edit) said.seen)
 
--- the queues keep nothing of their own
+-- the queues have no state
 pub returns-clause-framed : goal.returns-clause-framed
 returns-clause-framed g c =
     let L = g.L.Layer in

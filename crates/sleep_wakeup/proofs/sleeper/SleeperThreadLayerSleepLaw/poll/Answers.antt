@@ -16,7 +16,7 @@ use Rattle.sleep_wakeup.proofs.sleeper.SleeperThreadLayerSleepLaw.poll.Goals as 
 abbrev in_hand : Threads → Option Tid
 in_hand own = own.hand
 
--- what the part owes and what its poll is, by the thread that stands in the hand
+-- what the part owes and what its poll is, by case on the thread in the hand
 module _ (g : Over) (c : Start g) (hand : Option Tid) (is : hand ≡ (g.S.Layer.own c.args.self.now.lower).hand) where
   open g.S.Layer use {ActsFor, acts, cpu_of, opening, own, seen, under_way}
   open g.E.Sleeps use {rules}
@@ -51,7 +51,7 @@ module _ (g : Over) (c : Start g) (hand : Option Tid) (is : hand ≡ (g.S.Layer.
     abbrev answer : Option (SchedAnswer (Outcome g.row.E-Out.Denot))
     answer = told_by (sched_told (nested_told g.E.Sleeps.told)) result payload
 
-    -- what is left where the scheduler goes on
+    -- what is left where the scheduler's call continues
     waits : result ≡ None → left_reported (outcome_in deferred) (own after) answer ≡ left_reported (outcome_in deferred) (own after) None
     waits is = ap (λ r. left_reported (outcome_in deferred) (own after) (told_by (sched_told (nested_told g.E.Sleeps.told)) r payload)) is
 
@@ -73,7 +73,7 @@ module _ (g : Over) (c : Start g) (hand : Option Tid) (is : hand ≡ (g.S.Layer.
       follows followed = rw (← leaves) (nested_sleep_follows rules (opening m) (ActsFor m) (cpu_of lower) (acts m) (acts n) (own lower) (own after) answer
           deferred buffer edit hand is (rw calls at followed))
 
--- nobody stands in the hand: the section is polled
+-- no thread is in the hand: the section is polled
 
 none : (g : Over) (c : In-None g) → None ≡ (g.S.Layer.own c.args.self.now.lower).hand
 none g c = sym c.in-None.is ∙ (c.hand.ensures ∙ ap in_hand c.own_here.ensures)
@@ -117,7 +117,7 @@ module _ (g : Over) where
     answer = told_by (nested_told g.E.Sleeps.told) result payload;
   }
 
-  -- what is left where it answers
+  -- what is left where it completes
   answers : (c : After-complete g) → left_at c.args.self.now.deferred c.poll.new.self c.poll.result c.poll.new.payload
       ≡ kept_at c.complete.new.deferred c.poll.new.self c.complete.result c.complete.new.payload
   answers c = grind (arith, reported_is)
@@ -143,7 +143,7 @@ returns-in-None-clause-follows g c = λ step.
     let at = goal.at.returns-in-None-clause-follows g c in
     follows g at.Start None (none g at.In-None) _ _ _ _ (due_of g at.After-poll) (answers g c) (c.poll.ensures.follows step)
 
--- the thread in the hand is sent home first
+-- the thread in the hand is first forwarded to its home CPU
 
 some : (g : Over) (c : In-Some g) → Some c.in-Some.t ≡ (g.S.Layer.own c.args.self.now.lower).hand
 some g c = sym c.in-Some.is ∙ (c.hand.ensures ∙ ap in_hand c.own_here.ensures)

@@ -9,7 +9,7 @@ same_edit : {E B : Type 0} {lock at : LockId} {edit kept : E} {ticket drawn : �
     → stage ≡ Waiting at kept drawn → edit ≡ kept
 same_edit stage is was = cc
 
--- a section that waits tries again: it hits
+-- a section that waits tries again, and enters
 pub returns-in-Waiting-replace-clause-framed : goal.returns-in-Waiting-replace-clause-framed
 returns-in-Waiting-replace-clause-framed g c =
     let cpu = c.args.self.now.cpu in
@@ -33,7 +33,7 @@ returns-in-Waiting-replace-clause-tries g c = λ step looked.
     tried_again (g.met.M.FairLock.legal c.enter.new.self c.args.self.now.cpu (said.acts c.args.self.now.cpu c.requires.fits.0)) c.in-Waiting.lock said.adds.0
     said.adds.1
 
--- or it misses
+-- or the try fails
 pub returns-in_default-clause-framed : goal.returns-in_default-clause-framed
 returns-in_default-clause-framed g c =
     let cpu = c.args.self.now.cpu in

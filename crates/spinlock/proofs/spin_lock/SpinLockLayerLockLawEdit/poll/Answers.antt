@@ -3,7 +3,7 @@ use Rattle.{event_log.specs.{Actions.{Take, Try, Give}, Sections.Section}, spinl
 use Rattle.spinlock.proofs.StageLemmas.{tried_fits, tried_follows, left_fits, left_polled, left_follows, unended, poll_unanswered}
 use Rattle.spinlock.proofs.spin_lock.SpinLockLayerLockLawEdit.poll.Goals as goal
 
--- a section begins, which stays allowed: its CPU joins the line
+-- a section begins, which stays allowed: its CPU joins the queue
 pub returns-in-Out-clause-framed : goal.returns-in-Out-clause-framed
 returns-in-Out-clause-framed g c =
     let cpu = c.args.self.now.cpu in
@@ -25,7 +25,7 @@ returns-in-Out-clause-follows g c = λ step.
     joined_follows g.M.Edit.SplitEdit.rules said.opening (g.met.M.FairLock.legal c.join-ticket.new.self cpu (said.acts cpu c.requires.fits.0)) c.args.call.lock
     (g.M.Edit.SplitEdit.meant c.args.call.edit c.args.payload.now) said.adds
 
--- the CPU tries to enter: the section goes on
+-- the CPU tries to enter: the section continues
 pub returns-in-Waiting-clause-framed : goal.returns-in-Waiting-clause-framed
 returns-in-Waiting-clause-framed g c =
     let cpu = c.args.self.now.cpu in
@@ -49,7 +49,7 @@ returns-in-Waiting-clause-follows g c = λ step.
     rw (← (ap (λ (s : Section _). s.lock) one), ← (ap (λ (s : Section _). s.edit) one)) (tried_follows g.M.Edit.SplitEdit.rules said.opening
     (g.met.M.FairLock.legal c.enters.new.m cpu (said.acts cpu c.requires.fits.0)) c.in-Waiting.lock c.in-Waiting.edit said.adds.0 said.adds.1)
 
--- the CPU gives the lock on: the section ends with its answer
+-- the CPU releases the lock: the section ends with its result
 pub returns-in-Holding-replace-clause-seen : goal.returns-in-Holding-replace-clause-seen
 returns-in-Holding-replace-clause-seen g c =
     let cpu = c.args.self.now.cpu in

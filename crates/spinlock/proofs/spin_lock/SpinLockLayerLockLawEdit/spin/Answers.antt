@@ -2,7 +2,7 @@ use Rattle.std.proofs.Common.{ap, sym, ◌∙◌}
 use Rattle.{layer_traits.{proofs.SpinLemmas.{left_same, none_missed}, specs.Polling.Plans.is_in_section}, spinlock.proofs.MissLemmas.spun_fits}
 use Rattle.spinlock.proofs.spin_lock.SpinLockLayerLockLawEdit.spin.Goals as goal
 
--- tries that all missed leave each stage where it was
+-- tries that all failed leave each stage unchanged
 pub returns-in-Waiting-clause-spun : goal.returns-in-Waiting-clause-spun
 returns-in-Waiting-clause-spun g c =
     let M = g.M.FairLock in

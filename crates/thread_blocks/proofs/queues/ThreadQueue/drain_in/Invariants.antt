@@ -2,7 +2,7 @@ use Rattle.std.proofs.Common.{◌≡◌, ◌+◌, ◌*◌, ◌≤◌, ◌++◌, 
 use Rattle.thread_blocks.specs.Queues.{AreApart}
 use Rattle.thread_blocks.proofs.queues.ThreadQueue.drain_in.Given as goal
 
--- what is not moved yet stands behind what was, and is paid for
+-- the threads not moved yet follow those that were, and are paid for
 abbrev pub invariant-loop-t : goal.invariant-loop-t
 invariant-loop-t g l = record {
   whole : l.to ++ l.self ≡ l.fn.to ++ l.fn.self;
