@@ -1,5 +1,5 @@
-//! What holds of the lines of a buffer. Each law is the contract of a function that does nothing, so
-//! that it is proved with the crate.
+//! The theorems on the lines (wait queues) of a buffer. Each law is the contract of a function that
+//! does nothing, so that it is proved with the crate.
 
 ghost use Rattle.fifo_buffer.specs.{Positions.PositionsAreCounts, Served.FirstComeFirstServed};
 
@@ -9,8 +9,9 @@ pub fn positions_are_counts()
     ensures { PositionsAreCounts }
 {}
 
-/// After lawful events those who joined the line of a side are those whose calls of that side took
-/// effect, in the same order, and then those who still stand in line.
+/// First come, first served: after lawful events, the threads that entered the line of a side are,
+/// in this order, those whose calls of that side took effect, followed by those that are still in
+/// the line.
 pub fn first_come_first_served()
     ensures { FirstComeFirstServed }
 {}
