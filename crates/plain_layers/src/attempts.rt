@@ -164,7 +164,7 @@ impl PlainBuffer {
     }
 
     /// Wakes the thread that an effect of this side wakes: the first of the other side. If the
-    /// buffer is closed, it wakes the first of its own side as long as a thread waits there.
+    /// buffer is closed, it wakes the first thread of its side as long as a thread waits there.
     fn wake_after(&mut self, own: Side) -> Wake
         ensures block { self.new ≡ attempt_woken (waking_by self.old.closed own self.old) self.old }
         ensures reported { result
