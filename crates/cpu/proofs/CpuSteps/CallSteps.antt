@@ -13,7 +13,7 @@ use Rattle.cpu.{specs.Guests.{stage_after, todo_of}, proofs.ListFacts.GuestLists
 use Rattle.cpu.proofs.{ListFacts.GuestLists.{trace_reversed, room_kept}, CpuSteps.{CpuStates.ValidCpu, GuestsFollow.{answered_by, poll_followed, had_going}}}
 use Rattle.cpu.proofs.CpuSteps.GuestsFollow.{may_poll_call, stays_settled}
 
--- what a chosen poll tells: its thread runs, and its guest asks for the call
+-- what a chosen poll implies: its thread runs, and its guest is at the call
 pub record PollsAt (own : Threads) (guests : List (Option Guest)) (t : Tid) (c : Call) : Type 0 where
   pub runs : own.current ≡ Some t
   pub guest : Guest
@@ -184,7 +184,7 @@ module _ (cpu : ValidCpu) (t : Tid) (c : Call) (chose : chosen cpu.own cpu.guest
         go (inl same) = (next, subst (λ (k : ℕ). guest_at guests2 k ≡ Some next) (sym same) guest_new)
         go (inr other) = let there = is.homed u at in (there.0, guest_other u.0 other ∙ there.1)
 
-    -- the call goes on
+    -- the call continues
     calling_none : (f : Option Effect) → is_calling (stage_after f None) ≡ true
     calling_none f = grind arith
 

@@ -1,4 +1,5 @@
--- The steps in which no call goes on: an instruction of a thread's own, and the passes from thread to thread.
+-- The steps in which no call continues: an instruction that shares nothing, and the passes
+-- (scheduling operations).
 use Rattle.std.proofs.Common.{◌≡◌, ◌≢◌, ◌⊎◌, inl, inr, ℕ, ◌+◌, ◌<◌, ◌==◌, Bool, true, false, List, [], ◌∷◌, ◌++◌, length, Option, Some, None, option_map, refl}
 use Rattle.std.{proofs.{Common.{ap, sym, ◌∙◌, subst, arith, reverse, slice_set}, lemmas.{Bool.{cases_eq, ne_eqb}, List.length-set}}, specs.List.AllByRecursion}
 use Rattle.{event_log.specs.declared.{entries.Entry.Entry, ids.Tid.Tid}, thread_blocks.specs.Queues.is_in}
@@ -22,7 +23,8 @@ in_no_call g es begun effect todo follows asks none = grind arith
 pub finish_exit : (s : State) (i : Instruction) → todo_at s i ≡ Finish → i ≡ ins.Exit
 finish_exit s i is = grind arith
 
--- who stands behind a list and the thread that ran, and is not that thread, stands in the list
+-- a thread in a list followed by the thread that ran, and different from that thread, is in the
+-- list
 in_before : (u : Tid) (t : Tid) (q : List Tid) → u.0 ≢ t.0 → is_in u (q ++ t ∷ []) ≡ true → is_in u q ≡ true
 in_before u t [] other is = grind (arith, ne_eqb)
 in_before u t (x ∷ q) other is = go (u.0 == x.0) refl (in_before u t q other)
@@ -53,7 +55,7 @@ module _ (cpu : ValidCpu) where
     reserved = is.reserved;
   }
 
-  -- one thread's guest goes on, without an entry
+  -- one thread's guest continues, without an entry
   guest_goes : (t : Tid) (g : Guest) (f : Guest → Guest) (seen2 : List Entry) (own2 : Threads) (under_way2 : Option UnderWay)
       → guest_at guests t.0 ≡ Some g → of_cpu number seen2 ≡ of_cpu number seen → (f g).program ≡ g.program → is_begun (f g).stage ≡ is_begun g.stage
       → HasComeIn (f g).stage (f g).program (f g).thread (of_thread t.0 (of_cpu number seen)) (begun_of (call_state_of call_states t))
@@ -117,7 +119,7 @@ module _ (cpu : ValidCpu) where
       guest_goes t g computed seen own under_way at refl refl refl (rw at_idle after) (λ over. is.over t over g at) (λ u other over. over) quiet
       (λ u runs. is.handed u runs (grind arith))
 
-  -- the cases of a chosen pass, where each thread that runs is at home
+  -- the cases of a chosen pass, if the home CPU of each running thread is this one
   pub data PassCase : Pass → Type 0 where
     switches : own.current ≡ None → own.hand ≡ None → (own.ready ≡ [] → ⊥) → PassCase Switch
     drains : own.current ≡ None → own.hand ≡ None → own.ready ≡ [] → PassCase Drain
@@ -234,7 +236,7 @@ module _ (cpu : ValidCpu) where
   noted_done pass queue seen2 own2 under_way2 guests2 home chose same stays does moved =
       rw (stays, does, moved) (case_done pass queue seen2 (pass_case pass home chose) same)
 
-  -- effects of others alone
+  -- only effects of other CPUs
   pub seen_stays : (seen2 : List Entry) → of_cpu number seen2 ≡ of_cpu number seen
       → IsCpu homes buffers seen2 own call_states under_way number guests trace limit capacity
   seen_stays seen2 same = record {

@@ -1,4 +1,5 @@
--- Tables of guests with one guest changed, and the entries of a CPU and of a thread in a grown history.
+-- Tables of guests with one guest changed, and the entries of a CPU and of a thread in a grown
+-- history.
 use Rattle.std.proofs.Common.{◌≡◌, ◌≢◌, ℕ, zero, suc, ◌+◌, ◌<◌, ◌≤◌, ◌==◌, true, not, List, [], ◌∷◌, ◌++◌, length, slice_index_or, count_by, reverse, get_or}
 use Rattle.std.proofs.{Common.{Option, Some, None, option_map, refl, ap, sym, ◌∙◌, subst, arith, slice_set}, lemmas.{Bool.{cases_eq, eq-eqb}, Option.same_Some}}
 use Rattle.std.proofs.lemmas.List.{append-nil, reverse-append, get_or-set_same, get_or-set_other, set-get_or, map-set, Elements.filter-append, Sums.sum_by-set}

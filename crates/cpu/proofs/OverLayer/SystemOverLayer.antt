@@ -13,7 +13,7 @@ use Rattle.event_log.specs.{declared.ids.{TheConstants.CPUS, Tid.Tid, CpuId.CpuI
 abbrev pub shown_by : {P L M : Type 0} → Ghosts P L M → Cpu P M → CpuShown
 shown_by I x = cpu_shown (threads_in (I.own x.part)) x.guests.items x.trace.items x.limit (I.is_inside x.part) (I.own x.part)
 
--- what the machine tells, who owns its locks among it
+-- what the machine reports, including the owners of its locks
 abbrev pub observed_by : {P L M : Type 0} → Ghosts P L M → (M → BufId → Option Tid) → M → Observed
 observed_by I owner m = record {
   caps = caps_in (I.opening m);

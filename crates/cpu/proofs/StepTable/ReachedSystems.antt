@@ -56,7 +56,7 @@ reached_on c s r answer within same went reached setup is =
     subst (λ (n : ℕ). IsReached setup n (whole_of r)) (sym same.room)
     (subst (λ (w : Whole). IsReached setup s.room w) next (steps_once c (reached setup before) (omega (arith, before.count, within))))
 
--- what a machine tells
+-- what a machine reports
 pub record Observed : Type 0 where
   pub caps : List ℕ
   pub homes : List CpuId

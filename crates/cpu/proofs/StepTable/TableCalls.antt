@@ -1,4 +1,5 @@
--- The clauses of a CPU's calls on the table, from those of the layer: its part tells its threads and its call states.
+-- The clauses of a CPU's calls on the table, from those of the layer: its part reports its threads
+-- and its call states.
 use Rattle.std.proofs.{Common.{◌≡◌, ◌<◌, ℕ, false, List, slice_get, Option, Some, None, IsSome, option_map, ap, sym, ◌∙◌, subst, arith}, lemmas.Bool.lt-ltb}
 use Rattle.cpu.proofs.{Tower.{Polls.{halts_exactly, look_is_step}, KeptByPasses.boots_part}, CpuSteps.CpuStates.{TabledCpu, Outset}}
 use Rattle.cpu.{proofs.StepTable.TableRows.halted_same, specs.{declared.guests.Guest.Guest, Guests.is_ended, Cpus.{cpu_halted_at, reason_in, step_answer}}}
@@ -35,7 +36,7 @@ pub answers_step : (cpu : TabledCpu) (ActsFor : CpuId → Type 0) (old : List (A
 answers_step cpu ActsFor old outset setup of =
     grind (arith, outset.busy ∙ sym (ap is_in_section (phase_renamed name_of cpu.number old)), halted_same cpu setup of, halts_exactly)
 
--- a look
+-- a poll of a lock
 pub looked_steps : (ActsFor : CpuId → Type 0) (homes : List CpuId) (caps : List ℕ) (cpu number : CpuId) (limit : ℕ) (own own2 : Buffering)
     (guests : List (Option Guest)) (trace : List Entry) (old new : List (Action TowerName)) → cpu ≡ number → own2 ≡ own → Tries ActsFor cpu old new
     → WentByTable ActsFor homes caps number limit own own2 guests guests trace trace old new Stepped

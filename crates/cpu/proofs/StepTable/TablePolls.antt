@@ -27,7 +27,7 @@ opens_as setup homes caps number opening homes_are caps_are opens lock used = op
 asks_for : (i : Instruction) (s : State) (c : Call) → todo_at s i ≡ Calls c → AsksFor i s c
 asks_for line s c is = grind arith
 
--- a call state inside a call goes on as it is
+-- a call state inside a call continues as it is
 goes_same : (s : Stage) (call_state : CallState) (c : Call) → (s ≡ at_stage.Idle → ⊥) → going_at s call_state c ≡ call_state
 goes_same s call_state c calls = grind arith
 
@@ -58,7 +58,7 @@ pub record TabledPoll (ActsFor : CpuId → Type 0) (cpu : TabledCpu) (t : Tid) (
 module _ (cpu : TabledCpu) where
   open cpu use {homes, caps, seen, own, under_way, number, guests, trace, limit, opening, is, tabled, home}
 
-  -- one thread's guest goes on
+  -- one thread's guest continues
   pub tabled_with : (t : Tid) (g : Guest) (f : Guest → Guest) (own2 : Buffering) (under_way2 : Option UnderWay) → guest_at guests t.0 ≡ Some g → IsPart own2
       → (is_ended (f g).stage ≡ true → is_in t (threads_in own2).ended ≡ true)
       → ((u : Tid) → u.0 ≢ t.0 → is_in u (threads_in own).ended ≡ true → is_in u (threads_in own2).ended ≡ true)

@@ -12,7 +12,7 @@ use Rattle.layer_traits.specs.declared.calls.Place.TheVariants as place
 
 -- Whether all home threads of a CPU have ended.
 
--- a thread at home on c, where all of these threads have ended
+-- a thread with home CPU c, if all of these threads have ended
 pub ended_at : (p : Private) (c : CpuId) (homes : List CpuId) (i k : ℕ) (h : CpuId) → slice_get homes k ≡ Some h → same_cpu h c ≡ true
     → have_ended p (home_threads_from c homes i) ≡ true → (thread_at p (record { 0 = i + k })).ended ≡ true
 ended_at p c (home ∷ homes) i (suc k) h at same all =
@@ -44,7 +44,7 @@ all_ended p c (home ∷ homes) i each =
 
 -- Why a CPU of the table is halted.
 
--- a CPU with a thread that goes on is never halted since each has ended
+-- a CPU with a thread that continues is never halted because each has ended
 never_all : (setup : Setup) (c : CpuId) (p : Private) (current : Option Tid) → halted_by (at_current setup c p current) ≡ Some AllEnded → ⊥
 never_all setup c p current is = grind arith
 

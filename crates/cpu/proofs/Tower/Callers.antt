@@ -1,10 +1,12 @@
--- A thread that runs on a CPU, and the call that it is in: what the lemmas on a poll's plan are told of.
+-- A thread that runs on a CPU, and the call that it is in: the arguments of the lemmas on a poll's
+-- plan.
 use Rattle.std.proofs.{Common.{◌≡◌, ℕ, ◌<◌, List, length, slice_set, Option, Some, None, sym, subst}, lemmas.List.length-set}
 use Rattle.layer_traits.specs.{Views.OwnParts.threads_in, declared.{calls.{Call.Call, Effect.Effect}, call_states.{Stage.Stage, CallState.CallState}}}
 use Rattle.{layer_traits.specs.Layers.{BufferLaw.Buffering, QLockLaw.slept_for}, event_log.specs.declared.{entries.Entry.Entry, ids.{BufId.BufId, CpuId.CpuId}}}
 use Rattle.{event_log.specs.declared.ids.Tid.Tid, guest.specs.State.State, cpu.specs.Table.Setups.Setup}
 
--- thread t runs: the CPU's part but for its hand and the answer that it keeps, and the guests, where the thread has a call state and a guest
+-- thread t runs: the CPU's part but for its hand and the answer that it keeps, and the guests,
+-- where the thread has a call state and a guest
 pub record Runner : Type 0 where
   pub t : Tid
   pub ready : List Tid

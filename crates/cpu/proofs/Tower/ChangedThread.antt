@@ -68,7 +68,7 @@ module _ (runner : Runner) (hand : Option Tid) (deferred : Option TowerOut) wher
   abbrev before : Buffering
   before = part_at runner hand deferred
 
-  -- thread t runs or nobody does: its call state, guest and where it sleeps or waits changed
+  -- thread t runs, or none does: its call state, guest and where it sleeps or waits changed
   pub changed : (current2 hand2 : Option Tid) (ready2 : List Tid) (deferred2 : Option TowerOut) (slept2 waits2 : List (Option BufId)) (call_state : CallState)
       (guest : State) (trace : List Entry) (s w : Option BufId) (k : Bool) → ((j : ℕ) → j ≢ t.0 → (is_thread (tid j) current2 && is_some deferred2) ≡ false)
       → ((j : ℕ) → j ≢ t.0 → slept_for slept2 (tid j) ≡ slept_for slept (tid j)) → ((j : ℕ) → j ≢ t.0 → slept_for waits2 (tid j) ≡ slept_for waits (tid j))

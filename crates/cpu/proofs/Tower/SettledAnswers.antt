@@ -14,7 +14,7 @@ module _ (setup : Setup) (c : CpuId) (ready : List Tid) (threads : List Thread) 
   abbrev pub done_with : Call → Thread
   done_with call = record { guest = guest_after call.asks call.closed (next_of (program_of setup t) g) call.message g; call = None; ended = e }
 
-  -- thread t runs and stands so
+  -- thread t runs and is in this state
   abbrev pub with_t : List Tid → Option Tid → Thread → List Entry → Private
   with_t ready2 hand x trace2 = parts (Some t) ready2 hand (slice_set threads t.0 x) trace2
 
@@ -39,7 +39,7 @@ module _ (setup : Setup) (c : CpuId) (ready : List Tid) (threads : List Thread) 
       ∙ ap (λ r. settled setup (woken setup c a.woke (slept_if a.slept r))) (is ∙ (ap (put call next trace2) (there (calling call) ready None trace)
       ∙ ap (λ l. parts (Some t) ready None l trace2) (set-set threads t.0 (calling call) (calling next))))
 
-  -- a call that has a section left goes on
+  -- a call that has a section left continues
   pub goes_on : (next : Call) (ready2 : List Tid) (trace2 : List Entry) → ((p : Private) → returned_at setup p t next next.stage ≡ p)
       → settled setup (with_t ready2 None (calling next) trace2) ≡ with_t ready2 None (calling next) trace2
   goes_on next ready2 trace2 stays =

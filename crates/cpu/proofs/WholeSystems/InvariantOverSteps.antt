@@ -112,9 +112,11 @@ system_step One Two number Acts1 Acts2 Holds1 Holds2 IsStepwise acts1 acts2 cpus
         let inside : j < length cpus = slice_get_within cpus j x (sym (set_else cpus k j y other) ∙ at) in
         record { number_is = before.number_is; holds = there j x other (omega (arith, inside, is.most)) before }
 
--- What a machine M and the CPUs X that work in it tell of themselves: whether a CPU's part fits the machine, its number and that of its
--- part, what it shows, its call states, what it is doing, and for how many entries its trace has memory; of the machine for whom it acts, who may hold
--- a lock, whether it does one action a step, what it tells, and how much room is left; and what else is asked of a CPU and of the system.
+-- What a machine M and the CPUs X that work in it report. Of a CPU: whether its part agrees with
+-- the machine, its number and that of its part, what it shows, its call states, what is under way,
+-- and how many entries its trace has memory for. Of the machine: for which CPUs it acts, which may
+-- hold a lock, whether it does one action a step, what it reports, and how much room is left. Then
+-- the further conditions on a CPU and on the system.
 pub record Works (M X : Type 0) : Type 1 where
   pub Fits : X → M → Type 0
   pub number : X → CpuId

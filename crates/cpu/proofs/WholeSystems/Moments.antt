@@ -1,4 +1,5 @@
--- At each moment of a system over a layer of message calls its calls have one order, and a step lets it go on.
+-- At each moment of a system over a layer of message calls its calls have one order, which a step
+-- extends.
 use Rattle.std.proofs.{lemmas.{List.{append-nil, length-reverse, length-map, reverse-append}, Option.same_Some}, Common.{◌≡◌, ℕ, ◌<◌, ◌^◌, List, [], ◌++◌}}
 use Rattle.std.{proofs.Common.{length, map, reverse, Option, Some, ap, sym, ◌∙◌, subst, arith}, specs.{Prelude.slice_get, List.AllByRecursion}}
 use Rattle.layer_traits.specs.{Blocks.{Capacities.caps_in, BufferEffects.MayTakeEffect, QueueBlocks.homes_in}, declared.call_layers.CallLayer.Ghosts}

@@ -1,4 +1,5 @@
--- What always holds of a system says that its calls have one order, that each thread follows its program, and that entries stay at home.
+-- The invariant of a system implies that its calls have one order, that each thread follows its
+-- program, and that entries are on home CPUs.
 use Rattle.std.proofs.Common.{◌≡◌, ◌⊎◌, ℕ, zero, suc, ◌<◌, ◌==◌, Bool, true, false, List, [], ◌∷◌, ◌++◌, length, map, reverse, Option, Some, refl, ap, sym, ◌∙◌}
 use Rattle.std.proofs.{Common.{subst, arith, slice_set}, lemmas.{Bool.{cases_eq, cases_lt, eq-eqb, ne_eqb}, List.{append-nil, reverse-append, reverse-reverse}}}
 use Rattle.std.proofs.lemmas.{List.{length-map, length-set, get_or_past, get_or-set_same, get_or-set_other, Elements.filter-append}, Option.slice_get-get_or}
@@ -23,7 +24,7 @@ filter_reversed p (x ∷ xs) =
 
 -- What is closed.
 
--- a buffer is told to be closed where the effects have closed it, in their order
+-- a buffer is reported closed exactly if the effects have closed it, in their order
 pub closed_by_order : (seen : List Entry) (n b : ℕ) → b < n → slice_index_or (listed (is_closed seen) 0 n) b false ≡ is_closed (reverse seen) b
 closed_by_order seen n b within = grind (arith, listed_there, count_reversed)
 
