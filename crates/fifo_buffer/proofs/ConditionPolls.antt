@@ -1,4 +1,5 @@
--- One poll of the conditions, for a call: who was woken out of its wait, who was handed the lock, and whose section went on.
+-- One poll of the conditions, for a call: which thread was woken from its wait, which was handed
+-- the lock, and which section continued.
 use Rattle.std.proofs.Common.{ℕ, ◌≡◌, true, false, List, [], length, Option, Some, None, IsSome, is_some, slice_set, refl, ap, sym, ◌∙◌, subst, arith}
 use Rattle.std.proofs.lemmas.List.{length-set}
 use Rattle.fifo_buffer.proofs.{Callers.{monitored, kernel_of, AreLawful, Caller}, OtherSteps.caller_is, Polls.{lock_section_poll, other_mark, own_mark}}

@@ -1,4 +1,5 @@
--- What others leave of a thread's stance and call state: a section of another caller, and events of other CPUs; and what its stance lets it do.
+-- What others leave of a thread's stance and call state: a section of another caller, and events of
+-- other CPUs; and what its stance lets it do.
 use Rattle.std.proofs.Common.{◌≡◌, ◌≢◌, ℕ, Bool, true, false, ◌&&◌, ◌||◌, List, [], ◌∷◌, ◌++◌, Option, Some, None, option_map, is_some, if◌then◌else◌, refl, ap}
 use Rattle.std.proofs.{Common.{sym, ◌∙◌, subst, arith, rules}, lemmas.Bool.{and_parts, and_right}, Math.Bool.and-true}
 use Rattle.event_log.specs.{declared.ids.{BufId.BufId, LockId.{LockId, TheVariants.Buffer}, Tid.Tid, CpuId.CpuId}, History.{same_lock, AreOthers, same_cpu}}

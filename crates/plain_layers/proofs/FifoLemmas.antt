@@ -1,4 +1,5 @@
--- Polls of buffers in one section a call: what they add to the effects and to the moves, and what they leave of the parts.
+-- Polls of buffers in one section a call: what they add to the effects and to the moves, and what
+-- they leave of the parts.
 use Rattle.std.proofs.Common.{◌≡◌, ◌≢◌, ℕ, ◌<◌, inl, inr, Bool, true, false, List, [], ◌∷◌, ◌++◌, length, Option, Some, None, IsSome, is_some, option_map}
 use Rattle.std.proofs.{Common.{if◌then◌else◌, refl, ap, sym, ◌∙◌, subst, option_to_list, ◌≤◌, replicate, slice_set, arith}, lemmas.Bool.{eqb-true, eqb-false}}
 use Rattle.std.proofs.lemmas.{Bool.lt-ltb, List.{get_or-set_same, get_or-set_other}, Option.slice_get_within}
@@ -28,7 +29,7 @@ pub no_events : {E B O : Type 0} (k : Kernel E B O) (past : List (QueueEvent E))
 no_events k [] none = refl
 no_events k (e ∷ past) none = absurd (cc none)
 
--- nobody waits at fresh buffers
+-- no thread waits at fresh buffers
 pub nobody_waits : (caps : List ℕ) (locks : LockId → Option PlainLocked) → locks ≡ fresh_buffers caps → NobodySleeps locks
 nobody_waits caps locks fresh lock wait_list = grind arith
 
@@ -101,7 +102,7 @@ set_waits call_states t call effect within waits u = grind (arith, eqb-true, get
 
 -- A poll of a call.
 
--- who runs is one of the threads that a machine may have
+-- a running thread is one of the threads that a machine may have
 pub runs_small : (homes : List CpuId) (c : CpuId) (moves : List Step) (own : Threads) → AreMoves homes moves → Stands homes c moves own
     → length homes ≤ THREADS → (t : Tid) → own.current ≡ Some t → t.0 < THREADS
 runs_small homes c moves own legal stands room t runs =
@@ -111,7 +112,7 @@ runs_small homes c moves own legal stands room t runs =
 effect_kinds : (t : Tid) (call : Call) (x : PlainState) (f : Effect) → effect_in (attempt_told (attempt_of t call) x) ≡ Some f → IsEffectOf call f
 effect_kinds t call x f is = grind arith
 
--- who had no effect sleeps
+-- a thread that had no effect sleeps
 slept_current : (out : Tried) (own : Threads) → effect_in out ≡ None → (own_slept (wait_list_by out) own).current ≡ None
 slept_current out own given = grind arith
 
@@ -119,7 +120,8 @@ slept_current out own given = grind arith
 pub reply_none : (call : Call) (effect : Option Effect) → reply_to call effect ≡ None → effect ≡ None
 reply_none call effect given = grind arith
 
--- a kind that makes the reply of the call with its effect makes it with the call states that are left
+-- a kind that makes the reply of the call with its effect makes it with the call states that are
+-- left
 pub reply_left : (call_states : List CallState) (t : Tid) (call : Call) (effect : Option Effect) (kind : Option ReplyKind) → t.0 < length call_states
     → option_map (λ k. reply_with k effect) kind ≡ reply_to call effect
     → answer_in (slice_set call_states t.0 (call_state_after call effect)) t kind ≡ reply_to call effect
@@ -186,7 +188,7 @@ module _ (opening : LockId → Option (QueueBlock PlainLocked)) (c : CpuId) (b :
       none_before : (call_state : CallState) → (call_state.stage ≢ Idle → call_state.effect ≡ None) → (going call_state call).effect ≡ None
       none_before call_state rests = grind arith
 
-  -- a call without an effect was refused: the buffer allows it none, and its thread sleeps
+  -- a call without an effect did not act: the buffer allows it none, and its thread sleeps
   pub done_refused : (t : Tid) (call : Call) → a ≡ attempt_of t call → b ≡ buffer_of call → inner opening ≡ fresh_buffers (caps_in (viewed plain_shown opening))
       → effect_in outcome.out ≡ None → IsRefused call (caps_in (viewed plain_shown opening)) (plain_entries_in (inner opening) (buffer_sections new))
   done_refused t call attempt at fresh none =

@@ -1,4 +1,5 @@
--- A machine that opens with empty buffers, as one-step buffers read it and as their layer's trait shows it.
+-- A machine that opens with empty buffers, as one-step buffers read it and as their layer's trait
+-- shows it.
 use Rattle.std.proofs.{Common.{arith, ◌≡◌, ℕ, ◌≤◌, List, length, map, Option, option_map, slice_get, ap, sym, ◌∙◌, ◌*◌, ◌/◌, lit<}, Math.Nat.le-div_iff_mul-le}
 use Rattle.std.proofs.{Math.Path.fun_ext, lemmas.Option.slice_get-map}
 use Rattle.{event_log.specs.declared.ids.{BufId.BufId, LockId.{LockId, TheVariants.Buffer}}, layer_traits.specs.Blocks.Capacities.caps_in}

@@ -1,4 +1,5 @@
--- What a part of one-step queuing locks makes of its scheduler's answer is what the law says of it, as it is told.
+-- What a part of one-step queuing locks makes of its scheduler's result is what the law says, as
+-- the layer above sees it.
 use Rattle.std.proofs.Common.{arith, ◌≡◌, List, Option, Some, None, IsSome, is_some, if◌then◌else◌, option_map}
 use Rattle.{event_log.specs.declared.ids.{BufId.BufId, Tid.Tid}, layer_traits.specs.declared.{locked.{QEdit.QEdit, QOut.QOut}, passes.Pass.Pass as PassCall}}
 use Rattle.layer_traits.specs.declared.{payloads.{Parcel.Parcel, Payload.Payload}, queues.QueueEvent.QueueEvent, scheds.SchedAnswer.SchedAnswer}

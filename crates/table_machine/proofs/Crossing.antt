@@ -1,5 +1,6 @@
--- Keys and seats may go from thread to thread, and threads may share a table. The edit in a slot is for clauses alone, and a type that holds such a value gets
--- no lemma of this by itself: so these are the lemmas of the slot, and of all that is made of slots.
+-- Keys and seats may move between threads, and threads may share a table. The edit in a slot is
+-- only for clauses, and the toolchain derives no such lemma for a type that contains such a value;
+-- therefore these are the lemmas of the slot, and of all that is made of slots.
 use denote.RattleType.{RattleType}
 use denote.Ref.{NamedLft}
 use denote.Param.SendFields.{declared_send, declared_sync}

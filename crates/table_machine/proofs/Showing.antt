@@ -53,7 +53,8 @@ module _ (K : WordKind) (law : IsWordKind K) {E B : Type 0} (edited : E → B �
   pub within_table : (lock : LockId) (word : ℕ) → IsSome (opened start lock) → word ≤ CPUS → word_at (rank_of start lock) word < word_count (length start)
   within_table lock word there within = lies_within (rank_of start lock) (length start) word (rank_below start lock there) within
 
-  -- an event at one lock, with a write to one of its words: the words and slots of all other locks stay
+  -- an event at one lock, with a write to one of its words: the words and slots of all other locks
+  -- stay
   pub shows_step : (words : List ℕ) (homes : List (Maybe (Home E B))) (log : List (Event (Mark E))) → Shows K edited start words homes log
       → (e : Event (Mark E)) → MayFollow log e → (word x : ℕ) → word ≤ CPUS
       → (later : List (Maybe (Home E B))) → length later ≡ length start → ((j : ℕ) → j ≢ rank_of start (event_lock e) → get_elem? later j ≡ get_elem? homes j)

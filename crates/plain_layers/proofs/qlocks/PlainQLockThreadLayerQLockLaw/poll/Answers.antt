@@ -150,7 +150,7 @@ module _ (g : Over) (c : After-hand_on g) where
   lawful = nested_lawful (busy_rules rules) opening (calls_in c.poll.new.m) (subst (λ o. IsLawful (QueueAllowed (beneath (busy_rules rules) o))
       (calls_in c.poll.new.m)) c.poll.ensures.framed.stays.opening c.poll.ensures.framed.fits.1.lawful)
 
-  -- who slept for a lock owns it or sleeps still, and so does who is queued now
+  -- a thread that slept for a lock owns it or still sleeps, and a queued caller sleeps
   slept_by : (r : Option (Outcome (QOut g.row.F-Brought.Denot)))
       → got.answer ≡ option_map (tell told (parcel_after c.args.self.now.kept c.unwrap-answer.result c.poll.new.payload.parcel)) r
       → SleptFits rules (locks_of opening) was.c (calls_of (calls_in c.poll.new.m)) (noted_after (lock_caller rules was.e) was.b was.slept r)
