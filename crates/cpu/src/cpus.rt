@@ -23,8 +23,8 @@ pub enum Choice {
 /// One CPU: its part of the layer of message calls, and its private data. It allocates nothing
 /// after it is made.
 ///
-/// It agrees with a machine (`AgreesAt`) if its part does and has the CPU's number, and its
-/// threads, guests and trace agree with what was done in the machine. If each poll is one action,
+/// It agrees with a machine (`AgreesAt`) if its part does and has the CPU's number. Its threads,
+/// guests and trace must also agree with what was done in the machine. If each poll is one action,
 /// the CPU is also in the state that the step table gives.
 #[derive(Drop)]
 pub struct Cpu<I: CallLayer<IpcLaw>> {
@@ -164,8 +164,8 @@ impl<I: CallLayer<IpcLaw>> Cpu<I> {
         self.pass(m, pass);
     }
 
-    /// Whether the CPU continues to drain: it is not halted, and no thread runs on it, is in its
-    /// hand (its slot for the thread that it woke for another CPU) or is ready.
+    /// Whether the CPU continues to drain: it is not halted, it has no running or ready thread, and
+    /// its hand (the slot for a thread in transit to another CPU) is empty.
     ///
     /// Requires: the running thread, if there is one, has a place in the table of guests.
     #[inline(always)]
@@ -217,8 +217,8 @@ impl<I: CallLayer<IpcLaw>> Cpu<I> {
     }
 
     /// The steps of a CPU that is not halted and needs no further poll of a lock: each one local
-    /// action or one atomic action. At a message call it takes up to `most` steps of the call, at a
-    /// drain up to `most` steps of drains, and otherwise one step. Returns how many steps it took.
+    /// action or one atomic action. If the CPU is at a message call or at a drain, these are up to
+    /// `most` steps of it; otherwise it is one step. Returns how many steps it took.
     ///
     /// Requires: as `run`.
     #[inline(always)]
@@ -240,8 +240,8 @@ impl<I: CallLayer<IpcLaw>> Cpu<I> {
         }
     }
 
-    /// Runs a CPU that is not halted for up to `most` steps, polls of locks among them, until the
-    /// CPU is halted or a poll fails. Returns how many steps it took.
+    /// Runs a CPU that is not halted for up to `most` steps, until it is halted or a poll of a lock
+    /// fails. Polls count as steps. Returns how many steps it took.
     ///
     /// Requires: CPU and machine agree. The machine has room for `most` more events; `most` is not
     /// 0. The CPU is not halted.
@@ -263,9 +263,9 @@ impl<I: CallLayer<IpcLaw>> Cpu<I> {
     }
 
     /// Takes one step of a CPU that needs no further poll of a lock: one local action or one atomic
-    /// action. Returns `Halted` if it took none, and then nothing changed: `AllEnded` if each home
-    /// thread of the CPU has ended, `TraceFull` if its thread is about to begin a call that its
-    /// trace has no room for.
+    /// action. Returns `Halted` if it took none, and then nothing changed. The reason is `AllEnded`
+    /// if each home thread of the CPU has ended, and `TraceFull` if the trace has no room for the
+    /// call that its thread is about to begin.
     ///
     /// Requires: CPU and machine agree. The machine has room for one more event.
     #[inline(always)]
@@ -287,9 +287,9 @@ impl<I: CallLayer<IpcLaw>> Cpu<I> {
         Step::Stepped
     }
 
-    /// Takes in bulk polls of a lock that must fail, for a section that waits for the lock: at most
-    /// one for each of the steps at the front of `steps` that are this CPU's. Returns how many it
-    /// took; nothing else has changed.
+    /// If a section waits for its lock and its polls must fail, takes polls in bulk: at most one
+    /// for each step of this CPU at the front of `steps`. Returns how many it took; nothing else
+    /// has changed.
     ///
     /// Requires: the part and the machine agree. The machine has room for as many events as there
     /// are steps.
@@ -310,9 +310,9 @@ impl<I: CallLayer<IpcLaw>> Cpu<I> {
     }
 
     /// Takes one step of the CPU: one local action or one atomic action. Returns `Halted` if it
-    /// took none, and then nothing changed: `AllEnded` if each home thread of the CPU has ended,
-    /// `TraceFull` if its thread is about to begin a call that its trace has no room for. Neither
-    /// occurs while a section is under way.
+    /// took none, and then nothing changed. The reason is `AllEnded` if each home thread of the CPU
+    /// has ended, and `TraceFull` if the trace has no room for the call that its thread is about to
+    /// begin. Neither occurs while a section is under way.
     ///
     /// Requires: CPU and machine agree. The machine has room for one more event.
     pub fn step(&mut self, m: &mut I::Machine) -> Step

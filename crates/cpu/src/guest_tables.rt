@@ -12,8 +12,8 @@ use std::marker::Model;
 /// The guest of each thread by its number, `None` at threads of other home CPUs. In clauses it is
 /// their table.
 ///
-/// It caches two counts over the table, so that no caller has to scan it, and the call that was
-/// made last, so that a call is made once while its thread polls it.
+/// It caches two counts over the table, so that no caller needs to scan it. It also caches the call
+/// that was made last, so that a call is made once while its thread polls it.
 #[derive(Drop)]
 pub struct Guests {
     table: Vec<Option<Guest>>,

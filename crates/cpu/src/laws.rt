@@ -12,33 +12,33 @@ pub fn runs_alone()
     ensures { AloneRuns }
 {}
 
-/// Worked runs of a receiver and a sender, by computation: a wait, the signal that ends it, and the
-/// failed polls of a CPU that waits for another one.
+/// Worked runs of a receiver and a sender, by computation. They show a wait, the signal that ends
+/// it, and the failed polls of a CPU that waits for another one.
 pub fn runs_of_two()
     ensures { RunsOfTwo }
 {}
 
-/// Worked runs of three threads, by computation: the second signal of a call, a lock that passes to
-/// its first sleeper, and a wait queue that is served first in, first out.
+/// Worked runs of three threads, by computation. They show the second signal of a call, a lock that
+/// passes to its first sleeper, and a wait queue that is served first in, first out.
 pub fn runs_of_three()
     ensures { RunsOfThree }
 {}
 
-/// Worked runs of systems whose buffer is closed, by computation: which threads a close wakes, what
-/// each call then finds, and where it continues.
+/// Worked runs of systems whose buffer is closed, by computation. They show which threads a close
+/// wakes, what each call then finds, and where it continues.
 pub fn runs_of_closing()
     ensures { ClosingRuns }
 {}
 
-/// A worked run of messages of several words, by computation: what a message sent from the first
-/// registers leaves in all of them after it is received again.
+/// A worked run of messages of several words, by computation. It shows what a message sent from the
+/// first registers leaves in all of them after it is received again.
 pub fn runs_of_words()
     ensures { RunsOfWords }
 {}
 
-/// No lost wake-up, for one buffer: if the buffer's sections occur in the order that their calls
-/// prescribe, then while no thread owns the lock, the first thread of neither wait queue sleeps in
-/// a call that the buffer allows.
+/// No lost wake-up, for one buffer whose sections occur in the order that their calls prescribe.
+/// While no thread owns the lock, the first thread of neither wait queue sleeps in a call that the
+/// buffer allows.
 pub fn order_loses_no_wake_up()
     ensures { OrderLosesNoWakeUp }
 {}
@@ -61,9 +61,8 @@ pub fn systems_keep_order()
     ensures { SystemsKeepOrder }
 {}
 
-/// No lost wake-up, for systems: in every state that a system reaches, while no thread owns the
-/// lock of a buffer, the first thread of neither wait queue sleeps in a call that the buffer
-/// allows.
+/// No lost wake-up, in every state that a system reaches. While no thread owns the lock of a
+/// buffer, the first thread of neither wait queue sleeps in a call that the buffer allows.
 pub fn systems_lose_no_wake_up()
     ensures { SystemsLoseNoWakeUp }
 {}
@@ -79,10 +78,10 @@ pub fn cpus_lose_no_wake_up()
     ensures { CpusLoseNoWakeUp }
 {}
 
-/// Simulation: CPUs that each worked according to the table along one list of actions, however
-/// their actions interleave, have done what one system of the table does under some schedule. The
-/// run leaves the same list, and each CPU in the same state. Therefore what threads do is what a
-/// run does.
+/// Simulation. Let each CPU work according to the table along one list of actions, whose
+/// interleaving is arbitrary. They have done what one system of the table does under some schedule.
+/// The run leaves the same list, and each CPU in the same state. Therefore what threads do is what
+/// a run does.
 pub fn work_is_a_run()
     ensures { WorkIsARun }
 {}
@@ -94,43 +93,44 @@ pub fn quiet_is_stuck()
     ensures { QuietIsStuck }
 {}
 
-/// A call whose locks are free, that its buffer allows, and whose wait queue is empty takes effect
-/// and returns after an exact number of steps of its CPU, if no other CPU steps. One step earlier
-/// it is still under way.
+/// The number of steps of a call without contention: no lock is held or requested, its buffer
+/// allows it, and its wait queue is empty. If no other CPU steps, it takes effect and returns after
+/// exactly so many steps of its CPU. One step earlier it is still under way.
 ///
-/// - A send or a receive takes 18 steps, or 21 if it wakes a thread of another CPU: the first of
-///   the other side's wait queue, if that thread waits. One that finds its buffer closed takes 18.
-/// - A close takes 15 steps, or 18 if it wakes a thread of another CPU, and 21 only if a buffer
-///   without room lets it wake two.
+/// - A send or a receive takes 18 steps, or 21 if it wakes a thread of another CPU. It wakes the
+///   first of the other side's wait queue, if that thread waits. One that finds its buffer closed
+///   takes 18.
+/// - A close takes 15 steps, or 18 if it wakes a thread of another CPU. It takes 21 only if it
+///   wakes two, for which the buffer must have no room at all.
 pub fn calls_return_alone()
     ensures { CallsReturnAlone }
 {}
 
-/// In every state that a system reaches, each live thread has exactly one place: it runs, is ready,
+/// In every state that a system reaches, each live thread has exactly one place. It runs, is ready,
 /// in a hand, pending, asleep at a lock or waiting at a buffer.
 pub fn stand_in_one_place()
     ensures { StandInOnePlace }
 {}
 
-/// The premises of the laws on quiescent systems and on uncontended calls are met by states that
-/// systems reach, and the numbers of steps are exact.
+/// States that systems reach meet the premises of the laws on quiescent systems and on uncontended
+/// calls, and the numbers of steps are exact.
 pub fn premises_are_met()
     ensures { PremisesAreMet }
 {}
 
-/// Linearizability in real-time order: with respect to the steps of a schedule, a call that has
-/// returned when another one begins precedes it in the linearization.
+/// Real-time order: a call that has returned when another one begins precedes it in the
+/// linearization. Time is counted in steps of the schedule.
 pub fn linear_runs_keep_real_time()
     ensures { LinearRunsKeepRealTime }
 {}
 
-/// The layers' sections are the table's: each has one name there, and the blocks that they leave
-/// and their results are viewed as the table's, for every section on every block.
+/// The layers' sections are the table's, and each has one name there. For every section on every
+/// block, the view of the block that it leaves and of its result is the table's.
 pub fn tables_agree()
     ensures { TablesAgree }
 {}
 
-/// The plan of every poll of a begun call is a row of the table: it asks for the table's section,
+/// The plan of every poll of a begun call is a row of the table. It requests the table's section,
 /// and makes of each result what the table makes of it.
 pub fn plans_are_lines()
     ensures { PlansAreLines }

@@ -78,9 +78,9 @@ where
     /// Takes one step of `cpu`: one local action or one atomic action.
     ///
     /// Returns `Halted` if it took none, and then nothing changed. The reason is `AllEnded` if each
-    /// home thread of the CPU has ended, `TraceFull` if its thread is about to begin a call that
-    /// its trace has no room for, and otherwise `StepsUsed` if the system's room is used. Neither
-    /// of the first two occurs while the CPU has a section under way.
+    /// home thread of the CPU has ended, and `TraceFull` if the trace has no room for the call that
+    /// its thread is about to begin. Otherwise it is `StepsUsed` if the system's room is used.
+    /// Neither of the first two occurs while the CPU has a section under way.
     ///
     /// Requires: the system has a CPU of this number.
     #[inline(always)]
@@ -184,8 +184,9 @@ where
     }
 
     /// Takes a prefix of `steps` whose steps are all of one CPU. The steps of a halted CPU do
-    /// nothing. The steps of any other CPU continue until it is halted or a poll of a lock fails;
-    /// its next polls, which must fail too, are then taken in bulk. Returns how many steps it took.
+    /// nothing. Any other CPU continues until it is halted or a poll of a lock fails. After a
+    /// failed poll its next polls must fail too, and are taken in bulk. Returns how many steps it
+    /// took.
     ///
     /// Requires: there is a step, and the system has a CPU of each number.
     #[inline(always)]
@@ -365,12 +366,12 @@ where
 
     /// A law of every system over layers whose polls are single actions. It computes nothing.
     ///
-    /// It is about a thread at a call that has not begun and that its buffer allows, if the lock is
-    /// free and the call's wait queue is empty. While only the thread's CPU steps, the call returns
-    /// after an exact number of steps:
+    /// A thread is at a call that has not begun, its buffer allows the call, no lock is held or
+    /// requested, and the call's wait queue is empty. While only the thread's CPU steps, the call
+    /// returns after an exact number of steps:
     ///
     /// - A send or a receive takes 18 steps, or 21 if the first of the other side's wait queue
-    ///   waits and is of another CPU; the call's first signal then wakes it.
+    ///   waits and is of another CPU. The call's first signal wakes that thread.
     /// - A call that finds its buffer closed wakes no thread, and takes 18.
     /// - A close takes 15, or 18 if it wakes a thread of another CPU.
     pub fn alone(&self)

@@ -3,15 +3,15 @@
 
 ghost use Rattle.fifo_buffer.specs.{Positions.PositionsAreCounts, Served.FirstComeFirstServed};
 
-/// After lawful events the counter of a line, which is the position of the next thread that enters
-/// it, is the number of threads that entered it, modulo 2^64.
+/// After lawful events the counter of a line is the number of threads that entered it, modulo 2^64.
+/// It is the position of the next thread that enters.
 pub fn positions_are_counts()
     ensures { PositionsAreCounts }
 {}
 
-/// First come, first served: after lawful events, the threads that entered the line of a side are,
-/// in this order, those whose calls of that side took effect, followed by those that are still in
-/// the line.
+/// First come, first served. After lawful events the threads that entered the line of a side are,
+/// in order, those whose calls of that side took effect. Those that are still in the line follow
+/// them.
 pub fn first_come_first_served()
     ensures { FirstComeFirstServed }
 {}

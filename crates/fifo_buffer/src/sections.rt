@@ -208,8 +208,8 @@ pub fn reply(call: &Call, stage: Stage, effect: &Option<Effect>) -> Option<Reply
     }
 }
 
-/// Whether the next section follows in the same poll because this stage's ends without an action:
-/// at an Acquire whose thread was handed the lock, and at a wait.
+/// Whether the next section follows in the same poll because this stage's ends without an action.
+/// This is so at an Acquire whose thread was handed the lock, and at a wait.
 #[inline(always)]
 pub fn answers_at_once(stage: Stage, handed: bool) -> bool
     ensures { result ≡ is_at_once stage handed }

@@ -46,8 +46,8 @@ fn waiters_of(buffer: BufId, wait_list: WaitList) -> Place
 }
 
 /// One CPU's part of the layer of message calls, over a part `B` of buffers. It keeps the number of
-/// buffers, to reject a number that is no buffer's, and the home CPU of each thread, whose pending
-/// queue is the only one that can contain the thread.
+/// buffers, to reject a number that is no buffer's. It keeps the home CPU of each thread, whose
+/// pending queue is the only one that can contain the thread.
 #[derive(Drop)]
 pub struct Ipc<B> {
     lower: B,

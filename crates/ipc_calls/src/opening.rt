@@ -22,10 +22,10 @@ pub trait OpensBuffers: OwnedBuffers {
     ghost use Rattle.layer_traits.specs.{Blocks.{BufferEffects.opening_locks, QueueBlocks.{homes_in, inner}}, Views.Openings.{AreOpenable, Opened}};
 
     /// A machine of so many CPUs, with a buffer of each of these capacities and a thread of each of
-    /// these home CPUs, and with room for `room` polls. All memory is allocated here.
+    /// these home CPUs. It has room for `room` polls. All memory is allocated here.
     ///
-    /// Requires: there are 1 to `CPUS` CPUs, at most `BUFFERS` capacities, each from 1 to
-    /// `CAPACITY`, and at most `THREADS` homes, each one of the CPUs.
+    /// Requires: there are 1 to `CPUS` CPUs, and at most `BUFFERS` capacities, each from 1 to
+    /// `CAPACITY`. There are at most `THREADS` homes, each one of the CPUs.
     ///
     /// Errors: `NoMemory` if an allocation failed.
     fn open(
@@ -55,8 +55,8 @@ pub trait OpensQueues: OwnedLayer<QueueLaw<SleepEdit<LockEdit>>> {
 
     /// As `open` of [`OpensLocks`].
     ///
-    /// Requires: there are 1 to `CPUS` CPUs, at most `BUFFERS` capacities, each from 1 to
-    /// `CAPACITY`, and at most `THREADS` homes, each one of the CPUs.
+    /// Requires: there are 1 to `CPUS` CPUs, and at most `BUFFERS` capacities, each from 1 to
+    /// `CAPACITY`. There are at most `THREADS` homes, each one of the CPUs.
     ///
     /// Errors: `NoMemory` if an allocation failed.
     fn open(
@@ -87,8 +87,8 @@ pub trait OpensScheds: OwnedLayer<SchedLaw<SleepEdit<LockEdit>>> {
 
     /// As `open` of [`OpensLocks`].
     ///
-    /// Requires: there are 1 to `CPUS` CPUs, at most `BUFFERS` capacities, each from 1 to
-    /// `CAPACITY`, and at most `THREADS` homes, each one of the CPUs.
+    /// Requires: there are 1 to `CPUS` CPUs, and at most `BUFFERS` capacities, each from 1 to
+    /// `CAPACITY`. There are at most `THREADS` homes, each one of the CPUs.
     ///
     /// Errors: `NoMemory` if an allocation failed.
     fn open(
@@ -118,11 +118,11 @@ pub trait OpensLocks: OwnedThreadLayer<SleepLaw<LockEdit>> {
     ghost use Rattle.queuing_lock.specs.Nested.{nested_lock_of};
 
     /// A machine of so many CPUs, with the lock of a buffer for each of these capacities and a
-    /// thread of each of these home CPUs, and with room for `room` polls. All memory is allocated
+    /// thread of each of these home CPUs. It has room for `room` polls. All memory is allocated
     /// here.
     ///
-    /// Requires: there are 1 to `CPUS` CPUs, at most `BUFFERS` capacities, each from 1 to
-    /// `CAPACITY`, and at most `THREADS` homes, each one of the CPUs.
+    /// Requires: there are 1 to `CPUS` CPUs, and at most `BUFFERS` capacities, each from 1 to
+    /// `CAPACITY`. There are at most `THREADS` homes, each one of the CPUs.
     ///
     /// Errors: `NoMemory` if an allocation failed.
     fn open(

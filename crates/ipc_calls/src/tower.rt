@@ -66,12 +66,12 @@ pub type TowerLaws = PhantomData<
     ),
 >;
 
-/// The locks of the tower at boot, each with its block: an empty pending queue for each of so many
-/// CPUs, and an empty buffer under a free lock for each of these capacities. `homes` holds the home
-/// CPU of each thread. All memory that the blocks need is allocated here.
+/// The locks of the tower at boot, each with its block. A CPU's block is an empty pending queue;
+/// that of a capacity is an empty buffer under a free lock. `homes` holds the home CPU of each
+/// thread. All memory that the blocks need is allocated here.
 ///
-/// Requires: there are 1 to `CPUS` CPUs, at most `BUFFERS` capacities, each from 1 to `CAPACITY`,
-/// and at most `THREADS` homes, each one of the CPUs.
+/// Requires: there are 1 to `CPUS` CPUs, and at most `BUFFERS` capacities, each from 1 to
+/// `CAPACITY`. There are at most `THREADS` homes, each one of the CPUs.
 ///
 /// Errors: `NoMemory` if an allocation failed.
 pub fn tower_blocks(
@@ -96,7 +96,7 @@ pub fn tower_blocks(
 /// of the tower, with a buffer of each of these capacities and a thread of each of these home CPUs.
 /// The CPU has nothing under way and no thread has called, so any thread may begin a call there.
 ///
-/// Requires: nothing was done in the machine, its holder acts for the CPU, and it opened with the
+/// Requires: nothing was done in the machine, and its holder acts for the CPU. It opened with the
 /// locks of the tower: these homes, an empty buffer of each of these capacities, at most `BUFFERS`,
 /// and a pending queue of the CPU.
 pub fn part_over<L: Layer<LockLaw<TowerEdit>>>(

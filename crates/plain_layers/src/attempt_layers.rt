@@ -19,10 +19,10 @@ pub trait OpensAttempts: OwnedThreadLayer<SleepLaw<Attempt>> {
     ghost use Rattle.{layer_traits.specs.Blocks.QueueBlocks.{homes_in, inner}, plain_layers.specs.{Fifos.fresh_buffers, Wholes.IsCoarse}};
 
     /// A machine of so many CPUs, with an empty buffer of each of these capacities and a thread of
-    /// each of these home CPUs, and with room for `room` events. All memory is allocated here.
+    /// each of these home CPUs. It has room for `room` events. All memory is allocated here.
     ///
-    /// Requires: there are 1 to `CPUS` CPUs, at most `BUFFERS` capacities, each from 1 to
-    /// `CAPACITY`, and at most `THREADS` homes, each one of the CPUs.
+    /// Requires: there are 1 to `CPUS` CPUs, and at most `BUFFERS` capacities, each from 1 to
+    /// `CAPACITY`. There are at most `THREADS` homes, each one of the CPUs.
     ///
     /// Errors: `NoMemory` if an allocation failed.
     fn open(

@@ -125,7 +125,7 @@ impl PlainBuffer {
     }
 
     /// Whether a call may take effect: a send if there is room, a receive if there is an item, both
-    /// if the buffer is closed; a close always.
+    /// if the buffer is closed. A close always may.
     fn allows(&self, ask: &Ask) -> bool
         ensures { result ≡ allows ask.now self.now }
     {

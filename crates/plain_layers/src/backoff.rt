@@ -14,9 +14,9 @@ use std::alloc::Global;
 /// The most polls that a CPU skips between two tries.
 const MOST: u8 = 8;
 
-/// One CPU's part of a lock whose CPUs back off between two tries. After each try of a section that
-/// is under way it skips polls: 1 at first, twice as many after each try up to `MOST`, then 1
-/// again.
+/// One CPU's part of a lock whose CPUs back off between two tries. After each try it skips polls of
+/// a section that is under way: 1 at first, twice as many after each further try up to `MOST`, then
+/// 1 again.
 #[derive(Drop)]
 pub struct Backoff<L> {
     lower: L,

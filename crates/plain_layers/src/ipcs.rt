@@ -14,7 +14,7 @@ use layer_traits::{CallLayer, IpcLaw};
 use std::alloc::Global;
 
 /// One CPU's part of message calls in one step: a call takes effect at the first poll at which its
-/// buffer allows it; until then its thread sleeps.
+/// buffer allows it. Until then its thread sleeps.
 pub type PlainIpc = Ipc<PlainFifo<PlainSleep<Attempt>>>;
 
 impl<S: OpensAttempts> OpensBuffers for PlainFifo<S> {

@@ -26,8 +26,8 @@ pub struct Unanswered<E, B> {
 }
 
 /// One CPU's part of queuing locks as they are specified: a call is one edit of a lock that is
-/// plain data, done in one step. A call that wakes a thread of another CPU, and whose caller
-/// continues, returns at the next poll, which forwards that thread to its home CPU.
+/// plain data, done in one step. A call whose caller continues after it woke a thread of another
+/// CPU returns at the next poll. That poll forwards the thread to its home CPU.
 #[derive(Drop)]
 pub struct PlainQLock<F: Locked> {
     sched: PlainSched<PlainQEdit<F, F::Release>>,

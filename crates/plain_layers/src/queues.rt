@@ -7,7 +7,7 @@ use event_log::{BufId, CpuId, Tid};
 use layer_traits::{BareQueueAnswer, Layer, Moves, OwnedLayer, Payload, QueueCall, QueueLaw};
 use std::marker::PhantomData;
 
-/// One CPU's part of shared queues as they are specified: a push, a taking or an edit is done in
+/// One CPU's part of shared queues as they are specified. A push, a taking or an edit is done in
 /// one step, and no CPU ever waits.
 #[derive(Drop)]
 pub struct PlainQueues<E> {

@@ -8,9 +8,8 @@ ghost use Rattle.{layer_traits.specs.Layers.SleepLaw.{MaySleep, sleep_kernel}, p
 use event_log::BufId;
 use layer_traits::{BufferCall, Outcome, Payload, SleepLaw, Sleeps, ThreadLayer};
 
-/// Does the whole section of an edit at the lock of `buffer`, if the holder of the machine acts for
-/// every CPU: one poll, or two if the section wakes a thread of another CPU and its caller
-/// continues.
+/// Does the whole section of an edit at the lock of `buffer`. This is one poll, or two if the
+/// section wakes a thread of another CPU and its caller continues.
 ///
 /// Requires: each poll is a whole section. The holder of the machine acts for every CPU. The part
 /// and the machine agree, nothing is under way and nothing is deferred. There is a lock at

@@ -79,8 +79,8 @@ pub struct GrantLockWords {
     pub words: [u64; CPUS],
 }
 
-/// The words of a lock with grant words, and the ticket that is served: a give stores for the
-/// ticket after it, without that ticket as an argument.
+/// The words of a lock with grant words, and the ticket that is served. A give needs it, because it
+/// stores for the next ticket and has no ticket as an argument.
 #[derive(Clone, Copy)]
 pub struct Granting {
     /// The lock's words.

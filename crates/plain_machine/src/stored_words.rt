@@ -5,8 +5,9 @@ ghost use Rattle.event_log.specs.declared.ids.TheConstants.{CPUS};
 
 use crate::LineWords;
 
-/// The words of a ticket lock whose holder releases it by a store, and the ticket that is served: a
-/// give stores for the ticket after it, without that ticket as an argument. All are modulo 2^64.
+/// The words of a ticket lock whose holder releases it by a store, and the ticket that is served. A
+/// give needs it, because it stores the next ticket and has no ticket as an argument. All are
+/// modulo 2^64.
 #[derive(Clone, Copy, Debug, PartialEq, Eq)]
 pub struct StoredWords {
     /// The ticket that the next take returns: how many were taken.

@@ -20,10 +20,10 @@ use std::alloc::Global;
 
 impl<E: SplitEdit, K: TableWords> Shared<E, K> {
     /// Closes the table and returns each block as the sections left it, in the order of `open`. It
-    /// takes the keys of all CPUs, none with a ticket outstanding. There is one legal words log:
-    /// the log of each key is a prefix of it, and it contains exactly the events of each CPU that
-    /// the CPU's key has seen. Each block is the fold of its lock's sections in that log. It
-    /// allocates nothing.
+    /// takes the keys of all CPUs, none with a ticket outstanding. There is one legal words log, of
+    /// which the log of each key is a prefix. It contains exactly those events of each CPU that the
+    /// CPU's key has seen. Each block is the fold of its lock's sections in that log. It allocates
+    /// nothing.
     ///
     /// Requires: there is one key for each CPU, each is one of this table, and none is at a lock.
     pub fn close(self, keys: Vec<Key<E>>) -> Vec<(LockId, E::Block)>

@@ -113,9 +113,9 @@ impl<'a, E: SplitEdit, K: TableWords> Words for Seat<'a, E, K> {
 
 impl<'a, E: SplitEdit> UsesGrantWords for Seat<'a, E, WaiterWords> {}
 
-/// Brings the second seat's view up to the first's: afterwards all that the first has seen is a
-/// prefix of the second's log, and each still has all that it had seen. It may be called at any
-/// time, also within a section, and is no event of the log. It allocates nothing.
+/// Brings the second seat's view up to the first's. Afterwards the log that the first has seen is a
+/// prefix of the second's, and neither has lost what it had seen. It may be called at any time,
+/// also within a section, and is no event of the log. It allocates nothing.
 ///
 /// Requires: both seats are at one table.
 pub fn meet<E: SplitEdit, K: TableWords>(first: &mut Seat<'_, E, K>, second: &mut Seat<'_, E, K>)

@@ -95,9 +95,9 @@ where
     ghost use Rattle.layer_traits.specs.Views.Openings.{AreOpenable};
 
     /// A system before its first step: buffers of these capacities, threads of these home CPUs, and
-    /// one CPU for each table of guests, whose trace has room for `limit` entries. It has room for
-    /// `room` steps. Each CPU's threads are ready by rising number, and every buffer is empty. All
-    /// memory is allocated here.
+    /// one CPU for each table of guests. Each trace has room for `limit` entries, and the system
+    /// has room for `room` steps. Each CPU's threads are ready by rising number, and every buffer
+    /// is empty. All memory is allocated here.
     ///
     /// Requires: there are 1 to `CPUS` tables. There are at most `BUFFERS` buffers, each of
     /// capacity 1 to `CAPACITY`. There are at most `THREADS` threads, and each home is one of the

@@ -13,9 +13,12 @@ where
     ghost use Rattle.{event_log.specs.declared.ids.CpuId.CpuId, layer_traits.specs.Threads.Places.{IsPending, where_is}, cpu.specs.Calm.AllQueuesEmpty};
     ghost use Rattle.cpu.specs.{Calm.{IsQuiet, calm_in}, Sound.IsSetupFor, Systems.whole_of, Table.Setups.Setup, Observed.IsStill, Wakeups.Quiet.IsQuietTable};
 
-    /// Whether the system is quiet (quiescent): each CPU that is not halted has no running thread,
-    /// no ready thread, an empty hand and no section under way; each thread of a halted CPU has
-    /// ended; and all pending queues are empty.
+    /// Whether the system is quiet (quiescent):
+    ///
+    /// - Each CPU that is not halted has no running or ready thread, an empty hand and no section
+    ///   under way.
+    /// - Each thread of a halted CPU has ended.
+    /// - All pending queues are empty.
     pub fn is_quiet(&self) -> bool
         ensures is { result ≡ true ↔ IsQuiet self.now }
         // The system is quiet exactly if the step table's state is.
