@@ -46,8 +46,9 @@ after_steps setup (c ∷ more) s = after_steps setup more (system_step setup c s
 abbrev pub RanByTable : Shown → List CpuId → Shown → Type 0
 RanByTable old steps new = (setup : Setup) → GoesBy setup old → whole_of new ≡ after_steps setup steps (whole_of old)
 
--- If CPU c rests, no lock is held or requested, and its thread t is at a call that has not begun,
--- that its buffer allows and whose wait queue is empty, then the call has returned after an exact
+-- CPU c rests and is not halted, no spin lock is held or requested, and the running thread t is at
+-- a call that has not begun. No thread owns its buffer, which allows the call, and the call's wait
+-- queue is empty. If the system has room for 32 more steps, the call has returned after an exact
 -- number of steps of c, and is still under way one step earlier. The number is 18, and 15 for a
 -- close, and 3 more for each thread of another CPU that it wakes. A send or a receive wakes the
 -- first thread of the other side's wait queue, if that thread waits, and none if it found its

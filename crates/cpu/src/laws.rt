@@ -78,10 +78,9 @@ pub fn cpus_lose_no_wake_up()
     ensures { CpusLoseNoWakeUp }
 {}
 
-/// Simulation. Let each CPU work according to the table along one list of actions, whose
-/// interleaving is arbitrary. They have done what one system of the table does under some schedule.
-/// The run leaves the same list, and each CPU in the same state. Therefore what threads do is what
-/// a run does.
+/// Simulation. CPUs each work according to the table along one list of actions, in which their
+/// actions interleave arbitrarily. Under some schedule one system of the table leaves the same
+/// list, and each CPU in the same state. Therefore what threads do is what a run does.
 pub fn work_is_a_run()
     ensures { WorkIsARun }
 {}
@@ -93,15 +92,16 @@ pub fn quiet_is_stuck()
     ensures { QuietIsStuck }
 {}
 
-/// The number of steps of a call without contention: no lock is held or requested, its buffer
-/// allows it, and its wait queue is empty. If no other CPU steps, it takes effect and returns after
-/// exactly so many steps of its CPU. One step earlier it is still under way.
+/// The number of steps of a call without contention. No spin lock is held or requested. No thread
+/// owns the call's buffer, which allows the call, and the call's wait queue is empty. If no other
+/// CPU steps, the call takes effect and returns after exactly so many steps of its CPU. One step
+/// earlier it is still under way.
 ///
 /// - A send or a receive takes 18 steps, or 21 if it wakes a thread of another CPU. It wakes the
 ///   first of the other side's wait queue, if that thread waits. One that finds its buffer closed
 ///   takes 18.
 /// - A close takes 15 steps, or 18 if it wakes a thread of another CPU. It takes 21 only if it
-///   wakes two, for which the buffer must have no room at all.
+///   wakes two, for which the buffer must have capacity 0.
 pub fn calls_return_alone()
     ensures { CallsReturnAlone }
 {}
