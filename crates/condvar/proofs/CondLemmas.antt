@@ -68,7 +68,7 @@ pub complete_told : {B O : Type 0} (told : B → Parcel → O) (parcel : Parcel)
     → lock_tells told parcel result ≡ (if is_wait (lock_tells told parcel answer) then None else lock_tells told parcel answer)
 complete_told told parcel answer result same = grind (arith, is_wait_told)
 
--- what the lock's answer leaves
+-- what the lock's result leaves
 pub reported_left : {O : Type 0} (t : Tid) (b : BufId) (waits now : List (Option BufId)) (lock : Locking (CvOut O))
     (answer result : Option (Outcome (QOut (CvOut O)))) → now ≡ (if is_wait answer then slice_set waits t.0 (Some b) else waits)
     → result ≡ (if is_wait answer then None else answer) → waiting_with lock now result ≡ left_waiting t b waits lock answer
@@ -115,7 +115,7 @@ module _ {G B O : Type 0} (monitor_rules : MonitorRules G B O) (k : Kernel (CvCa
       leaves = reported_left (caller call) b own.waits waits lock answer result same told;
     }
 
--- it follows its plan where the lock's poll follows its own
+-- it follows its plan if the lock's poll follows its own
 pub waits_follow : {G B O : Type 0} (ActsFor : CpuId → Type 0) (table : Table (QueueEdit (CvCall G)) B (QueueAnswer (Outcome (QOut (CvOut O)))))
     (opening : LockId → Option B) (mv : MoveRules (CvCall G) (Outcome (QOut (CvOut O)))) (homes : List CpuId) (c : CpuId) (b : BufId) (call : CvCall G)
     (own : Waiting O) (old new : List (Action (QueueEdit (CvCall G)))) (lock : Locking (CvOut O)) (waits : List (Option BufId))

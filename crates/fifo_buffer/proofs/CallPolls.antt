@@ -81,7 +81,7 @@ first_may homes c O past own call_states (Some (sched.Pass p)) None t call home 
 first_may homes c O past own call_states (Some (sched.OnBuffer b e)) None t call home fits runs hand call_state_may may = absurd fits.none
 first_may homes c O past own call_states under_way (Some v) t call home fits runs hand call_state_may may = grind (arith, goes_called)
 
--- a call state of another thread stays where this one's is kept
+-- a call state of another thread stays if this one's is kept
 pub other_call_state : (call_states now : List CallState) (t u : Tid) (x : CallState) → now ≡ slice_set call_states t.0 x → same_tid t u ≡ false
     → call_state_of now u ≡ call_state_of call_states u
 other_call_state call_states now t u x is other = grind (arith, get_or-set_other, eqb-false)
@@ -128,7 +128,7 @@ module _ {homes : List CpuId} {ActsFor : CpuId → Type 0} {O : LockId → Optio
       → answer ≡ (if done then replied call call_state call_state.stage else None)
   completes_as stage is answer told = grind arith
 
-  -- where one section poll was all, the thread neither slept for the lock nor waited
+  -- if one section poll was all, the thread neither slept for the lock nor waited
   pub exit_free : (handed : Bool) → MarksOf t call_state.stage own → ((done ≡ true) × (is_at_once call_state.stage handed ≡ false)) ⊎ (done ≡ false)
       → own.lock.sleep.threads.current ≡ Some t → handed ≡ is_handed own.lock.slept own.lock.sleep.threads.current
       → (slept_for own.lock.slept t ≡ None) × (slept_for own.waits t ≡ None)
@@ -138,7 +138,7 @@ pub marks_of : (O : LockId → Option BufferLock) (past : List BufferSection) (t
     (w : Option (SchedCall (CvCall BufferEdit))) → SectionGoes O past t call call_state own w → MarksOf t call_state.stage own
 marks_of O past t call call_state own w goes = grind arith
 
--- where another section poll follows an Acquire, the thread slept for the lock
+-- if another section poll follows an Acquire, the thread slept for the lock
 pub why_slept : (t : Tid) (stage : Stage) (own : Waiting BufferOut) (handed : Bool) → is_at_once stage handed ≡ true → MarksOf t stage own
     → own.lock.sleep.threads.current ≡ Some t → handed ≡ is_handed own.lock.slept own.lock.sleep.threads.current → waits_at stage ≡ false
     → (slept_for own.waits t ≡ None) × (is_some (slept_for own.lock.slept t) ≡ true)
@@ -248,7 +248,7 @@ module _ {homes : List CpuId} {ActsFor : CpuId → Type 0} {O : LockId → Optio
                 others = others;
               })
 
-  -- the effects, and the answer
+  -- the effects, and the result
   pub called_by : (Acts : CpuId → Type 0) → ((d : CpuId) → Acts d → ActsFor d) → (first : List CallState)
       → call_state.effect ≡ (going (call_state_of first t) call).effect → ((u : Tid) → u.0 ≢ t.0 → call_state_of now u ≡ call_state_of first u)
       → called_at call_state.stage ≡ true → (answer : Option Reply) → answer ≡ (if done then replied call call_state call_state.stage else None)
@@ -282,7 +282,7 @@ module _ {homes : List CpuId} {ActsFor : CpuId → Type 0} {O : LockId → Optio
               rw (is ∙ goes.0, own_call_state) (begun_there later.stage later.call on.1.called ∙ on.0)
           by_stage (inr ends) = rw (is ∙ ends.2, own_call_state ∙ after.recorded_is.1) (ends.3, (ends.0, ends.5 ∙ ends.1, refl))
 
--- what a section poll leaves is what its plan makes of the poll's answer
+-- what a section poll leaves is what its plan makes of the poll's result
 pub recorded_left : (t : Tid) (call : Call) (call_state : CallState) (call_states now : List CallState) (stage : Stage) (cv : Waiting BufferOut)
     (answer : Option BufferOutcome) (done : Bool)
     → done ≡ is_some answer → now ≡ slice_set call_states t.0 (recorded_if call_state stage answer)

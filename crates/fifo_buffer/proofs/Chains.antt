@@ -12,7 +12,7 @@ use Rattle.fifo_buffer.{specs.{Stances.{called_at, waits_at}, SectionPolls.{Buff
 some_of : {A : Type 0} (x : Option A) → is_some x ≡ true → (a : A) × (x ≡ Some a)
 some_of x is = grind arith
 
--- a plan that acts, and one that answers without an action
+-- a plan that acts, and one that returns without an action
 abbrev pub IsAct : {N R S A : Type 0} → Plan N R S A → Type 0
 IsAct (Now left) = ⊥
 IsAct (Act lock name react) = Unit {0}

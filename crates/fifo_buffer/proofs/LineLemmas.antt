@@ -49,7 +49,8 @@ entered_line : (side at : Side) (t : Tid) (x : BufferState)
     → line_of side (entered at t x) ≡ (if same_side side at then line_of side x ++ t ∷ [] else line_of side x)
 entered_line side at t x = grind arith
 
--- those who joined are those who were served, and then those in line; so it stays if one more joins
+-- the threads that entered are those that were served, then those in the line; so it stays if one
+-- more enters
 joins : (v : Bool) (t : Tid) (all before line : List Tid) → all ≡ before ++ line
     → (if v then all ++ t ∷ [] else all) ≡ before ++ (if v then line ++ t ∷ [] else line)
 joins true t all before line is = ap (λ l. l ++ t ∷ []) is ∙ append_assoc before line (t ∷ [])
@@ -170,7 +171,7 @@ module _ (opening : LockId → Option (QueueBlock BufferLock)) (starts : StartsW
   abbrev lock_at : List BufferSection → Option BufferLock
   lock_at past = buffer_lock_at (inner opening) past (Buffer b)
 
-  -- those who joined are those who were served and then those in line
+  -- the threads that entered are those that were served, then those in the line
   IsServed : List BufferSection → Type 0
   IsServed past = (lock : BufferLock) → lock_at past ≡ Some lock
       → joiners_of side (Buffer b) past ≡ served side b.0 (effects_in (inner opening) past) ++ line_of side lock.above

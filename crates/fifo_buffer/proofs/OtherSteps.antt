@@ -145,7 +145,7 @@ module _ (O : LockId → Option BufferLock) (past : List BufferSection) (t : Tid
   not_owned None grip is = absurd (cc is)
   not_owned (Some lock) grip is = grip.0 is
 
-  -- the owner of its buffer's lock is as its section asks
+  -- the owner of its buffer's lock is as its section requires
   pub owner_due : (call : Call) (stage : Stage) (position : ℕ) (effect : Option Effect) → InCall O past t call None None stage position effect
       → IsOwners buffer_rules (section_at t call stage) (owner_in (buffer_lock_at O past (Buffer (buffer_of call))))
   owner_due call Idle position effect now = grind arith

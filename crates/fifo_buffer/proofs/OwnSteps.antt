@@ -86,7 +86,7 @@ module _ {opening : LockId → Option BufferLock} {past : List BufferSection} (c
         drawn_own : drawn opening (Buffer b) side t (section c (Buffer b) e ∷ past) ≡ drawn opening (Buffer b) side t past
         drawn_own = grind (arith, and_right)
 
-  -- an Acquire, where the lock was free, and where it had an owner
+  -- an Acquire, if the lock was free, and if it had an owner
   took_lock : {lined : Bool} {position : ℕ} → lock.owner ≡ None → Stance opening past t b side false false lined position
       → Stance opening (section c (Buffer b) (Acquire t) ∷ past) t b side true false lined position
   took_lock free stance =

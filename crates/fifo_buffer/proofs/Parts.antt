@@ -167,7 +167,7 @@ framed_over Part {cpu_of = cpu_of} framed cpu new_is part others = record {
   holders = λ c other both held. framed.holders c (rw cpu other) both.0 held;
 }
 
--- its event, where it has one, is no section of a buffer
+-- its event, if it has one, is no section of a buffer
 abbrev pub pass_events : List CpuId → CpuId → Pass → Bool → List BufferEvent
 pass_events homes c p done = if done then events_of c (pass_call homes c p) else []
 

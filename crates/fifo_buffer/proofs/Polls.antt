@@ -54,7 +54,7 @@ module _ (opening : LockId → Option (QueueBlock BufferLock)) (c : CpuId) (t : 
       → MayCallCond buffer_monitor_rules (kernel_of opening) c past own under_way (buffer_of call) (section_at t call call_state.stage)
   may_poll_section own under_way may = grind (arith, caller_is, may_for)
 
--- the marks after an answer
+-- the marks after a result
 abbrev slept_list : Tid → BufId → List (Option BufId) → QOut (CvOut BufferOut) → List (Option BufId)
 slept_list t b slept Queued = slice_set slept t.0 (Some b)
 slept_list t b slept other = slept
@@ -176,7 +176,7 @@ module _ (caller : Caller) (stage : Stage) (position : ℕ) (effect : Option Eff
   abbrev e : CvCall BufferEdit
   e = section_at t call stage
 
-  -- the log after foreign events, and after the section
+  -- the log after environment events, and after the section
   abbrev seen : List BufferEvent
   seen = others ++ old
 

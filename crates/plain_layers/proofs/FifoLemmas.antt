@@ -24,7 +24,7 @@ use Rattle.layer_traits.specs.declared.scheds.SchedCall.TheVariants as sched
 
 -- A machine at the start.
 
--- where there was no move there was no event
+-- if there was no move, there was no event
 pub no_events : {E B O : Type 0} (k : Kernel E B O) (past : List (QueueEvent E)) → moves_in k past ≡ [] → past ≡ []
 no_events k [] none = refl
 no_events k (e ∷ past) none = absurd (cc none)
@@ -40,7 +40,7 @@ owned_after ActsFor Acts opening opening' same acts owned = record { all = λ c 
 
 -- A pass.
 
--- a poll of a pass by who acts for every CPU
+-- a poll of a pass by a holder that acts for every CPU
 pub record PolledAlone (opening : LockId → Option (QueueBlock PlainLocked)) (ActsFor : CpuId → Type 0) (c : CpuId) (p : Pass) (result : Option (Unit {0}))
     (old new : List (QueueEvent Attempt)) (own own' : Threads) : Type 0 where
   pub all : (d : CpuId) → d.0 < CPUS → ActsFor d
@@ -84,7 +84,7 @@ module _ (opening : LockId → Option (QueueBlock PlainLocked)) (ActsFor : CpuId
         at_once = λ local. sym same ∙ moved.at_once local;
       }
 
--- a poll that answered leaves nothing under way
+-- a poll that returned a result leaves nothing under way
 pub nothing_under : {A B : Type 0} (r : Option A) (under x : Option B) → IsSome r → under ≡ (if is_some r then None else x) → under ≡ None
 nothing_under r under x answered is = grind arith
 
@@ -116,7 +116,7 @@ effect_kinds t call x f is = grind arith
 slept_current : (out : Tried) (own : Threads) → effect_in out ≡ None → (own_slept (wait_list_by out) own).current ≡ None
 slept_current out own given = grind arith
 
--- a call that answers nothing had no effect
+-- a call without a reply had no effect
 pub reply_none : (call : Call) (effect : Option Effect) → reply_to call effect ≡ None → effect ≡ None
 reply_none call effect given = grind arith
 
@@ -135,7 +135,7 @@ module _ (opening : LockId → Option (QueueBlock PlainLocked)) (c : CpuId) (b :
   effect_is : (x : Option PlainLocked) → option_map (sleep_answer attempts a) x ≡ Some outcome → effect_by a x ≡ effect_in outcome.out
   effect_is x is = grind arith
 
-  -- the effects grow by the call's own, if it has one
+  -- the effects grow by the call's, if it has one
   pub done_entries : plain_entries_in (inner opening) (buffer_sections new)
       ≡ option_to_list (option_map (entry_of c a.thread b) (effect_in outcome.out)) ++ plain_entries_in (inner opening) (buffer_sections old)
   done_entries = grind (arith, effect_is)
@@ -147,7 +147,7 @@ module _ (opening : LockId → Option (QueueBlock PlainLocked)) (c : CpuId) (b :
   pub done_deferred : left.deferred ≡ None
   done_deferred = grind arith
 
-  -- the moves grow by this CPU's own
+  -- the moves grow by this CPU's
   pub done_moves : (Acts : CpuId → Type 0) → MovesGrow Acts c (moves_in (sleep_kernel attempts opening) old) (moves_in (sleep_kernel attempts opening) new)
   done_moves Acts =
       let moves = moves_in (sleep_kernel attempts opening) in

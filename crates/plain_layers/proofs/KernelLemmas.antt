@@ -52,7 +52,7 @@ module _ {E B O : Type 0} (rules : Rules E B O) (mv : MoveRules E O) (wakes : Wa
   abbrev K : Kernel E B O
   K = kernel rules mv (opening_of start)
 
-  -- a queue that opened is there, and holds who is pending by the moves
+  -- a queue that opened is there, and holds the threads that the moves leave pending
   queue_is : (d : CpuId) → IsSome (opening_of start (Pending d)) → slice_get lists.pending.items d.0 ≡ Some (pending_by (moves_in K past) d)
   queue_is d there = grind arith
 
@@ -135,7 +135,7 @@ module _ {E B O : Type 0} (rules : Rules E B O) (mv : MoveRules E O) (wakes : Wa
         blocks = blocks_set b e was.0 c new was.1 was.2.0;
       }
 
-  -- and its answer is that of the calls
+  -- and its result is that of the calls
   pub kernel_answers : (call : QueueCall E) (new : Lists B) (answer : QueueAnswer O) → IsSome (opening_of start (lock_of call))
       → IsDone rules call lists new answer → answer_of K past call ≡ Some answer
   kernel_answers (Push d t) new answer there done = ap Some (sym done.1)

@@ -24,7 +24,7 @@ no_answer : {O : Type 0} (o : Option O) → option_map Answer o ≡ Some Done �
 no_answer o is = grind (arith, is)
 
 module _ {F R P O : Type 0} (told : P → Parcel → O) where
-  -- where the scheduler's call is done something was kept
+  -- if the scheduler's call is done, something was kept
   pub done_keeps : {B : Type 0} (k : Kernel (SleepEdit (QLockEdit F R)) B (Outcome (QOut O))) (past : List (QueueEvent (SleepEdit (QLockEdit F R)))) (b : BufId)
       (d : SleepEdit (QLockEdit F R)) (kept : Option (Unanswered (SleepEdit (QLockEdit F R)) (QOut P))) (hand : Option Tid)
       → HandDefers hand (outcome_in (kept_told told kept)) → answer_to k past (due hand b d) ≡ Some Done → IsSome kept

@@ -1,4 +1,4 @@
--- What the steps of a key ask of the table.
+-- What the steps of a key request of the table.
 use Rattle.std.proofs.Common.{◌≡◌, ℕ, ◌+◌, ◌<◌, ◌≤◌, ◌%◌, ◌^◌, List, [], ◌∷◌, ◌++◌, Option, Some, IsSome, option_map, refl, ap, sym, ◌∙◌, arith, length}
 use Rattle.{atomic_table.specs.{Seated.TableId, Table.{Me, step, Allows, rest}}, event_log.specs.declared.ids.{CpuId.CpuId, LockId.LockId, TheConstants.CPUS}}
 use Rattle.event_log.specs.{declared.events.Event.Event, History.{Adds, Grows, IsLawful}, WordsLog.{cpu_of_event, lock_phase, LockPhase, Idle, Waiting}}
@@ -34,8 +34,8 @@ module _ {E B O : Type 0} (R : Rules E B O) where
         legal = rw started legal;
       }
 
-  -- a key and a word of a lock in a table: which table the key is of and which is asked, the blocks
-  -- that the latter opened with, the token of the key
+  -- a key and a word of a lock in a table: which table the key is of and which one serves the
+  -- request, the blocks that the latter opened with, the token of the key
   module _ (K : WordKind) (law : IsWordKind K) (table z : TableId) (start : List (LockId × B)) (n id word : ℕ) (words_are : z.words ≡ word_count (length start))
       (cpu : CpuId) (kept : ℕ) (me : Me (Home E B) (View E B)) (key : IsKey R cpu kept me) (d : SeatView E B) (b : TableView B)
       (d_is : seat_view_of cpu table me ≡ d) (b_is : table_view_of z start n ≡ b) (of : IsOf b d) (lock : LockId) (exists : IsSome (opened d.start lock)) where
@@ -49,7 +49,7 @@ module _ {E B O : Type 0} (R : Rules E B O) where
     me_is : me ≡ (mine start cpu me.0.seen, me.1)
     me_is = ap (λ (v : View E B). (v, me.1)) (key.view ∙ ap (λ (s : List (LockId × B)). mine s cpu me.0.seen) here.1)
 
-    -- the word lies in the table
+    -- the word is within the table
     lies : (number : ℕ) → number ≤ CPUS → word ≡ word_at (rank_of b.start lock) number → (word ≡ word_at (rank_of start lock) number) × (word < z.words)
     lies number within is =
         let lands : word ≡ word_at (rank_of start lock) number = rw (← b_is) at is in

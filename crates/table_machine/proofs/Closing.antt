@@ -13,7 +13,7 @@ use mathlib.Core.Option.{none, some}
 use native.Mathlib.Decide.{dec_le}
 use lib.ListN.{get_elem?, length-map}
 
--- what lies in the table once it is closed
+-- the contents of the table after it is closed
 pub record Settled {E B O : Type 0} (R : Rules E B O) (table_view : TableView B) (seat_views : List (SeatView E B)) (homes : List (Home E B)) : Type 0 where
   pub log : List (Event (Mark E))
   pub legal : IsLawful (MayCome (R.allowed (opened table_view.start))) log

@@ -1,4 +1,4 @@
--- Where a lock lies among those of the opening.
+-- The position of a lock among those of the opening.
 use Rattle.std.proofs.Common.{◌≡◌, ℕ, zero, suc, ◌<◌, Bool, true, false, if◌then◌else◌, List, [], ◌∷◌, length, map, Some, IsSome, refl, ap, sym, ◌∙◌, arith}
 use Rattle.event_log.{specs.{declared.ids.LockId.LockId, History.same_lock}, proofs.Same.{same_lock_true, same_lock_self}}
 use Rattle.{layer_traits.specs.Protocols.OneLock.{opened, IsMissing, AreDistinct}, table_machine.specs.Layout.rank_of}

@@ -136,7 +136,7 @@ module _ {E B O : Type 0} (R : Rules E B O) where
               ∙ ap (λ (l : List (ℕ × Home E B)). (rank, carries.0) ∷ l) (sym (ap rest carries.1))),
         )
 
-  -- the event is the free of the lock that the CPU was inside, where the slot that the seat carries
+  -- the event is the free of the lock that the CPU was inside, if the slot that the seat carries
   -- was exchanged for one with this block and this edit
   module _ (cpu : CpuId) (kept : ℕ) (table : TableId) (me : Me (Home E B) (View E B)) (lock : LockId) (ticket : ℕ) (block : B) (edit : E) (d : SeatView E B)
       (d_is : seat_view_of cpu table me ≡ d) (key : IsKey R cpu kept me) (inside : lock_phase d.cpu d.seen ≡ Holding lock ticket) where

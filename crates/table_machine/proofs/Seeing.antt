@@ -36,7 +36,7 @@ module _ {E B : Type 0} where
     lent = λ c has. since_more c es log v.told (h c (inr has)) (f.lent c has);
   }
 
-  -- the CPUs of a view that has taken in all are its own
+  -- the CPUs for which a view acts after it has merged all
   pub owns_viewed : (start : List (LockId × B)) (cpus : List CpuId) (log : List (Event (Mark E))) (c : CpuId) → Owns c (caught_up start cpus log) → Has c cpus
   owns_viewed start cpus log c (inl has) = has
   owns_viewed start cpus log c (inr nothing) = absurd nothing

@@ -107,7 +107,7 @@ module _ (K : WordKind) {E B O : Type 0} (R : Rules E B O) (n : ℕ) (start : Li
     look_may : MayCome (R.allowed (opened start)) kept.log look
     look_may = ((lock_phase_since cpu kept.log seen (since s kept id cpu seen at) ∙ waits, refl), tt)
 
-    -- what the step leaves, as the call of `load` asks it
+    -- what the step leaves, as the call of `load` requests it
     abbrev LookLeaves : Type 0
     LookLeaves = (w : View E B) × (a : Act (Home E B)) × Valid s.homes [] a × TableInv K R n start (stepped s place (slice_index s.words place) id [] w a)
         × LookedAtWord K R (mine start cpu seen, []) (slice_index s.words place) (w, carried_after [] a)

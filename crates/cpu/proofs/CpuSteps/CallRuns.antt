@@ -18,7 +18,7 @@ use Rattle.cpu.proofs.OverLayer.CpuOverLayer.{IsLayered, PartLaws, layered, acts
 use Rattle.cpu.proofs.{ListFacts.{GuestLists.{at_same, count_with, guest_within, programs_with}, ListReads.set_twice}, StepTable.TablePolls.TabledPoll}
 use Rattle.cpu.proofs.StepTable.{TablePolls.{poll_tabled, poll_steps as poll_by_table}, TableCalls.{fifo_follows, hand_preserved, looked_steps}}
 
--- a call that is answered has had an effect
+-- a call that has a reply has had an effect
 replies_so : (call : Call) (state : CallState) (answer : Option Reply) → Answered call state answer → Replies call state.effect answer
 replies_so call state None answered = tt
 replies_so call state (Some reply) answered = answered.1

@@ -1,4 +1,4 @@
--- A CPU at one moment with what holds of it then, as the lemmas about its steps take it.
+-- A CPU at one moment with its invariant, as the lemmas about its steps take it.
 use Rattle.std.proofs.Common.{◌≡◌, ℕ, Bool, false, List, slice_get, Option, Some, None, IsSome}
 use Rattle.layer_traits.specs.{Views.OwnParts.threads_in, declared.call_states.CallState.CallState, Threads.Places.{Threads, home_of}}
 use Rattle.{layer_traits.specs.{Polling.Plans.is_in_section, Layers.BufferLaw.{Buffering, UnderWay}}, event_log.specs.declared.entries.Entry.Entry}
@@ -48,7 +48,7 @@ valid_cpu {homes} {buffers} {seen} {own} {call_states} {under_way} {number} {gue
   is = is;
 }
 
--- a CPU over the tower, by the whole state of its part, that is as the table asks
+-- a CPU over the tower, given by the whole state of its part, that is as the step table requires
 pub record TabledCpu : Type 0 where
   pub state : CpuState
   pub open state use *

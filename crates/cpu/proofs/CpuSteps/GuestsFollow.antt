@@ -19,11 +19,11 @@ pub may_poll_call : (call_state : CallState) (c : Call) → IsSettled call_state
     → MayPollCall call_state c
 may_poll_call call_state c settled either = grind arith
 
--- an answered call state is settled
+-- a call state with a reply is settled
 pub stays_settled : (c : Call) (call_state : CallState) (answer : Option Reply) → Answered c call_state answer → IsSettled call_state
 stays_settled c call_state answer is = grind arith
 
--- an answer and what the call state then says, on plain values
+-- a result, and what the call state then implies, on plain values
 abbrev pub AnsweredBy : Call → Option Call → Option Effect → Option Reply → Type 0
 AnsweredBy c saved effect None = saved ≡ Some c
 AnsweredBy c saved effect (Some reply) = (saved ≡ None) × ((f : Effect) × (effect ≡ Some f) × (reply ≡ reply_of c f))
@@ -98,7 +98,7 @@ module _ (program : List Instruction) (s : State) (i : Instruction) (c : Call) (
       ))
   before Ended es saved effect follows = absurd (cc (subst (λ (j : Instruction). todo_at s j ≡ Calls c) (sym at ∙ follows.2) todo))
 
-  -- an effect is fresh where the call had none before
+  -- an effect is fresh if the call had none before
   fresh_none : (stage : GuestStage) (es : List Entry) (saved : Option Call) (effect left : Option Effect)
       → HasComeIn stage program s es saved effect → had saved effect ≡ None → fresh_effect stage left ≡ left
   fresh_none stage es saved effect left follows none = grind arith

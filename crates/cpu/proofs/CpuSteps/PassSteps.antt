@@ -14,7 +14,7 @@ use Rattle.cpu.{specs.Cpus.{is_begun_guest, of_cpu, of_thread, passed_by, with_g
 use Rattle.cpu.proofs.{ListFacts.GuestLists.guest_within, CpuSteps.CpuStates.ValidCpu}
 use Rattle.guest.specs.declared.instructions.Instruction.TheVariants as ins
 
--- an instruction that asks for no call: the guest is in none
+-- an instruction that requests no call: the guest is in none
 pub in_no_call : (g : Guest) (es : List Entry) (begun : Option Call) (effect : Option Effect) (todo : Todo)
     → HasComeIn g.stage g.program g.thread es begun effect
     → todo_of g ≡ todo → ((c : Call) → todo ≡ Calls c → ⊥) → (is_calling g.stage ≡ false) × (is_begun g.stage ≡ false)
@@ -96,7 +96,7 @@ module _ (cpu : ValidCpu) where
           go (inl equal) = (f g, subst (λ (k : ℕ). guest_at (with_guest guests t.0 f) k ≡ Some (f g)) (sym equal) (at_same guests t.0 f g at))
           go (inr other) = (there.0, at_other guests t.0 u.0 f other ∙ there.1)
 
-  -- What is chosen, by who runs.
+  -- What is chosen, by the running thread.
   pub computes_at : (t : Tid) → chosen own guests ≡ Computes t → (own.current ≡ Some t) × ((g : Guest) × (guest_at guests t.0 ≡ Some g) × (todo_of g ≡ Compute))
   computes_at t chose = grind arith
 
@@ -180,7 +180,7 @@ module _ (cpu : ValidCpu) where
   pub current_within : ((t : Tid) → own.current ≡ Some t → home_of homes t ≡ Some number) → (t : Tid) → own.current ≡ Some t → t.0 < length guests
   current_within home t runs = let there = is.homed t (home t runs) in guest_within guests t.0 there.0 there.1
 
-  -- a pass that has not answered
+  -- a pass that has not ended
   pub noted_wait : (pass : Pass) (seen2 : List Entry) (own2 : Threads) (under_way2 : Option UnderWay) → chosen own guests ≡ Passes pass
       → of_cpu number seen2 ≡ of_cpu number seen → own2 ≡ own → under_way2 ≡ Some (Passing pass)
       → IsCpu homes buffers seen2 own2 call_states under_way2 number guests trace limit capacity

@@ -1,4 +1,4 @@
--- What a step leaves beside the guests: how effects and actions grow, and the steps in which no
+-- What a step leaves apart from the guests: how effects and actions grow, and the steps in which no
 -- guest's call continues.
 use Rattle.std.proofs.Common.{◌≡◌, ◌==◌, List, [], ◌∷◌, ◌++◌, Option, Some, None, refl, ap, ◌∙◌, arith}
 use Rattle.event_log.specs.{declared.{entries.Entry.Entry, ids.{CpuId.CpuId, LockId.LockId, Tid.Tid}}, Actions.{Action, Try, Phase, action_in, cpu_of_action}}
@@ -44,7 +44,7 @@ none_seen ActsFor cpu old new is = record { others = []; mine = []; foreign = λ
 pub none_moved : (ActsFor : CpuId → Type 0) (cpu : CpuId) (old new : List Step) → new ≡ old → MovesGrow ActsFor cpu old new
 none_moved ActsFor cpu old new is = record { others = []; mine = []; foreign = λ c acts. tt; own = tt; is = is }
 
--- a pass moves at most its CPU's own threads
+-- a pass moves at most its CPU's threads
 pub passed_grows : (homes : List CpuId) (ActsFor : CpuId → Type 0) (c : CpuId) (call : Pass) {A : Type 0} (result : Option A) (old new : List Step)
     (own own' : Threads) → PassPolled homes ActsFor c call result old new own own' → MovesGrow ActsFor c old new
 passed_grows homes ActsFor c call None old new own own' polled =
@@ -73,7 +73,7 @@ called_grows ActsFor cpu t call call_states left old new answer called = go call
           is = is;
         }
 
--- effects of others leave a CPU's own
+-- effects of other CPUs leave a CPU's own unchanged
 pub others_same : (ActsFor : CpuId → Type 0) (number : CpuId) (old new : List Entry) → OthersSeen ActsFor old new → ActsFor number
     → of_cpu number new ≡ of_cpu number old
 others_same ActsFor number old new seen acts = ap (λ (l : List Entry). of_cpu number l) seen.is ∙ cpu_same ActsFor number seen.others old seen.foreign acts

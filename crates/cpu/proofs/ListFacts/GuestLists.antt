@@ -40,7 +40,7 @@ pub at_programs : (guests : List (Option Guest)) (t : ℕ) → get_or (programs_
 at_programs (x ∷ guests) (suc t) = at_programs guests t
 at_programs guests t = refl
 
--- where the change keeps the guest's program, the programs stay
+-- if the change keeps the guest's program, the programs stay
 pub programs_with : (guests : List (Option Guest)) (t : ℕ) (f : Guest → Guest) → ((g : Guest) → (f g).program ≡ g.program)
     → programs_of (with_guest guests t f) ≡ programs_of guests
 programs_with guests t f keeps =
@@ -67,12 +67,12 @@ pub none_of : (number : CpuId) (others : List Entry) → AreOthers cpu_of_entry 
 none_of number [] theirs = refl
 none_of number (e ∷ others) theirs = rw theirs.0 (none_of number others theirs.1)
 
--- this CPU's entries after foreign ones
+-- this CPU's entries after those of the environment
 pub cpu_same : (ActsFor : CpuId → Type 0) (number : CpuId) (others old : List Entry) → AreForeign ActsFor cpu_of_entry others → ActsFor number
     → of_cpu number (others ++ old) ≡ of_cpu number old
 cpu_same ActsFor number others old foreign acts = grind (arith, filter-append, none_of)
 
--- and after an own one too
+-- and after one of its own too
 pub cpu_grown : (ActsFor : CpuId → Type 0) (number : CpuId) (t : Tid) (b : BufId) (mine : Option Effect) (others old : List Entry)
     → AreForeign ActsFor cpu_of_entry others → ActsFor number
     → of_cpu number (entries_of number t b mine ++ (others ++ old)) ≡ entries_of number t b mine ++ of_cpu number old

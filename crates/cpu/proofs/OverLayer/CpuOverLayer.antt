@@ -12,8 +12,8 @@ use borrow.Fn.World.{World}
 use denote.RattleType.{RattleType}
 use mir.Syntax.{Dict}
 
--- what always holds of a CPU whose part fits the machine; what names the whole state of a part is
--- said of a layer whose polls are actions
+-- the invariant of a CPU whose part agrees with the machine; clauses on the whole state of a part
+-- are about a layer whose polls are actions
 pub record IsLayered {P L M : Type 0} (I : Ghosts P L M) (m : M) (p : Cpu P M) : Type 0 where
   pub number : I.cpu_of p.part ≡ p.number
   pub acts : I.ActsFor m (I.cpu_of p.part)

@@ -80,7 +80,7 @@ module _ {P L M : Type 0} (I : Ghosts P L M) (owner : M → BufId → Option Tid
         ) at left.number left.cpu fits keeps table (λ z before step. rw left.opening (before step)) (λ z other there. left.others z.part other there) left.acts
         left.holders left.seen left.grows known (ap homes_in left.opening) (ap caps_in left.opening) left.room live
 
--- from what always holds of each CPU to what is shown of it
+-- from the invariant of each CPU to what is shown of it
 pub cpus_have : {P L M : Type 0} (I : Ghosts P L M) (m : M) (cpus : List (Cpu P M))
     → ((k : ℕ) (x : Cpu P M) → slice_get cpus k ≡ Some x
     → IsAt (λ y. I.Fits y.part m × (I.cpu_of y.part ≡ y.number) × IsCpuAt I m y × (I.IsStepwise → IsTabledAt I m y)) (λ y. y.number) k x)

@@ -14,7 +14,7 @@ use Rattle.cpu.proofs.{ListFacts.ListReads.{listed_there, shows_at, there_is}, T
 use Rattle.event_log.specs.declared.ids.LockId.TheVariants as lock
 use Rattle.layer_traits.specs.declared.calls.Place.TheVariants as place
 
--- a thread has ended in the table exactly where its part has it among those that have ended
+-- a thread has ended in the table exactly if its part has it among those that have ended
 pub ended_is : (own : Buffering) (guests : List (Option Guest)) (trace : List Entry) (t : Tid) → t.0 < length guests
     → (thread_at (private own guests trace) t).ended ≡ is_in t (threads_in own).ended
 ended_is own guests trace t within =

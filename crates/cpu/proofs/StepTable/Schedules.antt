@@ -14,7 +14,7 @@ pub record Leads (IsStepwise : Type 0) (s : Shown) (schedule : List CpuId) (r : 
   pub ran : Ran IsStepwise s schedule r
   pub table : IsStepwise → RanByTable s schedule r
 
--- no step leads to where a system is
+-- no step leads to the system itself
 pub leads_nowhere : (IsStepwise : Type 0) (s : Shown) → Leads IsStepwise s [] s
 leads_nowhere IsStepwise s = record {
   plan = record { caps = refl; homes = refl; programs = refl; count = refl; limits = refl; room = refl };

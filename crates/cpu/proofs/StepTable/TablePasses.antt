@@ -1,5 +1,5 @@
--- A poll of a pass, and an instruction of a thread's own, are steps of the table, and the CPU stays
--- as the table asks.
+-- A poll of a pass, and an instruction that shares nothing, are steps of the table, and the CPU
+-- stays as the table requires.
 use Rattle.std.proofs.Common.{◌≡◌, ℕ, ◌<◌, Bool, true, false, ◌||◌, List, [], ◌∷◌, ◌++◌, length, slice_get, slice_set, Option, Some, None, IsSome, option_map}
 use Rattle.std.proofs.{Common.{refl, ap, sym, ◌∙◌, subst, arith}, lemmas.List.map-set, Math.Bool.or-true}
 use Rattle.layer_traits.specs.{Views.OwnParts.threads_in, declared.{calls.Call.Call, passes.Pass.{Pass, TheVariants.{Switch, YieldNow, Drain, MakeReady, End}}}}
@@ -35,7 +35,7 @@ local_at setup c p t s i is = grind arith
 unbegun : (f : Call → TableCall) (call_state : CallState) → call_state.stage ≡ at_stage.Idle → option_map f (begun_of call_state) ≡ None
 unbegun f call_state at_idle = ap (λ s. option_map f (begun_of (record call_state { stage = s }))) at_idle
 
--- the states of the guests, where one guest changed
+-- the states of the guests after one guest changed
 states_changed : (guests : List (Option Guest)) (t : ℕ) (f : Guest → Guest) (g : Guest) → guest_at guests t ≡ Some g
     → guest_states (with_guest guests t f) ≡ slice_set (guest_states guests) t ((f g).thread)
 states_changed guests t f g at = grind (arith, map-set)
@@ -332,7 +332,7 @@ module _ (cpu : TabledCpu) where
               end_step t g runs has at (not_calling t g Finish at asks (λ c e. absurd (cc e))) same asks done.0
               (ap (λ (l : Left Buffering (Unit {0})). l.own) done.1) tt (ap (λ (l : Left Buffering (Unit {0})). l.answer) done.1)
 
-  -- An instruction of the thread's own.
+  -- An instruction that shares nothing.
 
   module _ (t : Tid) (chose : chosen (threads_in own) guests ≡ Computes t) where
     abbrev does : ((threads_in own).current ≡ Some t) × ((g : Guest) × (guest_at guests t.0 ≡ Some g) × (todo_of g ≡ Compute))

@@ -40,7 +40,7 @@ row_first : (c : CpuId) (p : Private) (h : CpuId) (homes : List CpuId) (o : Opti
     → Rows c p (h ∷ homes) (o ∷ guests) n → Row c p (tid n) h o
 row_first c p h homes o guests n rows = let e : n + 0 ≡ n = omega arith in subst (λ m. Row c p (tid m) h o) e (rows 0 h refl)
 
--- all have ended where all are over, and as many calls are open as have begun
+-- all have ended if all are over, and as many calls are open as have begun
 rows_told : (c : CpuId) (p : Private) (homes : List CpuId) (guests : List (Option Guest)) (n : ℕ) → length guests ≡ length homes → Rows c p homes guests n
     → (have_ended p (home_threads_from c homes n) ≡ list_all is_over guests) × (open_calls p (home_threads_from c homes n) ≡ begun_count guests)
 rows_told c p [] [] n long rows = (refl, refl)

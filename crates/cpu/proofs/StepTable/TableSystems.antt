@@ -6,7 +6,7 @@ use Rattle.{event_log.proofs.{Foreign.cpus_of_actions_known, Same.same_cpu_self}
 use Rattle.{layer_traits.specs.Polling.Along.IsStep, cpu.specs.Table.{Blocks.Name, Setups.{Setup, Private}, Steps.{Stepping, cpu_step, system_step}}}
 use Rattle.cpu.{specs.{Tower.{Composed.named, Views.TowerName}, Claims.CpuShown}, proofs.ListFacts.ListReads.{all_left, all_right, shows_at}}
 
--- where the holder acts for each CPU that there may be, no action is foreign
+-- if the holder acts for each CPU that may exist, no action is the environment's
 none_else : {N : Type 0} (ActsFor : CpuId → Type 0) (others : List (Action N)) → ((c : CpuId) → c.0 < CPUS → ActsFor c)
     → AllByRecursion (λ a. (cpu_of_action a).0 < CPUS) others → AreForeign ActsFor cpu_of_action others → others ≡ []
 none_else ActsFor [] all known foreign = refl

@@ -34,7 +34,7 @@ module _ (runner : Runner) (hand : Option Tid) (deferred : Option TowerOut) (tra
       (put_same guests t.0 (state_at guests t) at_start refl i) trace)
       ∙ runner_goes runner hand deferred hand ready deferred call_state (state_at guests t) trace s w is_s is_w
 
--- the plan of a poll, where the call state is this
+-- the plan of a poll, given this call state
 pub fifo_at : (setup : Setup) (c : CpuId) (t : Tid) (call : TowerCall) (own : Buffering) (call_state : CallState) → call_state_of own.call_states t ≡ call_state
     → fifo_plan setup.homes c t call own ≡ plan_at setup.homes c t call (going call_state call).stage (going call_state call) own
 fifo_at setup c t call own call_state is = ap (λ x. plan_at setup.homes c t call (going x call).stage (going x call) own) is
@@ -127,7 +127,7 @@ module _ (caller : Caller) where
       → fifo_plan setup.homes c t call was ≡ fifo_plan setup.homes c t call (handed_own Tries)
   handed_again_plan b is s w = grind (arith, fifo_at, now_call_state)
 
-  -- the plan of a thread that was woken is to ask for the lock again
+  -- the plan of a thread that was woken acquires the lock again
   pub woken_plan : (b : BufId) → call_state_of call_states t ≡ so Waits → slept_for slept t ≡ None → slept_for waits t ≡ Some b
       → fifo_plan setup.homes c t call was ≡ fifo_plan setup.homes c t call (woken_own AcquiresAgain)
   woken_plan b is s w = grind (arith, fifo_at, now_call_state)

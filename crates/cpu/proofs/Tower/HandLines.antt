@@ -1,5 +1,5 @@
--- The plan of a begun call is a line of the table, where a thread that its section woke is in the
--- hand: it is put among its home's pending.
+-- The plan of a begun call is a row of the table while a thread that its section woke is in the
+-- hand: the thread is appended to its home CPU's pending threads.
 use Rattle.std.proofs.Common.{◌≡◌, inr, ◌<◌, Bool, true, false, List, length, slice_get, slice_set, Option, Some, None, IsSome, refl, ap, sym, ◌∙◌, subst}
 use Rattle.std.proofs.{Common.arith, lemmas.List.get_or-set_same}
 use Rattle.{event_log.specs.declared.ids.{LockId.TheVariants.Pending, Tid.Tid}, guest.specs.State.State, thread_blocks.specs.Queues.is_in}
@@ -49,7 +49,7 @@ module _ (site : Site) (u : Tid) (f : Effect) (known : IsSome (slice_get site.se
   abbrev after : TowerOut → Left Buffering Reply → Private
   after outcome left = private_after setup c t call (own_with outcome) guests trace left
 
-  -- a section that woke thread u: its plan is to send u, and then the call is so
+  -- a section that woke thread u: its plan sends u, and then the call is so
   pub record Sends (out : TowerOut) (stage : Stage) (state2 : CallState) (answer : Option Reply) : Type 0 where
     pub stands : CallStands stage (Some u) (Some out) None None (Some f)
     pub plan : plan_at setup.homes c t call stage (here stage) (own_with out) ≡ sends out stage (section_at t call stage)

@@ -107,7 +107,7 @@ module _ (setup : Setup) (c : CpuId) (guests : List State) (trace : List Entry) 
         here : thread_of (own_at None None ready (ended ++ t ∷ []) None slept waits call_states) t g ≡ record { guest = g; call = None; ended = true }
         here = grind (arith, pushed_in, same_tid_self, or-true)
 
-  -- an instruction of the thread's own
+  -- an instruction that shares nothing
   pub computed_now : (own : Buffering) (t : Tid) (guest : State) → t.0 < length guests
       → private_of own (slice_set guests t.0 guest) trace ≡ with_state (private_of own guests trace) t guest
   computed_now own t guest within =

@@ -1,5 +1,5 @@
--- A poll of a CPU: the system in which it is a step, the log before and after it, and the line of
--- the table that it goes.
+-- A poll of a CPU: the system in which it is a step, the log before and after it, and its row of
+-- the table.
 use Rattle.std.proofs.Common.{◌≡◌, List, Option}
 use Rattle.{event_log.specs.{declared.ids.{CpuId.CpuId, LockId.LockId}, Actions.{Action, phase}}, layer_traits.specs.Layers.BufferLaw.Buffering}
 use Rattle.{layer_traits.specs.Polling.Plans.{Left, Plan}, cpu.specs.{Table.{Setups.{Setup, Private}, Steps.{acting, cpu_step}}, Tower.Views.TowerAnswer}}

@@ -48,7 +48,7 @@ module _ {A : Type 0} (polled : Polled) (way : Way A polled) (got : Left Bufferi
   step_is = goes past (ap (phase c) planned.acted.joined ∙ phase_others c planned.acted.others old (planned.acted.foreign c acts))
       ∙ ap (λ (x : Ask). acting_on setup c q x.lock x.name (named past)) line.asks
 
-  -- the table's answer is the view of the layers'
+  -- the table's result is the view of the layers'
   answer_is : option_map answer_view (reply tower opening c line.lock line.name past)
       ≡ reply table_kernel (table_opening setup) c line.lock (name_of line.name) (named past)
   answer_is =
@@ -134,7 +134,7 @@ pub choice_idle : (setup : Setup) (c : CpuId) (p : Private) → p.hand ≡ None 
     → choice setup c p ≡ at_ready p p.ready
 choice_idle setup c p hand current halted = grind arith
 
--- a thread in the hand comes first
+-- a thread in the hand precedes all else
 pub choice_hand : (setup : Setup) (c : CpuId) (p : Private) (u : Tid) → p.hand ≡ Some u → choice setup c p ≡ Goes p
 choice_hand setup c p u hand = ap (at_hand setup c p) hand
 

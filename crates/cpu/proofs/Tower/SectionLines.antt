@@ -29,7 +29,7 @@ use Rattle.layer_traits.specs.declared.locked.QOut.TheVariants as lock
 use Rattle.layer_traits.specs.declared.conditions.CvOut.TheVariants as cv
 use Rattle.layer_traits.specs.declared.queue_edits.QueueBlock.TheVariants as block
 
--- What a call's sections are, by what it asks.
+-- A call's sections, by what it asks for.
 
 -- a call that closes
 abbrev pub IsShutting : TowerCall → Type 0
@@ -53,8 +53,7 @@ first_answer t (Send b m) x = inl (record { lined = tt; pos = x.sends; is = refl
 first_answer t (Recv b) x = inl (record { lined = tt; pos = x.receives; is = refl })
 first_answer t (Close b) x = inr (record { shuts = tt; op = x.effects; pos = x.closes; is = refl })
 
--- a try that has its effect: it found the buffer closed or not, and then the call's own message
--- stays
+-- a try that takes effect: it found the buffer closed or not, and then the call's own message stays
 pub record Tried (t : Tid) (call : TowerCall) (x : BufferState) : Type 0 where
   pub closed : Bool
   pub op : ℕ
@@ -93,7 +92,7 @@ calm_out out = record { out = out; slept = false; woke = None }
 abbrev pub waking_out : QOut (CvOut BufferOut) → Tid → TowerOut
 waking_out out u = record { out = out; slept = false; woke = Some u }
 
--- what is answered to an Acquire, to an edit inside, to a signal, a leave and a wait
+-- the results of an Acquire, of an edit inside, of a signal, a leave and a wait
 abbrev pub asked_out : Option Tid → TowerOut
 asked_out o = record { out = asker_report o; slept = is_some (wait_list_asked o); woke = None }
 
@@ -202,7 +201,7 @@ module _ (site : Site) (effect : Option Effect) (is_effect : HasHad site effect)
   abbrev pub react : Stage → CvCall BufferEdit → Option TowerAnswer → Left Buffering Reply
   react stage s = react_in (fresh stage s)
 
-  -- the plan of a stage, and what it makes of an answer
+  -- the plan of a stage, and what it makes of a result
   abbrev pub plan : Stage → BufferPlan Reply
   plan stage = plan_at setup.homes c t call stage (call_state stage) own
 
@@ -215,7 +214,7 @@ module _ (site : Site) (effect : Option Effect) (is_effect : HasHad site effect)
   abbrev pub waiting : Left (Locking (CvOut BufferOut)) TowerOut → Left (Waiting BufferOut) TowerOut
   waiting l = left_waiting t buf waits l.own l.answer
 
-  -- what the part leaves after a section with this outcome, where the threads are now these
+  -- what the part leaves after a section with this outcome, with these threads
   abbrev pub lift : Stage → TowerOut → Threads → Left Buffering Reply
   lift stage outcome own2 = left_recorded t call (call_state stage) call_states stage (waiting (locked (left_done outcome own2)))
 
@@ -239,7 +238,7 @@ module _ (site : Site) (effect : Option Effect) (is_effect : HasHad site effect)
   abbrev pub putting : Call → Call → List Entry → Thread → Private
   putting now next trace2 x = put setup c ready threads trace t g e within now next trace2 x
 
-  -- what the table makes of an answer
+  -- what the table makes of a result
   abbrev pub by_answer : Stage → TowerOut → Private
   by_answer stage out = after_section setup c (from stage) (answer_view (told.Answer out))
 
@@ -285,7 +284,7 @@ module _ (site : Site) (effect : Option Effect) (is_effect : HasHad site effect)
       by_home u (λ b. lift stage (waking_out out u) (waking (Some t) u b)) (woke_to next u) each hand known
       ∙ sym (by_table stage (waking_out out u) (k next) trace is)
 
-  -- An answer of the layers is taken as the table takes it, whatever effect the call has had.
+  -- The table makes the same of a result of the layers, whatever effect the call has had.
 
   abbrev Fits : Stage → TowerOut → Type 0
   Fits stage out = HandIsKnown setup (reacted stage out).own → after (reacted stage out) ≡ by_answer stage out
@@ -298,7 +297,7 @@ module _ (site : Site) (effect : Option Effect) (is_effect : HasHad site effect)
       runs stage out (call_state next) (k next) trace is stays
       (λ i. parts (Some t) ready None (slice_set threads t.0 (same i)) (same_trace c t buf effect trace i))
 
-  -- it asks for the lock, and has it or sleeps for it
+  -- it acquires the lock, and has it or sleeps for it
   sleeps : (stage next : Stage) (owner : Tid) → Records stage (asked_out (Some owner)) (k next) trace
       → thread_from (call_state stage) (Some buf) None false e g ≡ with_call (k next)
       → after (left_gone None ready (slice_set slept t.0 (Some buf)) waits stage) ≡ by_answer stage (asked_out (Some owner))
@@ -427,7 +426,7 @@ module _ (site : Site) (f : Effect) (had : HasHad site (Some f)) where
 
 -- Each stage.
 
--- where a call's next section is due, its plan is this section's
+-- if a call's next section is due, its plan is this section's
 pub section_planned : (site : Site) {effect : Option Effect} (had : HasHad site effect) {stage : Stage} → CallStands stage None None None None effect
     → plan site effect had stage ≡ fresh site effect had stage (call_section site.t site.call stage)
 section_planned site had asks = grind arith
@@ -439,7 +438,7 @@ pub stands_as : (site : Site) (effect : Option Effect) (had : HasHad site effect
     ≡ with_call site effect had (k site effect had stage)
 stands_as site effect had stage given = grind arith
 
--- the table asks for the section under its own name
+-- the table requests the section under its own name
 named_so : (t : Tid) (call : TowerCall) (position : ℕ) {effect : Option Effect} {stage : Stage} → CallStands stage None None None None effect
     → FitsStage stage (Some call) → section_due t (call_from call position effect stage) stage ≡ name_of (queue.Above (call_section t call stage))
 named_so t call position given fits = grind arith

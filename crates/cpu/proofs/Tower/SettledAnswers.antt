@@ -1,4 +1,4 @@
--- What the table makes of the answer of a section of the current thread's call.
+-- What the table makes of the result of a section of the current thread's call.
 use Rattle.std.proofs.{Common.{◌≡◌, ◌<◌, Bool, List, length, slice_set, Option, Some, None, ap, ◌∙◌}, lemmas.List.{get_or-set_same, set-set}}
 use Rattle.{event_log.specs.declared.{entries.Entry.Entry, ids.{CpuId.CpuId, Tid.Tid}}, guest.specs.State.{State, next_of}, cpu.specs.Table.Blocks.Answer}
 use Rattle.cpu.specs.Table.{Setups.{Setup, Call, Thread, Private, new_thread, program_of, thread_at}, Choice.{after_by, after_section, asked, asked_by}}
@@ -27,7 +27,7 @@ module _ (setup : Setup) (c : CpuId) (ready : List Tid) (threads : List Thread) 
   pub asks_for : (call : Call) → asked setup c (from_t call) ≡ at_buffer call.buffer (section_due t call call.stage)
   asks_for call = ap (λ x. asked_by c t x.call) (there (calling call) ready None trace)
 
-  -- the table's private state after a section whose answer leaves the call so
+  -- the table's private state after a section whose result leaves the call so
   abbrev pub put : Call → Call → List Entry → Thread → Private
   put call next trace2 x = parts (Some t) ready None (slice_set (slice_set threads t.0 (calling call)) t.0 (record x { call = Some next })) trace2
 

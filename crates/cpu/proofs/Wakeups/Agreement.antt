@@ -104,7 +104,7 @@ pub runs_within : (setup : Setup) (c : CpuId) (p : Private) (T : Tid → Visit) 
     → (t : Tid) → p.current ≡ Some t → t.0 < length p.threads
 runs_within setup c p T P agrees t is = local_within setup c p T P agrees t (runs_at_home setup c p T P agrees t is).0
 
--- The caller goes to sleep.
+-- The caller falls asleep.
 
 pub agrees_slept : (setup : Setup) (c : CpuId) (p : Private) (t : Tid) (T : Tid → Visit) (P N : Tid → Where) (slept : Bool) → Agrees setup c p T P
     → p.current ≡ Some t → ((u : Tid) → same_tid t u ≡ false → N u ≡ P u) → (slept ≡ false → N t ≡ P t)

@@ -34,8 +34,8 @@ good_none setup = grind (arith, same_buffer, paired, marked_none, and_right)
 
 -- How a section moves a thread.
 
--- after a section of CPU c at buffer d a thread was woken there, has gone to sleep there as the
--- section's caller, or is where it was
+-- after a section of CPU c at buffer d a thread was woken there, fell asleep there as the section's
+-- caller, or is where it was
 pub data Moves (setup : Setup) (c : CpuId) (d : BufId) (u : Tid) (name : Name) (post now : Where) : Type 0 where
   was_woken : nat_lt u.0 THREADS ≡ true → sleeps_at d post ≡ true → now ≡ post_woken setup c u → Moves setup c d u name post now
   has_slept : post ≡ Home → is_caller u name ≡ true → now ≡ waiters_of d name → Moves setup c d u name post now

@@ -194,7 +194,7 @@ module _ (setup : Setup) (c : CpuId) (t : Tid) where
           block = grind (arith, past, asks, block_next);
         }
 
-    -- a signal, whomever it wakes
+    -- a signal, whichever thread it wakes
     signals : (n left : ℕ) (woke : Option Tid) → answer_of_buffer (section_due t call call.stage) k ≡ wakes woke
         → Gets s n k call traced (left + (3 + steps_to_move setup c woke)) → Gets s (n + (3 + steps_to_move setup c woke)) next more traced left
     signals n left None told gets = signals_none n left told gets
@@ -208,7 +208,7 @@ module _ (setup : Setup) (c : CpuId) (t : Tid) where
             subst (λ m. Gets s m next more traced left) same
             (signals_away n left u away told (with_less s n k call traced (left + 6) ((left + 3) + 3) (omega arith) got))
 
-  -- the call has returned, with this trace; one step before it was under way
+  -- the call has returned, with this trace; one step earlier it was under way
   pub record Returned (s : Whole) (n : ℕ) (traced : List Entry) : Type 0 where
     pub now : Private
     pub here : slice_get (steps_by setup c n s).cpus c.0 ≡ Some now

@@ -17,7 +17,7 @@ is_before Releases = false
 is_before Idle = false
 is_before stage = true
 
--- what a call asks that has a line
+-- what a call that has a line asks for
 abbrev pub HasLine : Group → Type 0
 HasLine Closes = ⊥
 HasLine asks = Unit {0}
@@ -69,7 +69,7 @@ module _ (setup : Setup) (c : CpuId) where
   fine_slept : (slept : Bool) (p : Private) → AllFine setup p → AllFine setup (slept_if slept p)
   fine_slept slept p fine = grind arith
 
-  -- where a thread's number is past the list, nothing is set
+  -- if a thread's number is past the list, nothing is set
   fine_set : (p : Private) (t : Tid) (x : Thread) → AllFine setup p → Fine setup t x → AllFine setup (with_thread p t x)
   fine_set p t x fine now = by_place (cases_lt t.0 (length p.threads))
     where

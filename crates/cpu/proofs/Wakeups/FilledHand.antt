@@ -13,7 +13,7 @@ empty_filled : (p : Private) → p.hand ≡ None → IsFilled p
 empty_filled p empty t full runs_now = refuted (ap is_some empty) full
 
 module _ (setup : Setup) (c : CpuId) where
-  -- a state whose hand is empty keeps it so where it settles
+  -- a state whose hand is empty keeps it so when it settles
   settled_empty : (p : Private) → p.hand ≡ None → (hand current : Option Tid) → (returned_in setup p hand current).hand ≡ None
   settled_empty p empty hand current = grind arith
 

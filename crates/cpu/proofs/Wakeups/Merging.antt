@@ -131,7 +131,7 @@ cut setup c n p log (steps {n = m} {p = q} {log = before} along taken) =
           way = stays;
         }
 
--- the way of a CPU before any action
+-- the steps of a CPU before any action
 from_boot : (setup : Setup) (c : CpuId) (n : ℕ) (p : Private) (log : List (Action Name)) → AlongTable setup c n p log → log ≡ []
     → Way setup c [] (boot_of setup c) p
 from_boot setup c n p log starts = λ is. stays
@@ -154,7 +154,7 @@ record Reached (setup : Setup) (log : List (Action Name)) (R : ℕ → Private �
   way : Goes setup sched ps log
   all : (k : ℕ) → k < setup.cpus → (p : Private) × (slice_get ps k ≡ Some p) × R k p
 
--- one CPU has gone on without an action, and no other
+-- one CPU has taken steps without an action, and no other has
 record Moved (setup : Setup) (log : List (Action Name)) (ps : List Private) (k : ℕ) (p : Private) : Type 0 where
   sched : List CpuId
   qs : List Private
@@ -176,15 +176,15 @@ move setup log sched ps k q p below at here (alone {p = r} way stepped none) =
       others = λ i off. set_else m.qs k i (cpu_step setup (cpu_numbered k) r log).next off ∙ m.others i off;
     }
 
--- a CPU has a way from here to where it is to be
+-- the steps of a CPU from here to its last state
 abbrev FromWay : Setup → List (Action Name) → (ℕ → Private → Type 0) → ℕ → Private → Type 0
 FromWay setup log R k q = (p : Private) × Way setup (cpu_numbered k) log q p × R k p
 
--- the first n CPUs have gone their ways
+-- the first n CPUs have taken their steps
 abbrev Half : Setup → List (Action Name) → (ℕ → Private → Type 0) → ℕ → ℕ → Private → Type 0
 Half setup log R n k q = (k < n → R k q) × (n ≤ k → FromWay setup log R k q)
 
--- CPU n has gone its way too
+-- CPU n has taken its steps too
 gone : (setup : Setup) (log : List (Action Name)) (R : ℕ → Private → Type 0) (n : ℕ) (ps : List Private) (p : Private) (m : Moved setup log ps n p) → R n p
     → (k : ℕ) → ((q : Private) × (slice_get ps k ≡ Some q) × Half setup log R n k q) → (k ≡ n) ⊎ (k ≡ n → ⊥)
     → (q : Private) × (slice_get m.qs k ≡ Some q) × Half setup log R (suc n) k q

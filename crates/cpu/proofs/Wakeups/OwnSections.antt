@@ -67,7 +67,7 @@ module _ (b : BufId) (u : Tid) where
       → Pair b u (released (waiting u side k)) Begins (Waiting b side) (Asleep (At (AtBuffer b) (list_of side)))
   own_wait k g side pair = grind (arith, own_release, grown_list, and_from, and_right, buffer_self, marked_none)
 
-  -- what the thread's own section makes of the pair, where it is due
+  -- what the thread's own section makes of the pair, if it is due
   own_at : (name : Name) (k : Buffer) (g : Progress) (visit : Visit) → caller_in name ≡ Some u → (k.busy ≡ None → g ≡ Begins) → MayEdit name k g
       → IsDue b name visit → Pair b u k g visit Home
       → Pair b u (edited_buffer name k) (progress_after name k g) (next_visit b name k visit)

@@ -91,7 +91,7 @@ module _ (setup : Setup) (c : CpuId) (log : List (Action Name)) (fair : IsFairLo
       by_section true is = acted_ok p ok (phase c log) refl
       by_section false is = grind (arith, choice_ok setup c p _ _ ok.agrees ok.settled, acted_ok)
 
--- what a CPU's choice keeps, and its actions keep where its state agrees, its step keeps
+-- what a CPU's choice keeps, and its actions keep if its state agrees, its step keeps
 pub step_keeps : (setup : Setup) (c : CpuId) (p : Private) (log : List (Action Name)) (Q : Private → Type 0) → Ok setup c p log → Q p
     → OfChoice Q (choice setup c p) → ((q : Private) → Agrees setup c q (λ u. visit setup u (sections_in log)) (λ u. post setup u (sections_in log))
     → Q q → Q (acting setup c q log).next) → Q (cpu_step setup c p log).next

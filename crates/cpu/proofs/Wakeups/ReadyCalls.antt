@@ -56,7 +56,7 @@ module _ (setup : Setup) (room : ℕ) (s : Whole) (c : CpuId) (p : Private) (t :
     block = block;
   }
 
-  -- after so many steps the call has returned, with an entry of this kind; one step before it was
+  -- after so many steps the call has returned, with an entry of this kind; one step earlier it was
   -- under way
   abbrev IsBack : ℕ → Kind → BufId → Type 0
   IsBack n e b = HasReturned (steps_by setup c n s) c p t e b × ((m : ℕ) → m + 1 ≡ n → IsInCall (steps_by setup c m s) c t)
@@ -216,7 +216,7 @@ module _ (setup : Setup) (room : ℕ) (s : Whole) (c : CpuId) (p : Private) (t :
         let begin = begins_as Closes b (stands_at setup p t) refl at_call in
         closed_back begin.0 begin.1
 
-  -- where both lines wait beside a buffer that is not due to either, nothing fits in
+  -- if both lines wait at a buffer that serves neither, it has no room for an item
   pub no_room : (k : Buffer) → IsCalm k → 18 < steps_to_return setup c CloseKind k → k.capacity ≡ 0
   no_room k nobody more = grind (arith, cases_lt, refuted, lt-ltb, most_moved)
 

@@ -39,12 +39,12 @@ front_of u (t ∷ line) some = (t, refl)
 side_self : (side : Side) → is_side side side ≡ true
 side_self side = grind arith
 
--- the call whose visit is a wait has to ask for the lock again
+-- the call whose visit is a wait must acquire the lock again
 waits_again : (call : Call) (b : BufId) (side : Side) → visit_of_call (Some call) ≡ Waiting b side
     → (is_before call.stage ≡ true) × (call.buffer ≡ b) × (side_of_group call.asks ≡ side) × (call.stage ≡ AcquiresAgain)
 waits_again call b side is = grind (arith, refuted)
 
--- an instruction asks for one effect
+-- an instruction requests one effect
 same_effect : (line : Instruction) (s : State) (a x : Group) (b d : BufId) (m n : Message)
     → IsNextEffect line s a b m → IsNextEffect line s x d n → (a ≡ x) × (b ≡ d)
 same_effect line s a x b d m n one other = grind arith

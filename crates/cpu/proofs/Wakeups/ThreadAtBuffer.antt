@@ -17,8 +17,8 @@ use Rattle.cpu.proofs.Wakeups.{Lists.{refuted, first_is}, PostsAndVisits.{Visit,
 use Rattle.cpu.proofs.Wakeups.PostsAndVisits.{is_caller, post_by, post_woken, post_moved, visit_moved, marked, list_of}
 use Rattle.layer_traits.specs.declared.moves.WaitList.TheVariants as wait_list
 
--- a thread and a buffer's lock: by who owns it, the lists of its sleepers and of those who wait to
--- send and to receive, and the two lines
+-- a thread and a buffer's lock: its owner, the lists of its sleepers and of the threads that wait
+-- to send and to receive, and the two lines
 pub record PairOf (b : BufId) (u : Tid) (busy : Option Tid) (asleep senders_in receivers_in sends receives : List Tid) (g : Progress) (visit : Visit)
     (post : Where) : Type 0 where
   -- the lock's owner is inside and awake, and its progress is what its visit says
@@ -83,11 +83,11 @@ first_left u list most = grind (arith, count_front u list)
 pub front_counted : (u : Tid) (list : List Tid) → is_thread u (first list) ≡ true → 0 < count_in u list
 front_counted u list is = let one : one_if (is_thread u (first list)) ≡ 1 = ap one_if is in omega (arith, one, count_front u list)
 
--- a signal has taken out whom it woke
+-- a signal has taken out the thread that it woke
 pub signal_left : (u : Tid) (woke : Option Tid) (list : List Tid) → count_in u (without_any woke list) ≡ (if is_thread u woke then 0 else count_in u list)
 signal_left u woke list = grind (arith, count_without)
 
--- whom a signal wakes was waiting
+-- the thread that a signal wakes was waiting
 woken_waits : (u : Tid) (line list : List Tid) (can : Bool)
     → is_thread u (if front_stands_in line list && can then first line else None) ≡ true → 0 < count_in u list
 woken_waits u [] list can woke = grind arith

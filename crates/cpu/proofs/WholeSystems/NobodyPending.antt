@@ -22,7 +22,7 @@ abbrev pub is_pending : Place → Bool
 is_pending (place.Pending c) = true
 is_pending other = false
 
--- a thread's place is a pending queue exactly where its moves left it in one
+-- a thread's place is a pending queue exactly if its moves left it in one
 pub place_pends : (s : Shown) (t : Tid) (p : Place) → MovesAgree s → IsPlaceOf s t p → (d : CpuId) → where_is s.homes s.moves t ≡ IsPending d
     → is_pending p ≡ true
 place_pends s t p agree (inl (k, q, at, own)) d pends =

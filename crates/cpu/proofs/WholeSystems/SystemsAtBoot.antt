@@ -1,5 +1,5 @@
--- A system before its first step is the step table's at boot, and the setup that its plan says is
--- its own.
+-- A system before its first step is the step table's at boot, and the setup that its plan
+-- determines is its own.
 use Rattle.std.proofs.Common.{◌≡◌, ℕ, zero, suc, ◌+◌, false, List, [], ◌∷◌, length, map, replicate, Option, Some, None, refl, ap, sym, ◌∙◌, subst, arith}
 use Rattle.std.{proofs.lemmas.{List.length-map, Option.{get_or_from_slice_get, slice_get_within}}, specs.Prelude.{IfOk, Result, slice_get}}
 use Rattle.std.specs.Prelude.{slice_index_or, if◌then◌else◌}

@@ -9,7 +9,7 @@ done-requires-clause-allowed g c = c.requires.call [] tt c.requires.fits.1.lawfu
 pub returns-clause-seen : goal.returns-clause-seen
 returns-clause-seen g c = record { others = []; foreign = λ d acts. tt; is = c.done.ensures.seen; answers = c.done.ensures.answer }
 
--- and the machine is the same but for it
+-- and the machine is otherwise the same
 pub returns-clause-framed : goal.returns-clause-framed
 returns-clause-framed g c =
     let said = c.done.ensures in
