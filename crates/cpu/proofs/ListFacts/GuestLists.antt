@@ -72,7 +72,7 @@ pub cpu_same : (ActsFor : CpuId → Type 0) (number : CpuId) (others old : List 
     → of_cpu number (others ++ old) ≡ of_cpu number old
 cpu_same ActsFor number others old foreign acts = grind (arith, filter-append, none_of)
 
--- and after one of its own too
+-- and after another entry of this CPU
 pub cpu_grown : (ActsFor : CpuId → Type 0) (number : CpuId) (t : Tid) (b : BufId) (mine : Option Effect) (others old : List Entry)
     → AreForeign ActsFor cpu_of_entry others → ActsFor number
     → of_cpu number (entries_of number t b mine ++ (others ++ old)) ≡ entries_of number t b mine ++ of_cpu number old
