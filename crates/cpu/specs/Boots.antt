@@ -4,8 +4,8 @@ use Rattle.{event_log.specs.declared.{entries.Entry.Entry, ids.{CpuId.CpuId, Tid
 use Rattle.{layer_traits.specs.Layers.BufferLaw.{UnderWay, buffering_at_start}, cpu.specs.{declared.guests.Guest.Guest, Guests.new_guest, Claims.listed}}
 use Rattle.{cpu.specs.Cpus.{NamesBelow, guest_at}, boot.specs.Plan.{BootPlan, Task}}
 
--- a CPU's guests at boot: a place for each thread; a new guest at the numbers of the CPU's home
--- threads, and at no others; its program names only the machine's buffers
+-- A CPU's guests at boot: a place for each thread, with a new guest at the numbers of the CPU's
+-- home threads, and at no others. Each program names only the machine's buffers.
 pub record AreGuests (homes : List CpuId) (buffers : ℕ) (number : CpuId) (guests : List (Option Guest)) : Type 0 where
   pub homed : (t : Tid) → home_of homes t ≡ Some number → (g : Guest) × (guest_at guests t.0 ≡ Some g)
   pub only : (t : Tid) (g : Guest) → guest_at guests t.0 ≡ Some g → home_of homes t ≡ Some number

@@ -107,10 +107,10 @@ pub record HasOneOrder (s : Shown) : Type 0 where
   pub few : length s.order ≤ s.taken
 
 -- A thread's entries, oldest first, are its program's calls, and it has ended only at its program's
--- end. They lead to its exact state: between calls, or in a call that has not taken effect, to its
--- present state; after the effect, to the state in which the call will leave it. Therefore each
--- call that returned has taken effect, and at most one took effect that has not returned. A thread
--- is recorded as ended only at its program's end.
+-- end. They lead to its exact state. This is its present state, between calls or in a call that has
+-- not taken effect. After the effect it is the state in which the call will leave it. Therefore
+-- each call that returned has taken effect, and at most one took effect that has not returned. A
+-- thread is recorded as ended only at its program's end.
 pub record Keeps (g : Guest) (told_ended : Bool) (entries : List Entry) : Type 0 where
   pub calls : AreProgramsCalls g.program entries
   pub ends : is_ended g.stage ≡ true → HasEnded g.program g.thread
@@ -126,9 +126,9 @@ FollowPrograms s = (c : ℕ) (p : CpuShown) (t : Tid) (g : Guest) → slice_get 
 abbrev pub StayHome : Shown → Type 0
 StayHome s = (c : ℕ) (p : CpuShown) → slice_get s.cpus c ≡ Some p → AllByRecursion (IsOfHome s.homes (record { 0 = c })) p.trace
 
--- what holds at each moment (state) of a run: the calls so far have one order, and each thread's
--- entries lead to its state; therefore each call that has returned is in the order, and of each
--- thread at most one more, which the thread is inside
+-- What holds at each moment (state) of a run: the calls so far have one order, and each thread's
+-- entries lead to its state. Therefore each call that has returned is in the order, and of each
+-- thread at most one more, which the thread is inside.
 pub record IsMoment (s : Shown) : Type 0 where
   pub one_order : HasOneOrder s
   pub follow : FollowPrograms s
@@ -156,9 +156,9 @@ own_at s k = own_in (slice_get s.cpus k)
 abbrev pub waiters_at : Shown → ℕ → Waiters
 waiters_at s b = slice_index_or s.waiters b no_waiters
 
--- each thread is in exactly one place of the whole system: it runs or is ready on a CPU, is in one
--- CPU's hand, in one pending queue, asleep in one wait list, or has ended; a number that is no
--- thread's is in no place
+-- Each thread is in exactly one place of the whole system. It runs or is ready on a CPU, is in one
+-- CPU's hand, in one pending queue, asleep in one wait list, or has ended. A number that is no
+-- thread's is in no place.
 abbrev pub StandsOnce : Shown → Type 0
 StandsOnce s = (t : Tid) → InOnePlace s.homes (length s.cpus) s.moves (own_at s) (λ u. total (λ b. in_waiters u (waiters_at s b)) (length s.waiters)) t
 
@@ -167,9 +167,9 @@ abbrev pub IsPlaceOf : Shown → Tid → Place → Type 0
 IsPlaceOf s t place = ((c : ℕ) × (p : CpuShown) × (slice_get s.cpus c ≡ Some p) × IsOwnPlace (record { 0 = c }) p.own t place)
     ⊎ (queue_place (where_is s.homes s.moves t) ≡ Some place)
 
--- each CPU's scheduling state agrees with the moves of threads: each move may follow those before
--- it, each CPU has the threads that the moves leave with it, and each thread's home is one of the
--- CPUs
+-- Each CPU's scheduling state agrees with the moves of threads. Each move may follow those before
+-- it, and each CPU has the threads that the moves leave with it. Each thread's home is one of the
+-- CPUs.
 pub record MovesAgree (s : Shown) : Type 0 where
   pub lawful : AreMoves s.homes s.moves
   pub stands : (k : ℕ) (p : CpuShown) → slice_get s.cpus k ≡ Some p → Stands s.homes (record { 0 = k }) s.moves p.own

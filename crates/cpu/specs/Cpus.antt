@@ -193,9 +193,9 @@ abbrev pub Replies : Call → Option Effect → Option Reply → Type 0
 Replies call effect None = Unit {0}
 Replies call effect (Some reply) = (f : Effect) × (effect ≡ Some f) × (reply ≡ reply_of call f)
 
--- What a step of CPU c makes of its guests and its trace: nothing; or a thread executes an
--- instruction that shares nothing; or a pass ends; or the call at which a thread is gets polled.
--- The call begins in this step if it had not begun (stage `Idle`). It takes effect if the effect is
+-- What a step of CPU c makes of its guests and its trace. Nothing changes, or a thread executes an
+-- instruction that shares nothing, or a pass ends, or the call at which a thread is gets polled. In
+-- a poll the call begins if it had not begun (stage `Idle`). It takes effect if the effect is
 -- fresh, and the effect's entry is then the trace's last. It returns if it has a reply, which is
 -- its effect's.
 pub data GuestsWent (c : CpuId) (guests : List (Option Guest)) (trace : List Entry) (guests2 : List (Option Guest)) (trace2 : List Entry) : Type 0 where

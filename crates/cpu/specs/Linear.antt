@@ -12,8 +12,8 @@ pub record OrderGrows (c : CpuId) (old new : List Entry) : Type 0 where
   pub few : length more ≤ 1
   pub own : AllByRecursion (λ e. e.cpu ≡ c) more
 
--- what a step of CPU c does to a system's calls: the order grows; only this CPU's guests and trace
--- change, so that only its calls begin, take effect or return
+-- What a step of CPU c does to a system's calls: the order grows. Only this CPU's guests and trace
+-- change, so that only its calls begin, take effect or return.
 pub record CallsGoOn (c : CpuId) (old new : Shown) : Type 0 where
   pub order : OrderGrows c old.order new.order
   pub own : (p q : CpuShown) → slice_get old.cpus c.0 ≡ Some p → slice_get new.cpus c.0 ≡ Some q → GuestsWent c p.guests p.trace q.guests q.trace

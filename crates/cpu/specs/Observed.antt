@@ -57,7 +57,7 @@ pub record BufferIsObserved (s : Shown) (b : ℕ) (k : Buffer) : Type 0 where
 abbrev pub AllowsNow : Shown → ℕ → Kind → Message → Type 0
 AllowsNow s b e m = IsAllowedEffect e (slice_index_or s.closed b false) (slice_index s.caps b) (items_of s.contents b) m
 
--- No lost wake-up at buffer b, in terms of what the system reports: while no thread owns its lock,
+-- No lost wake-up at buffer b, in terms of what the system reports. While no thread owns its lock,
 -- the first thread of neither wait queue waits although the buffer allows an effect of its call.
 pub record IsAwakeAt (s : Shown) (b : ℕ) (k : Buffer) : Type 0 where
   pub on : (side : Side) → slice_index_or s.owners b None ≡ None → (t : Tid) (m : Message) → front (line_on side k) ≡ Some t

@@ -30,7 +30,7 @@ BootsByTable s = (setup : Setup) → IsSetupFor setup s → whole_of s ≡ whole
 abbrev pub IsReachedByTable : Shown → Type 0
 IsReachedByTable s = (setup : Setup) → IsSetupFor setup s → IsReached setup s.room (whole_of s)
 
--- The step table reaches the system, and it has lost no wake-up: while no thread owns the lock of a
+-- The step table reaches the system, and it has lost no wake-up. While no thread owns the lock of a
 -- buffer, as its last section left it, the first thread of neither wait queue waits although the
 -- buffer allows its call.
 pub record SoundByTable (s : Shown) : Type 0 where

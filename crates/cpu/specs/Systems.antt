@@ -82,9 +82,9 @@ abbrev pub SteppedByTable : CpuId → Shown → Shown → Step → Type 0
 SteppedByTable c old new answer = (setup : Setup) → GoesBy setup old
     → ◌≡◌ {A = Stepping} (record { next = whole_of new; answer = answer }) (system_step setup c (whole_of old))
 
--- what a step of CPU c does: if the CPU has no reason against it, it is taken and counted, at most
--- one call takes effect in it, after all that took effect before, and it is the step table's if the
--- machine does one action a step; otherwise nothing changes
+-- What a step of CPU c does. If the CPU has no reason against it, it is taken and counted, and at
+-- most one call takes effect in it, after all that took effect before. It is the step table's if
+-- the machine does one action a step. Otherwise nothing changes.
 pub data WentOn (IsStepwise : Type 0) (c : CpuId) (old new : Shown) : Type 0 where
   took : reason_of c old ≡ None → new.taken ≡ old.taken + 1 → CallsGoOn c old new → IsMoment new
       → (IsStepwise → SteppedByTable c old new Stepped) → WentOn IsStepwise c old new

@@ -29,9 +29,9 @@ abbrev pub IsNumbered : (Tid → ℕ) → ℕ → ℕ → List Tid → Type 0
 IsNumbered position n next [] = next ≡ n % 2 ^ 64
 IsNumbered position n next (t ∷ queue) = (position t ≡ n % 2 ^ 64) × IsNumbered position (n + 1) next queue
 
--- a buffer's block accounts for its effects: its items are what they leave, it is closed exactly if
--- one of them closed it, and it counts them; and the threads in a line have the positions after
--- those of the effects of their group
+-- A buffer's block accounts for its effects: its items are what they leave, it is closed exactly if
+-- one of them closed it, and it counts them. The threads in a line have the positions after those
+-- of the effects of their group.
 pub record Tally (caps : List ℕ) (b : ℕ) (es : List Entry) (position : Group → Tid → ℕ) (x : BufferState) : Type 0 where
   pub known : b < length caps
   pub wide : length (contents_of caps es) ≡ length caps

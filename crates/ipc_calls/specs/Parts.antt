@@ -37,9 +37,9 @@ asleep_at b Sleepers = place.LockSleeper b
 asleep_at b Receivers = place.WaitRecv b
 asleep_at b Senders = place.WaitSend b
 
--- a part can report nothing of a thread's place: the thread is not in the CPU's scheduling state,
--- and neither the machine nor the part reports that it is in the pending queue of its home CPU or
--- in a wait list of a buffer
+-- A part can report nothing of a thread's place. The thread is not in the CPU's scheduling state.
+-- Neither the machine nor the part reports it in the pending queue of its home CPU or in a wait
+-- list of a buffer.
 pub record IsSilentOf (t : Tid) (own : Threads) (home : Option CpuId) (buffers : ℕ) (queue_at queue_with : CpuId → Option (List Tid))
     (wait_lists_at wait_lists_with : BufId → Option (WaitList → List Tid)) : Type 0 where
   pub away : IsAway t own

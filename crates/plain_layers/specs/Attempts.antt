@@ -73,8 +73,8 @@ closed_after (Send m) x = x.closed
 closed_after Receive x = x.closed
 closed_after Close x = true
 
--- the side of which an effect wakes the first thread, if one waits there: the other side; if the
--- buffer is closed, its own side as long as a thread waits on that
+-- The side of which an effect wakes the first thread, if one waits there. It is the other side; if
+-- the buffer is closed, its own side as long as a thread waits on that.
 abbrev pub waking_by : Bool → Side → PlainState → Side
 waking_by closed own x = if closed && is_some (first (waiting_on own x)) then own else far_side own
 

@@ -1,7 +1,7 @@
 -- The positions of a lock's words and slot in the table. Word 0 is never written. The words of a
--- lock are 8 words, 64 bytes, from each other and from those of every other lock: a CPU that waits
--- at one reads a cache line that has no other word. Each lock has room for `next` and a word for
--- each CPU, whatever its kind uses.
+-- lock are 8 words, 64 bytes, from each other and from those of every other lock. A CPU that polls
+-- one reads a cache line that contains no other of them. Each lock has room for `next` and a word
+-- for each CPU, whatever its kind uses.
 use Rattle.std.specs.Prelude.{◌≡◌, ℕ, suc, ◌+◌, ◌*◌, ◌^◌, ◌<◌, ◌≤◌, if◌then◌else◌, List, [], ◌∷◌, length, map, slice_index, IsSome}
 use Rattle.event_log.specs.{declared.ids.{LockId.LockId, TheConstants.{CPUS, LOCKS}}, History.same_lock, Locks.lock_number}
 use Rattle.{layer_traits.specs.Protocols.OneLock.opened, table_machine.specs.Kinds.first_words}

@@ -48,8 +48,8 @@ Remembers ticket Idle = Unit {0}
 Remembers ticket (Waiting lock own) = ticket ≡ own
 Remembers ticket (Holding lock own) = ticket ≡ own
 
--- the token of a key: it sees the log for this CPU, carries the slot of the lock that the CPU is
--- inside, and what it has seen is legal; and the key remembers the CPU's ticket
+-- The token of a key. It sees the log for this CPU, carries the slot of the lock that the CPU is
+-- inside, and what it has seen is legal. The key remembers the CPU's ticket.
 pub record IsKey {E B O : Type 0} (rules : Rules E B O) (cpu : CpuId) (ticket : ℕ) (me : Me (Home E B) (View E B)) : Type 0 where
   pub view : me.0 ≡ mine me.0.start cpu me.0.seen
   pub held : Carries me.0.start (lock_phase cpu me.0.seen) me.1
@@ -77,8 +77,8 @@ pub record IsIn {E B : Type 0} (log : List (Event (Mark E))) (seat_view : SeatVi
   pub ends : EndsWith log seat_view.seen
   pub whole : own_events cpu_of_event seat_view.cpu log ≡ own_events cpu_of_event seat_view.cpu seat_view.seen
 
--- there is one legal log of which each seat view's log is a prefix, with no further event of any of
--- their CPUs; each block is the fold of its lock's sections
+-- There is one legal log of which each seat view's log is a prefix, with no further event of any of
+-- their CPUs. Each block is the fold of its lock's sections.
 pub record ClosesTable {E B O : Type 0} (rules : Rules E B O) (table_view : TableView B) (seat_views : List (SeatView E B))
     (blocks : List (LockId × B)) : Type 0 where
   pub log : List (Event (Mark E))

@@ -59,9 +59,10 @@ kind_for Sends closed = if closed then SendClosed else SendKind
 kind_for Receives closed = if closed then RecvClosed else RecvKind
 kind_for Closes closed = CloseKind
 
--- what a section reports to its caller: nothing, its position in a line, its effect's number and
--- message, its effect's number if it found the buffer closed, the number and the position of a
--- close, that it must wait, or the pending threads
+-- What a section reports to its caller. It is nothing, the caller's position in a line, or its
+-- effect's number and message. If the section found the buffer closed, it is only the effect's
+-- number; for a close it is the number and the position. Otherwise it is that the caller must wait,
+-- or which threads were pending.
 pub data Reported : Type 0 where
   Nothing : Reported
   Position : (pos : ℕ) → Reported

@@ -14,11 +14,11 @@ pub record Setup : Type 0 where
   pub caps : List ℕ
   pub trace_room : ℕ
 
--- A call under way: what it asks of which buffer, its message (what it sends, or has received), its
--- position in its line (of a close: among the closes), the number of its effect once it has one,
--- whether it then found the buffer closed, and its stage, which is its next section. A call at Idle
--- has done its last section. It returns after the thread that this section woke is appended to its
--- home CPU's pending threads.
+-- A call under way. What it asks of which buffer. Its message: what it sends, or has received. Its
+-- position in its line; of a close, among the closes. The number of its effect once it has one, and
+-- whether it then found the buffer closed. Its stage, which is its next section. A call at Idle has
+-- done its last section; it returns after the thread that this section woke is appended to its home
+-- CPU's pending threads.
 pub record Call : Type 0 where
   pub asks : Group
   pub buffer : BufId
@@ -34,9 +34,9 @@ pub record Thread : Type 0 where
   pub call : Option Call
   pub ended : Bool
 
--- a CPU's private state: the running thread, the ready threads, head first, the woken thread in its
--- hand that it has yet to append to another CPU's pending threads, all threads by number (those of
--- other homes stay as at boot), and its trace, oldest first
+-- A CPU's private state: the running thread; the ready threads, head first; the woken thread in its
+-- hand, which it has yet to append to another CPU's pending threads; all threads by number; and its
+-- trace, oldest first. Threads of other homes stay as at boot.
 pub record Private : Type 0 where
   pub current : Option Tid
   pub ready : List Tid

@@ -1,4 +1,4 @@
--- The plan of each poll is a row of the step table: it requests the table's section, and what it
+-- The plan of each poll is a row of the step table. It requests the table's section, and what it
 -- makes of the section's result is what the table makes of it.
 use Rattle.std.specs.Prelude.{◌≡◌, ◌⊎◌, ◌<◌, Bool, true, false, List, Option, Some, None, IsSome, length, map, option_map, slice_get}
 use Rattle.layer_traits.specs.{Views.OwnParts.threads_in, declared.{calls.{Call.Call, Effect.Effect}, conditions.CvOut.CvOut, buffer_edits.BufferOut.BufferOut}}
@@ -85,8 +85,8 @@ abbrev pub IsUsed : Setup → CpuId → LockId → Type 0
 IsUsed setup c (Buffer b) = Unit {0}
 IsUsed setup c (Pending d) = (d ≡ c) ⊎ ((u : Tid) × (slice_get setup.homes u.0 ≡ Some d))
 
--- the plan of a poll is the table's row from p: it requests the section that the table requests,
--- leaves p until that has a result, and makes of each result what the table makes of it
+-- The plan of a poll is the table's row from p. It requests the section that the table requests,
+-- leaves p until that has a result, and makes of each result what the table makes of it.
 pub record IsLine {A : Type 0} (setup : Setup) (c : CpuId) (p : Private) (plan : Plan TowerName TowerAnswer Buffering A)
     (after : Left Buffering A → Private) : Type 0 where
   pub lock : LockId

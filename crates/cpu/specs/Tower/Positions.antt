@@ -11,9 +11,8 @@ pub data MayStand : Stage → (hand : Option Tid) → (deferred : Option TowerOu
   inside : (stage : Stage) (hand : Option Tid) (deferred : Option TowerOut) (slept waits : Option BufId) (effect : Option Effect)
       → CallStands stage hand deferred slept waits effect → MayStand stage hand deferred slept waits effect
 
--- the running thread is in such a state with the hand and the kept result, each other thread
--- without one; while no thread runs, no result is kept; and each thread's call agrees with its
--- stage
+-- The running thread is in such a state with the hand and the kept result, each other thread
+-- without one. While no thread runs, no result is kept. Each thread's call agrees with its stage.
 pub record IsPart (own : Buffering) : Type 0 where
   pub mine : (t : Tid) → (threads_in own).current ≡ Some t
       → MayStand (call_state_of own.call_states t).stage (threads_in own).hand own.cv.lock.sleep.deferred (slept_for own.cv.lock.slept t)

@@ -73,7 +73,7 @@ abbrev pub steps_to_move : Setup → CpuId → Option Tid → ℕ
 steps_to_move setup c woke = if is_away setup c woke then 3 else 0
 
 -- How many steps such a call takes. A send and a receive have six sections of three steps each, and
--- wake the first of the other side's line, if that thread waits; a call that finds its buffer
+-- wake the first of the other side's line, if that thread waits. A call that finds its buffer
 -- closed wakes no thread. A close has five sections, and wakes the first of each line.
 abbrev pub steps_to_return : Setup → CpuId → Kind → Buffer → ℕ
 steps_to_return setup c SendKind k = 18 + steps_to_move setup c (first_waiter Receivers k)
