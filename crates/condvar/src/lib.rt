@@ -1,5 +1,6 @@
-//! Mesa condition variables over queuing locks. A thread that may not continue releases the lock
-//! and waits, in one event. A signal to the front of a line (wait queue) wakes it.
+//! Mesa condition variables (Lampson and Redell 1980) over queuing locks. A thread that may not
+//! continue releases the lock and waits, in one event. A signal to the front of a line (wait queue)
+//! wakes it.
 //!
 //! Thread 3, which owns the lock of buffer 0, releases it and waits for a message, in one event:
 //!

@@ -30,7 +30,7 @@ pub trait LineWords: Copy + Drop {
         ensures { (taken given : ℕ) → Fit taken given self.old → Fit taken (given + 1) self.new };
 }
 
-/// The two words of a ticket lock, both modulo 2^64.
+/// The two words of a ticket lock (Mellor-Crummey and Scott 1991), both modulo 2^64.
 #[derive(Clone, Copy, Debug, PartialEq, Eq)]
 pub struct LockWords {
     /// The ticket that the next draw returns: how often a ticket of the lock was drawn.
@@ -69,7 +69,8 @@ impl LineWords for LockWords {
     }
 }
 
-/// The words of a lock with a grant word for each waiter, all modulo 2^64.
+/// The words of a lock with a grant word for each waiter, as in Anderson's array lock (1990), all
+/// modulo 2^64.
 #[derive(Clone, Copy, Debug, PartialEq, Eq)]
 pub struct GrantLockWords {
     /// The ticket that the next take returns: how many were taken.

@@ -37,7 +37,8 @@ pub trait TableWords: Drop {
     ghost lawful: { IsWordKind kind };
 }
 
-/// The words of a ticket lock: `next`, and `serving`, which all waiters poll.
+/// The words of a ticket lock (Mellor-Crummey and Scott 1991): `next`, and `serving`, which all
+/// waiters poll.
 #[derive(Drop)]
 pub struct TicketWords;
 
@@ -74,8 +75,9 @@ impl TableWords for TicketWords {
     ghost lawful = { tickets_are };
 }
 
-/// The words of a lock with a grant word for each waiter: `next`, and a word for each CPU. A waiter
-/// polls the word of its ticket, modulo [`event_log::CPUS`], which no other CPU polls.
+/// The words of a lock with a grant word for each waiter, as in Anderson's array lock (1990):
+/// `next`, and a word for each CPU. A waiter polls the word of its ticket, modulo
+/// [`event_log::CPUS`], which no other CPU polls.
 #[derive(Drop)]
 pub struct WaiterWords;
 
