@@ -164,7 +164,7 @@ impl PlainBuffer {
     }
 
     /// Wakes the thread that an effect of this side wakes: the first of the other side. If the
-    /// buffer is closed, it wakes the first thread of its side as long as a thread waits there.
+    /// buffer is closed and a thread waits on this side, it is the first of this side.
     fn wake_after(&mut self, own: Side) -> Wake
         ensures block { self.new ≡ attempt_woken (waking_by self.old.closed own self.old) self.old }
         ensures reported { result
@@ -253,9 +253,9 @@ impl PlainBuffer {
     }
 }
 
-/// Law: a closed buffer releases all waiters. No thread begins to wait there, and an effect that
-/// wakes no thread found no thread waiting. Therefore each waiter is woken, by an effect of the one
-/// before it.
+/// Law: a closed buffer strands no waiter. It allows every call, so that no thread begins to wait
+/// there. An effect wakes a thread as long as one waits, so that each woken thread wakes the next
+/// by its effect.
 pub fn closed_buffers_let_all_go()
     ensures goes { (ask : Ask) (x : PlainState) → x.closed ≡ true → allows ask x ≡ true }
     ensures wakes { (ask : Ask) (x : PlainState) → closed_after ask x ≡ true → attempt_wakes ask x ≡ Nobody → (x.receivers ≡ []) × (x.senders ≡ []) }

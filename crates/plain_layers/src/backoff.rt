@@ -2,7 +2,7 @@
 //!
 //! Over it the tower keeps its safety: one order, which is a legal history of the buffers and ends
 //! in their contents. The claims on single steps (the step table, quiescence, the steps of an
-//! uncontended call) hold only over locks whose poll is one action.
+//! uncontended call) are proved only over locks whose poll is one action.
 
 ghost use Rattle.std.specs.Prelude.{◌≡◌, [], IfOk};
 ghost use Rattle.event_log.specs.declared.ids.TheConstants.{CPUS};
