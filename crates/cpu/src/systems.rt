@@ -366,14 +366,16 @@ where
 
     /// A law of every system over layers whose polls are single actions. It computes nothing.
     ///
-    /// A thread is at a call that has not begun, its buffer allows the call, no lock is held or
-    /// requested, and the call's wait queue is empty. While only the thread's CPU steps, the call
-    /// returns after an exact number of steps:
+    /// A thread runs on a CPU that is not halted, at a call that has not begun. No spin lock is
+    /// held or requested. No thread owns the call's buffer, which allows the call, and the call's
+    /// wait queue is empty. The system has room for 32 more steps. While only this CPU steps, the
+    /// call returns after an exact number of steps:
     ///
-    /// - A send or a receive takes 18 steps, or 21 if the first of the other side's wait queue
-    ///   waits and is of another CPU. The call's first signal wakes that thread.
+    /// - A send or a receive takes 18, or 21 if the first of the other side's wait queue waits and
+    ///   is of another CPU. The call's first signal wakes that thread.
     /// - A call that finds its buffer closed wakes no thread, and takes 18.
-    /// - A close takes 15, or 18 if it wakes a thread of another CPU.
+    /// - A close takes 15, or 18 if it wakes a thread of another CPU. It takes 21 only if it wakes
+    ///   two, for which the buffer must have capacity 0.
     pub fn alone(&self)
         ensures { I.IsStepwise → ReturnsAlone self.now }
     {

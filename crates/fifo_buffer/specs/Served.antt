@@ -25,8 +25,8 @@ abbrev pub served : Side → ℕ → List Entry → List Tid
 served side b [] = []
 served side b (e ∷ past) = if (b == e.buffer.0) && same_group (group_of e.kind) (group_on side) then served side b past ++ e.thread ∷ [] else served side b past
 
--- after lawful events, the threads that entered a line are, in this order, those whose calls of its
--- side took effect, followed by those that are still in the line
+-- after lawful events, the threads that entered a line, oldest first, are those whose calls of its
+-- side took effect, in the order of these effects, followed by those in the line
 abbrev pub FirstComeFirstServed : Type 0
 FirstComeFirstServed = (opening : LockId → Option (QueueBlock BufferLock)) (past : List BufferEvent) → StartsWell opening → BootsSo opening
     → IsLawful (QueueAllowed (lock_kernel (cv_rules buffer_monitor_rules) opening)) past → (b : BufId) (side : Side) → b.0 < length (caps_in opening)

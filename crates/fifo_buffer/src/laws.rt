@@ -9,9 +9,9 @@ pub fn positions_are_counts()
     ensures { PositionsAreCounts }
 {}
 
-/// First come, first served. After lawful events the threads that entered the line of a side are,
-/// in order, those whose calls of that side took effect. Those that are still in the line follow
-/// them.
+/// First come, first served. After lawful events, the threads that entered a side's line, oldest
+/// first, are those that were served, followed by those in the line. Served are the threads whose
+/// calls of that side took effect, in the order of these effects.
 pub fn first_come_first_served()
     ensures { FirstComeFirstServed }
 {}

@@ -21,8 +21,9 @@ HasEmptyLine Sends k = k.send_line ≡ []
 HasEmptyLine Receives k = k.receive_line ≡ []
 HasEmptyLine Closes k = Unit {0}
 
--- CPU c rests, no lock is held or requested, and its thread t is at a call that has not begun, that
--- its buffer allows and whose line is empty
+-- CPU c rests and is not halted, no spin lock is held or requested, and the running thread t is at
+-- a call that has not begun; no thread owns its buffer, which allows the call, and the call's line
+-- is empty
 pub record IsReady (setup : Setup) (c : CpuId) (s : Whole) (p : Private) (t : Tid) : Type 0 where
   pub free : AreFree s.log
   pub rests : phase c s.log ≡ Rests

@@ -1,5 +1,5 @@
-//! Whether each CPU is calm (idle or ended), which decides whether a system is quiet, and how long
-//! its traces are. No function allocates or blocks.
+//! Whether each CPU is calm (idle or ended), as all CPUs of a quiet system are, and how long its
+//! traces are. No function allocates or blocks.
 
 ghost use Rattle.std.specs.Prelude.{◌≡◌, ◌<◌, length};
 ghost use Rattle.{layer_traits.specs.Views.OwnParts.threads_in, cpu.specs.Calm.rests};
